@@ -1,0 +1,16 @@
+-- Sums of ramps: how far an axis goes while it brakes.
+use Rattle.std.specs.Prelude.{ℕ, ◌+◌, ◌-◌, zero, suc, ℤ, pos, negsuc}
+
+-- the first n of the terms u, u - d, u - 2d and so on, added up; no term is below 0. This project's profile
+abbrev pub ramp : ℕ → ℕ → ℕ → ℕ
+ramp zero u d = 0
+ramp (suc n) u d = u + ramp n (u - d) d
+
+-- the sum of the positive ones among u, u - d, u - 2d and so on, where d is at least 1: the way from step u to rest. This project's profile
+unfoldable pub run_of : ℕ → ℕ → ℕ
+run_of u d = ramp u u d
+
+-- z, or 0 where z is negative
+unfoldable pub cut_at_zero : ℤ → ℕ
+cut_at_zero (pos n) = n
+cut_at_zero (negsuc n) = 0
