@@ -1,5 +1,7 @@
 // What a function block does, and how its command joins those before it.
 
+ghost use Rattle.std.specs.Prelude.{◌≡◌};
+
 /// The kinds of function block, by their PLCopen names without the prefix MC_ (PLCopen Motion Control Part 1 and Part 4).
 #[derive(Clone, Copy, Debug, PartialEq, Eq)]
 pub enum BlockKind {
@@ -22,6 +24,26 @@ pub enum BlockKind {
     GroupHalt,
     MoveLinearAbsolute,
     MoveCircularAbsolute,
+}
+
+impl BlockKind {
+    ghost use Rattle.command_pool.specs.Kinds as kinds;
+
+    /// Whether it acts on a group and not on an axis.
+    pub fn acts_on_group(self) -> bool
+        ensures { result ≡ kinds.acts_on_group self }
+    {
+        matches!(
+            self,
+            BlockKind::GroupEnable
+                | BlockKind::GroupDisable
+                | BlockKind::GroupReset
+                | BlockKind::GroupStop
+                | BlockKind::GroupHalt
+                | BlockKind::MoveLinearAbsolute
+                | BlockKind::MoveCircularAbsolute
+        )
+    }
 }
 
 /// How a command joins those before it (PLCopen Motion Control Part 1, the input BufferMode).

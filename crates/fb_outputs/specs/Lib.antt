@@ -1,0 +1,2 @@
+pub mod InstanceState
+pub mod Steps

@@ -1,0 +1,262 @@
+// One instance of a function block, as its calls and its command change it.
+
+ghost use Rattle.std.specs.Prelude.{◌≡◌};
+ghost use Rattle.fb_outputs.specs.Steps as spec;
+ghost use Rattle.fb_outputs.specs.Steps.{opened, edge_of, called, started, finished, with_reached, outputs_of, shown};
+
+use crate::outputs::Outputs;
+use command_pool::{BlockKind, Finish};
+use std::marker::Model;
+
+/// How Execute changed from the last call to this one.
+#[derive(Clone, Copy, Debug, PartialEq, Eq)]
+pub enum Edge {
+    Rising,
+    High,
+    Falling,
+    Low,
+}
+
+/// How far an instance's command is.
+#[derive(Clone, Copy, Debug, PartialEq, Eq)]
+pub enum Progress {
+    /// It has no command and no result.
+    Idle,
+    /// Its command waits behind others, or is a pending reset.
+    Waiting,
+    /// Its command is the active one.
+    Active,
+    /// Its command ended so, and a call may have shown it.
+    Ended { finish: Finish, shown: bool },
+}
+
+/// An instance of a function block.
+#[derive(Drop)]
+pub struct Instance {
+    kind: BlockKind,
+    execute: bool,
+    reached: bool,
+    progress: Progress,
+}
+
+impl Model for Instance {
+    ghost use Rattle.fb_outputs.specs.InstanceState.{InstanceState};
+
+    ghost Value = { InstanceState };
+
+    ghost view = { λ i. record { kind = i.kind; execute = i.execute; reached = i.reached; progress = i.progress } };
+}
+
+impl Instance {
+    /// An instance that was not called yet.
+    pub fn new(kind: BlockKind) -> Instance
+        ensures { result ≡ opened kind }
+    {
+        Instance {
+            kind,
+            execute: false,
+            reached: false,
+            progress: Progress::Idle,
+        }
+    }
+
+    /// Takes a call's Execute, and tells how it changed. A rising edge takes the earlier command's owner away.
+    pub fn on_call(&mut self, execute: bool) -> Edge
+        ensures edge { result ≡ edge_of self.old.execute execute }
+        ensures after { self.new ≡ called self.old execute }
+    {
+        let edge = edge_between(self.execute, execute);
+        self.reached = reached_after(self.kind, edge, self.reached);
+        self.progress = progress_after(self.progress, edge);
+        self.execute = execute;
+        edge
+    }
+
+    /// Its command was admitted or took over: it is the active one, or waits.
+    pub fn on_start(&mut self, active: bool)
+        ensures { self.new ≡ started self.old active }
+    {
+        self.progress = if active {
+            Progress::Active
+        } else {
+            Progress::Waiting
+        };
+        self.reached = false;
+    }
+
+    /// Its command ended, or its call was refused.
+    pub fn on_finish(&mut self, finish: Finish)
+        ensures { self.new ≡ finished self.old finish }
+    {
+        self.progress = Progress::Ended {
+            finish,
+            shown: false,
+        };
+    }
+
+    /// Takes what the last cycle found: InVelocity, InGear, InSync, whether a Power's axis was driven, and of a Stop
+    /// whether its axis is in Stopping under its hold.
+    pub fn set_reached(&mut self, reached: bool)
+        ensures { self.new ≡ with_reached self.old reached }
+    {
+        self.reached = reached;
+    }
+
+    /// The outputs of a call's reply. A result in it counts as shown from then on.
+    pub fn show(&mut self) -> Outputs
+        ensures outputs { result ≡ outputs_of self.old }
+        ensures after { self.new ≡ shown self.old }
+    {
+        let outputs = outputs_now(self.kind, self.execute, self.reached, self.progress);
+        if let Progress::Ended { finish, .. } = self.progress {
+            self.progress = Progress::Ended {
+                finish,
+                shown: true,
+            };
+        }
+        outputs
+    }
+
+    /// The Execute of the last call, false before the first.
+    pub fn execute(&self) -> bool
+        ensures { result ≡ self.now.execute }
+    {
+        self.execute
+    }
+}
+
+// How Execute changed.
+fn edge_between(last: bool, execute: bool) -> Edge
+    ensures { result ≡ edge_of last execute }
+{
+    match (last, execute) {
+        (false, true) => Edge::Rising,
+        (true, true) => Edge::High,
+        (true, false) => Edge::Falling,
+        (false, false) => Edge::Low,
+    }
+}
+
+// What an instance still knows of the last cycle.
+fn reached_after(kind: BlockKind, edge: Edge, reached: bool) -> bool
+    ensures { result ≡ spec.reached_after kind edge reached }
+{
+    match edge {
+        Edge::Rising => is_power(kind) && reached,
+        Edge::High => reached,
+        Edge::Falling => reached,
+        Edge::Low => reached,
+    }
+}
+
+// How far the command is after a call's Execute was taken.
+fn progress_after(progress: Progress, edge: Edge) -> Progress
+    ensures { result ≡ spec.progress_after edge progress }
+{
+    match edge {
+        Edge::Rising => Progress::Idle,
+        Edge::High => progress,
+        Edge::Falling => without_shown(progress),
+        Edge::Low => without_shown(progress),
+    }
+}
+
+// A result that was shown goes.
+fn without_shown(progress: Progress) -> Progress
+    ensures { result ≡ spec.without_shown progress }
+{
+    match progress {
+        Progress::Ended { shown: true, .. } => Progress::Idle,
+        Progress::Ended {
+            finish,
+            shown: false,
+        } => Progress::Ended {
+            finish,
+            shown: false,
+        },
+        Progress::Idle => Progress::Idle,
+        Progress::Waiting => Progress::Waiting,
+        Progress::Active => Progress::Active,
+    }
+}
+
+// Whether the kind takes Enable at each call.
+fn is_power(kind: BlockKind) -> bool
+    ensures { result ≡ spec.is_power kind }
+{
+    matches!(kind, BlockKind::Power)
+}
+
+// Whether the kind holds its axis or group while its Execute is true.
+fn is_stop(kind: BlockKind) -> bool
+    ensures { result ≡ spec.is_stop kind }
+{
+    matches!(kind, BlockKind::Stop | BlockKind::GroupStop)
+}
+
+const NOTHING: Outputs = Outputs {
+    busy: false,
+    active: false,
+    done: false,
+    aborted: false,
+    error: false,
+    error_id: 0,
+    reached: false,
+};
+
+// The outputs of an instance.
+fn outputs_now(kind: BlockKind, execute: bool, reached: bool, progress: Progress) -> Outputs
+    ensures { result ≡ outputs_of (record { kind = kind; execute = execute; reached = reached; progress = progress }) }
+{
+    if is_power(kind) {
+        Outputs {
+            busy: execute,
+            reached: execute && reached,
+            ..NOTHING
+        }
+    } else {
+        outputs_by(is_stop(kind), execute, reached, progress)
+    }
+}
+
+// The outputs of a block that is no Power.
+fn outputs_by(stop: bool, execute: bool, reached: bool, progress: Progress) -> Outputs
+    ensures { result ≡ spec.outputs_by stop execute reached progress }
+{
+    match progress {
+        Progress::Idle => NOTHING,
+        Progress::Waiting => Outputs {
+            busy: true,
+            ..NOTHING
+        },
+        Progress::Active => Outputs {
+            busy: true,
+            active: true,
+            reached: !stop && reached,
+            ..NOTHING
+        },
+        Progress::Ended { finish, .. } => result_of(stop && execute && reached, finish),
+    }
+}
+
+// The outputs of a result.
+fn result_of(holds: bool, finish: Finish) -> Outputs
+    ensures { result ≡ spec.result_of holds finish }
+{
+    match finish {
+        Finish::Done => Outputs {
+            active: holds,
+            done: true,
+            ..NOTHING
+        },
+        Finish::Aborted => Outputs {
+            aborted: true,
+            ..NOTHING
+        },
+        Finish::Error(error_id) => Outputs {
+            error: true,
+            error_id,
+            ..NOTHING
+        },
+    }
+}

@@ -1,0 +1,4 @@
+pub mod FaultLemmas
+pub mod SetupLemmas
+pub mod HistoryLemmas
+pub mod KeptLemmas

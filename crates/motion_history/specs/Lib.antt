@@ -1,0 +1,9 @@
+pub mod Setup
+pub mod Items
+pub mod Ranges
+pub mod Faults
+pub mod Entries
+pub mod Looks
+pub mod Rows
+pub mod Stored
+pub mod Kept

@@ -1,0 +1,128 @@
+// A configuration: the axes, groups, tasks and blocks of a machine, and the room of its history.
+
+ghost use Rattle.std.specs.Prelude.{◌≡◌, IfOk, map};
+ghost use Rattle.motion_history.specs.Setup.{IsSetup};
+ghost use Rattle.motion_history.specs.Items.{setup_of};
+
+use crate::refused::OutOfMemory;
+use axis_state::{AxisDef, Name};
+use command_pool::BlockKind;
+use std::alloc::{AllocError, Global};
+use std::marker::Model;
+
+/// A group of axes.
+#[derive(Clone, Copy)]
+pub struct GroupDef {
+    pub name: Name,
+    /// How many axes it has, 2 to 6.
+    pub count: u8,
+    /// The numbers of its axes; 0 from `count` on.
+    pub axes: [u8; 6],
+}
+
+/// An instance of a function block.
+#[derive(Clone, Copy)]
+pub struct BlockDef {
+    pub name: Name,
+    /// The number of the task that calls it.
+    pub task: u8,
+    pub kind: BlockKind,
+    /// The number of the axis or group on which its kind acts.
+    pub object: u8,
+}
+
+/// The items of a configuration.
+#[derive(Drop)]
+pub struct Items {
+    pub(crate) axes: Vec<AxisDef>,
+    pub(crate) groups: Vec<GroupDef>,
+    pub(crate) tasks: Vec<Name>,
+    pub(crate) blocks: Vec<BlockDef>,
+    pub(crate) cycles: u32,
+    pub(crate) entries: u32,
+}
+
+/// A configuration, which `Builder` alone makes. Contracts see it as a `Setup`.
+#[derive(Drop)]
+pub struct Config {
+    pub(crate) items: Items,
+}
+
+impl Model for Config {
+    ghost use Rattle.motion_history.specs.Setup.{Setup, IsSetup};
+
+    ghost Value = { Setup };
+
+    ghost use Rattle.motion_history.specs.Items.{setup_of};
+
+    ghost view = { λ c. setup_of c.items };
+
+    ghost invariant = { λ c. IsSetup (setup_of c.items) };
+}
+
+impl Config {
+    /// The axes, in the order of their numbers.
+    pub fn axes(&self) -> &[AxisDef]
+        ensures axes { result.now ≡ self.now.axes }
+        ensures setup { IsSetup self.now }
+    {
+        self.items.axes.as_slice()
+    }
+
+    /// The groups, in the order of their numbers.
+    pub fn groups(&self) -> &[GroupDef]
+        ensures { result.now ≡ self.now.groups }
+    {
+        self.items.groups.as_slice()
+    }
+
+    /// The names of the tasks, in the order of their numbers.
+    pub fn tasks(&self) -> &[Name]
+        ensures { result.now ≡ self.now.tasks }
+    {
+        self.items.tasks.as_slice()
+    }
+
+    /// The blocks, in the order of their numbers.
+    pub fn blocks(&self) -> &[BlockDef]
+        ensures { result.now ≡ self.now.blocks }
+    {
+        self.items.blocks.as_slice()
+    }
+
+    /// How many cycles there may be, 1 to 200,000.
+    pub fn cycles(&self) -> u32
+        ensures { result ≡ self.now.cycles }
+    {
+        self.items.cycles
+    }
+
+    /// How many entries the history may have, 1 to 1,000,000.
+    pub fn entries(&self) -> u32
+        ensures { result ≡ self.now.entries }
+    {
+        self.items.entries
+    }
+
+    /// An equal configuration.
+    pub fn copy(&self, alloc: Global) -> Result<Config, OutOfMemory>
+        ensures { IfOk result (λ c. c ≡ self.now) }
+    {
+        let items = copied(alloc, &self.items).map_err(|_| OutOfMemory)?;
+        Ok(Config { items })
+    }
+}
+
+// The same items in memory of their own.
+fn copied(alloc: Global, items: &Items) -> Result<Items, AllocError>
+    ensures { IfOk result (λ c. setup_of c ≡ setup_of items.now) }
+{
+    Ok(Items {
+        axes: Vec::from_slice(alloc, items.axes.as_slice())?,
+        groups: Vec::from_slice(alloc, items.groups.as_slice())?,
+        tasks: Vec::from_slice(alloc, items.tasks.as_slice())?,
+        blocks: Vec::from_slice(alloc, items.blocks.as_slice())?,
+        cycles: items.cycles,
+        entries: items.entries,
+    })
+}

@@ -1,0 +1,253 @@
+// The history of a kernel: each call, cycle and end of a task, in room that is reserved at opening.
+
+ghost use Rattle.std.specs.Prelude.{◌≡◌, ◌<◌, ◌≤◌, ◌+◌, ◌-◌, ◌*◌, ◌++◌, ◌∷◌, [], IfOk, length, vec_len, vec_capacity, slice_get};
+ghost use Rattle.std.specs.Option.{option_copied, option_map};
+ghost use Rattle.motion_history.specs.Entries.{call, cycle, end_of, cycles_of, HistoryState};
+ghost use Rattle.motion_history.specs.Looks.{told};
+ghost use Rattle.motion_history.specs.Rows as kept;
+ghost use Rattle.motion_history.specs.Stored.{entry_of, HasRows};
+
+use crate::config::Config;
+use crate::refused::OutOfMemory;
+use axis_state::AxisRow;
+use fb_outputs::{Inputs, Outputs};
+use group_state::GroupRow;
+use std::alloc::{AllocError, Global};
+use std::marker::Model;
+
+/// An entry of a history, as it is looked at.
+#[derive(Clone, Copy)]
+pub enum EntryLook<'a> {
+    /// A block was called with these inputs and replied so.
+    Call {
+        instance: u16,
+        inputs: &'a Inputs,
+        reply: &'a Outputs,
+    },
+    /// A cycle, counted from 1, left these rows of the axes and groups.
+    Cycle {
+        number: u32,
+        axes: &'a [AxisRow],
+        groups: &'a [GroupRow],
+    },
+    /// A task ended.
+    End {
+        task: u8,
+    },
+}
+
+/// An entry as it is kept, a cycle without its rows.
+#[derive(Clone, Copy)]
+pub enum Stored {
+    Call {
+        instance: u16,
+        inputs: Inputs,
+        reply: Outputs,
+    },
+    Cycle {
+        number: u32,
+    },
+    End {
+        task: u8,
+    },
+}
+
+/// A history. Contracts see it as a `HistoryState`.
+#[derive(Drop)]
+pub struct History {
+    stored: Vec<Stored>,
+    axis_rows: Vec<AxisRow>,
+    group_rows: Vec<GroupRow>,
+    axes: usize,
+    groups: usize,
+    room: usize,
+    made: u32,
+    most: u32,
+}
+
+impl Model for History {
+    ghost use Rattle.motion_history.specs.Entries.{HistoryState};
+
+    ghost Value = { HistoryState };
+
+    ghost use Rattle.motion_history.specs.Kept.{state_of, IsKept};
+
+    ghost view = { state_of };
+
+    ghost invariant = { IsKept };
+}
+
+impl History {
+    /// An empty history with the whole room that the configuration gives it.
+    pub fn open(alloc: Global, config: &Config) -> Result<History, OutOfMemory>
+        ensures { IfOk result (λ h. h ≡ record {
+          axes = length config.now.axes;
+          groups = length config.now.groups;
+          room = config.now.entries;
+          cycles = config.now.cycles;
+          entries = [];
+        }) }
+    {
+        reserved(alloc, config).map_err(|_| OutOfMemory)
+    }
+
+    /// Adds a call of a block and its reply.
+    pub fn record_call(&mut self, instance: u16, inputs: &Inputs, reply: &Outputs)
+        requires { length self.old.entries < self.old.room }
+        ensures { self.new ≡ record self.old {
+          entries = self.old.entries ++ call instance inputs.now reply.now ∷ [];
+        } }
+    {
+        self.stored.push_reserved(Stored::Call {
+            instance,
+            inputs: *inputs,
+            reply: *reply,
+        });
+    }
+
+    /// Adds a cycle with one row per axis and one per group.
+    pub fn record_cycle(&mut self, axes: &[AxisRow], groups: &[GroupRow])
+        requires room { length self.old.entries < self.old.room }
+        requires cycle { cycles_of self.old.entries < self.old.cycles }
+        requires axes { length axes.now ≡ self.old.axes }
+        requires groups { length groups.now ≡ self.old.groups }
+        ensures { self.new ≡ record self.old {
+          entries = self.old.entries ++
+              cycle (cycles_of self.old.entries + 1) axes.now groups.now ∷ [];
+        } }
+    {
+        self.made += 1;
+        extend_within(&mut self.axis_rows, axes);
+        extend_within(&mut self.group_rows, groups);
+        self.stored
+            .push_reserved(Stored::Cycle { number: self.made });
+    }
+
+    /// Adds the end of a task.
+    pub fn record_end(&mut self, task: u8)
+        requires { length self.old.entries < self.old.room }
+        ensures { self.new ≡ record self.old { entries = self.old.entries ++ end_of task ∷ [] } }
+    {
+        self.stored.push_reserved(Stored::End { task });
+    }
+
+    /// How many entries it has.
+    pub fn entries(&self) -> u64
+        ensures { result ≡ length self.now.entries }
+    {
+        self.stored.len() as u64
+    }
+
+    /// The entry at a place counted from 0.
+    pub fn look(&self, place: u64) -> Option<EntryLook<'_>>
+        ensures { option_map told result ≡ slice_get self.now.entries place }
+    {
+        match stored_at(self.stored.as_slice(), place) {
+            Some(stored) => Some(look_of(
+                self.axes,
+                self.groups,
+                self.axis_rows.as_slice(),
+                self.group_rows.as_slice(),
+                stored,
+            )),
+            None => None,
+        }
+    }
+
+    /// How many entries more it has room for.
+    pub fn room_left(&self) -> u64
+        ensures { result ≡ self.now.room - length self.now.entries }
+    {
+        (self.room - self.stored.len()) as u64
+    }
+
+    /// How many cycles more it may have.
+    pub fn cycles_left(&self) -> u32
+        ensures { result ≡ self.now.cycles - cycles_of self.now.entries }
+    {
+        self.most - self.made
+    }
+}
+
+// The entry that is kept at a place.
+fn stored_at(stored: &[Stored], place: u64) -> Option<&Stored>
+    ensures { option_copied result ≡ slice_get stored.now place }
+{
+    stored.get(place as usize)
+}
+
+// The entry that is kept so, with the rows of its cycle.
+fn look_of<'a>(
+    axes: usize,
+    groups: usize,
+    axis_rows: &'a [AxisRow],
+    group_rows: &'a [GroupRow],
+    stored: &'a Stored,
+) -> EntryLook<'a>
+    requires { HasRows axes groups axis_rows.now group_rows.now stored.now }
+    ensures { told result ≡ entry_of axes groups axis_rows.now group_rows.now stored.now }
+{
+    match stored {
+        Stored::Call {
+            instance,
+            inputs,
+            reply,
+        } => EntryLook::Call {
+            instance: *instance,
+            inputs,
+            reply,
+        },
+        Stored::Cycle { number } => EntryLook::Cycle {
+            number: *number,
+            axes: rows_at(axis_rows, axes, *number),
+            groups: rows_at(group_rows, groups, *number),
+        },
+        Stored::End { task } => EntryLook::End { task: *task },
+    }
+}
+
+// An empty history with its whole room.
+fn reserved(alloc: Global, config: &Config) -> Result<History, AllocError>
+    ensures { IfOk result (λ h. h ≡ record {
+      axes = length config.now.axes;
+      groups = length config.now.groups;
+      room = config.now.entries;
+      cycles = config.now.cycles;
+      entries = [];
+    }) }
+{
+    let axes = config.axes().len();
+    let groups = config.groups().len();
+    let room = config.entries() as usize;
+    let most = config.cycles();
+    Ok(History {
+        stored: Vec::with_capacity(alloc, room)?,
+        axis_rows: Vec::with_capacity(alloc, most as usize * axes)?,
+        group_rows: Vec::with_capacity(alloc, most as usize * groups)?,
+        axes,
+        groups,
+        room,
+        made: 0,
+        most,
+    })
+}
+
+// Puts rows behind those that are there, in room that is reserved.
+fn extend_within<T: Copy>(rows: &mut Vec<T>, more: &[T])
+    requires { vec_len rows.old + length more.now ≤ vec_capacity rows.old }
+    ensures items { rows.new.items ≡ rows.old.items ++ more.now }
+    ensures len { vec_len rows.new ≡ vec_len rows.old + length more.now }
+    ensures capacity { vec_capacity rows.old ≤ vec_capacity rows.new }
+{
+    let _ = rows.extend_from_slice(more);
+}
+
+// The rows of a cycle, counted from 1, where each cycle has so many.
+fn rows_at<T>(rows: &[T], width: usize, number: u32) -> &[T]
+    requires some { 1 ≤ number }
+    requires there { number * width ≤ length rows.now }
+    ensures { result.now ≡ kept.rows_at width number rows.now }
+{
+    let first = (number - 1) as usize * width;
+    &rows[first..first + width]
+}
