@@ -1,2 +1,3 @@
 pub mod InstanceState
 pub mod Steps
+pub mod Inputs

@@ -1,0 +1,10 @@
+//! The motion kernel: block calls, cycles and ends of tasks, each one entry of a history whose replay is the kernel's state.
+#![tactic(auto)]
+
+mod axis;
+mod calls;
+mod cycles;
+mod kernel;
+
+pub use kernel::{Kernel, OpenFault};
+pub use motion_history::{Config, DriveIn, DriveOut, History, Inputs, Outputs};
