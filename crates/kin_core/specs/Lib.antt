@@ -1,1 +1,4 @@
+pub mod Admissible
 pub mod Run
+pub mod Taken
+pub mod Toward

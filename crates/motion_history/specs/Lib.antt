@@ -7,3 +7,4 @@ pub mod Looks
 pub mod Rows
 pub mod Stored
 pub mod Kept
+pub mod Ready

@@ -15,7 +15,8 @@ use Rattle.motion_kernel.specs.declared.axis.Axis.{Axis}
 use Rattle.motion_kernel.specs.declared.kernel.Kernel.TheInside.{Inside}
 use Rattle.motion_kernel.specs.Instances.{Parts, called, shown_by}
 use Rattle.motion_kernel.specs.KernelKept.{told_of, machine_of, IsMachineKept, IsKernelKept}
-use Rattle.motion_kernel.specs.KernelState.{KernelState, state_of, is_move_absolute}
+use Rattle.motion_history.specs.Ready.{is_move_absolute}
+use Rattle.motion_kernel.specs.KernelState.{KernelState, state_of}
 use Rattle.motion_kernel.specs.Machine.{Machine, axis_at, nowhere, object_of, object_by, parts_of, after_call}
 use Rattle.motion_kernel.proofs.MachineLaws.{object_of-there}
 

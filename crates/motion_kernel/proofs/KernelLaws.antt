@@ -19,7 +19,8 @@ use Rattle.motion_kernel.specs.Axes as axis
 use Rattle.motion_kernel.specs.Axes.{owner_of}
 use Rattle.motion_kernel.specs.AxisKept.{IsAxisKept}
 use Rattle.motion_kernel.specs.KernelKept.{machine_of, IsMachineKept, IsKernelKept}
-use Rattle.motion_kernel.specs.KernelState.{state_of, IsReadyMachine}
+use Rattle.motion_history.specs.Ready.{IsReadyMachine}
+use Rattle.motion_kernel.specs.KernelState.{state_of}
 use Rattle.motion_kernel.specs.Machine.{Machine, opened, replay, after, axis_at, IsOf, IsLegal}
 use Rattle.motion_kernel.proofs.MachineLaws.{IsReplayed, IsReplayed-more}
 

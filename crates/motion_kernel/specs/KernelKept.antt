@@ -5,7 +5,8 @@ use Rattle.motion_history.specs.Setup.{Setup, IsSetup}
 use Rattle.motion_kernel.specs.declared.kernel.Kernel.TheInside.{Inside}
 use Rattle.motion_kernel.specs.Axes.{owner_of}
 use Rattle.motion_kernel.specs.AxisKept.{IsAxisKept}
-use Rattle.motion_kernel.specs.KernelState.{KernelState, state_of, IsReadyMachine}
+use Rattle.motion_history.specs.Ready.{IsReadyMachine}
+use Rattle.motion_kernel.specs.KernelState.{KernelState, state_of}
 use Rattle.motion_kernel.specs.Machine.{Machine, axis_at, IsLegal}
 use Rattle.motion_history.specs.Entries.{HistoryState}
 

@@ -1,9 +1,5 @@
 -- What contracts see of a kernel.
 use Rattle.std.specs.Prelude.{◌≡◌, Bool, true, false, IsTrue, List, []}
-use Rattle.std.specs.List.{list_all}
-use Rattle.axis_state.specs.declared.definition.AxisDef.{AxisDef}
-use Rattle.command_pool.specs.declared.kind.BlockKind.{BlockKind}
-use Rattle.command_pool.specs.declared.kind.BlockKind.TheVariants.{MoveAbsolute}
 use Rattle.motion_history.specs.Entries.{Entry}
 use Rattle.motion_history.specs.Setup.{Setup}
 use Rattle.motion_kernel.specs.Machine.{Machine, opened, replay}
@@ -16,14 +12,3 @@ pub record KernelState : Type 0 where
 -- the machine that the kernel is: the replay of its history. This project's profile
 unfoldable pub state_of : KernelState → Machine
 state_of k = replay (opened k.config) k.history
-
--- whether the kind is MoveAbsolute
-abbrev pub is_move_absolute : BlockKind → Bool
-is_move_absolute MoveAbsolute = true
-is_move_absolute _ = false
-
--- the machines that this kernel runs so far: their axes are ready, their blocks are of kind MoveAbsolute, and they have no groups. This project's profile
-pub record IsReadyMachine (s : Setup) : Type 0 where
-  pub ready : IsTrue (list_all (λ (d : AxisDef). d.ready) s.axes)
-  pub moves : IsTrue (list_all (λ b. is_move_absolute b.kind) s.blocks)
-  pub groups : s.groups ≡ []

@@ -5,7 +5,8 @@ ghost use Rattle.axis_state.specs.declared.definition.AxisRow.{AxisRow};
 ghost use Rattle.motion_history.specs.Entries.{call, cycle, end_of, cycles_of};
 ghost use Rattle.fb_outputs.specs.Steps as step;
 ghost use Rattle.motion_kernel.specs.Axes as axis;
-ghost use Rattle.motion_kernel.specs.KernelState.{KernelState, state_of, IsReadyMachine};
+ghost use Rattle.motion_history.specs.Ready.{IsReadyMachine};
+ghost use Rattle.motion_kernel.specs.KernelState.{KernelState, state_of};
 ghost use Rattle.motion_kernel.specs.Machine.{IsCall, IsLegal, IsOperational, reply_of, rows_of};
 
 use crate::axis::{Axis, MOST_AXES, opened};

@@ -1,0 +1,74 @@
+-- Which wanted steps are safe, and what is left of a braking step that is not: for the plans above.
+use Rattle.std.proofs.Common.{◌≡◌, ℕ, ◌-◌, ◌<◌, ◌≤◌, ℤ, pos, neg_ℤ, ◌+ℤ◌, ◌-ℤ◌, ◌≤ℤ◌, unsigned_abs, refl, arith}
+use Rattle.std.specs.Int.{int_min, int_max}
+use Rattle.std.proofs.lemmas.Int.{ints, clamps}
+use Rattle.kin_core.specs.declared.limits.Limits.{Limits}
+use Rattle.kin_core.specs.Run.{run_of, cut_at_zero}
+use Rattle.kin_core.specs.Admissible.{AreLimits, IsSafe, IsKept, least_step_after, greatest_step_after}
+use Rattle.kin_core.specs.Taken.{least_safe_of, greatest_safe_of, taken_step_of}
+use Rattle.kin_core.specs.Toward.{toward_zero}
+use Rattle.kin_core.proofs.Runs.{cut_is, run_anti}
+use Rattle.kin_core.proofs.Reaches.{reach_greatest}
+use Rattle.kin_core.proofs.SafeSteps.{safe_of_within, between_of_safe, braking_is_safe, toward_parts}
+
+-- upward, a step by rates within the limits may follow
+pub follows_up : (limits : Limits) (old new a d : ℤ) → AreLimits limits → pos 0 ≤ℤ old → pos 0 ≤ℤ new → (old -ℤ d) ≤ℤ new → new ≤ℤ (old +ℤ a) → a ≤ℤ limits.amax → d ≤ℤ limits.dmax →
+    (least_step_after limits old ≤ℤ new) × (new ≤ℤ greatest_step_after limits old)
+follows_up limits old new a d ok up ahead falls rises gain loss = (omega (arith, ints, clamps), omega (arith, ints, clamps))
+
+-- and downward
+pub follows_down : (limits : Limits) (old new a d : ℤ) → AreLimits limits → old ≤ℤ pos 0 → new ≤ℤ pos 0 → new ≤ℤ (old +ℤ d) → (old -ℤ a) ≤ℤ new → a ≤ℤ limits.amax → d ≤ℤ limits.dmax →
+    (least_step_after limits old ≤ℤ new) × (new ≤ℤ greatest_step_after limits old)
+follows_down limits old new a d ok down ahead falls rises gain loss = (omega (arith, ints, clamps), omega (arith, ints, clamps))
+
+-- a step upward that may follow, and whose way to rest by some braking within dmax ends below hi, is safe
+pub up_is_safe : (limits : Limits) (before now step : ℤ) (d : ℕ) → AreLimits limits → limits.lo ≤ℤ now → now ≤ℤ limits.hi → pos 0 ≤ℤ step → step ≤ℤ limits.vmax →
+    least_step_after limits (now -ℤ before) ≤ℤ step → step ≤ℤ greatest_step_after limits (now -ℤ before) →
+    d ≤ unsigned_abs limits.dmax → run_of (unsigned_abs step) d ≤ unsigned_abs (limits.hi -ℤ now) → IsSafe limits before now (now +ℤ step)
+up_is_safe limits before now step d ok above below up slow falls rises gentle fits =
+    let some : 0 < unsigned_abs limits.dmax = omega (arith, ints) in
+    let size : cut_at_zero step ≡ unsigned_abs step = omega (arith, ints, cut_is) in
+    let none : cut_at_zero (neg_ℤ step) ≡ 0 = omega (arith, ints, cut_is) in
+    safe_of_within limits before now step ok above below (record {
+      slow = omega (arith, ints);
+      falls = falls;
+      rises = rises;
+      up = reach_greatest _ _ _ some (rw size (omega (arith, run_anti (unsigned_abs step) d (unsigned_abs limits.dmax) gentle, fits)));
+      down = rw none (omega arith);
+    })
+
+-- and a step downward whose way ends above lo
+pub down_is_safe : (limits : Limits) (before now step : ℤ) (d : ℕ) → AreLimits limits → limits.lo ≤ℤ now → now ≤ℤ limits.hi → step ≤ℤ pos 0 → neg_ℤ step ≤ℤ limits.vmax →
+    least_step_after limits (now -ℤ before) ≤ℤ step → step ≤ℤ greatest_step_after limits (now -ℤ before) →
+    d ≤ unsigned_abs limits.dmax → run_of (unsigned_abs step) d ≤ unsigned_abs (now -ℤ limits.lo) → IsSafe limits before now (now +ℤ step)
+down_is_safe limits before now step d ok above below down slow falls rises gentle fits =
+    let some : 0 < unsigned_abs limits.dmax = omega (arith, ints) in
+    let size : cut_at_zero (neg_ℤ step) ≡ unsigned_abs step = omega (arith, ints, cut_is) in
+    let none : cut_at_zero step ≡ 0 = omega (arith, ints, cut_is) in
+    safe_of_within limits before now step ok above below (record {
+      slow = omega (arith, ints);
+      falls = falls;
+      rises = rises;
+      up = rw none (omega arith);
+      down = reach_greatest _ _ _ some (rw size (omega (arith, run_anti (unsigned_abs step) d (unsigned_abs limits.dmax) gentle, fits)));
+    })
+
+-- a number cut to an interval lies between itself and any number of the interval
+cut_toward : (low high wanted inside cut : ℤ) → low ≤ℤ inside → inside ≤ℤ high → cut ≡ int_max low (int_min high wanted) →
+    (cut_at_zero inside ≤ cut_at_zero wanted → cut_at_zero (neg_ℤ inside) ≤ cut_at_zero (neg_ℤ wanted) →
+    (cut_at_zero cut ≤ cut_at_zero wanted) × (cut_at_zero (neg_ℤ cut) ≤ cut_at_zero (neg_ℤ wanted)))
+cut_toward low high wanted inside cut above below is up down = (omega (arith, ints, clamps, cut_is), omega (arith, ints, clamps, cut_is))
+
+-- the taken step for a braking step is at most as fast, and doesn't turn back
+pub braking_is_cut : (limits : Limits) (before now d : ℤ) → AreLimits limits → IsKept limits before now → pos 0 ≤ℤ d → d ≤ℤ limits.dmax →
+    (cut_at_zero (taken_step_of limits before now (toward_zero (now -ℤ before) d)) ≤ cut_at_zero (now -ℤ before) - unsigned_abs d)
+    × (cut_at_zero (neg_ℤ (taken_step_of limits before now (toward_zero (now -ℤ before) d))) ≤ cut_at_zero (neg_ℤ (now -ℤ before)) - unsigned_abs d)
+unfolding taken_step_of
+braking_is_cut limits before now d ok kept some gentle =
+    let hardest = toward_parts (now -ℤ before) limits.dmax (omega (arith, ints)) in
+    let wanted = toward_parts (now -ℤ before) d some in
+    let between = between_of_safe limits before now (toward_zero (now -ℤ before) limits.dmax) ok kept.above kept.below (braking_is_safe limits before now ok kept) in
+    let less : unsigned_abs d ≤ unsigned_abs limits.dmax = omega (arith, ints) in
+    let parts = cut_toward (least_safe_of limits before now) (greatest_safe_of limits before now) (toward_zero (now -ℤ before) d) (toward_zero (now -ℤ before) limits.dmax) _ between.0 between.1 refl
+    (omega (arith, hardest.0, wanted.0)) (omega (arith, hardest.1, wanted.1)) in
+    (rw wanted.0 at parts.0, rw wanted.1 at parts.1)

@@ -1,0 +1,18 @@
+-- The machines that the kernel runs so far.
+use Rattle.std.specs.Prelude.{◌≡◌, Bool, true, false, IsTrue, []}
+use Rattle.std.specs.List.{list_all}
+use Rattle.axis_state.specs.declared.definition.AxisDef.{AxisDef}
+use Rattle.command_pool.specs.declared.kind.BlockKind.{BlockKind}
+use Rattle.command_pool.specs.declared.kind.BlockKind.TheVariants.{MoveAbsolute}
+use Rattle.motion_history.specs.Setup.{Setup}
+
+-- whether the kind is MoveAbsolute
+abbrev pub is_move_absolute : BlockKind → Bool
+is_move_absolute MoveAbsolute = true
+is_move_absolute _ = false
+
+-- a machine that the kernel runs so far: their axes are ready, their blocks are of kind MoveAbsolute, and they have no groups. This project's profile
+pub record IsReadyMachine (s : Setup) : Type 0 where
+  pub ready : IsTrue (list_all (λ (d : AxisDef). d.ready) s.axes)
+  pub moves : IsTrue (list_all (λ b. is_move_absolute b.kind) s.blocks)
+  pub groups : s.groups ≡ []
