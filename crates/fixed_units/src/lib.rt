@@ -1,0 +1,17 @@
+//! Exact decimals of nine places, and rates per second as steps per cycle.
+#![tactic(auto)]
+
+mod laws;
+mod rates;
+mod reading;
+mod text;
+mod writing;
+
+pub use laws::{reads_what_is_spelled, reads_what_is_written, tells_the_first_fault};
+pub use rates::{per_cycle, per_cycle2};
+pub use reading::{UnitFault, read_units};
+pub use text::Text40;
+pub use writing::write_units;
+
+#[cfg(test)]
+mod tests;

@@ -1,0 +1,4 @@
+pub mod Faults
+pub mod MemoryFiles
+pub mod MemorySink
+pub mod Told

@@ -1,0 +1,12 @@
+// The answer of a call that found no memory.
+use std::alloc::AllocError;
+
+/// No memory was left. Nothing says when this comes.
+#[derive(Clone, Copy, Debug, PartialEq, Eq)]
+pub struct OutOfMemory;
+
+impl From<AllocError> for OutOfMemory {
+    fn from(_error: AllocError) -> OutOfMemory {
+        OutOfMemory
+    }
+}
