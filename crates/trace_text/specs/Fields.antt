@@ -1,0 +1,86 @@
+-- How the fields of a trace are spelled.
+use Rattle.std.specs.Prelude.{ℕ, ◌+◌, ◌/◌, ◌%◌, Bool, nat_lt, if◌then◌else◌, List, [], ◌∷◌, ◌++◌, codes}
+use Rattle.axis_state.specs.declared.state.AxisState.{AxisState}
+use Rattle.axis_state.specs.declared.state.AxisState.TheVariants as axis
+use Rattle.cia402_machine.specs.declared.drive.DriveState.{DriveState}
+use Rattle.cia402_machine.specs.declared.drive.DriveState.TheVariants as drive
+use Rattle.command_pool.specs.declared.kind.BlockKind.{BlockKind}
+use Rattle.command_pool.specs.declared.kind.BlockKind.TheVariants as kind
+use Rattle.command_pool.specs.declared.kind.BufferMode.{BufferMode}
+use Rattle.command_pool.specs.declared.kind.BufferMode.TheVariants as mode
+use Rattle.fb_outputs.specs.declared.outputs.Outputs.{Outputs}
+
+-- a truth value is 0 or 1. This project's profile
+unfoldable pub flag_text : Bool → List ℕ
+flag_text b = if b then 49 ∷ [] else 48 ∷ []
+
+-- a hexadecimal digit, in small letters. This project's profile
+abbrev pub hex_digit : ℕ → ℕ
+hex_digit n = if nat_lt n 10 then 48 + n else 87 + n
+
+-- a word is four hexadecimal digits. This project's profile
+unfoldable pub hex_text : ℕ → List ℕ
+hex_text w = hex_digit (w / 4096) ∷ hex_digit (w / 256 % 16) ∷ hex_digit (w / 16 % 16) ∷ hex_digit (w % 16) ∷ []
+
+-- a letter where the output is true
+abbrev pub letter_where : Bool → ℕ → List ℕ
+letter_where b letter = if b then letter ∷ [] else []
+
+-- the outputs are the letters of those that are true: Busy, Active, Done, commandAborted, Error, Reached. This project's profile
+unfoldable pub outputs_text : Outputs → List ℕ
+outputs_text o =
+    letter_where o.busy 66 ++ letter_where o.active 65 ++ letter_where o.done 68 ++
+    letter_where o.aborted 67 ++ letter_where o.error 69 ++ letter_where o.reached 82
+
+-- the names of the axis states. PLCopen Motion Control Part 1, the state diagram
+unfoldable pub axis_state_text : AxisState → List ℕ
+axis_state_text axis.Disabled = codes "Disabled"
+axis_state_text axis.Standstill = codes "Standstill"
+axis_state_text axis.Homing = codes "Homing"
+axis_state_text axis.Stopping = codes "Stopping"
+axis_state_text axis.DiscreteMotion = codes "DiscreteMotion"
+axis_state_text axis.ContinuousMotion = codes "ContinuousMotion"
+axis_state_text axis.SynchronizedMotion = codes "SynchronizedMotion"
+axis_state_text axis.ErrorStop = codes "ErrorStop"
+
+-- the names of the drive states. IEC 61800-7-201, the finite state automaton
+unfoldable pub drive_state_text : DriveState → List ℕ
+drive_state_text drive.NotReady = codes "NotReady"
+drive_state_text drive.SwitchOnDisabled = codes "SwitchOnDisabled"
+drive_state_text drive.ReadyToSwitchOn = codes "ReadyToSwitchOn"
+drive_state_text drive.SwitchedOn = codes "SwitchedOn"
+drive_state_text drive.OperationEnabled = codes "OperationEnabled"
+drive_state_text drive.QuickStopActive = codes "QuickStopActive"
+drive_state_text drive.FaultReactionActive = codes "FaultReactionActive"
+drive_state_text drive.Fault = codes "Fault"
+
+-- the names of the kinds of function block. PLCopen Motion Control Part 1 and Part 4
+unfoldable pub kind_text : BlockKind → List ℕ
+kind_text kind.Power = codes "Power"
+kind_text kind.Reset = codes "Reset"
+kind_text kind.Home = codes "Home"
+kind_text kind.Stop = codes "Stop"
+kind_text kind.Halt = codes "Halt"
+kind_text kind.MoveAbsolute = codes "MoveAbsolute"
+kind_text kind.MoveRelative = codes "MoveRelative"
+kind_text kind.MoveVelocity = codes "MoveVelocity"
+kind_text kind.GearIn = codes "GearIn"
+kind_text kind.GearOut = codes "GearOut"
+kind_text kind.CamIn = codes "CamIn"
+kind_text kind.CamOut = codes "CamOut"
+kind_text kind.GroupEnable = codes "GroupEnable"
+kind_text kind.GroupDisable = codes "GroupDisable"
+kind_text kind.GroupReset = codes "GroupReset"
+kind_text kind.GroupStop = codes "GroupStop"
+kind_text kind.GroupHalt = codes "GroupHalt"
+kind_text kind.MoveLinearAbsolute = codes "MoveLinearAbsolute"
+kind_text kind.MoveCircularAbsolute = codes "MoveCircularAbsolute"
+
+-- the names of the buffer modes. PLCopen Motion Control Part 1, the input BufferMode
+unfoldable pub mode_text : BufferMode → List ℕ
+mode_text mode.Aborting = codes "aborting"
+mode_text mode.Buffered = codes "buffered"
+mode_text mode.BlendingLow = codes "blendingLow"
+mode_text mode.BlendingPrevious = codes "blendingPrevious"
+mode_text mode.BlendingNext = codes "blendingNext"
+mode_text mode.BlendingHigh = codes "blendingHigh"

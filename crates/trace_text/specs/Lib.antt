@@ -1,0 +1,5 @@
+pub mod Fields
+pub mod Records
+pub mod Trace
+pub mod Between
+pub mod Writes

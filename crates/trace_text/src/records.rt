@@ -1,0 +1,96 @@
+// Records of fields, by the crate `csv`, and the names that stand in them.
+
+ghost use Rattle.std.specs.Prelude.{◌≡◌, map, OnOk};
+ghost use Rattle.std.specs.Io.KnownBytes.{Appends};
+ghost use Rattle.csv.specs.Writing.{text_written};
+ghost use Rattle.trace_text.specs.Between.{IsBetween};
+ghost use Rattle.trace_text.specs.Records as spec;
+ghost use Rattle.trace_text.specs.Records.{record_text};
+
+use axis_state::Name;
+use csv::Writer;
+use motion_history::{BlockDef, Config, OutOfMemory};
+use std::io::Write;
+
+/// Writes a record.
+#[tactic(auto, unfolding(crate::specs::Records::record_text))]
+pub fn write_record<W: Write + Drop>(
+    wtr: &mut Writer<W>,
+    fields: &[&[u8]],
+) -> Result<(), OutOfMemory>
+    requires { IsBetween wtr.old }
+    ensures text { OnOk result (Appends (text_written W.contents wtr.old) (text_written W.contents wtr.new)
+        (record_text (map (λ f. f.now) fields.now))) }
+    ensures between { OnOk result (IsBetween wtr.new) }
+{
+    match wtr.write_fields(fields) {
+        Ok(()) => Ok(()),
+        Err(_) => Err(OutOfMemory),
+    }
+}
+
+/// The bytes of a name, or none.
+pub fn name_text(name: &Option<Name>) -> &[u8]
+    ensures { result.now ≡ spec.name_text name.now }
+{
+    match name {
+        Some(name) => name.bytes(),
+        None => b"",
+    }
+}
+
+/// The name of an axis, if it is there.
+#[tactic(auto, unfolding(crate::specs::Records::axis_name))]
+pub fn axis_name(config: &Config, number: usize) -> Option<Name>
+    ensures { spec.name_text result ≡ spec.axis_name config.now number }
+{
+    match config.axes().get(number) {
+        Some(def) => Some(def.name),
+        None => None,
+    }
+}
+
+/// The name of a group, if it is there.
+#[tactic(auto, unfolding(crate::specs::Records::group_name))]
+pub fn group_name(config: &Config, number: usize) -> Option<Name>
+    ensures { spec.name_text result ≡ spec.group_name config.now number }
+{
+    match config.groups().get(number) {
+        Some(def) => Some(def.name),
+        None => None,
+    }
+}
+
+/// The name of a task, if it is there.
+#[tactic(auto, unfolding(crate::specs::Records::task_name))]
+pub fn task_name(config: &Config, number: usize) -> Option<Name>
+    ensures { spec.name_text result ≡ spec.task_name config.now number }
+{
+    match config.tasks().get(number) {
+        Some(name) => Some(*name),
+        None => None,
+    }
+}
+
+/// The name of a block, if it is there.
+#[tactic(auto, unfolding(crate::specs::Records::block_name))]
+pub fn block_name(config: &Config, number: usize) -> Option<Name>
+    ensures { spec.name_text result ≡ spec.block_name config.now number }
+{
+    match config.blocks().get(number) {
+        Some(def) => Some(def.name),
+        None => None,
+    }
+}
+
+/// The name of what a block acts on, if it is there.
+#[tactic(auto, unfolding(crate::specs::Records::object_name))]
+pub fn object_name(config: &Config, block: &BlockDef) -> Option<Name>
+    ensures { spec.name_text result ≡ spec.object_name config.now block.now }
+{
+    if block.kind.acts_on_group() {
+        group_name(config, block.object as usize)
+    } else {
+        axis_name(config, block.object as usize)
+    }
+}

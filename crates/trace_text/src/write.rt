@@ -1,0 +1,253 @@
+// Writing a trace.
+
+ghost use Rattle.std.specs.Prelude.{◌≡◌, ◌+◌, ◌<◌, ◌^◌, IfOk, OnOk, All, length, take, drop, slice_get};
+ghost use Rattle.std.specs.Option.{option_to_list};
+ghost use Rattle.std.specs.List.{flat_map};
+ghost use Rattle.std.specs.Io.KnownBytes.{Appends};
+ghost use Rattle.axis_state.specs.declared.definition.AxisDef.{AxisDef};
+ghost use Rattle.csv.specs.Writing.{text_written};
+ghost use Rattle.trace_text.specs.Between.{IsBetween};
+ghost use Rattle.trace_text.specs.Writes.{Output, Writes, WritesPiece};
+ghost use Rattle.trace_text.specs.Trace.{machine_text, drives_text, entry_text, trace_text};
+
+use crate::entries::{write_drives, write_entry};
+use crate::machine::write_machine;
+use cia402_machine::DriveState;
+use csv::{Writer, WriterBuilder};
+use motion_history::{Config, History, OutOfMemory, TraceVersion};
+use outside::{Sink, SinkFailed, write_all};
+use std::alloc::Global;
+use std::io::Write;
+
+/// Who made a trace.
+#[derive(Clone, Copy, Debug, PartialEq, Eq)]
+pub enum Command {
+    Bench,
+    Run,
+}
+
+/// What a drive took, and where it is at the end.
+#[derive(Clone, Copy, Debug, PartialEq, Eq)]
+pub struct DriveEndRow {
+    /// How many setpoints it took.
+    pub taken: u32,
+    pub state: DriveState,
+    /// The position actual value, object 6064h, in drive increments.
+    pub actual: i32,
+}
+
+/// Why a trace isn't written whole.
+#[derive(Clone, Copy, Debug, PartialEq, Eq)]
+pub enum TraceFault {
+    WriteFault,
+    OutOfMemory,
+}
+
+/// How many entries are written at a time.
+const PIECE: u64 = 1000;
+
+// The text of the machine part.
+fn machine_piece(alloc: Global, command: Command, config: &Config) -> Result<Vec<u8>, OutOfMemory>
+    ensures { IfOk result (λ v. v.items ≡ machine_text command config.now) }
+{
+    let mut wtr = WriterBuilder::new().from_writer(Vec::new(alloc));
+    write_machine(&mut wtr, command, config)?;
+    match wtr.into_inner() {
+        Ok(text) => Ok(text),
+        Err(e) => {
+            let _ = e.into_error();
+            Err(OutOfMemory)
+        }
+    }
+}
+
+// The text of what the drives took.
+fn drives_piece(
+    alloc: Global,
+    config: &Config,
+    drives: &[DriveEndRow],
+) -> Result<Vec<u8>, OutOfMemory>
+    ensures { IfOk result (λ v. v.items ≡ drives_text config.now drives.now) }
+{
+    let mut wtr = WriterBuilder::new().from_writer(Vec::new(alloc));
+    write_drives(&mut wtr, config, drives)?;
+    match wtr.into_inner() {
+        Ok(text) => Ok(text),
+        Err(e) => {
+            let _ = e.into_error();
+            Err(OutOfMemory)
+        }
+    }
+}
+
+// Writes the entry at a place, if it is there.
+fn write_entry_at<W: Write + Drop>(
+    alloc: Global,
+    wtr: &mut Writer<W>,
+    config: &Config,
+    history: &History,
+    place: u64,
+) -> Result<(), OutOfMemory>
+    requires { IsBetween wtr.old }
+    ensures text { OnOk result (Appends (text_written W.contents wtr.old) (text_written W.contents wtr.new)
+        (flat_map (entry_text config.now) (option_to_list (slice_get history.now.entries place)))) }
+    ensures between { OnOk result (IsBetween wtr.new) }
+{
+    match history.look(place) {
+        Some(entry) => write_entry(alloc, wtr, config, &entry),
+        None => Ok(()),
+    }
+}
+
+// Writes so many entries from a place on.
+fn write_entries<W: Write + Drop>(
+    alloc: Global,
+    wtr: &mut Writer<W>,
+    config: &Config,
+    history: &History,
+    from: u64,
+    count: u64,
+) -> Result<(), OutOfMemory>
+    requires between { IsBetween wtr.old }
+    requires fits { from + count < 2 ^ 64 }
+    ensures text { OnOk result (Appends (text_written W.contents wtr.old) (text_written W.contents wtr.new)
+        (flat_map (entry_text config.now) (take count (drop from history.now.entries)))) }
+    ensures between { OnOk result (IsBetween wtr.new) }
+{
+    for i in 0..count {
+        write_entry_at(alloc, wtr, config, history, from + i)?;
+    }
+    Ok(())
+}
+
+// The text of so many entries from a place on.
+fn entries_piece(
+    alloc: Global,
+    config: &Config,
+    history: &History,
+    from: u64,
+    count: u64,
+) -> Result<Vec<u8>, OutOfMemory>
+    requires { from + count < 2 ^ 64 }
+    ensures { IfOk result (λ v. v.items ≡ flat_map (entry_text config.now) (take count (drop from history.now.entries))) }
+{
+    let mut wtr = WriterBuilder::new().from_writer(Vec::new(alloc));
+    write_entries(alloc, &mut wtr, config, history, from, count)?;
+    match wtr.into_inner() {
+        Ok(text) => Ok(text),
+        Err(e) => {
+            let _ = e.into_error();
+            Err(OutOfMemory)
+        }
+    }
+}
+
+// Puts a piece of a text into the output, if there was memory for it.
+fn put<K: Sink>(piece: Result<Vec<u8>, OutOfMemory>, out: &mut K) -> Result<(), TraceFault>
+    ensures { WritesPiece (record { count = K.count out.old; told = K.told out.old })
+        (record { count = K.count out.new; told = K.told out.new }) piece result }
+{
+    match piece {
+        Ok(text) => match write_all(out, text.as_slice()) {
+            Ok(()) => Ok(()),
+            Err(SinkFailed) => Err(TraceFault::WriteFault),
+        },
+        Err(OutOfMemory) => Err(TraceFault::OutOfMemory),
+    }
+}
+
+// Writes the machine part.
+fn put_machine<K: Sink>(
+    alloc: Global,
+    command: Command,
+    config: &Config,
+    out: &mut K,
+) -> Result<(), TraceFault>
+    ensures { Writes (record { count = K.count out.old; told = K.told out.old })
+        (record { count = K.count out.new; told = K.told out.new }) (machine_text command config.now) result }
+{
+    put(machine_piece(alloc, command, config), out)
+}
+
+// Writes what the drives took.
+fn put_drives<K: Sink>(
+    alloc: Global,
+    config: &Config,
+    drives: &[DriveEndRow],
+    out: &mut K,
+) -> Result<(), TraceFault>
+    ensures { Writes (record { count = K.count out.old; told = K.told out.old })
+        (record { count = K.count out.new; told = K.told out.new }) (drives_text config.now drives.now) result }
+{
+    put(drives_piece(alloc, config, drives), out)
+}
+
+// Writes so many entries from a place on.
+fn put_entries<K: Sink>(
+    alloc: Global,
+    config: &Config,
+    history: &History,
+    from: u64,
+    count: u64,
+    out: &mut K,
+) -> Result<(), TraceFault>
+    requires { from + count < 2 ^ 64 }
+    ensures { Writes (record { count = K.count out.old; told = K.told out.old })
+        (record { count = K.count out.new; told = K.told out.new })
+        (flat_map (entry_text config.now) (take count (drop from history.now.entries))) result }
+{
+    put(entries_piece(alloc, config, history, from, count), out)
+}
+
+// Writes all entries, a piece at a time.
+fn put_history<K: Sink>(
+    alloc: Global,
+    config: &Config,
+    history: &History,
+    out: &mut K,
+) -> Result<(), TraceFault>
+    ensures { Writes (record { count = K.count out.old; told = K.told out.old })
+        (record { count = K.count out.new; told = K.told out.new })
+        (flat_map (entry_text config.now) history.now.entries) result }
+{
+    let entries = history.entries();
+    for piece in 0..entries / PIECE + 1 {
+        let from = piece * PIECE;
+        let count = (entries - from).min(PIECE);
+        match put_entries(alloc, config, history, from, count, out) {
+            Ok(()) => {}
+            Err(fault) => return Err(fault),
+        }
+    }
+    Ok(())
+}
+
+/// Writes the trace of a history of this configuration and of what its drives took. So far the version is One, which
+/// gives no braking limit: each is the axis's `amax`.
+#[tactic(auto, unfolding(crate::specs::Trace::trace_text))]
+pub fn write_trace<K: Sink>(
+    alloc: Global,
+    version: TraceVersion,
+    command: Command,
+    config: &Config,
+    history: &History,
+    drives: &[DriveEndRow],
+    out: &mut K,
+) -> Result<(), TraceFault>
+    requires version { version ≡ TraceVersion.One }
+    requires limits { All (λ (d : AxisDef). d.limits.dmax ≡ d.limits.amax) config.now.axes }
+    requires drives { length drives.now ≡ length config.now.axes }
+    ensures { Writes (record { count = K.count out.old; told = K.told out.old })
+        (record { count = K.count out.new; told = K.told out.new })
+        (trace_text command config.now history.now.entries drives.now) result }
+{
+    match put_machine(alloc, command, config, out) {
+        Ok(()) => {}
+        Err(fault) => return Err(fault),
+    }
+    match put_history(alloc, config, history, out) {
+        Ok(()) => {}
+        Err(fault) => return Err(fault),
+    }
+    put_drives(alloc, config, drives, out)
+}
