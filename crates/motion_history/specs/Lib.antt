@@ -8,3 +8,4 @@ pub mod Rows
 pub mod Stored
 pub mod Kept
 pub mod Ready
+pub mod AxisRanges

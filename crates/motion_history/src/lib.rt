@@ -4,6 +4,7 @@
 mod builder;
 mod config;
 mod history;
+mod laws;
 mod refused;
 
 pub use axis_state::{AxisDef, AxisRow, AxisState, DriveIn, DriveOut, Limits, Name};
@@ -12,4 +13,5 @@ pub use config::{BlockDef, Config, GroupDef};
 pub use fb_outputs::{BlockKind, BufferMode, Inputs, Outputs};
 pub use group_state::{GroupRow, GroupState};
 pub use history::{EntryLook, History};
+pub use laws::axes_are_in_range;
 pub use refused::{OutOfMemory, Rule, TextFault, TextRefused, TraceVersion};

@@ -1,5 +1,5 @@
 -- What contracts see of a kernel.
-use Rattle.std.specs.Prelude.{◌≡◌, Bool, true, false, IsTrue, List, []}
+use Rattle.std.specs.Prelude.{List}
 use Rattle.motion_history.specs.Entries.{Entry}
 use Rattle.motion_history.specs.Setup.{Setup}
 use Rattle.motion_kernel.specs.Machine.{Machine, opened, replay}

@@ -106,11 +106,11 @@ replay m [] = m
 replay m (e ∷ es) = replay (after m e) es
 
 -- a call may be made of an instance that is there, with inputs of its kind. This project's profile
-pub record IsCall (m : Machine) (k : ℕ) (i : Inputs) : Type 0 where
-  pub there : k < length m.setup.blocks
+pub record IsCall (s : Setup) (k : ℕ) (i : Inputs) : Type 0 where
+  pub there : k < length s.blocks
   pub inputs : AreInputs MoveAbsolute 1 i
   pub aborting : i.mode ≡ Aborting
-  pub master : i.master < length m.setup.axes
+  pub master : i.master < length s.axes
 
 -- a drive's answer is operational: it reads Operation enabled, in cyclic synchronous position mode. IEC 61800-7-201, objects 6041h and 6061h
 pub record IsOperational (d : DriveIn) : Type 0 where
@@ -119,7 +119,7 @@ pub record IsOperational (d : DriveIn) : Type 0 where
 
 -- the entry is the machine's: its reply or its rows are what the machine gives. This project's profile
 abbrev pub IsOf : Machine → Entry → Type 0
-IsOf m (call k i reply) = IsCall m k i × (reply ≡ reply_of m k i)
+IsOf m (call k i reply) = IsCall m.setup k i × (reply ≡ reply_of m k i)
 IsOf m (cycle n rows groups) =
     (n ≡ m.cycles + 1) × (length rows ≡ length m.axes) × (rows ≡ rows_of m (inputs_of rows)) × (groups ≡ [])
 IsOf m (end_of task) = task < length m.setup.tasks

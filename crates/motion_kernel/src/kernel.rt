@@ -16,7 +16,7 @@ use axis_state::{AxisRow, AxisState};
 use cia402_machine::{DriveIn, DriveOut};
 use fb_outputs::{Inputs, Instance, Outputs};
 use kin_core::standing_is_kept;
-use motion_history::{AxisDef, BlockDef, Config, History};
+use motion_history::{AxisDef, BlockDef, Config, History, axes_are_in_range};
 use std::alloc::{AllocError, Global};
 use std::marker::Model;
 
@@ -61,7 +61,7 @@ impl Kernel {
     pub fn call(&mut self, task: u8, instance: u16, inputs: &Inputs) -> Outputs
         requires room { length self.old.history < self.old.config.entries }
         requires task { IsSomeAnd (slice_get self.old.config.blocks instance) (λ b. b.task ≡ task) }
-        requires call { IsCall (state_of self.old) instance inputs.now }
+        requires call { IsCall self.old.config instance inputs.now }
         ensures reply { result ≡ reply_of (state_of self.old) instance inputs.now }
         ensures after { self.new ≡ record self.old {
           history = self.old.history ++ call instance inputs.now result ∷ [];
@@ -161,6 +161,7 @@ fn made(alloc: Global, config: Config) -> Result<Kernel, AllocError>
     ensures { IfOk result (λ k. k ≡ record { config = config; history = [] }) }
 {
     standing_is_kept();
+    axes_are_in_range();
     let axes = opened_axes(alloc, config.axes())?;
     let instances = opened_instances(alloc, config.blocks())?;
     let Ok(history) = History::open(alloc, &config) else {

@@ -8,6 +8,7 @@ use Rattle.motion_kernel.specs.declared.kernel.Kernel.TheInside.{Inside}
 use Rattle.motion_kernel.specs.Axes.{owner_of}
 use Rattle.motion_kernel.specs.Instances.{Parts, called, reply_by}
 use Rattle.motion_kernel.specs.KernelKept.{machine_of, IsMachineKept}
+use Rattle.motion_kernel.specs.KernelState.{KernelState}
 use Rattle.motion_kernel.specs.Machine.{Machine, parts_of, reply_of, IsCall}
 use Rattle.motion_kernel.proofs.MachineLaws.{cycles_of-more, object_of-there, parts_of-kept, IsMachineKept-call}
 use Rattle.motion_kernel.proofs.KernelLaws.{IsKernelKept-more}
@@ -15,10 +16,10 @@ use Rattle.motion_kernel.proofs.CallLaws.{machine-of, room-of, object-there, par
 use Rattle.motion_kernel.proofs.PartsLaws.{ArePartsKept}
 use Rattle.motion_kernel.proofs.kernel.Kernel.call.Goals as goal
 
-may_call : (c : goal.After-as_mut_slice) → IsCall (machine_of c.self.inside) c.args.instance c.args.inputs.now
+may_call : (c : goal.After-as_mut_slice) → IsCall c.self.inside.config c.args.instance c.args.inputs.now
 may_call c =
-    let P : Machine → Type 0 = λ m. IsCall m c.args.instance c.args.inputs.now in
-    subst P (sym (machine-of c.self.inside _ c.self.invariant c.self.view_is)) c.requires.call
+    let P : KernelState → Type 0 = λ s. IsCall s.config c.args.instance c.args.inputs.now in
+    subst P (sym c.self.view_is) c.requires.call
 
 found : (c : goal.After-as_mut_slice) →
     record { axis = c.index_mut.result.now; instances = c.as_mut_slice.result.now } ≡ parts_of (machine_of c.self.inside) c.args.instance
@@ -35,10 +36,10 @@ call_block-reply-requires-clause-owner c =
     let long = here.instances in
     if_some (owner_of c.index_mut.result.now.active) (length c.as_mut_slice.result.now) (λ o h. let l = here.owner o h in omega arith)
 
-is_call : (c : goal.After-record_call) → IsCall (machine_of c.self.inside) c.args.instance c.args.inputs.now
+is_call : (c : goal.After-record_call) → IsCall c.self.inside.config c.args.instance c.args.inputs.now
 is_call c =
-    let P : Machine → Type 0 = λ m. IsCall m c.args.instance c.args.inputs.now in
-    subst P (sym (machine-of c.self.inside _ c.self.invariant c.self.view_is)) c.requires.call
+    let P : KernelState → Type 0 = λ s. IsCall s.config c.args.instance c.args.inputs.now in
+    subst P (sym c.self.view_is) c.requires.call
 
 entry_parts : (c : goal.After-record_call) →
     record { axis = c.index_mut.result.now; instances = c.as_mut_slice.result.now } ≡ parts_of (machine_of c.self.inside) c.args.instance
