@@ -1,0 +1,4 @@
+pub mod Orders
+pub mod GreatestLemmas
+pub mod SumLemmas
+pub mod RootLemmas

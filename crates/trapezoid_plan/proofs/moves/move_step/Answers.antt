@@ -1,0 +1,15 @@
+-- The move step is the one that the definition asks for.
+use Rattle.std.proofs.Common.{◌≡◌, FitsSigned, w64, to_z, of_z, to_z-of_z, arith, ◌∙◌}
+use Rattle.std.proofs.lemmas.Int.{ints}
+use Rattle.trapezoid_plan.specs.MoveStep.{move_step_of}
+use Rattle.trapezoid_plan.proofs.MoveSteps.{is-move-step}
+use Rattle.trapezoid_plan.proofs.moves.move_step.Goals as goal
+
+pub returns-clause-definition : goal.returns-clause-definition
+returns-clause-definition c =
+    let distance : FitsSigned w64 c.args.distance = c.ranges.distance in
+    let old : FitsSigned w64 c.args.old = c.ranges.old in
+    let value : c.move_from.result ≡ move_step_of c.args.distance c.args.old c.args.rates.now =
+    simp to_z-of_z at c.move_from.ensures.value in
+    let fits : to_z w64 (of_z w64 c.move_from.result) ≡ c.move_from.result = omega (arith, ints) in
+    rw (fits ∙ value) (is-move-step c.args.distance c.args.old c.args.rates.now c.requires.rates)

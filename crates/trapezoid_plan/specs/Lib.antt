@@ -1,0 +1,5 @@
+pub mod Rates
+pub mod MoveStep
+pub mod VelocityStep
+pub mod CyclesBound
+pub mod MoveRun

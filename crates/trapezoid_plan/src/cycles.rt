@@ -1,0 +1,32 @@
+// Within how many cycles a move is done.
+ghost use Rattle.std.specs.Prelude.{◌≡◌, pos, ◌≤◌, unsigned_abs};
+ghost use Rattle.trapezoid_plan.specs.Rates.{AreRates};
+ghost use Rattle.trapezoid_plan.specs.CyclesBound.{cycles_bound_of, cycles_of_sizes};
+
+use command_pool::Rates;
+use kin_core::ramp_sum;
+
+/// The number of cycles within which a move is done that becomes active with the step `old` at the
+/// signed distance `distance` from its target, counted from the cycle after.
+pub fn cycles_bound(distance: i64, old: i64, rates: &Rates) -> i64
+    requires rates { AreRates rates.now }
+    requires distance { unsigned_abs distance ≤ 2000000000000000 }
+    requires old { unsigned_abs old ≤ 10000000000 }
+    ensures value { result ≡ pos (cycles_bound_of distance old rates.now) }
+    ensures small { unsigned_abs result ≤ 2000030000000004 }
+{
+    cycles_of(distance.unsigned_abs(), old.unsigned_abs(), rates) as i64
+}
+
+// The same by sizes.
+fn cycles_of(way: u64, speed: u64, rates: &Rates) -> u64
+    requires rates { AreRates rates.now }
+    requires way { way ≤ 2000000000000000 }
+    requires speed { speed ≤ 10000000000 }
+    ensures value { result ≡ cycles_of_sizes way speed rates.now }
+    ensures small { result ≤ 2000030000000004 }
+{
+    let (v, a, d) = (rates.v as u64, rates.a as u64, rates.d as u64);
+    let longest = (way as u128 + ramp_sum(speed, d)).min(2_000_000_000_000_000) as u64;
+    speed / d + 1 + v.div_ceil(a) + longest.div_ceil(v) + v / d + 3
+}

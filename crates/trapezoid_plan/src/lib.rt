@@ -1,0 +1,20 @@
+//! Moves, velocities and halts of one axis: the step that a command wants in a cycle.
+#![tactic(auto)]
+
+mod cycles;
+mod halts;
+mod laws;
+mod moves;
+#[cfg(test)]
+mod plain;
+#[cfg(test)]
+mod tests;
+mod velocities;
+
+pub use cycles::cycles_bound;
+pub use halts::halt_step;
+pub use laws::{
+    halts_come_to_rest_in_time, move_steps_are_greatest, move_steps_are_safe, moves_arrive_in_time,
+};
+pub use moves::{move_step, move_step_counted};
+pub use velocities::velocity_step;

@@ -1,0 +1,103 @@
+// The wanted step of a move.
+ghost use Rattle.std.specs.Prelude.{◌≡◌, ◌+◌, pos, ◌≤ℤ◌, ◌≤◌, ◌<◌, unsigned_abs};
+ghost use Rattle.kin_core.specs.Taken.{reach_of};
+ghost use Rattle.trapezoid_plan.specs.Rates.{AreRates};
+ghost use Rattle.trapezoid_plan.specs.MoveStep.{IsMoveStep, move_step_of, step_ahead_of};
+
+use crate::halts::halt_step;
+use command_pool::Rates;
+use kin_core::ramp_sum;
+use ramp_root::{Steps, greatest_count_counted};
+use std::marker::Brand;
+use std::sync::ledger::{Blank, Ledger};
+
+/// The wanted step of a move, in internal units per cycle: `distance` leads from the setpoint to
+/// the target, `old` is the step of the last cycle.
+pub fn move_step(distance: i64, old: i64, rates: &Rates) -> i64
+    requires rates { AreRates rates.now }
+    requires distance { unsigned_abs distance ≤ 2000000000000000 }
+    requires old { unsigned_abs old ≤ 10000000000 }
+    ensures value { result ≡ move_step_of distance old rates.now }
+    ensures definition { IsMoveStep distance old rates.now result }
+    ensures small { unsigned_abs result ≤ 10000000000 }
+{
+    move_from::<Brand>(distance, old, rates, Blank::new(1))
+}
+
+// The same for any ledger, whose counter nobody reads.
+fn move_from<L: Ledger>(distance: i64, old: i64, rates: &Rates, blank: Blank) -> i64
+    requires name { blank.name ≡ L.name }
+    requires parts { blank.parts ≡ L.parts }
+    requires some { 0 < blank.parts }
+    requires rates { AreRates rates.now }
+    requires distance { unsigned_abs distance ≤ 2000000000000000 }
+    requires old { unsigned_abs old ≤ 10000000000 }
+    ensures value { result ≡ move_step_of distance old rates.now }
+    ensures small { unsigned_abs result ≤ 10000000000 }
+{
+    let mut steps = Steps::<L>::open(blank);
+    move_step_counted(distance, old, rates, &mut steps)
+}
+
+/// The same step, with its tests of sums counted.
+pub fn move_step_counted<L: Ledger>(
+    distance: i64,
+    old: i64,
+    rates: &Rates,
+    steps: &mut Steps<L>,
+) -> i64
+    requires rates { AreRates rates.now }
+    requires distance { unsigned_abs distance ≤ 2000000000000000 }
+    requires old { unsigned_abs old ≤ 10000000000 }
+    ensures value { result ≡ move_step_of distance old rates.now }
+    ensures small { unsigned_abs result ≤ 10000000000 }
+    ensures cost { steps.new ≤ steps.old + 128 }
+{
+    if 0 < distance && 0 <= old {
+        step_ahead(distance.unsigned_abs(), old.unsigned_abs(), rates, steps) as i64
+    } else if distance < 0 && old <= 0 {
+        -(step_ahead(distance.unsigned_abs(), old.unsigned_abs(), rates, steps) as i64)
+    } else {
+        halt_step(old, rates.d)
+    }
+}
+
+// The size of the step toward a target ahead. While the axis speeds up or cruises the first test
+// decides, and while it brakes onto the target the second.
+fn step_ahead<L: Ledger>(way: u64, speed: u64, rates: &Rates, steps: &mut Steps<L>) -> u64
+    requires rates { AreRates rates.now }
+    requires speed { speed ≤ 10000000000 }
+    requires way { way ≤ 2000000000000000 }
+    ensures value { result ≡ step_ahead_of way speed rates.now }
+    ensures small { result ≤ 10000000000 }
+    ensures cost { steps.new ≤ steps.old + 64 }
+{
+    let d = rates.d as u64;
+    let fastest = (rates.v as u64).min(speed + rates.a as u64);
+    let slowest = speed.saturating_sub(d);
+    if ramp_sum(fastest, d) <= way as u128 {
+        fastest.max(slowest)
+    } else if ramp_sum(slowest + 1, d) > way as u128 {
+        slowest
+    } else {
+        fastest.min(reach(way, d, steps)).max(slowest)
+    }
+}
+
+// The greatest step from which braking by `d` needs no more than the way. It is needed about twice
+// in a move, and out of line it leaves the other cycles short.
+#[inline(never)]
+fn reach<L: Ledger>(way: u64, d: u64, steps: &mut Steps<L>) -> u64
+    requires least { 1 ≤ d }
+    requires most { d ≤ 10000000000 }
+    requires way { way ≤ 2000000000000000 }
+    ensures value { result ≡ reach_of way d }
+    ensures cost { steps.new ≤ steps.old + 64 }
+{
+    let terms = greatest_count_counted(way as u128, d, 1, steps);
+    if terms == 0 {
+        return 0;
+    }
+    let rest = way - d * (terms * (terms - 1) / 2);
+    (terms - 1) * d + d.min(rest / terms)
+}
