@@ -113,6 +113,13 @@ impl Kernel {
         self.history.record_end(task);
     }
 
+    /// The configuration.
+    pub fn config(&self) -> &Config
+        ensures { result.now ≡ self.now.config }
+    {
+        &self.config
+    }
+
     /// How many entries more the history has room for.
     pub fn room_left(&self) -> u64
         ensures { result ≡ self.now.config.entries - length self.now.history }

@@ -8,4 +8,4 @@ mod records;
 mod write;
 
 pub use motion_history::{Config, History, OutOfMemory, TraceVersion};
-pub use write::{Command, DriveEndRow, TraceFault};
+pub use write::{Command, DriveEndRow, TraceFault, write_trace};

@@ -1,10 +1,9 @@
 // Writing a trace.
 
-ghost use Rattle.std.specs.Prelude.{◌≡◌, ◌+◌, ◌<◌, ◌^◌, IfOk, OnOk, All, length, take, drop, slice_get};
+ghost use Rattle.std.specs.Prelude.{◌≡◌, ◌+◌, ◌<◌, ◌^◌, IfOk, OnOk, length, take, drop, slice_get};
 ghost use Rattle.std.specs.Option.{option_to_list};
 ghost use Rattle.std.specs.List.{flat_map};
 ghost use Rattle.std.specs.Io.KnownBytes.{Appends};
-ghost use Rattle.axis_state.specs.declared.definition.AxisDef.{AxisDef};
 ghost use Rattle.csv.specs.Writing.{text_written};
 ghost use Rattle.trace_text.specs.Between.{IsBetween};
 ghost use Rattle.trace_text.specs.Writes.{Output, Writes, WritesPiece};
@@ -235,7 +234,6 @@ pub fn write_trace<K: Sink>(
     out: &mut K,
 ) -> Result<(), TraceFault>
     requires version { version ≡ TraceVersion.One }
-    requires limits { All (λ (d : AxisDef). d.limits.dmax ≡ d.limits.amax) config.now.axes }
     requires drives { length drives.now ≡ length config.now.axes }
     ensures { Writes (record { count = K.count out.old; told = K.told out.old })
         (record { count = K.count out.new; told = K.told out.new })
