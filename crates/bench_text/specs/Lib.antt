@@ -1,0 +1,9 @@
+pub mod BenchState
+pub mod Numbers
+pub mod Words
+pub mod Texts
+pub mod Grammar
+pub mod Answers
+pub mod Rooms
+pub mod Reading
+pub mod Building

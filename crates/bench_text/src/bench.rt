@@ -1,0 +1,53 @@
+// A bench: the configuration of a machine, and the events that it goes through.
+
+ghost use Rattle.std.specs.Prelude.{◌≡◌};
+ghost use Rattle.bench_text.specs.BenchState.{IsBench};
+
+use fb_outputs::Inputs;
+use motion_history::Config;
+use std::marker::Model;
+
+/// A line of events.
+#[derive(Clone, Copy, Debug, PartialEq, Eq)]
+pub enum BenchLine {
+    /// A call of a block, by its number.
+    Call { instance: u16, inputs: Inputs },
+    /// So many cycles, 1 to 200,000.
+    Cycles { count: u32 },
+    /// The end of a task, by its number.
+    End { task: u8 },
+}
+
+/// A bench that was read. Contracts see it as a `BenchState`.
+#[derive(Drop)]
+pub struct Bench {
+    pub(crate) config: Config,
+    pub(crate) lines: Vec<BenchLine>,
+}
+
+impl Model for Bench {
+    ghost use Rattle.bench_text.specs.BenchState.{BenchState, IsBench};
+
+    ghost Value = { BenchState };
+
+    ghost view = { λ b. record { config = b.config; lines = b.lines.items } };
+
+    ghost invariant = { λ b. IsBench (record { config = b.config; lines = b.lines.items }) };
+}
+
+impl Bench {
+    /// The configuration of its machine.
+    pub fn config(&self) -> &Config
+        ensures value { result.now ≡ self.now.config }
+        ensures bench { IsBench self.now }
+    {
+        &self.config
+    }
+
+    /// Its lines of events, in their order.
+    pub fn lines(&self) -> &[BenchLine]
+        ensures { result.now ≡ self.now.lines }
+    {
+        self.lines.as_slice()
+    }
+}

@@ -1,0 +1,21 @@
+-- What the points of a cam table keep.
+use Rattle.std.specs.Prelude.{ℕ, ◌-◌, ◌<◌, ◌≤◌, max, ℤ, pos, ◌<ℤ◌, unsigned_abs, List, length, slice_index_or}
+
+-- the point of a row, the rows counted from 1: a master position and the position of the axis there. PLCopen Motion Control Part 1, MC_CamIn, cam tables
+abbrev pub point_of : List (ℤ × ℤ) → ℕ → ℤ × ℤ
+point_of points row = slice_index_or points (row - 1) (pos 0, pos 0)
+
+-- the size of a point's greater coordinate
+abbrev pub size_of : ℤ × ℤ → ℕ
+size_of point = max (unsigned_abs point.0) (unsigned_abs point.1)
+
+-- a row within 10^15 whose master position is above that of the row before. This project's profile
+pub record IsGoodRow (points : List (ℤ × ℤ)) (row : ℕ) : Type 0 where
+  pub within : size_of (point_of points row) ≤ 1000000000000000
+  pub rises : 1 < row → (point_of points (row - 1)).0 <ℤ (point_of points row).0
+
+-- 2 to 4,096 points, each row of them good. This project's profile
+pub record IsCamTable (points : List (ℤ × ℤ)) : Type 0 where
+  pub enough : 2 ≤ length points
+  pub few : length points ≤ 4096
+  pub rows : (row : ℕ) → 1 ≤ row → row ≤ length points → IsGoodRow points row

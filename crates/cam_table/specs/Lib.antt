@@ -1,0 +1,2 @@
+pub mod CamFault
+pub mod CamTable

@@ -1,0 +1,10 @@
+//! Tables of an electronic cam: the points that the position of an axis follows.
+#![tactic(auto)]
+
+mod fault;
+mod table;
+#[cfg(test)]
+mod tests;
+
+pub use fault::CamFault;
+pub use table::{CamTable, MOST_POINTS};

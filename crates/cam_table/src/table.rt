@@ -1,0 +1,95 @@
+// A cam table: points whose master positions rise.
+
+ghost use Rattle.std.specs.Prelude.{◌≡◌, ◌≢◌, ℕ, ◌+◌, ◌<◌, ◌≤◌, ◌↔◌, List, ℤ, length, IfOk, IfNone, IfSome, MatchOption};
+ghost use Rattle.cam_table.specs.declared.fault.CamFault.{CamFault};
+ghost use Rattle.cam_table.specs.CamTable.{IsCamTable, IsGoodRow};
+ghost use Rattle.cam_table.specs.CamFault.{IsRowFault, IsFault};
+
+use crate::fault::CamFault;
+use std::alloc::Global;
+use std::marker::Model;
+
+/// The most points that a cam table has.
+pub const MOST_POINTS: usize = 4096;
+
+const MOST_COORDINATE: u64 = 1_000_000_000_000_000;
+
+/// A cam table: 2 to 4,096 points, each a master position and the position of the axis there, in
+/// internal units within 10^15 of 0. The master positions rise from point to point.
+#[derive(Drop)]
+pub struct CamTable {
+    points: Vec<(i64, i64)>,
+}
+
+impl Model for CamTable {
+    ghost Value = { List (ℤ × ℤ) };
+
+    ghost view = { λ table. table.points.items };
+
+    ghost invariant = { λ table. IsCamTable table.points.items };
+}
+
+impl CamTable {
+    /// The table of these points. A fault of the points is told before want of memory.
+    pub fn new(alloc: Global, points: &[(i64, i64)]) -> Result<CamTable, CamFault>
+        ensures ok { IfOk result (λ table. table ≡ points.now) }
+        ensures refused { (fault : CamFault) → fault ≢ CamFault.OutOfMemory →
+            (result ≡ Err fault) ↔ IsFault points.now fault }
+        ensures out_of_memory_without_a_fault { result ≡ Err CamFault.OutOfMemory →
+            IsCamTable points.now }
+    {
+        if let Some(fault) = fault_in(points) {
+            return Err(fault);
+        }
+        match points.to_vec(alloc) {
+            Ok(points) => Ok(CamTable { points }),
+            Err(_) => Err(CamFault::OutOfMemory),
+        }
+    }
+
+    /// The points, in the order of their master positions.
+    pub fn points(&self) -> &[(i64, i64)]
+        ensures points { result.now ≡ self.now }
+        ensures table { IsCamTable self.now }
+    {
+        self.points.as_slice()
+    }
+}
+
+// What is wrong with the points, if anything is.
+fn fault_in(points: &[(i64, i64)]) -> Option<CamFault>
+    ensures found { IfSome result (IsFault points.now) }
+    ensures none { IfNone result (IsCamTable points.now) }
+{
+    if points.len() < 2 {
+        return Some(CamFault::TooFew);
+    }
+    if points.len() > MOST_POINTS {
+        return Some(CamFault::TooMany);
+    }
+    for at in 0..points.len() {
+        if let Some(fault) = fault_in_row(points, at) {
+            return Some(fault);
+        }
+    }
+    None
+}
+
+// What is wrong with the row at an index, by itself and after the row before it.
+fn fault_in_row(points: &[(i64, i64)], at: usize) -> Option<CamFault>
+    requires row { at < length points.now }
+    requires few { length points.now ≤ 4096 }
+    ensures { MatchOption result
+        (IsGoodRow points.now (at + 1))
+        (λ fault. IsRowFault points.now (at + 1) fault) }
+{
+    let (x, y) = points[at];
+    let row = (at + 1) as u16;
+    if x.unsigned_abs().max(y.unsigned_abs()) > MOST_COORDINATE {
+        return Some(CamFault::BadRow(row));
+    }
+    if at > 0 && x <= points[at - 1].0 {
+        return Some(CamFault::NotRising(row));
+    }
+    None
+}

@@ -1,0 +1,4 @@
+pub mod CamLaws
+pub mod CamPlaces
+pub mod Floors
+pub mod Travels

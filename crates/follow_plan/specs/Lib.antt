@@ -1,0 +1,3 @@
+pub mod Cam
+pub mod Floor
+pub mod Gear

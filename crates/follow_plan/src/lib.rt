@@ -1,0 +1,13 @@
+//! Followers: the step of a gear and the position of a cam, from the master's setpoints.
+#![tactic(auto)]
+
+mod cam;
+mod floor;
+mod gear;
+mod laws;
+#[cfg(test)]
+mod tests;
+
+pub use cam::cam_position;
+pub use gear::{gear_difference, gear_toward};
+pub use laws::{cam_positions_lie_between_points, gears_keep_their_ratio};

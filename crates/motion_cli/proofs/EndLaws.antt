@@ -1,0 +1,77 @@
+-- How the program ends, from what its parts did.
+use Rattle.std.specs.Prelude.{◌≡◌, refl, ℕ, Option, None, Result, Ok, Err, List, map, IfOk}
+use Rattle.std.specs.declared.alloc.AllocError.{AllocError}
+use Rattle.std.proofs.Common.{Vec, Global, ◌∙◌, sym, ap, subst}
+use Rattle.bench_text.specs.BenchState.{BenchState}
+use Rattle.cia402_machine.specs.declared.drive.DriveIn.{DriveIn}
+use Rattle.cia402_machine.specs.declared.drive.DriveState.TheVariants.{OperationEnabled}
+use Rattle.motion_history.specs.Entries.{Entry, cycles_of}
+use Rattle.motion_history.specs.Setup.{Setup}
+use Rattle.bench_text.specs.Reading.{ReadsBy}
+use Rattle.motion_history.specs.declared.refused.TextFault.{TextFault}
+use Rattle.motion_history.specs.declared.refused.TextFault.TheVariants.{Refused}
+use Rattle.motion_history.specs.declared.refused.TextRefused.{TextRefused}
+use Rattle.motion_kernel.specs.KernelState.{KernelState}
+use Rattle.trace_text.proofs.Writing.{WritesPrefix-none}
+use Rattle.trace_text.specs.Trace.{trace_text}
+use Rattle.trace_text.specs.Writes.{Output, Writes}
+use Rattle.trace_text.specs.declared.write.Command.TheVariants.{Bench}
+use Rattle.trace_text.specs.declared.write.DriveEndRow.{DriveEndRow}
+use Rattle.trace_text.specs.declared.write.TraceFault.{TraceFault}
+use Rattle.trace_text.specs.declared.write.TraceFault.TheVariants as fault
+use Rattle.motion_cli.proofs.RunLaws.{run_at}
+use Rattle.motion_cli.specs.Ends.{Plan, EndsBy, EndsEarly, Says, bench_trace, not_the_form, plan_of_reading, refused_line}
+use Rattle.motion_cli.specs.Run.{Run, run_of, drives_of}
+use Rattle.motion_cli.specs.declared.status.Status.{Status}
+use Rattle.motion_cli.specs.declared.status.Status.TheVariants as status
+
+-- memory that runs out before anything is written is a cause to end by any plan
+pub early : (old new : Output) (plan : Plan) (s : Status) → EndsEarly old new s → EndsBy old new plan s
+early old new plan s e = rw e.output (record {
+  written = Err fault.OutOfMemory;
+  writes = (refl, WritesPrefix-none old.told plan.text);
+  status = e.status;
+})
+
+-- a line that is the text of a plan
+pub said : (old new : Output) (line : Result (Vec ℕ Global) AllocError) (text : List ℕ) (s r : Status) → IfOk line (λ v. v.items ≡ text) →
+    Says old new line s r → EndsBy old new (record { status = s; text = text }) r
+said old new (Ok v) text s r e w = let P : List ℕ → Type 0 = λ t. EndsBy old new (record { status = s; text = t }) r in subst P e w
+said old new (Err x) text s r e w = early old new (record { status = s; text = text }) r w
+
+-- the same plan
+pub same-plan : (old new : Output) (p q : Plan) (s : Status) → p ≡ q → EndsBy old new p s → EndsBy old new q s
+same-plan old new p q s e w = let P : Plan → Type 0 = λ x. EndsBy old new x s in subst P e w
+
+-- the same text
+pub same-text : (old new : Output) (x y : List ℕ) (r : Result (Unit {0}) TraceFault) → x ≡ y → Writes old new x r → Writes old new y r
+same-text old new x y r e w = let P : List ℕ → Type 0 = λ t. Writes old new t r in subst P e w
+
+-- why a text is refused
+pub refused-why : (reading : Option BenchState) (f : TextFault) (r : TextRefused) → f ≡ Refused r → ReadsBy reading (Err f) → (reading ≡ None) × (r ≡ not_the_form)
+refused-why reading f r e why = let P : TextFault → Type 0 = λ x. ReadsBy reading (Err x) in subst P e why
+
+-- a text that is refused has no reading
+pub refused-plan : (name : List ℕ) (reading : Option BenchState) (r : TextRefused) → reading ≡ None → r ≡ not_the_form →
+    record { status = status.TextRefused 1 r.place r.rule; text = refused_line name r } ≡ plan_of_reading name reading
+refused-plan name reading r e n =
+    let plan : TextRefused → Plan = λ x. record { status = status.TextRefused 1 x.place x.rule; text = refused_line name x } in
+    ap plan n ∙ sym (ap (plan_of_reading name) e)
+
+-- what the drives took at the end
+pub drives-are : (b : BenchState) (k : KernelState) (shown answers : List DriveIn) (drives : List DriveEndRow) (cycles : ℕ) →
+    run_at k answers ≡ run_of b → cycles ≡ cycles_of k.history → shown ≡ answers →
+    drives ≡ map (λ (d : DriveIn). record { taken = cycles; state = OperationEnabled; actual = d.actual }) shown → drives ≡ drives_of (run_of b)
+unfolding drives_of
+drives-are b k shown answers drives cycles r n a d =
+    let rows : ℕ → List DriveIn → List DriveEndRow = λ m xs. map (λ (x : DriveIn). record { taken = m; state = OperationEnabled; actual = x.actual }) xs in
+    d ∙ (λ t. rows (n t) (a t)) ∙ ap drives_of r
+
+-- the trace that is written is that of the bench
+pub trace-is : (b : BenchState) (s : Setup) (k : KernelState) (es : List Entry) (answers : List DriveIn) (drives : List DriveEndRow) →
+    s ≡ k.config → k.config ≡ b.config → es ≡ k.history → run_at k answers ≡ run_of b → drives ≡ drives_of (run_of b) →
+    trace_text Bench s es drives ≡ bench_trace b
+trace-is b s k es answers drives c c2 e r d =
+    let config = c ∙ c2 in
+    let history : es ≡ (run_of b).history = e ∙ ap (λ (x : Run). x.history) r in
+    λ t. trace_text Bench (config t) (history t) (d t)

@@ -1,0 +1,45 @@
+// The lines that the program writes in place of a trace.
+
+ghost use Rattle.std.specs.Prelude.{◌≡◌, IfOk, codes, ◌++◌};
+ghost use Rattle.motion_cli.specs.Ends as spec;
+
+use itoa::Buffer;
+use motion_history::TextRefused;
+use std::alloc::{AllocError, Global};
+
+/// The line that tells which words the program takes.
+pub const USAGE: &[u8] =
+    b"usage: motion bench FILE | run CONFIG PROGRAM | check TRACE | gen SEED\n";
+
+/// A line of a beginning and the name of a file.
+pub fn named_line(alloc: Global, beginning: &[u8], name: &str) -> Result<Vec<u8>, AllocError>
+    ensures { IfOk result (λ line. line.items ≡ beginning.now ++ name.now ++ codes "\n") }
+{
+    let mut line = Vec::from_slice(alloc, beginning)?;
+    line.extend_from_slice(name.as_bytes())?;
+    line.extend_from_slice(b"\n")?;
+    Ok(line)
+}
+
+/// The line that tells where a text is refused, and by which rule.
+pub fn refused_line(alloc: Global, name: &str, refused: &TextRefused) -> Result<Vec<u8>, AllocError>
+    ensures { IfOk result (λ line. line.items ≡ spec.refused_line name.now refused.now) }
+{
+    let mut place = Buffer::new();
+    let mut number = Buffer::new();
+    let pieces: [&[u8]; 7] = [
+        b"refused ",
+        name.as_bytes(),
+        b" ",
+        place.format(refused.place).as_bytes(),
+        b" ",
+        &[refused.rule.letter],
+        number.format(refused.rule.number).as_bytes(),
+    ];
+    let mut line = Vec::new(alloc);
+    for piece in pieces {
+        line.extend_from_slice(piece)?;
+    }
+    line.extend_from_slice(b"\n")?;
+    Ok(line)
+}

@@ -1,0 +1,134 @@
+// The top call of the program.
+
+ghost use Rattle.std.specs.Prelude.{◌≡◌, Some};
+ghost use Rattle.motion_cli.specs.Asked as asked;
+ghost use Rattle.motion_cli.specs.Ends.{Ends, EndsBy, Says, plan_of_reading, bench_trace, status_by};
+ghost use Rattle.bench_text.specs.Reading.{bench_of};
+ghost use Rattle.outside.specs.Faults.{Rose};
+ghost use Rattle.trace_text.specs.Writes.{Writes};
+
+use crate::drives::end_rows;
+use crate::lines::{USAGE, named_line, refused_line};
+use crate::run::run;
+use crate::status::Status;
+use crate::words::{Words, bench_file};
+use bench_text::{Bench, read_bench};
+use motion_history::{TextFault, TraceVersion};
+use outside::{Files, FilesFault, Sink, write_all};
+use std::alloc::{AllocError, Global};
+use trace_text::{Command, TraceFault, write_trace};
+
+/// The most bytes of a file, 16 MiB.
+const MOST_BYTES: u64 = 16_777_216;
+
+/// Does what the words ask for with the files, writes to the output, and answers how it ended.
+pub fn top<F: Files, K: Sink>(alloc: Global, words: &Words, files: &mut F, out: &mut K) -> Status
+    ensures ends { Ends (F.told files.old) (Rose (F.count files.old) (F.count files.new))
+        (asked.bench_file words.now) (record { count = K.count out.old; told = K.told out.old })
+        (record { count = K.count out.new; told = K.told out.new }) result }
+{
+    match bench_file(words) {
+        Some(name) => bench(alloc, name, files, out),
+        None => say_all(USAGE, Status::Usage, out),
+    }
+}
+
+// Says a line, with this status where it is written.
+fn say_all<K: Sink>(line: &[u8], status: Status, out: &mut K) -> Status
+    ensures { EndsBy (record { count = K.count out.old; told = K.told out.old })
+        (record { count = K.count out.new; told = K.told out.new }) (record { status = status; text = line.now }) result }
+{
+    match write_all(out, line) {
+        Ok(()) => status,
+        Err(_) => Status::WriteFault,
+    }
+}
+
+// Says a line if there was memory for it, with this status where it is written.
+fn say<K: Sink>(line: Result<Vec<u8>, AllocError>, status: Status, out: &mut K) -> Status
+    ensures { Says (record { count = K.count out.old; told = K.told out.old })
+        (record { count = K.count out.new; told = K.told out.new }) line status result }
+{
+    match line {
+        Ok(line) => say_all(line.as_slice(), status, out),
+        Err(_) => Status::OutOfMemory,
+    }
+}
+
+// Reads a bench from its file, runs it and writes its trace.
+fn bench<F: Files, K: Sink>(alloc: Global, name: &str, files: &mut F, out: &mut K) -> Status
+    ensures { Ends (F.told files.old) (Rose (F.count files.old) (F.count files.new)) (Some name.now)
+        (record { count = K.count out.old; told = K.told out.old })
+        (record { count = K.count out.new; told = K.told out.new }) result }
+{
+    let mut text = Vec::new(alloc);
+    match files.read_all(name, &mut text, MOST_BYTES) {
+        Ok(()) => run_text(alloc, name, text.as_slice(), out),
+        Err(FilesFault::Failed) => say(
+            named_line(alloc, b"cannot read ", name),
+            Status::ReadFault { word: 1 },
+            out,
+        ),
+        Err(FilesFault::TooLong) => say(
+            named_line(alloc, b"too long ", name),
+            Status::TooLong { word: 1 },
+            out,
+        ),
+        Err(FilesFault::OutOfMemory) => Status::OutOfMemory,
+    }
+}
+
+// Runs the bench that a text is, and writes its trace.
+fn run_text<K: Sink>(alloc: Global, name: &str, text: &[u8], out: &mut K) -> Status
+    ensures { EndsBy (record { count = K.count out.old; told = K.told out.old })
+        (record { count = K.count out.new; told = K.told out.new }) (plan_of_reading name.now (bench_of text.now)) result }
+{
+    match read_bench(alloc, text) {
+        Ok(bench) => status_of(write_run(alloc, &bench, out)),
+        Err(TextFault::Refused(refused)) => say(
+            refused_line(alloc, name, &refused),
+            Status::TextRefused {
+                word: 1,
+                place: refused.place,
+                rule: refused.rule,
+            },
+            out,
+        ),
+        Err(TextFault::OutOfMemory) => Status::OutOfMemory,
+    }
+}
+
+// The status by what became of the writing of a trace.
+fn status_of(written: Result<(), TraceFault>) -> Status
+    ensures { result ≡ status_by Status.Ok written }
+{
+    match written {
+        Ok(()) => Status::Ok,
+        Err(TraceFault::WriteFault) => Status::WriteFault,
+        Err(TraceFault::OutOfMemory) => Status::OutOfMemory,
+    }
+}
+
+// Runs a bench, and writes its trace.
+fn write_run<K: Sink>(alloc: Global, bench: &Bench, out: &mut K) -> Result<(), TraceFault>
+    ensures { Writes (record { count = K.count out.old; told = K.told out.old })
+        (record { count = K.count out.new; told = K.told out.new }) (bench_trace bench.now) result }
+{
+    let Ok((kernel, answers)) = run(alloc, bench) else {
+        return Err(TraceFault::OutOfMemory);
+    };
+    let history = kernel.history();
+    let cycles = kernel.config().cycles() - kernel.cycles_left();
+    let Ok(drives) = end_rows(alloc, cycles, answers.as_slice()) else {
+        return Err(TraceFault::OutOfMemory);
+    };
+    write_trace(
+        alloc,
+        TraceVersion::One,
+        Command::Bench,
+        kernel.config(),
+        history,
+        drives.as_slice(),
+        out,
+    )
+}
