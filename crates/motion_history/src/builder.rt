@@ -178,6 +178,7 @@ impl Builder {
     pub fn finish(self) -> Result<Config, ConfigFault>
         ensures ok { IfOk result (λ c. c ≡ self) }
         ensures faults { result ≡ Err ConfigFault.TooFew ↔ (faults.whole_fault self ≡ Some ConfigFault.TooFew) }
+        ensures only { IfErr result (λ e. e ≡ ConfigFault.TooFew) }
     {
         let Builder { items } = self;
         if is_whole(&items) {
