@@ -1,3 +1,4 @@
 pub mod Names
 pub mod NameBytes
 pub mod Counts
+pub mod Spells

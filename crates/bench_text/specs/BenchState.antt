@@ -1,11 +1,7 @@
 -- What contracts see of a bench: a configuration, and the lines of events behind it.
-use Rattle.std.specs.Prelude.{◌≡◌, ◌≤◌, ◌<◌, ℕ, List, length, sum_by, All}
-use Rattle.command_pool.specs.declared.kind.BlockKind.TheVariants.{MoveAbsolute}
-use Rattle.command_pool.specs.declared.kind.BufferMode.TheVariants.{Aborting}
-use Rattle.fb_outputs.specs.declared.inputs.Inputs.{Inputs}
-use Rattle.fb_outputs.specs.Inputs.{AreInputs}
+use Rattle.std.specs.Prelude.{◌≤◌, ◌<◌, ℕ, List, length, sum_by, All}
 use Rattle.motion_history.specs.Setup.{Setup, IsSetup}
-use Rattle.motion_history.specs.Ready.{IsReadyMachine}
+use Rattle.motion_history.specs.Ready.{IsCall, IsReadyMachine}
 use Rattle.bench_text.specs.declared.bench.BenchLine.{BenchLine}
 use Rattle.bench_text.specs.declared.bench.BenchLine.TheVariants.{Call, Cycles, End}
 
@@ -34,16 +30,9 @@ cycles_of_lines lines = sum_by cycle_count lines
 abbrev pub entries_of : List BenchLine → ℕ
 entries_of lines = sum_by entry_count lines
 
--- a call is of a block that is there, with inputs of its kind, in mode Aborting, with an axis that is there for its master. This project's profile
-pub record IsCallOf (s : Setup) (k : ℕ) (i : Inputs) : Type 0 where
-  pub there : k < length s.blocks
-  pub inputs : AreInputs MoveAbsolute 1 i
-  pub aborting : i.mode ≡ Aborting
-  pub master : i.master < length s.axes
-
 -- a line is one of this configuration: a call of one of its blocks, 1 to 200,000 cycles, or the end of one of its tasks. This project's profile
 abbrev pub IsLineOf : Setup → BenchLine → Type 0
-IsLineOf s (Call k i) = IsCallOf s k i
+IsLineOf s (Call k i) = IsCall s k i
 IsLineOf s (Cycles n) = (1 ≤ n) × (n ≤ 200000)
 IsLineOf s (End t) = t < length s.tasks
 

@@ -1,10 +1,11 @@
 -- How the program ends, from what its parts did.
-use Rattle.std.specs.Prelude.{◌≡◌, refl, ℕ, Option, None, Result, Ok, Err, List, map, IfOk}
+use Rattle.std.specs.Prelude.{◌≡◌, refl, ℕ, Option, Some, None, Result, Ok, Err, List, map, IfOk}
 use Rattle.std.specs.declared.alloc.AllocError.{AllocError}
 use Rattle.std.proofs.Common.{Vec, Global, ◌∙◌, sym, ap, subst}
 use Rattle.bench_text.specs.BenchState.{BenchState}
 use Rattle.cia402_machine.specs.declared.drive.DriveIn.{DriveIn}
 use Rattle.cia402_machine.specs.declared.drive.DriveState.TheVariants.{OperationEnabled}
+use Rattle.motion_history.specs.Columns.{KeepTheirLimits}
 use Rattle.motion_history.specs.Entries.{Entry, cycles_of}
 use Rattle.motion_history.specs.Setup.{Setup}
 use Rattle.bench_text.specs.Reading.{ReadsBy}
@@ -12,6 +13,7 @@ use Rattle.motion_history.specs.declared.refused.TextFault.{TextFault}
 use Rattle.motion_history.specs.declared.refused.TextFault.TheVariants.{Refused}
 use Rattle.motion_history.specs.declared.refused.TextRefused.{TextRefused}
 use Rattle.motion_kernel.specs.KernelState.{KernelState}
+use Rattle.motion_kernel.specs.Machine.{IsLegal}
 use Rattle.trace_text.proofs.Writing.{WritesPrefix-none}
 use Rattle.trace_text.specs.Trace.{trace_text}
 use Rattle.trace_text.specs.Writes.{Output, Writes}
@@ -20,7 +22,7 @@ use Rattle.trace_text.specs.declared.write.DriveEndRow.{DriveEndRow}
 use Rattle.trace_text.specs.declared.write.TraceFault.{TraceFault}
 use Rattle.trace_text.specs.declared.write.TraceFault.TheVariants as fault
 use Rattle.motion_cli.proofs.RunLaws.{run_at}
-use Rattle.motion_cli.specs.Ends.{Plan, EndsBy, EndsEarly, Says, bench_trace, not_the_form, plan_of_reading, refused_line}
+use Rattle.motion_cli.specs.Ends.{Plan, EndsBy, EndsEarly, IsLegalRun, RunsBy, Says, status_by, bench_trace, not_the_form, plan_of_reading, refused_line}
 use Rattle.motion_cli.specs.Run.{Run, run_of, drives_of}
 use Rattle.motion_cli.specs.declared.status.Status.{Status}
 use Rattle.motion_cli.specs.declared.status.Status.TheVariants as status
@@ -75,3 +77,33 @@ trace-is b s k es answers drives c c2 e r d =
     let config = c ∙ c2 in
     let history : es ≡ (run_of b).history = e ∙ ap (λ (x : Run). x.history) r in
     λ t. trace_text Bench (config t) (history t) (d t)
+
+-- a run whose trace was written is legal
+pub runs-written : (reading : Option BenchState) (bench : BenchState) (written : Result (Unit {0}) TraceFault) (s : Status) → reading ≡ Some bench →
+    s ≡ status_by status.Ok written → IfOk written (λ u. IsLegalRun bench) → RunsBy reading s
+runs-written reading bench (Ok u) s r e legal = λ b h ok. let same : bench ≡ b = cc in subst IsLegalRun same legal
+runs-written reading bench (Err fault.WriteFault) s r e legal = λ b h ok. absurd (cc)
+runs-written reading bench (Err fault.OutOfMemory) s r e legal = λ b h ok. absurd (cc)
+
+-- what is no bench has no run
+pub runs-none : (reading : Option BenchState) (s : Status) → reading ≡ None → RunsBy reading s
+runs-none reading s r = λ b h ok. absurd (cc)
+
+-- where memory ran out nothing is said of the run
+pub runs-early : (reading : Option BenchState) (s : Status) → s ≡ status.OutOfMemory → RunsBy reading s
+runs-early reading s e = λ b h ok. absurd (cc)
+
+whatever : (written : Result (Unit {0}) TraceFault) (P : Type 0) → P → IfOk written (λ u. P)
+whatever (Ok u) P p = p
+whatever (Err e) P p = tt
+
+-- the run that a kernel made of a bench is legal, as the kernel's history is
+pub legal-run : (b : BenchState) (k : KernelState) (answers : List DriveIn) (written : Result (Unit {0}) TraceFault) → k.config ≡ b.config → run_at k answers ≡ run_of b →
+    IsLegal k.config k.history → KeepTheirLimits k.config k.history → IfOk written (λ u. IsLegalRun b)
+legal-run b k answers written c r legal limits =
+    let h : k.history ≡ (run_of b).history = ap (λ (x : Run). x.history) r in
+    let L : Setup → Type 0 = λ s. IsLegal s k.history in
+    let M : List Entry → Type 0 = λ es. IsLegal b.config es in
+    let N : Setup → Type 0 = λ s. KeepTheirLimits s k.history in
+    let O : List Entry → Type 0 = λ es. KeepTheirLimits b.config es in
+    whatever written (IsLegalRun b) (record { legal = subst M h (subst L c legal); limits = subst O h (subst N c limits) })

@@ -4,7 +4,9 @@ use Rattle.std.proofs.Common.{Vec, Global}
 use Rattle.std.specs.declared.alloc.AllocError.{AllocError}
 use Rattle.bench_text.specs.BenchState.{BenchState}
 use Rattle.bench_text.specs.Reading.{bench_of}
+use Rattle.motion_history.specs.Columns.{KeepTheirLimits}
 use Rattle.motion_history.specs.declared.refused.TextRefused.{TextRefused}
+use Rattle.motion_kernel.specs.Machine.{IsLegal}
 use Rattle.outside.specs.Told.{FileMap, HasFile, LacksFile, IsLonger}
 use Rattle.trace_text.specs.Trace.{trace_text}
 use Rattle.trace_text.specs.Writes.{Output, Writes}
@@ -74,6 +76,21 @@ plan_of name Unread = record { status = status.ReadFault 1; text = unread_line n
 plan_of name Longer = record { status = status.TooLong 1; text = too_long_line name }
 plan_of name (Content bytes) = plan_of_reading name (bench_of bytes)
 
+-- the run of a bench has a legal history, in which each axis keeps its limits in every row. This project's profile
+pub record IsLegalRun (b : BenchState) : Type 0 where
+  pub legal : IsLegal b.config (run_of b).history
+  pub limits : KeepTheirLimits b.config (run_of b).history
+
+-- the bench that was read, where there is one
+abbrev pub bench_in : Found → Option BenchState
+bench_in Unread = None
+bench_in Longer = None
+bench_in (Content bytes) = bench_of bytes
+
+-- where the status is Ok, the run of the bench that was read is legal. This project's profile
+abbrev pub RunsBy : Option BenchState → Status → Type 0
+RunsBy reading s = (b : BenchState) → reading ≡ Some b → s ≡ status.Ok → IsLegalRun b
+
 -- the status by what became of the writing. This project's profile
 abbrev pub status_by : Status → Result (Unit {0}) TraceFault → Status
 status_by s (Ok u) = s
@@ -97,6 +114,7 @@ pub record EndsByFile (told : Option FileMap) (rose : Type 0) (name : List ℕ) 
   pub found : Found
   pub is_found : IsFound told rose name found
   pub ends : EndsBy old new (plan_of name found) s
+  pub runs : RunsBy (bench_in found) s
 
 -- how the program ends: words that are not `bench FILE` are told what is; else it is as the file leads to; or memory ran out. This project's profile
 abbrev pub Ends : Option FileMap → Type 0 → Option (List ℕ) → Output → Output → Status → Type 0

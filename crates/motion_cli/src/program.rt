@@ -1,8 +1,8 @@
 // The top call of the program.
 
-ghost use Rattle.std.specs.Prelude.{◌≡◌, Some};
+ghost use Rattle.std.specs.Prelude.{◌≡◌, Some, IfOk};
 ghost use Rattle.motion_cli.specs.Asked as asked;
-ghost use Rattle.motion_cli.specs.Ends.{Ends, EndsBy, Says, plan_of_reading, bench_trace, status_by};
+ghost use Rattle.motion_cli.specs.Ends.{Ends, EndsBy, RunsBy, IsLegalRun, Says, plan_of_reading, bench_trace, status_by};
 ghost use Rattle.bench_text.specs.Reading.{bench_of};
 ghost use Rattle.outside.specs.Faults.{Rose};
 ghost use Rattle.trace_text.specs.Writes.{Writes};
@@ -80,7 +80,8 @@ fn bench<F: Files, K: Sink>(alloc: Global, name: &str, files: &mut F, out: &mut 
 
 // Runs the bench that a text is, and writes its trace.
 fn run_text<K: Sink>(alloc: Global, name: &str, text: &[u8], out: &mut K) -> Status
-    ensures { EndsBy (record { count = K.count out.old; told = K.told out.old })
+    ensures runs { RunsBy (bench_of text.now) result }
+    ensures ends { EndsBy (record { count = K.count out.old; told = K.told out.old })
         (record { count = K.count out.new; told = K.told out.new }) (plan_of_reading name.now (bench_of text.now)) result }
 {
     match read_bench(alloc, text) {
@@ -111,7 +112,8 @@ fn status_of(written: Result<(), TraceFault>) -> Status
 
 // Runs a bench, and writes its trace.
 fn write_run<K: Sink>(alloc: Global, bench: &Bench, out: &mut K) -> Result<(), TraceFault>
-    ensures { Writes (record { count = K.count out.old; told = K.told out.old })
+    ensures legal { IfOk result (λ u. IsLegalRun bench.now) }
+    ensures writes { Writes (record { count = K.count out.old; told = K.told out.old })
         (record { count = K.count out.new; told = K.told out.new }) (bench_trace bench.now) result }
 {
     let Ok((kernel, answers)) = run(alloc, bench) else {

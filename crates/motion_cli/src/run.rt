@@ -3,8 +3,9 @@
 ghost use Rattle.std.specs.Prelude.{◌≡◌, ◌+◌, ◌<◌, ◌≤◌, ◌++◌, ◌∷◌, [], IfOk, length, All};
 ghost use Rattle.bench_text.specs.BenchState.{IsLineOf, entry_count, cycle_count, entries_of, cycles_of_lines};
 ghost use Rattle.motion_history.specs.Entries.{call, cycles_of};
+ghost use Rattle.motion_history.specs.Ready.{IsCall};
 ghost use Rattle.motion_kernel.specs.KernelState.{state_of};
-ghost use Rattle.motion_kernel.specs.Machine.{IsCall, reply_of};
+ghost use Rattle.motion_kernel.specs.Machine.{reply_of};
 ghost use Rattle.motion_cli.specs.Run as spec;
 ghost use Rattle.motion_cli.specs.Going.{IsGoing};
 

@@ -9,3 +9,4 @@ pub mod Stored
 pub mod Kept
 pub mod Ready
 pub mod AxisRanges
+pub mod Columns

@@ -55,7 +55,7 @@ no_owners (d ∷ ds) zero o l h = cc
 no_owners (d ∷ ds) (suc n) o l h = no_owners ds n o (omega arith) h
 
 -- the machine at opening is kept
-opened-machine-kept : StandingIsKept → RangesHold → (s : Setup) → IsSetup s → IsReadyMachine s → IsMachineKept (opened s)
+pub opened-machine-kept : StandingIsKept → RangesHold → (s : Setup) → IsSetup s → IsReadyMachine s → IsMachineKept (opened s)
 opened-machine-kept standing ranges s setup ready = record {
   setup = setup;
   ready = ready;

@@ -5,3 +5,4 @@ pub mod MachineLaws
 pub mod KernelLaws
 pub mod CallLaws
 pub mod CycleLaws
+pub mod LimitLaws

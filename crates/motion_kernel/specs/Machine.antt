@@ -3,14 +3,12 @@ use Rattle.std.specs.Prelude.{ℕ, ◌+◌, ◌≡◌, ◌<◌, ◌≤◌, pos, 
 use Rattle.axis_state.specs.declared.definition.AxisRow.{AxisRow}
 use Rattle.axis_state.specs.declared.state.AxisState.TheVariants.{Disabled}
 use Rattle.cia402_machine.specs.declared.drive.DriveIn.{DriveIn}
-use Rattle.command_pool.specs.declared.kind.BlockKind.TheVariants.{MoveAbsolute}
-use Rattle.command_pool.specs.declared.kind.BufferMode.TheVariants.{Aborting}
 use Rattle.fb_outputs.specs.InstanceState.{InstanceState}
-use Rattle.fb_outputs.specs.Inputs.{AreInputs}
 use Rattle.fb_outputs.specs.Steps as step
 use Rattle.fb_outputs.specs.declared.inputs.Inputs.{Inputs}
 use Rattle.fb_outputs.specs.declared.outputs.Outputs.{Outputs}
 use Rattle.motion_history.specs.Entries.{Entry, call, cycle, end_of, cycles_of}
+use Rattle.motion_history.specs.Ready.{IsCall}
 use Rattle.motion_history.specs.Setup.{Setup}
 use Rattle.motion_history.specs.declared.config.BlockDef.{BlockDef}
 use Rattle.motion_kernel.specs.declared.axis.Axis.{Axis}
@@ -104,13 +102,6 @@ after m (end_of task) = m
 abbrev pub replay : Machine → List Entry → Machine
 replay m [] = m
 replay m (e ∷ es) = replay (after m e) es
-
--- a call may be made of an instance that is there, with inputs of its kind. This project's profile
-pub record IsCall (s : Setup) (k : ℕ) (i : Inputs) : Type 0 where
-  pub there : k < length s.blocks
-  pub inputs : AreInputs MoveAbsolute 1 i
-  pub aborting : i.mode ≡ Aborting
-  pub master : i.master < length s.axes
 
 -- a drive's answer is operational: it reads Operation enabled, in cyclic synchronous position mode. IEC 61800-7-201, objects 6041h and 6061h
 pub record IsOperational (d : DriveIn) : Type 0 where

@@ -2,16 +2,18 @@
 
 ghost use Rattle.std.specs.Prelude.{◌≡◌, ◌<◌, ◌+◌, ◌-◌, ◌++◌, ◌∷◌, [], length, map, IfOk, IsSomeAnd, slice_get, All};
 ghost use Rattle.axis_state.specs.declared.definition.AxisRow.{AxisRow};
+ghost use Rattle.motion_history.specs.Columns.{KeepTheirLimits};
 ghost use Rattle.motion_history.specs.Entries.{call, cycle, end_of, cycles_of};
 ghost use Rattle.fb_outputs.specs.Steps as step;
 ghost use Rattle.motion_kernel.specs.Axes as axis;
-ghost use Rattle.motion_history.specs.Ready.{IsReadyMachine};
+ghost use Rattle.motion_history.specs.Ready.{IsCall, IsReadyMachine};
 ghost use Rattle.motion_kernel.specs.KernelState.{KernelState, state_of};
-ghost use Rattle.motion_kernel.specs.Machine.{IsCall, IsLegal, IsOperational, reply_of, rows_of};
+ghost use Rattle.motion_kernel.specs.Machine.{IsLegal, IsOperational, reply_of, rows_of};
 
 use crate::axis::{Axis, MOST_AXES, opened};
 use crate::calls::call_block;
 use crate::cycles::cycle_machine;
+use crate::laws::rows_keep_limits;
 use axis_state::{AxisRow, AxisState};
 use cia402_machine::{DriveIn, DriveOut};
 use fb_outputs::{Inputs, Instance, Outputs};
@@ -138,7 +140,9 @@ impl Kernel {
     pub fn history(&self) -> &History
         ensures entries { result.now.entries ≡ self.now.history }
         ensures legal { IsLegal self.now.config self.now.history }
+        ensures limits { KeepTheirLimits self.now.config self.now.history }
     {
+        rows_keep_limits();
         &self.history
     }
 }

@@ -5,6 +5,8 @@ mod axis;
 mod calls;
 mod cycles;
 mod kernel;
+mod laws;
 
 pub use kernel::{Kernel, OpenFault};
+pub use laws::rows_keep_limits;
 pub use motion_history::{Config, DriveIn, DriveOut, History, Inputs, Outputs};

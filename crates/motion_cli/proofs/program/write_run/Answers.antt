@@ -3,7 +3,7 @@ use Rattle.std.specs.Prelude.{◌≡◌, ◌-◌}
 use Rattle.std.proofs.Common.{◌∙◌, ap, arith}
 use Rattle.motion_history.specs.Entries.{cycles_of}
 use Rattle.motion_history.specs.Setup.{Setup}
-use Rattle.motion_cli.proofs.EndLaws.{drives-are, trace-is, same-text}
+use Rattle.motion_cli.proofs.EndLaws.{drives-are, legal-run, trace-is, same-text}
 use Rattle.motion_cli.proofs.program.write_run.Goals as goal
 
 pub returns : goal.returns
@@ -19,5 +19,8 @@ returns g c =
     let text = trace-is _ _ k _ answers _ c.config-2.ensures c.in-Ok.ensures.config c.history-history.ensures.entries c.in-Ok.ensures.made (c.as_slice-2.ensures.value ∙ drives) in
     let told = g.K.Sink.told in
     let count = g.K.Sink.count in
-    same-text (record { count = count c.args.out.now; told = told c.args.out.now }) (record { count = count c.write_trace.new.out; told = told c.write_trace.new.out })
-    _ _ c.write_trace.result text c.write_trace.ensures
+    record {
+      legal = legal-run _ k answers c.write_trace.result c.in-Ok.ensures.config c.in-Ok.ensures.made c.history-history.ensures.legal c.history-history.ensures.limits;
+      writes = same-text (record { count = count c.args.out.now; told = told c.args.out.now }) (record { count = count c.write_trace.new.out; told = told c.write_trace.new.out })
+          _ _ c.write_trace.result text c.write_trace.ensures;
+    }

@@ -4,12 +4,13 @@ use Rattle.std.specs.Vec.{with_item, with_items}
 use Rattle.std.proofs.Common.{◌∙◌, ap, subst, sym, arith}
 use Rattle.std.proofs.lemmas.List.{with_items_is}
 use Rattle.motion_history.specs.Entries.{HistoryState, call, cycles_of}
+use Rattle.motion_history.specs.Ready.{IsCall}
 use Rattle.motion_kernel.specs.declared.kernel.Kernel.TheInside.{Inside}
 use Rattle.motion_kernel.specs.Axes.{owner_of}
 use Rattle.motion_kernel.specs.Instances.{Parts, called, reply_by}
 use Rattle.motion_kernel.specs.KernelKept.{machine_of, IsMachineKept}
 use Rattle.motion_kernel.specs.KernelState.{KernelState}
-use Rattle.motion_kernel.specs.Machine.{Machine, parts_of, reply_of, IsCall}
+use Rattle.motion_kernel.specs.Machine.{Machine, parts_of, reply_of}
 use Rattle.motion_kernel.proofs.MachineLaws.{cycles_of-more, object_of-there, parts_of-kept, IsMachineKept-call}
 use Rattle.motion_kernel.proofs.KernelLaws.{IsKernelKept-more}
 use Rattle.motion_kernel.proofs.CallLaws.{machine-of, room-of, object-there, parts-found, stepped-call, if_some}
