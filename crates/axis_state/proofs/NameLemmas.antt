@@ -1,5 +1,5 @@
 -- A name that is kept with zeros behind it.
-use Rattle.std.specs.Prelude.{ℕ, ◌≡◌, ◌≤◌, ◌<◌, ◌+◌, ◌-◌, Bool, true, false, ◌&&◌, nat_lt, List, [], ◌∷◌, take, drop, length, replicate, ◌++◌, IsTrue}
+use Rattle.std.specs.Prelude.{ℕ, ◌≡◌, ◌≤◌, ◌<◌, ◌-◌, true, nat_lt, List, [], ◌∷◌, take, drop, length, replicate, ◌++◌, IsTrue}
 use Rattle.std.proofs.Common.{◌∙◌, ap, arith, rules, length-append}
 use Rattle.std.proofs.lemmas.Bool.{ltb-true}
 use Rattle.std.proofs.lemmas.List.{drop-replicate, length-replicate}

@@ -1,4 +1,5 @@
 pub mod Names
 pub mod NameBytes
 pub mod Counts
+pub mod Diagram
 pub mod Spells

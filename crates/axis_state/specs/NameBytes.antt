@@ -1,6 +1,6 @@
 -- How a name is kept: its bytes, and zeros behind them.
 use Rattle.std.specs.Prelude.{ℕ, ◌≡◌, ◌≤◌, ◌-◌, List, take, drop, length, replicate, ◌++◌, IsTrue}
-use Rattle.std.proofs.Common.{◌∙◌, ap, arith}
+use Rattle.std.proofs.Common.{arith}
 use Rattle.std.proofs.lemmas.List.{take-append-drop, length-take-le}
 use Rattle.axis_state.specs.Names.{is_name}
 use Rattle.axis_state.specs.declared.name.Name.TheInside.{Inside}

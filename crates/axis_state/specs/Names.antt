@@ -1,5 +1,5 @@
 -- The names of axes, groups, tasks and blocks.
-use Rattle.std.specs.Prelude.{ℕ, Bool, true, false, ◌&&◌, ◌||◌, ◌==◌, nat_le, nat_lt, List, [], ◌∷◌, length}
+use Rattle.std.specs.Prelude.{ℕ, Bool, false, ◌&&◌, ◌||◌, ◌==◌, nat_le, nat_lt, List, [], ◌∷◌, length}
 use Rattle.std.specs.List.{list_all}
 
 -- a capital or small letter of ASCII. This project's profile

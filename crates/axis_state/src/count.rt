@@ -1,19 +1,56 @@
 // Places of an axis in the increments of its drive.
 
-ghost use Rattle.std.specs.Prelude.{◌≡◌, ◌≤◌, ◌≤ℤ◌, pos, unsigned_abs};
-ghost use Rattle.axis_state.specs.Counts.{count_of, HasCounts};
+ghost use Rattle.std.specs.Prelude.{◌≡◌, ◌≤◌, ◌+ℤ◌, ◌-ℤ◌, ◌*ℤ◌, ◌≤ℤ◌, ◌&&◌, int_lt, pos, unsigned_abs};
+ghost use Rattle.axis_state.specs.Counts.{count_of, place_of, IsCount};
 
-use kin_core::Limits;
-
-/// The count, in drive increments, of a setpoint in internal units (object 607Ah): that from the offset, rounded down.
-pub fn target_count(limits: &Limits, setpoint: i64, offset: i64, inc: i64) -> i32
-    requires above { limits.now.lo ≤ℤ setpoint }
-    requires below { setpoint ≤ℤ limits.now.hi }
-    requires counts { HasCounts limits.now offset inc }
+/// The count, in drive increments, of a setpoint in internal units (object 607Ah): that from the
+/// offset, rounded down. `inc` is at least 1. The count has 32 bits: within the limits by the rule
+/// of `setpoints_have_counts`, and at the place of a reported count because it is that count.
+pub fn target_count(setpoint: i64, offset: i64, inc: i64) -> i32
     requires increment { pos 1 ≤ℤ inc }
-    requires setpoint_in_range { unsigned_abs setpoint ≤ 4000000000000000 }
-    requires offset_in_range { unsigned_abs offset ≤ 4000000000000000 }
+    requires distance { unsigned_abs (setpoint -ℤ offset) ≤ 9000000000000000000 }
+    requires count { IsCount (count_of setpoint offset inc) }
     ensures { result ≡ count_of setpoint offset inc }
 {
     (setpoint - offset).div_euclid(inc) as i32
+}
+
+/// The place, in internal units, of a count that a drive reports (object 6064h): as many increments
+/// from the offset, or `lo`, the lowest place of the axis, where that lies less than an increment
+/// below it. `inc` is 1 to 10^9, `lo` at most 10^15 in size, and the offset at most 4 * 10^18.
+pub fn place(lo: i64, count: i32, offset: i64, inc: i64) -> i64
+    requires least { pos 1 ≤ℤ inc }
+    requires most { inc ≤ℤ pos 1000000000 }
+    requires lowest { unsigned_abs lo ≤ 1000000000000000 }
+    requires offset { unsigned_abs offset ≤ 4000000000000000000 }
+    ensures value { result ≡ place_of lo count offset inc }
+    ensures small { unsigned_abs result ≤ 7000000000000000000 }
+{
+    let counted = counted_place(count, offset, inc);
+    if is_just_below(lo, counted, inc) {
+        lo
+    } else {
+        counted
+    }
+}
+
+/// Whether a place lies less than an increment below the lowest one.
+fn is_just_below(lo: i64, counted: i64, inc: i64) -> bool
+    requires least { pos 1 ≤ℤ inc }
+    requires most { inc ≤ℤ pos 1000000000 }
+    requires lowest { unsigned_abs lo ≤ 1000000000000000 }
+    ensures { result ≡ (int_lt (lo -ℤ inc) counted && int_lt counted lo) }
+{
+    lo - inc < counted && counted < lo
+}
+
+/// As many increments from the offset as a count says.
+fn counted_place(count: i32, offset: i64, inc: i64) -> i64
+    requires least { pos 1 ≤ℤ inc }
+    requires most { inc ≤ℤ pos 1000000000 }
+    requires offset { unsigned_abs offset ≤ 4000000000000000000 }
+    ensures value { result ≡ (count *ℤ inc) +ℤ offset }
+    ensures small { unsigned_abs result ≤ 6200000000000000000 }
+{
+    i64::from(count) * inc + offset
 }

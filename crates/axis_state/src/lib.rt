@@ -3,12 +3,21 @@
 
 mod count;
 mod definition;
+mod diagram;
+mod laws;
 mod name;
 mod state;
+#[cfg(test)]
+mod tests;
 
 pub use cia402_machine::{DriveIn, DriveOut};
-pub use count::target_count;
+pub use count::{place, target_count};
 pub use definition::{AxisDef, AxisRow};
+pub use diagram::{AxisEvent, axis_next};
 pub use kin_core::Limits;
+pub use laws::{
+    counts_are_read_back, homing_keeps_counts, offsets_are_small, setpoints_have_counts,
+    starts_are_counts, targets_lie_near,
+};
 pub use name::{LONGEST_NAME, Name, is_name};
 pub use state::AxisState;

@@ -1,6 +1,24 @@
 //! The drive state machine of CiA 402 (IEC 61800-7-201), in cyclic synchronous position mode.
 #![tactic(auto)]
 
+mod command;
+mod controlword;
 mod drive;
+mod laws;
+mod statusword;
+mod step;
+#[cfg(test)]
+mod tests;
 
+pub use command::{Command, command_of};
+pub use controlword::{
+    CYCLIC_SYNCHRONOUS_POSITION, DISABLE_VOLTAGE, ENABLE_OPERATION, FAULT_RESET, SHUTDOWN,
+    SWITCH_ON, next_controlword,
+};
 pub use drive::{DriveIn, DriveOut, DriveState};
+pub use laws::{
+    commanded_drives_become_enabled, fault_resets_leave_fault, faults_come_first,
+    statuswords_are_read_back, steps_are_single_transitions,
+};
+pub use statusword::{state_of, status_of};
+pub use step::drive_step;

@@ -1,0 +1,10 @@
+pub mod Times
+pub mod Chains
+pub mod Pools
+pub mod Pushed
+pub mod Popped
+pub mod Opened
+pub mod Lists
+pub mod Records
+pub mod KeptLemmas
+pub mod ClearLemmas

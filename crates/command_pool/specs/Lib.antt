@@ -1,1 +1,4 @@
 pub mod Kinds
+pub mod Waiting
+pub mod Layout
+pub mod Kept

@@ -1,10 +1,20 @@
-//! Commands of function blocks: their kinds, rates and buffer modes, and how a command ends.
+//! Commands of function blocks: their kinds, rates and buffer modes, how a command ends, and the pool in which commands
+//! wait, one list per axis or group.
 #![tactic(auto)]
 
 mod ending;
 mod kind;
+mod linking;
+mod notes;
+mod pool;
 mod rates;
+#[cfg(test)]
+mod tests;
+mod wanted;
 
 pub use ending::{Finish, Refusal};
 pub use kind::{BlockKind, BufferMode};
+pub use notes::{Note, Notes};
+pub use pool::{CommandPool, OutOfMemory};
 pub use rates::Rates;
+pub use wanted::{Follow, Wanted};

@@ -1,3 +1,4 @@
 pub mod InstanceState
 pub mod Steps
 pub mod Inputs
+pub mod Replies

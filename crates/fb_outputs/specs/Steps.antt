@@ -1,5 +1,5 @@
 -- What a call, a start, an end and a reply do to an instance (PLCopen Motion Control Part 1, general rules).
-use Rattle.std.specs.Prelude.{◌&&◌, ℕ, Bool, true, false, not, if◌then◌else◌}
+use Rattle.std.specs.Prelude.{◌&&◌, Bool, true, false, not, if◌then◌else◌}
 use Rattle.command_pool.specs.declared.ending.Finish.{Finish}
 use Rattle.command_pool.specs.declared.ending.Finish.TheVariants as finish
 use Rattle.command_pool.specs.declared.kind.BlockKind.{BlockKind}

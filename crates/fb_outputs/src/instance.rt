@@ -3,6 +3,7 @@
 ghost use Rattle.std.specs.Prelude.{◌≡◌};
 ghost use Rattle.fb_outputs.specs.Steps as spec;
 ghost use Rattle.fb_outputs.specs.Steps.{opened, edge_of, called, started, finished, with_reached, outputs_of, shown};
+ghost use Rattle.fb_outputs.specs.Replies.{IsReply, may_hold};
 
 use crate::outputs::Outputs;
 use command_pool::{BlockKind, Finish};
@@ -106,6 +107,7 @@ impl Instance {
     pub fn show(&mut self) -> Outputs
         ensures outputs { result ≡ outputs_of self.old }
         ensures after { self.new ≡ shown self.old }
+        ensures single { IsReply (may_hold self.old) result }
     {
         let outputs = outputs_now(self.kind, self.execute, self.reached, self.progress);
         if let Progress::Ended { finish, .. } = self.progress {

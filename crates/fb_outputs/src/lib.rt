@@ -3,7 +3,10 @@
 
 mod inputs;
 mod instance;
+pub mod laws;
 mod outputs;
+#[cfg(test)]
+mod tests;
 
 pub use command_pool::{BlockKind, BufferMode, Finish, Rates, Refusal};
 pub use inputs::Inputs;

@@ -1,6 +1,10 @@
 //! The group state diagram of PLCopen Motion Control Part 4, and what a cycle shows of a group.
 #![tactic(auto)]
 
+mod diagram;
 mod state;
+#[cfg(test)]
+mod tests;
 
+pub use diagram::{GroupEvent, group_next};
 pub use state::{GroupRow, GroupState};

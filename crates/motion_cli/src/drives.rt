@@ -6,7 +6,7 @@ ghost use Rattle.motion_history.specs.Ranges.{is_axis};
 ghost use Rattle.motion_cli.specs.Drives as spec;
 ghost use Rattle.cia402_machine.specs.declared.drive.DriveIn.{DriveIn};
 
-use axis_state::{AxisDef, target_count};
+use axis_state::{AxisDef, setpoints_have_counts, target_count};
 use cia402_machine::{DriveIn, DriveOut, DriveState};
 use motion_history::axes_are_in_range;
 use std::alloc::{AllocError, Global};
@@ -24,10 +24,11 @@ fn opening_answer(axis: &AxisDef) -> DriveIn
     ensures { result ≡ spec.opening_answer axis.now }
 {
     axes_are_in_range();
+    setpoints_have_counts();
     DriveIn {
         statusword: OPERATION_ENABLED,
         mode_display: SYNCHRONOUS_POSITION,
-        actual: target_count(&axis.limits, axis.start, 0, axis.inc),
+        actual: target_count(axis.start, 0, axis.inc),
     }
 }
 

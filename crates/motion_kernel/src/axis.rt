@@ -5,7 +5,7 @@ ghost use Rattle.kin_core.specs.Admissible.{AreLimits, IsKept};
 ghost use Rattle.motion_kernel.specs.Axes as spec;
 ghost use Rattle.motion_kernel.specs.AxisKept.{IsAxisKept, IsMoveWithin};
 
-use axis_state::{AxisRow, AxisState, target_count};
+use axis_state::{AxisRow, AxisState, setpoints_have_counts, target_count};
 use cia402_machine::{DriveIn, DriveOut};
 use command_pool::{Rates, Refusal};
 use fb_outputs::Inputs;
@@ -154,6 +154,7 @@ fn row_at(axis: &Axis, input: &DriveIn) -> AxisRow
     requires { IsAxisKept axis.now }
     ensures { result ≡ spec.row_at axis.now input.now }
 {
+    setpoints_have_counts();
     AxisRow {
         input: *input,
         state: axis.state,
@@ -164,7 +165,7 @@ fn row_at(axis: &Axis, input: &DriveIn) -> AxisRow
         output: DriveOut {
             controlword: OPERATE,
             mode: SYNCHRONOUS_POSITION,
-            target: target_count(&axis.limits, axis.setpoint, 0, axis.inc),
+            target: target_count(axis.setpoint, 0, axis.inc),
         },
     }
 }

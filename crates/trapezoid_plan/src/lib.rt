@@ -16,5 +16,5 @@ pub use halts::halt_step;
 pub use laws::{
     halts_come_to_rest_in_time, move_steps_are_greatest, move_steps_are_safe, moves_arrive_in_time,
 };
-pub use moves::{move_step, move_step_counted};
+pub use moves::{move_step, move_step_counted, reach};
 pub use velocities::velocity_step;

@@ -84,10 +84,11 @@ fn step_ahead<L: Ledger>(way: u64, speed: u64, rates: &Rates, steps: &mut Steps<
     }
 }
 
-// The greatest step from which braking by `d` needs no more than the way. It is needed about twice
-// in a move, and out of line it leaves the other cycles short.
+/// The greatest step from which braking by `d` each cycle, from 1 to 10^10, needs no more than the
+/// way, in internal units. It takes one greatest count.
+// It is needed about twice in a move, and out of line it leaves the other cycles short.
 #[inline(never)]
-fn reach<L: Ledger>(way: u64, d: u64, steps: &mut Steps<L>) -> u64
+pub fn reach<L: Ledger>(way: u64, d: u64, steps: &mut Steps<L>) -> u64
     requires least { 1 ≤ d }
     requires most { d ≤ 10000000000 }
     requires way { way ≤ 2000000000000000 }

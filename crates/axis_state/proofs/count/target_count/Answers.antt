@@ -1,9 +1,8 @@
--- The count of a place within the limits has 32 bits.
-use Rattle.std.specs.Prelude.{◌≡◌, ℤ, ◌-ℤ◌}
-use Rattle.std.proofs.Common.{arith, to_z, of_z, w64, w32, FitsSigned, to_z-of_z, ◌∙◌}
+-- The quotient is the count, and has 32 bits.
+use Rattle.std.specs.Prelude.{◌≡◌, ◌-ℤ◌}
+use Rattle.std.proofs.Common.{arith, w64, FitsSigned, to_z-of_z}
 use Rattle.std.proofs.lemmas.Int.{ints}
 use Rattle.axis_state.specs.Counts.{count_of}
-use Rattle.axis_state.proofs.CountLemmas.{IsCount, count_of-within}
 use Rattle.axis_state.proofs.count.target_count.Goals as goal
 
 counted : (c : goal.After-div_euclid) → c.div_euclid.result ≡ count_of c.args.setpoint c.args.offset c.args.inc
@@ -15,12 +14,8 @@ counted c =
     let d : FitsSigned w64 (c.args.setpoint -ℤ c.args.offset) = omega (arith, ints) in
     simp to_z-of_z at c.div_euclid.ensures
 
-bounded : (c : goal.After-div_euclid) → IsCount (count_of c.args.setpoint c.args.offset c.args.inc)
-bounded c = count_of-within c.args.limits.now c.args.setpoint c.args.offset c.args.inc
-    c.requires.increment c.requires.counts c.requires.above c.requires.below
-
 pub overflow_cast-result : goal.overflow_cast-result
-overflow_cast-result c = let e = counted c in let b = bounded c in omega (arith, ints)
+overflow_cast-result c = let e = counted c in let least = c.requires.count.least in let most = c.requires.count.most in omega (arith, ints)
 
 pub returns : goal.returns
-returns c = let e = counted c in let b = bounded c in omega (arith, ints)
+returns c = let e = counted c in let least = c.requires.count.least in let most = c.requires.count.most in omega (arith, ints)

@@ -1,0 +1,118 @@
+// Records in an array, linked by index.
+
+ghost use Rattle.std.specs.Prelude.{◌≡◌, ◌<◌, ◌+◌, ◌-◌, ◌^◌, length, slice_set, slice_index, map, IfOk, vec_len};
+ghost use Rattle.command_pool.specs.Layout as spec;
+ghost use Rattle.command_pool.specs.Layout.{links_of, commands_of, command_at, rising};
+ghost use Rattle.command_pool.specs.Waiting.{detached};
+
+use crate::wanted::{UNUSED, Wanted, detach_from};
+use std::alloc::{AllocError, Global};
+
+/// A command, and the place of the record behind it.
+#[derive(Clone, Copy)]
+pub(crate) struct Record {
+    pub(crate) wanted: Wanted,
+    pub(crate) next: u16,
+}
+
+/// The places of a list's first and last record, and how many there are.
+#[derive(Clone, Copy)]
+pub(crate) struct Queue {
+    pub(crate) first: u16,
+    pub(crate) last: u16,
+    pub(crate) count: u8,
+}
+
+/// A list with no record.
+pub(crate) const EMPTY: Queue = Queue {
+    first: 0,
+    last: 0,
+    count: 0,
+};
+
+/// The place behind a record.
+pub(crate) fn next_of(records: &Vec<Record>, place: u16) -> u16
+    requires { place < vec_len records.now }
+    ensures { result ≡ slice_index (links_of records.now.items) place }
+{
+    records[place as usize].next
+}
+
+/// The command in a record.
+pub(crate) fn command(records: &Vec<Record>, place: u16) -> &Wanted
+    requires { place < vec_len records.now }
+    ensures { result.now ≡ command_at (commands_of records.now.items) place }
+{
+    &records[place as usize].wanted
+}
+
+/// Puts a command into a record.
+pub(crate) fn fill(records: &mut Vec<Record>, place: u16, wanted: Wanted)
+    requires { place < vec_len records.old }
+    ensures links { links_of records.new.items ≡ links_of records.old.items }
+    ensures commands { commands_of records.new.items ≡ slice_set (commands_of records.old.items) place wanted }
+    ensures len { vec_len records.new ≡ vec_len records.old }
+{
+    let next = records[place as usize].next;
+    records[place as usize] = Record { wanted, next };
+}
+
+/// Links a record to the one at a place.
+pub(crate) fn link(records: &mut Vec<Record>, place: u16, next: u16)
+    requires { place < vec_len records.old }
+    ensures links { links_of records.new.items ≡ slice_set (links_of records.old.items) place next }
+    ensures commands { commands_of records.new.items ≡ commands_of records.old.items }
+    ensures len { vec_len records.new ≡ vec_len records.old }
+{
+    let wanted = records[place as usize].wanted;
+    records[place as usize] = Record { wanted, next };
+}
+
+/// Puts a record behind the last of a list, and answers the longer list.
+pub(crate) fn append(records: &mut Vec<Record>, queue: Queue, place: u16) -> Queue
+    requires last { 0 < queue.count → queue.last < vec_len records.old }
+    requires few { queue.count < 8 }
+    ensures links { links_of records.new.items ≡ spec.links_with (links_of records.old.items) queue place }
+    ensures commands { commands_of records.new.items ≡ commands_of records.old.items }
+    ensures len { vec_len records.new ≡ vec_len records.old }
+    ensures queue { result ≡ spec.longer queue place }
+{
+    if queue.count == 0 {
+        return Queue {
+            first: place,
+            last: place,
+            count: 1,
+        };
+    }
+    link(records, queue.last, place);
+    Queue {
+        first: queue.first,
+        last: place,
+        count: queue.count + 1,
+    }
+}
+
+/// Takes the owner away from the commands in all records.
+pub(crate) fn detach_all(records: &mut Vec<Record>, owner: u16)
+    ensures links { links_of records.new.items ≡ links_of records.old.items }
+    ensures commands { commands_of records.new.items ≡ map (detached owner) (commands_of records.old.items) }
+{
+    for record in records.iter_mut() {
+        detach_from(&mut record.wanted, owner);
+    }
+}
+
+/// So many records, each linked to the one behind it.
+pub(crate) fn free_records(alloc: Global, room: u16) -> Result<Vec<Record>, AllocError>
+    requires { room < 2 ^ 16 - 1 }
+    ensures { IfOk result (λ records. links_of records.items ≡ rising 1 room) }
+{
+    let mut records = Vec::with_capacity(alloc, room as usize)?;
+    for place in 0..room {
+        records.push_reserved(Record {
+            wanted: UNUSED,
+            next: place + 1,
+        });
+    }
+    Ok(records)
+}

@@ -1,0 +1,49 @@
+// The group state diagram: what changes the state of a group, and to which state.
+
+ghost use Rattle.std.specs.Prelude.{◌≡◌};
+ghost use Rattle.group_state.specs.Diagram.{GroupTransition, IsFrom};
+ghost use Rattle.group_state.specs.declared.state.GroupState.{GroupState};
+
+use crate::state::GroupState;
+
+/// What changes the state of a group (PLCopen Motion Control Part 4, the state diagram).
+#[derive(Clone, Copy, Debug, PartialEq, Eq)]
+pub enum GroupEvent {
+    /// GroupEnable is admitted.
+    Enable,
+    /// GroupDisable is admitted; in GroupErrorStop it wants path step 0.
+    Disable,
+    /// A path command or GroupHalt is admitted.
+    MoveAdmitted,
+    /// The last command is done and none waits.
+    LastDone,
+    /// GroupStop is admitted.
+    StopAdmitted,
+    /// The path step is 0, and the GroupStop's Execute is false or it has no owner.
+    StopReleased,
+    /// A member has an error, or Power is called on it with Enable false.
+    MemberError,
+    /// GroupReset is done and every member is in Standstill.
+    ResetAllStandstill,
+    /// GroupReset is done and a member is not in Standstill.
+    ResetElse,
+}
+
+/// The state of a group after an event that may come in its state.
+pub fn group_next(state: GroupState, event: GroupEvent) -> GroupState
+    requires { IsFrom state event }
+    ensures transition { GroupTransition state event result }
+    ensures only { (next : GroupState) → GroupTransition state event next → next ≡ result }
+{
+    match event {
+        GroupEvent::Enable => GroupState::GroupStandby,
+        GroupEvent::Disable => GroupState::GroupDisabled,
+        GroupEvent::MoveAdmitted => GroupState::GroupMoving,
+        GroupEvent::LastDone => GroupState::GroupStandby,
+        GroupEvent::StopAdmitted => GroupState::GroupStopping,
+        GroupEvent::StopReleased => GroupState::GroupStandby,
+        GroupEvent::MemberError => GroupState::GroupErrorStop,
+        GroupEvent::ResetAllStandstill => GroupState::GroupStandby,
+        GroupEvent::ResetElse => GroupState::GroupDisabled,
+    }
+}
