@@ -1,0 +1,13 @@
+pub mod Slowings
+pub mod Speedings
+pub mod RiseTops
+pub mod BlendSizes
+pub mod BlendSteps
+pub mod Crossings
+pub mod BlendsGoOn
+pub mod BlendLaws
+pub mod SafeBlends
+pub mod BlendCycles
+pub mod SecondMoves
+pub mod BlendSettles
+pub mod BlendEnds

@@ -1,0 +1,8 @@
+-- The lemma on cycles without a step.
+use Rattle.blend_plan.proofs.BlendSettles.{settles-in-time}
+use Rattle.blend_plan.proofs.endings.blends_settle.Goals as goal
+
+pub returns : goal.returns
+returns c = λ limits target1 target2 before now vb first second limits_ok first_ok second_ok within kept.
+    settles-in-time limits target1 target2 before now first second vb
+    (record { limits_ok = limits_ok; first_ok = first_ok; second_ok = second_ok; within = within; kept = kept })

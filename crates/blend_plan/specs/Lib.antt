@@ -1,0 +1,4 @@
+pub mod Blends
+pub mod Sums
+pub mod BlendStep
+pub mod BlendRun

@@ -1,0 +1,28 @@
+//! Blending: the step of a move that goes over into the next one without a stop.
+#![tactic(auto)]
+
+mod blended;
+mod crossing;
+mod endings;
+mod laws;
+mod modes;
+mod passing;
+#[cfg(test)]
+mod plain;
+mod reaches;
+mod risen;
+mod sizes;
+#[cfg(test)]
+mod tests;
+
+pub use blended::{blend_step, blend_step_counted};
+pub use crossing::crosses;
+pub use endings::{
+    blends_go_on_until_they_cross, blends_settle, crossings_have_the_target_between,
+    first_moves_end, second_targets_are_never_passed,
+};
+pub use laws::{
+    blend_steps_are_greatest, blend_steps_are_safe, blend_velocities_are_of_the_moves,
+    blends_apply_by_test, crossings_pass_the_first_target,
+};
+pub use modes::{Blend, blend_velocity};

@@ -1,0 +1,47 @@
+// The greatest step that passes the first target.
+ghost use Rattle.std.specs.Prelude.{ℕ, ◌+◌, ◌≤◌, ◌<◌, IsTrue};
+ghost use Rattle.kin_core.specs.Run.{cut_at_zero};
+ghost use Rattle.trapezoid_plan.specs.Rates.{AreRates};
+ghost use Rattle.blend_plan.specs.BlendStep.{passes_first};
+
+use crate::reaches::{reach_up_to, slowed_up_to};
+use crate::risen::greatest_risen;
+use command_pool::Rates;
+use ramp_root::Steps;
+use std::sync::ledger::Ledger;
+
+// The greatest step within the acceleration that passes the first target.
+pub(crate) fn greatest_passing<L: Ledger>(
+    l1: u64,
+    l2: u64,
+    old: u64,
+    first: &Rates,
+    second: &Rates,
+    vb: u64,
+    steps: &mut Steps<L>,
+) -> u64
+    requires first_rates { AreRates first.now }
+    requires second_rates { AreRates second.now }
+    requires second_target { l1 < l2 }
+    requires distance { l2 ≤ 2000000000000000 }
+    requires old { old ≤ 10000000000 }
+    requires least_velocity { 1 ≤ vb }
+    requires most_velocity { vb ≤ 10000000000 }
+    ensures within { result ≤ old + cut_at_zero first.now.a }
+    ensures passes { IsTrue (passes_first l1 l2 first.now second.now vb result) }
+    ensures greatest { (u : ℕ) → u ≤ old + cut_at_zero first.now.a →
+        IsTrue (passes_first l1 l2 first.now second.now vb u) → u ≤ result }
+    ensures small { result ≤ 10000000000 }
+    ensures cost { steps.new ≤ steps.old + 128 }
+{
+    let (v, a, d) = (first.v as u64, first.a as u64, first.d as u64);
+    let fastest = (old + a).min(v.max(vb));
+    let stopping = reach_up_to(l2, second.d as u64, fastest, steps);
+    if vb <= v {
+        slowed_up_to(l1, vb, d, stopping, steps)
+    } else if stopping <= v {
+        stopping
+    } else {
+        greatest_risen(l1, v, stopping, vb, a, steps)
+    }
+}

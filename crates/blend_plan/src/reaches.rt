@@ -1,0 +1,71 @@
+// The greatest steps from which slowing fits a way.
+ghost use Rattle.std.specs.Prelude.{◌≡◌, ℕ, ◌+◌, ◌≤◌, min};
+ghost use Rattle.kin_core.specs.Taken.{reach_of};
+ghost use Rattle.blend_plan.specs.Sums.{above_of};
+
+use kin_core::ramp_sum;
+use ramp_root::{Steps, greatest_count_counted};
+use std::sync::ledger::Ledger;
+use trapezoid_plan::reach;
+
+// The greatest step up to `most` from which slowing by `d` each cycle to rest needs no more than
+// the way. While an axis speeds up or cruises, `most` is the answer.
+pub(crate) fn reach_up_to<L: Ledger>(way: u64, d: u64, most: u64, steps: &mut Steps<L>) -> u64
+    requires least_fall { 1 ≤ d }
+    requires most_fall { d ≤ 10000000000 }
+    requires way { way ≤ 2000000000000000 }
+    requires step { most ≤ 10000000000 }
+    ensures value { result ≡ min most (reach_of way d) }
+    ensures cost { steps.new ≤ steps.old + 64 }
+{
+    if ramp_sum(most, d) <= way as u128 {
+        most
+    } else {
+        most.min(reach(way, d, steps))
+    }
+}
+
+// The greatest step up to `most` from which slowing by `d` each cycle to at most `to` needs no more
+// than the way.
+pub(crate) fn slowed_up_to<L: Ledger>(
+    way: u64,
+    to: u64,
+    d: u64,
+    most: u64,
+    steps: &mut Steps<L>,
+) -> u64
+    requires least_fall { 1 ≤ d }
+    requires most_fall { d ≤ 10000000000 }
+    requires velocity { to ≤ 10000000000 }
+    requires way { way ≤ 2000000000000000 }
+    requires step { most ≤ 10000000000 }
+    ensures below { result ≤ most }
+    ensures slowed { above_of result to d ≤ way }
+    ensures greatest { (u : ℕ) → u ≤ most → above_of u to d ≤ way → u ≤ result }
+    ensures cost { steps.new ≤ steps.old + 64 }
+{
+    if most <= to || ramp_sum(most, d) <= way as u128 {
+        most
+    } else {
+        most.min(greatest_slowed(way, to, d, steps))
+    }
+}
+
+// The greatest of all of them.
+#[inline(never)]
+fn greatest_slowed<L: Ledger>(way: u64, to: u64, d: u64, steps: &mut Steps<L>) -> u64
+    requires least { 1 ≤ d }
+    requires most { d ≤ 10000000000 }
+    requires velocity { to ≤ 10000000000 }
+    requires way { way ≤ 2000000000000000 }
+    ensures slowed { above_of result to d ≤ way }
+    ensures greatest { (u : ℕ) → above_of u to d ≤ way → u ≤ result }
+    ensures cost { steps.new ≤ steps.old + 64 }
+{
+    let terms = greatest_count_counted(way as u128, d, to + 1, steps);
+    if terms == 0 {
+        return to;
+    }
+    let rest = way - d * (terms * (terms - 1) / 2);
+    (terms - 1) * d + (to + d).min(rest / terms)
+}

@@ -1,0 +1,101 @@
+// The greatest step from which speeding up takes no less than a way.
+ghost use Rattle.std.specs.Prelude.{◌≡◌, ℕ, ◌+◌, ◌*◌, ◌^◌, ◌≤◌, ◌<◌};
+ghost use Rattle.blend_plan.specs.Sums.{rise_of};
+
+use ramp_root::{Steps, greatest_count_counted};
+use std::sync::ledger::Ledger;
+
+// The greatest step above `from` and up to `high` from which speeding up by `a` each cycle to `top`
+// takes no less than the way, or `from` where there is none.
+pub(crate) fn greatest_risen<L: Ledger>(
+    way: u64,
+    from: u64,
+    high: u64,
+    top: u64,
+    a: u64,
+    steps: &mut Steps<L>,
+) -> u64
+    requires way { way ≤ 2000000000000000 }
+    requires some { 1 ≤ from }
+    requires order { from < high }
+    requires within { high ≤ top }
+    requires velocity { top ≤ 10000000000 }
+    requires least { 1 ≤ a }
+    requires most { a ≤ 10000000000 }
+    ensures above { from ≤ result }
+    ensures below { result ≤ high }
+    ensures risen { from < result → way ≤ rise_of result top a }
+    ensures greatest { (u : ℕ) → from < u → u ≤ high → way ≤ rise_of u top a → u ≤ result }
+    ensures cost { steps.new ≤ steps.old + 64 }
+{
+    if way as u128 <= rise_sum(high, top, a) {
+        high
+    } else {
+        greatest_risen_below(way, from, high, top, a, steps)
+    }
+}
+
+// The same below a step whose speeding up is too short. Among the steps with the same number of
+// terms below `top` the way grows with the step, so the greatest of them decides; and among those
+// it grows with the number of terms.
+#[inline(never)]
+fn greatest_risen_below<L: Ledger>(
+    way: u64,
+    from: u64,
+    high: u64,
+    top: u64,
+    a: u64,
+    steps: &mut Steps<L>,
+) -> u64
+    requires way { way ≤ 2000000000000000 }
+    requires some { 1 ≤ from }
+    requires order { from < high }
+    requires within { high ≤ top }
+    requires velocity { top ≤ 10000000000 }
+    requires least { 1 ≤ a }
+    requires most { a ≤ 10000000000 }
+    requires short { rise_of high top a < way }
+    ensures above { from ≤ result }
+    ensures below { result ≤ high }
+    ensures risen { from < result → way ≤ rise_of result top a }
+    ensures greatest { (u : ℕ) → from < u → u ≤ high → way ≤ rise_of u top a → u ≤ result }
+    ensures cost { steps.new ≤ steps.old + 64 }
+{
+    let fewest = (top - high).div_ceil(a);
+    let most = (top - from - 1).div_ceil(a);
+    if most <= fewest {
+        return from;
+    }
+    let slowest = greatest_with_terms(most, top, a);
+    let rise = rise_sum(slowest, top, a);
+    if rise < way as u128 {
+        return from;
+    }
+    let left_out = greatest_count_counted(rise - way as u128, a, slowest, steps);
+    greatest_with_terms(most.saturating_sub(left_out).max(fewest + 1), top, a)
+}
+
+// The greatest step with this many terms below `top`, where there is at least one.
+fn greatest_with_terms(terms: u64, top: u64, a: u64) -> u64
+    requires some { 1 ≤ terms }
+    requires fits { terms * a < top + a }
+    requires velocity { top ≤ 10000000000 }
+    requires most { a ≤ 10000000000 }
+    ensures value { result + terms * a + 1 ≡ top + a }
+{
+    top - 1 - (terms - 1) * a
+}
+
+// The way of speeding up from `u` to `v`, which is not below it, by `a` each cycle.
+fn rise_sum(u: u64, v: u64, a: u64) -> u128
+    requires order { u ≤ v }
+    requires velocity { v ≤ 10000000000 }
+    requires least { 1 ≤ a }
+    requires most { a ≤ 10000000000 }
+    ensures value { result ≡ rise_of u v a }
+    ensures small { result < 2 ^ 70 }
+{
+    let terms = (v - u).div_ceil(a);
+    let pairs = terms as u128 * terms.saturating_sub(1) as u128 / 2;
+    a as u128 * pairs + u as u128 * terms as u128 + v as u128
+}

@@ -1,0 +1,76 @@
+// The size of the blend step.
+ghost use Rattle.std.specs.Prelude.{◌≡◌, ℕ, ◌+◌, ◌≤◌, ◌<◌, IsTrue};
+ghost use Rattle.kin_core.specs.Run.{cut_at_zero};
+ghost use Rattle.trapezoid_plan.specs.Rates.{AreRates};
+ghost use Rattle.blend_plan.specs.BlendStep.{stops_or_passes, blend_size_of};
+
+use crate::passing::greatest_passing;
+use crate::reaches::reach_up_to;
+use command_pool::Rates;
+use ramp_root::Steps;
+use std::sync::ledger::Ledger;
+
+// The greatest step that stops at the first target or passes it, where the old step can be slowed
+// as far, and else the old step slowed by the first deceleration.
+pub(crate) fn step_size<L: Ledger>(
+    l1: u64,
+    l2: u64,
+    old: u64,
+    first: &Rates,
+    second: &Rates,
+    vb: u64,
+    steps: &mut Steps<L>,
+) -> u64
+    requires first_rates { AreRates first.now }
+    requires second_rates { AreRates second.now }
+    requires second_target { l1 < l2 }
+    requires distance { l2 ≤ 2000000000000000 }
+    requires old { old ≤ 10000000000 }
+    requires least_velocity { 1 ≤ vb }
+    requires most_velocity { vb ≤ 10000000000 }
+    ensures value { result ≡ blend_size_of l1 l2 old first.now second.now vb }
+    ensures small { result ≤ 10000000000 }
+    ensures cost { steps.new ≤ steps.old + 192 }
+{
+    let greatest = greatest_step(l1, l2, old, first, second, vb, steps);
+    let braking = (first.d as u64).max(second.d as u64);
+    if old.saturating_sub(braking) <= greatest {
+        greatest
+    } else {
+        old.saturating_sub(first.d as u64)
+    }
+}
+
+// The greatest step within the acceleration that stops at the first target or passes it. Where
+// passing gives the fastest step of the first move, stopping gives no faster one.
+fn greatest_step<L: Ledger>(
+    l1: u64,
+    l2: u64,
+    old: u64,
+    first: &Rates,
+    second: &Rates,
+    vb: u64,
+    steps: &mut Steps<L>,
+) -> u64
+    requires first_rates { AreRates first.now }
+    requires second_rates { AreRates second.now }
+    requires second_target { l1 < l2 }
+    requires distance { l2 ≤ 2000000000000000 }
+    requires old { old ≤ 10000000000 }
+    requires least_velocity { 1 ≤ vb }
+    requires most_velocity { vb ≤ 10000000000 }
+    ensures within { result ≤ old + cut_at_zero first.now.a }
+    ensures leads { IsTrue (stops_or_passes l1 l2 first.now second.now vb result) }
+    ensures greatest { (u : ℕ) → u ≤ old + cut_at_zero first.now.a →
+        IsTrue (stops_or_passes l1 l2 first.now second.now vb u) → u ≤ result }
+    ensures small { result ≤ 10000000000 }
+    ensures cost { steps.new ≤ steps.old + 192 }
+{
+    let passing = greatest_passing(l1, l2, old, first, second, vb, steps);
+    let fastest = (first.v as u64).min(old + first.a as u64);
+    if fastest <= passing {
+        passing
+    } else {
+        passing.max(reach_up_to(l1, first.d as u64, fastest, steps))
+    }
+}

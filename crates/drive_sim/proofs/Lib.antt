@@ -1,0 +1,4 @@
+pub mod FaultLemmas
+pub mod RunLemmas
+pub mod LagLemmas
+pub mod StepLemmas

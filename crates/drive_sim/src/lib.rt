@@ -1,0 +1,17 @@
+//! The simulated drive: a drive of CiA 402 in cyclic synchronous position mode that follows its targets with a lag and has faults in given steps.
+#![tactic(auto)]
+
+mod drive;
+mod laws;
+mod memory;
+mod steps;
+#[cfg(test)]
+mod tests;
+
+pub use cia402_machine::{DriveIn, DriveOut, DriveState};
+pub use drive::Drive;
+pub use laws::{
+    answers_come_one_cycle_later, lags_are_counted_in_kept_targets, other_steps_forget_targets,
+    steps_are_counted,
+};
+pub use memory::OutOfMemory;
