@@ -1,0 +1,62 @@
+-- Calls between cycles move no axis.
+use Rattle.std.specs.Prelude.{◌≡◌, refl, ℕ, Bool, true, false, ◌-ℤ◌, Option, Some, None, if◌then◌else◌}
+use Rattle.std.proofs.Common.{ap}
+use Rattle.buffer_modes.specs.Queue.{is_active_at_once}
+use Rattle.command_pool.specs.declared.kind.BlockKind.{BlockKind}
+use Rattle.command_pool.specs.declared.kind.BlockKind.TheVariants as kind
+use Rattle.command_pool.specs.declared.wanted.Wanted.{Wanted}
+use Rattle.axis_core.specs.Commands.{admitted_by, commanded_by, commanded, left, joined, queued, queue_in, velocity_command, powered_by, disabled, detached, on_path}
+use Rattle.axis_core.specs.Cores.{Core, begun, with_target}
+use Rattle.axis_core.specs.Refusals.{Asked, refusal_of, is_error_stop}
+use Rattle.axis_core.specs.Rows.{Stays}
+use Rattle.axis_core.specs.Targets.{known_target_of}
+use Rattle.axis_core.specs.declared.axis.Axis.{Axis}
+use Rattle.axis_core.specs.declared.reason.Reason.{Reason}
+use Rattle.axis_core.proofs.KeptRows.{Place, place_of, place-begun}
+
+-- an axis that stands at the same place stays
+stays-at : (a b : Axis) → place_of b ≡ place_of a → Stays a b
+stays-at a b e = record {
+  limits = ap (λ (p : Place). p.limits) e;
+  spell = ap (λ (p : Place). if p.driven then Some (record { before = p.previous -ℤ p.offset; now = p.setpoint -ℤ p.offset }) else None) e;
+}
+
+place-joined : (w : Wanted) (c : Core) → place_of (joined w c).axis ≡ place_of c.axis
+place-joined w c =
+    elim (is_active_at_once (queue_in c) w) as (λ b. place_of (if b then record (queued w c) { axis = begun w (queued w c).axis } else queued w c).axis ≡ place_of c.axis)
+    [ true ↦ place-begun w (queued w c).axis | false ↦ refl ]
+
+place-left : (w : Wanted) (c : Core) → place_of (left w c).axis ≡ place_of c.axis
+place-left w c = place-begun (velocity_command w c.axis) (record c.axis { active = None })
+
+place-admitted : (k : BlockKind) (w : Wanted) (c : Core) → place_of (admitted_by k w c).axis ≡ place_of c.axis
+place-admitted kind.Reset w c = refl
+place-admitted kind.GearOut w c = place-left w c
+place-admitted kind.CamOut w c = place-left w c
+place-admitted _ w c = place-joined (with_target (known_target_of c.axis c.waiting w) w) c
+
+place-commanded : (o : Option Reason) (w : Wanted) (c : Core) → place_of (commanded_by o w c).axis ≡ place_of c.axis
+place-commanded None w c = place-admitted w.kind w c
+place-commanded (Some r) w c = refl
+
+pub stays-commanded : (q : Asked) (c : Core) → Stays c.axis (commanded q c).axis
+unfolding commanded
+stays-commanded q c = stays-at c.axis _ (place-commanded (refusal_of q) q.wanted c)
+
+place-powered : (enable : Bool) (c : Core) → place_of (powered_by enable c).axis ≡ place_of c.axis
+unfolding powered_by
+place-powered true c = refl
+place-powered false c =
+    let wished : Core = record c { axis = record c.axis { power = false; was_off = true } } in
+    elim (is_error_stop c.axis.state) as (λ b. place_of (if b then wished else disabled wished).axis ≡ place_of c.axis) [ true ↦ refl | false ↦ refl ]
+
+pub stays-powered : (enable : Bool) (c : Core) → Stays c.axis (powered_by enable c).axis
+stays-powered enable c = stays-at c.axis _ (place-powered enable c)
+
+pub stays-detached : (owner : ℕ) (a : Axis) → Stays a (detached owner a)
+unfolding detached
+stays-detached owner a = stays-at a _ refl
+
+pub stays-on_path : (on : Bool) (a : Axis) → Stays a (on_path on a)
+unfolding on_path
+stays-on_path on a = stays-at a _ refl

@@ -1,0 +1,15 @@
+pub mod SmallTargets
+pub mod Queues
+pub mod Moving
+pub mod Events
+pub mod KeptRanges
+pub mod KeptParts
+pub mod KeptMoves
+pub mod KeptCycles
+pub mod KeptRows
+pub mod KeptCalls
+pub mod KeptQueues
+pub mod NoteCounts
+pub mod MayAdmit
+pub mod KeptCommands
+pub mod KeptPowers

@@ -1,0 +1,149 @@
+-- A command that is not refused may be admitted.
+use Rattle.std.specs.Prelude.{◌≡◌, refl, ◌⊎◌, ℕ, Bool, true, false, not, ◌&&◌, nat_eq, ℤ, Option, Some, None, is_some, List, [], ◌∷◌, length, if◌then◌else◌}
+use Rattle.std.proofs.Common.{ap, inl, inr}
+use Rattle.axis_state.specs.Diagram.{TakesMotion}
+use Rattle.axis_state.specs.declared.state.AxisState.{AxisState}
+use Rattle.axis_state.specs.declared.state.AxisState.TheVariants as state
+use Rattle.buffer_modes.specs.Queue.{Commands, is_aborting, is_full}
+use Rattle.command_pool.specs.declared.kind.BlockKind.{BlockKind}
+use Rattle.command_pool.specs.declared.kind.BlockKind.TheVariants as kind
+use Rattle.command_pool.specs.declared.kind.BufferMode.TheVariants.{Aborting}
+use Rattle.command_pool.specs.declared.wanted.Wanted.{Wanted}
+use Rattle.axis_core.specs.AxisKept.{IsRunning, IsInState, IsCoreKept}
+use Rattle.axis_core.specs.Commands.{queue_in}
+use Rattle.axis_core.specs.Cores.{Core}
+use Rattle.axis_core.specs.Cycles.{is_powered}
+use Rattle.axis_core.specs.Demands.{IsMade}
+use Rattle.axis_core.specs.Kept.{MayLeave, MayAdmit}
+use Rattle.axis_core.specs.Refusals.{Asked, tests_of, is_disabled, is_error_stop, is_stopping, is_homing, is_standstill, holds, first_holding, refusal_of}
+use Rattle.axis_core.specs.declared.reason.Reason.{Reason}
+use Rattle.axis_core.specs.declared.reason.Reason.TheVariants.{QueueFull}
+use Rattle.axis_core.proofs.KeptRanges.{moving-of}
+use Rattle.axis_core.proofs.Moving.{small_of}
+
+-- what a command is asked of, on an axis with the commands that wait for it
+abbrev pub asked_in : Core → ℕ → Wanted → ℤ → Bool → ℕ → Asked
+asked_in c number w jerk held tables = record {
+  axis = c.axis;
+  number = number;
+  waiting = c.waiting;
+  wanted = w;
+  jerk = jerk;
+  held = held;
+  tables = tables;
+}
+
+-- none of these reasons holds
+abbrev pub NoneHolds : Asked → List Reason → Type 0
+NoneHolds q [] = Unit {0}
+NoneHolds q (r ∷ rs) = (holds r q ≡ false) × NoneHolds q rs
+
+skipped : (b : Bool) (r : Reason) (o : Option Reason) → (if b then Some r else o) ≡ None → (b ≡ false) × (o ≡ None)
+skipped true r o h = absurd (cc)
+skipped false r o h = (refl, h)
+
+-- where no first reason is found, none holds
+pub none-holds : (q : Asked) (rs : List Reason) → first_holding q rs ≡ None → NoneHolds q rs
+none-holds q [] h = tt
+none-holds q (r ∷ rs) h =
+    let p = skipped (holds r q) r (first_holding q rs) h in
+    (p.0, none-holds q rs p.1)
+
+-- a command of a kind, whatever it was
+abbrev pub of_kind : BlockKind → Wanted → Wanted
+of_kind k w = record w { kind = k }
+
+-- a state that takes motion
+takes : (s : AxisState) → is_disabled s ≡ false → is_error_stop s ≡ false → is_stopping s ≡ false → is_homing s ≡ false → TakesMotion s
+takes state.Standstill a b c d = inl refl
+takes state.DiscreteMotion a b c d = inr (inl refl)
+takes state.ContinuousMotion a b c d = inr (inr (inl refl))
+takes state.SynchronizedMotion a b c d = inr (inr (inr refl))
+takes _ a b c d = absurd (cc)
+
+-- an axis that is neither Disabled nor in ErrorStop runs
+pub running-of : (s : AxisState) (driven powered off : Bool) (p q : ℤ) (active : Option Wanted) → is_disabled s ≡ false → is_error_stop s ≡ false →
+    IsInState s driven powered off p q active → IsRunning driven powered
+running-of state.Standstill driven powered off p q active a b i = i.running
+running-of state.Homing driven powered off p q active a b i = i.running
+running-of state.Stopping driven powered off p q active a b i = i
+running-of state.DiscreteMotion driven powered off p q active a b i = i
+running-of state.ContinuousMotion driven powered off p q active a b i = i
+running-of state.SynchronizedMotion driven powered off p q active a b i = i
+running-of _ driven powered off p q active a b i = absurd (cc)
+
+-- a state from which a Stop may begin
+stop-from : (s : AxisState) → is_disabled s ≡ false → is_error_stop s ≡ false → is_stopping s ≡ false → TakesMotion s ⊎ (s ≡ state.Homing)
+stop-from state.Standstill a b c = inl (inl refl)
+stop-from state.DiscreteMotion a b c = inl (inr (inl refl))
+stop-from state.ContinuousMotion a b c = inl (inr (inr (inl refl)))
+stop-from state.SynchronizedMotion a b c = inl (inr (inr (inr refl)))
+stop-from state.Homing a b c = inr refl
+stop-from _ a b c = absurd (cc)
+
+pub standstill-of : (s : AxisState) → not (is_standstill s) ≡ false → s ≡ state.Standstill
+standstill-of state.Standstill h = refl
+standstill-of _ h = absurd (cc)
+
+-- there is a place for a command
+and-right : (x y z : Bool) → ((x && y) && z) ≡ false → (x && (y && z)) ≡ false
+and-right true y z h = h
+and-right false y z h = refl
+
+room-of : (q : Asked) → holds QueueFull q ≡ false → is_full (record { active = q.axis.active; waiting = q.waiting }) q.wanted ≡ false
+unfolding holds
+room-of q h = and-right (not (is_aborting q.wanted.mode)) (is_some q.axis.active) (nat_eq (length q.waiting) 8) h
+
+room-aborting : (c : Commands) (w : Wanted) → w.mode ≡ Aborting → is_full c w ≡ false
+room-aborting c w e = ap (λ m. not (is_aborting m) && (is_some c.active && nat_eq (length c.waiting) 8)) e
+
+-- a gear or a cam may be left
+may-leave : (c : Core) → IsCoreKept c → TakesMotion c.axis.state → IsRunning c.axis.driven (is_powered c.axis) → MayLeave c.axis
+may-leave c k t r = record {
+  step = (small_of c.axis (moving-of c.axis k.axis r.on)).step;
+  begin = (state.ContinuousMotion, (t, refl));
+}
+
+-- a command that is not refused may be admitted, by its kind
+may-by : (k : BlockKind) (c : Core) (number : ℕ) (w : Wanted) (jerk : ℤ) (held : Bool) (tables : ℕ) → IsCoreKept c → IsMade (of_kind k w) →
+    NoneHolds (asked_in c number (of_kind k w) jerk held tables) (tests_of k) → MayAdmit k (of_kind k w) c
+unfolding holds
+may-by kind.Reset c number w jerk held tables k m n = tt
+may-by kind.GearOut c number w jerk held tables k m n =
+    may-leave c k (takes c.axis.state n.0 n.1.0 n.1.1.0 n.1.1.1.0) (running-of c.axis.state _ _ _ _ _ _ n.0 n.1.0 k.axis.state)
+may-by kind.CamOut c number w jerk held tables k m n =
+    may-leave c k (takes c.axis.state n.0 n.1.0 n.1.1.0 n.1.1.1.0) (running-of c.axis.state _ _ _ _ _ _ n.0 n.1.0 k.axis.state)
+may-by kind.Home c number w jerk held tables k m n =
+    record { begin = (state.Homing, (standstill-of c.axis.state n.1.1.1.1.1.1.0, refl)); place = room-aborting (queue_in c) (of_kind kind.Home w) (m.mode refl) }
+may-by kind.Stop c number w jerk held tables k m n =
+    record { begin = (state.Stopping, (stop-from c.axis.state n.0 n.1.0 n.1.1.0, refl)); place = room-aborting (queue_in c) (of_kind kind.Stop w) (m.mode refl) }
+may-by kind.Halt c number w jerk held tables k m n =
+    record { begin = (state.DiscreteMotion, (takes c.axis.state n.0 n.1.0 n.1.1.0 n.1.1.1.0, refl)); place = room-aborting (queue_in c) (of_kind kind.Halt w) (m.mode refl) }
+may-by kind.MoveAbsolute c number w jerk held tables k m n = record {
+  begin = (state.DiscreteMotion, (takes c.axis.state n.0 n.1.0 n.1.1.0 n.1.1.1.0, refl));
+  place = room-of (asked_in c number (of_kind kind.MoveAbsolute w) jerk held tables) n.1.1.1.1.1.1.1.1.1.1.0;
+}
+may-by kind.MoveRelative c number w jerk held tables k m n = record {
+  begin = (state.DiscreteMotion, (takes c.axis.state n.0 n.1.0 n.1.1.0 n.1.1.1.0, refl));
+  place = room-of (asked_in c number (of_kind kind.MoveRelative w) jerk held tables) n.1.1.1.1.1.1.1.1.1.1.0;
+}
+may-by kind.MoveVelocity c number w jerk held tables k m n = record {
+  begin = (state.ContinuousMotion, (takes c.axis.state n.0 n.1.0 n.1.1.0 n.1.1.1.0, refl));
+  place = room-of (asked_in c number (of_kind kind.MoveVelocity w) jerk held tables) n.1.1.1.1.1.1.1.1.1.0;
+}
+may-by kind.GearIn c number w jerk held tables k m n = record {
+  begin = (state.SynchronizedMotion, (takes c.axis.state n.0 n.1.0 n.1.1.0 n.1.1.1.0, refl));
+  place = room-of (asked_in c number (of_kind kind.GearIn w) jerk held tables) n.1.1.1.1.1.1.1.1.0;
+}
+may-by kind.CamIn c number w jerk held tables k m n = record {
+  begin = (state.SynchronizedMotion, (takes c.axis.state n.0 n.1.0 n.1.1.0 n.1.1.1.0, refl));
+  place = room-of (asked_in c number (of_kind kind.CamIn w) jerk held tables) n.1.1.1.1.1.1.1.1.1.0;
+}
+may-by _ c number w jerk held tables k m n = absurd (let made = m.kind in cc)
+
+-- a command that is not refused may be admitted
+pub may-admit : (c : Core) (number : ℕ) (w : Wanted) (jerk : ℤ) (held : Bool) (tables : ℕ) → IsCoreKept c → IsMade w →
+    refusal_of (asked_in c number w jerk held tables) ≡ None → MayAdmit w.kind w c
+unfolding refusal_of
+may-admit c number w jerk held tables k m h =
+    may-by w.kind c number w jerk held tables k m (none-holds (asked_in c number w jerk held tables) (tests_of w.kind) h)

@@ -1,0 +1,104 @@
+-- How many notes a cycle brings.
+use Rattle.std.specs.Prelude.{ℕ, ◌+◌, ◌≤◌, Bool, true, false, nat_eq, ◌&&◌, ℤ, Option, Some, None, List, [], ◌∷◌, ◌++◌, length, slice_get, if◌then◌else◌}
+use Rattle.std.proofs.Common.{arith, length-append}
+use Rattle.buffer_modes.specs.Queue.{active_note}
+use Rattle.cia402_machine.specs.declared.drive.DriveIn.{DriveIn}
+use Rattle.command_pool.specs.Waiting.{notes_of, told_to}
+use Rattle.command_pool.specs.declared.ending.Finish.{Finish}
+use Rattle.command_pool.specs.declared.ending.Finish.TheVariants as finish
+use Rattle.command_pool.specs.declared.kind.BlockKind.{BlockKind}
+use Rattle.command_pool.specs.declared.kind.BlockKind.TheVariants as kind
+use Rattle.command_pool.specs.declared.wanted.Wanted.{Wanted}
+use Rattle.axis_core.specs.Cores.{Core, begun, failed, ended, taken_over, taken_over_by, begun_from, with_target}
+use Rattle.axis_core.specs.Cycles.{answered, answer_error_of, run, gone_on, moved, placed, place_on_path, wished, carried_by, ended_where, ending_by, followed, standing, braked}
+use Rattle.axis_core.specs.Refusals.{is_error_stop, is_outside}
+use Rattle.axis_core.specs.Wishes.{wish_of, taken_of}
+use Rattle.axis_core.specs.declared.look.AxisLook.{AxisLook}
+use Rattle.axis_core.specs.declared.wish.Wish.{Wish}
+use Rattle.axis_core.specs.declared.wish.Wish.TheVariants.{Step, Error}
+
+-- at most one note tells of a command's end
+told-count : (o : Option ℕ) (f : Finish) → length (told_to o f) ≤ 1
+told-count None f = omega arith
+told-count (Some n) f = omega arith
+
+active-count : (f : Finish) (o : Option Wanted) → length (active_note f o) ≤ 1
+active-count f None = omega arith
+active-count f (Some w) = told-count w.owner f
+
+notes-count : (f : Finish) (ws : List Wanted) → length (notes_of f ws) ≤ length ws
+notes-count f [] = omega arith
+notes-count f (w ∷ ws) =
+    let n = told-count w.owner f in
+    let m = notes-count f ws in
+    let l = length-append (told_to w.owner f) (notes_of f ws) in
+    omega arith
+
+-- so many notes after a core, where so many were there and so many commands waited
+abbrev pub IsCounted : ℕ → Core → Core → Type 0
+IsCounted more before after = length after.notes ≤ length before.notes + length before.waiting + more
+
+failed-count : (n : ℕ) (c : Core) → IsCounted 1 c (failed n c)
+unfolding failed
+failed-count n c =
+    let a = active-count (finish.Error n) c.axis.active in
+    let w = notes-count finish.Aborted c.waiting in
+    let l = length-append c.notes (active_note (finish.Error n) c.axis.active ++ notes_of finish.Aborted c.waiting) in
+    let m = length-append (active_note (finish.Error n) c.axis.active) (notes_of finish.Aborted c.waiting) in
+    omega arith
+
+begun_from-count : (w : Wanted) (t : ℤ) (c : Core) → IsCounted 1 c (begun_from w t c)
+begun_from-count w t c =
+    elim (is_outside c.axis.limits.lo t c.axis.limits.hi) as (λ o. IsCounted 1 c (if o then failed 106 (record c { axis = record c.axis { active = Some w } }) else record c { axis = begun (with_target (Some t) w) c.axis }))
+    [ true ↦ failed-count 106 (record c { axis = record c.axis { active = Some w } }) | false ↦ omega arith ]
+
+taken_over_by-count : (k : BlockKind) (t : Option ℤ) (w : Wanted) (c : Core) → IsCounted 1 c (taken_over_by k t w c)
+taken_over_by-count kind.MoveRelative None w c = begun_from-count w _ c
+taken_over_by-count kind.MoveRelative (Some t) w c = omega arith
+taken_over_by-count _ t w c = omega arith
+
+taken_over-count : (ws : List Wanted) (c : Core) → length (taken_over ws c).notes ≤ length c.notes + length ws + 1
+taken_over-count [] c = omega arith
+taken_over-count (w ∷ ws) c = let n = taken_over_by-count w.kind w.target w (record c { waiting = ws }) in omega arith
+
+ended-count : (f : Finish) (c : Core) → IsCounted 2 c (ended f c)
+unfolding ended
+ended-count f c =
+    let a = active-count f c.axis.active in
+    let l = length-append c.notes (active_note f c.axis.active) in
+    let n = taken_over-count c.waiting (record c { axis = record c.axis { active = None; reached = false }; notes = c.notes ++ active_note f c.axis.active }) in
+    omega arith
+
+ended_where-count : (o : Option Finish) (c : Core) → IsCounted 2 c (ended_where o c)
+ended_where-count None c = omega arith
+ended_where-count (Some f) c = ended-count f c
+
+carried_by-count : (o : Option Wanted) (step : ℤ) (look : AxisLook) (c : Core) → IsCounted 2 c (carried_by o step look c)
+carried_by-count None step look c = omega arith
+carried_by-count (Some w) step look c =
+    ended_where-count (ending_by w.kind c.axis w (slice_get c.waiting 0) step look) (record c { axis = followed w.kind w step look c.axis })
+
+wished-count : (w : Wish) (look : AxisLook) (c : Core) → IsCounted 2 c (wished w look c)
+wished-count (Step step) look c = carried_by-count c.axis.active (taken_of c.axis step) look c
+wished-count (Error n) look c = let m = failed-count n c in omega arith
+
+placed-count : (o : Option ℤ) (look : AxisLook) (c : Core) → IsCounted 2 c (placed o look c)
+placed-count None look c = wished-count (wish_of c.axis (slice_get c.waiting 0) look) look c
+placed-count (Some place) look c = omega arith
+
+moved-count : (look : AxisLook) (c : Core) → IsCounted 2 c (moved look c)
+moved-count look c =
+    elim (is_error_stop c.axis.state) as (λ b. IsCounted 2 c (if b then record c { axis = braked c.axis } else placed (place_on_path c.axis look) look c))
+    [ true ↦ omega arith | false ↦ placed-count (place_on_path c.axis look) look c ]
+
+pub run-count : (look : AxisLook) (driven : Bool) (c : Core) → IsCounted 2 c (run look driven c)
+run-count look driven c =
+    elim (driven && c.axis.driven) as (λ b. IsCounted 2 c (if b then gone_on look c else record c { axis = standing driven look.input c.axis }))
+    [ true ↦ moved-count look c | false ↦ omega arith ]
+
+pub answered-count : (input : DriveIn) (c : Core) → length (answered input c).notes + length (answered input c).waiting ≤ length c.notes + length c.waiting + 1
+unfolding failed
+answered-count input c =
+    elim (nat_eq (answer_error_of c.axis input) 0) as (λ b. length (if b then c else failed (answer_error_of c.axis input) c).notes
+    + length (if b then c else failed (answer_error_of c.axis input) c).waiting ≤ length c.notes + length c.waiting + 1)
+    [ true ↦ omega arith | false ↦ let n = failed-count (answer_error_of c.axis input) c in omega (arith, n) ]

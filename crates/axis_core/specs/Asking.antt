@@ -1,0 +1,32 @@
+-- What a command is asked of, as its parts are handed in.
+use Rattle.std.specs.Prelude.{◌<◌, ◌≤◌, pos, ◌≤ℤ◌, unsigned_abs, length}
+use Rattle.command_pool.specs.Waiting.{queue_of}
+use Rattle.axis_core.specs.Kept.{IsSmallTarget, AreSmallTargets}
+use Rattle.axis_core.specs.Refusals.{Asked}
+use Rattle.axis_core.specs.Targets.{position_of}
+use Rattle.axis_core.specs.declared.refusing.Asking.{Asking}
+
+-- what a command is asked of
+abbrev pub asked_of : Asking → Asked
+asked_of q = record {
+  axis = q.axis.now;
+  number = q.list;
+  waiting = queue_of q.pool.now q.list;
+  wanted = q.wanted.now;
+  jerk = q.jerk;
+  held = q.held;
+  tables = q.tables;
+}
+
+-- the numbers of what is asked are small enough to be worked with. This project's profile
+pub record MayAsk (q : Asking) : Type 0 where
+  pub list : q.list < length q.pool.now
+  pub position : unsigned_abs (position_of q.wanted.now) ≤ 1000000000000000000
+  pub increment : pos 1 ≤ℤ q.axis.now.inc
+  pub lo : unsigned_abs q.axis.now.limits.lo ≤ 1000000000000000
+  pub hi : unsigned_abs q.axis.now.limits.hi ≤ 1000000000000000
+  pub vmax : unsigned_abs q.axis.now.limits.vmax ≤ 10000000000
+  pub setpoint : unsigned_abs q.axis.now.setpoint ≤ 5000000000000000000
+  pub offset : unsigned_abs q.axis.now.offset ≤ 4000000000000000000
+  pub active : IsSmallTarget q.axis.now.active
+  pub waiting : AreSmallTargets (queue_of q.pool.now q.list)

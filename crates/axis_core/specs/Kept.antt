@@ -1,0 +1,137 @@
+-- The ranges of the numbers that a cycle works with.
+use Rattle.std.specs.Prelude.{◌≡◌, ◌≤◌, ℤ, pos, ◌≤ℤ◌, ◌<ℤ◌, ◌-ℤ◌, unsigned_abs, false, Option, Some, None, IfSome, slice_get, List, [], ◌∷◌}
+use Rattle.command_pool.specs.declared.kind.BlockKind.{BlockKind}
+use Rattle.command_pool.specs.declared.kind.BlockKind.TheVariants as kind
+use Rattle.command_pool.specs.declared.wanted.Wanted.{Wanted}
+use Rattle.kin_core.specs.Admissible.{AreLimits, IsKept}
+use Rattle.axis_state.specs.Diagram.{IsFrom}
+use Rattle.axis_state.specs.declared.diagram.AxisEvent.TheVariants as event
+use Rattle.buffer_modes.specs.Queue.{is_full}
+use Rattle.axis_core.specs.Cores.{Core, MayBegin, MayTakeOver}
+use Rattle.axis_core.specs.Refusals.{is_error_stop}
+use Rattle.axis_core.specs.Targets.{move_target_of}
+use Rattle.command_pool.specs.declared.wanted.Follow.{Follow}
+use Rattle.command_pool.specs.declared.wanted.Follow.TheVariants as follow
+use Rattle.trapezoid_plan.specs.Rates.{AreRates, AreRamps}
+use Rattle.axis_core.specs.Wishes.{target_of}
+use Rattle.axis_core.specs.declared.axis.Axis.{Axis}
+use Rattle.axis_core.specs.declared.wish.Blending.{Blending}
+use Rattle.axis_core.specs.declared.wish.Wish.{Wish}
+use Rattle.axis_core.specs.declared.wish.Wish.TheVariants.{Step, Error}
+
+-- a number lies between two others
+pub record IsBetween (least z most : ℤ) : Type 0 where
+  pub above : least ≤ℤ z
+  pub below : z ≤ℤ most
+
+-- the fixed target of a command, if there is one, is small enough to be worked with
+abbrev pub IsSmallTarget : Option Wanted → Type 0
+IsSmallTarget None = Unit {0}
+IsSmallTarget (Some w) = (t : ℤ) → w.target ≡ Some t → unsigned_abs t ≤ 8000000000000000000
+
+-- the same of all commands that wait
+abbrev pub AreSmallTargets : List Wanted → Type 0
+AreSmallTargets [] = Unit {0}
+AreSmallTargets (w ∷ ws) = IsSmallTarget (Some w) × AreSmallTargets ws
+
+-- a blending whose numbers are in their ranges. This project's profile
+pub record IsBlending (b : Blending) : Type 0 where
+  pub first : pos 0 ≤ℤ b.first
+  pub apart : b.first <ℤ b.second
+  pub far : b.second ≤ℤ pos 2000000000000000
+  pub old : pos 0 ≤ℤ b.old
+  pub old_in_range : b.old ≤ℤ pos 10000000000
+  pub rates : AreRates b.rates
+  pub least : pos 1 ≤ℤ b.velocity
+  pub most : b.velocity ≤ℤ pos 10000000000
+
+-- an axis that is driven: it can be stopped within its limits. This project's profile
+pub record IsMoving (a : Axis) : Type 0 where
+  pub limits : AreLimits a.limits
+  pub top : a.limits.hi ≤ℤ pos 1000000000000000
+  pub kept : IsKept a.limits a.previous a.setpoint
+
+-- a place within 10^15 of 0. This project's profile
+abbrev pub IsNear : ℤ → Type 0
+IsNear place = unsigned_abs place ≤ 1000000000000000
+
+-- the axis and its old step are small enough to be worked with
+pub record IsSmall (a : Axis) : Type 0 where
+  pub setpoint : IsNear a.setpoint
+  pub step : unsigned_abs (a.setpoint -ℤ a.previous) ≤ 10000000000
+
+-- a command that waits may be blended into: its target, if it moves to a fixed one, is near, and its rates are in their ranges. This project's profile
+pub record IsBlendable (w : Wanted) : Type 0 where
+  pub target : IsSmallTarget (Some w)
+  pub near : (t : ℤ) → move_target_of (Some w) ≡ Some t → IsNear t
+  pub rates : (t : ℤ) → move_target_of (Some w) ≡ Some t → AreRates w.rates
+
+-- a gear whose ratio is in its range. This project's profile
+abbrev pub IsGear : Follow → Type 0
+IsGear (follow.Gear master n d) = (unsigned_abs n ≤ 1000000) × (pos 1 ≤ℤ d)
+IsGear f = Unit {0}
+
+-- a move whose rates are in their ranges, to a target that is near. This project's profile
+pub record IsCarriedMove (w : Wanted) : Type 0 where
+  pub rates : AreRates w.rates
+  pub target : IsNear (target_of w)
+
+-- a velocity command whose numbers are in their ranges. This project's profile
+pub record IsCarriedVelocity (w : Wanted) : Type 0 where
+  pub ramps : AreRamps w.rates
+  pub velocity : unsigned_abs w.rates.v ≤ 10000000000
+
+-- a gear command whose numbers are in their ranges. This project's profile
+pub record IsCarriedGear (w : Wanted) : Type 0 where
+  pub ramps : AreRamps w.rates
+  pub gear : IsGear w.follow
+
+-- an active command whose numbers are in their ranges. This project's profile
+abbrev pub IsCarried : BlockKind → Wanted → Type 0
+IsCarried kind.MoveAbsolute w = IsCarriedMove w
+IsCarried kind.MoveRelative w = IsCarriedMove w
+IsCarried kind.Halt w = IsBetween (pos 1) w.rates.d (pos 10000000000)
+IsCarried kind.Stop w = IsBetween (pos 1) w.rates.d (pos 10000000000)
+IsCarried kind.MoveVelocity w = IsCarriedVelocity w
+IsCarried kind.GearIn w = IsCarriedGear w
+IsCarried kind.CamIn w = AreRates w.rates
+IsCarried kind.Home w = IsNear (target_of w)
+IsCarried k w = Unit {0}
+
+-- a wished step is small enough to be worked with
+abbrev pub IsSmallWish : Wish → Type 0
+IsSmallWish (Step step) = unsigned_abs step ≤ 4000000000000000
+IsSmallWish (Error n) = Unit {0}
+
+-- the numbers from which the drive's counts are places are in their ranges. IEC 61800-7-201, object 6064h
+pub record HasDrive (a : Axis) : Type 0 where
+  pub least : pos 1 ≤ℤ a.inc
+  pub most : a.inc ≤ℤ pos 1000000000
+  pub lowest : IsNear a.limits.lo
+  pub offset : unsigned_abs a.offset ≤ 4000000000000000000
+
+-- an axis whose driven spell may go on, and the commands that wait: the numbers are in their ranges. This project's profile
+pub record MayGoOn (a : Axis) (waiting : List Wanted) : Type 0 where
+  pub moving : IsMoving a
+  pub active : IfSome a.active (λ w. IsCarried w.kind w)
+  pub next : IfSome (slice_get waiting 0) IsBlendable
+  pub offset : unsigned_abs a.offset ≤ 4000000000000000000
+  pub state : is_error_stop a.state ≡ false → IsFrom a.state event.Error
+  pub queue : MayTakeOver a.state waiting
+
+-- a gear or a cam may be left. PLCopen Motion Control Part 1, MC_GearOut and MC_CamOut
+pub record MayLeave (a : Axis) : Type 0 where
+  pub step : unsigned_abs (a.setpoint -ℤ a.previous) ≤ 10000000000
+  pub begin : MayBegin kind.MoveVelocity a.state
+
+-- a command may join the others: there is a place for it, and it may become active in the state. PLCopen Motion Control Part 1, BufferMode
+pub record MayJoin (w : Wanted) (c : Core) : Type 0 where
+  pub begin : MayBegin w.kind c.axis.state
+  pub place : is_full (record { active = c.axis.active; waiting = c.waiting }) w ≡ false
+
+-- a command may be admitted, by its kind. PLCopen Motion Control Part 1
+abbrev pub MayAdmit : BlockKind → Wanted → Core → Type 0
+MayAdmit kind.Reset w c = Unit {0}
+MayAdmit kind.GearOut w c = MayLeave c.axis
+MayAdmit kind.CamOut w c = MayLeave c.axis
+MayAdmit k w c = MayJoin w c

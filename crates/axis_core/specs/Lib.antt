@@ -1,0 +1,13 @@
+pub mod Targets
+pub mod Refusals
+pub mod Blendings
+pub mod Wishes
+pub mod Cores
+pub mod Commands
+pub mod Cycles
+pub mod Kept
+pub mod Asking
+pub mod AxisKept
+pub mod Demands
+pub mod Looks
+pub mod Rows

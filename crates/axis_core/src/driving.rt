@@ -1,0 +1,143 @@
+// Whether an axis is driven, and the errors that its drive's answer brings.
+
+ghost use Rattle.std.specs.Prelude.{◌≡◌, ◌≤◌, ◌<◌, unsigned_abs};
+ghost use Rattle.axis_state.specs.Diagram.{IsFrom};
+ghost use Rattle.axis_state.specs.declared.diagram.AxisEvent.TheVariants as event;
+ghost use Rattle.axis_core.specs.Cycles as spec;
+ghost use Rattle.axis_core.specs.Kept.{HasDrive};
+
+use crate::axis::Axis;
+use crate::refusing::is_outside;
+use crate::states::is_error_stop;
+use axis_state::{AxisEvent, AxisState, DriveIn, axis_next, place};
+use cia402_machine::{DriveState, state_of};
+
+/// Cyclic synchronous position mode (object 6060h).
+pub const SYNCHRONOUS_POSITION: i8 = 8;
+
+/// DriveFault: the drive reads Fault or Fault reaction active.
+const DRIVE_FAULT: u16 = 101;
+
+/// DriveLost: the drive was driven and is not operational any more, with power on.
+const DRIVE_LOST: u16 = 102;
+
+/// ActualOutside: the drive would be driven from outside the limits.
+const ACTUAL_OUTSIDE: u16 = 105;
+
+/// Whether power is on in a cycle.
+pub fn is_powered(axis: &Axis) -> bool
+    ensures { result ≡ spec.is_powered axis.now }
+{
+    axis.power && !axis.was_off
+}
+
+// Whether a drive that reads so may take setpoints.
+fn is_enabled(state: Option<DriveState>) -> bool
+    ensures { result ≡ spec.is_enabled state }
+{
+    matches!(state, Some(DriveState::OperationEnabled))
+}
+
+// Whether a drive's answer is operational.
+fn is_operational(input: &DriveIn) -> bool
+    ensures { result ≡ spec.is_operational input.now }
+{
+    is_enabled(state_of(input.statusword)) && input.mode_display == SYNCHRONOUS_POSITION
+}
+
+// Whether a drive reads a fault or its reaction.
+fn reads_fault(state: Option<DriveState>) -> bool
+    ensures { result ≡ spec.reads_fault state }
+{
+    matches!(
+        state,
+        Some(DriveState::FaultReactionActive | DriveState::Fault)
+    )
+}
+
+/// Whether a drive's answer tells of a fault.
+pub fn has_fault(input: &DriveIn) -> bool
+    ensures { result ≡ spec.has_fault input.now }
+{
+    reads_fault(state_of(input.statusword))
+}
+
+/// Where the drive stands.
+pub fn actual(axis: &Axis, input: &DriveIn) -> i64
+    requires { HasDrive axis.now }
+    ensures value { result ≡ spec.actual_of axis.now input.now }
+    ensures small { unsigned_abs result ≤ 7000000000000000000 }
+{
+    place(axis.limits.lo, input.actual, axis.offset, axis.inc)
+}
+
+// Whether the drive stands within the limits.
+fn is_within(axis: &Axis, input: &DriveIn) -> bool
+    requires { HasDrive axis.now }
+    ensures { result ≡ spec.is_within axis.now input.now }
+{
+    !is_outside(axis.limits.lo, actual(axis, input), axis.limits.hi)
+}
+
+/// Whether the axis is driven in a cycle.
+pub fn is_driven(axis: &Axis, input: &DriveIn) -> bool
+    requires { HasDrive axis.now }
+    ensures { result ≡ spec.is_driven axis.now input.now }
+{
+    is_powered(axis) && is_operational(input) && (axis.driven || is_within(axis, input))
+}
+
+// The error that a drive's answer brings.
+fn new_error(axis: &Axis, input: &DriveIn) -> u16
+    requires { HasDrive axis.now }
+    ensures { result ≡ spec.new_error_of axis.now input.now }
+{
+    if has_fault(input) {
+        DRIVE_FAULT
+    } else if is_powered(axis) && axis.driven && !is_operational(input) {
+        DRIVE_LOST
+    } else if is_powered(axis) && is_operational(input) && !axis.driven && !is_within(axis, input) {
+        ACTUAL_OUTSIDE
+    } else {
+        0
+    }
+}
+
+/// The error that a drive's answer brings to the axis; one in ErrorStop gets no further error.
+#[tactic(auto, using(crate::proofs::Events::error_from), unfolding(crate::specs::Cycles::answer_error_of))]
+pub fn answer_error(axis: &Axis, input: &DriveIn) -> u16
+    requires { HasDrive axis.now }
+    ensures value { result ≡ spec.answer_error_of axis.now input.now }
+    ensures may { 0 < result → IsFrom axis.now.state event.Error }
+{
+    if is_error_stop(axis.state) {
+        0
+    } else {
+        new_error(axis, input)
+    }
+}
+
+// The state at the first cycle of a driven spell.
+fn enabled_from(driven: bool, state: AxisState) -> AxisState
+    ensures { result ≡ spec.enabled_from driven state }
+{
+    match (driven, state) {
+        (true, AxisState::Disabled) => axis_next(state, AxisEvent::DrivenFirst),
+        _ => state,
+    }
+}
+
+/// An axis that is not driven, or begins to be, stands where its drive does.
+pub fn stand(driven: bool, input: &DriveIn, axis: &mut Axis)
+    requires { HasDrive axis.old }
+    ensures { axis.new ≡ spec.standing driven input.now axis.old }
+{
+    let place = actual(axis, input);
+    *axis = Axis {
+        state: enabled_from(driven, axis.state),
+        driven,
+        previous: place,
+        setpoint: place,
+        ..*axis
+    };
+}

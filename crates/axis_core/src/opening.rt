@@ -1,0 +1,38 @@
+// An axis at opening.
+
+ghost use Rattle.std.specs.Prelude.{◌≡◌};
+ghost use Rattle.axis_core.specs.Cycles as spec;
+
+use crate::axis::Axis;
+use axis_state::{AxisDef, AxisState};
+
+/// The controlword of a drive in Operation enabled that is to stay there (object 6040h).
+const ENABLE_OPERATION: u16 = 0x000f;
+
+/// An axis at opening: a ready one is driven, in Standstill, with power on; another is Disabled.
+#[tactic(auto, unfolding(crate::specs::Cycles::opened))]
+pub fn opened(def: &AxisDef) -> Axis
+    ensures { result ≡ spec.opened def.now }
+{
+    Axis {
+        limits: def.limits,
+        inc: def.inc,
+        state: if def.ready {
+            AxisState::Standstill
+        } else {
+            AxisState::Disabled
+        },
+        error: 0,
+        power: def.ready,
+        was_off: false,
+        driven: def.ready,
+        previous: def.start,
+        setpoint: def.start,
+        offset: 0,
+        active: None,
+        reached: false,
+        reset: None,
+        hold: None,
+        controlword: if def.ready { ENABLE_OPERATION } else { 0 },
+    }
+}
