@@ -13,3 +13,4 @@ pub mod NoteCounts
 pub mod MayAdmit
 pub mod KeptCommands
 pub mod KeptPowers
+pub mod ShownKept

@@ -11,3 +11,4 @@ pub mod AxisKept
 pub mod Demands
 pub mod Looks
 pub mod Rows
+pub mod Shown

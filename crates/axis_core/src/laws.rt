@@ -1,10 +1,15 @@
 // Laws of an axis: each is the contract of a function that does nothing.
 
-ghost use Rattle.std.specs.Prelude.{ℕ, Bool};
+ghost use Rattle.std.specs.Prelude.{◌≡◌, ℕ, Bool};
 ghost use Rattle.axis_core.specs.Commands.{commanded, detached, on_path, powered_by};
 ghost use Rattle.axis_core.specs.Cores.{Core};
+ghost use Rattle.axis_core.specs.Cycles.{cycled, opened};
+ghost use Rattle.axis_core.specs.Demands.{IsMade};
 ghost use Rattle.axis_core.specs.Refusals.{Asked};
 ghost use Rattle.axis_core.specs.Rows.{Stays};
+ghost use Rattle.axis_core.specs.Shown.{IsShown};
+ghost use Rattle.axis_core.specs.declared.look.AxisLook.{AxisLook};
+ghost use Rattle.axis_state.specs.declared.definition.AxisDef.{AxisDef};
 ghost use Rattle.axis_core.specs.declared.axis.Axis.{Axis};
 
 /// Calls between cycles move no axis: it stays where it is, within the same limits and in its driven spell.
@@ -13,4 +18,15 @@ pub fn calls_move_no_axis()
     ensures power { (enable : Bool) (c : Core) → Stays c.axis (powered_by enable c).axis }
     ensures detach { (owner : ℕ) (a : Axis) → Stays a (detached owner a) }
     ensures path { (on : Bool) (a : Axis) → Stays a (on_path on a) }
+{}
+
+/// An axis shows an error, 101 to 106, exactly in ErrorStop, and an instance holds Stopping only in Stopping: so at
+/// opening, and after every call and every cycle.
+pub fn errors_stand_in_error_stop()
+    ensures opened { (d : AxisDef) → IsShown (opened d) }
+    ensures command { (q : Asked) (c : Core) → q.axis ≡ c.axis → IsMade q.wanted → IsShown c.axis → IsShown (commanded q c).axis }
+    ensures power { (enable : Bool) (c : Core) → IsShown c.axis → IsShown (powered_by enable c).axis }
+    ensures detach { (owner : ℕ) (a : Axis) → IsShown a → IsShown (detached owner a) }
+    ensures path { (on : Bool) (a : Axis) → IsShown a → IsShown (on_path on a) }
+    ensures cycle { (look : AxisLook) (c : Core) → IsShown c.axis → IsShown (cycled look c).axis }
 {}
