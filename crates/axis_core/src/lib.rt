@@ -3,9 +3,13 @@
 
 mod axis;
 mod beginning;
+#[cfg(test)]
+mod bench;
 mod blendings;
 mod commands;
 mod cycles;
+#[cfg(test)]
+mod drive_tests;
 mod driving;
 mod laws;
 mod look;
