@@ -10,7 +10,7 @@ use Rattle.command_pool.specs.declared.kind.BlockKind.TheVariants as kind
 use Rattle.command_pool.specs.declared.wanted.Wanted.{Wanted}
 use Rattle.kin_core.specs.Admissible.{AreLimits}
 use Rattle.kin_core.specs.declared.limits.Limits.{Limits}
-use Rattle.trapezoid_plan.specs.Rates.{AreRates, AreRamps}
+use Rattle.command_pool.specs.Rates.{AreRates, AreRamps}
 use Rattle.axis_core.specs.AxisKept.{AreRatesWithin, AreRampsWithin, AreNumbers, IsMoveWithin, IsHomeWithin, IsReady, IsActive, IsAxisKept, IsSet, IsWaiting, AreWaiting, MayQueue, IsCoreKept}
 use Rattle.axis_core.specs.Cores.{Core, MayTakeOver}
 use Rattle.axis_core.specs.Kept.{IsBetween, IsMoving, IsBlendable, IsCarried, IsNear, MayGoOn}

@@ -1,5 +1,6 @@
 -- What a command is asked of, as its parts are handed in.
 use Rattle.std.specs.Prelude.{◌<◌, ◌≤◌, pos, ◌≤ℤ◌, unsigned_abs, length}
+use Rattle.motion_numbers.specs.Ranges.{IsStep, IsPlace}
 use Rattle.command_pool.specs.Waiting.{queue_of}
 use Rattle.axis_core.specs.Kept.{IsSmallTarget, AreSmallTargets}
 use Rattle.axis_core.specs.Refusals.{Asked}
@@ -23,9 +24,9 @@ pub record MayAsk (q : Asking) : Type 0 where
   pub list : q.list < length q.pool.now
   pub position : unsigned_abs (position_of q.wanted.now) ≤ 1000000000000000000
   pub increment : pos 1 ≤ℤ q.axis.now.inc
-  pub lo : unsigned_abs q.axis.now.limits.lo ≤ 1000000000000000
-  pub hi : unsigned_abs q.axis.now.limits.hi ≤ 1000000000000000
-  pub vmax : unsigned_abs q.axis.now.limits.vmax ≤ 10000000000
+  pub lo : IsPlace q.axis.now.limits.lo
+  pub hi : IsPlace q.axis.now.limits.hi
+  pub vmax : IsStep q.axis.now.limits.vmax
   pub setpoint : unsigned_abs q.axis.now.setpoint ≤ 5000000000000000000
   pub offset : unsigned_abs q.axis.now.offset ≤ 4000000000000000000
   pub active : IsSmallTarget q.axis.now.active

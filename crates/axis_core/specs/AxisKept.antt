@@ -1,5 +1,6 @@
 -- What always holds of an axis and of the commands that wait for it.
 use Rattle.std.specs.Prelude.{◌≡◌, ◌⊎◌, ◌≤◌, Bool, true, false, ℤ, pos, neg_ℤ, ◌≤ℤ◌, ◌+ℤ◌, ◌-ℤ◌, unsigned_abs, Option, Some, None, List, [], ◌∷◌}
+use Rattle.motion_numbers.specs.declared.TheConstants.{MOST_INCREMENT, MOST_PLACE}
 use Rattle.axis_state.specs.Counts.{count_of, IsCount, HasCounts}
 use Rattle.axis_state.specs.declared.definition.AxisDef.{AxisDef}
 use Rattle.axis_state.specs.declared.state.AxisState.{AxisState}
@@ -136,9 +137,9 @@ IsSet false l previous setpoint = IsPlaced previous setpoint
 -- the numbers of an axis are in their ranges, its places have counts, and its setpoints are where they may be. This project's profile
 pub record IsBased (l : Limits) (inc offset previous setpoint : ℤ) (driven : Bool) : Type 0 where
   pub limits : AreLimits l
-  pub top : l.hi ≤ℤ pos 1000000000000000
+  pub top : l.hi ≤ℤ pos MOST_PLACE
   pub least : pos 1 ≤ℤ inc
-  pub most : inc ≤ℤ pos 1000000000
+  pub most : inc ≤ℤ pos MOST_INCREMENT
   pub counts : HasCounts l offset inc
   pub count : IsCount (count_of setpoint offset inc)
   pub set : IsSet driven l previous setpoint
@@ -186,9 +187,9 @@ pub record IsCoreKept (c : Core) : Type 0 where
 -- an axis may be opened: its numbers are in their ranges, and it starts within its limits. This project's profile
 pub record IsAxisDef (d : AxisDef) : Type 0 where
   pub limits : AreLimits d.limits
-  pub top : d.limits.hi ≤ℤ pos 1000000000000000
+  pub top : d.limits.hi ≤ℤ pos MOST_PLACE
   pub least : pos 1 ≤ℤ d.inc
-  pub most : d.inc ≤ℤ pos 1000000000
+  pub most : d.inc ≤ℤ pos MOST_INCREMENT
   pub counts : HasCounts d.limits (pos 0) d.inc
   pub start : IsBetween d.limits.lo d.start d.limits.hi
 

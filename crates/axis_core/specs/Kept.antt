@@ -1,5 +1,7 @@
 -- The ranges of the numbers that a cycle works with.
-use Rattle.std.specs.Prelude.{◌≡◌, ◌≤◌, ℤ, pos, ◌≤ℤ◌, ◌<ℤ◌, ◌-ℤ◌, unsigned_abs, false, Option, Some, None, IfSome, slice_get, List, [], ◌∷◌}
+use Rattle.std.specs.Prelude.{◌≡◌, ◌≤◌, ◌*◌, ℤ, pos, ◌≤ℤ◌, ◌<ℤ◌, ◌-ℤ◌, unsigned_abs, false, Option, Some, None, IfSome, slice_get, List, [], ◌∷◌}
+use Rattle.motion_numbers.specs.declared.TheConstants.{MOST_INCREMENT, MOST_PLACE, MOST_RATIO, MOST_STEP, MOST_WAY}
+use Rattle.motion_numbers.specs.Ranges.{IsStep, IsPlace}
 use Rattle.command_pool.specs.declared.kind.BlockKind.{BlockKind}
 use Rattle.command_pool.specs.declared.kind.BlockKind.TheVariants as kind
 use Rattle.command_pool.specs.declared.wanted.Wanted.{Wanted}
@@ -12,7 +14,7 @@ use Rattle.axis_core.specs.Refusals.{is_error_stop}
 use Rattle.axis_core.specs.Targets.{move_target_of}
 use Rattle.command_pool.specs.declared.wanted.Follow.{Follow}
 use Rattle.command_pool.specs.declared.wanted.Follow.TheVariants as follow
-use Rattle.trapezoid_plan.specs.Rates.{AreRates, AreRamps}
+use Rattle.command_pool.specs.Rates.{AreRates, AreRamps}
 use Rattle.axis_core.specs.Wishes.{target_of}
 use Rattle.axis_core.specs.declared.axis.Axis.{Axis}
 use Rattle.axis_core.specs.declared.wish.Blending.{Blending}
@@ -38,27 +40,27 @@ AreSmallTargets (w ∷ ws) = IsSmallTarget (Some w) × AreSmallTargets ws
 pub record IsBlending (b : Blending) : Type 0 where
   pub first : pos 0 ≤ℤ b.first
   pub apart : b.first <ℤ b.second
-  pub far : b.second ≤ℤ pos 2000000000000000
+  pub far : b.second ≤ℤ pos MOST_WAY
   pub old : pos 0 ≤ℤ b.old
-  pub old_in_range : b.old ≤ℤ pos 10000000000
+  pub old_in_range : b.old ≤ℤ pos MOST_STEP
   pub rates : AreRates b.rates
   pub least : pos 1 ≤ℤ b.velocity
-  pub most : b.velocity ≤ℤ pos 10000000000
+  pub most : b.velocity ≤ℤ pos MOST_STEP
 
 -- an axis that is driven: it can be stopped within its limits. This project's profile
 pub record IsMoving (a : Axis) : Type 0 where
   pub limits : AreLimits a.limits
-  pub top : a.limits.hi ≤ℤ pos 1000000000000000
+  pub top : a.limits.hi ≤ℤ pos MOST_PLACE
   pub kept : IsKept a.limits a.previous a.setpoint
 
 -- a place within 10^15 of 0. This project's profile
 abbrev pub IsNear : ℤ → Type 0
-IsNear place = unsigned_abs place ≤ 1000000000000000
+IsNear place = IsPlace place
 
 -- the axis and its old step are small enough to be worked with
 pub record IsSmall (a : Axis) : Type 0 where
   pub setpoint : IsNear a.setpoint
-  pub step : unsigned_abs (a.setpoint -ℤ a.previous) ≤ 10000000000
+  pub step : IsStep (a.setpoint -ℤ a.previous)
 
 -- a command that waits may be blended into: its target, if it moves to a fixed one, is near, and its rates are in their ranges. This project's profile
 pub record IsBlendable (w : Wanted) : Type 0 where
@@ -68,7 +70,7 @@ pub record IsBlendable (w : Wanted) : Type 0 where
 
 -- a gear whose ratio is in its range. This project's profile
 abbrev pub IsGear : Follow → Type 0
-IsGear (follow.Gear master n d) = (unsigned_abs n ≤ 1000000) × (pos 1 ≤ℤ d)
+IsGear (follow.Gear master n d) = (unsigned_abs n ≤ MOST_RATIO) × (pos 1 ≤ℤ d)
 IsGear f = Unit {0}
 
 -- a move whose rates are in their ranges, to a target that is near. This project's profile
@@ -79,7 +81,7 @@ pub record IsCarriedMove (w : Wanted) : Type 0 where
 -- a velocity command whose numbers are in their ranges. This project's profile
 pub record IsCarriedVelocity (w : Wanted) : Type 0 where
   pub ramps : AreRamps w.rates
-  pub velocity : unsigned_abs w.rates.v ≤ 10000000000
+  pub velocity : IsStep w.rates.v
 
 -- a gear command whose numbers are in their ranges. This project's profile
 pub record IsCarriedGear (w : Wanted) : Type 0 where
@@ -90,8 +92,8 @@ pub record IsCarriedGear (w : Wanted) : Type 0 where
 abbrev pub IsCarried : BlockKind → Wanted → Type 0
 IsCarried kind.MoveAbsolute w = IsCarriedMove w
 IsCarried kind.MoveRelative w = IsCarriedMove w
-IsCarried kind.Halt w = IsBetween (pos 1) w.rates.d (pos 10000000000)
-IsCarried kind.Stop w = IsBetween (pos 1) w.rates.d (pos 10000000000)
+IsCarried kind.Halt w = IsBetween (pos 1) w.rates.d (pos MOST_STEP)
+IsCarried kind.Stop w = IsBetween (pos 1) w.rates.d (pos MOST_STEP)
 IsCarried kind.MoveVelocity w = IsCarriedVelocity w
 IsCarried kind.GearIn w = IsCarriedGear w
 IsCarried kind.CamIn w = AreRates w.rates
@@ -100,13 +102,13 @@ IsCarried k w = Unit {0}
 
 -- a wished step is small enough to be worked with
 abbrev pub IsSmallWish : Wish → Type 0
-IsSmallWish (Step step) = unsigned_abs step ≤ 4000000000000000
+IsSmallWish (Step step) = unsigned_abs step ≤ 2 * MOST_WAY
 IsSmallWish (Error n) = Unit {0}
 
 -- the numbers from which the drive's counts are places are in their ranges. IEC 61800-7-201, object 6064h
 pub record HasDrive (a : Axis) : Type 0 where
   pub least : pos 1 ≤ℤ a.inc
-  pub most : a.inc ≤ℤ pos 1000000000
+  pub most : a.inc ≤ℤ pos MOST_INCREMENT
   pub lowest : IsNear a.limits.lo
   pub offset : unsigned_abs a.offset ≤ 4000000000000000000
 
@@ -121,7 +123,7 @@ pub record MayGoOn (a : Axis) (waiting : List Wanted) : Type 0 where
 
 -- a gear or a cam may be left. PLCopen Motion Control Part 1, MC_GearOut and MC_CamOut
 pub record MayLeave (a : Axis) : Type 0 where
-  pub step : unsigned_abs (a.setpoint -ℤ a.previous) ≤ 10000000000
+  pub step : IsStep (a.setpoint -ℤ a.previous)
   pub begin : MayBegin kind.MoveVelocity a.state
 
 -- a command may join the others: there is a place for it, and it may become active in the state. PLCopen Motion Control Part 1, BufferMode

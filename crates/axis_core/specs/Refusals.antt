@@ -1,6 +1,7 @@
 -- Why a command on an axis is refused.
 use Rattle.std.specs.Prelude.{ℕ, Bool, true, false, not, ◌&&◌, ◌||◌, ◌==◌, nat_lt, int_lt, int_le, if◌then◌else◌, ℤ, pos, neg_ℤ, ◌+ℤ◌, ◌-ℤ◌, Option, Some, None, is_some, List, [], ◌∷◌, length}
 use Rattle.std.specs.Ordering.{int_eq}
+use Rattle.motion_numbers.specs.declared.TheConstants.{MOST_RATIO}
 use Rattle.axis_state.specs.Counts.{count_of}
 use Rattle.axis_state.specs.declared.state.AxisState.{AxisState}
 use Rattle.axis_state.specs.declared.state.AxisState.TheVariants as state
@@ -110,7 +111,7 @@ is_target_outside k a (Some target) = is_outside a.limits.lo target a.limits.hi 
 
 -- whether the ratio of a gear is out of range. This project's profile
 abbrev pub is_bad_ratio : Follow → Bool
-is_bad_ratio (follow.Gear master n d) = is_outside (neg_ℤ (pos 1000000)) n (pos 1000000) || is_outside (pos 1) d (pos 1000000)
+is_bad_ratio (follow.Gear master n d) = is_outside (neg_ℤ (pos MOST_RATIO)) n (pos MOST_RATIO) || is_outside (pos 1) d (pos MOST_RATIO)
 is_bad_ratio f = false
 
 -- whether there is no cam table of a cam's number. This project's profile

@@ -2,22 +2,24 @@
 
 ghost use Rattle.std.specs.Prelude.{◌≡◌, ◌≤◌, ◌≤ℤ◌, ◌-ℤ◌, ◌↔◌, pos, neg_ℤ, unsigned_abs, IfSome, IsTrue};
 ghost use Rattle.blend_plan.specs.Blends as blends;
-ghost use Rattle.trapezoid_plan.specs.Rates.{AreRates};
+ghost use Rattle.command_pool.specs.Rates.{AreRates};
 ghost use Rattle.axis_core.specs.Blendings as spec;
 ghost use Rattle.axis_core.specs.Blendings.{old_step_of};
 ghost use Rattle.axis_core.specs.Kept.{IsBlending, IsBlendable, IsNear, IsSmall};
+ghost use Rattle.motion_numbers.specs.Ranges.{IsStep, IsPlace, IsWay};
 
 use crate::axis::Axis;
 use crate::targets::move_target;
 use crate::wish::Blending;
 use blend_plan::{Blend, blend_step, blend_velocity, crosses};
 use command_pool::{BufferMode, Rates, Wanted};
+use motion_numbers::MOST_STEP;
 
 /// The step of the last cycle.
 pub fn old_step(axis: &Axis) -> i64
-    requires { unsigned_abs (old_step_of axis.now) ≤ 10000000000 }
+    requires { IsStep (old_step_of axis.now) }
     ensures value { result ≡ old_step_of axis.now }
-    ensures small { unsigned_abs result ≤ 10000000000 }
+    ensures small { IsStep result }
 {
     axis.setpoint - axis.previous
 }
@@ -44,10 +46,10 @@ fn lie_ahead(first: i64, second: i64, old: i64) -> bool
 
 // The way from one place to another, both within 10^15 of 0.
 fn way(from: i64, to: i64) -> i64
-    requires from { unsigned_abs from ≤ 1000000000000000 }
-    requires to { unsigned_abs to ≤ 1000000000000000 }
+    requires from { IsPlace from }
+    requires to { IsPlace to }
     ensures value { result ≡ to -ℤ from }
-    ensures small { unsigned_abs result ≤ 2000000000000000 }
+    ensures small { IsWay result }
 {
     to - from
 }
@@ -61,12 +63,12 @@ fn blending_at(
     rates: &Rates,
     velocity: i64,
 ) -> Option<Blending>
-    requires first { unsigned_abs first ≤ 2000000000000000 }
-    requires second { unsigned_abs second ≤ 2000000000000000 }
-    requires old { unsigned_abs old ≤ 10000000000 }
+    requires first { IsWay first }
+    requires second { IsWay second }
+    requires old { IsStep old }
     requires rates { AreRates rates.now }
     requires least { pos 1 ≤ℤ velocity }
-    requires most { velocity ≤ℤ pos 10000000000 }
+    requires most { velocity ≤ℤ pos MOST_STEP }
     ensures value { result ≡ spec.blending_at backward first second old rates.now velocity }
     ensures kept { IfSome result IsBlending }
 {
@@ -99,9 +101,9 @@ fn or_else(first: Option<Blending>, second: Option<Blending>) -> Option<Blending
 
 // The step of the last cycle, counted down.
 fn step_down(axis: &Axis) -> i64
-    requires { unsigned_abs (old_step_of axis.now) ≤ 10000000000 }
+    requires { IsStep (old_step_of axis.now) }
     ensures value { result ≡ axis.now.previous -ℤ axis.now.setpoint }
-    ensures small { unsigned_abs result ≤ 10000000000 }
+    ensures small { IsStep result }
 {
     axis.previous - axis.setpoint
 }
@@ -120,7 +122,7 @@ fn blending_between(
     requires second { IsNear second }
     requires rates { AreRates rates.now }
     requires least { pos 1 ≤ℤ velocity }
-    requires most { velocity ≤ℤ pos 10000000000 }
+    requires most { velocity ≤ℤ pos MOST_STEP }
     ensures value { result ≡ spec.blending_between axis.now first second rates.now velocity }
     ensures kept { IfSome result IsBlending }
 {
@@ -175,9 +177,9 @@ pub fn blending_of(
 
 // A step that is counted in the direction of a blending.
 fn turned(blending: &Blending, step: i64) -> i64
-    requires { unsigned_abs step ≤ 10000000000 }
+    requires { IsStep step }
     ensures value { result ≡ spec.turned blending.now step }
-    ensures small { unsigned_abs result ≤ 10000000000 }
+    ensures small { IsStep result }
 {
     if blending.backward { -step } else { step }
 }
@@ -187,7 +189,7 @@ pub fn blended_step(blending: &Blending, rates: &Rates) -> i64
     requires blending { IsBlending blending.now }
     requires rates { AreRates rates.now }
     ensures value { result ≡ spec.blended_step blending.now rates.now }
-    ensures small { unsigned_abs result ≤ 10000000000 }
+    ensures small { IsStep result }
 {
     let (step, _) = blend_step(
         blending.first,
@@ -203,7 +205,7 @@ pub fn blended_step(blending: &Blending, rates: &Rates) -> i64
 /// Whether a taken step crosses the first target of a blending.
 pub fn is_crossing(blending: &Option<Blending>, step: i64) -> bool
     requires blending { IfSome blending.now IsBlending }
-    requires step { unsigned_abs step ≤ 10000000000 }
+    requires step { IsStep step }
     ensures { result ≡ spec.is_crossing blending.now step }
 {
     match blending {

@@ -10,6 +10,7 @@ ghost use Rattle.axis_core.specs.Targets.{known_target_of, position_of};
 ghost use Rattle.axis_core.specs.AxisKept.{IsCoreKept};
 ghost use Rattle.axis_core.specs.Blendings.{old_step_of};
 ghost use Rattle.axis_core.specs.Demands.{IsMade, asked_by};
+ghost use Rattle.motion_numbers.specs.Ranges.{IsStep};
 
 use crate::axis::{Axis, PendingReset};
 use crate::beginning::{begin, end_all};
@@ -41,7 +42,7 @@ fn await_reset(wanted: &Wanted, axis: &mut Axis, notes: &mut Notes)
 
 // The velocity command that goes on where a gear or a cam is left.
 fn velocity_command(wanted: &Wanted, axis: &Axis) -> Wanted
-    requires { unsigned_abs (old_step_of axis.now) ≤ 10000000000 }
+    requires { IsStep (old_step_of axis.now) }
     ensures { result ≡ spec.velocity_command wanted.now axis.now }
 {
     Wanted {
@@ -63,7 +64,7 @@ fn velocity_command(wanted: &Wanted, axis: &Axis) -> Wanted
 fn leave(wanted: &Wanted, axis: &mut Axis, pool: &mut CommandPool, list: u8, notes: &mut Notes)
     requires list { list < length pool.old }
     requires room { length notes.old ≤ 3 }
-    requires step { unsigned_abs (old_step_of axis.old) ≤ 10000000000 }
+    requires step { IsStep (old_step_of axis.old) }
     requires begin { MayBegin BlockKind.MoveVelocity axis.old.state }
     ensures after { core_at axis.new pool.new list notes.new ≡ spec.left wanted.now (core_at axis.old pool.old list notes.old) }
     ensures others { pool.new ≡ slice_set pool.old list (queue_of pool.new list) }

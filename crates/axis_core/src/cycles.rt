@@ -14,6 +14,7 @@ ghost use Rattle.axis_core.specs.Cycles as spec;
 ghost use Rattle.axis_core.specs.Kept.{IsBlendable, IsCarried, IsMoving, IsNear, IsSmall, IsSmallWish, HasDrive, MayGoOn};
 ghost use Rattle.axis_core.specs.Refusals.{is_error_stop};
 ghost use Rattle.axis_core.specs.Rows.{KeepsSpell};
+ghost use Rattle.motion_numbers.specs.Ranges.{IsStep, IsWay};
 
 use crate::axis::{Axis, PendingReset};
 use crate::beginning::{end, fail};
@@ -47,9 +48,9 @@ fn move_to(next: i64, axis: &mut Axis)
 // Where a step leads.
 fn place_after(axis: &Axis, step: i64) -> i64
     requires setpoint { IsNear axis.now.setpoint }
-    requires step { unsigned_abs step ≤ 10000000000 }
+    requires step { IsStep step }
     ensures value { result ≡ axis.now.setpoint +ℤ step }
-    ensures small { unsigned_abs result ≤ 2000000000000000 }
+    ensures small { IsWay result }
 {
     axis.setpoint + step
 }
@@ -59,7 +60,7 @@ fn place_after(axis: &Axis, step: i64) -> i64
 fn braking_step(axis: &Axis) -> i64
     requires { IsMoving axis.now }
     ensures value { result ≡ spec.braking_step axis.now }
-    ensures small { unsigned_abs result ≤ 10000000000 }
+    ensures small { IsStep result }
 {
     taken(axis, halt_step(old_step(axis), axis.limits.dmax))
 }
@@ -97,7 +98,7 @@ fn is_move_done(axis: &Axis, wanted: &Wanted, next: &Option<Wanted>, step: i64) 
     requires moving { IsMoving axis.now }
     requires carried { IsCarried BlockKind.MoveAbsolute wanted.now }
     requires next { IfSome next.now IsBlendable }
-    requires step { unsigned_abs step ≤ 10000000000 }
+    requires step { IsStep step }
     ensures { result ≡ spec.is_move_done axis.now wanted.now next.now step }
 {
     let blending = blending_with(axis, wanted, next);
@@ -123,7 +124,7 @@ fn ending_by(
     requires carried { IsCarried wanted.now.kind wanted.now }
     requires next { IfSome next.now IsBlendable }
     requires cam { IsNear look.now.cam }
-    requires step { unsigned_abs step ≤ 10000000000 }
+    requires step { IsStep step }
     ensures { result ≡ spec.ending_by wanted.now.kind axis.now wanted.now next.now step look.now }
 {
     match wanted.kind {
@@ -160,7 +161,7 @@ fn follow(wanted: &Wanted, step: i64, look: &AxisLook, axis: &mut Axis)
     requires moving { IsMoving axis.old }
     requires carried { IsCarried wanted.now.kind wanted.now }
     requires cam { IsNear look.now.cam }
-    requires step { unsigned_abs step ≤ 10000000000 }
+    requires step { IsStep step }
     requires offset { unsigned_abs axis.old.offset ≤ 4000000000000000000 }
     ensures after { axis.new ≡ spec.followed wanted.now.kind wanted.now step look.now axis.old }
     ensures small { unsigned_abs axis.new.setpoint ≤ 7000000000000000000 }
@@ -221,7 +222,7 @@ fn carry(
     requires carried { IsCarried wanted.now.kind wanted.now }
     requires next { IfSome (slice_get (queue_of pool.old list) 0) IsBlendable }
     requires cam { IsNear look.now.cam }
-    requires step { unsigned_abs step ≤ 10000000000 }
+    requires step { IsStep step }
     requires offset { unsigned_abs axis.old.offset ≤ 4000000000000000000 }
     requires state { IsFrom axis.old.state event.Error }
     requires waiting { MayTakeOver axis.old.state (queue_of pool.old list) }
@@ -251,7 +252,7 @@ fn carry_by(
     requires active { IfSome axis.old.active (λ w. IsCarried w.kind w) }
     requires next { IfSome (slice_get (queue_of pool.old list) 0) IsBlendable }
     requires cam { IsNear look.now.cam }
-    requires step { unsigned_abs step ≤ 10000000000 }
+    requires step { IsStep step }
     requires offset { unsigned_abs axis.old.offset ≤ 4000000000000000000 }
     requires state { IsFrom axis.old.state event.Error }
     requires waiting { MayTakeOver axis.old.state (queue_of pool.old list) }

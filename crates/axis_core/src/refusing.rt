@@ -4,6 +4,7 @@ ghost use Rattle.std.specs.Prelude.{◌≡◌, ◌<◌, ◌≤◌, ◌≤ℤ◌,
 ghost use Rattle.axis_core.specs.Asking.{asked_of, MayAsk};
 ghost use Rattle.axis_core.specs.Refusals as spec;
 ghost use Rattle.axis_state.specs.Counts.{count_of};
+ghost use Rattle.motion_numbers.specs.Ranges.{IsStep, IsPlace};
 
 use crate::axis::Axis;
 use crate::reason::Reason;
@@ -35,7 +36,7 @@ pub fn is_outside(low: i64, z: i64, high: i64) -> bool
 
 // The least Velocity of a kind.
 fn least_velocity(kind: BlockKind, limits: &Limits) -> i64
-    requires { unsigned_abs limits.now.vmax ≤ 10000000000 }
+    requires { IsStep limits.now.vmax }
     ensures { result ≡ spec.least_velocity_of kind limits.now }
 {
     if matches!(kind, BlockKind::MoveVelocity) {
@@ -49,7 +50,7 @@ fn least_velocity(kind: BlockKind, limits: &Limits) -> i64
 #[tactic(auto, unfolding(axis_state::specs::Counts::count_of))]
 fn count(place: i64, offset: i64, inc: i64) -> i64
     requires increment { pos 1 ≤ℤ inc }
-    requires place { unsigned_abs place ≤ 1000000000000000 }
+    requires place { IsPlace place }
     requires offset { unsigned_abs offset ≤ 9200000000000000000 }
     ensures { result ≡ count_of place offset inc }
 {
@@ -59,8 +60,8 @@ fn count(place: i64, offset: i64, inc: i64) -> i64
 // Whether the places within the limits have counts of 32 bits.
 fn has_counts(limits: &Limits, offset: i64, inc: i64) -> bool
     requires increment { pos 1 ≤ℤ inc }
-    requires lo { unsigned_abs limits.now.lo ≤ 1000000000000000 }
-    requires hi { unsigned_abs limits.now.hi ≤ 1000000000000000 }
+    requires lo { IsPlace limits.now.lo }
+    requires hi { IsPlace limits.now.hi }
     requires offset { unsigned_abs offset ≤ 9200000000000000000 }
     ensures { result ≡ spec.has_counts limits.now offset inc }
 {
@@ -126,8 +127,8 @@ fn is_ended_by(kind: BlockKind, active: BlockKind) -> bool
 // Whether a target that is known lies outside the limits, or breaks the counts.
 fn is_target_outside(kind: BlockKind, axis: &Axis, target: Option<i64>) -> bool
     requires increment { pos 1 ≤ℤ axis.now.inc }
-    requires lo { unsigned_abs axis.now.limits.lo ≤ 1000000000000000 }
-    requires hi { unsigned_abs axis.now.limits.hi ≤ 1000000000000000 }
+    requires lo { IsPlace axis.now.limits.lo }
+    requires hi { IsPlace axis.now.limits.hi }
     requires setpoint { unsigned_abs axis.now.setpoint ≤ 5000000000000000000 }
     requires offset { unsigned_abs axis.now.offset ≤ 4000000000000000000 }
     ensures { result ≡ spec.is_target_outside kind axis.now target }
@@ -143,11 +144,11 @@ fn is_target_outside(kind: BlockKind, axis: &Axis, target: Option<i64>) -> bool
 // Whether a Home moves the coordinate where the axis has no counts.
 fn breaks_counts(kind: BlockKind, axis: &Axis, target: i64) -> bool
     requires increment { pos 1 ≤ℤ axis.now.inc }
-    requires lo { unsigned_abs axis.now.limits.lo ≤ 1000000000000000 }
-    requires hi { unsigned_abs axis.now.limits.hi ≤ 1000000000000000 }
+    requires lo { IsPlace axis.now.limits.lo }
+    requires hi { IsPlace axis.now.limits.hi }
     requires setpoint { unsigned_abs axis.now.setpoint ≤ 5000000000000000000 }
     requires offset { unsigned_abs axis.now.offset ≤ 4000000000000000000 }
-    requires target { unsigned_abs target ≤ 1000000000000000 }
+    requires target { IsPlace target }
     ensures { result ≡ spec.breaks_counts kind axis.now target }
 {
     matches!(kind, BlockKind::Home)
@@ -158,7 +159,7 @@ fn breaks_counts(kind: BlockKind, axis: &Axis, target: i64) -> bool
 pub fn moved_offset(axis: &Axis, target: i64) -> i64
     requires setpoint { unsigned_abs axis.now.setpoint ≤ 5000000000000000000 }
     requires offset { unsigned_abs axis.now.offset ≤ 4000000000000000000 }
-    requires target { unsigned_abs target ≤ 1000000000000000 }
+    requires target { IsPlace target }
     ensures value { result ≡ axis.now.offset +ℤ (target -ℤ axis.now.setpoint) }
     ensures small { unsigned_abs result ≤ 9200000000000000000 }
 {

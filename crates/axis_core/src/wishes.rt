@@ -1,9 +1,10 @@
 // The step that the active command wants in a cycle.
 
-ghost use Rattle.std.specs.Prelude.{◌≡◌, ◌≤◌, ◌≤ℤ◌, ◌+ℤ◌, ◌-ℤ◌, ◌^◌, pos, unsigned_abs, IfSome};
-ghost use Rattle.trapezoid_plan.specs.Rates.{AreRates, AreRamps};
+ghost use Rattle.std.specs.Prelude.{◌≡◌, ◌≤◌, ◌*◌, ◌≤ℤ◌, ◌+ℤ◌, ◌-ℤ◌, ◌^◌, pos, unsigned_abs, IfSome};
+ghost use Rattle.command_pool.specs.Rates.{AreRates, AreRamps};
 ghost use Rattle.axis_core.specs.Kept.{IsBlendable, IsBlending, IsCarried, IsGear, IsMoving, IsNear, IsSmallWish};
 ghost use Rattle.axis_core.specs.Wishes as spec;
+ghost use Rattle.motion_numbers.specs.Ranges.{IsStep, IsWay};
 
 use crate::axis::Axis;
 use crate::blendings::{blended_step, blending_of, old_step};
@@ -12,6 +13,7 @@ use crate::wish::{Blending, Wish};
 use command_pool::{BlockKind, Follow, Wanted};
 use follow_plan::{gear_difference, gear_toward};
 use kin_core::nearest_safe;
+use motion_numbers::{MOST_STEP, MOST_WAY};
 use trapezoid_plan::{halt_step, move_step, velocity_step};
 
 /// SoftLimit: a step is not safe and brakes not.
@@ -23,9 +25,9 @@ const FOLLOW_LOST: u16 = 104;
 /// The step that is taken where this one is wanted.
 pub fn taken(axis: &Axis, step: i64) -> i64
     requires moving { IsMoving axis.now }
-    requires step { unsigned_abs step ≤ 4000000000000000 }
+    requires step { unsigned_abs step ≤ 2 * MOST_WAY }
     ensures value { result ≡ spec.taken_of axis.now step }
-    ensures small { unsigned_abs result ≤ 10000000000 }
+    ensures small { IsStep result }
 {
     nearest_safe(&axis.limits, axis.previous, axis.setpoint, step)
 }
@@ -33,7 +35,7 @@ pub fn taken(axis: &Axis, step: i64) -> i64
 // Whether a step is safe.
 fn is_safe_step(axis: &Axis, step: i64) -> bool
     requires moving { IsMoving axis.now }
-    requires step { unsigned_abs step ≤ 4000000000000000 }
+    requires step { unsigned_abs step ≤ 2 * MOST_WAY }
     ensures { result ≡ spec.is_safe_step axis.now step }
 {
     taken(axis, step) == step
@@ -41,8 +43,8 @@ fn is_safe_step(axis: &Axis, step: i64) -> bool
 
 // Whether a wanted step brakes.
 fn is_braking(old: i64, step: i64) -> bool
-    requires old { unsigned_abs old ≤ 4000000000000000 }
-    requires step { unsigned_abs step ≤ 4000000000000000 }
+    requires old { unsigned_abs old ≤ 2 * MOST_WAY }
+    requires step { unsigned_abs step ≤ 2 * MOST_WAY }
     ensures { result ≡ spec.is_braking old step }
 {
     step.unsigned_abs() < old.unsigned_abs()
@@ -53,7 +55,7 @@ fn is_braking(old: i64, step: i64) -> bool
 #[tactic(auto, using(crate::proofs::Moving::small_of))]
 fn guarded(axis: &Axis, step: i64) -> Wish
     requires moving { IsMoving axis.now }
-    requires step { unsigned_abs step ≤ 4000000000000000 }
+    requires step { unsigned_abs step ≤ 2 * MOST_WAY }
     ensures value { result ≡ spec.guarded axis.now step }
     ensures small { IsSmallWish result }
 {
@@ -69,7 +71,7 @@ fn way_to(axis: &Axis, place: i64) -> i64
     requires setpoint { IsNear axis.now.setpoint }
     requires place { IsNear place }
     ensures value { result ≡ place -ℤ axis.now.setpoint }
-    ensures small { unsigned_abs result ≤ 2000000000000000 }
+    ensures small { IsWay result }
 {
     place - axis.setpoint
 }
@@ -81,7 +83,7 @@ fn step_toward(axis: &Axis, place: i64, wanted: &Wanted) -> i64
     requires place { IsNear place }
     requires rates { AreRates wanted.now.rates }
     ensures value { result ≡ spec.step_toward axis.now place wanted.now }
-    ensures small { unsigned_abs result ≤ 10000000000 }
+    ensures small { IsStep result }
 {
     move_step(way_to(axis, place), old_step(axis), &wanted.rates)
 }
@@ -93,7 +95,7 @@ fn move_step_by(axis: &Axis, target: i64, wanted: &Wanted, blending: &Option<Ble
     requires rates { AreRates wanted.now.rates }
     requires blending { IfSome blending.now IsBlending }
     ensures value { result ≡ spec.move_step_by axis.now target wanted.now blending.now }
-    ensures small { unsigned_abs result ≤ 10000000000 }
+    ensures small { IsStep result }
 {
     match blending {
         None => step_toward(axis, target, wanted),
@@ -151,10 +153,10 @@ pub fn gear_step(follow: &Follow, master: (i64, i64)) -> i128
 #[tactic(auto, using(crate::proofs::Moving::small_of))]
 fn step_to_velocity(axis: &Axis, toward: i64, wanted: &Wanted) -> i64
     requires moving { IsMoving axis.now }
-    requires toward { unsigned_abs toward ≤ 10000000000 }
+    requires toward { IsStep toward }
     requires ramps { AreRamps wanted.now.rates }
     ensures value { result ≡ spec.step_to_velocity axis.now toward wanted.now }
-    ensures small { unsigned_abs result ≤ 10000000000 }
+    ensures small { IsStep result }
 {
     velocity_step(toward, old_step(axis), &wanted.rates)
 }
@@ -225,7 +227,7 @@ fn cam_move_wish(axis: &Axis, wanted: &Wanted, cam: i64) -> Wish
 fn halt_wish(axis: &Axis, d: i64) -> Wish
     requires moving { IsMoving axis.now }
     requires least { pos 1 ≤ℤ d }
-    requires most { d ≤ℤ pos 10000000000 }
+    requires most { d ≤ℤ pos MOST_STEP }
     ensures value { result ≡ spec.halt_wish axis.now d }
     ensures small { IsSmallWish result }
 {

@@ -2,6 +2,9 @@
 
 ghost use Rattle.std.specs.Prelude.{◌≡◌, ◌≤◌, ◌+ℤ◌, ◌-ℤ◌, ◌*ℤ◌, ◌≤ℤ◌, ◌&&◌, int_lt, pos, unsigned_abs};
 ghost use Rattle.axis_state.specs.Counts.{count_of, place_of, IsCount};
+ghost use Rattle.motion_numbers.specs.Ranges.{IsPlace};
+
+use motion_numbers::MOST_INCREMENT;
 
 /// The count, in drive increments, of a setpoint in internal units (object 607Ah): that from the
 /// offset, rounded down. `inc` is at least 1. The count has 32 bits: within the limits by the rule
@@ -20,8 +23,8 @@ pub fn target_count(setpoint: i64, offset: i64, inc: i64) -> i32
 /// below it. `inc` is 1 to 10^9, `lo` at most 10^15 in size, and the offset at most 4 * 10^18.
 pub fn place(lo: i64, count: i32, offset: i64, inc: i64) -> i64
     requires least { pos 1 ≤ℤ inc }
-    requires most { inc ≤ℤ pos 1000000000 }
-    requires lowest { unsigned_abs lo ≤ 1000000000000000 }
+    requires most { inc ≤ℤ pos MOST_INCREMENT }
+    requires lowest { IsPlace lo }
     requires offset { unsigned_abs offset ≤ 4000000000000000000 }
     ensures value { result ≡ place_of lo count offset inc }
     ensures small { unsigned_abs result ≤ 7000000000000000000 }
@@ -37,8 +40,8 @@ pub fn place(lo: i64, count: i32, offset: i64, inc: i64) -> i64
 /// Whether a place lies less than an increment below the lowest one.
 fn is_just_below(lo: i64, counted: i64, inc: i64) -> bool
     requires least { pos 1 ≤ℤ inc }
-    requires most { inc ≤ℤ pos 1000000000 }
-    requires lowest { unsigned_abs lo ≤ 1000000000000000 }
+    requires most { inc ≤ℤ pos MOST_INCREMENT }
+    requires lowest { IsPlace lo }
     ensures { result ≡ (int_lt (lo -ℤ inc) counted && int_lt counted lo) }
 {
     lo - inc < counted && counted < lo
@@ -47,7 +50,7 @@ fn is_just_below(lo: i64, counted: i64, inc: i64) -> bool
 /// As many increments from the offset as a count says.
 fn counted_place(count: i32, offset: i64, inc: i64) -> i64
     requires least { pos 1 ≤ℤ inc }
-    requires most { inc ≤ℤ pos 1000000000 }
+    requires most { inc ≤ℤ pos MOST_INCREMENT }
     requires offset { unsigned_abs offset ≤ 4000000000000000000 }
     ensures value { result ≡ (count *ℤ inc) +ℤ offset }
     ensures small { unsigned_abs result ≤ 6200000000000000000 }

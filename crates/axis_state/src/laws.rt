@@ -4,6 +4,8 @@ ghost use Rattle.std.specs.Prelude.{◌≡◌, ◌≤◌, ◌<◌, ℤ, pos, neg
 ghost use Rattle.kin_core.specs.declared.limits.Limits.{Limits};
 ghost use Rattle.axis_state.specs.Counts.{count_of, place_of, IsCount, HasCounts};
 
+use motion_numbers::{MOST_INCREMENT, MOST_PLACE};
+
 /// Where the lowest and the highest place of an axis have counts of 32 bits, each setpoint within
 /// its limits does.
 pub fn setpoints_have_counts()
@@ -14,9 +16,9 @@ pub fn setpoints_have_counts()
 
 /// The offset of an axis whose places have counts of 32 bits is at most 10^15 + 2^31 * 10^9.
 pub fn offsets_are_small()
-    ensures { (limits : Limits) (offset inc : ℤ) → pos 1 ≤ℤ inc → inc ≤ℤ pos 1000000000 →
-        neg_ℤ (pos 1000000000000000) ≤ℤ limits.lo → limits.lo ≤ℤ limits.hi →
-        limits.hi ≤ℤ pos 1000000000000000 → HasCounts limits offset inc →
+    ensures { (limits : Limits) (offset inc : ℤ) → pos 1 ≤ℤ inc → inc ≤ℤ pos MOST_INCREMENT →
+        neg_ℤ (pos MOST_PLACE) ≤ℤ limits.lo → limits.lo ≤ℤ limits.hi →
+        limits.hi ≤ℤ pos MOST_PLACE → HasCounts limits offset inc →
         unsigned_abs offset ≤ 2148483648000000000 }
 {}
 
@@ -40,7 +42,7 @@ pub fn targets_lie_near()
 pub fn counts_are_read_back()
     ensures count { (lo count offset inc : ℤ) → pos 1 ≤ℤ inc →
         count_of (place_of lo count offset inc) offset inc ≡ count }
-    ensures distance { (lo count offset inc : ℤ) → pos 1 ≤ℤ inc → inc ≤ℤ pos 1000000000 →
+    ensures distance { (lo count offset inc : ℤ) → pos 1 ≤ℤ inc → inc ≤ℤ pos MOST_INCREMENT →
         IsCount count →
         unsigned_abs (place_of lo count offset inc -ℤ offset) ≤ 2147483649000000000 }
 {}

@@ -2,11 +2,11 @@
 use Rattle.std.proofs.Common.{◌≡◌, ℕ, zero, suc, ◌-◌, ◌≤◌, ◌<◌, Bool, true, false, ℤ, pos, neg_ℤ, ◌+ℤ◌, ◌-ℤ◌, ◌<ℤ◌, ◌≤ℤ◌, unsigned_abs, arith, refl, ◌∙◌, sym, inl, inr}
 use Rattle.std.proofs.lemmas.Int.{ints}
 use Rattle.kin_core.specs.declared.limits.Limits.{Limits}
-use Rattle.kin_core.specs.Run.{run_of}
+use Rattle.motion_numbers.specs.Run.{run_of}
 use Rattle.kin_core.proofs.SafeSteps.{safe_keeps}
 use Rattle.command_pool.specs.declared.rates.Rates.{Rates}
 use Rattle.ramp_root.proofs.Orders.{choose-true, choose-false}
-use Rattle.trapezoid_plan.specs.Rates.{AreRates}
+use Rattle.command_pool.specs.Rates.{AreRates}
 use Rattle.trapezoid_plan.proofs.TowardZero.{lt-true, lt-false}
 use Rattle.blend_plan.specs.Blends.{LieAhead}
 use Rattle.blend_plan.specs.BlendStep.{MayBlend, Crosses, crosses_at, blend_size_of, blend_step_of}

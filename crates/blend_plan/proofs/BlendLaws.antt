@@ -3,7 +3,7 @@ use Rattle.std.proofs.Common.{◌≡◌, ◌↔◌, true, ◌&&◌, ◌||◌, in
 use Rattle.std.specs.Int.{int_max}
 use Rattle.std.proofs.lemmas.Bool.{and_parts}
 use Rattle.std.proofs.lemmas.Int.{ints, clamps}
-use Rattle.kin_core.specs.Run.{run_of}
+use Rattle.motion_numbers.specs.Run.{run_of}
 use Rattle.command_pool.specs.declared.rates.Rates.{Rates}
 use Rattle.ramp_root.proofs.Orders.{both-true}
 use Rattle.trapezoid_plan.proofs.TowardZero.{lt-true, le-true, lt-says, le-says}

@@ -3,13 +3,13 @@ use Rattle.std.proofs.Common.{◌≡◌, ◌⊎◌, ℕ, zero, suc, ◌+◌, ◌
 use Rattle.std.proofs.lemmas.Int.{ints}
 use Rattle.std.proofs.lemmas.Nat.{div-add-mod', mod_below}
 use Rattle.kin_core.specs.declared.limits.Limits.{Limits}
-use Rattle.kin_core.specs.Run.{cut_at_zero}
+use Rattle.motion_numbers.specs.Run.{cut_at_zero}
 use Rattle.kin_core.specs.Toward.{toward_zero}
 use Rattle.kin_core.proofs.Runs.{cut_is}
 use Rattle.kin_core.proofs.Moves.{braking_is_cut}
 use Rattle.kin_core.proofs.SafeSteps.{taken_step_is_safe, safe_keeps}
 use Rattle.command_pool.specs.declared.rates.Rates.{Rates}
-use Rattle.trapezoid_plan.specs.Rates.{AreRates}
+use Rattle.command_pool.specs.Rates.{AreRates}
 use Rattle.trapezoid_plan.specs.MoveRun.{IsMoveWithin}
 use Rattle.trapezoid_plan.proofs.MoveSteps.{velocity-size, acceleration-size, deceleration-size}
 use Rattle.trapezoid_plan.proofs.TowardZero.{toward_zero-turned}

@@ -1,7 +1,7 @@
 -- The steps that stop at the first target or pass it, in sizes, and the greatest of them.
 use Rattle.std.proofs.Common.{◌≡◌, ◌⊎◌, ℕ, ◌+◌, ◌-◌, ◌≤◌, ◌<◌, Bool, true, false, nat_le, ◌&&◌, ◌||◌, Some, None, unwrap_or, max, min, arith, refl, ◌∙◌, ap, sym, inl, inr}
 use Rattle.std.proofs.lemmas.Bool.Decides.{nat_tests}
-use Rattle.kin_core.specs.Run.{run_of, cut_at_zero}
+use Rattle.motion_numbers.specs.Run.{run_of, cut_at_zero}
 use Rattle.kin_core.specs.Taken.{reach_of}
 use Rattle.kin_core.proofs.Reaches.{reach_greatest, fits_below_reach}
 use Rattle.command_pool.specs.declared.rates.Rates.{Rates}

@@ -1,11 +1,11 @@
 -- The steps that may follow in a blend in whole numbers, and the blend step among them.
 use Rattle.std.proofs.Common.{◌≡◌, ◌⊎◌, ℕ, zero, suc, ◌+◌, ◌-◌, ◌≤◌, Bool, true, false, Option, Some, None, unwrap_or, ℤ, pos, ◌≤ℤ◌, unsigned_abs, arith, refl, ◌∙◌, ap, sym, inl, inr, if◌then◌else◌}
 use Rattle.std.proofs.lemmas.Int.{ints, clamps}
-use Rattle.kin_core.specs.Run.{run_of, cut_at_zero}
+use Rattle.motion_numbers.specs.Run.{run_of, cut_at_zero}
 use Rattle.command_pool.specs.declared.rates.Rates.{Rates}
 use Rattle.ramp_root.specs.Greatest.{greatest}
 use Rattle.ramp_root.proofs.Orders.{by_order, choose-true, choose-false}
-use Rattle.trapezoid_plan.specs.Rates.{AreRates}
+use Rattle.command_pool.specs.Rates.{AreRates}
 use Rattle.trapezoid_plan.proofs.MoveSteps.{velocity-size, acceleration-size, deceleration-size}
 use Rattle.trapezoid_plan.proofs.TowardZero.{toward_zero-ahead}
 use Rattle.blend_plan.specs.Sums.{rise_of, above_of}

@@ -2,7 +2,7 @@
 use Rattle.std.proofs.Common.{◌≡◌, ◌⊎◌, ℕ, zero, suc, ◌+◌, ◌-◌, ◌*◌, ◌≤◌, ◌<◌, max, min, arith, refl, inl, inr}
 use Rattle.std.specs.Int.{div_ceil}
 use Rattle.std.proofs.lemmas.Nat.{mul-le}
-use Rattle.kin_core.specs.Run.{run_of}
+use Rattle.motion_numbers.specs.Run.{run_of}
 use Rattle.kin_core.specs.Taken.{reach_of}
 use Rattle.kin_core.proofs.Runs.{run_unfold, run_small, run_zero, run_ge, run_mono}
 use Rattle.kin_core.proofs.Reaches.{reach_greatest, fits_below_reach}

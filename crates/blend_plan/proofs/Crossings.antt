@@ -1,7 +1,7 @@
 -- Which taken steps cross.
 use Rattle.std.proofs.Common.{◌≡◌, ◌↔◌, Bool, true, false, ◌&&◌, int_le, ℤ, pos, ◌≤ℤ◌, unsigned_abs, ◌∙◌, sym, refl}
 use Rattle.std.proofs.lemmas.Bool.{and_parts}
-use Rattle.kin_core.specs.Run.{run_of}
+use Rattle.motion_numbers.specs.Run.{run_of}
 use Rattle.command_pool.specs.declared.rates.Rates.{Rates}
 use Rattle.ramp_root.proofs.Orders.{both-true}
 use Rattle.trapezoid_plan.proofs.TowardZero.{le-true, le-says}

@@ -4,12 +4,12 @@ use Rattle.std.specs.Int.{int_max}
 use Rattle.std.proofs.lemmas.Int.{ints, clamps}
 use Rattle.kin_core.specs.declared.limits.Limits.{Limits}
 use Rattle.kin_core.specs.Admissible.{AreLimits, IsKept, IsSafe}
-use Rattle.kin_core.specs.Run.{run_of}
+use Rattle.motion_numbers.specs.Run.{run_of}
 use Rattle.kin_core.proofs.Moves.{follows_up, follows_down, up_is_safe, down_is_safe}
 use Rattle.kin_core.proofs.SafeSteps.{taken_step_is_exact}
 use Rattle.command_pool.specs.declared.rates.Rates.{Rates}
 use Rattle.ramp_root.proofs.Orders.{choose-true, choose-false}
-use Rattle.trapezoid_plan.specs.Rates.{AreRates}
+use Rattle.command_pool.specs.Rates.{AreRates}
 use Rattle.trapezoid_plan.specs.MoveRun.{IsMoveWithin}
 use Rattle.trapezoid_plan.proofs.TowardZero.{lt-true, lt-false}
 use Rattle.blend_plan.specs.Blends.{LieAhead}

@@ -3,7 +3,7 @@ use Rattle.std.proofs.Common.{◌≡◌, ℕ, zero, suc, ◌+◌, ◌-◌, ◌�
 use Rattle.std.proofs.lemmas.Int.{ints}
 use Rattle.kin_core.specs.declared.limits.Limits.{Limits}
 use Rattle.kin_core.specs.Admissible.{AreLimits, IsKept}
-use Rattle.kin_core.specs.Run.{run_of}
+use Rattle.motion_numbers.specs.Run.{run_of}
 use Rattle.kin_core.specs.Taken.{reach_of}
 use Rattle.kin_core.specs.Toward.{toward_zero}
 use Rattle.kin_core.proofs.Runs.{cut_is, run_ge, run_zero}
@@ -12,7 +12,7 @@ use Rattle.kin_core.proofs.Moves.{follows_up, follows_down, up_is_safe, down_is_
 use Rattle.kin_core.proofs.SafeSteps.{taken_step_is_exact}
 use Rattle.command_pool.specs.declared.rates.Rates.{Rates}
 use Rattle.ramp_root.proofs.Orders.{by_order}
-use Rattle.trapezoid_plan.specs.Rates.{AreRates}
+use Rattle.command_pool.specs.Rates.{AreRates}
 use Rattle.trapezoid_plan.specs.MoveStep.{step_ahead_of, move_step_of}
 use Rattle.trapezoid_plan.specs.MoveRun.{IsMoveWithin, move_taken_of}
 use Rattle.trapezoid_plan.proofs.StepsAhead.{move_step-forward, move_step-backward, move_step-slowed}

@@ -2,7 +2,7 @@
 use Rattle.std.proofs.Common.{◌≡◌, ℕ, zero, suc, ◌+◌, ◌-◌, ◌*◌, ◌/◌, ◌%◌, ◌≤◌, ◌<◌, true, false, nat_lt, min, arith, refl, ◌∙◌, ap, sym}
 use Rattle.std.proofs.lemmas.Bool.Decides.{nat_tests}
 use Rattle.std.proofs.lemmas.Nat.{div-add-mod', mod_below, mul-le}
-use Rattle.kin_core.specs.Run.{ramp, run_of}
+use Rattle.motion_numbers.specs.Run.{ramp, run_of}
 use Rattle.ramp_root.specs.Sums.{sum_of}
 use Rattle.ramp_root.proofs.Orders.{by_order, choose-true, choose-false}
 use Rattle.trapezoid_plan.proofs.ReachCounts.{sum_of-shift}

@@ -2,7 +2,7 @@
 use Rattle.std.specs.Prelude.{◌≡◌, ◌⊎◌, ℕ, ◌+◌, ◌-◌, Bool, nat_le, ◌&&◌, ◌||◌, ℤ, pos, ◌+ℤ◌, ◌-ℤ◌, ◌≤ℤ◌, int_le, unsigned_abs, max, unwrap_or}
 use Rattle.std.specs.Int.{int_max}
 use Rattle.command_pool.specs.declared.rates.Rates.{Rates}
-use Rattle.kin_core.specs.Run.{run_of, cut_at_zero}
+use Rattle.motion_numbers.specs.Run.{run_of, cut_at_zero}
 use Rattle.kin_core.specs.Toward.{toward_zero}
 use Rattle.ramp_root.specs.Greatest.{greatest}
 use Rattle.blend_plan.specs.Sums.{rise_of, above_of}

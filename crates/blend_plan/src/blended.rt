@@ -1,11 +1,12 @@
 // The wanted step of a move that is blended into the next one.
 ghost use Rattle.std.specs.Prelude.{◌≡◌, ◌+◌, ◌↔◌, IsTrue, pos, ◌≤ℤ◌, ◌<ℤ◌, ◌≤◌, ◌<◌};
-ghost use Rattle.trapezoid_plan.specs.Rates.{AreRates};
+ghost use Rattle.command_pool.specs.Rates.{AreRates};
 ghost use Rattle.blend_plan.specs.BlendStep.{IsBlendStep, Crosses, blend_step_of};
 
 use crate::crossing::crosses;
 use crate::sizes::step_size;
 use command_pool::Rates;
+use motion_numbers::{MOST_STEP, MOST_WAY};
 use ramp_root::Steps;
 use std::marker::Brand;
 use std::sync::ledger::{Blank, Ledger};
@@ -20,16 +21,16 @@ pub fn blend_step(l1: i64, l2: i64, old: i64, first: &Rates, second: &Rates, vb:
     requires second_rates { AreRates second.now }
     requires first_target { pos 0 ≤ℤ l1 }
     requires second_target { l1 <ℤ l2 }
-    requires distance { l2 ≤ℤ pos 2000000000000000 }
+    requires distance { l2 ≤ℤ pos MOST_WAY }
     requires forward { pos 0 ≤ℤ old }
-    requires old { old ≤ℤ pos 10000000000 }
+    requires old { old ≤ℤ pos MOST_STEP }
     requires least_velocity { pos 1 ≤ℤ vb }
-    requires most_velocity { vb ≤ℤ pos 10000000000 }
+    requires most_velocity { vb ≤ℤ pos MOST_STEP }
     ensures value { result.0 ≡ blend_step_of l1 l2 old first.now second.now vb }
     ensures definition { IsBlendStep l1 l2 old first.now second.now vb result.0 }
     ensures crosses { IsTrue result.1 ↔ Crosses l1 l2 second.now vb result.0 }
     ensures ahead { pos 0 ≤ℤ result.0 }
-    ensures small { result.0 ≤ℤ pos 10000000000 }
+    ensures small { result.0 ≤ℤ pos MOST_STEP }
 {
     blend_from::<Brand>(l1, l2, old, first, second, vb, Blank::new(1))
 }
@@ -51,15 +52,15 @@ fn blend_from<L: Ledger>(
     requires second_rates { AreRates second.now }
     requires first_target { pos 0 ≤ℤ l1 }
     requires second_target { l1 <ℤ l2 }
-    requires distance { l2 ≤ℤ pos 2000000000000000 }
+    requires distance { l2 ≤ℤ pos MOST_WAY }
     requires forward { pos 0 ≤ℤ old }
-    requires old { old ≤ℤ pos 10000000000 }
+    requires old { old ≤ℤ pos MOST_STEP }
     requires least_velocity { pos 1 ≤ℤ vb }
-    requires most_velocity { vb ≤ℤ pos 10000000000 }
+    requires most_velocity { vb ≤ℤ pos MOST_STEP }
     ensures value { result.0 ≡ blend_step_of l1 l2 old first.now second.now vb }
     ensures crosses { IsTrue result.1 ↔ Crosses l1 l2 second.now vb result.0 }
     ensures ahead { pos 0 ≤ℤ result.0 }
-    ensures small { result.0 ≤ℤ pos 10000000000 }
+    ensures small { result.0 ≤ℤ pos MOST_STEP }
 {
     let mut steps = Steps::<L>::open(blank);
     blend_step_counted(l1, l2, old, first, second, vb, &mut steps)
@@ -79,15 +80,15 @@ pub fn blend_step_counted<L: Ledger>(
     requires second_rates { AreRates second.now }
     requires first_target { pos 0 ≤ℤ l1 }
     requires second_target { l1 <ℤ l2 }
-    requires distance { l2 ≤ℤ pos 2000000000000000 }
+    requires distance { l2 ≤ℤ pos MOST_WAY }
     requires forward { pos 0 ≤ℤ old }
-    requires old { old ≤ℤ pos 10000000000 }
+    requires old { old ≤ℤ pos MOST_STEP }
     requires least_velocity { pos 1 ≤ℤ vb }
-    requires most_velocity { vb ≤ℤ pos 10000000000 }
+    requires most_velocity { vb ≤ℤ pos MOST_STEP }
     ensures value { result.0 ≡ blend_step_of l1 l2 old first.now second.now vb }
     ensures crosses { IsTrue result.1 ↔ Crosses l1 l2 second.now vb result.0 }
     ensures ahead { pos 0 ≤ℤ result.0 }
-    ensures small { result.0 ≤ℤ pos 10000000000 }
+    ensures small { result.0 ≤ℤ pos MOST_STEP }
     ensures cost { steps.new ≤ steps.old + 1024 }
 {
     let (way1, way2) = (l1.unsigned_abs(), l2.unsigned_abs());

@@ -1,7 +1,8 @@
 // Where a taken step crosses the first target.
 ghost use Rattle.std.specs.Prelude.{◌≡◌, ◌≤◌, ◌↔◌, IsTrue, pos, ◌≤ℤ◌, unsigned_abs};
-ghost use Rattle.trapezoid_plan.specs.Rates.{AreRates};
+ghost use Rattle.command_pool.specs.Rates.{AreRates};
 ghost use Rattle.blend_plan.specs.BlendStep.{Crosses, crosses_at};
+ghost use Rattle.motion_numbers.specs.Ranges.{IsStep};
 
 use command_pool::Rates;
 use kin_core::run_sum;
@@ -12,7 +13,7 @@ use kin_core::run_sum;
 /// one active.
 pub fn crosses(l1: i64, l2: i64, step: i64, second: &Rates, vb: i64) -> bool
     requires rates { AreRates second.now }
-    requires step { unsigned_abs step ≤ 10000000000 }
+    requires step { IsStep step }
     requires first { pos 0 ≤ℤ l1 }
     ensures value { result ≡ crosses_at l1 l2 second.now vb step }
     ensures definition { IsTrue result ↔ Crosses l1 l2 second.now vb step }

@@ -3,12 +3,14 @@ ghost use Rattle.std.specs.Prelude.{◌≡◌, ℕ, ◌+◌, ◌/◌, true, fals
 ghost use Rattle.kin_core.specs.declared.limits.Limits.{Limits};
 ghost use Rattle.kin_core.specs.Admissible.{AreLimits, IsKept};
 ghost use Rattle.command_pool.specs.declared.rates.Rates.{Rates};
-ghost use Rattle.trapezoid_plan.specs.Rates.{AreRates};
+ghost use Rattle.command_pool.specs.Rates.{AreRates};
 ghost use Rattle.trapezoid_plan.specs.MoveRun.{IsMoveWithin};
 ghost use Rattle.blend_plan.specs.Blends.{BlendApplies};
 ghost use Rattle.blend_plan.specs.BlendRun.{IsBlendWithin, HasBlend, blend_taken_of, has_crossed};
 ghost use Rattle.blend_plan.specs.BlendRun.{SettlesWithin, CrossesWithin, FirstEndsWithin};
 ghost use Rattle.blend_plan.specs.BlendRun.{IsTowards, NeverPasses};
+
+use motion_numbers::MOST_WAY;
 
 /// A step that crosses is at most the blend velocity, and the first target lies between the setpoint
 /// and the next one, or at one of them.
@@ -55,7 +57,7 @@ pub fn blends_go_on_until_they_cross()
 /// crosses, or it stands at its target with step 0.
 pub fn first_moves_end()
     ensures { (limits : Limits) (target1 target2 before now vb : ℤ) (first second : Rates) →
-        AreLimits limits → (limits.hi -ℤ limits.lo) ≤ℤ pos 2000000000000000 →
+        AreLimits limits → (limits.hi -ℤ limits.lo) ≤ℤ pos MOST_WAY →
         AreRates first → AreRates second →
         IsBlendWithin limits target1 target2 first second vb → IsKept limits before now →
         (n : ℕ) × FirstEndsWithin n limits target1 target2 before now first second vb }

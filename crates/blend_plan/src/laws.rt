@@ -3,9 +3,9 @@ ghost use Rattle.std.specs.Prelude.{◌≡◌, ◌↔◌, true, ℤ, pos, ◌+�
 ghost use Rattle.std.specs.Int.{int_max};
 ghost use Rattle.kin_core.specs.declared.limits.Limits.{Limits};
 ghost use Rattle.kin_core.specs.Admissible.{AreLimits, IsKept, IsSafe};
-ghost use Rattle.kin_core.specs.Run.{run_of};
+ghost use Rattle.motion_numbers.specs.Run.{run_of};
 ghost use Rattle.command_pool.specs.declared.rates.Rates.{Rates};
-ghost use Rattle.trapezoid_plan.specs.Rates.{AreRates};
+ghost use Rattle.command_pool.specs.Rates.{AreRates};
 ghost use Rattle.blend_plan.specs.declared.modes.Blend.{Blend};
 ghost use Rattle.blend_plan.specs.Blends.{LieAhead, BlendApplies, blend_applies, blend_velocity_of};
 ghost use Rattle.blend_plan.specs.BlendStep.{PassesFirst, MayBlend, IsBlendStep, blend_step_of};

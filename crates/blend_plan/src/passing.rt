@@ -1,12 +1,13 @@
 // The greatest step that passes the first target.
 ghost use Rattle.std.specs.Prelude.{ℕ, ◌+◌, ◌≤◌, ◌<◌, IsTrue};
-ghost use Rattle.kin_core.specs.Run.{cut_at_zero};
-ghost use Rattle.trapezoid_plan.specs.Rates.{AreRates};
+ghost use Rattle.motion_numbers.specs.Run.{cut_at_zero};
+ghost use Rattle.command_pool.specs.Rates.{AreRates};
 ghost use Rattle.blend_plan.specs.BlendStep.{passes_first};
 
 use crate::reaches::{reach_up_to, slowed_up_to};
 use crate::risen::greatest_risen;
 use command_pool::Rates;
+use motion_numbers::{MOST_STEP, MOST_WAY};
 use ramp_root::Steps;
 use std::sync::ledger::Ledger;
 
@@ -23,15 +24,15 @@ pub(crate) fn greatest_passing<L: Ledger>(
     requires first_rates { AreRates first.now }
     requires second_rates { AreRates second.now }
     requires second_target { l1 < l2 }
-    requires distance { l2 ≤ 2000000000000000 }
-    requires old { old ≤ 10000000000 }
+    requires distance { l2 ≤ MOST_WAY }
+    requires old { old ≤ MOST_STEP }
     requires least_velocity { 1 ≤ vb }
-    requires most_velocity { vb ≤ 10000000000 }
+    requires most_velocity { vb ≤ MOST_STEP }
     ensures within { result ≤ old + cut_at_zero first.now.a }
     ensures passes { IsTrue (passes_first l1 l2 first.now second.now vb result) }
     ensures greatest { (u : ℕ) → u ≤ old + cut_at_zero first.now.a →
         IsTrue (passes_first l1 l2 first.now second.now vb u) → u ≤ result }
-    ensures small { result ≤ 10000000000 }
+    ensures small { result ≤ MOST_STEP }
     ensures cost { steps.new ≤ steps.old + 128 }
 {
     let (v, a, d) = (first.v as u64, first.a as u64, first.d as u64);

@@ -4,6 +4,7 @@ ghost use Rattle.kin_core.specs.Taken.{reach_of};
 ghost use Rattle.blend_plan.specs.Sums.{above_of};
 
 use kin_core::ramp_sum;
+use motion_numbers::{MOST_STEP, MOST_WAY};
 use ramp_root::{Steps, greatest_count_counted};
 use std::sync::ledger::Ledger;
 use trapezoid_plan::reach;
@@ -12,9 +13,9 @@ use trapezoid_plan::reach;
 // the way. While an axis speeds up or cruises, `most` is the answer.
 pub(crate) fn reach_up_to<L: Ledger>(way: u64, d: u64, most: u64, steps: &mut Steps<L>) -> u64
     requires least_fall { 1 ≤ d }
-    requires most_fall { d ≤ 10000000000 }
-    requires way { way ≤ 2000000000000000 }
-    requires step { most ≤ 10000000000 }
+    requires most_fall { d ≤ MOST_STEP }
+    requires way { way ≤ MOST_WAY }
+    requires step { most ≤ MOST_STEP }
     ensures value { result ≡ min most (reach_of way d) }
     ensures cost { steps.new ≤ steps.old + 64 }
 {
@@ -35,10 +36,10 @@ pub(crate) fn slowed_up_to<L: Ledger>(
     steps: &mut Steps<L>,
 ) -> u64
     requires least_fall { 1 ≤ d }
-    requires most_fall { d ≤ 10000000000 }
-    requires velocity { to ≤ 10000000000 }
-    requires way { way ≤ 2000000000000000 }
-    requires step { most ≤ 10000000000 }
+    requires most_fall { d ≤ MOST_STEP }
+    requires velocity { to ≤ MOST_STEP }
+    requires way { way ≤ MOST_WAY }
+    requires step { most ≤ MOST_STEP }
     ensures below { result ≤ most }
     ensures slowed { above_of result to d ≤ way }
     ensures greatest { (u : ℕ) → u ≤ most → above_of u to d ≤ way → u ≤ result }
@@ -55,9 +56,9 @@ pub(crate) fn slowed_up_to<L: Ledger>(
 #[inline(never)]
 fn greatest_slowed<L: Ledger>(way: u64, to: u64, d: u64, steps: &mut Steps<L>) -> u64
     requires least { 1 ≤ d }
-    requires most { d ≤ 10000000000 }
-    requires velocity { to ≤ 10000000000 }
-    requires way { way ≤ 2000000000000000 }
+    requires most { d ≤ MOST_STEP }
+    requires velocity { to ≤ MOST_STEP }
+    requires way { way ≤ MOST_WAY }
     ensures slowed { above_of result to d ≤ way }
     ensures greatest { (u : ℕ) → above_of u to d ≤ way → u ≤ result }
     ensures cost { steps.new ≤ steps.old + 64 }

@@ -2,6 +2,7 @@
 ghost use Rattle.std.specs.Prelude.{◌≡◌, ℕ, ◌+◌, ◌*◌, ◌^◌, ◌≤◌, ◌<◌};
 ghost use Rattle.blend_plan.specs.Sums.{rise_of};
 
+use motion_numbers::{MOST_STEP, MOST_WAY};
 use ramp_root::{Steps, greatest_count_counted};
 use std::sync::ledger::Ledger;
 
@@ -15,13 +16,13 @@ pub(crate) fn greatest_risen<L: Ledger>(
     a: u64,
     steps: &mut Steps<L>,
 ) -> u64
-    requires way { way ≤ 2000000000000000 }
+    requires way { way ≤ MOST_WAY }
     requires some { 1 ≤ from }
     requires order { from < high }
     requires within { high ≤ top }
-    requires velocity { top ≤ 10000000000 }
+    requires velocity { top ≤ MOST_STEP }
     requires least { 1 ≤ a }
-    requires most { a ≤ 10000000000 }
+    requires most { a ≤ MOST_STEP }
     ensures above { from ≤ result }
     ensures below { result ≤ high }
     ensures risen { from < result → way ≤ rise_of result top a }
@@ -47,13 +48,13 @@ fn greatest_risen_below<L: Ledger>(
     a: u64,
     steps: &mut Steps<L>,
 ) -> u64
-    requires way { way ≤ 2000000000000000 }
+    requires way { way ≤ MOST_WAY }
     requires some { 1 ≤ from }
     requires order { from < high }
     requires within { high ≤ top }
-    requires velocity { top ≤ 10000000000 }
+    requires velocity { top ≤ MOST_STEP }
     requires least { 1 ≤ a }
-    requires most { a ≤ 10000000000 }
+    requires most { a ≤ MOST_STEP }
     requires short { rise_of high top a < way }
     ensures above { from ≤ result }
     ensures below { result ≤ high }
@@ -79,8 +80,8 @@ fn greatest_risen_below<L: Ledger>(
 fn greatest_with_terms(terms: u64, top: u64, a: u64) -> u64
     requires some { 1 ≤ terms }
     requires fits { terms * a < top + a }
-    requires velocity { top ≤ 10000000000 }
-    requires most { a ≤ 10000000000 }
+    requires velocity { top ≤ MOST_STEP }
+    requires most { a ≤ MOST_STEP }
     ensures value { result + terms * a + 1 ≡ top + a }
 {
     top - 1 - (terms - 1) * a
@@ -89,9 +90,9 @@ fn greatest_with_terms(terms: u64, top: u64, a: u64) -> u64
 // The way of speeding up from `u` to `v`, which is not below it, by `a` each cycle.
 fn rise_sum(u: u64, v: u64, a: u64) -> u128
     requires order { u ≤ v }
-    requires velocity { v ≤ 10000000000 }
+    requires velocity { v ≤ MOST_STEP }
     requires least { 1 ≤ a }
-    requires most { a ≤ 10000000000 }
+    requires most { a ≤ MOST_STEP }
     ensures value { result ≡ rise_of u v a }
     ensures small { result < 2 ^ 70 }
 {

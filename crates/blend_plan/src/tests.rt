@@ -3,7 +3,7 @@
 
 ghost use Rattle.std.specs.Prelude.{◌≡◌, ◌<◌, ◌≤ℤ◌, pos, IsTrue};
 ghost use Rattle.kin_core.specs.Admissible.{AreLimits, IsKept};
-ghost use Rattle.trapezoid_plan.specs.Rates.{AreRates};
+ghost use Rattle.command_pool.specs.Rates.{AreRates};
 
 use crate::plain::greatest_by_search;
 use crate::{Blend, blend_step, blend_step_counted, blend_velocity, crosses};

@@ -1,16 +1,17 @@
 -- What is wrong with points that make no cam table.
 use Rattle.std.specs.Prelude.{◌≡◌, ℕ, ◌-◌, ◌<◌, ◌≤◌, ℤ, ◌≤ℤ◌, List, length}
+use Rattle.motion_numbers.specs.declared.TheConstants.{MOST_PLACE}
 use Rattle.cam_table.specs.declared.fault.CamFault.{CamFault}
 use Rattle.cam_table.specs.declared.fault.CamFault.TheVariants.{TooFew, TooMany, BadRow, NotRising, OutOfMemory}
 use Rattle.cam_table.specs.CamTable.{point_of, size_of, IsGoodRow}
 
 -- the row has a coordinate beyond 10^15. This project's profile
 abbrev pub IsBeyond : List (ℤ × ℤ) → ℕ → Type 0
-IsBeyond points row = 1000000000000000 < size_of (point_of points row)
+IsBeyond points row = MOST_PLACE < size_of (point_of points row)
 
 -- the row is within 10^15, but its master position isn't above that of the row before. This project's profile
 pub record IsFalling (points : List (ℤ × ℤ)) (row : ℕ) : Type 0 where
-  pub within : size_of (point_of points row) ≤ 1000000000000000
+  pub within : size_of (point_of points row) ≤ MOST_PLACE
   pub second : 1 < row
   pub falls : (point_of points row).0 ≤ℤ (point_of points (row - 1)).0
 

@@ -1,5 +1,6 @@
 -- What the points of a cam table keep.
 use Rattle.std.specs.Prelude.{ℕ, ◌-◌, ◌<◌, ◌≤◌, max, ℤ, pos, ◌<ℤ◌, unsigned_abs, List, length, slice_index_or}
+use Rattle.motion_numbers.specs.declared.TheConstants.{MOST_PLACE}
 
 -- the point of a row, the rows counted from 1: a master position and the position of the axis there. PLCopen Motion Control Part 1, MC_CamIn, cam tables
 abbrev pub point_of : List (ℤ × ℤ) → ℕ → ℤ × ℤ
@@ -11,7 +12,7 @@ size_of point = max (unsigned_abs point.0) (unsigned_abs point.1)
 
 -- a row within 10^15 whose master position is above that of the row before. This project's profile
 pub record IsGoodRow (points : List (ℤ × ℤ)) (row : ℕ) : Type 0 where
-  pub within : size_of (point_of points row) ≤ 1000000000000000
+  pub within : size_of (point_of points row) ≤ MOST_PLACE
   pub rises : 1 < row → (point_of points (row - 1)).0 <ℤ (point_of points row).0
 
 -- 2 to 4,096 points, each row of them good. This project's profile

@@ -2,3 +2,4 @@ pub mod Kinds
 pub mod Waiting
 pub mod Layout
 pub mod Kept
+pub mod Rates

@@ -15,6 +15,7 @@ mod wanted;
 pub use ending::{Finish, Refusal};
 pub use kind::{BlockKind, BufferMode};
 pub use notes::{Note, Notes};
-pub use pool::{CommandPool, OutOfMemory};
+pub use out_of_memory::OutOfMemory;
+pub use pool::CommandPool;
 pub use rates::Rates;
 pub use wanted::{Follow, Wanted};

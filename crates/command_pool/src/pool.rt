@@ -11,12 +11,9 @@ use crate::linking::{
 };
 use crate::notes::Notes;
 use crate::wanted::Wanted;
+use out_of_memory::OutOfMemory;
 use std::alloc::{AllocError, Global};
 use std::marker::Model;
-
-/// There was no memory.
-#[derive(Clone, Copy, Debug, PartialEq, Eq)]
-pub struct OutOfMemory;
 
 /// As many commands may wait in a list.
 const MOST_WAITING: u8 = 8;

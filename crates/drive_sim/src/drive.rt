@@ -4,13 +4,13 @@ ghost use Rattle.std.specs.Prelude.{◌≡◌, ◌≤◌, ◌-◌, [], IfOk, len
 ghost use Rattle.drive_sim.specs.Faults.{RisesAbove};
 ghost use Rattle.drive_sim.specs.Steps as spec;
 
-use crate::memory::OutOfMemory;
 use crate::steps::{followed, has_fault, keeps_target};
 use cia402_machine::{
     CYCLIC_SYNCHRONOUS_POSITION, DISABLE_VOLTAGE, DriveIn, DriveOut, DriveState, ENABLE_OPERATION,
     drive_step, status_of,
 };
 use circular_buffer::HeapCircularBuffer;
+use out_of_memory::OutOfMemory;
 use std::alloc::Global;
 use std::marker::Model;
 

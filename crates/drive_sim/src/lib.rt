@@ -3,7 +3,6 @@
 
 mod drive;
 mod laws;
-mod memory;
 mod steps;
 #[cfg(test)]
 mod tests;
@@ -14,4 +13,4 @@ pub use laws::{
     answers_come_one_cycle_later, lags_are_counted_in_kept_targets, other_steps_forget_targets,
     steps_are_counted,
 };
-pub use memory::OutOfMemory;
+pub use out_of_memory::OutOfMemory;

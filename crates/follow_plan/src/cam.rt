@@ -3,16 +3,18 @@
 ghost use Rattle.std.specs.Prelude.{◌≡◌, ◌<◌, ◌≤◌, ℤ, pos, ◌-ℤ◌, ◌≤ℤ◌, ◌<ℤ◌, unsigned_abs, length, int_le, slice_index_or, ℕ};
 ghost use Rattle.cam_table.specs.CamTable.{IsCamTable, size_of};
 ghost use Rattle.follow_plan.specs.Cam.{position_between, cam_position_of};
+ghost use Rattle.motion_numbers.specs.Ranges.{IsPlace};
 
 use crate::floor::floor_of_product;
 use cam_table::CamTable;
+use motion_numbers::MOST_PLACE;
 
 /// The position that the table gives for the master's position: on the line between the two points
 /// between which the master lies, rounded down; before the first point the position of the first,
 /// behind the last that of the last. Positions are in internal units.
 pub fn cam_position(table: &CamTable, master: i64) -> i64
     ensures value { result ≡ cam_position_of table.now master }
-    ensures small { unsigned_abs result ≤ 1000000000000000 }
+    ensures small { IsPlace result }
 {
     let points = table.points();
     let passed = points_passed(points, master);
@@ -43,12 +45,12 @@ fn points_passed(points: &[(i64, i64)], master: i64) -> usize
 
 // The position on the line between two points, rounded down.
 fn interpolate(before: &(i64, i64), after: &(i64, i64), master: i64) -> i64
-    requires before_in_range { size_of before.now ≤ 1000000000000000 }
-    requires after_in_range { size_of after.now ≤ 1000000000000000 }
+    requires before_in_range { size_of before.now ≤ MOST_PLACE }
+    requires after_in_range { size_of after.now ≤ MOST_PLACE }
     requires passed { before.now.0 ≤ℤ master }
     requires ahead { master <ℤ after.now.0 }
     ensures value { result ≡ position_between before.now after.now master }
-    ensures small { unsigned_abs result ≤ 1000000000000000 }
+    ensures small { IsPlace result }
 {
     let (x0, y0) = *before;
     let (x1, y1) = *after;

@@ -1,7 +1,7 @@
 -- The greatest step whose way to rest fits the room.
 use Rattle.std.proofs.Common.{◌≡◌, ℕ, ◌<◌, ◌≤◌, zero, suc, Bool, true, false, nat_le, inl, inr, arith}
 use Rattle.std.proofs.lemmas.Bool.{cases_lt, cond_both, leb-true, le-leb}
-use Rattle.kin_core.specs.Run.{run_of}
+use Rattle.motion_numbers.specs.Run.{run_of}
 use Rattle.kin_core.specs.Taken.{greatest_up_to, reach_of}
 use Rattle.kin_core.proofs.Runs.{run_zero, run_ge, run_mono}
 

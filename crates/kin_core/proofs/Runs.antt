@@ -3,7 +3,7 @@ use Rattle.std.proofs.Common.{◌≡◌, ℕ, ◌+◌, ◌-◌, ◌*◌, ◌/◌
 use Rattle.std.proofs.lemmas.Bool.{cases_lt}
 use Rattle.std.proofs.lemmas.Nat.{div-add-mod'}
 use Rattle.std.proofs.Math.Nat.{div-eq_of_lt, div-eq-sub-div}
-use Rattle.kin_core.specs.Run.{ramp, run_of, cut_at_zero}
+use Rattle.motion_numbers.specs.Run.{ramp, run_of, cut_at_zero}
 use borrow.Author.Differences.{up, down}
 
 -- what `omega` reads of a number cut at zero

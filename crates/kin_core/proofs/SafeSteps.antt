@@ -4,7 +4,7 @@ use Rattle.std.specs.Int.{int_min, int_max}
 use Rattle.std.proofs.lemmas.Int.{ints, clamps}
 use Rattle.std.proofs.lemmas.Bool.{cases_lt}
 use Rattle.kin_core.specs.declared.limits.Limits.{Limits}
-use Rattle.kin_core.specs.Run.{run_of, cut_at_zero}
+use Rattle.motion_numbers.specs.Run.{run_of, cut_at_zero}
 use Rattle.kin_core.specs.Admissible.{AreLimits, IsAdmissible, IsSafe, IsKept, IsTakenStep, AllKept, least_step_after, greatest_step_after}
 use Rattle.kin_core.specs.Taken.{reach_of, least_safe_of, greatest_safe_of, taken_step_of, setpoints_of}
 use Rattle.kin_core.specs.Toward.{toward_zero}

@@ -1,4 +1,3 @@
 pub mod Admissible
-pub mod Run
 pub mod Taken
 pub mod Toward

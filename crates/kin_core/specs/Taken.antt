@@ -3,7 +3,7 @@ use Rattle.std.specs.Prelude.{ℕ, ℤ, pos, neg_ℤ, ◌+ℤ◌, ◌-ℤ◌, un
 use Rattle.std.specs.Int.{int_min, int_max}
 use Rattle.kin_core.specs.declared.limits.Limits.{Limits}
 use Rattle.kin_core.specs.Admissible.{least_step_after, greatest_step_after}
-use Rattle.kin_core.specs.Run.{run_of}
+use Rattle.motion_numbers.specs.Run.{run_of}
 
 -- the greatest number up to n that passes the test, or 0 where none does. This project's profile
 unfoldable pub greatest_up_to : ℕ → (ℕ → Bool) → ℕ

@@ -1,15 +1,18 @@
 // The way to rest, and the greatest step whose way fits a room.
 
 ghost use Rattle.std.specs.Prelude.{◌≡◌, ℕ, ◌<◌, ◌≤◌, min, pos, ◌≤ℤ◌, unsigned_abs};
-ghost use Rattle.kin_core.specs.Run.{run_of, cut_at_zero};
+ghost use Rattle.motion_numbers.specs.Run.{run_of, cut_at_zero};
 ghost use Rattle.kin_core.specs.Taken.{reach_of};
+ghost use Rattle.motion_numbers.specs.Ranges.{IsStep};
+
+use motion_numbers::MOST_STEP;
 
 /// The way from the step `u` to rest, braking by `d` each cycle: the sum of the positive ones among
 /// u, u - d, u - 2d and so on, in internal units. It is 0 where `u` is not positive.
 pub fn run_sum(u: i64, d: i64) -> i128
-    requires step { unsigned_abs u ≤ 10000000000 }
+    requires step { IsStep u }
     requires fall { pos 1 ≤ℤ d }
-    requires fall_in_range { d ≤ℤ pos 10000000000 }
+    requires fall_in_range { d ≤ℤ pos MOST_STEP }
     ensures value { result ≡ pos (run_of (cut_at_zero u) (unsigned_abs d)) }
     ensures small { unsigned_abs result ≤ 50000000005000000000 }
 {
@@ -18,7 +21,7 @@ pub fn run_sum(u: i64, d: i64) -> i128
 
 /// The same for sizes: the way from a step of size `u` to rest, braking by `d` each cycle.
 pub fn ramp_sum(u: u64, d: u64) -> u128
-    requires step { u ≤ 10000000000 }
+    requires step { u ≤ MOST_STEP }
     requires fall { 1 ≤ d }
     ensures value { result ≡ run_of u d }
     ensures small { result ≤ 50000000005000000000 }
@@ -30,7 +33,7 @@ pub fn ramp_sum(u: u64, d: u64) -> u128
 
 /// The greatest step up to `most` whose way to rest, braking by `d`, is no longer than `room`.
 pub fn greatest_ramp(room: u64, d: u64, most: u64) -> u64
-    requires step { most ≤ 10000000000 }
+    requires step { most ≤ MOST_STEP }
     requires fall { 1 ≤ d }
     ensures value { result ≡ min most (reach_of room d) }
 {
@@ -43,7 +46,7 @@ pub fn greatest_ramp(room: u64, d: u64, most: u64) -> u64
 
 // The greatest step whose way fits, below a step whose way is too long: by halving.
 fn greatest_ramp_below(room: u64, d: u64, over: u64) -> u64
-    requires step { over ≤ 10000000000 }
+    requires step { over ≤ MOST_STEP }
     requires fall { 1 ≤ d }
     requires too_long { room < run_of over d }
     ensures value { result ≡ reach_of room d }

@@ -2,10 +2,11 @@
 
 ghost use Rattle.std.specs.Prelude.{◌≡◌, ◌-◌, ◌≤◌, ◌↔◌, IsTrue, pos, ◌-ℤ◌, ◌≤ℤ◌, unsigned_abs};
 ghost use Rattle.kin_core.specs.Admissible.{AreLimits, IsStoppable};
-ghost use Rattle.kin_core.specs.Run.{run_of};
+ghost use Rattle.motion_numbers.specs.Run.{run_of};
 
 use crate::limits::Limits;
 use crate::ramp::ramp_sum;
+use motion_numbers::MOST_STEP;
 
 /// Whether an axis whose setpoints were `prev` and then `cur` can be brought to rest within its
 /// limits: there is a finite list of setpoints that goes on admissibly and ends with the same one
@@ -27,7 +28,7 @@ pub fn stoppable(limits: &Limits, prev: i64, cur: i64) -> bool
 
 // Whether the way to rest after a step of this size, braking by d each cycle, fits the room.
 fn stops_within(step: u64, room: u64, d: u64) -> bool
-    requires step { step ≤ 10000000000 }
+    requires step { step ≤ MOST_STEP }
     requires fall { 1 ≤ d }
     ensures value { IsTrue result ↔ (run_of (step - d) d ≤ room) }
 {

@@ -1,26 +1,28 @@
 // The step that an axis takes: the safe step nearest to the wanted one.
 
-ghost use Rattle.std.specs.Prelude.{◌≡◌, ◌≤◌, ℤ, pos, neg_ℤ, ◌+ℤ◌, ◌-ℤ◌, ◌≤ℤ◌, unsigned_abs};
+ghost use Rattle.std.specs.Prelude.{◌≡◌, ◌≤◌, ◌*◌, ℤ, pos, neg_ℤ, ◌+ℤ◌, ◌-ℤ◌, ◌≤ℤ◌, unsigned_abs};
 ghost use Rattle.std.specs.Int.{int_min, int_max};
 ghost use Rattle.kin_core.specs.Admissible.{AreLimits, IsAdmissible, IsKept, IsSafe, IsTakenStep};
 ghost use Rattle.kin_core.specs.Admissible.{least_step_after, greatest_step_after};
 ghost use Rattle.kin_core.specs.Taken.{reach_up_of, reach_down_of, taken_step_of};
+ghost use Rattle.motion_numbers.specs.Ranges.{IsStep};
 
 use crate::limits::Limits;
 use crate::ramp::greatest_ramp;
+use motion_numbers::MOST_WAY;
 
 /// The safe step nearest to the `wanted` one, for an axis whose setpoints were `prev` and then
 /// `cur`. All are in internal units, and steps are signed; the wanted step is one where it is safe.
 pub fn nearest_safe(limits: &Limits, prev: i64, cur: i64, wanted: i64) -> i64
     requires ranges { AreLimits limits.now }
     requires kept { IsKept limits.now prev cur }
-    requires wanted_in_range { unsigned_abs wanted ≤ 4000000000000000 }
+    requires wanted_in_range { unsigned_abs wanted ≤ 2 * MOST_WAY }
     ensures value { result ≡ taken_step_of limits.now prev cur wanted }
     ensures taken { IsTakenStep limits.now prev cur wanted result }
     ensures admissible { IsAdmissible limits.now prev cur (cur +ℤ result) }
     ensures kept { IsKept limits.now cur (cur +ℤ result) }
     ensures exact { IsSafe limits.now prev cur (cur +ℤ wanted) → result ≡ wanted }
-    ensures small { unsigned_abs result ≤ 10000000000 }
+    ensures small { IsStep result }
 {
     let step = step_that_may_follow(limits, cur - prev, wanted);
     step_with_room(limits, cur, step)
@@ -31,11 +33,11 @@ fn step_with_room(limits: &Limits, cur: i64, step: i64) -> i64
     requires ranges { AreLimits limits.now }
     requires above { limits.now.lo ≤ℤ cur }
     requires below { cur ≤ℤ limits.now.hi }
-    requires step_in_range { unsigned_abs step ≤ 10000000000 }
+    requires step_in_range { IsStep step }
     ensures value { result
         ≡ int_max (neg_ℤ (reach_down_of limits.now cur))
         (int_min (reach_up_of limits.now cur) step) }
-    ensures small { unsigned_abs result ≤ 10000000000 }
+    ensures small { IsStep result }
 {
     let braking = limits.dmax as u64;
     if step > 0 {
@@ -48,11 +50,11 @@ fn step_with_room(limits: &Limits, cur: i64, step: i64) -> i64
 // The wanted step, cut to those that may follow the step `old`, wherever the axis is.
 fn step_that_may_follow(limits: &Limits, old: i64, wanted: i64) -> i64
     requires ranges { AreLimits limits.now }
-    requires old_in_range { unsigned_abs old ≤ 10000000000 }
+    requires old_in_range { IsStep old }
     ensures value { result
         ≡ int_max (int_max (neg_ℤ limits.now.vmax) (least_step_after limits.now old))
         (int_min (int_min limits.now.vmax (greatest_step_after limits.now old)) wanted) }
-    ensures small { unsigned_abs result ≤ 10000000000 }
+    ensures small { IsStep result }
 {
     least_step(limits, old).max(greatest_step(limits, old).min(wanted))
 }
@@ -60,9 +62,9 @@ fn step_that_may_follow(limits: &Limits, old: i64, wanted: i64) -> i64
 // The greatest step that may follow the step `old`.
 fn greatest_step(limits: &Limits, old: i64) -> i64
     requires ranges { AreLimits limits.now }
-    requires old_in_range { unsigned_abs old ≤ 10000000000 }
+    requires old_in_range { IsStep old }
     ensures value { result ≡ int_min limits.now.vmax (greatest_step_after limits.now old) }
-    ensures small { unsigned_abs result ≤ 10000000000 }
+    ensures small { IsStep result }
 {
     let by_braking = old + limits.dmax;
     let by_speeding_up = (old + limits.amax).max(0);
@@ -72,9 +74,9 @@ fn greatest_step(limits: &Limits, old: i64) -> i64
 // The least step that may follow the step `old`.
 fn least_step(limits: &Limits, old: i64) -> i64
     requires ranges { AreLimits limits.now }
-    requires old_in_range { unsigned_abs old ≤ 10000000000 }
+    requires old_in_range { IsStep old }
     ensures value { result ≡ int_max (neg_ℤ limits.now.vmax) (least_step_after limits.now old) }
-    ensures small { unsigned_abs result ≤ 10000000000 }
+    ensures small { IsStep result }
 {
     let by_braking = old - limits.dmax;
     let by_speeding_up = (old - limits.amax).min(0);

@@ -1,5 +1,7 @@
 -- Straight lines of several axes: their places, and the limits of the path along them.
 use Rattle.std.specs.Prelude.{ℕ, zero, suc, ◌+◌, ◌-◌, ◌*◌, ◌/◌, ◌≤◌, max, ℤ, pos, ◌+ℤ◌, ◌-ℤ◌, unsigned_abs, int_lt, Bool, true, nat_eq, nat_le, ◌&&◌, if◌then◌else◌, List, slice_index_or}
+use Rattle.motion_numbers.specs.declared.TheConstants.{MOST_STEP}
+use Rattle.motion_numbers.specs.Ranges.{IsPlace}
 use Rattle.kin_core.specs.declared.limits.Limits.{Limits}
 use Rattle.kin_core.specs.Taken.{greatest_up_to}
 use Rattle.linear_path.specs.Path.{standing_limits, limits_at}
@@ -10,7 +12,7 @@ coordinate_of coordinates axis = slice_index_or coordinates axis (pos 0)
 
 -- every coordinate is within 10^15. This project's profile
 abbrev pub AreInRange : List ℤ → Type 0
-AreInRange coordinates = (axis : ℕ) → unsigned_abs (coordinate_of coordinates axis) ≤ 1000000000000000
+AreInRange coordinates = (axis : ℕ) → IsPlace (coordinate_of coordinates axis)
 
 -- how far an axis goes, as a size
 abbrev pub way_of : List ℤ → List ℤ → ℕ → ℕ
@@ -54,19 +56,19 @@ all_axes (suc n) test = all_axes n test && test n
 -- the greatest velocity up to 10^10 of a path at which every axis keeps its vmax. This project's profile
 unfoldable pub path_velocity_of : ℕ → List ℤ → List ℤ → ℕ → List Limits → ℕ
 path_velocity_of count starts targets length limits =
-    greatest_up_to 10000000000 (λ w. all_axes count (λ axis.
+    greatest_up_to MOST_STEP (λ w. all_axes count (λ axis.
     keeps_velocity (way_of starts targets axis) length (unsigned_abs (limits_at limits axis).vmax) w))
 
 -- the greatest gain of speed up to 10^10 with which every axis keeps its amax. This project's profile
 unfoldable pub path_acceleration_of : ℕ → List ℤ → List ℤ → ℕ → List Limits → ℕ
 path_acceleration_of count starts targets length limits =
-    greatest_up_to 10000000000 (λ b. all_axes count (λ axis.
+    greatest_up_to MOST_STEP (λ b. all_axes count (λ axis.
     keeps_change (way_of starts targets axis) length (unsigned_abs (limits_at limits axis).amax) b))
 
 -- the greatest loss of speed up to 10^10 with which every axis keeps its dmax. This project's profile
 unfoldable pub path_deceleration_of : ℕ → List ℤ → List ℤ → ℕ → List Limits → ℕ
 path_deceleration_of count starts targets length limits =
-    greatest_up_to 10000000000 (λ b. all_axes count (λ axis.
+    greatest_up_to MOST_STEP (λ b. all_axes count (λ axis.
     keeps_change (way_of starts targets axis) length (unsigned_abs (limits_at limits axis).dmax) b))
 
 -- the limits of the path along a line: from place 0 to its length, with the greatest rates that keep every axis within its own limits. This project's profile

@@ -2,6 +2,8 @@
 use Rattle.std.proofs.Common.{◌≡◌, ℕ, zero, suc, ◌+◌, ◌<◌, ◌≤◌, refl, sym, ◌∙◌, ap, inl, inr, arith, true, ℤ, pos, negsuc, ◌+ℤ◌, ◌-ℤ◌, ◌≤ℤ◌, unsigned_abs, List}
 use Rattle.std.proofs.lemmas.Bool.{cases_eq}
 use Rattle.std.proofs.lemmas.Int.{ints, clamps, by_lt_z}
+use Rattle.motion_numbers.specs.declared.TheConstants.{MOST_WAY}
+use Rattle.motion_numbers.specs.Ranges.{IsPlace}
 use Rattle.kin_core.specs.declared.limits.Limits.{Limits}
 use Rattle.kin_core.specs.Admissible.{AreLimits, IsAdmissible}
 use Rattle.linear_path.specs.Line.{coordinate_of, AreInRange, way_of, longest_way_of, place_between, keeps_velocity, keeps_change, path_velocity_of, path_acceleration_of, path_deceleration_of, path_limits_of}
@@ -12,13 +14,13 @@ use Rattle.linear_path.specs.PartLaws.{step_kept}
 use Rattle.linear_path.specs.BendLaws.{bends_of_admissible, bends_of_parts, admissible_forward, admissible_backward, standing_is_admissible}
 
 -- the ways are of limited size
-longest_small : (count : ℕ) (starts targets : List ℤ) → AreInRange starts → AreInRange targets → longest_way_of count starts targets ≤ 2000000000000000
+longest_small : (count : ℕ) (starts targets : List ℤ) → AreInRange starts → AreInRange targets → longest_way_of count starts targets ≤ MOST_WAY
 unfolding longest_way_of
 longest_small zero starts targets s t = omega arith
 longest_small (suc n) starts targets s t =
-    let start : unsigned_abs (coordinate_of starts n) ≤ 1000000000000000 = s n in
-    let target : unsigned_abs (coordinate_of targets n) ≤ 1000000000000000 = t n in
-    let way : way_of starts targets n ≤ 2000000000000000 = omega (arith, ints) in
+    let start : IsPlace (coordinate_of starts n) = s n in
+    let target : IsPlace (coordinate_of targets n) = t n in
+    let way : way_of starts targets n ≤ MOST_WAY = omega (arith, ints) in
     omega (arith, longest_small n starts targets s t)
 
 standing_are_limits : AreLimits standing_limits

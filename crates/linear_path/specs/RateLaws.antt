@@ -3,6 +3,7 @@ use Rattle.std.proofs.Common.{◌≡◌, ℕ, zero, suc, ◌+◌, ◌-◌, ◌*�
 use Rattle.std.proofs.Math.Nat.{mul-le-mul_right, mul-le-mul_left}
 use Rattle.std.proofs.lemmas.Bool.{cases_eq, leb-true, le-leb, cond_both}
 use Rattle.std.proofs.lemmas.Int.{ints}
+use Rattle.motion_numbers.specs.declared.TheConstants.{MOST_STEP, MOST_WAY}
 use Rattle.kin_core.specs.declared.limits.Limits.{Limits}
 use Rattle.kin_core.specs.Admissible.{AreLimits}
 use Rattle.kin_core.specs.Taken.{greatest_up_to}
@@ -48,7 +49,7 @@ every_axis zero test each = refl
 every_axis (suc n) test each = both_of (all_axes n test) (test n) (every_axis n test (λ axis h. each axis (omega arith))) (each n (omega arith))
 
 -- a rate that is the greatest so far is the greatest number that passes
-pub greatest_is : (n most : ℕ) (test : ℕ → ℕ → Bool) (rate : ℕ) → most ≡ 10000000000 → IsGreatestRate n test rate → rate ≡ greatest_up_to most (λ r. all_axes n (λ axis. test axis r))
+pub greatest_is : (n most : ℕ) (test : ℕ → ℕ → Bool) (rate : ℕ) → most ≡ MOST_STEP → IsGreatestRate n test rate → rate ≡ greatest_up_to most (λ r. all_axes n (λ axis. test axis r))
 greatest_is n most test rate bound is =
     let all : ℕ → Bool = λ r. all_axes n (λ axis. test axis r) in
     let own : all rate ≡ true = every_axis n (λ axis. test axis rate) (λ axis h. is.passes rate axis (omega arith) h) in
@@ -60,11 +61,11 @@ greatest_is n most test rate bound is =
     omega arith
 
 -- no axis so far, and every rate
-pub greatest_first : (test : ℕ → ℕ → Bool) → IsGreatestRate 0 test 10000000000
+pub greatest_first : (test : ℕ → ℕ → Bool) → IsGreatestRate 0 test MOST_STEP
 greatest_first test = record { within = omega arith; passes = λ r axis h within. absurd (omega arith); most = λ r h each. h }
 
 -- one more axis, whose greatest rate is known
-pub greatest_more : (n : ℕ) (test : ℕ → ℕ → Bool) (rate own next : ℕ) → IsGreatestRate n test rate → own ≤ 10000000000 → ((r : ℕ) → r ≤ 10000000000 → (test n r ≡ true) ↔ (r ≤ own)) → next ≡ min own rate → IsGreatestRate (n + 1) test next
+pub greatest_more : (n : ℕ) (test : ℕ → ℕ → Bool) (rate own next : ℕ) → IsGreatestRate n test rate → own ≤ MOST_STEP → ((r : ℕ) → r ≤ MOST_STEP → (test n r ≡ true) ↔ (r ≤ own)) → next ≡ min own rate → IsGreatestRate (n + 1) test next
 greatest_more n test rate own next is bound exact both =
     record {
       within = omega (arith, is.within);
@@ -77,7 +78,7 @@ greatest_more n test rate own next is bound exact both =
     }
 
 -- the rates up to the axis's own one, times its way, fit its limit times the length
-pub rate_exact : (way length rate r own : ℕ) → 0 < way → own ≡ min 10000000000 (rate * length / way) → r ≤ 10000000000 → (way * r ≤ rate * length) ↔ (r ≤ own)
+pub rate_exact : (way length rate r own : ℕ) → 0 < way → own ≡ min MOST_STEP (rate * length / way) → r ≤ MOST_STEP → (way * r ≤ rate * length) ↔ (r ≤ own)
 rate_exact way length rate r own some is bound = (
   λ fits. (let less : r < rate * length / way + 1 = below_factor r (rate * length / way + 1) way (omega (arith, quotient (rate * length) way some)) in omega arith),
   λ within. (let below : r ≤ rate * length / way = omega arith in omega (arith, quotient (rate * length) way some, mul-le-mul_right way below)),
@@ -117,10 +118,10 @@ change_exact way length most b moves shorter some room = (
 )
 
 -- an axis that rests allows every rate
-pub rate_of_rest : (test : ℕ → Bool) → ((r : ℕ) → test r ≡ true) → IsRateOf 10000000000 test
+pub rate_of_rest : (test : ℕ → Bool) → ((r : ℕ) → test r ≡ true) → IsRateOf MOST_STEP test
 rate_of_rest test all = record { within = omega arith; exact = λ r bound. ((λ h. bound), (λ h. all r)) }
 
-pub rate_of_velocity : (way length vmax own : ℕ) → 0 < way → 0 < length → own ≡ min 10000000000 (vmax * length / way) → IsRateOf own (keeps_velocity way length vmax)
+pub rate_of_velocity : (way length vmax own : ℕ) → 0 < way → 0 < length → own ≡ min MOST_STEP (vmax * length / way) → IsRateOf own (keeps_velocity way length vmax)
 rate_of_velocity way length vmax own moves some is =
     record {
       within = omega arith;
@@ -130,14 +131,14 @@ rate_of_velocity way length vmax own moves some is =
       );
     }
 
-pub rate_of_longest : (way length most : ℕ) → (way ≡ 0 → ⊥) → way ≡ length → most ≤ 10000000000 → IsRateOf most (keeps_change way length most)
+pub rate_of_longest : (way length most : ℕ) → (way ≡ 0 → ⊥) → way ≡ length → most ≤ MOST_STEP → IsRateOf most (keeps_change way length most)
 rate_of_longest way length most moves longest bound =
     record {
       within = bound;
       exact = λ r h. ((λ kept. leb-true _ _ (rw (change_longest way length most r moves longest) at kept)), (λ less. rw (change_longest way length most r moves longest) (le-leb _ _ less)));
     }
 
-pub rate_of_change : (way length most own : ℕ) → (way ≡ 0 → ⊥) → (way ≡ length → ⊥) → 0 < length → 1 ≤ most → own ≡ min 10000000000 ((most - 1) * length / way) → IsRateOf own (keeps_change way length most)
+pub rate_of_change : (way length most own : ℕ) → (way ≡ 0 → ⊥) → (way ≡ length → ⊥) → 0 < length → 1 ≤ most → own ≡ min MOST_STEP ((most - 1) * length / way) → IsRateOf own (keeps_change way length most)
 rate_of_change way length most own moves shorter some room is =
     let positive : 0 < way = omega arith in
     record {
@@ -159,12 +160,12 @@ rates_more starts targets length limits n v a d v' a' d' v'' a'' d'' so_far own_
       deceleration_is = greatest_more n (loss_test starts targets length limits) d d' d'' so_far.deceleration_is own_d.within own_d.exact d_is;
     }
 
-pub rates_first : (starts targets : List ℤ) (length : ℕ) (limits : List Limits) → AreGreatestRates starts targets length limits 0 10000000000 10000000000 10000000000
+pub rates_first : (starts targets : List ℤ) (length : ℕ) (limits : List Limits) → AreGreatestRates starts targets length limits 0 MOST_STEP MOST_STEP MOST_STEP
 rates_first starts targets length limits =
     record { velocity_is = greatest_first (velocity_test starts targets length limits); acceleration_is = greatest_first (gain_test starts targets length limits); deceleration_is = greatest_first (loss_test starts targets length limits) }
 
 -- the greatest number that passes is the greatest rate, where smaller rates pass as well
-pub greatest_holds : (n most : ℕ) (test : ℕ → ℕ → Bool) → most ≡ 10000000000 → ((axis r s : ℕ) → axis < n → r ≤ s → test axis s ≡ true → test axis r ≡ true) → ((axis : ℕ) → axis < n → test axis 0 ≡ true) → IsGreatestRate n test (greatest_up_to most (λ r. all_axes n (λ axis. test axis r)))
+pub greatest_holds : (n most : ℕ) (test : ℕ → ℕ → Bool) → most ≡ MOST_STEP → ((axis r s : ℕ) → axis < n → r ≤ s → test axis s ≡ true → test axis r ≡ true) → ((axis : ℕ) → axis < n → test axis 0 ≡ true) → IsGreatestRate n test (greatest_up_to most (λ r. all_axes n (λ axis. test axis r)))
 greatest_holds n most test bound falls none =
     let all : ℕ → Bool = λ r. all_axes n (λ axis. test axis r) in
     let found : all (greatest_up_to most all) ≡ true = greatest_passes most all (every_axis n (λ axis. test axis 0) none) in
@@ -242,15 +243,15 @@ pub path_rates_are : (count : ℕ) (starts targets : List ℤ) (length : ℕ) (l
 unfolding path_velocity_of path_acceleration_of path_deceleration_of
 path_rates_are count starts targets length limits some axes =
     record {
-      velocity_is = greatest_holds count 10000000000 (velocity_test starts targets length limits) refl
+      velocity_is = greatest_holds count MOST_STEP (velocity_test starts targets length limits) refl
           (λ axis r s within order kept. velocity_falls (way_of starts targets axis) length (unsigned_abs (limits_at limits axis).vmax) r s some order kept)
           (λ axis within. (velocity_exact (way_of starts targets axis) length (unsigned_abs (limits_at limits axis).vmax) 0 some).1 (omega arith));
-      acceleration_is = greatest_holds count 10000000000 (gain_test starts targets length limits) refl
+      acceleration_is = greatest_holds count MOST_STEP (gain_test starts targets length limits) refl
           (λ axis r s within order kept. (let sizes = limit_sizes (limits_at limits axis) (axes.each axis within) in
           change_falls (way_of starts targets axis) length (unsigned_abs (limits_at limits axis).amax) r s some (omega (arith, sizes)) order kept))
           (λ axis within. (let sizes = limit_sizes (limits_at limits axis) (axes.each axis within) in
           change_none (way_of starts targets axis) length (unsigned_abs (limits_at limits axis).amax) some (omega (arith, sizes))));
-      deceleration_is = greatest_holds count 10000000000 (loss_test starts targets length limits) refl
+      deceleration_is = greatest_holds count MOST_STEP (loss_test starts targets length limits) refl
           (λ axis r s within order kept. (let sizes = limit_sizes (limits_at limits axis) (axes.each axis within) in
           change_falls (way_of starts targets axis) length (unsigned_abs (limits_at limits axis).dmax) r s some (omega (arith, sizes)) order kept))
           (λ axis within. (let sizes = limit_sizes (limits_at limits axis) (axes.each axis within) in
@@ -262,26 +263,26 @@ pub rates_of_the_path : (count : ℕ) (starts targets : List ℤ) (length : ℕ)
     (v ≡ path_velocity_of count starts targets length limits) × (a ≡ path_acceleration_of count starts targets length limits) × (d ≡ path_deceleration_of count starts targets length limits)
 unfolding path_velocity_of path_acceleration_of path_deceleration_of
 rates_of_the_path count starts targets length limits v a d are = (
-  greatest_is count 10000000000 (velocity_test starts targets length limits) v refl are.velocity_is,
-  greatest_is count 10000000000 (gain_test starts targets length limits) a refl are.acceleration_is,
-  greatest_is count 10000000000 (loss_test starts targets length limits) d refl are.deceleration_is,
+  greatest_is count MOST_STEP (velocity_test starts targets length limits) v refl are.velocity_is,
+  greatest_is count MOST_STEP (gain_test starts targets length limits) a refl are.acceleration_is,
+  greatest_is count MOST_STEP (loss_test starts targets length limits) d refl are.deceleration_is,
 )
 
 -- a record of such sizes is in range
-limits_of_sizes : (length v a d : ℕ) → length ≤ 2000000000000000 → 1 ≤ v → v ≤ 10000000000 → 1 ≤ a → a ≤ d → d ≤ 10000000000 → AreLimits (record { lo = pos 0; hi = pos length; vmax = pos v; amax = pos a; dmax = pos d })
+limits_of_sizes : (length v a d : ℕ) → length ≤ MOST_WAY → 1 ≤ v → v ≤ MOST_STEP → 1 ≤ a → a ≤ d → d ≤ MOST_STEP → AreLimits (record { lo = pos 0; hi = pos length; vmax = pos v; amax = pos a; dmax = pos d })
 limits_of_sizes length v a d small v_some v_most a_some a_within d_most =
     record { lo_in_range = omega (arith, ints); ordered = omega (arith, ints); hi_in_range = omega (arith, ints); vmax_positive = omega (arith, ints); vmax_in_range = omega (arith, ints); amax_positive = omega (arith, ints); amax_within_dmax = omega (arith, ints); dmax_in_range = omega (arith, ints) }
 
 -- the greatest gain of speed is no more than the greatest loss
 pub gains_within_losses : (count : ℕ) (starts targets : List ℤ) (length : ℕ) (limits : List Limits) (v a d : ℕ) → 0 < length → AreAxesLimits count limits → AreGreatestRates starts targets length limits count v a d → a ≤ d
 gains_within_losses count starts targets length limits v a d some axes are =
-    let a_most : a ≤ 10000000000 = are.acceleration_is.within in
+    let a_most : a ≤ MOST_STEP = are.acceleration_is.within in
     are.deceleration_is.most a a_most (λ axis within. (let sizes = limit_sizes (limits_at limits axis) (axes.each axis within) in
     change_more (way_of starts targets axis) length (unsigned_abs (limits_at limits axis).amax) (unsigned_abs (limits_at limits axis).dmax) a some (omega (arith, sizes)) (omega (arith, sizes))
     (are.acceleration_is.passes a axis (omega arith) within)))
 
 -- the greatest rates of a path are limits of it
-pub rates_are_limits : (count : ℕ) (starts targets : List ℤ) (length : ℕ) (limits : List Limits) (v a d : ℕ) → 0 < length → length ≤ 2000000000000000 → AreAxesLimits count limits → ((axis : ℕ) → axis < count → way_of starts targets axis ≤ length) →
+pub rates_are_limits : (count : ℕ) (starts targets : List ℤ) (length : ℕ) (limits : List Limits) (v a d : ℕ) → 0 < length → length ≤ MOST_WAY → AreAxesLimits count limits → ((axis : ℕ) → axis < count → way_of starts targets axis ≤ length) →
     AreGreatestRates starts targets length limits count v a d →
     AreLimits (record { lo = pos 0; hi = pos length; vmax = pos v; amax = pos a; dmax = pos d })
 rates_are_limits count starts targets length limits v a d some small axes longest are =
@@ -289,9 +290,9 @@ rates_are_limits count starts targets length limits v a d some small axes longes
     velocity_one (way_of starts targets axis) length (unsigned_abs (limits_at limits axis).vmax) some (longest axis within) (omega (arith, sizes)))) in
     let a_some : 1 ≤ a = are.acceleration_is.most 1 (omega arith) (λ axis within. (let sizes = limit_sizes (limits_at limits axis) (axes.each axis within) in
     change_one (way_of starts targets axis) length (unsigned_abs (limits_at limits axis).amax) some (longest axis within) (omega (arith, sizes)))) in
-    let v_most : v ≤ 10000000000 = are.velocity_is.within in
-    let a_most : a ≤ 10000000000 = are.acceleration_is.within in
-    let d_most : d ≤ 10000000000 = are.deceleration_is.within in
+    let v_most : v ≤ MOST_STEP = are.velocity_is.within in
+    let a_most : a ≤ MOST_STEP = are.acceleration_is.within in
+    let d_most : d ≤ MOST_STEP = are.deceleration_is.within in
     let a_within : a ≤ d = gains_within_losses count starts targets length limits v a d some axes are in
     limits_of_sizes length v a d small v_some v_most a_some a_within d_most
 
@@ -316,7 +317,7 @@ moving_path_is count starts targets limits length v a d h x y z is some are h_is
     let rates = rates_of_the_path count starts targets length limits v a d are in
     rw (h_is, x_is, y_is, z_is, rates.0, rates.1, rates.2) (sym (moving_path count starts targets limits length is some))
 
-pub limits_in_range_of : (count : ℕ) (starts targets : List ℤ) (limits : List Limits) (length v a d : ℕ) (h x y z : ℤ) → 0 < length → length ≤ 2000000000000000 → AreAxesLimits count limits → ((axis : ℕ) → axis < count → way_of starts targets axis ≤ length) → AreGreatestRates starts targets length limits count v a d →
+pub limits_in_range_of : (count : ℕ) (starts targets : List ℤ) (limits : List Limits) (length v a d : ℕ) (h x y z : ℤ) → 0 < length → length ≤ MOST_WAY → AreAxesLimits count limits → ((axis : ℕ) → axis < count → way_of starts targets axis ≤ length) → AreGreatestRates starts targets length limits count v a d →
     h ≡ pos length → x ≡ pos v → y ≡ pos a → z ≡ pos d → AreLimits (limits_record (pos 0) h x y z)
 limits_in_range_of count starts targets limits length v a d h x y z some small axes longest are h_is x_is y_is z_is =
     rw (h_is, x_is, y_is, z_is) (rates_are_limits count starts targets length limits v a d some small axes longest are)

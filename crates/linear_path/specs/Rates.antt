@@ -1,19 +1,20 @@
 -- The greatest rates that the first axes of a line allow.
 use Rattle.std.specs.Prelude.{◌≡◌, ℕ, ◌<◌, ◌≤◌, ℤ, unsigned_abs, Bool, true, IsTrue, ◌↔◌, List}
+use Rattle.motion_numbers.specs.declared.TheConstants.{MOST_STEP}
 use Rattle.kin_core.specs.declared.limits.Limits.{Limits}
 use Rattle.linear_path.specs.Line.{way_of, keeps_velocity, keeps_change}
 use Rattle.linear_path.specs.Path.{limits_at}
 
 -- the rates up to this one, and no others up to 10^10, pass the test
 pub record IsRateOf (rate : ℕ) (test : ℕ → Bool) : Type 0 where
-  pub within : rate ≤ 10000000000
-  pub exact : (r : ℕ) → r ≤ 10000000000 → IsTrue (test r) ↔ (r ≤ rate)
+  pub within : rate ≤ MOST_STEP
+  pub exact : (r : ℕ) → r ≤ MOST_STEP → IsTrue (test r) ↔ (r ≤ rate)
 
 -- the rates up to this one, and no others up to 10^10, pass the test of each of the first n axes
 pub record IsGreatestRate (n : ℕ) (test : ℕ → ℕ → Bool) (rate : ℕ) : Type 0 where
-  pub within : rate ≤ 10000000000
+  pub within : rate ≤ MOST_STEP
   pub passes : (r axis : ℕ) → r ≤ rate → axis < n → test axis r ≡ true
-  pub most : (r : ℕ) → r ≤ 10000000000 → ((axis : ℕ) → axis < n → test axis r ≡ true) → r ≤ rate
+  pub most : (r : ℕ) → r ≤ MOST_STEP → ((axis : ℕ) → axis < n → test axis r ≡ true) → r ≤ rate
 
 -- a velocity of the path is allowed by an axis
 abbrev pub velocity_test : List ℤ → List ℤ → ℕ → List Limits → ℕ → ℕ → Bool

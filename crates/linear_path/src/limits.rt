@@ -8,6 +8,7 @@ ghost use Rattle.linear_path.specs.Rates.{IsRateOf, AreGreatestRates};
 
 use crate::line::LinePath;
 use kin_core::Limits;
+use motion_numbers::{MOST_STEP, MOST_WAY};
 
 const MOST_RATE: u64 = 10_000_000_000;
 
@@ -53,7 +54,7 @@ fn path_rates(line: &LinePath, length: u64, limits: &[Limits]) -> PathRates
     requires axes { AreAxesLimits line.now.count limits.now }
     requires some { 0 < length }
     requires longest { length ≡ longest_way_of line.now.count line.now.starts line.now.targets }
-    requires in_range { length ≤ 2000000000000000 }
+    requires in_range { length ≤ MOST_WAY }
     ensures { AreGreatestRates line.now.starts line.now.targets length limits.now
         line.now.count result.velocity result.acceleration result.deceleration }
 {
@@ -78,7 +79,7 @@ fn axis_rates(way: u64, length: u64, limits: &Limits) -> PathRates
     requires axis { AreAxisLimits limits.now }
     requires longest { way ≤ length }
     requires some { 0 < length }
-    requires in_range { length ≤ 2000000000000000 }
+    requires in_range { length ≤ MOST_WAY }
     ensures velocity { IsRateOf result.velocity
         (keeps_velocity way length (unsigned_abs limits.now.vmax)) }
     ensures acceleration { IsRateOf result.acceleration
@@ -96,8 +97,8 @@ fn axis_rates(way: u64, length: u64, limits: &Limits) -> PathRates
 // The greatest velocity of the path at which an axis of this way goes no faster than `vmax`.
 fn greatest_velocity(way: u64, length: u64, vmax: u64) -> u64
     requires some { 0 < length }
-    requires in_range { length ≤ 2000000000000000 }
-    requires rate { vmax ≤ 10000000000 }
+    requires in_range { length ≤ MOST_WAY }
+    requires rate { vmax ≤ MOST_STEP }
     ensures { IsRateOf result (keeps_velocity way length vmax) }
 {
     if way == 0 {
@@ -111,9 +112,9 @@ fn greatest_velocity(way: u64, length: u64, vmax: u64) -> u64
 fn greatest_change(way: u64, length: u64, most: u64) -> u64
     requires longest { way ≤ length }
     requires some { 0 < length }
-    requires in_range { length ≤ 2000000000000000 }
+    requires in_range { length ≤ MOST_WAY }
     requires room { 1 ≤ most }
-    requires rate { most ≤ 10000000000 }
+    requires rate { most ≤ MOST_STEP }
     ensures { IsRateOf result (keeps_change way length most) }
 {
     if way == 0 {
@@ -128,10 +129,10 @@ fn greatest_change(way: u64, length: u64, most: u64) -> u64
 // The rate of an axis times the length of the path over its way, up to the greatest rate.
 fn greatest_rate(rate: u64, length: u64, way: u64) -> u64
     requires way { 0 < way }
-    requires length { length ≤ 2000000000000000 }
-    requires rate { rate ≤ 10000000000 }
-    ensures value { result ≡ min 10000000000 (rate * length / way) }
-    ensures most { result ≤ 10000000000 }
+    requires length { length ≤ MOST_WAY }
+    requires rate { rate ≤ MOST_STEP }
+    ensures value { result ≡ min MOST_STEP (rate * length / way) }
+    ensures most { result ≤ MOST_STEP }
 {
     (rate as u128 * length as u128 / way as u128).min(MOST_RATE as u128) as u64
 }

@@ -3,6 +3,8 @@
 ghost use Rattle.std.specs.Prelude.{◌≡◌, ◌<◌, ◌≤◌};
 ghost use Rattle.linear_path.specs.Line.{AreInRange};
 
+use motion_numbers::MOST_WAY;
+
 /// A straight line of 2 to 6 axes, from their starts to their targets, in internal units within
 /// 10^15 of 0. Each place of the path is one unit of the longest way.
 #[derive(Clone, Copy, Debug, PartialEq, Eq)]
@@ -26,7 +28,7 @@ impl LinePath {
     pub(crate) fn way(&self, axis: u8) -> u64
         requires { axis < 6 }
         ensures value { result ≡ way_of self.now.starts self.now.targets axis }
-        ensures small { result ≤ 2000000000000000 }
+        ensures small { result ≤ MOST_WAY }
     {
         self.targets[axis as usize].abs_diff(self.starts[axis as usize])
     }
@@ -34,7 +36,7 @@ impl LinePath {
     // The longest way of an axis: the length of the path.
     pub(crate) fn longest_way(&self) -> u64
         ensures value { result ≡ longest_way_of self.now.count self.now.starts self.now.targets }
-        ensures small { result ≤ 2000000000000000 }
+        ensures small { result ≤ MOST_WAY }
     {
         let mut longest = 0;
         for axis in 0..self.count {

@@ -2,6 +2,7 @@
 
 ghost use Rattle.std.specs.Prelude.{◌≡◌, ◌*◌, ◌/◌, ◌<◌, ◌≤◌, ◌-ℤ◌, unsigned_abs};
 ghost use Rattle.linear_path.specs.Line.{part_of, place_between};
+ghost use Rattle.motion_numbers.specs.Ranges.{IsPlace};
 
 // The part of a way that an axis has gone at place `s` of a path, rounded down.
 #[tactic(auto, unfolding(crate::specs::Line::part_of))]
@@ -37,12 +38,12 @@ fn scaled(a: u64, b: u64, d: u64) -> u64
 
 // The place of an axis that goes from a start to a target, at place `s` of a path.
 pub fn place_at(start: i64, target: i64, length: u64, s: u64) -> i64
-    requires start_in_range { unsigned_abs start ≤ 1000000000000000 }
-    requires target_in_range { unsigned_abs target ≤ 1000000000000000 }
+    requires start_in_range { IsPlace start }
+    requires target_in_range { IsPlace target }
     requires longest { unsigned_abs (target -ℤ start) ≤ length }
     requires place { s ≤ length }
     ensures value { result ≡ place_between start target length s }
-    ensures small { unsigned_abs result ≤ 1000000000000000 }
+    ensures small { IsPlace result }
 {
     let gone = part(target.abs_diff(start), length, s) as i64;
     if target < start {

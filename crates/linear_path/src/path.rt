@@ -1,6 +1,9 @@
 // What a path is: a way that several axes go together, place by place.
 
 ghost use Rattle.std.specs.Prelude.{◌≡◌, ℕ, ◌<◌, ◌≤◌, ℤ, pos, ◌-ℤ◌, ◌≤ℤ◌, unsigned_abs, List};
+ghost use Rattle.motion_numbers.specs.Ranges.{IsPlace};
+
+use motion_numbers::MOST_WAY;
 
 /// A way that several axes go together: at each place 0 to `length()` every axis has one setpoint.
 /// All are in internal units, and the axes are counted from 0.
@@ -25,7 +28,7 @@ pub trait Path {
     fn length(&self) -> i64
         ensures value { result ≡ length_of self.now }
         ensures not_negative { pos 0 ≤ℤ result }
-        ensures in_range { result ≤ℤ pos 2000000000000000 };
+        ensures in_range { result ≤ℤ pos MOST_WAY };
 
     /// How many axes go along the path.
     fn axes(&self) -> u8
@@ -37,7 +40,7 @@ pub trait Path {
         requires from_the_start { pos 0 ≤ℤ s }
         requires to_the_target { s ≤ℤ length_of self.now }
         ensures value { result ≡ place_of self.now axis s }
-        ensures small { unsigned_abs result ≤ 1000000000000000 };
+        ensures small { IsPlace result };
 
     // Place 0 is the start.
     ghost begins_at_the_start: { (path : Self) (axis : ℕ) → axis < count_of path →

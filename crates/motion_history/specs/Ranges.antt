@@ -1,6 +1,7 @@
 -- The ranges of a configuration's numbers.
 use Rattle.std.specs.Prelude.{ℕ, Bool, ◌&&◌, ◌==◌, unsigned_abs, nat_lt, if◌then◌else◌, ℤ, pos, neg_ℤ, int_le, int_lt}
 use Rattle.std.specs.Int.{int_div_euclid, int_rem_euclid}
+use Rattle.motion_numbers.specs.declared.TheConstants.{MOST_INCREMENT, MOST_PLACE, MOST_STEP}
 use Rattle.kin_core.specs.declared.limits.Limits.{Limits}
 use Rattle.axis_state.specs.declared.definition.AxisDef.{AxisDef}
 use Rattle.command_pool.specs.Kinds.{acts_on_group}
@@ -14,13 +15,13 @@ is_between low z high = int_le low z && int_le z high
 -- whether the least and the greatest place of an axis are in range, in internal units. This project's profile
 abbrev pub are_places : Limits → Bool
 are_places l =
-    int_le (neg_ℤ (pos 1000000000000000)) l.lo && int_lt l.lo l.hi && int_le l.hi (pos 1000000000000000)
+    int_le (neg_ℤ (pos MOST_PLACE)) l.lo && int_lt l.lo l.hi && int_le l.hi (pos MOST_PLACE)
 
 -- whether the greatest steps of an axis and of their changes are in range, per cycle. This project's profile
 abbrev pub are_speeds : Limits → Bool
 are_speeds l =
-    is_between (pos 1) l.vmax (pos 10000000000) && is_between (pos 2) l.amax (pos 10000000000) &&
-    is_between l.amax l.dmax (pos 10000000000)
+    is_between (pos 1) l.vmax (pos MOST_STEP) && is_between (pos 2) l.amax (pos MOST_STEP) &&
+    is_between l.amax l.dmax (pos MOST_STEP)
 
 -- whether the target counts of all places of an axis that was not homed are 32-bit numbers. IEC 61800-7-201, object 607Ah
 abbrev pub has_counts : Limits → ℤ → Bool
@@ -34,7 +35,7 @@ is_start l inc start = is_between l.lo start l.hi && (unsigned_abs (int_rem_eucl
 -- whether an axis may have these limits, this increment and this start. This project's profile
 unfoldable pub is_axis_range : Limits → ℤ → ℤ → Bool
 is_axis_range l inc start =
-    are_places l && are_speeds l && is_between (pos 1) inc (pos 1000000000) && has_counts l inc && is_start l inc start
+    are_places l && are_speeds l && is_between (pos 1) inc (pos MOST_INCREMENT) && has_counts l inc && is_start l inc start
 
 -- whether an axis is in its ranges. This project's profile
 abbrev pub is_axis : AxisDef → Bool

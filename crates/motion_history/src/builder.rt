@@ -12,6 +12,7 @@ ghost use Rattle.motion_history.specs.Faults.{FaultsBy};
 use crate::config::{BlockDef, Config, GroupDef, Items};
 use axis_state::{AxisDef, Limits, Name, is_name};
 use command_pool::BlockKind;
+use motion_numbers::MOST_INCREMENT;
 use std::alloc::{AllocFailed, Global};
 use std::marker::Model;
 
@@ -405,7 +406,7 @@ fn are_speeds(limits: &Limits) -> bool
 
 // Whether the places of an axis have target counts of 32 bits.
 fn has_counts(limits: &Limits, inc: i64) -> bool
-    requires { IsTrue (ranges.is_between (pos 1) inc (pos 1000000000)) }
+    requires { IsTrue (ranges.is_between (pos 1) inc (pos MOST_INCREMENT)) }
     ensures { result ≡ ranges.has_counts limits.now inc }
 {
     -2_147_483_648 <= limits.lo.div_euclid(inc) && limits.hi.div_euclid(inc) <= 2_147_483_647
@@ -413,7 +414,7 @@ fn has_counts(limits: &Limits, inc: i64) -> bool
 
 // Whether the start is a multiple of the increment within the limits.
 fn is_start(limits: &Limits, inc: i64, start: i64) -> bool
-    requires { IsTrue (ranges.is_between (pos 1) inc (pos 1000000000)) }
+    requires { IsTrue (ranges.is_between (pos 1) inc (pos MOST_INCREMENT)) }
     ensures { result ≡ ranges.is_start limits.now inc start }
 {
     is_between(limits.lo, start, limits.hi) && start.rem_euclid(inc).unsigned_abs() == 0
@@ -426,7 +427,7 @@ fn is_axis_range(limits: &Limits, inc: i64, start: i64) -> bool
 {
     are_places(limits)
         && are_speeds(limits)
-        && is_between(1, inc, 1_000_000_000)
+        && is_between(1, inc, MOST_INCREMENT as i64)
         && has_counts(limits, inc)
         && is_start(limits, inc, start)
 }

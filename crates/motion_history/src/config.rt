@@ -4,9 +4,9 @@ ghost use Rattle.std.specs.Prelude.{◌≡◌, IfOk, map};
 ghost use Rattle.motion_history.specs.Setup.{IsSetup};
 ghost use Rattle.motion_history.specs.Items.{setup_of};
 
-use crate::refused::OutOfMemory;
 use axis_state::{AxisDef, Name};
 use command_pool::BlockKind;
+use out_of_memory::OutOfMemory;
 use std::alloc::{AllocError, Global};
 use std::marker::Model;
 

@@ -8,10 +8,10 @@ ghost use Rattle.motion_history.specs.Rows as kept;
 ghost use Rattle.motion_history.specs.Stored.{entry_of, HasRows};
 
 use crate::config::Config;
-use crate::refused::OutOfMemory;
 use axis_state::AxisRow;
 use fb_outputs::{Inputs, Outputs};
 use group_state::GroupRow;
+use out_of_memory::OutOfMemory;
 use std::alloc::{AllocError, Global};
 use std::marker::Model;
 

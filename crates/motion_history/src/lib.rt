@@ -14,4 +14,5 @@ pub use fb_outputs::{BlockKind, BufferMode, Inputs, Outputs};
 pub use group_state::{GroupRow, GroupState};
 pub use history::{EntryLook, History};
 pub use laws::axes_are_in_range;
-pub use refused::{OutOfMemory, Rule, TextFault, TextRefused, TraceVersion};
+pub use out_of_memory::OutOfMemory;
+pub use refused::{Rule, TextFault, TextRefused, TraceVersion};

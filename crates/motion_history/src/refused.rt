@@ -1,9 +1,5 @@
 // How a text is refused, and in which version one is written.
 
-/// There was no memory.
-#[derive(Clone, Copy, Debug, PartialEq, Eq)]
-pub struct OutOfMemory;
-
 /// A rule of a text's format: its letter and its number, as in `B8`.
 #[derive(Clone, Copy, Debug, PartialEq, Eq)]
 pub struct Rule {

@@ -4,6 +4,7 @@ ghost use Rattle.std.specs.Prelude.{◌≡◌, None, if◌then◌else◌, ◌≤
 ghost use Rattle.kin_core.specs.Admissible.{AreLimits, IsKept};
 ghost use Rattle.motion_kernel.specs.Axes as spec;
 ghost use Rattle.motion_kernel.specs.AxisKept.{IsAxisKept, IsMoveWithin};
+ghost use Rattle.motion_numbers.specs.Ranges.{IsStep, IsWay};
 
 use axis_state::{AxisRow, AxisState, setpoints_have_counts, target_count};
 use cia402_machine::{DriveIn, DriveOut};
@@ -71,7 +72,7 @@ pub fn opened(def: &AxisDef) -> Axis
 fn wanted_step(axis: &Axis) -> i64
     requires { IsAxisKept axis.now }
     ensures value { result ≡ spec.wanted_step_of axis.now }
-    ensures small { unsigned_abs result ≤ 10000000000 }
+    ensures small { IsStep result }
 {
     match &axis.active {
         None => 0,
@@ -84,7 +85,7 @@ fn step_toward(axis: &Axis, active: &Move) -> i64
     requires kept { IsAxisKept axis.now }
     requires within { IsMoveWithin axis.now.limits active.now }
     ensures value { result ≡ spec.step_toward axis.now active.now }
-    ensures small { unsigned_abs result ≤ 10000000000 }
+    ensures small { IsStep result }
 {
     move_step(
         active.target - axis.setpoint,
@@ -98,7 +99,7 @@ fn next_setpoint(axis: &Axis) -> i64
     requires { IsAxisKept axis.now }
     ensures value { result ≡ spec.next_setpoint axis.now }
     ensures kept { IsKept axis.now.limits axis.now.setpoint result }
-    ensures small { unsigned_abs result ≤ 2000000000000000 }
+    ensures small { IsWay result }
 {
     let wanted = wanted_step(axis);
     axis.setpoint + nearest_safe(&axis.limits, axis.previous, axis.setpoint, wanted)

@@ -5,7 +5,6 @@ mod files;
 mod host_files;
 mod memory_files;
 mod memory_sink;
-mod out_of_memory;
 mod sink;
 mod std_sink;
 

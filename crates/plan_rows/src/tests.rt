@@ -3,7 +3,7 @@
 ghost use Rattle.std.specs.Prelude.{◌≡◌, IsTrue};
 ghost use Rattle.kin_core.specs.Admissible.{AreLimits, IsKept};
 ghost use Rattle.linear_path.specs.Path.{AreAxisLimits};
-ghost use Rattle.trapezoid_plan.specs.Rates.{AreRates};
+ghost use Rattle.command_pool.specs.Rates.{AreRates};
 
 use command_pool::Rates;
 use follow_plan::{gear_difference, gear_toward};

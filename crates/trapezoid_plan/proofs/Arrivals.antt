@@ -5,14 +5,14 @@ use Rattle.std.proofs.lemmas.Int.{ints, by_lt_z}
 use Rattle.std.proofs.lemmas.Nat.{div-add-mod', mod_below, mul-le}
 use Rattle.kin_core.specs.declared.limits.Limits.{Limits}
 use Rattle.kin_core.specs.Admissible.{AreLimits, IsKept}
-use Rattle.kin_core.specs.Run.{run_of, cut_at_zero}
+use Rattle.motion_numbers.specs.Run.{run_of, cut_at_zero}
 use Rattle.kin_core.specs.Taken.{reach_of}
 use Rattle.kin_core.specs.Toward.{toward_zero}
 use Rattle.kin_core.proofs.Runs.{cut_is, run_unfold, run_small, run_ge, run_mono, run_less, run_zero}
 use Rattle.kin_core.proofs.Reaches.{reach_fits, reach_greatest, fits_below_reach}
 use Rattle.command_pool.specs.declared.rates.Rates.{Rates}
 use Rattle.ramp_root.proofs.Orders.{by_order}
-use Rattle.trapezoid_plan.specs.Rates.{AreRates}
+use Rattle.command_pool.specs.Rates.{AreRates}
 use Rattle.trapezoid_plan.specs.CyclesBound.{cycles_of_sizes}
 use Rattle.trapezoid_plan.specs.MoveStep.{step_ahead_of, move_step_of}
 use Rattle.trapezoid_plan.specs.MoveRun.{IsMoveWithin, move_taken_of, IsDoneWithin}

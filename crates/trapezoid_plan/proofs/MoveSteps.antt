@@ -1,14 +1,14 @@
 -- The steps that may follow in whole numbers, and the move step among them.
 use Rattle.std.proofs.Common.{◌≡◌, ℕ, ◌+◌, ◌-◌, ◌≤◌, ◌<◌, ℤ, pos, neg_ℤ, ◌<ℤ◌, ◌≤ℤ◌, unsigned_abs, max, min, arith, refl, ◌∙◌, sym, ap}
 use Rattle.std.proofs.lemmas.Int.{ints, by_lt_z}
-use Rattle.kin_core.specs.Run.{run_of, cut_at_zero}
+use Rattle.motion_numbers.specs.Run.{run_of, cut_at_zero}
 use Rattle.kin_core.specs.Taken.{reach_of}
 use Rattle.kin_core.specs.Toward.{toward_zero}
 use Rattle.kin_core.proofs.Runs.{cut_is}
 use Rattle.kin_core.proofs.Reaches.{reach_greatest, fits_below_reach}
 use Rattle.command_pool.specs.declared.rates.Rates.{Rates}
 use Rattle.ramp_root.proofs.Orders.{by_order}
-use Rattle.trapezoid_plan.specs.Rates.{AreRates}
+use Rattle.command_pool.specs.Rates.{AreRates}
 use Rattle.trapezoid_plan.specs.MoveStep.{MayFollow, IsStepAhead, IsMoveStep, step_ahead_of, move_step_of}
 use Rattle.trapezoid_plan.proofs.TowardZero.{toward_zero-ahead, toward_zero-turned}
 use Rattle.trapezoid_plan.proofs.StepsAhead.{MayFollowSize, step_ahead-closed, move_step-forward, move_step-backward, move_step-slowed}

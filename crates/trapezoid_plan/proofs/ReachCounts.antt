@@ -1,7 +1,7 @@
 -- The greatest step from which the braking fits a way, from the greatest number of its terms.
 use Rattle.std.proofs.Common.{◌≡◌, ℕ, zero, suc, ◌+◌, ◌-◌, ◌*◌, ◌/◌, ◌%◌, ◌≤◌, ◌<◌, min, arith, lit<, ◌∙◌, ap, sym}
 use Rattle.std.proofs.lemmas.Nat.{div-add-mod', mod_below, mul-le}
-use Rattle.kin_core.specs.Run.{run_of}
+use Rattle.motion_numbers.specs.Run.{run_of}
 use Rattle.kin_core.specs.Taken.{reach_of}
 use Rattle.kin_core.proofs.Runs.{run_unfold, run_small, run_zero, run_ge}
 use Rattle.kin_core.proofs.Reaches.{reach_is, reach_fits}

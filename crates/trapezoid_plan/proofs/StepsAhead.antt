@@ -3,7 +3,7 @@ use Rattle.std.proofs.Common.{◌≡◌, ℕ, ◌+◌, ◌-◌, ◌≤◌, ◌<�
 use Rattle.std.proofs.lemmas.Bool.{and_parts}
 use Rattle.std.proofs.lemmas.Bool.Decides.{nat_tests}
 use Rattle.std.proofs.lemmas.Int.{ints}
-use Rattle.kin_core.specs.Run.{run_of, cut_at_zero}
+use Rattle.motion_numbers.specs.Run.{run_of, cut_at_zero}
 use Rattle.kin_core.specs.Taken.{reach_of}
 use Rattle.kin_core.specs.Toward.{toward_zero}
 use Rattle.kin_core.proofs.Reaches.{reach_greatest, fits_below_reach, below_reach_of}

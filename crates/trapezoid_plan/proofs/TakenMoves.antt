@@ -3,12 +3,12 @@ use Rattle.std.proofs.Common.{◌≡◌, ℕ, suc, ◌-◌, ◌≤◌, ◌<◌, 
 use Rattle.std.proofs.lemmas.Int.{ints}
 use Rattle.kin_core.specs.declared.limits.Limits.{Limits}
 use Rattle.kin_core.specs.Admissible.{AreLimits, IsKept, IsSafe}
-use Rattle.kin_core.specs.Run.{run_of, cut_at_zero}
+use Rattle.motion_numbers.specs.Run.{run_of, cut_at_zero}
 use Rattle.kin_core.specs.Toward.{toward_zero}
 use Rattle.kin_core.proofs.SafeSteps.{taken_step_is_exact, taken_step_is_safe, safe_keeps}
 use Rattle.kin_core.proofs.Moves.{follows_up, follows_down, up_is_safe, down_is_safe, braking_is_cut}
 use Rattle.command_pool.specs.declared.rates.Rates.{Rates}
-use Rattle.trapezoid_plan.specs.Rates.{AreRates}
+use Rattle.command_pool.specs.Rates.{AreRates}
 use Rattle.trapezoid_plan.specs.MoveStep.{HasMoveStep, step_ahead_of, move_step_of}
 use Rattle.trapezoid_plan.specs.MoveRun.{IsMoveWithin, move_taken_of, IsDoneWithin}
 use Rattle.trapezoid_plan.proofs.StepsAhead.{MayFollowSize, move_step-forward, move_step-backward}

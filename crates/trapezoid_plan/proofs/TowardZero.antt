@@ -1,7 +1,7 @@
 -- A step that is moved toward zero, by cases.
 use Rattle.std.proofs.Common.{◌≡◌, ◌-◌, ◌≤◌, true, false, ℤ, pos, neg_ℤ, ◌+ℤ◌, ◌-ℤ◌, ◌<ℤ◌, ◌≤ℤ◌, int_lt, int_le, unsigned_abs, arith, refl, ◌∙◌, sym, to_z, of_z, w64}
 use Rattle.std.proofs.lemmas.Int.{ints, by_lt_z}
-use Rattle.kin_core.specs.Run.{cut_at_zero}
+use Rattle.motion_numbers.specs.Run.{cut_at_zero}
 use Rattle.kin_core.proofs.Runs.{cut_is}
 use Rattle.ramp_root.proofs.Orders.{choose-true, choose-false}
 use Rattle.kin_core.specs.Toward.{toward_zero}

@@ -3,7 +3,7 @@ use Rattle.std.proofs.Common.{◌≡◌, ℕ, ◌+◌, ◌-◌, ◌≤◌, ◌<�
 use Rattle.std.specs.Ordering.{int_eq}
 use Rattle.std.proofs.lemmas.Bool.Decides.{nat_tests}
 use Rattle.std.proofs.lemmas.Int.{ints, by_lt_z}
-use Rattle.kin_core.specs.Run.{cut_at_zero}
+use Rattle.motion_numbers.specs.Run.{cut_at_zero}
 use Rattle.kin_core.proofs.Runs.{cut_is}
 use Rattle.kin_core.specs.Toward.{toward_zero}
 use Rattle.command_pool.specs.declared.rates.Rates.{Rates}

@@ -1,4 +1,3 @@
-pub mod Rates
 pub mod MoveStep
 pub mod VelocityStep
 pub mod CyclesBound

@@ -1,7 +1,7 @@
 -- The wanted step of a move: a trapezoid in whole steps.
 use Rattle.std.specs.Prelude.{◌≡◌, ℕ, ◌+◌, ◌-◌, Bool, ℤ, pos, neg_ℤ, ◌+ℤ◌, ◌-ℤ◌, ◌<ℤ◌, ◌≤ℤ◌, int_lt, int_le, nat_le, ◌&&◌, unsigned_abs, unwrap_or, ◌⊎◌, if◌then◌else◌}
 use Rattle.command_pool.specs.declared.rates.Rates.{Rates}
-use Rattle.kin_core.specs.Run.{run_of, cut_at_zero}
+use Rattle.motion_numbers.specs.Run.{run_of, cut_at_zero}
 pub use Rattle.kin_core.specs.Toward.{toward_zero}
 use Rattle.ramp_root.specs.Greatest.{greatest}
 

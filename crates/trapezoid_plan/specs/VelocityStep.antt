@@ -2,7 +2,7 @@
 use Rattle.std.specs.Prelude.{ℕ, ◌+◌, ◌-◌, Bool, ℤ, pos, neg_ℤ, int_lt, nat_lt, ◌&&◌, ◌||◌, min, max, unsigned_abs, if◌then◌else◌}
 use Rattle.std.specs.Ordering.{int_eq}
 use Rattle.command_pool.specs.declared.rates.Rates.{Rates}
-use Rattle.kin_core.specs.Run.{cut_at_zero}
+use Rattle.motion_numbers.specs.Run.{cut_at_zero}
 use Rattle.kin_core.specs.Toward.{toward_zero}
 
 -- whether v and w are both positive or both negative

@@ -3,10 +3,12 @@ ghost use Rattle.std.specs.Prelude.{◌≡◌, ℕ, ◌+◌, ◌/◌, ℤ, pos, 
 ghost use Rattle.kin_core.specs.declared.limits.Limits.{Limits};
 ghost use Rattle.kin_core.specs.Admissible.{AreLimits, IsKept, IsSafe};
 ghost use Rattle.command_pool.specs.declared.rates.Rates.{Rates};
-ghost use Rattle.trapezoid_plan.specs.Rates.{AreRates};
+ghost use Rattle.command_pool.specs.Rates.{AreRates};
 ghost use Rattle.trapezoid_plan.specs.MoveStep.{IsMoveStep, HasMoveStep, move_step_of};
 ghost use Rattle.trapezoid_plan.specs.MoveRun.{IsMoveWithin, IsDoneWithin, IsAtRestWithin, move_taken_of};
 ghost use Rattle.trapezoid_plan.specs.CyclesBound.{cycles_bound_of};
+
+use motion_numbers::MOST_WAY;
 
 /// The move step is the greatest step that may follow, or the old step slowed.
 pub fn move_steps_are_greatest()
@@ -32,7 +34,7 @@ pub fn move_steps_are_safe()
 /// target with step 0 within its cycles bound.
 pub fn moves_arrive_in_time()
     ensures { (limits : Limits) (rates : Rates) (target before now : ℤ) →
-        AreLimits limits → (limits.hi -ℤ limits.lo) ≤ℤ pos 2000000000000000 →
+        AreLimits limits → (limits.hi -ℤ limits.lo) ≤ℤ pos MOST_WAY →
         AreRates rates → IsMoveWithin limits rates target → IsKept limits before now →
         IsDoneWithin (cycles_bound_of (target -ℤ now) (now -ℤ before) rates)
         limits rates target before now }

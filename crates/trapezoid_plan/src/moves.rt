@@ -1,12 +1,14 @@
 // The wanted step of a move.
 ghost use Rattle.std.specs.Prelude.{◌≡◌, ◌+◌, pos, ◌≤ℤ◌, ◌≤◌, ◌<◌, unsigned_abs};
 ghost use Rattle.kin_core.specs.Taken.{reach_of};
-ghost use Rattle.trapezoid_plan.specs.Rates.{AreRates};
+ghost use Rattle.command_pool.specs.Rates.{AreRates};
 ghost use Rattle.trapezoid_plan.specs.MoveStep.{IsMoveStep, move_step_of, step_ahead_of};
+ghost use Rattle.motion_numbers.specs.Ranges.{IsStep, IsWay};
 
 use crate::halts::halt_step;
 use command_pool::Rates;
 use kin_core::ramp_sum;
+use motion_numbers::{MOST_STEP, MOST_WAY};
 use ramp_root::{Steps, greatest_count_counted};
 use std::marker::Brand;
 use std::sync::ledger::{Blank, Ledger};
@@ -15,11 +17,11 @@ use std::sync::ledger::{Blank, Ledger};
 /// the target, `old` is the step of the last cycle.
 pub fn move_step(distance: i64, old: i64, rates: &Rates) -> i64
     requires rates { AreRates rates.now }
-    requires distance { unsigned_abs distance ≤ 2000000000000000 }
-    requires old { unsigned_abs old ≤ 10000000000 }
+    requires distance { IsWay distance }
+    requires old { IsStep old }
     ensures value { result ≡ move_step_of distance old rates.now }
     ensures definition { IsMoveStep distance old rates.now result }
-    ensures small { unsigned_abs result ≤ 10000000000 }
+    ensures small { IsStep result }
 {
     move_from::<Brand>(distance, old, rates, Blank::new(1))
 }
@@ -30,10 +32,10 @@ fn move_from<L: Ledger>(distance: i64, old: i64, rates: &Rates, blank: Blank) ->
     requires parts { blank.parts ≡ L.parts }
     requires some { 0 < blank.parts }
     requires rates { AreRates rates.now }
-    requires distance { unsigned_abs distance ≤ 2000000000000000 }
-    requires old { unsigned_abs old ≤ 10000000000 }
+    requires distance { IsWay distance }
+    requires old { IsStep old }
     ensures value { result ≡ move_step_of distance old rates.now }
-    ensures small { unsigned_abs result ≤ 10000000000 }
+    ensures small { IsStep result }
 {
     let mut steps = Steps::<L>::open(blank);
     move_step_counted(distance, old, rates, &mut steps)
@@ -47,10 +49,10 @@ pub fn move_step_counted<L: Ledger>(
     steps: &mut Steps<L>,
 ) -> i64
     requires rates { AreRates rates.now }
-    requires distance { unsigned_abs distance ≤ 2000000000000000 }
-    requires old { unsigned_abs old ≤ 10000000000 }
+    requires distance { IsWay distance }
+    requires old { IsStep old }
     ensures value { result ≡ move_step_of distance old rates.now }
-    ensures small { unsigned_abs result ≤ 10000000000 }
+    ensures small { IsStep result }
     ensures cost { steps.new ≤ steps.old + 128 }
 {
     if 0 < distance && 0 <= old {
@@ -66,10 +68,10 @@ pub fn move_step_counted<L: Ledger>(
 // decides, and while it brakes onto the target the second.
 fn step_ahead<L: Ledger>(way: u64, speed: u64, rates: &Rates, steps: &mut Steps<L>) -> u64
     requires rates { AreRates rates.now }
-    requires speed { speed ≤ 10000000000 }
-    requires way { way ≤ 2000000000000000 }
+    requires speed { speed ≤ MOST_STEP }
+    requires way { way ≤ MOST_WAY }
     ensures value { result ≡ step_ahead_of way speed rates.now }
-    ensures small { result ≤ 10000000000 }
+    ensures small { result ≤ MOST_STEP }
     ensures cost { steps.new ≤ steps.old + 64 }
 {
     let d = rates.d as u64;
@@ -90,8 +92,8 @@ fn step_ahead<L: Ledger>(way: u64, speed: u64, rates: &Rates, steps: &mut Steps<
 #[inline(never)]
 pub fn reach<L: Ledger>(way: u64, d: u64, steps: &mut Steps<L>) -> u64
     requires least { 1 ≤ d }
-    requires most { d ≤ 10000000000 }
-    requires way { way ≤ 2000000000000000 }
+    requires most { d ≤ MOST_STEP }
+    requires way { way ≤ MOST_WAY }
     ensures value { result ≡ reach_of way d }
     ensures cost { steps.new ≤ steps.old + 64 }
 {

@@ -1,15 +1,16 @@
 // The step ahead by halving alone, which a test compares with.
 ghost use Rattle.std.specs.Prelude.{◌≡◌, ◌≤◌};
-ghost use Rattle.trapezoid_plan.specs.Rates.{AreRates};
+ghost use Rattle.command_pool.specs.Rates.{AreRates};
 ghost use Rattle.trapezoid_plan.specs.MoveStep.{step_ahead_of};
 
 use command_pool::Rates;
 use kin_core::greatest_ramp;
+use motion_numbers::MOST_STEP;
 
 // The size of the step toward a target ahead.
 pub(crate) fn step_ahead_by_halving(way: u64, speed: u64, rates: &Rates) -> u64
     requires rates { AreRates rates.now }
-    requires speed { speed ≤ 10000000000 }
+    requires speed { speed ≤ MOST_STEP }
     ensures value { result ≡ step_ahead_of way speed rates.now }
 {
     let d = rates.d as u64;

@@ -2,7 +2,7 @@
 
 ghost use Rattle.std.specs.Prelude.{◌≡◌, ◌<◌, IsTrue};
 ghost use Rattle.kin_core.specs.Admissible.{AreLimits, IsKept};
-ghost use Rattle.trapezoid_plan.specs.Rates.{AreRates};
+ghost use Rattle.command_pool.specs.Rates.{AreRates};
 
 use crate::plain::step_ahead_by_halving;
 use crate::{cycles_bound, halt_step, move_step, move_step_counted, velocity_step};

@@ -2,7 +2,7 @@
 use Rattle.std.proofs.Common.{◌≡◌, true, int_le, pos, ◌≤ℤ◌, unsigned_abs, arith, ◌∙◌, ap, sym, to_z, of_z, w64, FitsSigned, to_z-of_z}
 use Rattle.std.specs.Int.{w128}
 use Rattle.std.proofs.lemmas.Int.{ints}
-use Rattle.kin_core.specs.Run.{run_of, cut_at_zero}
+use Rattle.motion_numbers.specs.Run.{run_of, cut_at_zero}
 use Rattle.kin_core.proofs.Runs.{cut_is}
 use Rattle.trapezoid_plan.proofs.TowardZero.{le-says}
 use Rattle.blend_plan.specs.BlendStep.{crosses_at}

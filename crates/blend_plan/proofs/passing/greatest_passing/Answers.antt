@@ -1,7 +1,7 @@
 -- The greatest step that passes, by the order of the two velocities.
 use Rattle.std.proofs.Common.{◌+◌, arith, refl}
 use Rattle.std.proofs.lemmas.Int.{ints}
-use Rattle.kin_core.specs.Run.{cut_at_zero}
+use Rattle.motion_numbers.specs.Run.{cut_at_zero}
 use Rattle.trapezoid_plan.proofs.TowardZero.{rate-size}
 use Rattle.blend_plan.proofs.BlendSizes.{IsPassingTop, passing-top, passing-slow, passing-short, passing-fast}
 use Rattle.blend_plan.proofs.passing.greatest_passing.Given.{Over}

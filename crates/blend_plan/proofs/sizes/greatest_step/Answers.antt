@@ -1,7 +1,7 @@
 -- The greatest step that passes, or the greater of the two greatest steps.
 use Rattle.std.proofs.Common.{◌+◌, arith, refl}
 use Rattle.std.proofs.lemmas.Int.{ints}
-use Rattle.kin_core.specs.Run.{cut_at_zero}
+use Rattle.motion_numbers.specs.Run.{cut_at_zero}
 use Rattle.trapezoid_plan.proofs.TowardZero.{rate-size}
 use Rattle.blend_plan.proofs.BlendSizes.{IsLeadingTop, leading-passing, leading-both}
 use Rattle.blend_plan.proofs.sizes.greatest_step.Given.{Over}

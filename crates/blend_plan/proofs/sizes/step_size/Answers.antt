@@ -1,6 +1,6 @@
 -- The greatest step, or the old step slowed.
 use Rattle.std.proofs.Common.{◌≡◌, arith, unsigned_abs, to_z, of_z, w64}
-use Rattle.kin_core.specs.Run.{cut_at_zero}
+use Rattle.motion_numbers.specs.Run.{cut_at_zero}
 use Rattle.trapezoid_plan.proofs.TowardZero.{rate-size}
 use Rattle.blend_plan.proofs.BlendSizes.{blend-size-is}
 use Rattle.blend_plan.proofs.sizes.step_size.Goals as goal

@@ -1,7 +1,7 @@
 -- The parts of the taken step above and below zero, put together.
 use Rattle.std.proofs.Common.{ℕ, ◌-◌, ◌≤◌, ℤ, pos, neg_ℤ, ◌-ℤ◌, ◌≤ℤ◌, unsigned_abs, arith}
 use Rattle.std.proofs.lemmas.Int.{ints}
-use Rattle.kin_core.specs.Run.{cut_at_zero}
+use Rattle.motion_numbers.specs.Run.{cut_at_zero}
 use Rattle.kin_core.proofs.Runs.{cut_is}
 use Rattle.kin_core.proofs.Moves.{braking_is_cut}
 use Rattle.kin_core.proofs.laws.braking_steps_are_only_cut.Goals as goal

@@ -1,6 +1,6 @@
 -- What is known of the two steps between which the search goes on.
 use Rattle.std.proofs.Common.{◌<◌, ◌≤◌, ◌-◌}
-use Rattle.kin_core.specs.Run.{run_of}
+use Rattle.motion_numbers.specs.Run.{run_of}
 use Rattle.kin_core.proofs.ramp.greatest_ramp_below.Given as goal
 
 abbrev pub invariant-loop-fails : goal.invariant-loop-fails

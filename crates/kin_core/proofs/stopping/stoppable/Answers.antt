@@ -1,7 +1,7 @@
 -- Only the way in the direction of the step is to be looked at.
 use Rattle.std.proofs.Common.{◌-◌, ◌≤◌, ◌↔◌, IsTrue, ◌-ℤ◌, unsigned_abs, w64, FitsSigned, to_z-of_z, arith}
 use Rattle.std.proofs.lemmas.Int.{ints}
-use Rattle.kin_core.specs.Run.{run_of}
+use Rattle.motion_numbers.specs.Run.{run_of}
 use Rattle.kin_core.proofs.Stops.{stoppable_up, stoppable_down}
 use Rattle.kin_core.proofs.stopping.stoppable.Goals as goal
 

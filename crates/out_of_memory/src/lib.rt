@@ -1,4 +1,6 @@
-// The answer of a call that found no memory.
+//! Want of memory, the one answer that a call may always give where it takes memory.
+#![tactic(auto)]
+
 use std::alloc::AllocError;
 
 /// No memory was left. Nothing says when this comes.

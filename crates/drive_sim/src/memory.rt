@@ -1,5 +1,0 @@
-// Want of memory.
-
-/// There was no memory.
-#[derive(Clone, Copy, Debug, PartialEq, Eq)]
-pub struct OutOfMemory;

@@ -1,0 +1,18 @@
+//! The whole numbers of motion: their ranges, and the sums of the ramps that they make.
+#![tactic(auto)]
+
+/// The greatest size of a place, in internal units.
+pub const MOST_PLACE: u64 = 1_000_000_000_000_000;
+
+/// The greatest size of a way between two places, in internal units.
+pub const MOST_WAY: u64 = 2_000_000_000_000_000;
+
+/// The greatest size of a step, in internal units per cycle, and of its change from one cycle to
+/// the next.
+pub const MOST_STEP: u64 = 10_000_000_000;
+
+/// The greatest increment of a drive, in internal units.
+pub const MOST_INCREMENT: u64 = 1_000_000_000;
+
+/// The greatest numerator, as a size, and the greatest denominator of a gear's ratio.
+pub const MOST_RATIO: u64 = 1_000_000;
