@@ -1,5 +1,6 @@
 -- What a command keeps of an axis.
 use Rattle.std.specs.Prelude.{◌≡◌, refl, ◌⊎◌, ℕ, Bool, true, false, not, ◌&&◌, ◌||◌, ℤ, pos, neg_ℤ, ◌+ℤ◌, ◌-ℤ◌, int_le, Option, Some, None, is_some, is_none, List, [], ◌∷◌, ◌++◌, if◌then◌else◌}
+use Rattle.std.proofs.lemmas.Bool.{and_parts, not-false, or_parts}
 use Rattle.std.proofs.Common.{◌∙◌, sym, ap, subst, arith, inl, inr}
 use Rattle.std.proofs.lemmas.Int.{ints}
 use Rattle.axis_state.specs.Counts.{count_of, HasCounts}
@@ -25,7 +26,7 @@ use Rattle.axis_core.specs.Kept.{IsBetween, IsGear, IsSmallTarget}
 use Rattle.axis_core.specs.Refusals.{tests_of, is_outside, is_disabled, is_error_stop, is_stopping, is_homing, has_counts, breaks_counts, is_target_outside, is_bad_ratio, holds, refusal_of}
 use Rattle.axis_core.specs.Targets.{position_of, known_target_of, relative_target_of, target_from, move_target_of, command_before}
 use Rattle.axis_core.specs.declared.axis.Axis.{Axis}
-use Rattle.axis_core.proofs.KeptParts.{Based, begun-kept, not-outside, neither, small-within}
+use Rattle.axis_core.proofs.KeptParts.{Based, begun-kept, not-outside, small-within}
 use Rattle.axis_core.proofs.KeptRanges.{moving-of}
 use Rattle.axis_core.proofs.MayAdmit.{asked_in, NoneHolds, none-holds, of_kind, running-of, standstill-of}
 
@@ -126,7 +127,7 @@ rates-in l w v a d = record { velocity = not-outside (pos 1) w.rates.v l.vmax v;
 
 gear-in : (f : Follow) → is_bad_ratio f ≡ false → IsGear f
 gear-in (follow.Gear master n d) h =
-    let p = neither (is_outside (neg_ℤ (pos 1000000)) n (pos 1000000)) (is_outside (pos 1) d (pos 1000000)) h in
+    let p = or_parts (is_outside (neg_ℤ (pos 1000000)) n (pos 1000000)) (is_outside (pos 1) d (pos 1000000)) h in
     let ratio = not-outside (neg_ℤ (pos 1000000)) n (pos 1000000) p.0 in
     let least = ratio.above in
     let most = ratio.below in
@@ -138,22 +139,14 @@ gear-in _ h = tt
 inside-of : (k : BlockKind) (a : Axis) (o : Option ℤ) (t : ℤ) → o ≡ Some t → is_target_outside k a o ≡ false → IsBetween a.limits.lo t a.limits.hi × (breaks_counts k a t ≡ false)
 inside-of k a None t e h = absurd (cc)
 inside-of k a (Some u) t e h =
-    let p = neither (is_outside a.limits.lo u a.limits.hi) (breaks_counts k a u) h in
+    let p = or_parts (is_outside a.limits.lo u a.limits.hi) (breaks_counts k a u) h in
     let same : u ≡ t = cc in
     let P : ℤ → Type 0 = λ z. IsBetween a.limits.lo z a.limits.hi × (breaks_counts k a z ≡ false) in
     subst P same (not-outside a.limits.lo u a.limits.hi p.0, p.1)
 
-unnot : (x : Bool) → not x ≡ false → x ≡ true
-unnot true h = refl
-unnot false h = absurd (cc)
-
-two : (x y : Bool) → (x && y) ≡ true → (x ≡ true) × (y ≡ true)
-two true y h = (refl, h)
-two false y h = absurd (cc)
-
 counts-in : (l : Limits) (offset inc : ℤ) → not (has_counts l offset inc) ≡ false → HasCounts l offset inc
 counts-in l offset inc h =
-    let p = two (int_le (neg_ℤ (pos 2147483648)) (count_of l.lo offset inc)) (int_le (count_of l.hi offset inc) (pos 2147483647)) (unnot (has_counts l offset inc) h) in
+    let p = and_parts (int_le (neg_ℤ (pos 2147483648)) (count_of l.lo offset inc)) (int_le (count_of l.hi offset inc) (pos 2147483647)) (not-false (has_counts l offset inc) h) in
     let least : int_le (neg_ℤ (pos 2147483648)) (count_of l.lo offset inc) ≡ true = p.0 in
     let most : int_le (count_of l.hi offset inc) (pos 2147483647) ≡ true = p.1 in
     record { lowest = omega (arith, ints); highest = omega (arith, ints) }

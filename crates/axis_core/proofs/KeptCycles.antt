@@ -1,5 +1,6 @@
 -- What a cycle keeps of an axis.
 use Rattle.std.specs.Prelude.{◌≡◌, refl, ◌⊎◌, ℕ, ◌≤◌, Bool, true, false, not, ◌&&◌, ◌||◌, nat_eq, ℤ, pos, ◌≤ℤ◌, ◌-ℤ◌, unsigned_abs, Option, Some, None, is_some, List, [], ◌++◌, if◌then◌else◌}
+use Rattle.std.proofs.lemmas.Bool.{and_parts, not-true, or_left}
 use Rattle.std.specs.Ordering.{int_eq}
 use Rattle.std.proofs.Common.{◌∙◌, sym, ap, subst, arith, inl, inr}
 use Rattle.std.proofs.lemmas.Int.{ints}
@@ -23,7 +24,7 @@ use Rattle.axis_core.specs.Refusals.{is_error_stop, is_stopping, is_outside}
 use Rattle.axis_core.specs.declared.axis.Axis.{Axis}
 use Rattle.axis_core.specs.declared.axis.PendingReset.{PendingReset}
 use Rattle.axis_core.specs.declared.look.AxisLook.{AxisLook}
-use Rattle.axis_core.proofs.KeptMoves.{Laws, OffsetsAreSmall, by-command, takes-place, brakes, stopped-idle, idle-of, both, eq-of}
+use Rattle.axis_core.proofs.KeptMoves.{Laws, OffsetsAreSmall, by-command, takes-place, brakes, stopped-idle, idle-of, eq-of}
 use Rattle.axis_core.proofs.KeptRanges.{go-on-of}
 use Rattle.axis_core.proofs.KeptParts.{Based, Runs, IsGoing, failed-kept, not-outside}
 
@@ -72,9 +73,9 @@ stop_left-going look c going =
     (λ b. (is_stopping a.state && not (is_some a.active) && is_at_rest a && is_released a.hold look.stop_held) ≡ b →
     IsGoing (record c { axis = (if b then record a { state = state.Standstill; hold = None } else a) })) [
       | true ↦ λ h.
-          let p = both (is_stopping a.state && not (is_some a.active) && is_at_rest a) (is_released a.hold look.stop_held) h in
-          let q = both (is_stopping a.state && not (is_some a.active)) (is_at_rest a) p.0 in
-          let t = both (is_stopping a.state) (not (is_some a.active)) q.0 in
+          let p = and_parts (is_stopping a.state && not (is_some a.active) && is_at_rest a) (is_released a.hold look.stop_held) h in
+          let q = and_parts (is_stopping a.state && not (is_some a.active)) (is_at_rest a) p.0 in
+          let t = and_parts (is_stopping a.state) (not (is_some a.active)) q.0 in
           record {
             runs = going.runs;
             kept = record {
@@ -99,15 +100,11 @@ pub record IsRun (c : Core) : Type 0 where
   pub kept : IsCoreKept c
   pub power : c.axis.driven ≡ true → is_powered c.axis ≡ true
 
-pub negated : (b : Bool) → not b ≡ true → b ≡ false
-negated true h = absurd (cc)
-negated false h = refl
-
 -- what being driven says
 pub driven-says : (a : Axis) (input : DriveIn) → is_driven a input ≡ true → (is_powered a ≡ true) × (is_operational input ≡ true) × ((a.driven || is_within a input) ≡ true)
 driven-says a input h =
-    let p = both (is_powered a && is_operational input) (a.driven || is_within a input) h in
-    let q = both (is_powered a) (is_operational input) p.0 in
+    let p = and_parts (is_powered a && is_operational input) (a.driven || is_within a input) h in
+    let q = and_parts (is_powered a) (is_operational input) p.0 in
     (q.0, q.1, p.1)
 
 -- the drive's place is small
@@ -121,7 +118,7 @@ actual-small g a input b count =
 standing-set : Laws → (driven : Bool) (a : Axis) (input : DriveIn) → Based a → IsCount input.actual → (driven ≡ true → is_within a input ≡ true) →
     IsSet driven a.limits (actual_of a input) (actual_of a input)
 standing-set g true a input b count within =
-    let inside = not-outside a.limits.lo (actual_of a input) a.limits.hi (negated (is_outside a.limits.lo (actual_of a input) a.limits.hi) (within refl)) in
+    let inside = not-outside a.limits.lo (actual_of a input) a.limits.hi (not-true (is_outside a.limits.lo (actual_of a input) a.limits.hi) (within refl)) in
     g.standing a.limits (actual_of a input) b.limits inside.above inside.below
 standing-set g false a input b count within = record { stands = refl; small = actual-small g a input b count }
 
@@ -242,10 +239,6 @@ all-three false y z a b c = absurd (cc)
 all-three true false z a b c = absurd (cc)
 all-three true true false a b c = absurd (cc)
 
-either : (x y : Bool) → x ≡ true → (x || y) ≡ true
-either true y h = refl
-either false y h = absurd (cc)
-
 -- an axis without an error runs, or stands
 run-without-error : Laws → (look : AxisLook) (c : Core) → IsSeen c.axis look → IsCoreKept c → nat_eq (answer_error_of c.axis look.input) 0 ≡ true →
     IsRun (run look (is_driven c.axis look.input) c)
@@ -254,13 +247,13 @@ run-without-error g look c i k none =
     let d = is_driven a look.input in
     elim (d && a.driven) as (λ b. (d && a.driven) ≡ b → IsRun (if b then gone_on look c else record c { axis = standing d look.input a })) [
       | true ↦ λ h.
-          let p = both d a.driven h in
+          let p = and_parts d a.driven h in
           let going = gone_on-going g look c i.brought k (record { on = p.1; power = (driven-says a look.input p.0).0 }) in
           record { kept = going.kept; power = λ on. going.runs.power }
       | false ↦ λ h.
           let never : is_error_stop a.state ≡ false → IsRunning a.driven (is_powered a) → ⊥ = λ s r.
           (let op = driven-without-error a look.input s r.power r.on none in
-          let on : d ≡ true = all-three (is_powered a) (is_operational look.input) (a.driven || is_within a look.input) r.power op (either a.driven (is_within a look.input) r.on) in
+          let on : d ≡ true = all-three (is_powered a) (is_operational look.input) (a.driven || is_within a look.input) r.power op (or_left a.driven (is_within a look.input) r.on) in
           let whole : (d && a.driven) ≡ true = rw (on, r.on) refl in
           let bad : true ≡ false = sym whole ∙ h in cc) in
           let still = still-of a.state a.driven (is_powered a) a.was_off a.previous a.setpoint a.active k.axis.state never in
@@ -470,7 +463,7 @@ pub may-go-on : Laws → (input : DriveIn) (c : Core) → IsCoreKept c → (is_d
     MayGoOn (answered input c).axis (answered input c).waiting
 may-go-on g input c k h =
     let after = answered-kept input c k in
-    let p = both (is_driven c.axis input) (answered input c).axis.driven h in
+    let p = and_parts (is_driven c.axis input) (answered input c).axis.driven h in
     go-on-of (answered input c) after p.1 (drive-of g (answered input c).axis after.axis.base).offset
 
 -- a cycle in which the axis is driven on brings no error, and so no note before its step

@@ -1,5 +1,6 @@
 -- What the step of a cycle keeps of an axis.
 use Rattle.std.specs.Prelude.{◌≡◌, refl, ◌⊎◌, ℕ, ◌-◌, ◌≤◌, Bool, true, false, not, ◌&&◌, ℤ, pos, neg_ℤ, ◌≤ℤ◌, ◌+ℤ◌, ◌-ℤ◌, unsigned_abs, Option, Some, None, is_some, List, [], ◌∷◌, slice_get, unwrap_or}
+use Rattle.std.proofs.lemmas.Bool.{and_parts}
 use Rattle.std.specs.Ordering.{int_eq}
 use Rattle.std.proofs.Common.{◌∙◌, sym, ap, subst, arith, inl, inr}
 use Rattle.std.proofs.lemmas.Bool.Decides.{Decides-int_eq}
@@ -155,12 +156,8 @@ ends-when false f g h = absurd (cc)
 pub eq-of : (x y : ℤ) → int_eq x y ≡ true → x ≡ y
 eq-of x y h = (Decides-int_eq x y).0 h
 
-pub both : (x y : Bool) → (x && y) ≡ true → (x ≡ true) × (y ≡ true)
-both true y h = (refl, h)
-both false y h = absurd (cc)
-
 at-rest : (a : Axis) (w : Wanted) (step : ℤ) → (int_eq (a.setpoint +ℤ step) (target_of w) && int_eq step (pos 0)) ≡ true → step ≡ pos 0
-at-rest a w step h = eq-of step (pos 0) (both (int_eq (a.setpoint +ℤ step) (target_of w)) (int_eq step (pos 0)) h).1
+at-rest a w step h = eq-of step (pos 0) (and_parts (int_eq (a.setpoint +ℤ step) (target_of w)) (int_eq step (pos 0)) h).1
 
 -- a move without one behind it is done at rest alone
 pub done-at-rest : (a : Axis) (w : Wanted) (ws : List Wanted) (step : ℤ) → ws ≡ [] → is_move_done a w (slice_get ws 0) step ≡ true → step ≡ pos 0
@@ -253,13 +250,13 @@ carried-by-going g kind.Stop c w step look k r e h next =
     goes-or-ends g c w step false _ k r e (ap is_home h) next (λ f fe none settles. eq-of step (pos 0) (ends-when _ finish.Done f fe))
 carried-by-going g kind.MoveVelocity c w step look k r e h next =
     goes-or-ends g c w step (is_reached kind.MoveVelocity c.axis w step look) _ k r e (ap is_home h) next
-    (λ f fe none settles. absurd (none-first c.waiting none (both _ _ (ends-when _ finish.Aborted f fe)).0))
+    (λ f fe none settles. absurd (none-first c.waiting none (and_parts _ _ (ends-when _ finish.Aborted f fe)).0))
 carried-by-going g kind.GearIn c w step look k r e h next =
     goes-or-ends g c w step (is_reached kind.GearIn c.axis w step look) _ k r e (ap is_home h) next
-    (λ f fe none settles. absurd (none-first c.waiting none (both _ _ (ends-when _ finish.Aborted f fe)).0))
+    (λ f fe none settles. absurd (none-first c.waiting none (and_parts _ _ (ends-when _ finish.Aborted f fe)).0))
 carried-by-going g kind.CamIn c w step look k r e h next =
     goes-or-ends g c w step (is_reached kind.CamIn c.axis w step look) _ k r e (ap is_home h) next
-    (λ f fe none settles. absurd (none-first c.waiting none (both _ _ (both _ _ (ends-when _ finish.Aborted f fe)).0).0))
+    (λ f fe none settles. absurd (none-first c.waiting none (and_parts _ _ (and_parts _ _ (ends-when _ finish.Aborted f fe)).0).0))
 carried-by-going g kind.Home c w step look k r e h next = home-ends g c w k r e h
 carried-by-going g other c w step look k r e h next =
     let F : BlockKind → Type 0 = λ x. fits c.axis.state x ≡ true in
@@ -362,7 +359,7 @@ pub takes-place : Laws → (place : ℤ) (ends : Bool) (c : Core) → IsCoreKept
     (ends ≡ true → place ≡ c.axis.setpoint) → IsGoing (record c { axis = path_left ends (moved_to place c.axis) })
 takes-place g place false c k r on next stays =
     let a = c.axis in
-    let parts = both (is_synchronized a.state) (not (is_some a.active)) on in
+    let parts = and_parts (is_synchronized a.state) (not (is_some a.active)) on in
     record {
       runs = r;
       kept = record {
@@ -377,7 +374,7 @@ takes-place g place false c k r on next stays =
     }
 takes-place g place true c k r on next stays =
     let a = c.axis in
-    let parts = both (is_synchronized a.state) (not (is_some a.active)) on in
+    let parts = and_parts (is_synchronized a.state) (not (is_some a.active)) on in
     record {
       runs = r;
       kept = record {

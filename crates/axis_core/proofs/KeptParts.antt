@@ -1,5 +1,6 @@
 -- What failing, beginning, ending and settling keep of an axis.
 use Rattle.std.specs.Prelude.{◌≡◌, refl, ℕ, Bool, true, false, ◌||◌, ℤ, pos, ◌≤ℤ◌, ◌+ℤ◌, int_lt, Option, Some, None, List, [], ◌∷◌, if◌then◌else◌}
+use Rattle.std.proofs.lemmas.Bool.{or_parts}
 use Rattle.std.proofs.Common.{sym, ap, subst, arith, inl, inr}
 use Rattle.std.proofs.lemmas.Int.{ints}
 use Rattle.axis_state.specs.declared.state.AxisState.{AxisState}
@@ -45,13 +46,9 @@ unfolding failed
 failed-going n c b r = record { kept = failed-kept n c b; runs = r }
 
 -- z lies between two numbers where it does not lie outside them
-pub neither : (x y : Bool) → (x || y) ≡ false → (x ≡ false) × (y ≡ false)
-neither true y h = absurd (cc)
-neither false y h = (refl, h)
-
 pub not-outside : (low z high : ℤ) → is_outside low z high ≡ false → IsBetween low z high
 not-outside low z high h =
-    let parts = neither (int_lt z low) (int_lt high z) h in
+    let parts = or_parts (int_lt z low) (int_lt high z) h in
     let above : int_lt z low ≡ false = parts.0 in
     let below : int_lt high z ≡ false = parts.1 in
     record { above = omega (arith, ints); below = omega (arith, ints) }

@@ -1,5 +1,6 @@
 -- Every row of a driven axis keeps its limits.
 use Rattle.std.specs.Prelude.{◌≡◌, refl, ℕ, Bool, true, false, not, ◌&&◌, nat_eq, ℤ, pos, ◌+ℤ◌, ◌-ℤ◌, unsigned_abs, ◌≤◌, ◌-◌, Option, Some, None, is_some, List, [], ◌∷◌, slice_get, unwrap_or, if◌then◌else◌}
+use Rattle.std.proofs.lemmas.Bool.{and_parts, not-true}
 use Rattle.std.proofs.Common.{◌∙◌, sym, ap, subst, arith}
 use Rattle.std.proofs.lemmas.Int.{ints}
 use Rattle.axis_state.specs.Spells.{Spell, KeepsRow, spell_after}
@@ -27,8 +28,8 @@ use Rattle.axis_core.specs.declared.axis.PendingReset.{PendingReset}
 use Rattle.axis_core.specs.declared.look.AxisLook.{AxisLook}
 use Rattle.axis_core.specs.declared.wish.Wish.{Wish}
 use Rattle.axis_core.specs.declared.wish.Wish.TheVariants.{Step, Error}
-use Rattle.axis_core.proofs.KeptCycles.{on-place, driven-says, begins-within, negated, error-not-driven}
-use Rattle.axis_core.proofs.KeptMoves.{Laws, kept-of, both, toward-rest}
+use Rattle.axis_core.proofs.KeptCycles.{on-place, driven-says, begins-within, error-not-driven}
+use Rattle.axis_core.proofs.KeptMoves.{Laws, kept-of, toward-rest}
 use Rattle.axis_core.proofs.KeptParts.{Based, Runs, not-outside}
 
 -- the taken step is admissible
@@ -172,7 +173,7 @@ run-ran taken look c i k =
     let d = is_driven a look.input in
     elim (d && a.driven) as (λ b. (d && a.driven) ≡ b → Ran a look.input (if b then gone_on look c else record c { axis = standing d look.input a }).axis) [
       | true ↦ λ h.
-          let p = both d a.driven h in
+          let p = and_parts d a.driven h in
           went p.1 (gone_on-moved taken look c i k (record { on = p.1; power = (driven-says a look.input p.0).0 }))
       | false ↦ λ h. stood h refl
     ] refl
@@ -264,7 +265,7 @@ stood-kept true input a b d h e =
     let s : b.setpoint ≡ actual_of a input = ap (λ (p : Place). p.setpoint) e in
     let q : b.previous ≡ actual_of a input = ap (λ (p : Place). p.previous) e in
     let within : is_within a input ≡ true = begins-within true a.driven (is_within a input) h refl (driven-says a input d).2 in
-    let inside = not-outside a.limits.lo (actual_of a input) a.limits.hi (negated (is_outside a.limits.lo (actual_of a input) a.limits.hi) within) in
+    let inside = not-outside a.limits.lo (actual_of a input) a.limits.hi (not-true (is_outside a.limits.lo (actual_of a input) a.limits.hi) within) in
     let before : spell_of a ≡ None = rw off refl in
     let P : Option Spell → Type 0 = λ o. KeepsRow a.limits o (row_of input b) in
     record {

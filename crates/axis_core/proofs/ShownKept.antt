@@ -1,5 +1,6 @@
 -- Every call and every cycle keeps what an axis shows of its errors and of its Stop.
 use Rattle.std.specs.Prelude.{◌≡◌, refl, ◌⊎◌, ℕ, ◌≤◌, Bool, true, false, not, ◌&&◌, ◌||◌, nat_eq, ℤ, ◌-ℤ◌, Option, Some, None, is_some, List, [], ◌∷◌, slice_get, if◌then◌else◌}
+use Rattle.std.proofs.lemmas.Bool.{and_parts}
 use Rattle.std.proofs.Common.{◌∙◌, sym, ap, subst, arith, inl, inr}
 use Rattle.axis_state.specs.declared.definition.AxisDef.{AxisDef}
 use Rattle.axis_state.specs.declared.state.AxisState.{AxisState}
@@ -27,7 +28,6 @@ use Rattle.axis_core.specs.declared.look.AxisLook.{AxisLook}
 use Rattle.axis_core.specs.declared.wish.Wish.{Wish}
 use Rattle.axis_core.specs.declared.wish.Wish.TheVariants.{Step, Error}
 use Rattle.axis_core.proofs.KeptCycles.{on-place}
-use Rattle.axis_core.proofs.KeptMoves.{both}
 use Rattle.axis_core.proofs.MayAdmit.{NoneHolds, none-holds}
 
 number : (n : ℕ) → 101 ≤ n → n ≤ 106 → IsAxisError n
@@ -159,7 +159,7 @@ moved-shown look c h =
       | true ↦ λ e. h
       | false ↦ λ e.
           placed-shown (place_on_path c.axis look) look c
-          (λ place i. (both (is_synchronized c.axis.state) (not (is_some c.axis.active)) (on-place (is_on_path c.axis) look.path place i).0).0) e h
+          (λ place i. (and_parts (is_synchronized c.axis.state) (not (is_some c.axis.active)) (on-place (is_on_path c.axis) look.path place i).0).0) e h
     ] refl
 
 stopping-clear : (s : AxisState) → is_stopping s ≡ true → is_error_stop s ≡ false
@@ -173,7 +173,7 @@ stop_left-shown look a h =
     elim (rests && is_released a.hold look.stop_held) as
     (λ b. (rests && is_released a.hold look.stop_held) ≡ b → IsShown (if b then record a { state = state.Standstill; hold = None } else a)) [
       | true ↦ λ e.
-          let stopping = (both (is_stopping a.state) _ (both stands (is_at_rest a) (both rests _ e).0).0).0 in
+          let stopping = (and_parts (is_stopping a.state) _ (and_parts stands (is_at_rest a) (and_parts rests _ e).0).0).0 in
           record { stopped = λ x. absurd (cc); clear = λ x. h.clear (stopping-clear a.state stopping); held = λ x. refl }
       | false ↦ λ e. h
     ] refl

@@ -6,7 +6,8 @@ use Rattle.axis_state.specs.declared.definition.AxisDef.{AxisDef}
 use Rattle.axis_state.specs.declared.definition.AxisRow.{AxisRow}
 use Rattle.axis_state.specs.declared.state.AxisState.{AxisState}
 use Rattle.axis_state.specs.declared.state.AxisState.TheVariants as state
-use Rattle.cia402_machine.specs.Commanded.{is_faulty}
+use Rattle.cia402_machine.specs.declared.controlword.TheConstants.{CYCLIC_SYNCHRONOUS_POSITION}
+use Rattle.cia402_machine.specs.Transitions.{is_faulty}
 use Rattle.cia402_machine.specs.Controlword.{next_controlword_of}
 use Rattle.cia402_machine.specs.Statusword.{state_of_word}
 use Rattle.cia402_machine.specs.declared.drive.DriveIn.{DriveIn}
@@ -41,7 +42,7 @@ is_enabled s = false
 
 -- whether a drive's answer is operational: Operation enabled, in cyclic synchronous position mode. IEC 61800-7-201, objects 6041h and 6061h
 abbrev pub is_operational : DriveIn → Bool
-is_operational input = is_enabled (state_of_word input.statusword) && int_eq input.mode_display (pos 8)
+is_operational input = is_enabled (state_of_word input.statusword) && int_eq input.mode_display CYCLIC_SYNCHRONOUS_POSITION
 
 -- whether a drive that reads so reacts to a fault or has one. IEC 61800-7-201, object 6041h
 abbrev pub reads_fault : Option DriveState → Bool
@@ -262,7 +263,7 @@ row_of input a = record {
   driven = a.driven;
   setpoint = a.setpoint;
   offset = a.offset;
-  output = record { controlword = a.controlword; mode = pos 8; target = count_of a.setpoint a.offset a.inc };
+  output = record { controlword = a.controlword; mode = CYCLIC_SYNCHRONOUS_POSITION; target = count_of a.setpoint a.offset a.inc };
 }
 
 -- an axis at opening: a ready one is driven, in Standstill, with power on; another is Disabled. This project's profile

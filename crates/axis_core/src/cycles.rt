@@ -19,7 +19,7 @@ ghost use Rattle.motion_numbers.specs.Ranges.{IsStep, IsWay};
 use crate::axis::{Axis, PendingReset};
 use crate::beginning::{end, fail};
 use crate::blendings::{is_crossing, old_step};
-use crate::driving::{SYNCHRONOUS_POSITION, answer_error, has_fault, is_driven, is_powered, stand};
+use crate::driving::{answer_error, has_fault, is_driven, is_powered, stand};
 use crate::look::AxisLook;
 use crate::refusing::moved_offset;
 use crate::states::{is_error_stop, is_stopping, is_synchronized};
@@ -29,7 +29,7 @@ use axis_state::{
     AxisEvent, AxisRow, AxisState, DriveIn, DriveOut, axis_next, counts_are_read_back,
     homing_keeps_counts, offsets_are_small, setpoints_have_counts, target_count,
 };
-use cia402_machine::{next_controlword, state_of};
+use cia402_machine::{CYCLIC_SYNCHRONOUS_POSITION, next_controlword, state_of};
 use command_pool::{BlockKind, CommandPool, Finish, Note, Notes, Wanted};
 use kin_core::{braking_steps_are_only_cut, standing_is_kept, taken_steps_keep};
 use trapezoid_plan::halt_step;
@@ -510,7 +510,7 @@ pub fn row(input: &DriveIn, axis: &Axis) -> AxisRow
         offset: axis.offset,
         output: DriveOut {
             controlword: axis.controlword,
-            mode: SYNCHRONOUS_POSITION,
+            mode: CYCLIC_SYNCHRONOUS_POSITION,
             target: target_count(axis.setpoint, axis.offset, axis.inc),
         },
     }

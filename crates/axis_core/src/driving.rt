@@ -10,10 +10,7 @@ use crate::axis::Axis;
 use crate::refusing::is_outside;
 use crate::states::is_error_stop;
 use axis_state::{AxisEvent, AxisState, DriveIn, axis_next, place};
-use cia402_machine::{DriveState, state_of};
-
-/// Cyclic synchronous position mode (object 6060h).
-pub const SYNCHRONOUS_POSITION: i8 = 8;
+use cia402_machine::{CYCLIC_SYNCHRONOUS_POSITION, DriveState, state_of};
 
 /// DriveFault: the drive reads Fault or Fault reaction active.
 const DRIVE_FAULT: u16 = 101;
@@ -42,7 +39,7 @@ fn is_enabled(state: Option<DriveState>) -> bool
 fn is_operational(input: &DriveIn) -> bool
     ensures { result ≡ spec.is_operational input.now }
 {
-    is_enabled(state_of(input.statusword)) && input.mode_display == SYNCHRONOUS_POSITION
+    is_enabled(state_of(input.statusword)) && input.mode_display == CYCLIC_SYNCHRONOUS_POSITION
 }
 
 // Whether a drive reads a fault or its reaction.

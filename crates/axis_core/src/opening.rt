@@ -5,9 +5,7 @@ ghost use Rattle.axis_core.specs.Cycles as spec;
 
 use crate::axis::Axis;
 use axis_state::{AxisDef, AxisState};
-
-/// The controlword of a drive in Operation enabled that is to stay there (object 6040h).
-const ENABLE_OPERATION: u16 = 0x000f;
+use cia402_machine::ENABLE_OPERATION;
 
 /// An axis at opening: a ready one is driven, in Standstill, with power on; another is Disabled.
 #[tactic(auto, unfolding(crate::specs::Cycles::opened))]

@@ -1,5 +1,6 @@
 -- What is wrong with points that make no cam table.
 use Rattle.std.specs.Prelude.{◌≡◌, ℕ, ◌-◌, ◌<◌, ◌≤◌, ℤ, ◌≤ℤ◌, List, length}
+use Rattle.cam_table.specs.declared.table.TheConstants.{MOST_POINTS}
 use Rattle.motion_numbers.specs.declared.TheConstants.{MOST_PLACE}
 use Rattle.cam_table.specs.declared.fault.CamFault.{CamFault}
 use Rattle.cam_table.specs.declared.fault.CamFault.TheVariants.{TooFew, TooMany, BadRow, NotRising, OutOfMemory}
@@ -18,7 +19,7 @@ pub record IsFalling (points : List (ℤ × ℤ)) (row : ℕ) : Type 0 where
 -- the points are neither too few nor too many, and every row before this one is good. This project's profile
 pub record IsReached (points : List (ℤ × ℤ)) (row : ℕ) : Type 0 where
   pub enough : 2 ≤ length points
-  pub few : length points ≤ 4096
+  pub few : length points ≤ MOST_POINTS
   pub first : 1 ≤ row
   pub last : row ≤ length points
   pub before : (earlier : ℕ) → 1 ≤ earlier → earlier < row → IsGoodRow points earlier
@@ -26,7 +27,7 @@ pub record IsReached (points : List (ℤ × ℤ)) (row : ℕ) : Type 0 where
 -- what is wrong with the points: their number, or the first row that isn't good. This project's profile
 abbrev pub IsFault : List (ℤ × ℤ) → CamFault → Type 0
 IsFault points TooFew = length points < 2
-IsFault points TooMany = 4096 < length points
+IsFault points TooMany = MOST_POINTS < length points
 IsFault points (BadRow row) = IsReached points row × IsBeyond points row
 IsFault points (NotRising row) = IsReached points row × IsFalling points row
 IsFault points OutOfMemory = ⊥

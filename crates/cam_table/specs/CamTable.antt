@@ -1,5 +1,6 @@
 -- What the points of a cam table keep.
 use Rattle.std.specs.Prelude.{ℕ, ◌-◌, ◌<◌, ◌≤◌, max, ℤ, pos, ◌<ℤ◌, unsigned_abs, List, length, slice_index_or}
+use Rattle.cam_table.specs.declared.table.TheConstants.{MOST_POINTS}
 use Rattle.motion_numbers.specs.declared.TheConstants.{MOST_PLACE}
 
 -- the point of a row, the rows counted from 1: a master position and the position of the axis there. PLCopen Motion Control Part 1, MC_CamIn, cam tables
@@ -18,5 +19,5 @@ pub record IsGoodRow (points : List (ℤ × ℤ)) (row : ℕ) : Type 0 where
 -- 2 to 4,096 points, each row of them good. This project's profile
 pub record IsCamTable (points : List (ℤ × ℤ)) : Type 0 where
   pub enough : 2 ≤ length points
-  pub few : length points ≤ 4096
+  pub few : length points ≤ MOST_POINTS
   pub rows : (row : ℕ) → 1 ≤ row → row ≤ length points → IsGoodRow points row

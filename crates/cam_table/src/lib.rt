@@ -2,9 +2,11 @@
 #![tactic(auto)]
 
 mod fault;
+mod laws;
 mod table;
 #[cfg(test)]
 mod tests;
 
 pub use fault::CamFault;
+pub use laws::points_have_one_fault;
 pub use table::{CamTable, MOST_POINTS};

@@ -6,13 +6,12 @@ ghost use Rattle.cam_table.specs.CamTable.{IsCamTable, IsGoodRow};
 ghost use Rattle.cam_table.specs.CamFault.{IsRowFault, IsFault};
 
 use crate::fault::CamFault;
+use motion_numbers::MOST_PLACE;
 use std::alloc::Global;
 use std::marker::Model;
 
 /// The most points that a cam table has.
 pub const MOST_POINTS: usize = 4096;
-
-const MOST_COORDINATE: u64 = 1_000_000_000_000_000;
 
 /// A cam table: 2 to 4,096 points, each a master position and the position of the axis there, in
 /// internal units within 10^15 of 0. The master positions rise from point to point.
@@ -78,14 +77,14 @@ fn fault_in(points: &[(i64, i64)]) -> Option<CamFault>
 // What is wrong with the row at an index, by itself and after the row before it.
 fn fault_in_row(points: &[(i64, i64)], at: usize) -> Option<CamFault>
     requires row { at < length points.now }
-    requires few { length points.now ≤ 4096 }
+    requires few { length points.now ≤ MOST_POINTS }
     ensures { MatchOption result
         (IsGoodRow points.now (at + 1))
         (λ fault. IsRowFault points.now (at + 1) fault) }
 {
     let (x, y) = points[at];
     let row = (at + 1) as u16;
-    if x.unsigned_abs().max(y.unsigned_abs()) > MOST_COORDINATE {
+    if x.unsigned_abs().max(y.unsigned_abs()) > MOST_PLACE {
         return Some(CamFault::BadRow(row));
     }
     if at > 0 && x <= points[at - 1].0 {

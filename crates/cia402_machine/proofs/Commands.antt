@@ -4,7 +4,8 @@ use Rattle.std.proofs.Common.{refl, ◌∙◌, ap, arith}
 use Rattle.cia402_machine.specs.Statusword.{state_of_word, status_of_state}
 use Rattle.cia402_machine.specs.Controlword.{has_reset_bit, command_of_words, next_controlword_of}
 use Rattle.cia402_machine.specs.Steps.{causes_of, stepped_by, drive_step_of}
-use Rattle.cia402_machine.specs.Commanded.{Commanded, Wishes, answered, commanded, commanded_on, is_faulty}
+use Rattle.cia402_machine.specs.Transitions.{is_faulty}
+use Rattle.cia402_machine.specs.Commanded.{Commanded, Wishes, answered, commanded, commanded_on}
 use Rattle.cia402_machine.proofs.Given.{given, command_of_words-given}
 use Rattle.cia402_machine.specs.declared.command.Command.TheVariants.{DisableVoltage, FaultReset}
 use Rattle.cia402_machine.specs.declared.drive.DriveState.{DriveState}

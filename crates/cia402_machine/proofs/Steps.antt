@@ -3,9 +3,8 @@ use Rattle.std.specs.Prelude.{ℕ, zero, suc, ◌≡◌, ◌<◌, Bool, true, fa
 use Rattle.std.specs.Option.{unwrap_or}
 use Rattle.std.proofs.Common.{refl, ◌⊎◌, inl, inr, arith}
 use Rattle.cia402_machine.specs.Controlword.{command_of_words}
-use Rattle.cia402_machine.specs.Transitions.{Cause, transition_of, IsTransition}
+use Rattle.cia402_machine.specs.Transitions.{Cause, transition_of, IsTransition, is_faulty}
 use Rattle.cia402_machine.specs.Steps.{causes_of, stepped_by, drive_step_of}
-use Rattle.cia402_machine.specs.Commanded.{is_faulty}
 use Rattle.cia402_machine.specs.declared.command.Command.{Command}
 use Rattle.cia402_machine.specs.declared.drive.DriveState.{DriveState}
 use Rattle.cia402_machine.specs.declared.drive.DriveState.TheVariants.{NotReady, SwitchOnDisabled, ReadyToSwitchOn, SwitchedOn, OperationEnabled, QuickStopActive, FaultReactionActive, Fault}

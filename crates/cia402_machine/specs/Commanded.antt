@@ -4,7 +4,6 @@ use Rattle.cia402_machine.specs.Statusword.{state_of_word, status_of_state}
 use Rattle.cia402_machine.specs.Controlword.{next_controlword_of}
 use Rattle.cia402_machine.specs.Steps.{drive_step_of}
 use Rattle.cia402_machine.specs.declared.drive.DriveState.{DriveState}
-use Rattle.cia402_machine.specs.declared.drive.DriveState.TheVariants.{FaultReactionActive, Fault}
 
 -- a drive and the last controlword that it was given. This project's profile
 pub record Commanded : Type 0 where
@@ -32,9 +31,3 @@ commanded wishes drive = record {
 abbrev pub commanded_on : List Bool → Commanded → Commanded
 commanded_on [] drive = drive
 commanded_on (reset ∷ resets) drive = commanded_on resets (commanded (record { power = true; reset = reset; fault = false }) drive)
-
--- a drive that reacts to a fault or has one. IEC 61800-7-201, the finite state automaton
-abbrev pub is_faulty : DriveState → Bool
-is_faulty FaultReactionActive = true
-is_faulty Fault = true
-is_faulty state = false

@@ -1,5 +1,5 @@
 -- The transitions of a drive.
-use Rattle.std.specs.Prelude.{◌≡◌, Option, None, Some}
+use Rattle.std.specs.Prelude.{◌≡◌, Bool, true, false, Option, None, Some}
 use Rattle.cia402_machine.specs.declared.drive.DriveState.{DriveState}
 use Rattle.cia402_machine.specs.declared.drive.DriveState.TheVariants.{NotReady, SwitchOnDisabled, ReadyToSwitchOn, SwitchedOn, OperationEnabled, QuickStopActive, FaultReactionActive, Fault}
 use Rattle.cia402_machine.specs.declared.command.Command.{Command}
@@ -41,3 +41,9 @@ transition_of state cause = None
 -- a cause leads from a state to another. IEC 61800-7-201, the finite state automaton
 abbrev pub IsTransition : DriveState → Cause → DriveState → Type 0
 IsTransition state cause next = transition_of state cause ≡ Some next
+
+-- a drive that reacts to a fault or has one. IEC 61800-7-201, the finite state automaton
+abbrev pub is_faulty : DriveState → Bool
+is_faulty FaultReactionActive = true
+is_faulty Fault = true
+is_faulty state = false

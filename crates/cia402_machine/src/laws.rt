@@ -3,9 +3,9 @@
 ghost use Rattle.std.specs.Prelude.{◌≡◌, ℕ, ◌≤◌, Bool, true, false, List, length, Contains, ◌⊎◌, Some};
 ghost use Rattle.cia402_machine.specs.Statusword.{state_of_word, status_of_state};
 ghost use Rattle.cia402_machine.specs.Controlword.{command_of_words, has_reset_bit};
-ghost use Rattle.cia402_machine.specs.Transitions.{Cause, IsTransition};
+ghost use Rattle.cia402_machine.specs.Transitions.{Cause, IsTransition, is_faulty};
 ghost use Rattle.cia402_machine.specs.Steps.{drive_step_of, causes_of};
-ghost use Rattle.cia402_machine.specs.Commanded.{Commanded, Wishes, commanded, commanded_on, is_faulty};
+ghost use Rattle.cia402_machine.specs.Commanded.{Commanded, Wishes, commanded, commanded_on};
 ghost use Rattle.cia402_machine.specs.declared.drive.DriveState.{DriveState};
 ghost use Rattle.cia402_machine.specs.declared.drive.DriveState.TheVariants.{SwitchOnDisabled, OperationEnabled, FaultReactionActive, Fault};
 

@@ -2,7 +2,7 @@
 
 ghost use Rattle.std.specs.Prelude.{◌≡◌, [], ◌∷◌, false};
 ghost use Rattle.cia402_machine.specs.Transitions.{Asked};
-ghost use Rattle.cia402_machine.specs.Commanded as faults;
+ghost use Rattle.cia402_machine.specs.Transitions as faults;
 ghost use Rattle.cia402_machine.specs.Steps as spec;
 
 use crate::command::{Command, command_of};

@@ -2,6 +2,7 @@
 use Rattle.std.specs.Prelude.{ℕ, ◌+◌, ◌-◌, ◌^◌, min, ℤ, pos, Bool, true, false, ◌&&◌, ◌==◌, List, [], ◌∷◌, ◌++◌, length, slice_index_or, if◌then◌else◌}
 use Rattle.std.specs.Ordering.{int_eq}
 use Rattle.circular_buffer.specs.Buffer.{keep_last}
+use Rattle.cia402_machine.specs.declared.controlword.TheConstants.{CYCLIC_SYNCHRONOUS_POSITION}
 use Rattle.cia402_machine.specs.Statusword.{status_of_state}
 use Rattle.cia402_machine.specs.Steps.{drive_step_of}
 use Rattle.cia402_machine.specs.declared.drive.DriveIn.{DriveIn}
@@ -19,7 +20,7 @@ opened lag faults count true = record {
   steps = 0;
   state = OperationEnabled;
   last = 0x000f;
-  mode_display = pos 8;
+  mode_display = CYCLIC_SYNCHRONOUS_POSITION;
   actual = count;
   kept = [];
 }
@@ -53,7 +54,7 @@ state_after sim out = drive_step_of sim.state sim.last out.controlword (has_step
 
 -- a step keeps its target: the drive is in Operation enabled before and after it, and the mode is cyclic synchronous position. This project's profile
 abbrev pub keeps_target : DriveSim → DriveOut → Bool
-keeps_target sim out = is_enabled sim.state && is_enabled (state_after sim out) && int_eq out.mode (pos 8)
+keeps_target sim out = is_enabled sim.state && is_enabled (state_after sim out) && int_eq out.mode CYCLIC_SYNCHRONOUS_POSITION
 
 -- the kept targets after a step: with the one just kept, or none. This project's profile
 unfoldable pub kept_after : DriveSim → DriveOut → List ℤ

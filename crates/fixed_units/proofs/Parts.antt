@@ -2,7 +2,7 @@
 use Rattle.std.proofs.Common.{◌≡◌, ℕ, ◌<◌, ◌≤◌, ◌^◌, Bool, true, false, List, length, ◌&&◌, ◌+◌, ◌*◌, ◌-◌, Some, None, [], ◌∷◌, ◌≢◌, ap, sym, Result, Ok, Err, inl, inr, refl, arith}
 use Rattle.std.proofs.lemmas.Str.Parse.{parse_digits}
 use Rattle.std.specs.Str.Parse.{ParsesUnsigned, digits_value}
-use Rattle.std.proofs.lemmas.Bool.{ltb-true, lt-ltb, le-ltb, ne_eqb, cases_lt}
+use Rattle.std.proofs.lemmas.Bool.{ltb-true, lt-ltb, le-ltb, ne_eqb, cases_lt, and_parts}
 use Rattle.std.proofs.Math.Seq.{take-length}
 use Rattle.std.proofs.Math.Bool.{and-true, and-false}
 use Rattle.std.specs.List.{position_or_len, before_first, after_first}
@@ -11,14 +11,9 @@ use Rattle.fixed_units.specs.declared.reading.UnitFault.TheVariants.{NotNumber, 
 use Rattle.fixed_units.specs.Numbers.{is_point, whole_of, fraction_of, is_digits, size_reading, digits_reading, billionths_of, reading_of, reading_with_sign}
 use Rattle.fixed_units.proofs.Digits.{AreDigits, numerals}
 
--- both tests hold where their conjunction does
-pub both_hold : (a b : Bool) → (a && b) ≡ true → (a ≡ true) × (b ≡ true)
-both_hold true b h = (refl, h)
-both_hold false b h = cc
-
 -- a text that is one digit or more has digits alone
 pub digits_parts : (ds : List ℕ) → is_digits ds ≡ true → (0 < length ds) × AreDigits ds
-digits_parts ds h = let (some, digits) = both_hold _ _ h in (ltb-true _ _ some, digits)
+digits_parts ds h = let (some, digits) = and_parts _ _ h in (ltb-true _ _ some, digits)
 
 -- digits that were parsed are parsed as their number
 pub units_parsed : {E : Type 0} (whole : List ℕ) (r : Result ℕ E) (units : ℕ) → is_digits whole ≡ true

@@ -1,6 +1,6 @@
 -- What is written is a number, and stands for what was written.
 use Rattle.std.proofs.Common.{◌≡◌, ◌≢◌, ℕ, ◌+◌, ◌*◌, ◌/◌, ◌%◌, ◌^◌, ◌<◌, ◌≤◌, Bool, true, false, ◌==◌, List, [], ◌∷◌, ◌++◌, length, Some, None, ℤ, pos, negsuc, int_lt, unsigned_abs, decimal, inl, inr, refl, sym, subst, arith, length-append, append-nil, append_assoc}
-use Rattle.std.proofs.lemmas.Bool.{cases_eq, le-ltb, lt-ltb}
+use Rattle.std.proofs.lemmas.Bool.{cases_eq, le-ltb, lt-ltb, and_parts}
 use Rattle.std.proofs.lemmas.Bool.Decides.{nat_tests}
 use Rattle.std.proofs.lemmas.Fmt.{decimal_nonempty, digits_decimal, digits_value-decimal}
 use Rattle.std.proofs.lemmas.List.{take_at, drop_at}
@@ -10,7 +10,7 @@ use Rattle.std.specs.Str.Parse.{digits_value}
 use Rattle.fixed_units.specs.Numbers.{is_negative, without_minus, is_point, whole_of, fraction_of, is_digits, is_number, places_of, billionths_of, size_of, with_sign, Spells}
 use Rattle.fixed_units.specs.Spelling.{last_digits, without_end_zeros, fraction_text, sign_text, units_text}
 use Rattle.fixed_units.proofs.Digits.{AreDigits, numerals}
-use Rattle.fixed_units.proofs.Parts.{both_hold, whole_number, cut_number}
+use Rattle.fixed_units.proofs.Parts.{whole_number, cut_number}
 use Rattle.fixed_units.proofs.Places.{HasPlaces, significant-places}
 use Rattle.fixed_units.proofs.Written.{units_text-parts, fraction_text-zero, fraction_text-places}
 
@@ -24,12 +24,12 @@ digit-no_minus d digit = grind (arith, nat_tests)
 -- in digits there is no point
 pub position-digits : (ds : List ℕ) → AreDigits ds → position_or_len is_point ds ≡ length ds
 position-digits [] digits = refl
-position-digits (d ∷ ds) digits = let (here, more) = both_hold _ _ digits in rw (digit-no_point d here, position-digits ds more) (omega arith)
+position-digits (d ∷ ds) digits = let (here, more) = and_parts _ _ digits in rw (digit-no_point d here, position-digits ds more) (omega arith)
 
 -- behind digits the point is the first
 pub position-point : (ds more : List ℕ) → AreDigits ds → position_or_len is_point (ds ++ 46 ∷ more) ≡ length ds
 position-point [] more digits = refl
-position-point (d ∷ ds) more digits = let (here, others) = both_hold _ _ digits in rw (digit-no_point d here, position-point ds more others) (omega arith)
+position-point (d ∷ ds) more digits = let (here, others) = and_parts _ _ digits in rw (digit-no_point d here, position-point ds more others) (omega arith)
 
 -- a text of digits is a whole number
 pub whole_of-digits : (ds : List ℕ) → AreDigits ds → (whole_of ds ≡ ds) × (fraction_of ds ≡ None)
@@ -49,7 +49,7 @@ whole_of-point ds more digits =
 pub no_minus : (ds more : List ℕ) → AreDigits ds → 0 < length ds
     → (is_negative (ds ++ more) ≡ false) × (without_minus (ds ++ more) ≡ ds ++ more)
 no_minus [] more digits some = absurd (omega (arith, some))
-no_minus (d ∷ ds) more digits some = let (here, others) = both_hold _ _ digits in rw (digit-no_minus d here) (refl, refl)
+no_minus (d ∷ ds) more digits some = let (here, others) = and_parts _ _ digits in rw (digit-no_minus d here) (refl, refl)
 
 -- a size with the sign of a number is the number
 pub with_sign-size : (units : ℤ) → with_sign (int_lt units (pos 0)) (unsigned_abs units) ≡ units

@@ -1,6 +1,6 @@
 -- No number that stands for the units is shorter than what is written.
 use Rattle.std.proofs.Common.{◌≡◌, ℕ, zero, suc, ◌+◌, ◌-◌, ◌*◌, ◌/◌, ◌%◌, ◌^◌, ◌<◌, ◌≤◌, Bool, true, false, ◌==◌, if◌then◌else◌, List, [], ◌∷◌, length, Option, Some, None, unwrap_or, ℤ, pos, int_lt, unsigned_abs, decimal, inl, inr, refl, sym, ap, ◌∙◌, arith, length-append}
-use Rattle.std.proofs.lemmas.Bool.{cases_eq, cases_lt, le-ltb, lt-ltb}
+use Rattle.std.proofs.lemmas.Bool.{cases_eq, cases_lt, le-ltb, lt-ltb, and_parts}
 use Rattle.std.proofs.lemmas.Fmt.{length-decimal-le}
 use Rattle.std.proofs.lemmas.Int.Digits.{digits_value-lt}
 use Rattle.std.proofs.lemmas.List.{length-take-le, length-drop}
@@ -12,7 +12,7 @@ use Rattle.std.specs.Str.Parse.{digits_value}
 use Rattle.fixed_units.specs.Numbers.{is_negative, without_minus, is_point, whole_of, fraction_of, is_digits, is_number, places_of, billionths_of, size_of, with_sign, Spells}
 use Rattle.fixed_units.specs.Spelling.{fraction_text, sign_text, units_text}
 use Rattle.fixed_units.proofs.Digits.{AreDigits, numerals, scaled-lt}
-use Rattle.fixed_units.proofs.Parts.{both_hold, digits_parts}
+use Rattle.fixed_units.proofs.Parts.{digits_parts}
 use Rattle.fixed_units.proofs.Places.{significant-fewest}
 use Rattle.fixed_units.proofs.Written.{units_text-parts, fraction_text-zero, fraction_text-places, length-sign_text}
 
@@ -89,7 +89,7 @@ number-shortest : (number : List ℕ) → is_number number ≡ true → places_o
     → length (decimal (size_of number / 10 ^ 9)) + length (fraction_text (size_of number % 10 ^ 9)) ≤ length number
 unfolding billionths_of
 number-shortest number is few fits =
-    let (whole_is, fraction_is) = both_hold _ _ is in
+    let (whole_is, fraction_is) = and_parts _ _ is in
     let (some, digits) = digits_parts (whole_of number) whole_is in
     let behind = unwrap_or (fraction_of number) [] in
     let part = digits_value 10 behind * 10 ^ (9 - length behind) in

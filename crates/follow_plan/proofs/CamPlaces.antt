@@ -11,13 +11,6 @@ use Rattle.follow_plan.proofs.Floors.{floor_between, floor_none}
 abbrev pub at_of : List (ℤ × ℤ) → ℕ → ℤ × ℤ
 at_of points at = slice_index_or points at (pos 0, pos 0)
 
--- a test of order, and what it chooses
-true_below : (a b : ℤ) → a <ℤ b → int_lt a b ≡ true
-true_below a b h = grind (arith, ints)
-
-false_above : (a b : ℤ) → b ≤ℤ a → int_lt a b ≡ false
-false_above a b h = grind (arith, ints)
-
 rises_at : (points : List (ℤ × ℤ)) (row i j : ℕ) → IsGoodRow points row → 1 < row → row - 1 ≡ j → row - 1 - 1 ≡ i → (at_of points i).0 <ℤ (at_of points j).0
 rises_at points row i j good second here before = rw (← before, ← here) (good.rises second)
 
@@ -42,20 +35,20 @@ points_rise points i (suc j) table order within =
 pub before_first : (points : List (ℤ × ℤ)) (master : ℤ) → 0 < length points → master <ℤ (at_of points 0).0 → cam_position_of points master ≡ (at_of points 0).1
 unfolding cam_position_of
 before_first [] master some before = absurd (omega arith)
-before_first (p ∷ more) master some before = rw (true_below master p.0 before) refl
+before_first (p ∷ more) master some before = let test : int_lt master p.0 ≡ true = grind (arith, ints) in rw test refl
 
 -- at or behind the first point
 pub passed_first : (p : ℤ × ℤ) (more : List (ℤ × ℤ)) (master : ℤ) → p.0 ≤ℤ master → cam_position_of (p ∷ more) master ≡ position_after p more master
 unfolding cam_position_of
-passed_first p more master passed = rw (false_above master p.0 passed) refl
+passed_first p more master passed = let test : int_lt master p.0 ≡ false = grind (arith, ints) in rw test refl
 
 pub next_passed : (p q : ℤ × ℤ) (more : List (ℤ × ℤ)) (master : ℤ) → q.0 ≤ℤ master → position_after p (q ∷ more) master ≡ position_after q more master
 unfolding position_after
-next_passed p q more master passed = rw (false_above master q.0 passed) refl
+next_passed p q more master passed = let test : int_lt master q.0 ≡ false = grind (arith, ints) in rw test refl
 
 pub next_ahead : (p q : ℤ × ℤ) (more : List (ℤ × ℤ)) (master : ℤ) → master <ℤ q.0 → position_after p (q ∷ more) master ≡ position_between p q master
 unfolding position_after
-next_ahead p q more master ahead = rw (true_below master q.0 ahead) refl
+next_ahead p q more master ahead = let test : int_lt master q.0 ≡ true = grind (arith, ints) in rw test refl
 
 pub none_next : (p : ℤ × ℤ) (master : ℤ) → position_after p [] master ≡ p.1
 unfolding position_after

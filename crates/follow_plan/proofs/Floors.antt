@@ -1,6 +1,6 @@
 -- Quotients rounded down: what they keep, and how large they are.
 use Rattle.std.proofs.Common.{◌≡◌, ℕ, suc, ◌+◌, ◌*◌, ◌/◌, ◌<◌, ◌≤◌, arith, ℤ, pos, negsuc, ◌+ℤ◌, ◌*ℤ◌, ◌≤ℤ◌, ◌<ℤ◌, unsigned_abs}
-use Rattle.std.proofs.Math.Nat.{mul-le-mul_right, mul-le-mul_left, div-le_of_le-mul, div-le_self}
+use Rattle.std.proofs.Math.Nat.{mul-le-mul_right, mul-le-mul_left, div-le_self}
 use Rattle.std.proofs.lemmas.Int.{ints, by_lt_z}
 use borrow.Author.Differences.{up, down}
 use Rattle.follow_plan.specs.Floor.{floor_of}
@@ -22,10 +22,6 @@ unfolding floor_of
 floor_small (pos a) (pos k) some = div-le_self a k
 floor_small (negsuc a) (pos k) some = omega (arith, div-le_self a k)
 floor_small n (negsuc k) some = absurd (omega (arith, ints))
-
--- a part of a way that goes up is between nothing and the whole way
-pub floor_up : (a t x : ℕ) → 0 < x → t ≤ x → a * t / x ≤ a
-floor_up a t x some within = div-le_of_le-mul x (omega (arith, mul-le-mul_left a within))
 
 -- a quotient rounded down is at most z where z times the divisor reaches what is divided
 pub floor_most : (n z : ℤ) (k : ℕ) → 0 < k → up n + down z * k ≤ down n + up z * k → floor_of n (pos k) ≤ℤ z

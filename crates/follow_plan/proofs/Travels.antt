@@ -3,10 +3,6 @@ use Rattle.std.proofs.Common.{◌≡◌, ℤ, pos, List, [], ◌∷◌, arith}
 use Rattle.std.proofs.lemmas.Int.{ints}
 use Rattle.follow_plan.specs.Gear.{gear_difference_of, travel_of, end_of}
 
--- a master that stands asks for no step
-pub no_step_at_rest : (m n d : ℤ) → gear_difference_of m m n d ≡ pos 0
-no_step_at_rest m n d = omega (arith, ints)
-
 -- over a way of the master the differences are that of the whole way
 pub travels_add_up : (m n d : ℤ) (way : List ℤ) → travel_of n d m way ≡ gear_difference_of m (end_of m way) n d
 travels_add_up m n d [] = omega (arith, ints)

@@ -1,5 +1,6 @@
 -- What each step of an axis keeps.
 use Rattle.std.specs.Prelude.{◌≡◌, refl, ◌||◌, int_lt, ℕ, nat_eq, Bool, true, false, ℤ, pos, ◌≤ℤ◌, Option, Some, None, if◌then◌else◌}
+use Rattle.std.proofs.lemmas.Bool.{or_parts}
 use Rattle.std.proofs.Common.{subst, arith}
 use Rattle.std.proofs.lemmas.Int.{ints}
 use Rattle.kin_core.specs.Admissible.{IsKept, AreLimits}
@@ -43,13 +44,9 @@ pub record IsBetween (low z high : ℤ) : Type 0 where
   pub least : low ≤ℤ z
   pub most : z ≤ℤ high
 
-neither : (x y : Bool) → (x || y) ≡ false → (x ≡ false) × (y ≡ false)
-neither true y h = absurd (cc)
-neither false y h = (refl, h)
-
 not_outside : (low z high : ℤ) → is_outside low z high ≡ false → IsBetween low z high
 not_outside low z high h =
-    let parts = neither (int_lt z low) (int_lt high z) h in
+    let parts = or_parts (int_lt z low) (int_lt high z) h in
     let above : int_lt z low ≡ false = parts.0 in
     let below : int_lt high z ≡ false = parts.1 in
     record { least = omega (arith, ints); most = omega (arith, ints) }

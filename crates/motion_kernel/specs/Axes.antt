@@ -5,6 +5,7 @@ use Rattle.axis_state.specs.Counts.{count_of}
 use Rattle.axis_state.specs.declared.definition.AxisDef.{AxisDef}
 use Rattle.axis_state.specs.declared.definition.AxisRow.{AxisRow}
 use Rattle.axis_state.specs.declared.state.AxisState.TheVariants.{Standstill, DiscreteMotion}
+use Rattle.cia402_machine.specs.declared.controlword.TheConstants.{CYCLIC_SYNCHRONOUS_POSITION, ENABLE_OPERATION}
 use Rattle.cia402_machine.specs.declared.drive.DriveIn.{DriveIn}
 use Rattle.command_pool.specs.declared.ending.Refusal.{Refusal}
 use Rattle.fb_outputs.specs.declared.inputs.Inputs.{Inputs}
@@ -131,7 +132,7 @@ row_at a input = record {
   driven = true;
   setpoint = a.setpoint;
   offset = pos 0;
-  output = record { controlword = 15; mode = pos 8; target = count_of a.setpoint (pos 0) a.inc };
+  output = record { controlword = ENABLE_OPERATION; mode = CYCLIC_SYNCHRONOUS_POSITION; target = count_of a.setpoint (pos 0) a.inc };
 }
 
 -- what a cycle makes of an axis, when its next setpoint is known

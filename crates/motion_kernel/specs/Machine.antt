@@ -2,6 +2,9 @@
 use Rattle.std.specs.Prelude.{ℕ, ◌+◌, ◌≡◌, ◌<◌, ◌≤◌, pos, List, [], ◌∷◌, map, length, Option, Some, None, slice_get, slice_index_or, slice_set}
 use Rattle.axis_state.specs.declared.definition.AxisRow.{AxisRow}
 use Rattle.axis_state.specs.declared.state.AxisState.TheVariants.{Disabled}
+use Rattle.cia402_machine.specs.Statusword.{status_of_state}
+use Rattle.cia402_machine.specs.declared.drive.DriveState.TheVariants.{OperationEnabled}
+use Rattle.cia402_machine.specs.declared.controlword.TheConstants.{CYCLIC_SYNCHRONOUS_POSITION}
 use Rattle.cia402_machine.specs.declared.drive.DriveIn.{DriveIn}
 use Rattle.fb_outputs.specs.InstanceState.{InstanceState}
 use Rattle.fb_outputs.specs.Steps as step
@@ -105,8 +108,8 @@ replay m (e ∷ es) = replay (after m e) es
 
 -- a drive's answer is operational: it reads Operation enabled, in cyclic synchronous position mode. IEC 61800-7-201, objects 6041h and 6061h
 pub record IsOperational (d : DriveIn) : Type 0 where
-  pub statusword : d.statusword ≡ 55
-  pub mode_display : d.mode_display ≡ pos 8
+  pub statusword : d.statusword ≡ status_of_state OperationEnabled
+  pub mode_display : d.mode_display ≡ CYCLIC_SYNCHRONOUS_POSITION
 
 -- the entry is the machine's: its reply or its rows are what the machine gives. This project's profile
 abbrev pub IsOf : Machine → Entry → Type 0

@@ -7,7 +7,7 @@ ghost use Rattle.motion_kernel.specs.AxisKept.{IsAxisKept, IsMoveWithin};
 ghost use Rattle.motion_numbers.specs.Ranges.{IsStep, IsWay};
 
 use axis_state::{AxisRow, AxisState, setpoints_have_counts, target_count};
-use cia402_machine::{DriveIn, DriveOut};
+use cia402_machine::{CYCLIC_SYNCHRONOUS_POSITION, DriveIn, DriveOut, ENABLE_OPERATION};
 use command_pool::{Rates, Refusal};
 use fb_outputs::Inputs;
 use kin_core::{Limits, nearest_safe};
@@ -16,12 +16,6 @@ use trapezoid_plan::move_step;
 
 /// The most axes of a kernel.
 pub const MOST_AXES: usize = 16;
-
-/// The controlword of a drive in Operation enabled that is to stay there (object 6040h).
-pub const OPERATE: u16 = 0x000f;
-
-/// Cyclic synchronous position mode (object 6060h).
-pub const SYNCHRONOUS_POSITION: i8 = 8;
 
 /// A move that is the active command of an axis.
 #[derive(Clone, Copy)]
@@ -164,8 +158,8 @@ fn row_at(axis: &Axis, input: &DriveIn) -> AxisRow
         setpoint: axis.setpoint,
         offset: 0,
         output: DriveOut {
-            controlword: OPERATE,
-            mode: SYNCHRONOUS_POSITION,
+            controlword: ENABLE_OPERATION,
+            mode: CYCLIC_SYNCHRONOUS_POSITION,
             target: target_count(axis.setpoint, 0, axis.inc),
         },
     }
