@@ -1,5 +1,8 @@
 -- What a command is asked of, as its parts are handed in.
 use Rattle.std.specs.Prelude.{◌<◌, ◌≤◌, pos, ◌≤ℤ◌, unsigned_abs, length}
+use Rattle.motion_numbers.specs.declared.TheConstants.{MOST_NUMBER}
+use Rattle.axis_state.specs.declared.count.TheConstants.{MOST_OFFSET}
+use Rattle.axis_core.specs.declared.axis.TheConstants.{MOST_SETPOINT}
 use Rattle.motion_numbers.specs.Ranges.{IsStep, IsPlace}
 use Rattle.command_pool.specs.Waiting.{queue_of}
 use Rattle.axis_core.specs.Kept.{IsSmallTarget, AreSmallTargets}
@@ -22,12 +25,12 @@ asked_of q = record {
 -- the numbers of what is asked are small enough to be worked with. This project's profile
 pub record MayAsk (q : Asking) : Type 0 where
   pub list : q.list < length q.pool.now
-  pub position : unsigned_abs (position_of q.wanted.now) ≤ 1000000000000000000
+  pub position : unsigned_abs (position_of q.wanted.now) ≤ MOST_NUMBER
   pub increment : pos 1 ≤ℤ q.axis.now.inc
   pub lo : IsPlace q.axis.now.limits.lo
   pub hi : IsPlace q.axis.now.limits.hi
   pub vmax : IsStep q.axis.now.limits.vmax
-  pub setpoint : unsigned_abs q.axis.now.setpoint ≤ 5000000000000000000
-  pub offset : unsigned_abs q.axis.now.offset ≤ 4000000000000000000
+  pub setpoint : unsigned_abs q.axis.now.setpoint ≤ MOST_SETPOINT
+  pub offset : unsigned_abs q.axis.now.offset ≤ MOST_OFFSET
   pub active : IsSmallTarget q.axis.now.active
   pub waiting : AreSmallTargets (queue_of q.pool.now q.list)

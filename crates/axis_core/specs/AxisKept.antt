@@ -1,6 +1,7 @@
 -- What always holds of an axis and of the commands that wait for it.
 use Rattle.std.specs.Prelude.{◌≡◌, ◌⊎◌, ◌≤◌, Bool, true, false, ℤ, pos, neg_ℤ, ◌≤ℤ◌, ◌+ℤ◌, ◌-ℤ◌, unsigned_abs, Option, Some, None, List, [], ◌∷◌}
-use Rattle.motion_numbers.specs.declared.TheConstants.{MOST_INCREMENT, MOST_PLACE}
+use Rattle.axis_core.specs.declared.axis.TheConstants.{MOST_SETPOINT}
+use Rattle.motion_numbers.specs.declared.TheConstants.{MOST_INCREMENT, MOST_NUMBER, MOST_PLACE}
 use Rattle.axis_state.specs.Counts.{count_of, IsCount, HasCounts}
 use Rattle.axis_state.specs.declared.definition.AxisDef.{AxisDef}
 use Rattle.axis_state.specs.declared.state.AxisState.{AxisState}
@@ -127,7 +128,7 @@ IsInState state.SynchronizedMotion driven powered was_off previous setpoint acti
 -- an axis that is not driven stands where its drive does. This project's profile
 pub record IsPlaced (previous setpoint : ℤ) : Type 0 where
   pub stands : previous ≡ setpoint
-  pub small : unsigned_abs setpoint ≤ 5000000000000000000
+  pub small : unsigned_abs setpoint ≤ MOST_SETPOINT
 
 -- the setpoints can be stopped within the limits while the axis is driven, and are the drive's place while it is not. This project's profile
 abbrev pub IsSet : Bool → Limits → ℤ → ℤ → Type 0
@@ -164,7 +165,7 @@ pub record IsWaiting (l : Limits) (w : Wanted) : Type 0 where
   pub waits : may_wait w.kind ≡ true
   pub numbers : AreNumbers w.kind l w
   pub small : IsSmallTarget (Some w)
-  pub position : unsigned_abs (position_of w) ≤ 1000000000000000000
+  pub position : unsigned_abs (position_of w) ≤ MOST_NUMBER
 
 -- all commands that wait are so. PLCopen Motion Control Part 1, BufferMode
 abbrev pub AreWaiting : Limits → List Wanted → Type 0

@@ -1,5 +1,6 @@
 -- An axis with the commands that wait behind its active one, and what its commands' ends and starts make of it.
 use Rattle.std.specs.Prelude.{ℕ, ◌≤◌, unsigned_abs, false, if◌then◌else◌, ℤ, ◌+ℤ◌, Option, Some, None, IfSome, List, [], ◌∷◌, ◌++◌}
+use Rattle.motion_numbers.specs.declared.TheConstants.{MOST_NUMBER}
 use Rattle.axis_state.specs.declared.state.AxisState.{AxisState}
 use Rattle.axis_state.specs.declared.state.AxisState.TheVariants as state
 use Rattle.axis_state.specs.Diagram.{IsFrom}
@@ -46,7 +47,7 @@ MayBegin k s = IfSome (event_with k) (IsFrom s)
 -- the first command that waits may become active in a state, and its position is small enough to be worked with. This project's profile
 abbrev pub MayTakeOver : AxisState → List Wanted → Type 0
 MayTakeOver s [] = Unit {0}
-MayTakeOver s (w ∷ ws) = MayBegin w.kind s × (unsigned_abs (position_of w) ≤ 1000000000000000000)
+MayTakeOver s (w ∷ ws) = MayBegin w.kind s × (unsigned_abs (position_of w) ≤ MOST_NUMBER)
 
 -- the state in which a command is active. PLCopen Motion Control Part 1, the state diagram
 abbrev pub state_with : BlockKind → AxisState → AxisState

@@ -1,5 +1,6 @@
 -- What a command is asked with.
 use Rattle.std.specs.Prelude.{◌≡◌, ℕ, ◌≤◌, Bool, true, false, ℤ, unsigned_abs, Option, Some, None, List}
+use Rattle.motion_numbers.specs.declared.TheConstants.{MOST_NUMBER}
 use Rattle.command_pool.specs.Waiting.{queue_of}
 use Rattle.command_pool.specs.declared.kind.BlockKind.{BlockKind}
 use Rattle.command_pool.specs.declared.kind.BlockKind.TheVariants as kind
@@ -34,7 +35,7 @@ asked_target k w = None
 -- a command is made of a call's inputs: its kind is an axis's, its position is at most 10^18 in size, its target is the call's, and its mode is Aborting where its kind takes none. PLCopen Motion Control Part 1; the sizes are this project's profile
 pub record IsMade (w : Wanted) : Type 0 where
   pub kind : is_axis_command w.kind ≡ true
-  pub position : unsigned_abs (position_of w) ≤ 1000000000000000000
+  pub position : unsigned_abs (position_of w) ≤ MOST_NUMBER
   pub target : w.target ≡ asked_target w.kind w
   pub mode : may_wait w.kind ≡ false → w.mode ≡ Aborting
 

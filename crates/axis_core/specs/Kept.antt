@@ -1,5 +1,7 @@
 -- The ranges of the numbers that a cycle works with.
 use Rattle.std.specs.Prelude.{◌≡◌, ◌≤◌, ◌*◌, ℤ, pos, ◌≤ℤ◌, ◌<ℤ◌, ◌-ℤ◌, unsigned_abs, false, Option, Some, None, IfSome, slice_get, List, [], ◌∷◌}
+use Rattle.axis_state.specs.declared.count.TheConstants.{MOST_OFFSET}
+use Rattle.axis_core.specs.declared.axis.TheConstants.{MOST_TARGET}
 use Rattle.motion_numbers.specs.declared.TheConstants.{MOST_INCREMENT, MOST_PLACE, MOST_RATIO, MOST_STEP, MOST_WAY}
 use Rattle.motion_numbers.specs.Ranges.{IsStep, IsPlace}
 use Rattle.command_pool.specs.declared.kind.BlockKind.{BlockKind}
@@ -29,7 +31,7 @@ pub record IsBetween (least z most : ℤ) : Type 0 where
 -- the fixed target of a command, if there is one, is small enough to be worked with
 abbrev pub IsSmallTarget : Option Wanted → Type 0
 IsSmallTarget None = Unit {0}
-IsSmallTarget (Some w) = (t : ℤ) → w.target ≡ Some t → unsigned_abs t ≤ 8000000000000000000
+IsSmallTarget (Some w) = (t : ℤ) → w.target ≡ Some t → unsigned_abs t ≤ MOST_TARGET
 
 -- the same of all commands that wait
 abbrev pub AreSmallTargets : List Wanted → Type 0
@@ -110,14 +112,14 @@ pub record HasDrive (a : Axis) : Type 0 where
   pub least : pos 1 ≤ℤ a.inc
   pub most : a.inc ≤ℤ pos MOST_INCREMENT
   pub lowest : IsNear a.limits.lo
-  pub offset : unsigned_abs a.offset ≤ 4000000000000000000
+  pub offset : unsigned_abs a.offset ≤ MOST_OFFSET
 
 -- an axis whose driven spell may go on, and the commands that wait: the numbers are in their ranges. This project's profile
 pub record MayGoOn (a : Axis) (waiting : List Wanted) : Type 0 where
   pub moving : IsMoving a
   pub active : IfSome a.active (λ w. IsCarried w.kind w)
   pub next : IfSome (slice_get waiting 0) IsBlendable
-  pub offset : unsigned_abs a.offset ≤ 4000000000000000000
+  pub offset : unsigned_abs a.offset ≤ MOST_OFFSET
   pub state : is_error_stop a.state ≡ false → IsFrom a.state event.Error
   pub queue : MayTakeOver a.state waiting
 

@@ -1,5 +1,5 @@
 -- Why a command on an axis is refused.
-use Rattle.std.specs.Prelude.{ℕ, Bool, true, false, not, ◌&&◌, ◌||◌, ◌==◌, nat_lt, int_lt, int_le, if◌then◌else◌, ℤ, pos, neg_ℤ, ◌+ℤ◌, ◌-ℤ◌, Option, Some, None, is_some, List, [], ◌∷◌, length}
+use Rattle.std.specs.Prelude.{◌^◌, ◌-◌, ℕ, Bool, true, false, not, ◌&&◌, ◌||◌, ◌==◌, nat_lt, int_lt, int_le, if◌then◌else◌, ℤ, pos, neg_ℤ, ◌+ℤ◌, ◌-ℤ◌, Option, Some, None, is_some, List, [], ◌∷◌, length}
 use Rattle.std.specs.Ordering.{int_eq}
 use Rattle.motion_numbers.specs.declared.TheConstants.{MOST_RATIO}
 use Rattle.axis_state.specs.Counts.{count_of}
@@ -97,7 +97,7 @@ least_velocity_of k l = pos 1
 -- whether the places within the limits have counts of 32 bits. IEC 61800-7-201, object 607Ah
 abbrev pub has_counts : Limits → ℤ → ℤ → Bool
 has_counts l offset inc =
-    int_le (neg_ℤ (pos 2147483648)) (count_of l.lo offset inc) && int_le (count_of l.hi offset inc) (pos 2147483647)
+    int_le (neg_ℤ (pos (2 ^ 31))) (count_of l.lo offset inc) && int_le (count_of l.hi offset inc) (pos (2 ^ 31 - 1))
 
 -- whether a Home moves the coordinate where the axis has no counts. IEC 61800-7-201, object 607Ah
 abbrev pub breaks_counts : BlockKind → Axis → ℤ → Bool

@@ -4,6 +4,18 @@ use axis_state::AxisState;
 use command_pool::Wanted;
 use kin_core::Limits;
 
+/// The greatest size of a setpoint, in internal units: that of an axis that is not driven is the
+/// place of its drive's count.
+pub const MOST_SETPOINT: u64 = 5_000_000_000_000_000_000;
+
+/// The greatest size of a target, in internal units, before it is looked at whether it lies within
+/// the limits.
+pub const MOST_TARGET: u64 = 8_000_000_000_000_000_000;
+
+/// The greatest size of an offset after a Home, in internal units, before it is looked at whether
+/// the axis has counts with it.
+pub const MOST_MOVED: u64 = 9_200_000_000_000_000_000;
+
 /// A Reset that is done in a later cycle.
 #[derive(Clone, Copy, Debug, PartialEq, Eq)]
 pub struct PendingReset {

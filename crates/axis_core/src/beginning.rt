@@ -9,11 +9,12 @@ ghost use Rattle.axis_core.specs.Cores.{core_at, MayBegin, MayTakeOver, all_ende
 ghost use Rattle.axis_core.specs.Targets.{position_of};
 ghost use Rattle.buffer_modes.specs.Queue.{active_note};
 
-use crate::axis::Axis;
+use crate::axis::{Axis, MOST_TARGET};
 use crate::refusing::is_outside;
-use axis_state::{AxisEvent, AxisState, axis_next};
+use axis_state::{AxisEvent, AxisState, MOST_REPORTED, axis_next};
 use buffer_modes::abort_all;
 use command_pool::{BlockKind, CommandPool, Finish, Notes, Wanted};
+use motion_numbers::MOST_NUMBER;
 
 /// The error of a move whose target is outside the limits when it becomes active.
 const TARGET_OUTSIDE_AT_START: u16 = 106;
@@ -158,10 +159,10 @@ fn begin_from(
 
 // The target of a move that begins where the axis stands.
 fn target_here(axis: &Axis, wanted: &Wanted) -> i64
-    requires setpoint { unsigned_abs axis.now.setpoint ≤ 7000000000000000000 }
-    requires position { unsigned_abs (position_of wanted.now) ≤ 1000000000000000000 }
+    requires setpoint { unsigned_abs axis.now.setpoint ≤ MOST_REPORTED }
+    requires position { unsigned_abs (position_of wanted.now) ≤ MOST_NUMBER }
     ensures value { result ≡ axis.now.setpoint +ℤ position_of wanted.now }
-    ensures small { unsigned_abs result ≤ 8000000000000000000 }
+    ensures small { unsigned_abs result ≤ MOST_TARGET }
 {
     axis.setpoint + wanted.targets[0]
 }
@@ -178,8 +179,8 @@ fn begin_waiting(
     requires room { length notes.old ≤ 3 }
     requires state { IsFrom axis.old.state event.Error }
     requires begin { MayBegin wanted.now.kind axis.old.state }
-    requires setpoint { unsigned_abs axis.old.setpoint ≤ 7000000000000000000 }
-    requires position { unsigned_abs (position_of wanted.now) ≤ 1000000000000000000 }
+    requires setpoint { unsigned_abs axis.old.setpoint ≤ MOST_REPORTED }
+    requires position { unsigned_abs (position_of wanted.now) ≤ MOST_NUMBER }
     ensures after { core_at axis.new pool.new list notes.new
         ≡ taken_over_by wanted.now.kind wanted.now.target wanted.now (core_at axis.old pool.old list notes.old) }
     ensures others { pool.new ≡ slice_set pool.old list (queue_of pool.new list) }
@@ -212,7 +213,7 @@ fn take_over_next(axis: &mut Axis, pool: &mut CommandPool, list: u8, notes: &mut
     requires room { length notes.old ≤ 3 }
     requires state { IsFrom axis.old.state event.Error }
     requires waiting { MayTakeOver axis.old.state (queue_of pool.old list) }
-    requires setpoint { unsigned_abs axis.old.setpoint ≤ 7000000000000000000 }
+    requires setpoint { unsigned_abs axis.old.setpoint ≤ MOST_REPORTED }
     ensures after { core_at axis.new pool.new list notes.new
         ≡ taken_over (queue_of pool.old list) (core_at axis.old pool.old list notes.old) }
     ensures others { pool.new ≡ slice_set pool.old list (queue_of pool.new list) }
@@ -230,7 +231,7 @@ pub fn end(finish: Finish, axis: &mut Axis, pool: &mut CommandPool, list: u8, no
     requires room { length notes.old ≤ 2 }
     requires state { IsFrom axis.old.state event.Error }
     requires waiting { MayTakeOver axis.old.state (queue_of pool.old list) }
-    requires setpoint { unsigned_abs axis.old.setpoint ≤ 7000000000000000000 }
+    requires setpoint { unsigned_abs axis.old.setpoint ≤ MOST_REPORTED }
     ensures after { core_at axis.new pool.new list notes.new ≡ ended finish (core_at axis.old pool.old list notes.old) }
     ensures others { pool.new ≡ slice_set pool.old list (queue_of pool.new list) }
 {

@@ -17,11 +17,12 @@ use crate::beginning::{begin, end_all};
 use crate::blendings::old_step;
 use crate::refusing::{Asking, refusal_of};
 use crate::targets::known_target;
-use axis_state::offsets_are_small;
+use axis_state::{MOST_REPORTED, offsets_are_small};
 use buffer_modes::admit;
 use command_pool::{
     BlockKind, BufferMode, CommandPool, Finish, Follow, Note, Notes, Rates, Refusal, Wanted,
 };
+use motion_numbers::MOST_NUMBER;
 
 // A Reset is pending; one that it replaces is aborted.
 fn await_reset(wanted: &Wanted, axis: &mut Axis, notes: &mut Notes)
@@ -109,8 +110,8 @@ fn join_with_target(
 ) -> bool
     requires list { list < length pool.old }
     requires room { length notes.old ≤ 3 }
-    requires position { unsigned_abs (position_of wanted.now) ≤ 1000000000000000000 }
-    requires setpoint { unsigned_abs axis.old.setpoint ≤ 7000000000000000000 }
+    requires position { unsigned_abs (position_of wanted.now) ≤ MOST_NUMBER }
+    requires setpoint { unsigned_abs axis.old.setpoint ≤ MOST_REPORTED }
     requires active { IsSmallTarget axis.old.active }
     requires waiting { AreSmallTargets (queue_of pool.old list) }
     requires begin { MayBegin wanted.now.kind axis.old.state }
@@ -135,8 +136,8 @@ fn admit_command(
 ) -> bool
     requires list { list < length pool.old }
     requires room { length notes.old ≤ 3 }
-    requires position { unsigned_abs (position_of wanted.now) ≤ 1000000000000000000 }
-    requires setpoint { unsigned_abs axis.old.setpoint ≤ 7000000000000000000 }
+    requires position { unsigned_abs (position_of wanted.now) ≤ MOST_NUMBER }
+    requires setpoint { unsigned_abs axis.old.setpoint ≤ MOST_REPORTED }
     requires active { IsSmallTarget axis.old.active }
     requires waiting { AreSmallTargets (queue_of pool.old list) }
     requires may { MayAdmit wanted.now.kind wanted.now (core_at axis.old pool.old list notes.old) }

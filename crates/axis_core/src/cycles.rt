@@ -26,8 +26,9 @@ use crate::states::{is_error_stop, is_stopping, is_synchronized};
 use crate::wish::Wish;
 use crate::wishes::{blending_with, is_reached, taken, target_of, wish};
 use axis_state::{
-    AxisEvent, AxisRow, AxisState, DriveIn, DriveOut, axis_next, counts_are_read_back,
-    homing_keeps_counts, offsets_are_small, setpoints_have_counts, target_count,
+    AxisEvent, AxisRow, AxisState, DriveIn, DriveOut, MOST_COUNTED, MOST_OFFSET, MOST_REPORTED,
+    axis_next, counts_are_read_back, homing_keeps_counts, offsets_are_small, setpoints_have_counts,
+    target_count,
 };
 use cia402_machine::{CYCLIC_SYNCHRONOUS_POSITION, next_controlword, state_of};
 use command_pool::{BlockKind, CommandPool, Finish, Note, Notes, Wanted};
@@ -80,7 +81,7 @@ fn brake(axis: &mut Axis)
 fn home(target: i64, axis: &mut Axis)
     requires target { IsNear target }
     requires setpoint { IsNear axis.old.setpoint }
-    requires offset { unsigned_abs axis.old.offset ≤ 4000000000000000000 }
+    requires offset { unsigned_abs axis.old.offset ≤ MOST_OFFSET }
     ensures { axis.new ≡ spec.homed target axis.old }
 {
     let offset = moved_offset(axis, target);
@@ -162,9 +163,9 @@ fn follow(wanted: &Wanted, step: i64, look: &AxisLook, axis: &mut Axis)
     requires carried { IsCarried wanted.now.kind wanted.now }
     requires cam { IsNear look.now.cam }
     requires step { IsStep step }
-    requires offset { unsigned_abs axis.old.offset ≤ 4000000000000000000 }
+    requires offset { unsigned_abs axis.old.offset ≤ MOST_OFFSET }
     ensures after { axis.new ≡ spec.followed wanted.now.kind wanted.now step look.now axis.old }
-    ensures small { unsigned_abs axis.new.setpoint ≤ 7000000000000000000 }
+    ensures small { unsigned_abs axis.new.setpoint ≤ MOST_REPORTED }
     ensures state { axis.new.state ≡ axis.old.state }
 {
     if matches!(wanted.kind, BlockKind::Home) {
@@ -189,7 +190,7 @@ fn end_where(
     requires room { length notes.old ≤ 2 }
     requires state { IsFrom axis.old.state event.Error }
     requires waiting { IfSome ending (λ f. MayTakeOver axis.old.state (queue_of pool.old list)) }
-    requires setpoint { unsigned_abs axis.old.setpoint ≤ 7000000000000000000 }
+    requires setpoint { unsigned_abs axis.old.setpoint ≤ MOST_REPORTED }
     ensures after { core_at axis.new pool.new list notes.new ≡ spec.ended_where ending (core_at axis.old pool.old list notes.old) }
     ensures others { pool.new ≡ slice_set pool.old list (queue_of pool.new list) }
 {
@@ -223,7 +224,7 @@ fn carry(
     requires next { IfSome (slice_get (queue_of pool.old list) 0) IsBlendable }
     requires cam { IsNear look.now.cam }
     requires step { IsStep step }
-    requires offset { unsigned_abs axis.old.offset ≤ 4000000000000000000 }
+    requires offset { unsigned_abs axis.old.offset ≤ MOST_OFFSET }
     requires state { IsFrom axis.old.state event.Error }
     requires waiting { MayTakeOver axis.old.state (queue_of pool.old list) }
     ensures after { core_at axis.new pool.new list notes.new
@@ -253,7 +254,7 @@ fn carry_by(
     requires next { IfSome (slice_get (queue_of pool.old list) 0) IsBlendable }
     requires cam { IsNear look.now.cam }
     requires step { IsStep step }
-    requires offset { unsigned_abs axis.old.offset ≤ 4000000000000000000 }
+    requires offset { unsigned_abs axis.old.offset ≤ MOST_OFFSET }
     requires state { IsFrom axis.old.state event.Error }
     requires waiting { MayTakeOver axis.old.state (queue_of pool.old list) }
     ensures after { core_at axis.new pool.new list notes.new
@@ -301,7 +302,7 @@ fn obey(
     requires next { IfSome (slice_get (queue_of pool.old list) 0) IsBlendable }
     requires cam { IsNear look.now.cam }
     requires wish { IsSmallWish wish }
-    requires offset { unsigned_abs axis.old.offset ≤ 4000000000000000000 }
+    requires offset { unsigned_abs axis.old.offset ≤ MOST_OFFSET }
     requires state { IsFrom axis.old.state event.Error }
     requires waiting { MayTakeOver axis.old.state (queue_of pool.old list) }
     ensures after { core_at axis.new pool.new list notes.new
@@ -345,7 +346,7 @@ fn obey_command(
     requires active { IfSome axis.old.active (λ w. IsCarried w.kind w) }
     requires next { IfSome (slice_get (queue_of pool.old list) 0) IsBlendable }
     requires cam { IsNear look.now.cam }
-    requires offset { unsigned_abs axis.old.offset ≤ 4000000000000000000 }
+    requires offset { unsigned_abs axis.old.offset ≤ MOST_OFFSET }
     requires state { IsFrom axis.old.state event.Error }
     requires waiting { MayTakeOver axis.old.state (queue_of pool.old list) }
     ensures after { core_at axis.new pool.new list notes.new
@@ -375,7 +376,7 @@ fn advance(look: &AxisLook, axis: &mut Axis, pool: &mut CommandPool, list: u8, n
     requires active { IfSome axis.old.active (λ w. IsCarried w.kind w) }
     requires next { IfSome (slice_get (queue_of pool.old list) 0) IsBlendable }
     requires cam { IsNear look.now.cam }
-    requires offset { unsigned_abs axis.old.offset ≤ 4000000000000000000 }
+    requires offset { unsigned_abs axis.old.offset ≤ MOST_OFFSET }
     requires state { is_error_stop axis.old.state ≡ false → IsFrom axis.old.state event.Error }
     requires waiting { MayTakeOver axis.old.state (queue_of pool.old list) }
     ensures after { core_at axis.new pool.new list notes.new ≡ spec.moved look.now (core_at axis.old pool.old list notes.old) }
@@ -497,7 +498,7 @@ fn give(input: &DriveIn, axis: &mut Axis)
 #[tactic(auto, unfolding(crate::specs::Cycles::row_of))]
 pub fn row(input: &DriveIn, axis: &Axis) -> AxisRow
     requires least { pos 1 ≤ℤ axis.now.inc }
-    requires distance { unsigned_abs (axis.now.setpoint -ℤ axis.now.offset) ≤ 9000000000000000000 }
+    requires distance { unsigned_abs (axis.now.setpoint -ℤ axis.now.offset) ≤ MOST_COUNTED }
     requires count { IsCount (count_of axis.now.setpoint axis.now.offset axis.now.inc) }
     ensures { result ≡ spec.row_of input.now axis.now }
 {

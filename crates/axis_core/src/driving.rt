@@ -9,7 +9,7 @@ ghost use Rattle.axis_core.specs.Kept.{HasDrive};
 use crate::axis::Axis;
 use crate::refusing::is_outside;
 use crate::states::is_error_stop;
-use axis_state::{AxisEvent, AxisState, DriveIn, axis_next, place};
+use axis_state::{AxisEvent, AxisState, DriveIn, MOST_REPORTED, axis_next, place};
 use cia402_machine::{CYCLIC_SYNCHRONOUS_POSITION, DriveState, state_of};
 
 /// DriveFault: the drive reads Fault or Fault reaction active.
@@ -63,7 +63,7 @@ pub fn has_fault(input: &DriveIn) -> bool
 pub fn actual(axis: &Axis, input: &DriveIn) -> i64
     requires { HasDrive axis.now }
     ensures value { result ≡ spec.actual_of axis.now input.now }
-    ensures small { unsigned_abs result ≤ 7000000000000000000 }
+    ensures small { unsigned_abs result ≤ MOST_REPORTED }
 {
     place(axis.limits.lo, input.actual, axis.offset, axis.inc)
 }

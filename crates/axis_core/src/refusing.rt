@@ -6,11 +6,12 @@ ghost use Rattle.axis_core.specs.Refusals as spec;
 ghost use Rattle.axis_state.specs.Counts.{count_of};
 ghost use Rattle.motion_numbers.specs.Ranges.{IsStep, IsPlace};
 
-use crate::axis::Axis;
+use crate::axis::{Axis, MOST_MOVED, MOST_SETPOINT};
 use crate::reason::Reason;
 use crate::states::{is_disabled, is_error_stop, is_homing, is_standstill, is_stopping};
 use crate::targets::{is_aborting, known_target};
 use crate::tests_of::tests_of;
+use axis_state::MOST_OFFSET;
 use command_pool::{BlockKind, CommandPool, Follow, Wanted};
 use kin_core::Limits;
 
@@ -51,7 +52,7 @@ fn least_velocity(kind: BlockKind, limits: &Limits) -> i64
 fn count(place: i64, offset: i64, inc: i64) -> i64
     requires increment { pos 1 ≤ℤ inc }
     requires place { IsPlace place }
-    requires offset { unsigned_abs offset ≤ 9200000000000000000 }
+    requires offset { unsigned_abs offset ≤ MOST_MOVED }
     ensures { result ≡ count_of place offset inc }
 {
     (place - offset).div_euclid(inc)
@@ -62,11 +63,11 @@ fn has_counts(limits: &Limits, offset: i64, inc: i64) -> bool
     requires increment { pos 1 ≤ℤ inc }
     requires lo { IsPlace limits.now.lo }
     requires hi { IsPlace limits.now.hi }
-    requires offset { unsigned_abs offset ≤ 9200000000000000000 }
+    requires offset { unsigned_abs offset ≤ MOST_MOVED }
     ensures { result ≡ spec.has_counts limits.now offset inc }
 {
-    -2_147_483_648 <= count(limits.lo, offset, inc)
-        && count(limits.hi, offset, inc) <= 2_147_483_647
+    i64::from(i32::MIN) <= count(limits.lo, offset, inc)
+        && count(limits.hi, offset, inc) <= i64::from(i32::MAX)
 }
 
 // Whether the ratio of a gear is out of range.
@@ -129,8 +130,8 @@ fn is_target_outside(kind: BlockKind, axis: &Axis, target: Option<i64>) -> bool
     requires increment { pos 1 ≤ℤ axis.now.inc }
     requires lo { IsPlace axis.now.limits.lo }
     requires hi { IsPlace axis.now.limits.hi }
-    requires setpoint { unsigned_abs axis.now.setpoint ≤ 5000000000000000000 }
-    requires offset { unsigned_abs axis.now.offset ≤ 4000000000000000000 }
+    requires setpoint { unsigned_abs axis.now.setpoint ≤ MOST_SETPOINT }
+    requires offset { unsigned_abs axis.now.offset ≤ MOST_OFFSET }
     ensures { result ≡ spec.is_target_outside kind axis.now target }
 {
     match target {
@@ -146,8 +147,8 @@ fn breaks_counts(kind: BlockKind, axis: &Axis, target: i64) -> bool
     requires increment { pos 1 ≤ℤ axis.now.inc }
     requires lo { IsPlace axis.now.limits.lo }
     requires hi { IsPlace axis.now.limits.hi }
-    requires setpoint { unsigned_abs axis.now.setpoint ≤ 5000000000000000000 }
-    requires offset { unsigned_abs axis.now.offset ≤ 4000000000000000000 }
+    requires setpoint { unsigned_abs axis.now.setpoint ≤ MOST_SETPOINT }
+    requires offset { unsigned_abs axis.now.offset ≤ MOST_OFFSET }
     requires target { IsPlace target }
     ensures { result ≡ spec.breaks_counts kind axis.now target }
 {
@@ -157,11 +158,11 @@ fn breaks_counts(kind: BlockKind, axis: &Axis, target: i64) -> bool
 
 /// The offset of an axis whose setpoint becomes another position.
 pub fn moved_offset(axis: &Axis, target: i64) -> i64
-    requires setpoint { unsigned_abs axis.now.setpoint ≤ 5000000000000000000 }
-    requires offset { unsigned_abs axis.now.offset ≤ 4000000000000000000 }
+    requires setpoint { unsigned_abs axis.now.setpoint ≤ MOST_SETPOINT }
+    requires offset { unsigned_abs axis.now.offset ≤ MOST_OFFSET }
     requires target { IsPlace target }
     ensures value { result ≡ axis.now.offset +ℤ (target -ℤ axis.now.setpoint) }
-    ensures small { unsigned_abs result ≤ 9200000000000000000 }
+    ensures small { unsigned_abs result ≤ MOST_MOVED }
 {
     axis.offset + (target - axis.setpoint)
 }

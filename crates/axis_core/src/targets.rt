@@ -6,8 +6,10 @@ ghost use Rattle.command_pool.specs.Waiting.{queue_of, last_of};
 ghost use Rattle.axis_core.specs.Targets as spec;
 ghost use Rattle.axis_core.specs.Kept.{AreSmallTargets, IsSmallTarget};
 
-use crate::axis::Axis;
+use crate::axis::{Axis, MOST_TARGET};
+use axis_state::MOST_REPORTED;
 use command_pool::{BlockKind, BufferMode, CommandPool, Wanted};
+use motion_numbers::MOST_NUMBER;
 
 /// Whether a command ends those before it at once.
 pub fn is_aborting(mode: BufferMode) -> bool
@@ -27,7 +29,7 @@ pub fn is_move(kind: BlockKind) -> bool
 pub fn move_target(command: &Option<Wanted>) -> Option<i64>
     requires { IsSmallTarget command.now }
     ensures value { result ≡ spec.move_target_of command.now }
-    ensures small { IfSome result (λ t. unsigned_abs t ≤ 8000000000000000000) }
+    ensures small { IfSome result (λ t. unsigned_abs t ≤ MOST_TARGET) }
 {
     match command {
         None => None,
@@ -57,7 +59,7 @@ fn target_before(active: &Option<Wanted>, pool: &CommandPool, list: u8) -> Optio
     requires active { IsSmallTarget active.now }
     requires waiting { AreSmallTargets (queue_of pool.now list) }
     ensures value { result ≡ spec.move_target_of (spec.command_before active.now (last_of (queue_of pool.now list))) }
-    ensures small { IfSome result (λ t. unsigned_abs t ≤ 8000000000000000000) }
+    ensures small { IfSome result (λ t. unsigned_abs t ≤ MOST_TARGET) }
 {
     match last_waiting(pool, list) {
         None => move_target(active),
@@ -67,8 +69,8 @@ fn target_before(active: &Option<Wanted>, pool: &CommandPool, list: u8) -> Optio
 
 // A target that lies so far from another.
 fn target_from(distance: i64, target: Option<i64>) -> Option<i64>
-    requires distance { unsigned_abs distance ≤ 1000000000000000000 }
-    requires target { IfSome target (λ t. unsigned_abs t ≤ 8000000000000000000) }
+    requires distance { unsigned_abs distance ≤ MOST_NUMBER }
+    requires target { IfSome target (λ t. unsigned_abs t ≤ MOST_TARGET) }
     ensures { result ≡ spec.target_from distance target }
 {
     match target {
@@ -80,8 +82,8 @@ fn target_from(distance: i64, target: Option<i64>) -> Option<i64>
 // The target of a MoveRelative in its call.
 fn relative_target(axis: &Axis, pool: &CommandPool, list: u8, wanted: &Wanted) -> Option<i64>
     requires list { list < length pool.now }
-    requires position { unsigned_abs (spec.position_of wanted.now) ≤ 1000000000000000000 }
-    requires setpoint { unsigned_abs axis.now.setpoint ≤ 7000000000000000000 }
+    requires position { unsigned_abs (spec.position_of wanted.now) ≤ MOST_NUMBER }
+    requires setpoint { unsigned_abs axis.now.setpoint ≤ MOST_REPORTED }
     requires active { IsSmallTarget axis.now.active }
     requires waiting { AreSmallTargets (queue_of pool.now list) }
     ensures { result ≡ spec.relative_target_of axis.now (queue_of pool.now list) wanted.now }
@@ -98,8 +100,8 @@ fn relative_target(axis: &Axis, pool: &CommandPool, list: u8, wanted: &Wanted) -
 #[tactic(auto, unfolding(crate::specs::Targets::known_target_of))]
 pub fn known_target(axis: &Axis, pool: &CommandPool, list: u8, wanted: &Wanted) -> Option<i64>
     requires list { list < length pool.now }
-    requires position { unsigned_abs (spec.position_of wanted.now) ≤ 1000000000000000000 }
-    requires setpoint { unsigned_abs axis.now.setpoint ≤ 7000000000000000000 }
+    requires position { unsigned_abs (spec.position_of wanted.now) ≤ MOST_NUMBER }
+    requires setpoint { unsigned_abs axis.now.setpoint ≤ MOST_REPORTED }
     requires active { IsSmallTarget axis.now.active }
     requires waiting { AreSmallTargets (queue_of pool.now list) }
     ensures { result ≡ spec.known_target_of axis.now (queue_of pool.now list) wanted.now }

@@ -1,5 +1,5 @@
 -- Places of an axis in the increments of its drive.
-use Rattle.std.specs.Prelude.{ℤ, pos, neg_ℤ, ◌+ℤ◌, ◌-ℤ◌, ◌*ℤ◌, ◌≤ℤ◌, ◌&&◌, int_lt, if◌then◌else◌}
+use Rattle.std.specs.Prelude.{◌^◌, ◌-◌, ℤ, pos, neg_ℤ, ◌+ℤ◌, ◌-ℤ◌, ◌*ℤ◌, ◌≤ℤ◌, ◌&&◌, int_lt, if◌then◌else◌}
 use Rattle.std.specs.Int.{int_div_euclid}
 use Rattle.kin_core.specs.declared.limits.Limits.{Limits}
 
@@ -15,10 +15,10 @@ place_of lo count offset inc =
 
 -- a count has 32 bits. IEC 61800-7-201, objects 607Ah and 6064h
 pub record IsCount (count : ℤ) : Type 0 where
-  pub least : neg_ℤ (pos 2147483648) ≤ℤ count
-  pub most : count ≤ℤ pos 2147483647
+  pub least : neg_ℤ (pos (2 ^ 31)) ≤ℤ count
+  pub most : count ≤ℤ pos (2 ^ 31 - 1)
 
 -- the places within the limits have counts of 32 bits. IEC 61800-7-201, object 607Ah
 pub record HasCounts (limits : Limits) (offset inc : ℤ) : Type 0 where
-  pub lowest : neg_ℤ (pos 2147483648) ≤ℤ count_of limits.lo offset inc
-  pub highest : count_of limits.hi offset inc ≤ℤ pos 2147483647
+  pub lowest : neg_ℤ (pos (2 ^ 31)) ≤ℤ count_of limits.lo offset inc
+  pub highest : count_of limits.hi offset inc ≤ℤ pos (2 ^ 31 - 1)

@@ -1,6 +1,6 @@
 // Laws of drive coordinates: each is the contract of a function that does nothing.
 
-ghost use Rattle.std.specs.Prelude.{◌≡◌, ◌≤◌, ◌<◌, ℤ, pos, neg_ℤ, ◌+ℤ◌, ◌-ℤ◌, ◌*ℤ◌, ◌≤ℤ◌, ◌<ℤ◌, unsigned_abs};
+ghost use Rattle.std.specs.Prelude.{◌≡◌, ◌≤◌, ◌<◌, ◌+◌, ◌*◌, ◌^◌, ℤ, pos, neg_ℤ, ◌+ℤ◌, ◌-ℤ◌, ◌*ℤ◌, ◌≤ℤ◌, ◌<ℤ◌, unsigned_abs};
 ghost use Rattle.kin_core.specs.declared.limits.Limits.{Limits};
 ghost use Rattle.axis_state.specs.Counts.{count_of, place_of, IsCount, HasCounts};
 
@@ -14,12 +14,13 @@ pub fn setpoints_have_counts()
         IsCount (count_of setpoint offset inc) }
 {}
 
-/// The offset of an axis whose places have counts of 32 bits is at most 10^15 + 2^31 * 10^9.
+/// The offset of an axis whose places have counts of 32 bits is at most the greatest place and
+/// 2^31 of the greatest increments.
 pub fn offsets_are_small()
     ensures { (limits : Limits) (offset inc : ℤ) → pos 1 ≤ℤ inc → inc ≤ℤ pos MOST_INCREMENT →
         neg_ℤ (pos MOST_PLACE) ≤ℤ limits.lo → limits.lo ≤ℤ limits.hi →
         limits.hi ≤ℤ pos MOST_PLACE → HasCounts limits offset inc →
-        unsigned_abs offset ≤ 2148483648000000000 }
+        unsigned_abs offset ≤ MOST_PLACE + 2 ^ 31 * MOST_INCREMENT }
 {}
 
 /// The target of a setpoint within the limits lies at a place within the limits, at most at the
@@ -44,7 +45,7 @@ pub fn counts_are_read_back()
         count_of (place_of lo count offset inc) offset inc ≡ count }
     ensures distance { (lo count offset inc : ℤ) → pos 1 ≤ℤ inc → inc ≤ℤ pos MOST_INCREMENT →
         IsCount count →
-        unsigned_abs (place_of lo count offset inc -ℤ offset) ≤ 2147483649000000000 }
+        unsigned_abs (place_of lo count offset inc -ℤ offset) ≤ (2 ^ 31 + 1) * MOST_INCREMENT }
 {}
 
 /// The setpoint and the offset that move together, as in homing, keep the target's count.

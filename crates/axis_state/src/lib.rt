@@ -11,7 +11,7 @@ mod state;
 mod tests;
 
 pub use cia402_machine::{DriveIn, DriveOut};
-pub use count::{place, target_count};
+pub use count::{MOST_COUNTED, MOST_OFFSET, MOST_REPORTED, place, target_count};
 pub use definition::{AxisDef, AxisRow};
 pub use diagram::{AxisEvent, axis_next};
 pub use kin_core::Limits;

@@ -16,3 +16,6 @@ pub const MOST_INCREMENT: u64 = 1_000_000_000;
 
 /// The greatest numerator, as a size, and the greatest denominator of a gear's ratio.
 pub const MOST_RATIO: u64 = 1_000_000;
+
+/// The greatest size of a number in a text and of a block's input.
+pub const MOST_NUMBER: u64 = 1_000_000_000_000_000_000;
