@@ -1,5 +1,5 @@
 // The greatest step from which speeding up takes no less than a way.
-ghost use Rattle.std.specs.Prelude.{◌≡◌, ℕ, ◌+◌, ◌*◌, ◌^◌, ◌≤◌, ◌<◌};
+ghost use Rattle.std.specs.Prelude.{◌≡◌, ℕ, ◌+◌, ◌-◌, ◌*◌, ◌/◌, ◌^◌, ◌≤◌, ◌<◌};
 ghost use Rattle.blend_plan.specs.Sums.{rise_of};
 
 use motion_numbers::{MOST_STEP, MOST_WAY};
@@ -98,7 +98,17 @@ fn rise_sum(u: u64, v: u64, a: u64) -> u128
     ensures small { result < 2 ^ 70 }
 {
     sums_of_ramps();
-    let terms = (v - u).div_ceil(a);
+    with_terms((v - u).div_ceil(a), u, v, a)
+}
+
+// The same from the number of its terms below `v`.
+fn with_terms(terms: u64, u: u64, v: u64, a: u64) -> u128
+    requires few { terms ≤ MOST_STEP }
+    requires step { u ≤ MOST_STEP }
+    requires velocity { v ≤ MOST_STEP }
+    requires most { a ≤ MOST_STEP }
+    ensures { result ≡ a * (terms * (terms - 1) / 2) + u * terms + v }
+{
     let pairs = terms as u128 * terms.saturating_sub(1) as u128 / 2;
     a as u128 * pairs + u as u128 * terms as u128 + v as u128
 }

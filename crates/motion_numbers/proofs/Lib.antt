@@ -1,3 +1,3 @@
 pub mod Runs
-pub mod Reaches
 pub mod Searches
+pub mod Reaches

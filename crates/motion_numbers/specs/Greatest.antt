@@ -6,11 +6,6 @@ unfoldable pub greatest : ℕ → (ℕ → Bool) → Option ℕ
 greatest zero test = if test zero then Some zero else None
 greatest (suc n) test = if test (suc n) then Some (suc n) else greatest n test
 
--- the greatest number up to n that passes the test, or 0 where none does
-unfoldable pub greatest_up_to : ℕ → (ℕ → Bool) → ℕ
-greatest_up_to zero test = 0
-greatest_up_to (suc n) test = if test (suc n) then suc n else greatest_up_to n test
-
 -- what is found up to n: a number that passes, and no greater one up to n does; or none up to n passes
 pub data IsFound (n : ℕ) (test : ℕ → Bool) (found : Option ℕ) : Type 0 where
   found_at : (g : ℕ) → found ≡ Some g → test g ≡ true →
