@@ -1,15 +1,14 @@
 -- A first move whose second one waits to be blended always ends.
-use Rattle.std.proofs.Common.{◌≡◌, ◌⊎◌, ℕ, zero, suc, ◌-◌, ◌≤◌, true, false, ℤ, pos, ◌+ℤ◌, ◌-ℤ◌, ◌<ℤ◌, ◌≤ℤ◌, unsigned_abs, arith, ◌∙◌, inl, inr}
+use Rattle.std.proofs.Common.{◌≡◌, ℕ, zero, suc, ◌-◌, false, ℤ, pos, ◌+ℤ◌, ◌-ℤ◌, ◌<ℤ◌, ◌≤ℤ◌, unsigned_abs, arith, ◌∙◌, inl, inr}
 use Rattle.std.proofs.lemmas.Bool.{cases_Bool, cond-true, cond-false, false_from_ne_true, both_ways}
 use Rattle.std.proofs.lemmas.Int.{ints, by_lt_z}
 use Rattle.kin_core.specs.declared.limits.Limits.{Limits}
 use Rattle.kin_core.specs.Toward.{IsTowards}
 use Rattle.motion_numbers.specs.Laws.{AreWays}
-use Rattle.motion_numbers.specs.Run.{run_of}
 use Rattle.command_pool.specs.declared.rates.Rates.{Rates}
 use Rattle.trapezoid_plan.specs.CyclesBound.{cycles_bound_of}
-use Rattle.trapezoid_plan.specs.MoveRun.{IsHeading, HeadsFor, HeadsAway, IsDoneWithin, move_taken_of}
-use Rattle.blend_plan.specs.Blends.{LieAhead, BlendApplies, blend_applies}
+use Rattle.trapezoid_plan.specs.MoveRun.{IsHeading, HeadsFor, IsDoneWithin, move_taken_of}
+use Rattle.blend_plan.specs.Blends.{BlendApplies, blend_applies}
 use Rattle.blend_plan.specs.BlendRun.{HasBlend, SettlesWithin, CrossesWithin, blend_taken_of, has_crossed}
 use Rattle.blend_laws.specs.FirstMove.{FirstEnds, FirstEndsWithin, first_taken_of}
 use Rattle.blend_laws.proofs.Given.{IsUnderWay, AreUnderWay, AreMoves, AreBlends}

@@ -1,13 +1,13 @@
 -- The second move after the crossing: it heads for its target, so it never passes it.
-use Rattle.std.proofs.Common.{◌≡◌, ℕ, zero, suc, ◌+◌, ◌-◌, ◌≤◌, ◌<◌, true, ℤ, pos, neg_ℤ, ◌+ℤ◌, ◌-ℤ◌, ◌≤ℤ◌, unsigned_abs, arith, inl, inr}
+use Rattle.std.proofs.Common.{◌≡◌, ℕ, zero, suc, ◌+◌, ◌-◌, ◌≤◌, ◌<◌, true, ℤ, pos, neg_ℤ, ◌-ℤ◌, ◌≤ℤ◌, unsigned_abs, arith, inl, inr}
 use Rattle.std.proofs.lemmas.Int.{ints}
 use Rattle.kin_core.specs.declared.limits.Limits.{Limits}
 use Rattle.motion_numbers.specs.Laws.{AreWays}
 use Rattle.motion_numbers.specs.Run.{run_of}
 use Rattle.command_pool.specs.declared.rates.Rates.{Rates}
 use Rattle.command_pool.specs.Rates.{AreRates}
-use Rattle.trapezoid_plan.specs.MoveRun.{IsHeading, HeadsFor, move_taken_of}
-use Rattle.blend_plan.specs.Blends.{LieAhead, BlendApplies}
+use Rattle.trapezoid_plan.specs.MoveRun.{IsHeading, HeadsFor}
+use Rattle.blend_plan.specs.Blends.{BlendApplies}
 use Rattle.blend_plan.specs.BlendStep.{Crosses}
 use Rattle.blend_plan.specs.BlendRun.{has_crossed}
 use Rattle.blend_laws.specs.SecondMove.{NeverPasses}

@@ -1,5 +1,5 @@
 -- A blend that has no step brakes until it has one, or does not apply any more.
-use Rattle.std.proofs.Common.{◌≡◌, ◌⊎◌, ℕ, zero, suc, ◌+◌, ◌-◌, ◌*◌, ◌/◌, ◌%◌, ◌≤◌, ◌<◌, ◌<ℤ◌, ◌↔◌, Bool, true, false, ℤ, pos, neg_ℤ, ◌+ℤ◌, ◌-ℤ◌, ◌≤ℤ◌, unsigned_abs, arith, ◌∙◌, ap, sym, inl, inr}
+use Rattle.std.proofs.Common.{◌≡◌, ◌⊎◌, ℕ, zero, suc, ◌+◌, ◌-◌, ◌*◌, ◌/◌, ◌%◌, ◌≤◌, ◌<◌, ◌<ℤ◌, ◌↔◌, Bool, true, false, ℤ, pos, neg_ℤ, ◌+ℤ◌, ◌-ℤ◌, ◌≤ℤ◌, unsigned_abs, arith, ◌∙◌, ap, inl, inr}
 use Rattle.std.proofs.lemmas.Int.{ints}
 use Rattle.std.proofs.lemmas.Nat.{div-add-mod', mod_below}
 use Rattle.kin_core.specs.declared.limits.Limits.{Limits}
@@ -10,7 +10,7 @@ use Rattle.std.proofs.lemmas.Bool.{cases_lt}
 use Rattle.blend_plan.specs.Blends.{LieAhead, BlendApplies, blend_applies}
 use Rattle.blend_plan.specs.BlendStep.{MayBlend, Crosses, crosses_at, may_blend, blend_size_of, blend_step_of}
 use Rattle.blend_plan.specs.BlendRun.{HasBlendStep, HasBlend, SettlesWithin, blend_wanted_of, blend_taken_of, has_crossed}
-use Rattle.blend_plan.proofs.BlendSizes.{BlendsSize, blends-says, blends-holds}
+use Rattle.blend_plan.proofs.BlendSizes.{blends-says, blends-holds}
 use Rattle.blend_plan.proofs.BlendSteps.{AreBlended, IsBlendSize, is-blend-size, may-sizes, sizes-may, is-blend-step}
 use Rattle.blend_plan.proofs.BlendsGoOn.{one-follows}
 use Rattle.blend_plan.proofs.BlendLaws.{applies-by-test}

@@ -1,5 +1,5 @@
 -- The steps that may follow in a blend in whole numbers, and the blend step among them.
-use Rattle.std.proofs.Common.{◌≡◌, ◌⊎◌, ℕ, zero, suc, ◌+◌, ◌-◌, ◌≤◌, Bool, true, false, Option, Some, None, unwrap_or, ℤ, pos, ◌≤ℤ◌, unsigned_abs, arith, refl, ◌∙◌, ap, sym, inl, inr, if◌then◌else◌}
+use Rattle.std.proofs.Common.{◌≡◌, ◌⊎◌, ℕ, ◌+◌, ◌-◌, ◌≤◌, unwrap_or, ℤ, pos, ◌≤ℤ◌, unsigned_abs, arith, refl, ◌∙◌, ap, sym, inl, inr}
 use Rattle.std.proofs.lemmas.Int.{ints, clamps}
 use Rattle.motion_numbers.specs.Greatest.{greatest, IsFound}
 use Rattle.motion_numbers.specs.Greatest.IsFound.{found_at, found_none}

@@ -6,7 +6,7 @@ use Rattle.kin_core.specs.Admissible.{AreLimits, IsAdmissible, IsSafe, IsKept, I
 use Rattle.kin_core.specs.Taken.{taken_step_of}
 use Rattle.kin_core.specs.Toward.{toward_zero}
 
--- a step that gains at most a, loses at most d and doesn't turn back is safe, where some braking e from it ends within the limits; a and d, and e, are rates within them
+-- a step in a direction, at most a above the step before it and at most d below, is safe where braking by e after it ends within the limits; a, d and e are at most theirs
 pub record AreStepsAhead : Type 0 where
   -- upward
   pub upward : (limits : Limits) (before now step a d e : ℤ) →

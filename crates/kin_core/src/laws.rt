@@ -66,8 +66,8 @@ pub fn braking_steps_are_only_cut()
     ways_to_rest();
 }
 
-/// A step that goes on in the direction of the step before it is safe, where its gain and its loss
-/// are within the limits and some braking within them from it ends there.
+/// A step in either direction is safe, where what it gains and loses against the step before it is
+/// within the limits, and some braking within them after it ends there.
 pub fn steps_ahead_are_safe()
     ensures { AreStepsAhead }
 {

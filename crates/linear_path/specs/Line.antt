@@ -1,5 +1,5 @@
 -- Straight lines of several axes: their places, and the limits of the path along them.
-use Rattle.std.specs.Prelude.{ℕ, zero, suc, ◌+◌, ◌-◌, ◌*◌, ◌/◌, ◌≤◌, max, ℤ, pos, ◌+ℤ◌, ◌-ℤ◌, unsigned_abs, int_lt, Bool, true, nat_eq, nat_le, ◌&&◌, if◌then◌else◌, List, slice_index_or}
+use Rattle.std.specs.Prelude.{ℕ, zero, suc, ◌+◌, ◌-◌, ◌*◌, ◌/◌, max, ℤ, pos, ◌+ℤ◌, ◌-ℤ◌, unsigned_abs, int_lt, Bool, true, nat_eq, nat_le, ◌&&◌, if◌then◌else◌, List, slice_index_or}
 use Rattle.motion_numbers.specs.declared.TheConstants.{MOST_STEP}
 use Rattle.motion_numbers.specs.Ranges.{IsPlace}
 use Rattle.kin_core.specs.declared.limits.Limits.{Limits}

@@ -1,5 +1,5 @@
 -- The greatest rates of a path pass, and are limits.
-use Rattle.std.proofs.Common.{◌≡◌, ℕ, zero, suc, ◌+◌, ◌-◌, ◌*◌, ◌/◌, ◌<◌, ◌≤◌, min, refl, sym, ◌∙◌, ap, inl, inr, arith, Bool, true, false, nat_le, ◌&&◌, eq-eqb, ℤ, pos, unsigned_abs, List, ◌↔◌}
+use Rattle.std.proofs.Common.{◌≡◌, ℕ, zero, suc, ◌+◌, ◌-◌, ◌*◌, ◌/◌, ◌<◌, ◌≤◌, min, refl, sym, ◌∙◌, ap, inl, inr, arith, Bool, true, false, nat_le, eq-eqb, ℤ, pos, unsigned_abs, List, ◌↔◌}
 use Rattle.std.proofs.Math.Nat.{mul-le-mul_right, mul-le-mul_left}
 use Rattle.std.proofs.lemmas.Bool.{cases_eq, cases_lt, leb-true, le-leb, cond_both, and_parts, and_from}
 use Rattle.std.proofs.lemmas.Int.{ints}

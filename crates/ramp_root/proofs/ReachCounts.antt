@@ -1,5 +1,5 @@
 -- The greatest step from which the braking fits a way, from the greatest number of its terms.
-use Rattle.std.proofs.Common.{inl, inr, ◌≡◌, ℕ, zero, suc, ◌+◌, ◌-◌, ◌*◌, ◌/◌, ◌%◌, ◌≤◌, ◌<◌, min, arith, lit<, ◌∙◌, ap, sym}
+use Rattle.std.proofs.Common.{inl, inr, ◌≡◌, ℕ, zero, suc, ◌+◌, ◌-◌, ◌*◌, ◌/◌, ◌%◌, ◌≤◌, ◌<◌, min, arith, lit<, ◌∙◌, ap}
 use Rattle.std.proofs.lemmas.Nat.{div-add-mod', mod_below, mul-le}
 use Rattle.motion_numbers.specs.Run.{run_of, reach_of}
 use Rattle.ramp_root.specs.Sums.{sum_of}

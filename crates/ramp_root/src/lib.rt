@@ -1,4 +1,4 @@
-//! Greatest counts of the terms of a ramp, by an integer root, and the greatest steps that they give.
+//! Greatest counts of the terms of a ramp, by an integer root, and the steps that they give.
 #![tactic(auto)]
 
 mod counts;

@@ -1,5 +1,5 @@
 -- The greatest step that passes, or the greater of the two greatest steps.
-use Rattle.std.proofs.Common.{unsigned_abs, ◌+◌, arith, refl}
+use Rattle.std.proofs.Common.{unsigned_abs, ◌+◌, arith}
 use Rattle.std.proofs.lemmas.Int.{ints}
 use Rattle.blend_plan.proofs.BlendSizes.{IsLeadingTop, leading-passing, leading-both}
 use Rattle.blend_plan.proofs.sizes.greatest_step.Given.{Over}
