@@ -1,4 +1,4 @@
--- The taken steps while a blend applies, and those of the second move after the crossing.
+-- The taken steps while a blend applies, and where they cross.
 use Rattle.std.specs.Prelude.{◌≡◌, ◌⊎◌, ℕ, zero, suc, Bool, true, ℤ, pos, neg_ℤ, ◌+ℤ◌, ◌-ℤ◌, ◌≤ℤ◌, int_lt, if◌then◌else◌}
 use Rattle.kin_core.specs.declared.limits.Limits.{Limits}
 use Rattle.kin_core.specs.Taken.{taken_step_of}
