@@ -1,18 +1,16 @@
 -- Where a blend applies, its velocity, and what a crossing meets.
 use Rattle.std.proofs.Common.{◌≡◌, ◌↔◌, true, ◌&&◌, ◌||◌, int_le, int_lt, ℤ, pos, ◌-ℤ◌, ◌≤ℤ◌, ◌≤◌, unsigned_abs, arith, inl, inr}
 use Rattle.std.specs.Int.{int_max}
-use Rattle.std.proofs.lemmas.Bool.{and_parts}
+use Rattle.std.proofs.lemmas.Bool.{and_parts, and_from, or_left, or_right}
 use Rattle.std.proofs.lemmas.Int.{ints, clamps}
 use Rattle.motion_numbers.specs.Run.{run_of}
 use Rattle.command_pool.specs.declared.rates.Rates.{Rates}
-use Rattle.ramp_root.proofs.Orders.{both-true}
-use Rattle.trapezoid_plan.proofs.TowardZero.{lt-true, le-true, lt-says, le-says}
 use Rattle.blend_plan.specs.declared.modes.Blend.{Blend}
 use Rattle.blend_plan.specs.declared.modes.Blend.TheVariants.{Low, Previous, Next, High}
 use Rattle.blend_plan.specs.Blends.{LieAhead, BlendApplies, lie_ahead, blend_applies, blend_velocity_of}
 use Rattle.blend_plan.specs.BlendStep.{PassesFirst}
 use Rattle.blend_plan.specs.Sums.{rise_of}
-use Rattle.blend_plan.proofs.BlendSizes.{either-says, first-holds, second-holds}
+use Rattle.blend_plan.proofs.BlendSizes.{either-says}
 use Rattle.blend_plan.proofs.Slowings.{above-zero}
 use Rattle.blend_plan.proofs.Speedings.{rise-ge}
 
@@ -21,11 +19,17 @@ pub ahead-says : (l1 l2 old : ℤ) → lie_ahead l1 l2 old ≡ true → LieAhead
 ahead-says l1 l2 old h =
     let all = and_parts (int_le (pos 0) l1 && int_lt l1 l2) (int_le (pos 0) old) h in
     let two = and_parts (int_le (pos 0) l1) (int_lt l1 l2) all.0 in
-    record { first = le-says _ _ two.0; second = lt-says _ _ two.1; old_step = le-says _ _ all.1 }
+    let near : int_le (pos 0) l1 ≡ true = two.0 in
+    let order : int_lt l1 l2 ≡ true = two.1 in
+    let forward : int_le (pos 0) old ≡ true = all.1 in
+    record { first = omega (arith, ints); second = omega (arith, ints); old_step = omega (arith, ints) }
 
 pub ahead-holds : (l1 l2 old : ℤ) → LieAhead l1 l2 old → lie_ahead l1 l2 old ≡ true
 ahead-holds l1 l2 old h =
-    both-true _ _ (both-true _ _ (le-true _ _ h.first) (lt-true _ _ h.second)) (le-true _ _ h.old_step)
+    let near : int_le (pos 0) l1 ≡ true = grind (arith, ints) in
+    let order : int_lt l1 l2 ≡ true = grind (arith, ints) in
+    let forward : int_le (pos 0) old ≡ true = grind (arith, ints) in
+    and_from _ _ (and_from _ _ near order) forward
 
 pub applies-by-test : (target1 target2 before now : ℤ) →
     (blend_applies target1 target2 before now ≡ true) ↔ BlendApplies target1 target2 before now
@@ -36,8 +40,8 @@ applies-by-test target1 target2 before now =
     holds : BlendApplies target1 target2 before now →
         (lie_ahead (target1 -ℤ now) (target2 -ℤ now) (now -ℤ before)
         || lie_ahead (now -ℤ target1) (now -ℤ target2) (before -ℤ now)) ≡ true
-    holds (inl up) = first-holds _ _ (ahead-holds _ _ _ up)
-    holds (inr down) = second-holds _ _ (ahead-holds _ _ _ down)
+    holds (inl up) = or_left _ _ (ahead-holds _ _ _ up)
+    holds (inr down) = or_right _ _ (ahead-holds _ _ _ down)
 
 pub velocity-least : (mode : Blend) (first second : ℤ) → pos 1 ≤ℤ first → pos 1 ≤ℤ second →
     pos 1 ≤ℤ blend_velocity_of mode first second

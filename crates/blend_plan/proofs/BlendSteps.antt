@@ -1,88 +1,22 @@
 -- The steps that may follow in a blend in whole numbers, and the blend step among them.
-use Rattle.std.proofs.Common.{◌≡◌, ◌⊎◌, ℕ, zero, suc, ◌+◌, ◌-◌, ◌≤◌, Bool, true, false, Option, Some, None, unwrap_or, ℤ, pos, ◌≤ℤ◌, unsigned_abs, arith, refl, ◌∙◌, ap, sym, inl, inr, if◌then◌else◌}
+use Rattle.std.proofs.Common.{◌≡◌, ◌⊎◌, ℕ, ◌+◌, ◌-◌, ◌≤◌, unwrap_or, ℤ, pos, ◌≤ℤ◌, unsigned_abs, arith, refl, ◌∙◌, ap, sym, inl, inr}
 use Rattle.std.proofs.lemmas.Int.{ints, clamps}
-use Rattle.motion_numbers.specs.Run.{run_of, cut_at_zero}
+use Rattle.motion_numbers.specs.Greatest.{greatest, IsFound}
+use Rattle.motion_numbers.specs.Greatest.IsFound.{found_at, found_none}
+use Rattle.motion_numbers.specs.Run.{run_of}
 use Rattle.command_pool.specs.declared.rates.Rates.{Rates}
-use Rattle.ramp_root.specs.Greatest.{greatest}
-use Rattle.ramp_root.proofs.Orders.{by_order, choose-true, choose-false}
 use Rattle.command_pool.specs.Rates.{AreRates}
-use Rattle.trapezoid_plan.proofs.MoveSteps.{velocity-size, acceleration-size, deceleration-size}
-use Rattle.trapezoid_plan.proofs.TowardZero.{toward_zero-ahead}
 use Rattle.blend_plan.specs.Sums.{rise_of, above_of}
 use Rattle.blend_plan.specs.BlendStep.{StopsAtFirst, PassesFirst, MayBlend, IsBlendStep, may_blend, blend_size_of, blend_step_of}
 use Rattle.blend_plan.proofs.BlendSizes.{StopsSize, PassesSize, BlendsSize, blends-says, blends-holds}
-
--- what a search up to n finds
-pub data IsFound (n : ℕ) (test : ℕ → Bool) (found : Option ℕ) : Type 0 where
-  some : (g : ℕ) → found ≡ Some g → test g ≡ true → ((m : ℕ) → m ≤ n → test m ≡ true → m ≤ g) → IsFound n test found
-  none : found ≡ None → ((m : ℕ) → m ≤ n → test m ≡ true → ⊥) → IsFound n test found
-
--- a number that is at most n + 1 and passes is at most n, where n + 1 fails
-not-last : (n m : ℕ) (test : ℕ → Bool) → test (suc n) ≡ false → m ≤ suc n → test m ≡ true → m ≤ n
-not-last n m test fails within passes =
-    by_order m (suc n) (λ less. omega arith) (λ top. absurd
-    (let here : m ≡ suc n = omega arith in
-    let same : test (suc n) ≡ true = ap test (sym here) ∙ passes in
-    cc))
-
-found-below : (n : ℕ) (test : ℕ → Bool) (found : Option ℕ) → test (suc n) ≡ false → IsFound n test found →
-    IsFound (suc n) test (if test (suc n) then Some (suc n) else found)
-found-below n test found fails (some g is passes most) =
-    some g (choose-false _ _ _ fails ∙ is) passes (λ m within p. most m (not-last n m test fails within p) p)
-found-below n test found fails (none is none_passes) =
-    none (choose-false _ _ _ fails ∙ is) (λ m within p. none_passes m (not-last n m test fails within p) p)
-
-found-at : (n : ℕ) (test : ℕ → Bool) (found : Option ℕ) (b : Bool) → test (suc n) ≡ b → IsFound n test found →
-    IsFound (suc n) test (if test (suc n) then Some (suc n) else found)
-found-at n test found true holds below = some (suc n) (choose-true _ _ _ holds) holds (λ m within passes. within)
-found-at n test found false fails below = found-below n test found fails below
-
-found-first : (test : ℕ → Bool) (b : Bool) → test zero ≡ b → IsFound zero test (if test zero then Some zero else None)
-found-first test true holds = some zero (choose-true _ _ _ holds) holds (λ m within passes. within)
-found-first test false fails = none (choose-false _ _ _ fails) (λ m within passes.
-    let here : m ≡ zero = omega arith in
-    let same : test zero ≡ true = ap test (sym here) ∙ passes in
-    cc)
-
-pub search-finds : (n : ℕ) (test : ℕ → Bool) → IsFound n test (greatest n test)
-unfolding greatest
-search-finds zero test = found-first test (test zero) refl
-search-finds (suc n) test = found-at n test (greatest n test) (test (suc n)) refl (search-finds n test)
+use Rattle.motion_numbers.specs.Laws.{AreSearches}
+use Rattle.kin_core.specs.Laws.{AreTowardZero}
 
 -- s is the size of the blend step
 pub record IsBlendSize (v a d e l1 l2 w vb s : ℕ) : Type 0 where
   pub follows : (u : ℕ) → BlendsSize v a d e l1 l2 w vb u → BlendsSize v a d e l1 l2 w vb s
   pub greatest : (u : ℕ) → BlendsSize v a d e l1 l2 w vb u → u ≤ s
   pub none : ((u : ℕ) → BlendsSize v a d e l1 l2 w vb u → ⊥) → s ≡ w - d
-
-pub is-blend-size : (first second : Rates) (l1 l2 w vb : ℕ) →
-    IsBlendSize (cut_at_zero first.v) (cut_at_zero first.a) (cut_at_zero first.d) (cut_at_zero second.d) l1 l2 w vb
-    (blend_size_of l1 l2 w first second vb)
-unfolding blend_size_of
-is-blend-size first second l1 l2 w vb = by_search (search-finds (w + cut_at_zero first.a) (may_blend l1 l2 w first second vb))
-  where
-    by_search : IsFound (w + cut_at_zero first.a) (may_blend l1 l2 w first second vb)
-        (greatest (w + cut_at_zero first.a) (may_blend l1 l2 w first second vb)) →
-        IsBlendSize (cut_at_zero first.v) (cut_at_zero first.a) (cut_at_zero first.d) (cut_at_zero second.d) l1 l2 w vb
-        (unwrap_or (greatest (w + cut_at_zero first.a) (may_blend l1 l2 w first second vb)) (w - cut_at_zero first.d))
-    by_search (some g is passes most) = rw is (record {
-      follows = λ u blends. blends-says first second l1 l2 w vb g passes;
-      greatest = λ u blends. most u blends.acceleration (blends-holds first second l1 l2 w vb u blends);
-      none = λ no_step. absurd (no_step g (blends-says first second l1 l2 w vb g passes));
-    })
-    by_search (none is fails) = rw is (record {
-      follows = λ u blends. absurd (fails u blends.acceleration (blends-holds first second l1 l2 w vb u blends));
-      greatest = λ u blends. absurd (fails u blends.acceleration (blends-holds first second l1 l2 w vb u blends));
-      none = λ no_step. refl;
-    })
-
--- with the rates as whole numbers
-pub is-blend-size-of : (first second : Rates) (l1 l2 w vb : ℕ) → AreRates first → AreRates second →
-    IsBlendSize (unsigned_abs first.v) (unsigned_abs first.a) (unsigned_abs first.d) (unsigned_abs second.d) l1 l2 w vb
-    (blend_size_of l1 l2 w first second vb)
-is-blend-size-of first second l1 l2 w vb first_ok second_ok =
-    rw (velocity-size first first_ok, acceleration-size first first_ok, deceleration-size first first_ok, deceleration-size second second_ok)
-    at (is-blend-size first second l1 l2 w vb)
 
 -- the numbers of a blend are in range
 pub record AreBlended (l1 l2 old : ℤ) (first second : Rates) (vb : ℤ) : Type 0 where
@@ -173,26 +107,53 @@ sizes-may l1 l2 old first second vb u ok blends =
           run = omega (arith, ints);
         })
 
--- the blend step is the one that the definition asks for
-pub is-blend-step : (l1 l2 old : ℤ) (first second : Rates) (vb : ℤ) → AreBlended l1 l2 old first second vb →
-    IsBlendStep l1 l2 old first second vb (blend_step_of l1 l2 old first second vb)
-unfolding blend_step_of
-is-blend-step l1 l2 old first second vb ok =
-    let size : IsBlendSize (unsigned_abs first.v) (unsigned_abs first.a) (unsigned_abs first.d) (unsigned_abs second.d)
-    (unsigned_abs l1) (unsigned_abs l2) (unsigned_abs old) (unsigned_abs vb)
-    (blend_size_of (unsigned_abs l1) (unsigned_abs l2) (unsigned_abs old) first second (unsigned_abs vb)) =
-    is-blend-size-of first second _ _ _ _ ok.first_rates ok.second_rates in
-    record {
-      follows = λ k may. sizes-may l1 l2 old first second vb _ ok
-          (size.follows _ (may-sizes l1 l2 old first second vb k ok may));
-      greatest = λ k may.
-          let ahead : pos 0 ≤ℤ k = may.ahead in
-          let under : unsigned_abs k ≤ blend_size_of (unsigned_abs l1) (unsigned_abs l2) (unsigned_abs old) first second (unsigned_abs vb) =
-          size.greatest _ (may-sizes l1 l2 old first second vb k ok may) in
-          omega (arith, ints);
-      none = λ no_step.
-          let slowed : blend_size_of (unsigned_abs l1) (unsigned_abs l2) (unsigned_abs old) first second (unsigned_abs vb) ≡ unsigned_abs old - unsigned_abs first.d =
-          size.none (λ u blends. no_step (pos u) (sizes-may l1 l2 old first second vb u ok blends)) in
-          let first_ok : AreRates first = ok.first_rates in
-          ap pos slowed ∙ toward_zero-ahead old first.d ok.forward (omega (arith, ints));
-    }
+module _ (searches : AreSearches) where
+  open searches use {search_finds}
+
+  pub is-blend-size : (first second : Rates) (l1 l2 w vb : ℕ) →
+      IsBlendSize (unsigned_abs first.v) (unsigned_abs first.a) (unsigned_abs first.d) (unsigned_abs second.d) l1 l2 w vb
+      (blend_size_of l1 l2 w first second vb)
+  unfolding blend_size_of
+  is-blend-size first second l1 l2 w vb = by_search (search_finds (w + unsigned_abs first.a) (may_blend l1 l2 w first second vb))
+    where
+      by_search : IsFound (w + unsigned_abs first.a) (may_blend l1 l2 w first second vb)
+          (greatest (w + unsigned_abs first.a) (may_blend l1 l2 w first second vb)) →
+          IsBlendSize (unsigned_abs first.v) (unsigned_abs first.a) (unsigned_abs first.d) (unsigned_abs second.d) l1 l2 w vb
+          (unwrap_or (greatest (w + unsigned_abs first.a) (may_blend l1 l2 w first second vb)) (w - unsigned_abs first.d))
+      by_search (found_at g is passes most) = rw is (record {
+        follows = λ u blends. blends-says first second l1 l2 w vb g passes;
+        greatest = λ u blends. most u blends.acceleration (blends-holds first second l1 l2 w vb u blends);
+        none = λ no_step. absurd (no_step g (blends-says first second l1 l2 w vb g passes));
+      })
+      by_search (found_none is fails) = rw is (record {
+        follows = λ u blends. absurd (fails u blends.acceleration (blends-holds first second l1 l2 w vb u blends));
+        greatest = λ u blends. absurd (fails u blends.acceleration (blends-holds first second l1 l2 w vb u blends));
+        none = λ no_step. refl;
+      })
+
+module _ (searches : AreSearches) (toward : AreTowardZero) where
+  open toward use {ahead as toward_zero-ahead}
+
+  -- the blend step is the one that the definition asks for
+  pub is-blend-step : (l1 l2 old : ℤ) (first second : Rates) (vb : ℤ) → AreBlended l1 l2 old first second vb →
+      IsBlendStep l1 l2 old first second vb (blend_step_of l1 l2 old first second vb)
+  unfolding blend_step_of
+  is-blend-step l1 l2 old first second vb ok =
+      let size : IsBlendSize (unsigned_abs first.v) (unsigned_abs first.a) (unsigned_abs first.d) (unsigned_abs second.d)
+      (unsigned_abs l1) (unsigned_abs l2) (unsigned_abs old) (unsigned_abs vb)
+      (blend_size_of (unsigned_abs l1) (unsigned_abs l2) (unsigned_abs old) first second (unsigned_abs vb)) =
+      is-blend-size searches first second _ _ _ _ in
+      record {
+        follows = λ k may. sizes-may l1 l2 old first second vb _ ok
+            (size.follows _ (may-sizes l1 l2 old first second vb k ok may));
+        greatest = λ k may.
+            let ahead : pos 0 ≤ℤ k = may.ahead in
+            let under : unsigned_abs k ≤ blend_size_of (unsigned_abs l1) (unsigned_abs l2) (unsigned_abs old) first second (unsigned_abs vb) =
+            size.greatest _ (may-sizes l1 l2 old first second vb k ok may) in
+            omega (arith, ints);
+        none = λ no_step.
+            let slowed : blend_size_of (unsigned_abs l1) (unsigned_abs l2) (unsigned_abs old) first second (unsigned_abs vb) ≡ unsigned_abs old - unsigned_abs first.d =
+            size.none (λ u blends. no_step (pos u) (sizes-may l1 l2 old first second vb u ok blends)) in
+            let first_ok : AreRates first = ok.first_rates in
+            ap pos slowed ∙ sym (toward_zero-ahead old first.d ok.forward (omega (arith, ints)));
+      }

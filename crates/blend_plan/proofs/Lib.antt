@@ -8,6 +8,4 @@ pub mod BlendsGoOn
 pub mod BlendLaws
 pub mod SafeBlends
 pub mod BlendCycles
-pub mod SecondMoves
 pub mod BlendSettles
-pub mod BlendEnds

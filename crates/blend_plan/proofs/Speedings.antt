@@ -1,34 +1,33 @@
 -- Sums of the steps of a ramp below a velocity, by the number of their terms.
-use Rattle.std.proofs.Common.{◌≡◌, ℕ, zero, suc, ◌+◌, ◌-◌, ◌*◌, ◌^◌, ◌≤◌, ◌<◌, arith, refl, ◌∙◌, ap, sym}
+use Rattle.std.proofs.Common.{◌≡◌, ℕ, zero, suc, ◌+◌, ◌-◌, ◌*◌, ◌^◌, ◌≤◌, ◌<◌, arith, refl, ◌∙◌, ap, sym, inl, inr}
 use Rattle.std.specs.Int.{div_ceil}
 use Rattle.std.proofs.lemmas.Grind.{div_ceil_times}
 use Rattle.std.proofs.lemmas.Nat.{mul-le}
 use Rattle.ramp_root.specs.Sums.{sum_of}
-use Rattle.ramp_root.proofs.Orders.{by_order, choose-true, choose-false}
-use Rattle.trapezoid_plan.proofs.ReachCounts.{sum_of-shift}
+use Rattle.std.proofs.lemmas.Bool.{cond-true, cond-false, lt-ltb, le-ltb, cases_lt}
 use Rattle.blend_plan.specs.Sums.{rise, rise_of}
-use Rattle.blend_plan.proofs.Slowings.{lt-holds, lt-fails}
+use Rattle.ramp_root.specs.Laws.{AreSums}
 
 -- no term is below v
 pub rise-none : (n u v a : ℕ) → v ≤ u → rise n u v a ≡ v
 rise-none zero u v a h = refl
-rise-none (suc n) u v a h = choose-false _ _ _ (lt-fails u v h)
+rise-none (suc n) u v a h = cond-false _ _ _ (le-ltb u v h)
 
 -- a term that is below v
 pub rise-some : (n u v a : ℕ) → u < v → rise (suc n) u v a ≡ u + rise n (u + a) v a
-rise-some n u v a h = choose-true _ _ _ (lt-holds u v h)
+rise-some n u v a h = cond-true _ _ _ (lt-ltb u v h)
 
 -- once they are enough, more terms add nothing
 pub rise-same : (n m u v a : ℕ) → 0 < a → v ≤ u + n → v ≤ u + m → rise n u v a ≡ rise m u v a
 rise-same zero m u v a some low high = sym (rise-none m u v a (omega arith))
 rise-same (suc n) zero u v a some low high = rise-none (suc n) u v a (omega arith)
 rise-same (suc n) (suc m) u v a some low high =
-    by_order u v
-    (λ more.
-    let rest : rise n (u + a) v a ≡ rise m (u + a) v a =
-    rise-same n m (u + a) v a some (omega arith) (omega arith) in
-    rise-some n u v a more ∙ ap (λ s. u + s) rest ∙ sym (rise-some m u v a more))
-    (λ none. rise-none (suc n) u v a none ∙ sym (rise-none (suc m) u v a none))
+    elim (cases_lt u v) [
+      | inl more ↦ let rest : rise n (u + a) v a ≡ rise m (u + a) v a =
+          rise-same n m (u + a) v a some (omega arith) (omega arith) in
+          rise-some n u v a more ∙ ap (λ s. u + s) rest ∙ sym (rise-some m u v a more)
+      | inr none ↦ rise-none (suc n) u v a none ∙ sym (rise-none (suc m) u v a none)
+    ]
 
 -- v alone, from a step that is not below it
 pub rise-there : (u v a : ℕ) → v ≤ u → rise_of u v a ≡ v
@@ -50,11 +49,11 @@ rise-unfold u v a some h =
 rise-within : (n u v a : ℕ) → rise n u v a ≤ (n + 1) * v
 rise-within zero u v a = omega arith
 rise-within (suc n) u v a =
-    by_order u v
-    (λ more.
-    let rest : rise n (u + a) v a ≤ (n + 1) * v = rise-within n (u + a) v a in
-    omega (arith, rise-some n u v a more))
-    (λ none. omega (arith, rise-none (suc n) u v a none))
+    elim (cases_lt u v) [
+      | inl more ↦ let rest : rise n (u + a) v a ≤ (n + 1) * v = rise-within n (u + a) v a in
+          omega (arith, rise-some n u v a more)
+      | inr none ↦ omega (arith, rise-none (suc n) u v a none)
+    ]
 
 pub rise-small : (u v a : ℕ) → v ≤ 10000000000 → rise_of u v a < 2 ^ 70
 unfolding rise_of
@@ -71,49 +70,15 @@ rise-ge u v a = within (v - u) u
     within : (n w : ℕ) → v ≤ rise n w v a
     within zero w = omega arith
     within (suc n) w =
-        by_order w v
-        (λ more. omega (arith, within n (w + a), rise-some n w v a more))
-        (λ none. omega (arith, rise-none (suc n) w v a none))
-
--- the first term apart, and the others from the next
-pub sum_of-front : (n d r : ℕ) → sum_of (suc n) d r ≡ r + sum_of n d (r + d)
-unfolding sum_of
-sum_of-front zero d r = omega arith
-sum_of-front (suc n) d r = let rest : sum_of (suc n) d r ≡ r + sum_of n d (r + d) = sum_of-front n d r in omega arith
-
--- the first k terms, and the others
-pub sum_of-split : (k n d r : ℕ) → sum_of (k + n) d r ≡ sum_of k d r + sum_of n d (r + k * d)
-unfolding sum_of
-sum_of-split k zero d r = let here : k + zero ≡ k = omega arith in rw here (omega arith)
-sum_of-split k (suc n) d r =
-    let next : k + suc n ≡ suc (k + n) = omega arith in
-    let rest : sum_of (k + n) d r ≡ sum_of k d r + sum_of n d (r + k * d) = sum_of-split k n d r in
-    rw next (omega arith)
-
--- more terms have no smaller sum
-pub sum_of-more : (k m d r : ℕ) → k ≤ m → sum_of k d r ≤ sum_of m d r
-sum_of-more k m d r h =
-    let parts : k + (m - k) ≡ m = omega arith in
-    let sum : sum_of m d r ≡ sum_of k d r + sum_of (m - k) d (r + k * d) =
-    rw parts at (sum_of-split k (m - k) d r) in
-    omega arith
+        elim (cases_lt w v) [
+          | inl more ↦ omega (arith, within n (w + a), rise-some n w v a more)
+          | inr none ↦ omega (arith, rise-none (suc n) w v a none)
+        ]
 
 -- from u there are n terms below v, in steps of a
 pub record HasTerms (u v a n : ℕ) : Type 0 where
   pub enough : v ≤ u + n * a
   pub few : u + n * a < v + a
-
--- the sum by the number of its terms
-pub rise-counted : (n u v a : ℕ) → 0 < a → HasTerms u v a n → rise_of u v a ≡ sum_of n a u + v
-unfolding sum_of
-rise-counted zero u v a some has = omega (arith, rise-there u v a (omega (arith, has.enough)))
-rise-counted (suc n) u v a some has =
-    let rest : rise_of (u + a) v a ≡ sum_of n a (u + a) + v =
-    rise-counted n (u + a) v a some (record {
-      enough = omega (arith, has.enough);
-      few = omega (arith, has.few);
-    }) in
-    omega (arith, has.few, rise-unfold u v a some (omega (arith, has.few)), sum_of-front n a u)
 
 -- the number of terms from a step that is not above v
 pub terms-counted : (u v a : ℕ) → 0 < a → u ≤ v → HasTerms u v a (div_ceil (v - u) a)
@@ -124,21 +89,36 @@ terms-counted u v a some h =
 -- a greater step has no more terms
 pub terms-fewer : (u w v a m n : ℕ) → HasTerms u v a m → HasTerms w v a n → u ≤ w → n ≤ m
 terms-fewer u w v a m n low high h =
-    by_order m n
-    (λ more.
-    let product : suc m * a ≤ n * a = mul-le (suc m) a n a more (omega arith) in
-    absurd (omega (arith, low.enough, high.few)))
-    (λ fewer. fewer)
+    elim (cases_lt m n) [
+      | inl more ↦ let product : suc m * a ≤ n * a = mul-le (suc m) a n a more (omega arith) in
+          absurd (omega (arith, low.enough, high.few))
+      | inr fewer ↦ fewer
+    ]
 
--- with as many terms the sum grows with the step
-pub rise-grows : (u w v a n : ℕ) → 0 < a → HasTerms u v a n → HasTerms w v a n → u ≤ w →
-    rise_of u v a ≤ rise_of w v a
-rise-grows u w v a n some low high h =
-    let product : u * n ≤ w * n = mul-le u n w n h (omega arith) in
-    omega (
-      arith,
-      rise-counted n u v a some low,
-      rise-counted n w v a some high,
-      sum_of-shift n a u,
-      sum_of-shift n a w,
-    )
+module _ (sums : AreSums) where
+  open sums use {sum_front, sum_shifts}
+
+  -- the sum by the number of its terms
+  pub rise-counted : (n u v a : ℕ) → 0 < a → HasTerms u v a n → rise_of u v a ≡ sum_of n a u + v
+  unfolding sum_of
+  rise-counted zero u v a some has = omega (arith, rise-there u v a (omega (arith, has.enough)))
+  rise-counted (suc n) u v a some has =
+      let rest : rise_of (u + a) v a ≡ sum_of n a (u + a) + v =
+      rise-counted n (u + a) v a some (record {
+        enough = omega (arith, has.enough);
+        few = omega (arith, has.few);
+      }) in
+      omega (arith, has.few, rise-unfold u v a some (omega (arith, has.few)), sum_front n a u)
+
+  -- with as many terms the sum grows with the step
+  pub rise-grows : (u w v a n : ℕ) → 0 < a → HasTerms u v a n → HasTerms w v a n → u ≤ w →
+      rise_of u v a ≤ rise_of w v a
+  rise-grows u w v a n some low high h =
+      let product : u * n ≤ w * n = mul-le u n w n h (omega arith) in
+      omega (
+        arith,
+        rise-counted n u v a some low,
+        rise-counted n w v a some high,
+        sum_shifts n a u,
+        sum_shifts n a w,
+      )

@@ -1,18 +1,23 @@
--- The taken steps while a blend applies, and those of the second move after the crossing.
+-- The taken steps while a blend applies, and where they cross.
 use Rattle.std.specs.Prelude.{◌≡◌, ◌⊎◌, ℕ, zero, suc, Bool, true, ℤ, pos, neg_ℤ, ◌+ℤ◌, ◌-ℤ◌, ◌≤ℤ◌, int_lt, if◌then◌else◌}
 use Rattle.kin_core.specs.declared.limits.Limits.{Limits}
 use Rattle.kin_core.specs.Taken.{taken_step_of}
 use Rattle.command_pool.specs.declared.rates.Rates.{Rates}
-use Rattle.trapezoid_plan.specs.MoveRun.{IsMoveWithin, move_taken_of}
-use Rattle.blend_plan.specs.Blends.{LieAhead, BlendApplies, blend_applies}
+use Rattle.blend_plan.specs.Blends.{LieAhead, BlendApplies}
 use Rattle.blend_plan.specs.BlendStep.{MayBlend, blend_step_of, crosses_at}
 
--- two moves, one blended into the other: their targets lie within lo and hi, and their rates and the blend velocity are at most those of the limits. This project's profile
+-- two moves, one blended into the other, within limits: both targets lie within lo and hi, and the rates of the first move, the deceleration of the second and the blend velocity are at most those of the limits. This project's profile
 pub record IsBlendWithin (limits : Limits) (target1 target2 : ℤ) (first second : Rates) (vb : ℤ) : Type 0 where
-  pub first_move : IsMoveWithin limits first target1
-  pub second_move : IsMoveWithin limits second target2
-  pub least_velocity : pos 1 ≤ℤ vb
-  pub velocity : vb ≤ℤ limits.vmax
+  pub first_above : limits.lo ≤ℤ target1
+  pub first_below : target1 ≤ℤ limits.hi
+  pub second_above : limits.lo ≤ℤ target2
+  pub second_below : target2 ≤ℤ limits.hi
+  pub velocity : first.v ≤ℤ limits.vmax
+  pub acceleration : first.a ≤ℤ limits.amax
+  pub first_deceleration : first.d ≤ℤ limits.dmax
+  pub second_deceleration : second.d ≤ℤ limits.dmax
+  pub least_passing : pos 1 ≤ℤ vb
+  pub passing : vb ≤ℤ limits.vmax
 
 -- two targets lie ahead, and there is a step that may follow in the blend. This project's profile
 pub record HasBlendStep (l1 l2 old : ℤ) (first second : Rates) (vb : ℤ) : Type 0 where
@@ -62,38 +67,3 @@ SettlesWithin (suc n) limits target1 target2 before now first second vb =
     ⊎ (BlendApplies target1 target2 before now → ⊥))
     ⊎ SettlesWithin n limits target1 target2 now
     (now +ℤ blend_taken_of limits target1 target2 before now first second vb) first second vb
-
--- the taken step while the first of two moves is active: that of the blend where one applies, else that of the first move by itself. This project's profile
-unfoldable pub first_taken_of : Limits → ℤ → ℤ → ℤ → ℤ → Rates → Rates → ℤ → ℤ
-first_taken_of limits target1 target2 before now first second vb =
-    if blend_applies target1 target2 before now
-    then blend_taken_of limits target1 target2 before now first second vb
-    else move_taken_of limits first target1 before now
-
--- the first move ends in the cycle: a blend applies and the taken step crosses, or the axis stands at the first target and the taken step is 0. This project's profile
-abbrev pub FirstEnds : Limits → ℤ → ℤ → ℤ → ℤ → Rates → Rates → ℤ → Type 0
-FirstEnds limits target1 target2 before now first second vb =
-    (BlendApplies target1 target2 before now
-    × (has_crossed target1 target2 now second vb
-    (first_taken_of limits target1 target2 before now first second vb) ≡ true))
-    ⊎ ((now ≡ target1)
-    × (first_taken_of limits target1 target2 before now first second vb ≡ pos 0))
-
--- within n cycles the first move ends. This project's profile
-abbrev pub FirstEndsWithin : ℕ → Limits → ℤ → ℤ → ℤ → ℤ → Rates → Rates → ℤ → Type 0
-FirstEndsWithin zero limits target1 target2 before now first second vb = ⊥
-FirstEndsWithin (suc n) limits target1 target2 before now first second vb =
-    FirstEnds limits target1 target2 before now first second vb
-    ⊎ FirstEndsWithin n limits target1 target2 now
-    (now +ℤ first_taken_of limits target1 target2 before now first second vb) first second vb
-
--- the setpoint lies between the one before it and the target, or at one of them. This project's profile
-abbrev pub IsTowards : ℤ → ℤ → ℤ → Type 0
-IsTowards target before now = ((before ≤ℤ now) × (now ≤ℤ target)) ⊎ ((target ≤ℤ now) × (now ≤ℤ before))
-
--- none of the next n taken steps of the move leads away from its target or past it. This project's profile
-abbrev pub NeverPasses : ℕ → Limits → Rates → ℤ → ℤ → ℤ → Type 0
-NeverPasses zero limits rates target before now = Unit {0}
-NeverPasses (suc n) limits rates target before now =
-    IsTowards target now (now +ℤ move_taken_of limits rates target before now)
-    × NeverPasses n limits rates target now (now +ℤ move_taken_of limits rates target before now)

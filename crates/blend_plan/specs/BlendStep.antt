@@ -2,9 +2,9 @@
 use Rattle.std.specs.Prelude.{◌≡◌, ◌⊎◌, ℕ, ◌+◌, ◌-◌, Bool, nat_le, ◌&&◌, ◌||◌, ℤ, pos, ◌+ℤ◌, ◌-ℤ◌, ◌≤ℤ◌, int_le, unsigned_abs, max, unwrap_or}
 use Rattle.std.specs.Int.{int_max}
 use Rattle.command_pool.specs.declared.rates.Rates.{Rates}
-use Rattle.motion_numbers.specs.Run.{run_of, cut_at_zero}
+use Rattle.motion_numbers.specs.Greatest.{greatest}
+use Rattle.motion_numbers.specs.Run.{run_of}
 use Rattle.kin_core.specs.Toward.{toward_zero}
-use Rattle.ramp_root.specs.Greatest.{greatest}
 use Rattle.blend_plan.specs.Sums.{rise_of, above_of}
 
 -- a step after which the first move can still stop at its target at the distance l1, within its own velocity. This project's profile
@@ -45,15 +45,15 @@ crosses_at l1 l2 second vb u =
 
 -- whether a step stops at the first target, in sizes. This project's profile
 abbrev pub stops_at_first : ℕ → Rates → ℕ → Bool
-stops_at_first l1 first u = nat_le (run_of u (cut_at_zero first.d)) l1 && nat_le u (cut_at_zero first.v)
+stops_at_first l1 first u = nat_le (run_of u (unsigned_abs first.d)) l1 && nat_le u (unsigned_abs first.v)
 
 -- whether a step passes the first target, in sizes. This project's profile
 abbrev pub passes_first : ℕ → ℕ → Rates → Rates → ℕ → ℕ → Bool
 passes_first l1 l2 first second vb u =
-    (nat_le u (cut_at_zero first.v) || nat_le l1 (rise_of u vb (cut_at_zero first.a)))
-    && nat_le u (max (cut_at_zero first.v) vb)
-    && nat_le (above_of u vb (cut_at_zero first.d)) l1
-    && nat_le (run_of u (cut_at_zero second.d)) l2
+    (nat_le u (unsigned_abs first.v) || nat_le l1 (rise_of u vb (unsigned_abs first.a)))
+    && nat_le u (max (unsigned_abs first.v) vb)
+    && nat_le (above_of u vb (unsigned_abs first.d)) l1
+    && nat_le (run_of u (unsigned_abs second.d)) l2
 
 -- whether a step stops at the first target or passes it, in sizes. This project's profile
 abbrev pub stops_or_passes : ℕ → ℕ → Rates → Rates → ℕ → ℕ → Bool
@@ -62,15 +62,15 @@ stops_or_passes l1 l2 first second vb u = stops_at_first l1 first u || passes_fi
 -- whether u may follow a step of size w in a blend, in sizes. This project's profile
 abbrev pub may_blend : ℕ → ℕ → ℕ → Rates → Rates → ℕ → ℕ → Bool
 may_blend l1 l2 w first second vb u =
-    nat_le (w - max (cut_at_zero first.d) (cut_at_zero second.d)) u
-    && nat_le u (w + cut_at_zero first.a)
+    nat_le (w - max (unsigned_abs first.d) (unsigned_abs second.d)) u
+    && nat_le u (w + unsigned_abs first.a)
     && stops_or_passes l1 l2 first second vb u
 
 -- the size of the blend step from a step of size w. This project's profile
 unfoldable pub blend_size_of : ℕ → ℕ → ℕ → Rates → Rates → ℕ → ℕ
 blend_size_of l1 l2 w first second vb =
-    unwrap_or (greatest (w + cut_at_zero first.a) (may_blend l1 l2 w first second vb))
-    (w - cut_at_zero first.d)
+    unwrap_or (greatest (w + unsigned_abs first.a) (may_blend l1 l2 w first second vb))
+    (w - unsigned_abs first.d)
 
 -- the blend step at the distances l1 and l2, the old step and the blend velocity vb, counted in the direction from the first target to the second. This project's profile
 unfoldable pub blend_step_of : ℤ → ℤ → ℤ → Rates → Rates → ℤ → ℤ

@@ -6,7 +6,8 @@ ghost use Rattle.blend_plan.specs.BlendStep.{IsBlendStep, Crosses, blend_step_of
 use crate::crossing::crosses;
 use crate::sizes::step_size;
 use command_pool::Rates;
-use motion_numbers::{MOST_STEP, MOST_WAY};
+use kin_core::steps_fall_toward_zero;
+use motion_numbers::{MOST_STEP, MOST_WAY, searches_find_the_greatest};
 use ramp_root::Steps;
 use std::marker::Brand;
 use std::sync::ledger::{Blank, Ledger};
@@ -32,6 +33,8 @@ pub fn blend_step(l1: i64, l2: i64, old: i64, first: &Rates, second: &Rates, vb:
     ensures ahead { pos 0 ≤ℤ result.0 }
     ensures small { result.0 ≤ℤ pos MOST_STEP }
 {
+    searches_find_the_greatest();
+    steps_fall_toward_zero();
     blend_from::<Brand>(l1, l2, old, first, second, vb, Blank::new(1))
 }
 
@@ -66,7 +69,7 @@ fn blend_from<L: Ledger>(
     blend_step_counted(l1, l2, old, first, second, vb, &mut steps)
 }
 
-/// The same step, with its tests of sums counted.
+/// The same step, with its calls of fits counted.
 pub fn blend_step_counted<L: Ledger>(
     l1: i64,
     l2: i64,

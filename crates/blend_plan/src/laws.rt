@@ -7,10 +7,13 @@ ghost use Rattle.motion_numbers.specs.Run.{run_of};
 ghost use Rattle.command_pool.specs.declared.rates.Rates.{Rates};
 ghost use Rattle.command_pool.specs.Rates.{AreRates};
 ghost use Rattle.blend_plan.specs.declared.modes.Blend.{Blend};
-ghost use Rattle.blend_plan.specs.Blends.{LieAhead, BlendApplies, blend_applies, blend_velocity_of};
+ghost use Rattle.blend_plan.specs.Blends.{BlendApplies, blend_applies, blend_velocity_of};
 ghost use Rattle.blend_plan.specs.BlendStep.{PassesFirst, MayBlend, IsBlendStep, blend_step_of};
 ghost use Rattle.blend_plan.specs.BlendRun.{IsBlendWithin, HasBlend};
 ghost use Rattle.blend_plan.specs.BlendRun.{blend_wanted_of, blend_taken_of};
+
+use kin_core::{safe_steps_lead_on, steps_fall_toward_zero};
+use motion_numbers::searches_find_the_greatest;
 
 /// A blend applies exactly where the test of it holds.
 pub fn blends_apply_by_test()
@@ -31,7 +34,10 @@ pub fn blend_steps_are_greatest()
     ensures { (l1 l2 old vb : ℤ) (first second : Rates) → AreRates first → AreRates second →
         pos 0 ≤ℤ l1 → pos 0 ≤ℤ l2 → pos 0 ≤ℤ old → pos 0 ≤ℤ vb →
         IsBlendStep l1 l2 old first second vb (blend_step_of l1 l2 old first second vb) }
-{}
+{
+    searches_find_the_greatest();
+    steps_fall_toward_zero();
+}
 
 /// A step that crosses passes the first target as the second alternative asks: where it is at most
 /// the blend velocity and reaches the target, the other parts of the alternative hold by themselves.
@@ -49,13 +55,11 @@ pub fn blend_steps_are_safe()
     ensures upward { (limits : Limits) (target1 target2 before now vb u : ℤ) (first second : Rates) →
         AreLimits limits → AreRates first → AreRates second →
         IsBlendWithin limits target1 target2 first second vb → IsKept limits before now →
-        LieAhead (target1 -ℤ now) (target2 -ℤ now) (now -ℤ before) →
         MayBlend (target1 -ℤ now) (target2 -ℤ now) (now -ℤ before) first second vb u →
         IsSafe limits before now (now +ℤ u) }
     ensures downward { (limits : Limits) (target1 target2 before now vb u : ℤ) (first second : Rates) →
         AreLimits limits → AreRates first → AreRates second →
         IsBlendWithin limits target1 target2 first second vb → IsKept limits before now →
-        LieAhead (now -ℤ target1) (now -ℤ target2) (before -ℤ now) →
         MayBlend (now -ℤ target1) (now -ℤ target2) (before -ℤ now) first second vb u →
         IsSafe limits before now (now -ℤ u) }
     ensures safe { (limits : Limits) (target1 target2 before now vb : ℤ) (first second : Rates) →
@@ -70,4 +74,8 @@ pub fn blend_steps_are_safe()
         HasBlend target1 target2 before now first second vb →
         blend_taken_of limits target1 target2 before now first second vb
         ≡ blend_wanted_of target1 target2 before now first second vb }
-{}
+{
+    searches_find_the_greatest();
+    steps_fall_toward_zero();
+    safe_steps_lead_on();
+}

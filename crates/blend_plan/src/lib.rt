@@ -16,10 +16,11 @@ mod sizes;
 mod tests;
 
 pub use blended::{blend_step, blend_step_counted};
+pub use command_pool::Rates;
 pub use crossing::crosses;
 pub use endings::{
-    blends_go_on_until_they_cross, blends_settle, crossings_have_the_target_between,
-    first_moves_end, second_targets_are_never_passed,
+    blends_go_on_until_they_cross, blends_never_turn_back, blends_settle,
+    crossings_are_told_by_test, crossings_have_the_target_between,
 };
 pub use laws::{
     blend_steps_are_greatest, blend_steps_are_safe, blend_velocities_are_of_the_moves,

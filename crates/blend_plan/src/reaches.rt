@@ -1,13 +1,12 @@
 // The greatest steps from which slowing fits a way.
 ghost use Rattle.std.specs.Prelude.{◌≡◌, ℕ, ◌+◌, ◌≤◌, min};
-ghost use Rattle.kin_core.specs.Taken.{reach_of};
+ghost use Rattle.motion_numbers.specs.Run.{reach_of};
 ghost use Rattle.blend_plan.specs.Sums.{above_of};
 
 use kin_core::ramp_sum;
-use motion_numbers::{MOST_STEP, MOST_WAY};
-use ramp_root::{Steps, greatest_count_counted};
+use motion_numbers::{MOST_STEP, MOST_WAY, ways_to_rest};
+use ramp_root::{Steps, greatest_count_counted, reach, sums_of_ramps};
 use std::sync::ledger::Ledger;
-use trapezoid_plan::reach;
 
 // The greatest step up to `most` from which slowing by `d` each cycle to rest needs no more than
 // the way. While an axis speeds up or cruises, `most` is the answer.
@@ -19,6 +18,7 @@ pub(crate) fn reach_up_to<L: Ledger>(way: u64, d: u64, most: u64, steps: &mut St
     ensures value { result ≡ min most (reach_of way d) }
     ensures cost { steps.new ≤ steps.old + 64 }
 {
+    ways_to_rest();
     if ramp_sum(most, d) <= way as u128 {
         most
     } else {
@@ -63,6 +63,7 @@ fn greatest_slowed<L: Ledger>(way: u64, to: u64, d: u64, steps: &mut Steps<L>) -
     ensures greatest { (u : ℕ) → above_of u to d ≤ way → u ≤ result }
     ensures cost { steps.new ≤ steps.old + 64 }
 {
+    sums_of_ramps();
     let terms = greatest_count_counted(way as u128, d, to + 1, steps);
     if terms == 0 {
         return to;

@@ -1,9 +1,9 @@
 // The greatest step from which speeding up takes no less than a way.
-ghost use Rattle.std.specs.Prelude.{◌≡◌, ℕ, ◌+◌, ◌*◌, ◌^◌, ◌≤◌, ◌<◌};
+ghost use Rattle.std.specs.Prelude.{◌≡◌, ℕ, ◌+◌, ◌-◌, ◌*◌, ◌/◌, ◌^◌, ◌≤◌, ◌<◌};
 ghost use Rattle.blend_plan.specs.Sums.{rise_of};
 
 use motion_numbers::{MOST_STEP, MOST_WAY};
-use ramp_root::{Steps, greatest_count_counted};
+use ramp_root::{Steps, greatest_count_counted, sums_of_ramps};
 use std::sync::ledger::Ledger;
 
 // The greatest step above `from` and up to `high` from which speeding up by `a` each cycle to `top`
@@ -62,6 +62,7 @@ fn greatest_risen_below<L: Ledger>(
     ensures greatest { (u : ℕ) → from < u → u ≤ high → way ≤ rise_of u top a → u ≤ result }
     ensures cost { steps.new ≤ steps.old + 64 }
 {
+    sums_of_ramps();
     let fewest = (top - high).div_ceil(a);
     let most = (top - from - 1).div_ceil(a);
     if most <= fewest {
@@ -96,7 +97,18 @@ fn rise_sum(u: u64, v: u64, a: u64) -> u128
     ensures value { result ≡ rise_of u v a }
     ensures small { result < 2 ^ 70 }
 {
-    let terms = (v - u).div_ceil(a);
+    sums_of_ramps();
+    with_terms((v - u).div_ceil(a), u, v, a)
+}
+
+// The same from the number of its terms below `v`.
+fn with_terms(terms: u64, u: u64, v: u64, a: u64) -> u128
+    requires few { terms ≤ MOST_STEP }
+    requires step { u ≤ MOST_STEP }
+    requires velocity { v ≤ MOST_STEP }
+    requires most { a ≤ MOST_STEP }
+    ensures { result ≡ a * (terms * (terms - 1) / 2) + u * terms + v }
+{
     let pairs = terms as u128 * terms.saturating_sub(1) as u128 / 2;
     a as u128 * pairs + u as u128 * terms as u128 + v as u128
 }

@@ -1,13 +1,12 @@
 // The size of the blend step.
-ghost use Rattle.std.specs.Prelude.{◌≡◌, ℕ, ◌+◌, ◌≤◌, ◌<◌, IsTrue};
-ghost use Rattle.motion_numbers.specs.Run.{cut_at_zero};
+ghost use Rattle.std.specs.Prelude.{◌≡◌, ℕ, ◌+◌, ◌≤◌, ◌<◌, IsTrue, unsigned_abs};
 ghost use Rattle.command_pool.specs.Rates.{AreRates};
 ghost use Rattle.blend_plan.specs.BlendStep.{stops_or_passes, blend_size_of};
 
 use crate::passing::greatest_passing;
 use crate::reaches::reach_up_to;
 use command_pool::Rates;
-use motion_numbers::{MOST_STEP, MOST_WAY};
+use motion_numbers::{MOST_STEP, MOST_WAY, searches_find_the_greatest, ways_to_rest};
 use ramp_root::Steps;
 use std::sync::ledger::Ledger;
 
@@ -33,6 +32,7 @@ pub(crate) fn step_size<L: Ledger>(
     ensures small { result ≤ MOST_STEP }
     ensures cost { steps.new ≤ steps.old + 192 }
 {
+    searches_find_the_greatest();
     let greatest = greatest_step(l1, l2, old, first, second, vb, steps);
     let braking = (first.d as u64).max(second.d as u64);
     if old.saturating_sub(braking) <= greatest {
@@ -60,13 +60,14 @@ fn greatest_step<L: Ledger>(
     requires old { old ≤ MOST_STEP }
     requires least_velocity { 1 ≤ vb }
     requires most_velocity { vb ≤ MOST_STEP }
-    ensures within { result ≤ old + cut_at_zero first.now.a }
+    ensures within { result ≤ old + unsigned_abs first.now.a }
     ensures leads { IsTrue (stops_or_passes l1 l2 first.now second.now vb result) }
-    ensures greatest { (u : ℕ) → u ≤ old + cut_at_zero first.now.a →
+    ensures greatest { (u : ℕ) → u ≤ old + unsigned_abs first.now.a →
         IsTrue (stops_or_passes l1 l2 first.now second.now vb u) → u ≤ result }
     ensures small { result ≤ MOST_STEP }
     ensures cost { steps.new ≤ steps.old + 192 }
 {
+    ways_to_rest();
     let passing = greatest_passing(l1, l2, old, first, second, vb, steps);
     let fastest = (first.v as u64).min(old + first.a as u64);
     if fastest <= passing {

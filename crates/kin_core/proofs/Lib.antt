@@ -1,6 +1,6 @@
 pub mod Cuts
 pub mod Moves
-pub mod Reaches
-pub mod Runs
 pub mod SafeSteps
+pub mod Sizes
 pub mod Stops
+pub mod TowardZero

@@ -1,3 +1,4 @@
 pub mod Admissible
 pub mod Taken
 pub mod Toward
+pub mod Laws

@@ -1,18 +1,9 @@
 -- The step that an axis takes: the wanted one where it is safe, else the safe one nearest to it.
-use Rattle.std.specs.Prelude.{ℕ, ℤ, pos, neg_ℤ, ◌+ℤ◌, ◌-ℤ◌, unsigned_abs, Bool, nat_le, if◌then◌else◌, List, [], ◌∷◌, zero, suc}
+use Rattle.std.specs.Prelude.{ℤ, pos, neg_ℤ, ◌+ℤ◌, ◌-ℤ◌, unsigned_abs, List, [], ◌∷◌}
 use Rattle.std.specs.Int.{int_min, int_max}
 use Rattle.kin_core.specs.declared.limits.Limits.{Limits}
 use Rattle.kin_core.specs.Admissible.{least_step_after, greatest_step_after}
-use Rattle.motion_numbers.specs.Run.{run_of}
-
--- the greatest number up to n that passes the test, or 0 where none does. This project's profile
-unfoldable pub greatest_up_to : ℕ → (ℕ → Bool) → ℕ
-greatest_up_to zero test = 0
-greatest_up_to (suc n) test = if test (suc n) then suc n else greatest_up_to n test
-
--- the greatest step whose way to rest, braking by d, is no longer than the room (no step is longer than its way). This project's profile
-unfoldable pub reach_of : ℕ → ℕ → ℕ
-reach_of room d = greatest_up_to room (λ u. nat_le (run_of u d) room)
+use Rattle.motion_numbers.specs.Run.{reach_of}
 
 -- the greatest step up after which the axis can brake by dmax below hi. This project's profile
 abbrev pub reach_up_of : Limits → ℤ → ℤ

@@ -5,8 +5,7 @@ ghost use Rattle.kin_core.specs.Admissible.{AreLimits, IsStoppable};
 ghost use Rattle.motion_numbers.specs.Run.{run_of};
 
 use crate::limits::Limits;
-use crate::ramp::ramp_sum;
-use motion_numbers::MOST_STEP;
+use motion_numbers::{MOST_STEP, ramp_sum, ways_to_rest};
 
 /// Whether an axis whose setpoints were `prev` and then `cur` can be brought to rest within its
 /// limits: there is a finite list of setpoints that goes on admissibly and ends with the same one
@@ -18,6 +17,7 @@ pub fn stoppable(limits: &Limits, prev: i64, cur: i64) -> bool
     requires speed { pos (unsigned_abs (cur -ℤ prev)) ≤ℤ limits.now.vmax }
     ensures value { IsTrue result ↔ IsStoppable limits.now prev cur }
 {
+    ways_to_rest();
     let braking = limits.dmax as u64;
     if prev <= cur {
         stops_within((cur - prev) as u64, (limits.hi - cur) as u64, braking)

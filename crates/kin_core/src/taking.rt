@@ -8,8 +8,7 @@ ghost use Rattle.kin_core.specs.Taken.{reach_up_of, reach_down_of, taken_step_of
 ghost use Rattle.motion_numbers.specs.Ranges.{IsStep};
 
 use crate::limits::Limits;
-use crate::ramp::greatest_ramp;
-use motion_numbers::MOST_WAY;
+use motion_numbers::{MOST_WAY, greatest_ramp, ways_to_rest};
 
 /// The safe step nearest to the `wanted` one, for an axis whose setpoints were `prev` and then
 /// `cur`. All are in internal units, and steps are signed; the wanted step is one where it is safe.
@@ -24,6 +23,7 @@ pub fn nearest_safe(limits: &Limits, prev: i64, cur: i64, wanted: i64) -> i64
     ensures exact { IsSafe limits.now prev cur (cur +ℤ wanted) → result ≡ wanted }
     ensures small { IsStep result }
 {
+    ways_to_rest();
     let step = step_that_may_follow(limits, cur - prev, wanted);
     step_with_room(limits, cur, step)
 }

@@ -1,9 +1,8 @@
 -- Straight lines of several axes: their places, and the limits of the path along them.
-use Rattle.std.specs.Prelude.{ℕ, zero, suc, ◌+◌, ◌-◌, ◌*◌, ◌/◌, ◌≤◌, max, ℤ, pos, ◌+ℤ◌, ◌-ℤ◌, unsigned_abs, int_lt, Bool, true, nat_eq, nat_le, ◌&&◌, if◌then◌else◌, List, slice_index_or}
+use Rattle.std.specs.Prelude.{ℕ, zero, suc, ◌+◌, ◌-◌, ◌*◌, ◌/◌, max, ℤ, pos, ◌+ℤ◌, ◌-ℤ◌, unsigned_abs, int_lt, Bool, true, nat_eq, nat_le, ◌&&◌, if◌then◌else◌, List, slice_index_or}
 use Rattle.motion_numbers.specs.declared.TheConstants.{MOST_STEP}
 use Rattle.motion_numbers.specs.Ranges.{IsPlace}
 use Rattle.kin_core.specs.declared.limits.Limits.{Limits}
-use Rattle.kin_core.specs.Taken.{greatest_up_to}
 use Rattle.linear_path.specs.Path.{standing_limits, limits_at}
 
 -- the coordinate of an axis, the axes counted from 0
@@ -53,25 +52,30 @@ unfoldable pub all_axes : ℕ → (ℕ → Bool) → Bool
 all_axes zero test = true
 all_axes (suc n) test = all_axes n test && test n
 
+-- the greatest number up to n that passes the test, or 0 where none does. This project's profile
+unfoldable pub greatest_up_to : ℕ → (ℕ → Bool) → ℕ
+greatest_up_to zero test = 0
+greatest_up_to (suc n) test = if test (suc n) then suc n else greatest_up_to n test
+
 -- the greatest velocity up to 10^10 of a path at which every axis keeps its vmax. This project's profile
 unfoldable pub path_velocity_of : ℕ → List ℤ → List ℤ → ℕ → List Limits → ℕ
 path_velocity_of count starts targets length limits =
     greatest_up_to MOST_STEP (λ w. all_axes count (λ axis.
     keeps_velocity (way_of starts targets axis) length (unsigned_abs (limits_at limits axis).vmax) w))
 
--- the greatest gain of speed up to 10^10 with which every axis keeps its amax. This project's profile
+-- the greatest gain of speed up to 10^10 with which every axis, rounding included, keeps its amax. This project's profile
 unfoldable pub path_acceleration_of : ℕ → List ℤ → List ℤ → ℕ → List Limits → ℕ
 path_acceleration_of count starts targets length limits =
     greatest_up_to MOST_STEP (λ b. all_axes count (λ axis.
     keeps_change (way_of starts targets axis) length (unsigned_abs (limits_at limits axis).amax) b))
 
--- the greatest loss of speed up to 10^10 with which every axis keeps its dmax. This project's profile
+-- the greatest loss of speed up to 10^10 with which every axis, rounding included, keeps its dmax. This project's profile
 unfoldable pub path_deceleration_of : ℕ → List ℤ → List ℤ → ℕ → List Limits → ℕ
 path_deceleration_of count starts targets length limits =
     greatest_up_to MOST_STEP (λ b. all_axes count (λ axis.
     keeps_change (way_of starts targets axis) length (unsigned_abs (limits_at limits axis).dmax) b))
 
--- the limits of the path along a line: from place 0 to its length, with the greatest rates that keep every axis within its own limits. This project's profile
+-- the limits of the path along a line: from place 0 to its length, with the greatest rates with which each axis, given one unit more for the rounding of its places where it neither rests nor has the longest way, keeps its own. This project's profile
 unfoldable pub path_limits_of : ℕ → List ℤ → List ℤ → List Limits → Limits
 path_limits_of count starts targets limits =
     let length = longest_way_of count starts targets in

@@ -1,14 +1,12 @@
 -- The greatest rates of a path pass, and are limits.
-use Rattle.std.proofs.Common.{◌≡◌, ℕ, zero, suc, ◌+◌, ◌-◌, ◌*◌, ◌/◌, ◌<◌, ◌≤◌, min, refl, sym, ◌∙◌, ap, inl, inr, arith, Bool, true, false, nat_le, ◌&&◌, eq-eqb, ℤ, pos, unsigned_abs, List, ◌↔◌}
+use Rattle.std.proofs.Common.{◌≡◌, ℕ, zero, suc, ◌+◌, ◌-◌, ◌*◌, ◌/◌, ◌<◌, ◌≤◌, min, refl, sym, ◌∙◌, ap, inl, inr, arith, Bool, true, false, nat_le, eq-eqb, ℤ, pos, unsigned_abs, List, ◌↔◌}
 use Rattle.std.proofs.Math.Nat.{mul-le-mul_right, mul-le-mul_left}
-use Rattle.std.proofs.lemmas.Bool.{cases_eq, leb-true, le-leb, cond_both}
+use Rattle.std.proofs.lemmas.Bool.{cases_eq, cases_lt, leb-true, le-leb, cond_both, and_parts, and_from}
 use Rattle.std.proofs.lemmas.Int.{ints}
 use Rattle.motion_numbers.specs.declared.TheConstants.{MOST_STEP, MOST_WAY}
 use Rattle.kin_core.specs.declared.limits.Limits.{Limits}
 use Rattle.kin_core.specs.Admissible.{AreLimits}
-use Rattle.kin_core.specs.Taken.{greatest_up_to}
-use Rattle.kin_core.proofs.Reaches.{greatest_passes, greatest_above}
-use Rattle.linear_path.specs.Line.{way_of, longest_way_of, path_limits_of, ceil_of, keeps_velocity, keeps_change, all_axes, path_velocity_of, path_acceleration_of, path_deceleration_of}
+use Rattle.linear_path.specs.Line.{greatest_up_to, way_of, longest_way_of, path_limits_of, ceil_of, keeps_velocity, keeps_change, all_axes, path_velocity_of, path_acceleration_of, path_deceleration_of}
 use Rattle.linear_path.specs.Path.{standing_limits, limits_at, AreAxisLimits, AreAxesLimits}
 use Rattle.linear_path.specs.Rates.{IsRateOf, IsGreatestRate, AreGreatestRates, velocity_test, gain_test, loss_test}
 use Rattle.linear_path.specs.PartLaws.{quotient, below_factor, ceil_least, ceil_reaches, eq_false}
@@ -19,18 +17,29 @@ unfolding greatest_up_to
 greatest_within zero test = omega arith
 greatest_within (suc n) test = cond_both (test (suc n)) (suc n) (greatest_up_to n test) (λ k. k ≤ suc n) (λ _. omega arith) (λ _. omega (arith, greatest_within n test))
 
--- both of two tests pass
-both_left : (a b : Bool) → (a && b) ≡ true → a ≡ true
-both_left true b h = refl
-both_left false b h = h
+-- it passes, where zero does
+greatest_passes : (n : ℕ) (test : ℕ → Bool) → test zero ≡ true → test (greatest_up_to n test) ≡ true
+unfolding greatest_up_to
+greatest_passes zero test at_zero = at_zero
+greatest_passes (suc n) test at_zero =
+    cond_both (test (suc n)) (suc n) (greatest_up_to n test) (λ m. test m ≡ true) (λ passes. passes) (λ fails. greatest_passes n test at_zero)
 
-both_right : (a b : Bool) → (a && b) ≡ true → b ≡ true
-both_right true b h = h
-both_right false b h = absurd (cc)
+-- a number that passes is no number that fails
+top_fails : (n m : ℕ) (test : ℕ → Bool) → m ≡ suc n → test m ≡ true → test (suc n) ≡ false → ⊥
+top_fails n m test top passes fails = cc
 
-both_of : (a b : Bool) → a ≡ true → b ≡ true → (a && b) ≡ true
-both_of true b h k = k
-both_of false b h k = h
+-- and no greater number up to the bound does
+greatest_above : (n : ℕ) (test : ℕ → Bool) (m : ℕ) → m ≤ n → test m ≡ true → m ≤ greatest_up_to n test
+unfolding greatest_up_to
+greatest_above zero test m within passes = within
+greatest_above (suc n) test m within passes =
+    cond_both (test (suc n)) (suc n) (greatest_up_to n test) (λ k. m ≤ k) (λ _. within)
+    (λ fails. greatest_above n test m
+    (elim (cases_lt n m) [
+      | inl more ↦ absurd (let top : m ≡ suc n = omega arith in top_fails n m test top passes fails)
+      | inr less ↦ less
+    ])
+    passes)
 
 -- all axes pass, so each one does
 pub each_axis : (n : ℕ) (test : ℕ → Bool) (axis : ℕ) → all_axes n test ≡ true → axis < n → test axis ≡ true
@@ -38,15 +47,15 @@ unfolding all_axes
 each_axis zero test axis all within = absurd (omega arith)
 each_axis (suc n) test axis all within =
     elim (cases_eq axis n) [
-      | inl last ↦ ap test last ∙ both_right (all_axes n test) (test n) all
-      | inr before ↦ each_axis n test axis (both_left (all_axes n test) (test n) all) (omega arith)
+      | inl last ↦ ap test last ∙ (and_parts (all_axes n test) (test n) all).1
+      | inr before ↦ each_axis n test axis (and_parts (all_axes n test) (test n) all).0 (omega arith)
     ]
 
 -- and each axis passes, so all do
 pub every_axis : (n : ℕ) (test : ℕ → Bool) → ((axis : ℕ) → axis < n → test axis ≡ true) → all_axes n test ≡ true
 unfolding all_axes
 every_axis zero test each = refl
-every_axis (suc n) test each = both_of (all_axes n test) (test n) (every_axis n test (λ axis h. each axis (omega arith))) (each n (omega arith))
+every_axis (suc n) test each = and_from (all_axes n test) (test n) (every_axis n test (λ axis h. each axis (omega arith))) (each n (omega arith))
 
 -- a rate that is the greatest so far is the greatest number that passes
 pub greatest_is : (n most : ℕ) (test : ℕ → ℕ → Bool) (rate : ℕ) → most ≡ MOST_STEP → IsGreatestRate n test rate → rate ≡ greatest_up_to most (λ r. all_axes n (λ axis. test axis r))

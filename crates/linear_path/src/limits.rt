@@ -10,8 +10,6 @@ use crate::line::LinePath;
 use kin_core::Limits;
 use motion_numbers::{MOST_STEP, MOST_WAY};
 
-const MOST_RATE: u64 = 10_000_000_000;
-
 #[derive(Clone, Copy)]
 struct PathRates {
     velocity: u64,
@@ -20,9 +18,9 @@ struct PathRates {
 }
 
 /// The limits of the path along a line, from the limits of its axes, one for each: the greatest
-/// velocity, acceleration and deceleration of the path that keep every axis within its own. An
-/// axis that neither rests nor has the longest way is given one unit more for the rounding of its
-/// places. A line of length 0 has 1 for each. In internal units per cycle.
+/// velocity, acceleration and deceleration of the path with which each axis, given one unit more
+/// for the rounding of its places where it neither rests nor has the longest way, keeps its own. A
+/// line of length 0 has 1 for each. In internal units per cycle.
 pub fn path_limits(line: &LinePath, limits: &[Limits]) -> Limits
     requires { AreAxesLimits line.now.count limits.now }
     ensures value { result ≡
@@ -49,7 +47,8 @@ pub fn path_limits(line: &LinePath, limits: &[Limits]) -> Limits
     }
 }
 
-// The greatest rates of a path of this length that keep every axis within its limits.
+// The greatest rates of a path of this length with which every axis, rounding included, keeps its
+// limits.
 fn path_rates(line: &LinePath, length: u64, limits: &[Limits]) -> PathRates
     requires axes { AreAxesLimits line.now.count limits.now }
     requires some { 0 < length }
@@ -58,9 +57,9 @@ fn path_rates(line: &LinePath, length: u64, limits: &[Limits]) -> PathRates
     ensures { AreGreatestRates line.now.starts line.now.targets length limits.now
         line.now.count result.velocity result.acceleration result.deceleration }
 {
-    let mut velocity = MOST_RATE;
-    let mut acceleration = MOST_RATE;
-    let mut deceleration = MOST_RATE;
+    let mut velocity = MOST_STEP;
+    let mut acceleration = MOST_STEP;
+    let mut deceleration = MOST_STEP;
     for axis in 0..line.count {
         let own = axis_rates(line.way(axis), length, &limits[axis as usize]);
         velocity = own.velocity.min(velocity);
@@ -74,7 +73,7 @@ fn path_rates(line: &LinePath, length: u64, limits: &[Limits]) -> PathRates
     }
 }
 
-// The greatest rates of the path that keep an axis of this way within its limits.
+// The greatest rates of the path with which an axis of this way, rounding included, keeps its limits.
 fn axis_rates(way: u64, length: u64, limits: &Limits) -> PathRates
     requires axis { AreAxisLimits limits.now }
     requires longest { way ≤ length }
@@ -102,7 +101,7 @@ fn greatest_velocity(way: u64, length: u64, vmax: u64) -> u64
     ensures { IsRateOf result (keeps_velocity way length vmax) }
 {
     if way == 0 {
-        return MOST_RATE;
+        return MOST_STEP;
     }
     greatest_rate(vmax, length, way)
 }
@@ -118,7 +117,7 @@ fn greatest_change(way: u64, length: u64, most: u64) -> u64
     ensures { IsRateOf result (keeps_change way length most) }
 {
     if way == 0 {
-        return MOST_RATE;
+        return MOST_STEP;
     }
     if way == length {
         return most;
@@ -134,5 +133,5 @@ fn greatest_rate(rate: u64, length: u64, way: u64) -> u64
     ensures value { result ≡ min MOST_STEP (rate * length / way) }
     ensures most { result ≤ MOST_STEP }
 {
-    (rate as u128 * length as u128 / way as u128).min(MOST_RATE as u128) as u64
+    (rate as u128 * length as u128 / way as u128).min(MOST_STEP as u128) as u64
 }

@@ -1,2 +1,4 @@
 pub mod Ranges
+pub mod Greatest
 pub mod Run
+pub mod Laws

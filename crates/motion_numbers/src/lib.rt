@@ -1,6 +1,12 @@
 //! The whole numbers of motion: their ranges, and the sums of the ramps that they make.
 #![tactic(auto)]
 
+mod laws;
+mod ramp;
+
+pub use laws::{searches_find_the_greatest, ways_to_rest};
+pub use ramp::{greatest_ramp, ramp_sum, run_sum};
+
 /// The greatest size of a place, in internal units.
 pub const MOST_PLACE: u64 = 1_000_000_000_000_000;
 
@@ -10,6 +16,9 @@ pub const MOST_WAY: u64 = 2_000_000_000_000_000;
 /// The greatest size of a step, in internal units per cycle, and of its change from one cycle to
 /// the next.
 pub const MOST_STEP: u64 = 10_000_000_000;
+
+/// The longest way to rest: that from the greatest step, braking by 1 each cycle.
+pub const MOST_RAMP: u128 = 50_000_000_005_000_000_000;
 
 /// The greatest increment of a drive, in internal units.
 pub const MOST_INCREMENT: u64 = 1_000_000_000;

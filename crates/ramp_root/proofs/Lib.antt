@@ -1,4 +1,3 @@
-pub mod Orders
-pub mod GreatestLemmas
 pub mod SumLemmas
 pub mod RootLemmas
+pub mod ReachCounts

@@ -1,15 +1,16 @@
 -- Newton's steps to a root: where they begin, and that they never go below it.
-use Rattle.std.proofs.Common.{◌≡◌, ℕ, ◌+◌, ◌-◌, ◌*◌, ◌/◌, ◌%◌, ◌^◌, ◌<◌, ◌≤◌, arith, lit<}
+use Rattle.std.proofs.Common.{inl, inr, ◌≡◌, ℕ, ◌+◌, ◌-◌, ◌*◌, ◌/◌, ◌%◌, ◌^◌, ◌<◌, ◌≤◌, arith, lit<}
 use Rattle.std.proofs.lemmas.Nat.{pow-add, pow_pos, one_shl, div-add-mod', mod_below, mul-le}
 use Rattle.std.proofs.Math.Nat.{pow-le-pow_right}
-use Rattle.ramp_root.proofs.Orders.{by_order}
+use Rattle.std.proofs.lemmas.Bool.{cases_lt}
 
 -- a power of two that fits has a small exponent
 pub exponent-below : (n g : ℕ) → 2 ^ g ≤ n → n < 2 ^ 120 → g < 120
 exponent-below n g under short =
-    by_order g 120
-    (λ below. below)
-    (λ above. let more : 2 ^ 120 ≤ 2 ^ g = pow-le-pow_right (lit< tt) above in omega arith)
+    elim (cases_lt g 120) [
+      | inl below ↦ below
+      | inr above ↦ let more : 2 ^ 120 ≤ 2 ^ g = pow-le-pow_right (lit< tt) above in omega arith
+    ]
 
 -- a number from which the steps may begin
 pub record IsStart (n start : ℕ) : Type 0 where
@@ -34,7 +35,10 @@ first-start n g under over short =
 
 -- four times a product is at most the square of the sum
 mean : (a b : ℕ) → 4 * (a * b) ≤ (a + b) * (a + b)
-mean a b = by_order a b (λ less. ordered a b (omega arith)) (λ more. let turned : 4 * (b * a) ≤ (b + a) * (b + a) = ordered b a more in omega arith)
+mean a b = elim (cases_lt a b) [
+  | inl less ↦ ordered a b (omega arith)
+  | inr more ↦ let turned : 4 * (b * a) ≤ (b + a) * (b + a) = ordered b a more in omega arith
+]
   where
     ordered : (a b : ℕ) → a ≤ b → 4 * (a * b) ≤ (a + b) * (a + b)
     ordered a b h = spread a (b - a) b (omega arith)

@@ -1,9 +1,9 @@
 -- Sums of a ramp's first terms, and their squares.
-use Rattle.std.proofs.Common.{◌≡◌, ℕ, zero, suc, ◌+◌, ◌-◌, ◌*◌, ◌/◌, ◌%◌, ◌^◌, ◌<◌, ◌≤◌, ◌↔◌, IsTrue, nat_le, arith, ap, refl, sym, ◌∙◌}
+use Rattle.std.proofs.Common.{inl, inr, ◌≡◌, ℕ, zero, suc, ◌+◌, ◌-◌, ◌*◌, ◌/◌, ◌%◌, ◌^◌, ◌<◌, ◌≤◌, ◌↔◌, IsTrue, nat_le, arith, ap, refl, sym, ◌∙◌}
 use Rattle.std.proofs.lemmas.Nat.{mul-le, le-div, div-add-mod'}
 use Rattle.std.proofs.lemmas.Bool.Decides.{nat_tests}
 use Rattle.ramp_root.specs.Sums.{sum_of}
-use Rattle.ramp_root.proofs.Orders.{by_order}
+use Rattle.std.proofs.lemmas.Bool.{cases_lt}
 
 -- twice the sum, without a difference
 pub sum_of-twice : (k d r : ℕ) → 2 * sum_of k d r + d * k ≡ d * k * k + 2 * r * k
@@ -69,19 +69,20 @@ sum_of-size (suc k) d r rises some =
 -- so a count is short
 pub count-size : (k l d r : ℕ) → 0 < d → 0 < r → l < 2 ^ 70 → sum_of k d r ≤ l → k < 2 ^ 36
 count-size k l d r rises some short fits =
-    by_order k (2 ^ 36)
-    (λ below. below)
-    (λ above.
-    let size : k * k ≤ 2 * sum_of k d r = sum_of-size k d r rises some in
-    let large : 2 ^ 36 * 2 ^ 36 ≤ k * k = mul-le (2 ^ 36) (2 ^ 36) k k above above in
-    omega arith)
+    elim (cases_lt k (2 ^ 36)) [
+      | inl below ↦ below
+      | inr above ↦ let size : k * k ≤ 2 * sum_of k d r = sum_of-size k d r rises some in
+          let large : 2 ^ 36 * 2 ^ 36 ≤ k * k = mul-le (2 ^ 36) (2 ^ 36) k k above above in
+          omega arith
+    ]
 
 -- a factor that is not 0 may be left out
 pub cancel : (d a b : ℕ) → 0 < d → d * a ≤ d * b → a ≤ b
 cancel d a b some h =
-    by_order b a
-    (λ less. let more : d * (b + 1) ≤ d * a = mul-le d (b + 1) d a (omega arith) (omega arith) in omega arith)
-    (λ enough. enough)
+    elim (cases_lt b a) [
+      | inl less ↦ let more : d * (b + 1) ≤ d * a = mul-le d (b + 1) d a (omega arith) (omega arith) in omega arith
+      | inr enough ↦ enough
+    ]
 
 -- an offset between the double first term and the rise
 pub data Offset (d r o : ℕ) : Type 0 where
@@ -114,16 +115,16 @@ fits_within k l d r s o rises offset squared some within =
 pub count-fits : (l d r s o : ℕ) → 0 < d → Offset d r o → s * s ≤ 8 * d * l + o * o →
     sum_of ((s + d - 2 * r) / (2 * d)) d r ≤ l
 count-fits l d r s o rises offset squared =
-    by_order 0 ((s + d - 2 * r) / (2 * d))
-    (λ some.
-    let parts : (s + d - 2 * r) / (2 * d) * (2 * d) + (s + d - 2 * r) % (2 * d) ≡ s + d - 2 * r =
-    div-add-mod' (s + d - 2 * r) (2 * d) in
-    let one : 1 * (2 * d) ≤ (s + d - 2 * r) / (2 * d) * (2 * d) =
-    mul-le 1 (2 * d) ((s + d - 2 * r) / (2 * d)) (2 * d) some (omega arith) in
-    fits_within ((s + d - 2 * r) / (2 * d)) l d r s o rises offset squared some
-    (by_parts ((s + d - 2 * r) / (2 * d)) d (s + d) (2 * r) ((s + d - 2 * r) % (2 * d)) rises one parts))
-    (λ none. let zero_terms : (s + d - 2 * r) / (2 * d) ≡ 0 = omega arith in
-    rw zero_terms (omega (arith, sum_of-none d r)))
+    elim (cases_lt 0 ((s + d - 2 * r) / (2 * d))) [
+      | inl some ↦ let parts : (s + d - 2 * r) / (2 * d) * (2 * d) + (s + d - 2 * r) % (2 * d) ≡ s + d - 2 * r =
+          div-add-mod' (s + d - 2 * r) (2 * d) in
+          let one : 1 * (2 * d) ≤ (s + d - 2 * r) / (2 * d) * (2 * d) =
+          mul-le 1 (2 * d) ((s + d - 2 * r) / (2 * d)) (2 * d) some (omega arith) in
+          fits_within ((s + d - 2 * r) / (2 * d)) l d r s o rises offset squared some
+          (by_parts ((s + d - 2 * r) / (2 * d)) d (s + d) (2 * r) ((s + d - 2 * r) % (2 * d)) rises one parts)
+      | inr none ↦ let zero_terms : (s + d - 2 * r) / (2 * d) ≡ 0 = omega arith in
+          rw zero_terms (omega (arith, sum_of-none d r))
+    ]
   where
     by_parts : (k d t f m : ℕ) → 0 < d → 1 * (2 * d) ≤ k * (2 * d) → k * (2 * d) + m ≡ t - f →
         2 * d * k + f ≤ t
@@ -154,3 +155,44 @@ fits_test k l d r less is =
   where
     tested : (a b : ℕ) → IsTrue (nat_le a b) ↔ (a ≤ b)
     tested a b = (λ h. grind (arith, nat_tests), λ h. grind (arith, nat_tests))
+
+-- each term has its r
+pub sum_of-shift : (k d r : ℕ) → sum_of k d r ≡ sum_of k d 0 + r * k
+sum_of-shift k d r = omega (arith, sum_of-twice k d r, sum_of-twice k d 0)
+
+-- without it the sum is d times that of 0, 1, 2 and so on
+pub sum_of-scaled : (k d : ℕ) → sum_of k d 0 ≡ d * sum_of k 1 0
+unfolding sum_of
+sum_of-scaled zero d = omega arith
+sum_of-scaled (suc k) d = let before : sum_of k d 0 ≡ d * sum_of k 1 0 = sum_of-scaled k d in omega arith
+
+-- as the code computes it
+pub sum_of-pairs : (k d : ℕ) → d * (k * (k - 1) / 2) ≡ sum_of k d 0
+sum_of-pairs k d =
+    let closed : sum_of k 1 0 ≡ 1 * k * (k - 1) / 2 + 0 * k = sum_of-closed k 1 0 in
+    let plain : 1 * k * (k - 1) ≡ k * (k - 1) = omega arith in
+    let halves : sum_of k 1 0 ≡ k * (k - 1) / 2 = closed ∙ rw plain (omega arith) in
+    sym (sum_of-scaled k d ∙ ap (λ n. d * n) halves)
+
+-- the first term apart, and the others from the next
+pub sum_of-front : (n d r : ℕ) → sum_of (suc n) d r ≡ r + sum_of n d (r + d)
+unfolding sum_of
+sum_of-front zero d r = omega arith
+sum_of-front (suc n) d r = let rest : sum_of (suc n) d r ≡ r + sum_of n d (r + d) = sum_of-front n d r in omega arith
+
+-- the first k terms, and the others
+pub sum_of-split : (k n d r : ℕ) → sum_of (k + n) d r ≡ sum_of k d r + sum_of n d (r + k * d)
+unfolding sum_of
+sum_of-split k zero d r = let here : k + zero ≡ k = omega arith in rw here (omega arith)
+sum_of-split k (suc n) d r =
+    let next : k + suc n ≡ suc (k + n) = omega arith in
+    let rest : sum_of (k + n) d r ≡ sum_of k d r + sum_of n d (r + k * d) = sum_of-split k n d r in
+    rw next (omega arith)
+
+-- more terms have no smaller sum
+pub sum_of-more : (k m d r : ℕ) → k ≤ m → sum_of k d r ≤ sum_of m d r
+sum_of-more k m d r h =
+    let parts : k + (m - k) ≡ m = omega arith in
+    let sum : sum_of m d r ≡ sum_of k d r + sum_of (m - k) d (r + k * d) =
+    rw parts at (sum_of-split k (m - k) d r) in
+    omega arith

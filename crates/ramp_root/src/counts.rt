@@ -1,5 +1,6 @@
 // The greatest number of terms of a ramp whose sum fits.
 ghost use Rattle.std.specs.Prelude.{◌≡◌, ℕ, ◌+◌, ◌-◌, ◌*◌, ◌/◌, ◌^◌, ◌<◌, ◌≤◌, ◌↔◌, IsTrue};
+ghost use Rattle.ramp_root.specs.Laws.{AreSums};
 ghost use Rattle.ramp_root.specs.Sums.{sum_of};
 
 use crate::roots::root;
@@ -92,4 +93,9 @@ fn count_by_root(l: u128, d: u64, r: u64) -> u64
 /// The sum of a ramp's first terms, in closed form.
 pub fn sums_in_closed_form()
     ensures { (k d r : ℕ) → sum_of k d r ≡ d * k * (k - 1) / 2 + r * k }
+{}
+
+/// The sum of a ramp's first terms, by its first term, its pairs, its parts and its size.
+pub fn sums_of_ramps()
+    ensures { AreSums }
 {}

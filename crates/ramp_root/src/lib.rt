@@ -1,12 +1,16 @@
-//! Greatest counts of the terms of a ramp, by an integer root.
+//! Greatest counts of the terms of a ramp, by an integer root, and the steps that they give.
 #![tactic(auto)]
 
 mod counts;
+mod reaches;
 mod roots;
 mod steps;
 #[cfg(test)]
 mod tests;
 
-pub use counts::{fits, greatest_count, greatest_count_counted, sums_in_closed_form};
+pub use counts::{
+    fits, greatest_count, greatest_count_counted, sums_in_closed_form, sums_of_ramps,
+};
+pub use reaches::reach;
 pub use roots::root;
 pub use steps::Steps;

@@ -1,7 +1,7 @@
 // The integer root.
 ghost use Rattle.std.specs.Prelude.{◌≡◌, ℕ, ◌+◌, ◌*◌, ◌/◌, ◌^◌, ◌<◌, ◌≤◌};
 
-/// The greatest `k` with `k * k <= n`, by Newton's steps from above.
+/// The greatest `k` with `k * k <= n`, by Newton's steps from above. Its steps aren't counted.
 pub fn root(n: u128) -> u64
     requires { n < 2 ^ 120 }
     ensures square { result * result ≤ n }

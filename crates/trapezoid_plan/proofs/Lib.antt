@@ -1,8 +1,7 @@
-pub mod TowardZero
 pub mod StepsAhead
-pub mod ReachCounts
 pub mod VelocitySteps
 pub mod MoveSteps
 pub mod TakenMoves
+pub mod Headings
 pub mod Arrivals
 pub mod Rests

@@ -1,60 +1,57 @@
 -- Halts come to rest in time.
-use Rattle.std.proofs.Common.{◌≡◌, ℕ, zero, suc, ◌+◌, ◌-◌, ◌*◌, ◌/◌, ◌%◌, ◌≤◌, ◌<◌, ℤ, pos, neg_ℤ, ◌≤ℤ◌, ◌-ℤ◌, ◌+ℤ◌, unsigned_abs, arith, inl, inr}
+use Rattle.std.proofs.Common.{◌≡◌, ℕ, zero, suc, ◌+◌, ◌-◌, ◌*◌, ◌/◌, ◌%◌, ◌≤◌, ◌<◌, ℤ, pos, ◌≤ℤ◌, ◌-ℤ◌, ◌+ℤ◌, unsigned_abs, arith, inl, inr}
 use Rattle.std.proofs.lemmas.Int.{ints}
 use Rattle.std.proofs.lemmas.Nat.{div-add-mod', mod_below}
 use Rattle.kin_core.specs.declared.limits.Limits.{Limits}
 use Rattle.kin_core.specs.Admissible.{AreLimits, IsKept}
-use Rattle.motion_numbers.specs.Run.{cut_at_zero}
-use Rattle.kin_core.proofs.Runs.{cut_is}
-use Rattle.kin_core.proofs.SafeSteps.{taken_step_is_safe, safe_keeps}
-use Rattle.kin_core.proofs.Moves.{braking_is_cut}
-use Rattle.ramp_root.proofs.Orders.{by_order}
+use Rattle.std.proofs.lemmas.Bool.{cases_lt}
 use Rattle.trapezoid_plan.specs.MoveRun.{halt_taken_of, IsAtRestWithin}
+use Rattle.kin_core.specs.Laws.{AreSafeSteps}
 
--- the taken step of a halt is at most the old one slowed
-halt-cut : (limits : Limits) (d before now : ℤ) → AreLimits limits → pos 1 ≤ℤ d → d ≤ℤ limits.dmax →
-    IsKept limits before now →
-    (cut_at_zero (halt_taken_of limits d before now) ≤ cut_at_zero (now -ℤ before) - unsigned_abs d)
-    × (cut_at_zero (neg_ℤ (halt_taken_of limits d before now)) ≤ cut_at_zero
-    (neg_ℤ (now -ℤ before)) - unsigned_abs d)
-unfolding halt_taken_of
-halt-cut limits d before now ok some gentle kept = braking_is_cut limits before now d ok kept
-    (omega (arith, ints)) gentle
+module _ (steps : AreSafeSteps) where
+  open steps use {braking.{slower as braking_is_slower}, taken.{kept as taken_step_keeps}}
 
-halt-keeps : (limits : Limits) (d before now : ℤ) → AreLimits limits → IsKept limits before now →
-    IsKept limits now (now +ℤ halt_taken_of limits d before now)
-unfolding halt_taken_of
-halt-keeps limits d before now ok kept = safe_keeps limits before now _
-    (taken_step_is_safe limits before now _ ok kept)
+  -- the taken step of a halt is at most the old one slowed
+  halt-cut : (limits : Limits) (d before now : ℤ) → AreLimits limits → pos 1 ≤ℤ d → d ≤ℤ limits.dmax →
+      IsKept limits before now →
+      unsigned_abs (halt_taken_of limits d before now) ≤ unsigned_abs (now -ℤ before) - unsigned_abs d
+  unfolding halt_taken_of
+  halt-cut limits d before now ok some gentle kept = braking_is_slower limits before now d ok kept (omega (arith, ints)) gentle
 
--- a step below m times d comes to rest within m cycles
-rests : (m : ℕ) (limits : Limits) (d before now : ℤ) → AreLimits limits → pos 1 ≤ℤ d → d ≤ℤ limits.dmax →
-    IsKept limits before now → unsigned_abs (now -ℤ before) < m * unsigned_abs d →
-    IsAtRestWithin m limits d before now
-rests zero limits d before now ok some gentle kept short = absurd (omega arith)
-rests (suc m) limits d before now ok some gentle kept short =
-    let cut = halt-cut limits d before now ok some gentle kept in
-    by_order (unsigned_abs (now -ℤ before)) (unsigned_abs d)
-    (λ last. inl (omega (arith, ints, cut_is, cut.0, cut.1)))
-    (λ more. inr (rests m limits d now (now +ℤ halt_taken_of limits d before now) ok some gentle
-    (halt-keeps limits d before now ok kept)
-    (slower (now -ℤ before) (halt_taken_of limits d before now)
-    (now +ℤ halt_taken_of limits d before now -ℤ now) m (unsigned_abs d)
-    (omega (arith, ints)) cut.0 cut.1 short more)))
-  where
-    slower : (v t z : ℤ) (m d : ℕ) → z ≡ t → cut_at_zero t ≤ cut_at_zero v - d →
-        cut_at_zero (neg_ℤ t) ≤ cut_at_zero (neg_ℤ v) - d → unsigned_abs v < suc m * d → d ≤ unsigned_abs v →
-        unsigned_abs z < m * d
-    slower v t z m d is up down short more = omega (arith, ints, cut_is)
+  halt-keeps : (limits : Limits) (d before now : ℤ) → AreLimits limits → IsKept limits before now →
+      IsKept limits now (now +ℤ halt_taken_of limits d before now)
+  unfolding halt_taken_of
+  halt-keeps limits d before now ok kept = taken_step_keeps limits before now _ ok kept
 
-pub halt-rests : (limits : Limits) (d before now : ℤ) → AreLimits limits → pos 1 ≤ℤ d → d ≤ℤ limits.dmax →
-    IsKept limits before now →
-    IsAtRestWithin (unsigned_abs (now -ℤ before) / unsigned_abs d + 1) limits d before now
-halt-rests limits d before now ok some gentle kept =
-    let parts : unsigned_abs (now -ℤ before) / unsigned_abs d * unsigned_abs d + unsigned_abs
-    (now -ℤ before) % unsigned_abs d ≡ unsigned_abs (now -ℤ before) =
-    div-add-mod' (unsigned_abs (now -ℤ before)) (unsigned_abs d) in
-    let below : unsigned_abs (now -ℤ before) % unsigned_abs d < unsigned_abs d =
-    mod_below (unsigned_abs (now -ℤ before)) (unsigned_abs d) (omega (arith, ints)) in
-    rests (unsigned_abs (now -ℤ before) / unsigned_abs d + 1) limits d before now ok some gentle kept
-    (omega arith)
+  -- a step below m times d comes to rest within m cycles
+  rests : (m : ℕ) (limits : Limits) (d before now : ℤ) → AreLimits limits → pos 1 ≤ℤ d → d ≤ℤ limits.dmax →
+      IsKept limits before now → unsigned_abs (now -ℤ before) < m * unsigned_abs d →
+      IsAtRestWithin m limits d before now
+  rests zero limits d before now ok some gentle kept short = absurd (omega arith)
+  rests (suc m) limits d before now ok some gentle kept short =
+      let cut : unsigned_abs (halt_taken_of limits d before now) ≤ unsigned_abs (now -ℤ before) - unsigned_abs d =
+      halt-cut limits d before now ok some gentle kept in
+      elim (cases_lt (unsigned_abs (now -ℤ before)) (unsigned_abs d)) [
+        | inl last ↦ inl (omega (arith, ints))
+        | inr more ↦ inr (rests m limits d now (now +ℤ halt_taken_of limits d before now) ok some gentle
+            (halt-keeps limits d before now ok kept)
+            (slower (now -ℤ before) (halt_taken_of limits d before now)
+            (now +ℤ halt_taken_of limits d before now -ℤ now) m (unsigned_abs d)
+            (omega (arith, ints)) cut short more))
+      ]
+    where
+      slower : (v t z : ℤ) (m d : ℕ) → z ≡ t → unsigned_abs t ≤ unsigned_abs v - d →
+          unsigned_abs v < suc m * d → d ≤ unsigned_abs v → unsigned_abs z < m * d
+      slower v t z m d is less short more = omega (arith, ints)
+
+  pub halt-rests : (limits : Limits) (d before now : ℤ) → AreLimits limits → pos 1 ≤ℤ d → d ≤ℤ limits.dmax →
+      IsKept limits before now →
+      IsAtRestWithin (unsigned_abs (now -ℤ before) / unsigned_abs d + 1) limits d before now
+  halt-rests limits d before now ok some gentle kept =
+      let parts : unsigned_abs (now -ℤ before) / unsigned_abs d * unsigned_abs d + unsigned_abs
+      (now -ℤ before) % unsigned_abs d ≡ unsigned_abs (now -ℤ before) =
+      div-add-mod' (unsigned_abs (now -ℤ before)) (unsigned_abs d) in
+      let below : unsigned_abs (now -ℤ before) % unsigned_abs d < unsigned_abs d =
+      mod_below (unsigned_abs (now -ℤ before)) (unsigned_abs d) (omega (arith, ints)) in
+      rests (unsigned_abs (now -ℤ before) / unsigned_abs d + 1) limits d before now ok some gentle kept
+      (omega arith)

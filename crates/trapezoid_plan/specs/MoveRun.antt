@@ -1,8 +1,9 @@
 -- The run of taken steps while a move or a halt is active.
-use Rattle.std.specs.Prelude.{◌≡◌, ℕ, zero, suc, ℤ, pos, ◌+ℤ◌, ◌-ℤ◌, ◌≤ℤ◌, ◌⊎◌}
+use Rattle.std.specs.Prelude.{◌≡◌, ℕ, ◌-◌, zero, suc, ℤ, pos, ◌+ℤ◌, ◌-ℤ◌, ◌<ℤ◌, ◌≤ℤ◌, unsigned_abs, ◌⊎◌}
 use Rattle.kin_core.specs.declared.limits.Limits.{Limits}
 use Rattle.kin_core.specs.Taken.{taken_step_of}
 use Rattle.kin_core.specs.Toward.{toward_zero}
+use Rattle.motion_numbers.specs.Run.{run_of}
 use Rattle.command_pool.specs.declared.rates.Rates.{Rates}
 use Rattle.trapezoid_plan.specs.MoveStep.{move_step_of}
 
@@ -25,6 +26,22 @@ IsDoneWithin zero limits rates target before now = ⊥
 IsDoneWithin (suc n) limits rates target before now =
     ((now ≡ target) × (move_taken_of limits rates target before now ≡ pos 0))
     ⊎ IsDoneWithin n limits rates target now (now +ℤ move_taken_of limits rates target before now)
+
+-- counted toward the target, it lies at the distance l ahead, the old step w doesn't lead away from it, and the run from w slowed once fits the distance. This project's profile
+pub record IsHeading (rates : Rates) (l w : ℤ) : Type 0 where
+  pub way : pos 0 ≤ℤ l
+  pub old_step : pos 0 ≤ℤ w
+  pub run : pos (run_of (unsigned_abs w - unsigned_abs rates.d) (unsigned_abs rates.d)) ≤ℤ l
+
+-- a move heads for its target: it can slow onto it from where it goes. This project's profile
+abbrev pub HeadsFor : Rates → ℤ → ℤ → ℤ → Type 0
+HeadsFor rates target before now =
+    IsHeading rates (target -ℤ now) (now -ℤ before) ⊎ IsHeading rates (now -ℤ target) (before -ℤ now)
+
+-- a move heads away: the last step led away from the target, or from a setpoint at it. This project's profile
+abbrev pub HeadsAway : ℤ → ℤ → ℤ → Type 0
+HeadsAway target before now =
+    ((target ≤ℤ now) × (before <ℤ now)) ⊎ ((now ≤ℤ target) × (now <ℤ before))
 
 -- the taken step of a halt: the safe step nearest to the old one moved by d toward zero. This project's profile
 unfoldable pub halt_taken_of : Limits → ℤ → ℤ → ℤ → ℤ

@@ -1,9 +1,9 @@
 -- The wanted step of a move: a trapezoid in whole steps.
 use Rattle.std.specs.Prelude.{◌≡◌, ℕ, ◌+◌, ◌-◌, Bool, ℤ, pos, neg_ℤ, ◌+ℤ◌, ◌-ℤ◌, ◌<ℤ◌, ◌≤ℤ◌, int_lt, int_le, nat_le, ◌&&◌, unsigned_abs, unwrap_or, ◌⊎◌, if◌then◌else◌}
 use Rattle.command_pool.specs.declared.rates.Rates.{Rates}
-use Rattle.motion_numbers.specs.Run.{run_of, cut_at_zero}
+use Rattle.motion_numbers.specs.Run.{run_of}
 pub use Rattle.kin_core.specs.Toward.{toward_zero}
-use Rattle.ramp_root.specs.Greatest.{greatest}
+use Rattle.motion_numbers.specs.Greatest.{greatest}
 
 -- u may follow the step w on a way of length l, all counted toward the target: it does not turn back, keeps the velocity, is within the deceleration below w and the acceleration above w, and its run by the deceleration fits the way. This project's profile
 pub record MayFollow (rates : Rates) (l w u : ℤ) : Type 0 where
@@ -28,13 +28,13 @@ pub record IsMoveStep (x v : ℤ) (rates : Rates) (u : ℤ) : Type 0 where
 -- whether u may follow the step w on a way of length l, in sizes. This project's profile
 abbrev pub may_follow : Rates → ℕ → ℕ → ℕ → Bool
 may_follow rates l w u =
-    nat_le u (cut_at_zero rates.v) && nat_le (w - cut_at_zero rates.d) u
-    && nat_le u (w + cut_at_zero rates.a) && nat_le (run_of u (cut_at_zero rates.d)) l
+    nat_le u (unsigned_abs rates.v) && nat_le (w - unsigned_abs rates.d) u
+    && nat_le u (w + unsigned_abs rates.a) && nat_le (run_of u (unsigned_abs rates.d)) l
 
 -- the size of the step ahead from a step of size w at the distance l. This project's profile
 unfoldable pub step_ahead_of : ℕ → ℕ → Rates → ℕ
 step_ahead_of l w rates =
-    unwrap_or (greatest (cut_at_zero rates.v) (may_follow rates l w)) (w - cut_at_zero rates.d)
+    unwrap_or (greatest (unsigned_abs rates.v) (may_follow rates l w)) (w - unsigned_abs rates.d)
 
 -- the move step at the signed distance x and the old step v: in the direction of x the step ahead, else v moved by the deceleration toward zero. This project's profile
 unfoldable pub move_step_of : ℤ → ℤ → Rates → ℤ

@@ -2,7 +2,6 @@
 use Rattle.std.specs.Prelude.{ℕ, ◌+◌, ◌-◌, Bool, ℤ, pos, neg_ℤ, int_lt, nat_lt, ◌&&◌, ◌||◌, min, max, unsigned_abs, if◌then◌else◌}
 use Rattle.std.specs.Ordering.{int_eq}
 use Rattle.command_pool.specs.declared.rates.Rates.{Rates}
-use Rattle.motion_numbers.specs.Run.{cut_at_zero}
 use Rattle.kin_core.specs.Toward.{toward_zero}
 
 -- whether v and w are both positive or both negative
@@ -17,7 +16,7 @@ with_sign_of w n = if int_lt w (pos 0) then neg_ℤ (pos n) else pos n
 unfoldable pub velocity_step_of : ℤ → ℤ → Rates → ℤ
 velocity_step_of w v rates =
     if (is_same_sign v w || int_eq v (pos 0)) && nat_lt (unsigned_abs v) (unsigned_abs w)
-    then with_sign_of w (min (unsigned_abs v + cut_at_zero rates.a) (unsigned_abs w))
+    then with_sign_of w (min (unsigned_abs v + unsigned_abs rates.a) (unsigned_abs w))
     else (if is_same_sign v w && nat_lt (unsigned_abs w) (unsigned_abs v)
-    then with_sign_of w (max (unsigned_abs v - cut_at_zero rates.d) (unsigned_abs w))
+    then with_sign_of w (max (unsigned_abs v - unsigned_abs rates.d) (unsigned_abs w))
     else (if int_eq v w then v else toward_zero v rates.d))

@@ -1,5 +1,5 @@
 // Within how many cycles a move is done.
-ghost use Rattle.std.specs.Prelude.{◌≡◌, pos, ◌≤◌, unsigned_abs};
+ghost use Rattle.std.specs.Prelude.{◌≡◌, ◌+◌, ◌*◌, ◌≤◌, pos, unsigned_abs};
 ghost use Rattle.command_pool.specs.Rates.{AreRates};
 ghost use Rattle.trapezoid_plan.specs.CyclesBound.{cycles_bound_of, cycles_of_sizes};
 ghost use Rattle.motion_numbers.specs.Ranges.{IsStep, IsWay};
@@ -15,7 +15,7 @@ pub fn cycles_bound(distance: i64, old: i64, rates: &Rates) -> i64
     requires distance { IsWay distance }
     requires old { IsStep old }
     ensures value { result ≡ pos (cycles_bound_of distance old rates.now) }
-    ensures small { unsigned_abs result ≤ 2000030000000004 }
+    ensures small { unsigned_abs result ≤ MOST_WAY + 3 * MOST_STEP + 4 }
 {
     cycles_of(distance.unsigned_abs(), old.unsigned_abs(), rates) as i64
 }
@@ -26,9 +26,9 @@ fn cycles_of(way: u64, speed: u64, rates: &Rates) -> u64
     requires way { way ≤ MOST_WAY }
     requires speed { speed ≤ MOST_STEP }
     ensures value { result ≡ cycles_of_sizes way speed rates.now }
-    ensures small { result ≤ 2000030000000004 }
+    ensures small { result ≤ MOST_WAY + 3 * MOST_STEP + 4 }
 {
     let (v, a, d) = (rates.v as u64, rates.a as u64, rates.d as u64);
-    let longest = (way as u128 + ramp_sum(speed, d)).min(2_000_000_000_000_000) as u64;
+    let longest = (way as u128 + ramp_sum(speed, d)).min(MOST_WAY as u128) as u64;
     speed / d + 1 + v.div_ceil(a) + longest.div_ceil(v) + v / d + 3
 }

@@ -6,6 +6,7 @@ ghost use Rattle.motion_numbers.specs.Ranges.{IsStep};
 use motion_numbers::MOST_STEP;
 
 /// The wanted step of Halt and Stop, in internal units per cycle: the old step, slowed by `d`.
+#[tactic(auto, unfolding(kin_core::specs::Toward::toward_zero))]
 pub fn halt_step(old: i64, d: i64) -> i64
     requires old { IsStep old }
     requires least { pos 1 ≤ℤ d }

@@ -11,10 +11,13 @@ mod plain;
 mod tests;
 mod velocities;
 
+pub use command_pool::Rates;
 pub use cycles::cycles_bound;
 pub use halts::halt_step;
 pub use laws::{
     halts_come_to_rest_in_time, move_steps_are_greatest, move_steps_are_safe, moves_arrive_in_time,
+    moves_head_for_their_targets, moves_that_head_away_brake,
 };
-pub use moves::{move_step, move_step_counted, reach};
+pub use moves::{move_step, move_step_counted};
+pub use ramp_root::reach;
 pub use velocities::velocity_step;

@@ -1,15 +1,14 @@
 // The wanted step of a move.
-ghost use Rattle.std.specs.Prelude.{◌≡◌, ◌+◌, pos, ◌≤ℤ◌, ◌≤◌, ◌<◌, unsigned_abs};
-ghost use Rattle.kin_core.specs.Taken.{reach_of};
+ghost use Rattle.std.specs.Prelude.{◌≡◌, ◌+◌, ◌≤◌, ◌<◌};
 ghost use Rattle.command_pool.specs.Rates.{AreRates};
 ghost use Rattle.trapezoid_plan.specs.MoveStep.{IsMoveStep, move_step_of, step_ahead_of};
 ghost use Rattle.motion_numbers.specs.Ranges.{IsStep, IsWay};
 
 use crate::halts::halt_step;
 use command_pool::Rates;
-use kin_core::ramp_sum;
-use motion_numbers::{MOST_STEP, MOST_WAY};
-use ramp_root::{Steps, greatest_count_counted};
+use kin_core::{ramp_sum, steps_fall_toward_zero};
+use motion_numbers::{MOST_STEP, MOST_WAY, searches_find_the_greatest, ways_to_rest};
+use ramp_root::{Steps, reach};
 use std::marker::Brand;
 use std::sync::ledger::{Blank, Ledger};
 
@@ -23,6 +22,9 @@ pub fn move_step(distance: i64, old: i64, rates: &Rates) -> i64
     ensures definition { IsMoveStep distance old rates.now result }
     ensures small { IsStep result }
 {
+    ways_to_rest();
+    searches_find_the_greatest();
+    steps_fall_toward_zero();
     move_from::<Brand>(distance, old, rates, Blank::new(1))
 }
 
@@ -41,7 +43,7 @@ fn move_from<L: Ledger>(distance: i64, old: i64, rates: &Rates, blank: Blank) ->
     move_step_counted(distance, old, rates, &mut steps)
 }
 
-/// The same step, with its tests of sums counted.
+/// The same step, with its calls of fits counted.
 pub fn move_step_counted<L: Ledger>(
     distance: i64,
     old: i64,
@@ -74,6 +76,8 @@ fn step_ahead<L: Ledger>(way: u64, speed: u64, rates: &Rates, steps: &mut Steps<
     ensures small { result ≤ MOST_STEP }
     ensures cost { steps.new ≤ steps.old + 64 }
 {
+    ways_to_rest();
+    searches_find_the_greatest();
     let d = rates.d as u64;
     let fastest = (rates.v as u64).min(speed + rates.a as u64);
     let slowest = speed.saturating_sub(d);
@@ -84,23 +88,4 @@ fn step_ahead<L: Ledger>(way: u64, speed: u64, rates: &Rates, steps: &mut Steps<
     } else {
         fastest.min(reach(way, d, steps)).max(slowest)
     }
-}
-
-/// The greatest step from which braking by `d` each cycle, from 1 to 10^10, needs no more than the
-/// way, in internal units. It takes one greatest count.
-// It is needed about twice in a move, and out of line it leaves the other cycles short.
-#[inline(never)]
-pub fn reach<L: Ledger>(way: u64, d: u64, steps: &mut Steps<L>) -> u64
-    requires least { 1 ≤ d }
-    requires most { d ≤ MOST_STEP }
-    requires way { way ≤ MOST_WAY }
-    ensures value { result ≡ reach_of way d }
-    ensures cost { steps.new ≤ steps.old + 64 }
-{
-    let terms = greatest_count_counted(way as u128, d, 1, steps);
-    if terms == 0 {
-        return 0;
-    }
-    let rest = way - d * (terms * (terms - 1) / 2);
-    (terms - 1) * d + d.min(rest / terms)
 }

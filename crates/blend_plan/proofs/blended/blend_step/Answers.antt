@@ -13,7 +13,7 @@ returns-clause-definition c =
     let vb : FitsSigned w64 c.args.vb = c.ranges.vb in
     let value : c.blend_from.result.0 ≡ blend_step_of c.args.l1 c.args.l2 c.args.old c.args.first.now c.args.second.now c.args.vb =
     simp to_z-of_z at c.blend_from.ensures.value in
-    rw value (is-blend-step c.args.l1 c.args.l2 c.args.old c.args.first.now c.args.second.now c.args.vb (record {
+    rw value (is-blend-step c.searches_find_the_greatest.ensures c.steps_fall_toward_zero.ensures c.args.l1 c.args.l2 c.args.old c.args.first.now c.args.second.now c.args.vb (record {
       first_rates = c.requires.first_rates;
       second_rates = c.requires.second_rates;
       first_target = c.requires.first_target;

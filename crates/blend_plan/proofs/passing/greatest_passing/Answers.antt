@@ -1,22 +1,25 @@
 -- The greatest step that passes, by the order of the two velocities.
-use Rattle.std.proofs.Common.{◌+◌, arith, refl}
+use Rattle.std.proofs.Common.{◌+◌, arith, refl, unsigned_abs, to_z, of_z, w64}
 use Rattle.std.proofs.lemmas.Int.{ints}
-use Rattle.motion_numbers.specs.Run.{cut_at_zero}
-use Rattle.trapezoid_plan.proofs.TowardZero.{rate-size}
 use Rattle.blend_plan.proofs.BlendSizes.{IsPassingTop, passing-top, passing-slow, passing-short, passing-fast}
 use Rattle.blend_plan.proofs.passing.greatest_passing.Given.{Over}
 use Rattle.blend_plan.proofs.passing.greatest_passing.Goals as goal
 
 slow : (g : Over) (c : goal.After-slowed_up_to g) →
     IsPassingTop c.args.l1 c.args.l2 c.args.first.now c.args.second.now c.args.vb
-    (c.args.old + cut_at_zero c.args.first.now.a) c.slowed_up_to.result
+    (c.args.old + unsigned_abs c.args.first.now.a) c.slowed_up_to.result
 slow g c =
-    passing-top c.args.l1 c.args.l2 c.args.first.now c.args.second.now _ _ _ _ c.args.vb c.args.old c.slowed_up_to.result
-    (rate-size c.args.first.now.v c.requires.first_rates.least_velocity c.requires.first_rates.most_velocity)
-    (rate-size c.args.first.now.a c.requires.first_rates.least_acceleration c.requires.first_rates.most_acceleration)
-    (rate-size c.args.first.now.d c.requires.first_rates.least_deceleration c.requires.first_rates.most_deceleration)
-    (rate-size c.args.second.now.d c.requires.second_rates.least_deceleration c.requires.second_rates.most_deceleration)
-    (passing-slow _ _ _ _ c.args.l1 c.args.l2 c.args.vb _ c.reach_up_to-stopping.result c.slowed_up_to.result
+    passing-top c.args.l1 c.args.l2 c.args.first.now c.args.second.now
+    (unsigned_abs (to_z w64 (of_z w64 c.args.first.now.v)))
+    (unsigned_abs (to_z w64 (of_z w64 c.args.first.now.a)))
+    (unsigned_abs (to_z w64 (of_z w64 c.args.first.now.d)))
+    (unsigned_abs (to_z w64 (of_z w64 c.args.second.now.d)))
+    c.args.vb c.args.old c.slowed_up_to.result
+    (omega (arith, ints))
+    (omega (arith, ints))
+    (omega (arith, ints))
+    (omega (arith, ints))
+    (passing-slow c.ways_to_rest.ensures _ _ _ _ c.args.l1 c.args.l2 c.args.vb _ c.reach_up_to-stopping.result c.slowed_up_to.result
     (omega (arith, ints)) c.if-vb-v.true (rw (c.reach_up_to-stopping.ensures.value, c.min-fastest.ensures, c.max.ensures) refl)
     c.slowed_up_to.ensures.below c.slowed_up_to.ensures.slowed c.slowed_up_to.ensures.greatest)
 
@@ -31,14 +34,19 @@ returns-then-vb-v-clause-greatest g c = (slow g c).greatest
 
 short : (g : Over) (c : goal.Then-stopping-v g) →
     IsPassingTop c.args.l1 c.args.l2 c.args.first.now c.args.second.now c.args.vb
-    (c.args.old + cut_at_zero c.args.first.now.a) c.reach_up_to-stopping.result
+    (c.args.old + unsigned_abs c.args.first.now.a) c.reach_up_to-stopping.result
 short g c =
-    passing-top c.args.l1 c.args.l2 c.args.first.now c.args.second.now _ _ _ _ c.args.vb c.args.old c.reach_up_to-stopping.result
-    (rate-size c.args.first.now.v c.requires.first_rates.least_velocity c.requires.first_rates.most_velocity)
-    (rate-size c.args.first.now.a c.requires.first_rates.least_acceleration c.requires.first_rates.most_acceleration)
-    (rate-size c.args.first.now.d c.requires.first_rates.least_deceleration c.requires.first_rates.most_deceleration)
-    (rate-size c.args.second.now.d c.requires.second_rates.least_deceleration c.requires.second_rates.most_deceleration)
-    (passing-short _ _ _ _ c.args.l1 c.args.l2 c.args.vb _ c.reach_up_to-stopping.result
+    passing-top c.args.l1 c.args.l2 c.args.first.now c.args.second.now
+    (unsigned_abs (to_z w64 (of_z w64 c.args.first.now.v)))
+    (unsigned_abs (to_z w64 (of_z w64 c.args.first.now.a)))
+    (unsigned_abs (to_z w64 (of_z w64 c.args.first.now.d)))
+    (unsigned_abs (to_z w64 (of_z w64 c.args.second.now.d)))
+    c.args.vb c.args.old c.reach_up_to-stopping.result
+    (omega (arith, ints))
+    (omega (arith, ints))
+    (omega (arith, ints))
+    (omega (arith, ints))
+    (passing-short c.ways_to_rest.ensures _ _ _ _ c.args.l1 c.args.l2 c.args.vb _ c.reach_up_to-stopping.result
     (omega (arith, ints)) c.if-vb-v.false (rw (c.reach_up_to-stopping.ensures.value, c.min-fastest.ensures, c.max.ensures) refl) c.if-stopping-v.true)
 
 pub returns-then-stopping-v-clause-within : goal.returns-then-stopping-v-clause-within
@@ -52,14 +60,19 @@ returns-then-stopping-v-clause-greatest g c = (short g c).greatest
 
 fast : (g : Over) (c : goal.After-greatest_risen g) →
     IsPassingTop c.args.l1 c.args.l2 c.args.first.now c.args.second.now c.args.vb
-    (c.args.old + cut_at_zero c.args.first.now.a) c.greatest_risen.result
+    (c.args.old + unsigned_abs c.args.first.now.a) c.greatest_risen.result
 fast g c =
-    passing-top c.args.l1 c.args.l2 c.args.first.now c.args.second.now _ _ _ _ c.args.vb c.args.old c.greatest_risen.result
-    (rate-size c.args.first.now.v c.requires.first_rates.least_velocity c.requires.first_rates.most_velocity)
-    (rate-size c.args.first.now.a c.requires.first_rates.least_acceleration c.requires.first_rates.most_acceleration)
-    (rate-size c.args.first.now.d c.requires.first_rates.least_deceleration c.requires.first_rates.most_deceleration)
-    (rate-size c.args.second.now.d c.requires.second_rates.least_deceleration c.requires.second_rates.most_deceleration)
-    (passing-fast _ _ _ _ c.args.l1 c.args.l2 c.args.vb _ c.reach_up_to-stopping.result c.greatest_risen.result
+    passing-top c.args.l1 c.args.l2 c.args.first.now c.args.second.now
+    (unsigned_abs (to_z w64 (of_z w64 c.args.first.now.v)))
+    (unsigned_abs (to_z w64 (of_z w64 c.args.first.now.a)))
+    (unsigned_abs (to_z w64 (of_z w64 c.args.first.now.d)))
+    (unsigned_abs (to_z w64 (of_z w64 c.args.second.now.d)))
+    c.args.vb c.args.old c.greatest_risen.result
+    (omega (arith, ints))
+    (omega (arith, ints))
+    (omega (arith, ints))
+    (omega (arith, ints))
+    (passing-fast c.ways_to_rest.ensures _ _ _ _ c.args.l1 c.args.l2 c.args.vb _ c.reach_up_to-stopping.result c.greatest_risen.result
     (omega (arith, ints)) c.if-vb-v.false (rw (c.reach_up_to-stopping.ensures.value, c.min-fastest.ensures, c.max.ensures) refl)
     c.greatest_risen.ensures.above c.greatest_risen.ensures.below
     c.greatest_risen.ensures.risen c.greatest_risen.ensures.greatest)

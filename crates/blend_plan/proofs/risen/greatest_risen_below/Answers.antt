@@ -30,7 +30,7 @@ none-above way from high v a none u above below risen =
 pub returns-then-most-fewest-clause-greatest : goal.returns-then-most-fewest-clause-greatest
 returns-then-most-fewest-clause-greatest g c =
     none-above c.args.way c.args.from c.args.high c.args.top c.args.a
-    (λ u serves. none-left c.args.way c.args.from c.args.high c.args.top c.args.a
+    (λ u serves. none-left c.sums_of_ramps.ensures c.args.way c.args.from c.args.high c.args.top c.args.a
     c.div_ceil-fewest.result c.div_ceil-most.result u
     (is-short c.args.way c.args.from c.args.high c.args.top c.args.a c.div_ceil-fewest.result c.div_ceil-most.result
     c.requires.least c.requires.order c.requires.within c.requires.short c.div_ceil-fewest.ensures c.div_ceil-most.ensures)
@@ -39,7 +39,7 @@ returns-then-most-fewest-clause-greatest g c =
 pub returns-then-rise-way-clause-greatest : goal.returns-then-rise-way-clause-greatest
 returns-then-rise-way-clause-greatest g c =
     none-above c.args.way c.args.from c.args.high c.args.top c.args.a
-    (λ u serves. none-long c.args.way c.args.from c.args.high c.args.top c.args.a
+    (λ u serves. none-long c.sums_of_ramps.ensures c.args.way c.args.from c.args.high c.args.top c.args.a
     c.div_ceil-fewest.result c.div_ceil-most.result c.greatest_with_terms-slowest.result u
     (is-short c.args.way c.args.from c.args.high c.args.top c.args.a c.div_ceil-fewest.result c.div_ceil-most.result
     c.requires.least c.requires.order c.requires.within c.requires.short c.div_ceil-fewest.ensures c.div_ceil-most.ensures)
@@ -48,7 +48,7 @@ returns-then-rise-way-clause-greatest g c =
 -- the greatest step that serves
 found : (g : Over) (c : goal.After-greatest_with_terms g) → IsGreatestServing c.args.way c.args.from c.args.high c.args.top c.args.a c.greatest_with_terms.result
 found g c =
-    greatest-serving c.args.way c.args.from c.args.high c.args.top c.args.a
+    greatest-serving c.sums_of_ramps.ensures c.args.way c.args.from c.args.high c.args.top c.args.a
     c.div_ceil-fewest.result c.div_ceil-most.result c.greatest_with_terms-slowest.result
     c.greatest_count_counted-left_out.result c.max.result c.greatest_with_terms.result
     (is-short c.args.way c.args.from c.args.high c.args.top c.args.a c.div_ceil-fewest.result c.div_ceil-most.result

@@ -1,17 +1,16 @@
 -- The greatest step, or the old step slowed.
 use Rattle.std.proofs.Common.{◌≡◌, arith, unsigned_abs, to_z, of_z, w64}
-use Rattle.motion_numbers.specs.Run.{cut_at_zero}
-use Rattle.trapezoid_plan.proofs.TowardZero.{rate-size}
+use Rattle.std.proofs.lemmas.Int.{ints}
 use Rattle.blend_plan.proofs.BlendSizes.{blend-size-is}
 use Rattle.blend_plan.proofs.sizes.step_size.Goals as goal
 
 pub returns-then-saturating_sub-greatest-clause-value : goal.returns-then-saturating_sub-greatest-clause-value
 returns-then-saturating_sub-greatest-clause-value g c =
-    let d : unsigned_abs (to_z w64 (of_z w64 c.args.first.now.d)) ≡ cut_at_zero c.args.first.now.d =
-    rate-size c.args.first.now.d c.requires.first_rates.least_deceleration c.requires.first_rates.most_deceleration in
-    let e : unsigned_abs (to_z w64 (of_z w64 c.args.second.now.d)) ≡ cut_at_zero c.args.second.now.d =
-    rate-size c.args.second.now.d c.requires.second_rates.least_deceleration c.requires.second_rates.most_deceleration in
-    blend-size-is c.args.l1 c.args.l2 c.args.old c.args.first.now c.args.second.now c.args.vb c.greatest_step-greatest.result _
+    let d : unsigned_abs (to_z w64 (of_z w64 c.args.first.now.d)) ≡ unsigned_abs c.args.first.now.d =
+    omega (arith, ints) in
+    let e : unsigned_abs (to_z w64 (of_z w64 c.args.second.now.d)) ≡ unsigned_abs c.args.second.now.d =
+    omega (arith, ints) in
+    blend-size-is c.searches_find_the_greatest.ensures c.args.l1 c.args.l2 c.args.old c.args.first.now c.args.second.now c.args.vb c.greatest_step-greatest.result _
     (record {
       within = c.greatest_step-greatest.ensures.within;
       leads = c.greatest_step-greatest.ensures.leads;
@@ -22,11 +21,11 @@ returns-then-saturating_sub-greatest-clause-value g c =
 
 pub returns-else-saturating_sub-greatest-clause-value : goal.returns-else-saturating_sub-greatest-clause-value
 returns-else-saturating_sub-greatest-clause-value g c =
-    let d : unsigned_abs (to_z w64 (of_z w64 c.args.first.now.d)) ≡ cut_at_zero c.args.first.now.d =
-    rate-size c.args.first.now.d c.requires.first_rates.least_deceleration c.requires.first_rates.most_deceleration in
-    let e : unsigned_abs (to_z w64 (of_z w64 c.args.second.now.d)) ≡ cut_at_zero c.args.second.now.d =
-    rate-size c.args.second.now.d c.requires.second_rates.least_deceleration c.requires.second_rates.most_deceleration in
-    blend-size-is c.args.l1 c.args.l2 c.args.old c.args.first.now c.args.second.now c.args.vb c.greatest_step-greatest.result _
+    let d : unsigned_abs (to_z w64 (of_z w64 c.args.first.now.d)) ≡ unsigned_abs c.args.first.now.d =
+    omega (arith, ints) in
+    let e : unsigned_abs (to_z w64 (of_z w64 c.args.second.now.d)) ≡ unsigned_abs c.args.second.now.d =
+    omega (arith, ints) in
+    blend-size-is c.searches_find_the_greatest.ensures c.args.l1 c.args.l2 c.args.old c.args.first.now c.args.second.now c.args.vb c.greatest_step-greatest.result _
     (record {
       within = c.greatest_step-greatest.ensures.within;
       leads = c.greatest_step-greatest.ensures.leads;

@@ -15,7 +15,7 @@ returns-then-prev-cur c =
     let room_fits : FitsSigned w64 (c.args.limits.now.hi -ℤ c.args.cur) = omega (arith, ints) in
     let value : IsTrue c.stops_within.result ↔ (run_of (unsigned_abs (c.args.cur -ℤ c.args.prev) - unsigned_abs c.args.limits.now.dmax) (unsigned_abs c.args.limits.now.dmax) ≤ unsigned_abs (c.args.limits.now.hi -ℤ c.args.cur)) =
     simp to_z-of_z at c.stops_within.ensures.value in
-    let law = stoppable_up c.args.limits.now c.args.prev c.args.cur c.requires.ranges c.requires.above c.requires.below c.requires.speed (omega (arith, ints)) in
+    let law = stoppable_up c.ways_to_rest.ensures c.args.limits.now c.args.prev c.args.cur c.requires.ranges c.requires.above c.requires.below c.requires.speed (omega (arith, ints)) in
     record { value = (λ true. law.0 (value.0 true), λ stoppable. value.1 (law.1 stoppable)) }
 
 pub returns-else-prev-cur : goal.returns-else-prev-cur
@@ -28,5 +28,5 @@ returns-else-prev-cur c =
     let room_fits : FitsSigned w64 (c.args.cur -ℤ c.args.limits.now.lo) = omega (arith, ints) in
     let value : IsTrue c.stops_within-else-prev-cur.result ↔ (run_of (unsigned_abs (c.args.prev -ℤ c.args.cur) - unsigned_abs c.args.limits.now.dmax) (unsigned_abs c.args.limits.now.dmax) ≤ unsigned_abs (c.args.cur -ℤ c.args.limits.now.lo)) =
     simp to_z-of_z at c.stops_within-else-prev-cur.ensures.value in
-    let law = stoppable_down c.args.limits.now c.args.prev c.args.cur c.requires.ranges c.requires.above c.requires.below c.requires.speed (omega (arith, ints)) in
+    let law = stoppable_down c.ways_to_rest.ensures c.args.limits.now c.args.prev c.args.cur c.requires.ranges c.requires.above c.requires.below c.requires.speed (omega (arith, ints)) in
     record { value = (λ true. law.0 (value.0 true), λ stoppable. value.1 (law.1 stoppable)) }

@@ -1,7 +1,7 @@
 -- Toward one limit the step is cut to the room there, and on the other side there is room for it.
 use Rattle.std.proofs.Common.{◌≡◌, pos, ◌-ℤ◌, unsigned_abs, min, to_z, of_z, w64, FitsSigned, to_z-of_z, ◌∙◌, arith}
 use Rattle.std.proofs.lemmas.Int.{ints}
-use Rattle.kin_core.specs.Taken.{reach_of}
+use Rattle.motion_numbers.specs.Run.{reach_of}
 use Rattle.kin_core.proofs.Cuts.{cut_up, cut_down}
 use Rattle.kin_core.proofs.taking.step_with_room.Goals as goal
 

@@ -12,4 +12,4 @@ returns-clause-definition c =
     let value : c.move_from.result ≡ move_step_of c.args.distance c.args.old c.args.rates.now =
     simp to_z-of_z at c.move_from.ensures.value in
     let fits : to_z w64 (of_z w64 c.move_from.result) ≡ c.move_from.result = omega (arith, ints) in
-    rw (fits ∙ value) (is-move-step c.args.distance c.args.old c.args.rates.now c.requires.rates)
+    rw (fits ∙ value) (is-move-step c.ways_to_rest.ensures c.searches_find_the_greatest.ensures c.steps_fall_toward_zero.ensures c.args.distance c.args.old c.args.rates.now c.requires.rates)

@@ -1,16 +1,19 @@
 -- Three cases of the step ahead in closed form.
-use Rattle.std.proofs.Common.{arith}
+use Rattle.std.proofs.Common.{arith, unsigned_abs, to_z, of_z, w64}
 use Rattle.std.proofs.lemmas.Int.{ints}
-use Rattle.trapezoid_plan.proofs.TowardZero.{rate-size}
 use Rattle.trapezoid_plan.proofs.StepsAhead.{step_ahead-fastest, step_ahead-slowest, step_ahead-reached}
 use Rattle.trapezoid_plan.proofs.moves.step_ahead.Goals as goal
 
 pub returns-then-ramp_sum-way-clause-value : goal.returns-then-ramp_sum-way-clause-value
 returns-then-ramp_sum-way-clause-value g c =
-    step_ahead-fastest c.args.rates.now _ _ _ c.args.way c.args.speed c.min-fastest.result c.max.result
-    (rate-size c.args.rates.now.v c.requires.rates.least_velocity c.requires.rates.most_velocity)
-    (rate-size c.args.rates.now.a c.requires.rates.least_acceleration c.requires.rates.most_acceleration)
-    (rate-size c.args.rates.now.d c.requires.rates.least_deceleration c.requires.rates.most_deceleration)
+    step_ahead-fastest c.ways_to_rest.ensures c.searches_find_the_greatest.ensures c.args.rates.now
+    (unsigned_abs (to_z w64 (of_z w64 c.args.rates.now.v)))
+    (unsigned_abs (to_z w64 (of_z w64 c.args.rates.now.a)))
+    (unsigned_abs (to_z w64 (of_z w64 c.args.rates.now.d)))
+    c.args.way c.args.speed c.min-fastest.result c.max.result
+    (omega (arith, ints))
+    (omega (arith, ints))
+    (omega (arith, ints))
     (omega (arith, ints))
     c.min-fastest.ensures
     (omega (arith, c.ramp_sum.ensures.value))
@@ -18,20 +21,28 @@ returns-then-ramp_sum-way-clause-value g c =
 
 pub returns-then-ramp_sum-way-2-clause-value : goal.returns-then-ramp_sum-way-2-clause-value
 returns-then-ramp_sum-way-2-clause-value g c =
-    step_ahead-slowest c.args.rates.now _ _ _ c.args.way c.args.speed c.saturating_sub-slowest.result
-    (rate-size c.args.rates.now.v c.requires.rates.least_velocity c.requires.rates.most_velocity)
-    (rate-size c.args.rates.now.a c.requires.rates.least_acceleration c.requires.rates.most_acceleration)
-    (rate-size c.args.rates.now.d c.requires.rates.least_deceleration c.requires.rates.most_deceleration)
+    step_ahead-slowest c.ways_to_rest.ensures c.searches_find_the_greatest.ensures c.args.rates.now
+    (unsigned_abs (to_z w64 (of_z w64 c.args.rates.now.v)))
+    (unsigned_abs (to_z w64 (of_z w64 c.args.rates.now.a)))
+    (unsigned_abs (to_z w64 (of_z w64 c.args.rates.now.d)))
+    c.args.way c.args.speed c.saturating_sub-slowest.result
+    (omega (arith, ints))
+    (omega (arith, ints))
+    (omega (arith, ints))
     (omega (arith, ints))
     (rw (← c.saturating_sub-slowest.ensures, ← c.ramp_sum-else-ramp_sum-way.ensures.value) (omega arith))
     c.saturating_sub-slowest.ensures
 
 pub returns-else-ramp_sum-way-2-clause-value : goal.returns-else-ramp_sum-way-2-clause-value
 returns-else-ramp_sum-way-2-clause-value g c =
-    step_ahead-reached c.args.rates.now _ _ _ c.args.way c.args.speed c.min-fastest.result c.max-else-ramp_sum-way-2.result
-    (rate-size c.args.rates.now.v c.requires.rates.least_velocity c.requires.rates.most_velocity)
-    (rate-size c.args.rates.now.a c.requires.rates.least_acceleration c.requires.rates.most_acceleration)
-    (rate-size c.args.rates.now.d c.requires.rates.least_deceleration c.requires.rates.most_deceleration)
+    step_ahead-reached c.ways_to_rest.ensures c.searches_find_the_greatest.ensures c.args.rates.now
+    (unsigned_abs (to_z w64 (of_z w64 c.args.rates.now.v)))
+    (unsigned_abs (to_z w64 (of_z w64 c.args.rates.now.a)))
+    (unsigned_abs (to_z w64 (of_z w64 c.args.rates.now.d)))
+    c.args.way c.args.speed c.min-fastest.result c.max-else-ramp_sum-way-2.result
+    (omega (arith, ints))
+    (omega (arith, ints))
+    (omega (arith, ints))
     (omega (arith, ints))
     c.min-fastest.ensures
     (omega (arith, c.max-else-ramp_sum-way-2.ensures, c.saturating_sub-slowest.ensures, c.min.ensures, c.reach.ensures.value))

@@ -9,7 +9,7 @@ use Rattle.trapezoid_plan.proofs.velocities.velocity_step.Goals.{else-toward-ge0
 pub returns-then-old-ge0-clause-value : goal.returns-then-old-ge0-clause-value
 returns-then-old-ge0-clause-value c =
     let fits : to_z w64 c.speed_after.result ≡ pos c.speed_after.result = omega (arith, ints) in
-    fits ∙ velocity-ahead _ _ _ _ _ _ (omega (arith, ints))
+    fits ∙ velocity-ahead c.steps_fall_toward_zero.ensures _ _ _ _ _ _ (omega (arith, ints))
     (omega (arith, ints)) c.requires.rates.least_deceleration
     (omega (arith, ints, c.unsigned_abs.ensures.value))
     (omega (arith, ints, c.unsigned_abs-then-old-ge0.ensures.value)) c.speed_after.ensures.faster c.speed_after.ensures.slower
@@ -19,7 +19,7 @@ returns-then-old-le0-clause-value c =
     let fits : to_z w64 (of_z w64 (pos 0 -ℤ to_z w64 c.speed_after-then-old-le0.result)) ≡ neg_ℤ
     (pos c.speed_after-then-old-le0.result) =
     omega (arith, ints) in
-    fits ∙ velocity-behind _ _ _ _ _ _ (omega (arith, ints))
+    fits ∙ velocity-behind c.steps_fall_toward_zero.ensures _ _ _ _ _ _ (omega (arith, ints))
     (omega (arith, ints)) c.requires.rates.least_deceleration
     (omega (arith, ints, c.unsigned_abs-then-old-le0.ensures.value))
     (omega (arith, ints, c.unsigned_abs-then-old-le0-2.ensures.value)) c.speed_after-then-old-le0.ensures.faster c.speed_after-then-old-le0.ensures.slower

@@ -1,0 +1,4 @@
+pub mod Given
+pub mod Kept
+pub mod SecondMoves
+pub mod FirstMoves
