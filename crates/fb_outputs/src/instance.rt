@@ -31,7 +31,8 @@ pub enum Progress {
     Ended { finish: Finish, shown: bool },
 }
 
-/// An instance of a function block.
+/// An instance of a function block. What it shows follows from its Execute and from what becomes of
+/// its command.
 #[derive(Drop)]
 pub struct Instance {
     kind: BlockKind,
@@ -96,7 +97,8 @@ impl Instance {
     }
 
     /// Takes what the last cycle found: InVelocity, InGear, InSync, whether a Power's axis was driven, and of a Stop
-    /// whether its axis is in Stopping under its hold.
+    /// whether its axis is in Stopping under its hold. Opening counts as a driven last cycle of a ready axis, so a Power
+    /// on one takes true before its first call.
     pub fn set_reached(&mut self, reached: bool)
         ensures { self.new ≡ with_reached self.old reached }
     {

@@ -3,12 +3,13 @@
 
 mod inputs;
 mod instance;
-pub mod laws;
+mod laws;
 mod outputs;
 #[cfg(test)]
 mod tests;
 
 pub use command_pool::{BlockKind, BufferMode, Finish, Rates, Refusal};
-pub use inputs::Inputs;
+pub use inputs::{Input, Inputs, takes};
 pub use instance::{Edge, Instance, Progress};
+pub use laws::replies_tell_one_result;
 pub use outputs::Outputs;
