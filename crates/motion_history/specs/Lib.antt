@@ -1,3 +1,4 @@
+pub mod Members
 pub mod Setup
 pub mod Items
 pub mod Ranges
