@@ -11,7 +11,7 @@ use Rattle.axis_state.specs.declared.definition.AxisRow.{AxisRow}
 use Rattle.group_state.specs.declared.state.GroupRow.{GroupRow}
 use Rattle.motion_history.specs.declared.history.Stored.{Stored}
 use Rattle.motion_history.specs.declared.history.Stored.TheVariants as stored
-use Rattle.motion_history.specs.Entries.{Entry, cycle_count, cycles_of}
+use Rattle.motion_history.specs.Entries.{Entry, call, cycle, end_of, cycle_count, cycles_of}
 use Rattle.motion_history.specs.Stored.{entry_of, entries_of, IsMade}
 use Rattle.motion_history.specs.Rows.{rows_at}
 
@@ -19,6 +19,21 @@ use Rattle.motion_history.specs.Rows.{rows_at}
 pub cycles_of-more : (es : List Entry) (e : Entry) → cycles_of (es ++ e ∷ []) ≡ cycles_of es + cycle_count e
 cycles_of-more [] e = omega arith
 cycles_of-more (d ∷ es) e = let h = cycles_of-more es e in omega arith
+
+-- entries that are added have their own cycles
+pub cycles_of-append : (es more : List Entry) → cycles_of (es ++ more) ≡ cycles_of es + cycles_of more
+cycles_of-append [] more = omega arith
+cycles_of-append (e ∷ es) more = let h = cycles_of-append es more in omega arith
+
+cycle_count-few : (e : Entry) → cycle_count e ≤ 1
+cycle_count-few (call k i reply) = omega arith
+cycle_count-few (cycle n axes groups) = omega arith
+cycle_count-few (end_of task) = omega arith
+
+-- there are no more cycles than entries
+pub cycles_of-few : (es : List Entry) → cycles_of es ≤ length es
+cycles_of-few [] = omega arith
+cycles_of-few (e ∷ es) = let h = cycles_of-few es in let k = cycle_count-few e in omega arith
 
 -- so many entries are kept
 pub length-entries_of : (axes groups : ℕ) (axis_rows : List AxisRow) (group_rows : List GroupRow) (es : List Stored) →

@@ -6,3 +6,4 @@ pub mod TableLemmas
 pub mod HistoryLemmas
 pub mod KeptLemmas
 pub mod RangeLaws
+pub mod SoundLaws

@@ -8,6 +8,8 @@ pub mod Looks
 pub mod Rows
 pub mod Stored
 pub mod Kept
+pub mod Calls
 pub mod Ready
 pub mod AxisRanges
+pub mod Configurations
 pub mod Columns

@@ -22,7 +22,7 @@ pub use fault::ConfigFault;
 pub use fb_outputs::{BlockKind, BufferMode, Inputs, Outputs};
 pub use group_state::{GroupRow, GroupState};
 pub use history::{EntryLook, History};
-pub use laws::axes_are_in_range;
+pub use laws::{axes_are_in_range, configurations_are_sound, cycles_add_up};
 pub use out_of_memory::OutOfMemory;
 pub use refused::{Rule, TextFault, TextRefused, TraceVersion};
 pub use sizes::{
