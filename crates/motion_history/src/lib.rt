@@ -5,19 +5,29 @@ mod axes;
 mod blocks;
 mod builder;
 mod config;
+mod drives;
+#[cfg(test)]
+mod edge_tests;
+mod event;
 mod fault;
 mod groups;
 mod history;
+#[cfg(test)]
+mod history_tests;
 mod laws;
 mod names;
 mod refused;
 mod sizes;
 mod tables;
+#[cfg(test)]
+mod tests;
 
 pub use axis_state::{AxisDef, AxisRow, AxisState, DriveIn, DriveOut, Limits, Name};
 pub use builder::Builder;
 pub use cam_table::{CamFault, CamTable};
 pub use config::{BlockDef, Config, GroupDef};
+pub use drives::{DriveDef, DriveDefs, FaultList};
+pub use event::Event;
 pub use fault::ConfigFault;
 pub use fb_outputs::{BlockKind, BufferMode, Inputs, Outputs};
 pub use group_state::{GroupRow, GroupState};
