@@ -18,7 +18,7 @@ use Rattle.motion_history.specs.declared.config.GroupDef.{GroupDef}
 use Rattle.motion_history.specs.Faults.{is_used, is_member, are_distinct, are_free, room_fault}
 use Rattle.motion_history.specs.Members.{members_of, group_of, IsGroup, AreApart}
 use Rattle.motion_history.specs.Ranges.{is_axis, is_block}
-use Rattle.motion_history.specs.Setup.{Setup, names_of, AreNames, IsFew, IsWithin}
+use Rattle.motion_history.specs.Setup.{Setup, names_of, AreNames, FitsSizes, IsWithin}
 use Rattle.motion_history.proofs.DistinctLemmas.{AreNames-insert, apart-more, each-append, each-from_list_all, each-weaker}
 use Rattle.motion_history.proofs.FaultLemmas.{IsNewName, IsNewAxis, IsNewGroup, IsNewTask, IsNewBlock, room_fault-none}
 
@@ -138,7 +138,7 @@ IsWithin-none cycles entries b h room =
       tables = tt;
       blocks = refl;
       names = record { each = refl; differ = tt };
-      few = record {
+      sizes = record {
         axes = omega arith;
         groups = omega arith;
         tables = omega arith;
@@ -170,16 +170,16 @@ IsWithin-axis s d w new =
       tables = w.tables;
       blocks = blocks_there s more (record { axes = omega arith; groups = omega arith; tasks = omega arith }) w.blocks;
       names = named-more s (map name s.axes) (groups ++ (s.tasks ++ blocks)) d.name _ w.names new.name_is refl names;
-      few = record {
+      sizes = record {
         axes = omega (arith, new.room);
-        groups = w.few.groups;
-        tables = w.few.tables;
-        tasks = w.few.tasks;
-        blocks = w.few.blocks;
-        some_cycles = w.few.some_cycles;
-        cycles = w.few.cycles;
-        some_entries = w.few.some_entries;
-        entries = w.few.entries;
+        groups = w.sizes.groups;
+        tables = w.sizes.tables;
+        tasks = w.sizes.tasks;
+        blocks = w.sizes.blocks;
+        some_cycles = w.sizes.some_cycles;
+        cycles = w.sizes.cycles;
+        some_entries = w.sizes.some_entries;
+        entries = w.sizes.entries;
       };
     }
 
@@ -201,16 +201,16 @@ IsWithin-group s name axes w new =
       tables = w.tables;
       blocks = blocks_there s more (record { axes = omega arith; groups = omega arith; tasks = omega arith }) w.blocks;
       names = named-more s (first ++ map name_in s.groups) (s.tasks ++ blocks) name _ w.names new.name_is (append_assoc first _ _) names;
-      few = record {
-        axes = w.few.axes;
+      sizes = record {
+        axes = w.sizes.axes;
         groups = omega (arith, new.room);
-        tables = w.few.tables;
-        tasks = w.few.tasks;
-        blocks = w.few.blocks;
-        some_cycles = w.few.some_cycles;
-        cycles = w.few.cycles;
-        some_entries = w.few.some_entries;
-        entries = w.few.entries;
+        tables = w.sizes.tables;
+        tasks = w.sizes.tasks;
+        blocks = w.sizes.blocks;
+        some_cycles = w.sizes.some_cycles;
+        cycles = w.sizes.cycles;
+        some_entries = w.sizes.some_entries;
+        entries = w.sizes.entries;
       };
     }
 
@@ -225,16 +225,16 @@ IsWithin-table s points w table room =
       blocks = w.blocks;
       names = w.names;
       tables = each-append _ s.tables (points ∷ []) w.tables (table, tt);
-      few = record {
-        axes = w.few.axes;
-        groups = w.few.groups;
+      sizes = record {
+        axes = w.sizes.axes;
+        groups = w.sizes.groups;
         tables = omega arith;
-        tasks = w.few.tasks;
-        blocks = w.few.blocks;
-        some_cycles = w.few.some_cycles;
-        cycles = w.few.cycles;
-        some_entries = w.few.some_entries;
-        entries = w.few.entries;
+        tasks = w.sizes.tasks;
+        blocks = w.sizes.blocks;
+        some_cycles = w.sizes.some_cycles;
+        cycles = w.sizes.cycles;
+        some_entries = w.sizes.some_entries;
+        entries = w.sizes.entries;
       };
     }
 
@@ -253,16 +253,16 @@ IsWithin-task s name w new =
       tables = w.tables;
       blocks = blocks_there s more (record { axes = omega arith; groups = omega arith; tasks = omega arith }) w.blocks;
       names = named-more s (first ++ (groups ++ s.tasks)) blocks name _ w.names new.name_is (simp append_assoc) (fits_third first groups s.tasks blocks name);
-      few = record {
-        axes = w.few.axes;
-        groups = w.few.groups;
-        tables = w.few.tables;
+      sizes = record {
+        axes = w.sizes.axes;
+        groups = w.sizes.groups;
+        tables = w.sizes.tables;
         tasks = omega (arith, new.room);
-        blocks = w.few.blocks;
-        some_cycles = w.few.some_cycles;
-        cycles = w.few.cycles;
-        some_entries = w.few.some_entries;
-        entries = w.few.entries;
+        blocks = w.sizes.blocks;
+        some_cycles = w.sizes.some_cycles;
+        cycles = w.sizes.cycles;
+        some_entries = w.sizes.some_entries;
+        entries = w.sizes.entries;
       };
     }
 
@@ -283,15 +283,15 @@ IsWithin-block s b w new =
       tables = w.tables;
       blocks = all_more (is_block (length s.tasks) (length s.axes) (length s.groups)) s.blocks b w.blocks new.there;
       names = named-more s (names_of s) [] b.name _ w.names new.name_is (append-nil _) names;
-      few = record {
-        axes = w.few.axes;
-        groups = w.few.groups;
-        tables = w.few.tables;
-        tasks = w.few.tasks;
+      sizes = record {
+        axes = w.sizes.axes;
+        groups = w.sizes.groups;
+        tables = w.sizes.tables;
+        tasks = w.sizes.tasks;
         blocks = omega (arith, new.room);
-        some_cycles = w.few.some_cycles;
-        cycles = w.few.cycles;
-        some_entries = w.few.some_entries;
-        entries = w.few.entries;
+        some_cycles = w.sizes.some_cycles;
+        cycles = w.sizes.cycles;
+        some_entries = w.sizes.some_entries;
+        entries = w.sizes.entries;
       };
     }

@@ -37,5 +37,5 @@ sound_of s h =
       some_axis = h.some_axis;
       some_task = h.some_task;
       some_block = h.some_block;
-      few = w.few;
+      sizes = w.sizes;
     }

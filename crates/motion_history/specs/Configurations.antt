@@ -6,7 +6,7 @@ use Rattle.cam_table.specs.CamTable.{IsCamTable}
 use Rattle.command_pool.specs.Kinds.{acts_on_group}
 use Rattle.motion_history.specs.AxisRanges.{AreAxisRanges}
 use Rattle.motion_history.specs.Members.{members_of, IsGroup}
-use Rattle.motion_history.specs.Setup.{Setup, names_of, IsFew}
+use Rattle.motion_history.specs.Setup.{Setup, names_of, FitsSizes}
 use Rattle.motion_history.specs.declared.config.BlockDef.{BlockDef}
 
 -- a block's task is there, and the axis or group that its kind acts on
@@ -27,4 +27,4 @@ pub record IsSound (s : Setup) : Type 0 where
   pub some_axis : 1 ≤ length s.axes
   pub some_task : 1 ≤ length s.tasks
   pub some_block : 1 ≤ length s.blocks
-  pub few : IsFew s
+  pub sizes : FitsSizes s

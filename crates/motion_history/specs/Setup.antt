@@ -31,8 +31,8 @@ pub record AreNames (names : List (List ℕ)) : Type 0 where
   pub each : IsTrue (list_all is_name names)
   pub differ : IsDistinct bytes_eq names
 
--- there are not too many items, and the room is in its range
-pub record IsFew (s : Setup) : Type 0 where
+-- the numbers of items and the room are in their ranges
+pub record FitsSizes (s : Setup) : Type 0 where
   pub axes : length s.axes ≤ MOST_AXES
   pub groups : length s.groups ≤ MOST_GROUPS
   pub tables : length s.tables ≤ MOST_TABLES
@@ -51,7 +51,7 @@ pub record IsWithin (s : Setup) : Type 0 where
   pub tables : AllByRecursion IsCamTable s.tables
   pub blocks : IsTrue (list_all (is_block (length s.tasks) (length s.axes) (length s.groups)) s.blocks)
   pub names : AreNames (names_of s)
-  pub few : IsFew s
+  pub sizes : FitsSizes s
 
 -- it is whole: it has an axis, a task and a block
 pub record IsSetup (s : Setup) : Type 0 where

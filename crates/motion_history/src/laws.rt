@@ -1,10 +1,10 @@
 // Laws of configurations and histories: each is the contract of a function that does nothing.
 
-ghost use Rattle.std.specs.Prelude.{◌≡◌, ◌+◌, ◌≤◌, ◌++◌, ◌∷◌, [], List, IsTrue, length};
+ghost use Rattle.std.specs.Prelude.{◌≡◌, ◌+◌, ◌≤◌, ◌++◌, List, IsTrue, length};
 ghost use Rattle.axis_state.specs.declared.definition.AxisDef.{AxisDef};
 ghost use Rattle.motion_history.specs.AxisRanges.{AreAxisRanges};
 ghost use Rattle.motion_history.specs.Configurations.{IsSound};
-ghost use Rattle.motion_history.specs.Entries.{Entry, cycle_count, cycles_of};
+ghost use Rattle.motion_history.specs.Entries.{CyclesAddUp, Entry, cycles_of};
 ghost use Rattle.motion_history.specs.Ranges.{is_axis};
 ghost use Rattle.motion_history.specs.Setup.{Setup, IsSetup};
 
@@ -22,7 +22,7 @@ pub fn configurations_are_sound()
 
 /// One entry more adds its own cycles, entries add theirs, and no entry is more than one cycle.
 pub fn cycles_add_up()
-    ensures more { (es : List Entry) (e : Entry) → cycles_of (es ++ e ∷ []) ≡ cycles_of es + cycle_count e }
+    ensures more { CyclesAddUp }
     ensures all { (es more : List Entry) → cycles_of (es ++ more) ≡ cycles_of es + cycles_of more }
     ensures few { (es : List Entry) → cycles_of es ≤ length es }
 {}
