@@ -7,7 +7,7 @@ ghost use Rattle.motion_history.specs.declared.fault.ConfigFault.{ConfigFault};
 
 use crate::fault::ConfigFault;
 use crate::sizes::MOST_TABLES;
-use cam_table::{CamFault, CamTable};
+use cam_table::{CamFault, CamTable, points_have_one_fault};
 use out_of_memory::OutOfMemory;
 use std::alloc::Global;
 
@@ -23,6 +23,7 @@ pub fn new_table(
     ensures faults { (fault : ConfigFault) → fault ≢ ConfigFault.OutOfMemory →
         (result ≡ Err fault) ↔ IsPointsFault tables points.now fault }
 {
+    points_have_one_fault();
     let full = tables >= MOST_TABLES;
     match CamTable::new(alloc, points) {
         Ok(table) => {

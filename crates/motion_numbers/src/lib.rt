@@ -18,6 +18,4 @@ pub const MOST_INCREMENT: u64 = 1_000_000_000;
 pub const MOST_RATIO: u64 = 1_000_000;
 
 /// The greatest size of a number in a text and of a block's input.
-
-/// The greatest size of a number that a function block takes.
 pub const MOST_NUMBER: u64 = 1_000_000_000_000_000_000;
