@@ -3,34 +3,38 @@ use Rattle.std.specs.Prelude.{◌≡◌, ℕ, ◌≤◌, Bool, true, false, ℤ,
 use Rattle.std.specs.List.{list_any}
 use Rattle.motion_numbers.specs.declared.TheConstants.{MOST_NUMBER}
 use Rattle.command_pool.specs.declared.kind.BlockKind.{BlockKind}
-use Rattle.command_pool.specs.declared.kind.BlockKind.TheVariants as kind
+use Rattle.command_pool.specs.declared.kind.BlockKind.TheVariants.{Power, Reset, Home, Stop, Halt, MoveAbsolute, MoveRelative, MoveVelocity, GearIn, GearOut, CamIn, CamOut, GroupEnable, GroupDisable, GroupReset, GroupStop, GroupHalt, MoveLinearAbsolute, MoveCircularAbsolute}
 use Rattle.command_pool.specs.declared.kind.BufferMode.TheVariants.{Aborting}
 use Rattle.fb_outputs.specs.declared.inputs.Input.{Input}
 use Rattle.fb_outputs.specs.declared.inputs.Input.TheVariants.{Position, Velocity, Acceleration, Deceleration, Jerk, Mode, Master, Numerator, Denominator, Table}
 use Rattle.fb_outputs.specs.declared.inputs.Inputs.{Inputs}
 
+-- the inputs of a motion at a velocity. PLCopen Motion Control Part 1
+abbrev pub motion_inputs : List Input
+motion_inputs = Velocity ∷ Acceleration ∷ Deceleration ∷ Jerk ∷ Mode ∷ []
+
 -- the inputs of each kind besides Execute. PLCopen Motion Control Part 1 and Part 4; that Home and
 -- Halt take no mode, and what CamIn takes, is this project's profile
 abbrev pub inputs_of : BlockKind → List Input
-inputs_of kind.Power = []
-inputs_of kind.Reset = []
-inputs_of kind.Home = Position ∷ []
-inputs_of kind.Stop = Deceleration ∷ Jerk ∷ []
-inputs_of kind.Halt = Deceleration ∷ Jerk ∷ []
-inputs_of kind.MoveAbsolute = Position ∷ Velocity ∷ Acceleration ∷ Deceleration ∷ Jerk ∷ Mode ∷ []
-inputs_of kind.MoveRelative = Position ∷ Velocity ∷ Acceleration ∷ Deceleration ∷ Jerk ∷ Mode ∷ []
-inputs_of kind.MoveVelocity = Velocity ∷ Acceleration ∷ Deceleration ∷ Jerk ∷ Mode ∷ []
-inputs_of kind.GearIn = Acceleration ∷ Deceleration ∷ Jerk ∷ Mode ∷ Master ∷ Numerator ∷ Denominator ∷ []
-inputs_of kind.GearOut = []
-inputs_of kind.CamIn = Velocity ∷ Acceleration ∷ Deceleration ∷ Jerk ∷ Mode ∷ Master ∷ Table ∷ []
-inputs_of kind.CamOut = []
-inputs_of kind.GroupEnable = []
-inputs_of kind.GroupDisable = []
-inputs_of kind.GroupReset = []
-inputs_of kind.GroupStop = Deceleration ∷ Jerk ∷ []
-inputs_of kind.GroupHalt = Deceleration ∷ Jerk ∷ []
-inputs_of kind.MoveLinearAbsolute = Position ∷ Velocity ∷ Acceleration ∷ Deceleration ∷ Jerk ∷ Mode ∷ []
-inputs_of kind.MoveCircularAbsolute = Position ∷ Velocity ∷ Acceleration ∷ Deceleration ∷ Jerk ∷ Mode ∷ []
+inputs_of Power = []
+inputs_of Reset = []
+inputs_of Home = Position ∷ []
+inputs_of Stop = Deceleration ∷ Jerk ∷ []
+inputs_of Halt = Deceleration ∷ Jerk ∷ []
+inputs_of MoveAbsolute = Position ∷ motion_inputs
+inputs_of MoveRelative = Position ∷ motion_inputs
+inputs_of MoveVelocity = motion_inputs
+inputs_of GearIn = Acceleration ∷ Deceleration ∷ Jerk ∷ Mode ∷ Master ∷ Numerator ∷ Denominator ∷ []
+inputs_of GearOut = []
+inputs_of CamIn = Velocity ∷ Acceleration ∷ Deceleration ∷ Jerk ∷ Mode ∷ Master ∷ Table ∷ []
+inputs_of CamOut = []
+inputs_of GroupEnable = []
+inputs_of GroupDisable = []
+inputs_of GroupReset = []
+inputs_of GroupStop = Deceleration ∷ Jerk ∷ []
+inputs_of GroupHalt = Deceleration ∷ Jerk ∷ []
+inputs_of MoveLinearAbsolute = Position ∷ motion_inputs
+inputs_of MoveCircularAbsolute = Position ∷ motion_inputs
 
 -- whether two inputs are the same
 abbrev pub is_same : Input → Input → Bool
@@ -58,7 +62,8 @@ pub record IsTaken (takes : Bool) (default z : ℤ) : Type 0 where
 -- the inputs of a kind of block that acts on so many axes: one position for each axis, and what it
 -- doesn't take has its default. This project's profile
 pub record AreInputs (k : BlockKind) (axes : ℕ) (i : Inputs) : Type 0 where
-  pub positions : (n : ℕ) → IsTaken (takes k Position) (pos 0) (slice_index_or i.positions n (pos 0))
+  pub positions : (n : ℕ) →
+      IsTaken (takes k Position) (pos 0) (slice_index_or i.positions n (pos 0))
   pub few_positions : (n : ℕ) → axes ≤ n → slice_index_or i.positions n (pos 0) ≡ pos 0
   pub velocity : IsTaken (takes k Velocity) (pos 0) i.velocity
   pub acceleration : IsTaken (takes k Acceleration) (pos 0) i.acceleration

@@ -5,13 +5,14 @@ ghost use Rattle.fb_outputs.specs.Inputs as spec;
 
 use command_pool::{BlockKind, BufferMode};
 
-/// The inputs of a call. An input that the kind doesn't take is 0, `Aborting` for the mode and 1 for
-/// numerator and denominator; positions past the kind's count are 0; sizes are at most 10^18.
+/// The inputs of a call. An input that the kind doesn't take is 0, `Aborting` for the mode and 1
+/// for numerator and denominator; positions past the kind's count are 0; sizes are at most 10^18.
 #[derive(Clone, Copy, Debug, PartialEq, Eq)]
 pub struct Inputs {
     /// Execute, or Enable of a Power.
     pub execute: bool,
-    /// The positions in internal units, one for an axis, one per axis in the group's order for a group.
+    /// The positions in internal units, one for an axis, one per axis in the group's order for a
+    /// group.
     pub positions: [i64; 6],
     /// Internal units per cycle.
     pub velocity: i64,
@@ -101,7 +102,8 @@ fn moves(kind: BlockKind) -> bool
 
 // Whether the kind ends a motion.
 fn slows(kind: BlockKind) -> bool
-    ensures { result ≡ (spec.takes kind Input.Deceleration && not (spec.takes kind Input.Acceleration)) }
+    ensures { result ≡
+        (spec.takes kind Input.Deceleration && not (spec.takes kind Input.Acceleration)) }
 {
     matches!(
         kind,

@@ -1,4 +1,5 @@
-//! Instances of function blocks: what a call gives them, and what they show (PLCopen Motion Control Part 1, general rules).
+//! Instances of function blocks: what a call gives them, and what they show (PLCopen Motion Control
+//! Part 1, general rules).
 #![tactic(auto)]
 
 mod inputs;

@@ -48,7 +48,8 @@ fn buffered(owner: u16, target: i64) -> Wanted {
     }
 }
 
-// A rising edge of a buffered move: active where none is, else behind those that wait, and refused where eight wait.
+// A rising edge of a buffered move: active where none is, else behind those that wait, and refused
+// where eight wait.
 fn reply_to_the_edge(
     pool: &mut CommandPool,
     active: &mut Option<Wanted>,

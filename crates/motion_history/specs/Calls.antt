@@ -16,7 +16,8 @@ count_in (Some g) = g.count
 abbrev pub axes_of : Setup → BlockDef → ℕ
 axes_of s b = if acts_on_group b.kind then count_in (slice_get s.groups b.object) else 1
 
--- a call is of a block that is there, with inputs of its kind, and an axis that is there for its master
+-- a call is of a block that is there, with inputs of its kind, and an axis that is there for its
+-- master
 pub record IsCall (s : Setup) (k : ℕ) (i : Inputs) : Type 0 where
   pub there : k < length s.blocks
   pub inputs : (b : BlockDef) → slice_get s.blocks k ≡ Some b → AreInputs b.kind (axes_of s b) i

@@ -14,8 +14,9 @@ pub record IsBlock (s : Setup) (b : BlockDef) : Type 0 where
   pub task : b.task < length s.tasks
   pub object : b.object < (if acts_on_group b.kind then length s.groups else length s.axes)
 
--- each item is in its ranges and names what is there; no axis is in two groups, or twice in one; all
--- names are names, and no two are the same; there is an axis, a task and a block, and not too many items
+-- each item is in its ranges and names what is there; no axis is in two groups, or twice in one;
+-- all names are names, and no two are the same; there is an axis, a task and a block, and not too
+-- many items
 pub record IsSound (s : Setup) : Type 0 where
   pub axes : All AreAxisRanges s.axes
   pub groups : All (IsGroup (length s.axes)) s.groups

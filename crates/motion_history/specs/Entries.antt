@@ -5,8 +5,8 @@ use Rattle.fb_outputs.specs.declared.inputs.Inputs.{Inputs}
 use Rattle.fb_outputs.specs.declared.outputs.Outputs.{Outputs}
 use Rattle.group_state.specs.declared.state.GroupRow.{GroupRow}
 
--- one event and what came of it: a block's call with its inputs and its reply, a cycle with its number and the rows of
--- the axes and groups, or the end of a task
+-- one event and what came of it: a block's call with its inputs and its reply, a cycle with its
+-- number and the rows of the axes and groups, or the end of a task
 pub data Entry : Type 0 where
   call : ℕ → Inputs → Outputs → Entry
   cycle : ℕ → List AxisRow → List GroupRow → Entry
@@ -25,9 +25,11 @@ cycles_of (e ∷ es) = cycle_count e + cycles_of es
 
 -- one entry more adds its own cycles
 abbrev pub CyclesAddUp : Type 0
-CyclesAddUp = (es : List Entry) (e : Entry) → cycles_of (es ++ e ∷ []) ≡ cycles_of es + cycle_count e
+CyclesAddUp = (es : List Entry) (e : Entry) →
+    cycles_of (es ++ e ∷ []) ≡ cycles_of es + cycle_count e
 
--- a history: the number of its axes and groups, its room for entries and for cycles, and its entries
+-- a history: the number of its axes and groups, its room for entries and for cycles, and its
+-- entries
 pub record HistoryState : Type 0 where
   pub axes : ℕ
   pub groups : ℕ

@@ -22,12 +22,14 @@ is_used s name = list_any (λ n. bytes_eq n name) (names_of s)
 -- why the room is refused
 abbrev pub room_fault : ℕ → ℕ → Option ConfigFault
 room_fault cycles entries =
-    if nat_le 1 cycles && nat_le cycles MOST_CYCLES && nat_le 1 entries && nat_le entries MOST_ENTRIES then None
-    else Some OutOfRange
+    if nat_le 1 cycles && nat_le cycles MOST_CYCLES &&
+    nat_le 1 entries && nat_le entries MOST_ENTRIES
+    then None else Some OutOfRange
 
 -- why a name is refused: it is none, or it is used
 abbrev pub name_fault : Setup → List ℕ → Option ConfigFault
-name_fault s name = if not (is_name name) then Some BadName else if is_used s name then Some NameUsed else None
+name_fault s name =
+    if not (is_name name) then Some BadName else if is_used s name then Some NameUsed else None
 
 -- the first of two reasons that there is
 abbrev pub first_fault : Option ConfigFault → Option ConfigFault → Option ConfigFault
@@ -60,10 +62,12 @@ unfoldable pub group_fault : Setup → List ℕ → List ℕ → Option ConfigFa
 group_fault s name axes =
     first_fault (name_fault s name)
     (if not (are_free (length s.axes) s.groups axes) then Some NameUnknown
-    else if nat_le MOST_GROUPS (length s.groups) || nat_lt MOST_MEMBERS (length axes) then Some TooMany
+    else if nat_le MOST_GROUPS (length s.groups) || nat_lt MOST_MEMBERS (length axes)
+    then Some TooMany
     else if nat_lt (length axes) 2 then Some TooFew else None)
 
--- why the points of one more table beside so many are refused: they make none, or there are as many tables as there may be
+-- why the points of one more table beside so many are refused: they make none, or there are as many
+-- tables as there may be
 abbrev pub IsPointsFault : ℕ → List (ℤ × ℤ) → ConfigFault → Type 0
 IsPointsFault tables points (Table fault) = IsFault points fault
 IsPointsFault tables points TooMany = IsCamTable points × (MOST_TABLES ≤ tables)
@@ -80,18 +84,23 @@ IsTableFault s points fault = IsPointsFault (length s.tables) points fault
 
 -- why a task is refused
 unfoldable pub task_fault : Setup → List ℕ → Option ConfigFault
-task_fault s name = first_fault (name_fault s name) (if nat_le MOST_TASKS (length s.tasks) then Some TooMany else None)
+task_fault s name =
+    first_fault (name_fault s name)
+    (if nat_le MOST_TASKS (length s.tasks) then Some TooMany else None)
 
 -- why a block is refused
 unfoldable pub block_fault : Setup → List ℕ → ℕ → BlockKind → ℕ → Option ConfigFault
 block_fault s name task kind object =
     first_fault (name_fault s name)
-    (if not (has_block (length s.tasks) (length s.axes) (length s.groups) task kind object) then Some NameUnknown
+    (if not (has_block (length s.tasks) (length s.axes) (length s.groups) task kind object)
+    then Some NameUnknown
     else if nat_le MOST_BLOCKS (length s.blocks) then Some TooMany else None)
 
 -- why a configuration is refused as a whole: it has no axis, no task or no block
 abbrev pub whole_fault : Setup → Option ConfigFault
-whole_fault s = if nat_le 1 (length s.axes) && nat_le 1 (length s.tasks) && nat_le 1 (length s.blocks) then None else Some TooFew
+whole_fault s =
+    if nat_le 1 (length s.axes) && nat_le 1 (length s.tasks) && nat_le 1 (length s.blocks)
+    then None else Some TooFew
 
 -- a call answers the fault where there is one, and else is Ok unless memory ran out
 abbrev pub FaultsBy : {A : Type 0} → Option ConfigFault → Result A ConfigFault → Type 0

@@ -1,4 +1,5 @@
--- How a history is kept: the entries in one array, the calls and the rows of all cycles in three others.
+-- How a history is kept: the entries in one array, the calls and the rows of all cycles in three
+-- others.
 use Rattle.std.specs.Prelude.{◌≡◌, ◌≤◌, ◌*◌, vec_len, vec_capacity}
 use Rattle.std.specs.List.{AllByRecursion}
 use Rattle.motion_history.specs.declared.history.History.TheInside.{Inside}

@@ -11,7 +11,8 @@ members_of d = take d.count d.axes
 -- the group of these axes: 0 stands behind them
 abbrev pub group_of : List ℕ → List ℕ → GroupDef
 group_of name axes =
-    record { name = name; count = length axes; axes = axes ++ replicate (MOST_MEMBERS - length axes) 0 }
+    let behind = replicate (MOST_MEMBERS - length axes) 0 in
+    record { name = name; count = length axes; axes = axes ++ behind }
 
 -- a group has 2 to 6 axes that are there, and 0 stands behind them
 pub record IsGroup (axes : ℕ) (d : GroupDef) : Type 0 where

@@ -23,10 +23,12 @@ are_speeds l =
     is_between (pos 1) l.vmax (pos MOST_STEP) && is_between (pos 2) l.amax (pos MOST_STEP) &&
     is_between l.amax l.dmax (pos MOST_STEP)
 
--- whether the target counts of all places of an axis that was not homed are 32-bit numbers. IEC 61800-7-201, object 607Ah
+-- whether the target counts of all places of an axis that was not homed are 32-bit numbers. IEC
+-- 61800-7-201, object 607Ah
 abbrev pub has_counts : Limits → ℤ → Bool
 has_counts l inc =
-    int_le (neg_ℤ (pos (2 ^ 31))) (int_div_euclid l.lo inc) && int_le (int_div_euclid l.hi inc) (pos (2 ^ 31 - 1))
+    int_le (neg_ℤ (pos (2 ^ 31))) (int_div_euclid l.lo inc) &&
+    int_le (int_div_euclid l.hi inc) (pos (2 ^ 31 - 1))
 
 -- whether the start is a multiple of the increment within the limits
 abbrev pub is_start : Limits → ℤ → ℤ → Bool
@@ -35,13 +37,15 @@ is_start l inc start = is_between l.lo start l.hi && (unsigned_abs (int_rem_eucl
 -- whether an axis may have these limits, this increment and this start
 unfoldable pub is_axis_range : Limits → ℤ → ℤ → Bool
 is_axis_range l inc start =
-    are_places l && are_speeds l && is_between (pos 1) inc (pos MOST_INCREMENT) && has_counts l inc && is_start l inc start
+    are_places l && are_speeds l && is_between (pos 1) inc (pos MOST_INCREMENT) &&
+    has_counts l inc && is_start l inc start
 
 -- whether an axis is in its ranges
 abbrev pub is_axis : AxisDef → Bool
 is_axis d = is_axis_range d.limits d.inc d.start
 
--- whether the task and the axis or group of a block are there, by the numbers of tasks, axes and groups
+-- whether the task and the axis or group of a block are there, by the numbers of tasks, axes and
+-- groups
 abbrev pub has_block : ℕ → ℕ → ℕ → ℕ → BlockKind → ℕ → Bool
 has_block tasks axes groups task kind object =
     nat_lt task tasks && nat_lt object (if acts_on_group kind then groups else axes)

@@ -14,7 +14,8 @@ abbrev pub is_move_absolute : BlockKind → Bool
 is_move_absolute MoveAbsolute = true
 is_move_absolute _ = false
 
--- a machine that the kernel runs so far: its axes are ready, its blocks are of kind MoveAbsolute, and it has no groups
+-- a machine that the kernel runs so far: its axes are ready, its blocks are of kind MoveAbsolute,
+-- and it has no groups
 pub record IsReadyMachine (s : Setup) : Type 0 where
   pub ready : IsTrue (list_all (λ (d : AxisDef). d.ready) s.axes)
   pub moves : IsTrue (list_all (λ b. is_move_absolute b.kind) s.blocks)

@@ -11,7 +11,8 @@ use Rattle.motion_history.specs.declared.config.BlockDef.{BlockDef}
 use Rattle.motion_history.specs.Members.{IsGroup, AreApart}
 use Rattle.motion_history.specs.Ranges.{is_axis, is_block}
 
--- a configuration: the items of a machine in the order of their numbers, and the room of its history
+-- a configuration: the items of a machine in the order of their numbers, and the room of its
+-- history
 pub record Setup : Type 0 where
   pub axes : List AxisDef
   pub groups : List GroupDef
@@ -24,7 +25,8 @@ pub record Setup : Type 0 where
 -- the names of the axes, groups, tasks and blocks
 abbrev pub names_of : Setup → List (List ℕ)
 names_of s =
-    map (λ (d : AxisDef). d.name) s.axes ++ (map (λ (d : GroupDef). d.name) s.groups ++ (s.tasks ++ map (λ (d : BlockDef). d.name) s.blocks))
+    map (λ (d : AxisDef). d.name) s.axes ++ (map (λ (d : GroupDef). d.name) s.groups ++
+    (s.tasks ++ map (λ (d : BlockDef). d.name) s.blocks))
 
 -- they are names, and no two are the same
 pub record AreNames (names : List (List ℕ)) : Type 0 where
@@ -49,7 +51,8 @@ pub record IsWithin (s : Setup) : Type 0 where
   pub groups : AllByRecursion (IsGroup (length s.axes)) s.groups
   pub apart : AreApart s.groups
   pub tables : AllByRecursion IsCamTable s.tables
-  pub blocks : IsTrue (list_all (is_block (length s.tasks) (length s.axes) (length s.groups)) s.blocks)
+  pub blocks :
+      IsTrue (list_all (is_block (length s.tasks) (length s.axes) (length s.groups)) s.blocks)
   pub names : AreNames (names_of s)
   pub sizes : FitsSizes s
 

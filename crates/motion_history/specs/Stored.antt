@@ -1,5 +1,5 @@
--- Entries that are kept without what they hold: the calls stand in one array, the rows of all cycles
--- in two others.
+-- Entries that are kept without what they hold: the calls stand in one array, the rows of all
+-- cycles in two others.
 use Rattle.std.specs.Prelude.{ℕ, ◌<◌, ◌≤◌, ◌*◌, List, Option, Some, None, length, map, slice_get}
 use Rattle.axis_state.specs.declared.definition.AxisRow.{AxisRow}
 use Rattle.group_state.specs.declared.state.GroupRow.{GroupRow}
@@ -25,7 +25,8 @@ call_entry (Some c) = call c.instance c.inputs c.reply
 -- the entry that is kept so
 abbrev pub entry_of : Store → Stored → Entry
 entry_of s (stored.Call place) = call_entry (slice_get s.calls place)
-entry_of s (stored.Cycle n) = cycle n (rows_at s.axes n s.axis_rows) (rows_at s.groups n s.group_rows)
+entry_of s (stored.Cycle n) =
+    cycle n (rows_at s.axes n s.axis_rows) (rows_at s.groups n s.group_rows)
 entry_of s (stored.End task) = end_of task
 
 -- the entries that are kept so
@@ -41,5 +42,6 @@ IsMade calls cycles (stored.End task) = Unit {0}
 -- what an entry holds is there
 abbrev pub IsThere : Store → Stored → Type 0
 IsThere s (stored.Call place) = place < length s.calls
-IsThere s (stored.Cycle n) = (1 ≤ n) × (n * s.axes ≤ length s.axis_rows) × (n * s.groups ≤ length s.group_rows)
+IsThere s (stored.Cycle n) =
+    (1 ≤ n) × (n * s.axes ≤ length s.axis_rows) × (n * s.groups ≤ length s.group_rows)
 IsThere s (stored.End task) = Unit {0}

@@ -52,7 +52,8 @@ pub fn block_fault(
 // Whether the task and the axis or group of a block are there.
 fn has_block(items: &Items, task: u8, kind: BlockKind, object: u8) -> bool
     ensures { let s = setup_of items.now in
-        result ≡ ranges.has_block (length s.tasks) (length s.axes) (length s.groups) task kind object }
+        result ≡
+        ranges.has_block (length s.tasks) (length s.axes) (length s.groups) task kind object }
 {
     let objects = if kind.acts_on_group() {
         items.groups.len()

@@ -124,7 +124,9 @@ impl Builder {
     /// Adds a cam table and answers its number, counted from 1.
     pub fn table(&mut self, alloc: Global, points: &[(i64, i64)]) -> Result<u16, ConfigFault>
         ensures number { IfOk result (λ n. n ≡ length self.new.tables) }
-        ensures ok { OnOk result (self.new ≡ record self.old { tables = self.old.tables ++ points.now ∷ [] }) }
+        ensures ok { OnOk result (self.new ≡ record self.old {
+          tables = self.old.tables ++ points.now ∷ [];
+        }) }
         ensures faults { (fault : ConfigFault) → fault ≢ ConfigFault.OutOfMemory →
             (result ≡ Err fault) ↔ IsTableFault self.old points.now fault }
         ensures unchanged { OnErr result (self.new ≡ self.old) }
@@ -140,7 +142,9 @@ impl Builder {
     /// Adds a task and answers its number.
     pub fn task(&mut self, name: &[u8]) -> Result<u8, ConfigFault>
         ensures number { IfOk result (λ n. n ≡ length self.old.tasks) }
-        ensures ok { OnOk result (self.new ≡ record self.old { tasks = self.old.tasks ++ name.now ∷ [] }) }
+        ensures ok { OnOk result (self.new ≡ record self.old {
+          tasks = self.old.tasks ++ name.now ∷ [];
+        }) }
         ensures faults { FaultsBy (faults.task_fault self.old name.now) result }
         ensures unchanged { OnErr result (self.new ≡ self.old) }
     {
@@ -188,7 +192,8 @@ impl Builder {
     /// The whole configuration. Where it is refused, the Builder is given up.
     pub fn finish(self) -> Result<Config, ConfigFault>
         ensures ok { IfOk result (λ c. c ≡ self) }
-        ensures faults { result ≡ Err ConfigFault.TooFew ↔ (faults.whole_fault self ≡ Some ConfigFault.TooFew) }
+        ensures faults { (result ≡ Err ConfigFault.TooFew) ↔
+            (faults.whole_fault self ≡ Some ConfigFault.TooFew) }
         ensures only { IfErr result (λ e. e ≡ ConfigFault.TooFew) }
     {
         let Builder { items } = self;
@@ -251,14 +256,16 @@ impl Builder {
 
 // Whether a history may have this room.
 fn is_room(cycles: u32, entries: u32) -> bool
-    ensures { faults.room_fault cycles entries ≡ (if result then None else Some ConfigFault.OutOfRange) }
+    ensures { faults.room_fault cycles entries ≡
+        (if result then None else Some ConfigFault.OutOfRange) }
 {
     1 <= cycles && cycles <= MOST_CYCLES && 1 <= entries && entries <= MOST_ENTRIES
 }
 
 // Whether there is an axis, a task and a block.
 fn is_whole(items: &Items) -> bool
-    ensures { faults.whole_fault (setup_of items.now) ≡ (if result then None else Some ConfigFault.TooFew) }
+    ensures { faults.whole_fault (setup_of items.now) ≡
+        (if result then None else Some ConfigFault.TooFew) }
 {
     1 <= items.axes.len() && 1 <= items.tasks.len() && 1 <= items.blocks.len()
 }

@@ -41,7 +41,8 @@ fn are_free(axes: usize, groups: &[GroupDef], new: &[u8]) -> bool
 
 // Whether the axes are there and are in no group.
 fn are_single(axes: usize, groups: &[GroupDef], new: &[u8]) -> bool
-    ensures { result ≡ list_all (λ axis. nat_lt axis axes && not (faults.is_member groups.now axis)) new.now }
+    ensures { result ≡
+        list_all (λ axis. nat_lt axis axes && not (faults.is_member groups.now axis)) new.now }
 {
     new.iter().all(|axis| is_single(axes, groups, *axis))
 }

@@ -1,4 +1,5 @@
-//! What a motion kernel is configured with, and the history of what was called, cycled and ended on it.
+//! What a motion kernel is configured with, and the history of what was called, cycled and ended on
+//! it.
 #![tactic(auto)]
 
 mod axes;

@@ -48,7 +48,8 @@ fn is_block(blocks: &[BlockDef], name: &[u8]) -> bool
 // Whether an axis or a group has the name.
 fn is_object(items: &Items, name: &[u8]) -> bool
     ensures { let s = setup_of items.now in result ≡
-        (list_any (λ d. bytes_eq d.name name.now) s.axes || list_any (λ d. bytes_eq d.name name.now) s.groups) }
+        (list_any (λ d. bytes_eq d.name name.now) s.axes ||
+        list_any (λ d. bytes_eq d.name name.now) s.groups) }
 {
     is_axis(items.axes.as_slice(), name) || is_group(items.groups.as_slice(), name)
 }
@@ -56,7 +57,8 @@ fn is_object(items: &Items, name: &[u8]) -> bool
 // Whether a task or a block has the name.
 fn is_caller(items: &Items, name: &[u8]) -> bool
     ensures { let s = setup_of items.now in result ≡
-        (list_any (λ n. bytes_eq n name.now) s.tasks || list_any (λ d. bytes_eq d.name name.now) s.blocks) }
+        (list_any (λ n. bytes_eq n name.now) s.tasks ||
+        list_any (λ d. bytes_eq d.name name.now) s.blocks) }
 {
     is_task(items.tasks.as_slice(), name) || is_block(items.blocks.as_slice(), name)
 }
