@@ -1,16 +1,20 @@
 -- What is read is whole: its machine is one that the kernel runs, its lines are of this machine, and there is room for them.
-use Rattle.std.proofs.Common.{◌≡◌, ℕ, zero, suc, ◌≤◌, Bool, true, false, cond, List, [], ◌∷◌, length, Option, Some, None, refl, subst, inl, inr, drop, lit≤, arith}
-use Rattle.std.specs.Prelude.{ℤ, pos, neg_ℤ, unsigned_abs, ◌&&◌, ◌⊎◌, nat_le, int_le, slice_index_or, codes, nat_eq, ◌==◌}
+use Rattle.std.proofs.Common.{◌≡◌, ℕ, zero, suc, ◌≤◌, Bool, true, false, cond, List, [], ◌∷◌, length, Option, Some, None, refl, subst, inl, inr, drop, lit≤, arith, ap, sym, ◌∙◌}
+use Rattle.std.specs.Prelude.{ℤ, pos, neg_ℤ, unsigned_abs, ◌&&◌, ◌⊎◌, nat_le, int_le, slice_get, slice_index_or, codes, nat_eq, ◌==◌, if◌then◌else◌}
 use Rattle.std.specs.List.{AllByRecursion, list_all, starts_with}
 use Rattle.std.proofs.lemmas.Bool.{and_parts, leb-true, cases_Bool}
 use Rattle.std.proofs.lemmas.Int.{ints}
 use Rattle.std.proofs.lemmas.List.Elements.{All-from_recursion}
+use Rattle.command_pool.specs.Kinds.{acts_on_group}
+use Rattle.command_pool.specs.declared.kind.BlockKind.{BlockKind}
 use Rattle.command_pool.specs.declared.kind.BlockKind.TheVariants.{MoveAbsolute}
 use Rattle.command_pool.specs.declared.kind.BufferMode.TheVariants.{Aborting}
 use Rattle.fb_outputs.specs.declared.inputs.Inputs.{Inputs}
 use Rattle.fb_outputs.specs.Inputs.{AreInputs, IsTaken}
 use Rattle.motion_history.specs.Setup.{Setup, IsSetup}
-use Rattle.motion_history.specs.Ready.{IsReadyMachine}
+use Rattle.motion_history.specs.Calls.{axes_of, count_in}
+use Rattle.motion_history.specs.Ready.{IsReadyMachine, is_move_absolute}
+use Rattle.motion_history.specs.declared.config.BlockDef.{BlockDef}
 use Rattle.motion_history.specs.Ranges.{is_axis_range}
 use Rattle.bench_text.specs.declared.bench.BenchLine.{BenchLine}
 use Rattle.bench_text.specs.declared.bench.BenchLine.TheVariants.{Call, Cycles, End}
@@ -155,19 +159,39 @@ inputs_of-read words i h =
 
 -- a line of a machine with an axis, a task and a block
 pub record IsRead (line : BenchLine) : Type 0 where
-  pub line-of : (s : Setup) → 1 ≤ length s.axes → 1 ≤ length s.tasks → 1 ≤ length s.blocks → IsLineOf s line
+  pub line-of : (s : Setup) → IsReadyMachine s → 1 ≤ length s.axes → 1 ≤ length s.tasks → 1 ≤ length s.blocks → IsLineOf s line
 
 first_some : {A : Type 0} (a b : Option A) (z : A) → first_of_two a b ≡ Some z → (a ≡ Some z) ⊎ (b ≡ Some z)
 first_some (Some x) b z h = inl h
 first_some None b z h = inr h
 
+-- a block of a machine that the kernel runs so far is a MoveAbsolute
+is_move : (k : BlockKind) → is_move_absolute k ≡ true → k ≡ MoveAbsolute
+is_move MoveAbsolute h = refl
+is_move _ h = absurd (cc)
+
+move-at : (bs : List BlockDef) (k : ℕ) (b : BlockDef) → list_all (λ c. is_move_absolute c.kind) bs ≡ true → slice_get bs k ≡ Some b → b.kind ≡ MoveAbsolute
+move-at [] k b h at = absurd (cc)
+move-at (c ∷ bs) zero b h at =
+    let same : c ≡ b = cc in
+    ap (λ (d : BlockDef). d.kind) (sym same) ∙ is_move c.kind (and_parts (is_move_absolute c.kind) _ h).0
+move-at (c ∷ bs) (suc k) b h at = move-at bs k b (and_parts (is_move_absolute c.kind) (list_all (λ d. is_move_absolute d.kind) bs) h).1 at
+
+-- the inputs of a MoveAbsolute are those of its block
+inputs-of : (s : Setup) (b : BlockDef) (i : Inputs) → b.kind ≡ MoveAbsolute → AreInputs MoveAbsolute 1 i → AreInputs b.kind (axes_of s b) i
+inputs-of s b i is h =
+    let P : BlockKind → Type 0 = λ k. AreInputs k (if acts_on_group k then count_in (slice_get s.groups b.object) else 1) i in
+    subst P (sym is) h
+
 call-read : (i : Inputs) → AreRead i → IsRead (Call 0 i)
 call-read i r = record {
-  line-of = λ s axes tasks blocks. record {
-    there = omega arith;
-    inputs = r.inputs;
+  line-of = λ s ready axes tasks blocks. record {
+    call = record {
+      there = omega arith;
+      inputs = λ b at. inputs-of s b i (move-at s.blocks 0 b ready.moves at) r.inputs;
+      master = rw r.master (omega arith);
+    };
     aborting = r.aborting;
-    master = rw r.master (omega arith);
   };
 }
 
@@ -193,7 +217,7 @@ count_of-within most word n h =
     (omega (arith, ints, range.0, range.1, is), omega (arith, ints, range.0, range.1, is))
 
 cycles-read : (n : ℕ) → 1 ≤ n → n ≤ 200000 → IsRead (Cycles n)
-cycles-read n some few = record { line-of = λ s axes tasks blocks. (some, few) }
+cycles-read n some few = record { line-of = λ s ready axes tasks blocks. (some, few) }
 
 cycles_line_of-read : (words : List (List ℕ)) (line : BenchLine) → cycles_line_of words ≡ Some line → IsRead line
 unfolding cycles_line_of
@@ -211,7 +235,7 @@ cycles_line_of-read (word ∷ count ∷ []) line h =
 cycles_line_of-read (word ∷ count ∷ other ∷ more) line h = absurd (cc)
 
 end-read : IsRead (End 0)
-end-read = record { line-of = λ s axes tasks blocks. omega arith }
+end-read = record { line-of = λ s ready axes tasks blocks. omega arith }
 
 end_line_of-read : (task : List ℕ) (words : List (List ℕ)) (line : BenchLine) → end_line_of task words ≡ Some line → IsRead line
 unfolding end_line_of
@@ -244,9 +268,9 @@ each_of-all read P each (x ∷ xs) ys h =
     let is : first.0 ∷ second.0 ≡ ys = some_is _ _ second.1.1 in
     subst (λ (zs : List _). AllByRecursion P zs) is (each x first.0 first.1.0, each_of-all read P each xs second.0 second.1.0)
 
-lines-of : (s : Setup) → IsSetup s → (lines : List BenchLine) → AllByRecursion IsRead lines → AllByRecursion (IsLineOf s) lines
-lines-of s setup [] h = tt
-lines-of s setup (l ∷ lines) h = (h.0.line-of s setup.some_axis setup.some_task setup.some_block, lines-of s setup lines h.1)
+lines-of : (s : Setup) → IsReadyMachine s → IsSetup s → (lines : List BenchLine) → AllByRecursion IsRead lines → AllByRecursion (IsLineOf s) lines
+lines-of s ready setup [] h = tt
+lines-of s ready setup (l ∷ lines) h = (h.0.line-of s ready setup.some_axis setup.some_task setup.some_block, lines-of s ready setup lines h.1)
 
 -- ---- the machine
 
@@ -269,10 +293,11 @@ IsBench-read m s events lines made read fits setup =
     let tests = and_parts (list_all (λ a. is_first_within a.limits lines) s.axes) (nat_le (entries_of lines) s.entries && nat_le (cycles_of_lines lines) s.cycles) fits in
     let room = and_parts (nat_le (entries_of lines) s.entries) (nat_le (cycles_of_lines lines) s.cycles) tests.1 in
     let all : AllByRecursion IsRead lines = each_of-all (event_of m.task m.block) IsRead (event_of-read m.task m.block) events lines read in
+    let here : IsReadyMachine s = subst (λ (t : Setup). IsReadyMachine t) (setup_is m s made) (ready m) in
     record {
-      ready = subst (λ (t : Setup). IsReadyMachine t) (setup_is m s made) (ready m);
+      ready = here;
       setup = setup;
-      lines = All-from_recursion (IsLineOf s) lines (lines-of s setup lines all);
+      lines = All-from_recursion (IsLineOf s) lines (lines-of s here setup lines all);
       entries = leb-true (entries_of lines) s.entries room.0;
       cycles = leb-true (cycles_of_lines lines) s.cycles room.1;
     }

@@ -9,8 +9,8 @@ use Rattle.motion_history.specs.Setup.{Setup}
 use Rattle.motion_history.specs.Ranges.{is_axis_range}
 use Rattle.motion_history.specs.Faults.{FaultsBy, axis_fault, task_fault, block_fault, is_used}
 use Rattle.motion_history.specs.declared.config.BlockDef.{BlockDef}
-use Rattle.motion_history.specs.declared.builder.ConfigFault.{ConfigFault}
-use Rattle.motion_history.specs.declared.builder.ConfigFault.TheVariants.{BadName, NameUsed, NameUnknown, OutOfRange, TooMany, TooFew, OutOfMemory}
+use Rattle.motion_history.specs.declared.fault.ConfigFault.{ConfigFault}
+use Rattle.motion_history.specs.declared.fault.ConfigFault.TheVariants.{BadName, NameUsed, NameUnknown, OutOfRange, Table, TooMany, TooFew, OutOfMemory}
 use Rattle.bench_text.specs.declared.machine.MachinePart.{MachinePart}
 use Rattle.bench_text.specs.Building.{BuildsBy}
 use Rattle.bench_text.specs.Reading.{setup_of, are_apart}
@@ -22,6 +22,7 @@ refused BadName s h = h
 refused NameUsed s h = h
 refused NameUnknown s h = h
 refused OutOfRange s h = h
+refused (Table f) s h = h
 refused TooMany s h = h
 refused TooFew s h = h
 refused OutOfMemory s h = tt
@@ -39,7 +40,7 @@ passed None n h = refl
 
 -- the configuration before its items, and with each of them
 abbrev pub with_none : MachinePart → Setup
-with_none m = record { axes = []; groups = []; tasks = []; blocks = []; cycles = m.room.cycles; entries = m.room.entries }
+with_none m = record { axes = []; groups = []; tables = []; tasks = []; blocks = []; cycles = m.room.cycles; entries = m.room.entries }
 
 abbrev pub axis_in : MachinePart → AxisDef
 axis_in m = record { name = m.axis.name; limits = m.axis.limits; inc = m.axis.inc; start = m.axis.start; ready = true }

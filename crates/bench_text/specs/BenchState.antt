@@ -1,7 +1,7 @@
 -- What contracts see of a bench: a configuration, and the lines of events behind it.
 use Rattle.std.specs.Prelude.{◌≤◌, ◌<◌, ℕ, List, length, sum_by, All}
 use Rattle.motion_history.specs.Setup.{Setup, IsSetup}
-use Rattle.motion_history.specs.Ready.{IsCall, IsReadyMachine}
+use Rattle.motion_history.specs.Ready.{IsReadyCall, IsReadyMachine}
 use Rattle.bench_text.specs.declared.bench.BenchLine.{BenchLine}
 use Rattle.bench_text.specs.declared.bench.BenchLine.TheVariants.{Call, Cycles, End}
 
@@ -32,7 +32,7 @@ entries_of lines = sum_by entry_count lines
 
 -- a line is one of this configuration: a call of one of its blocks, 1 to 200,000 cycles, or the end of one of its tasks. This project's profile
 abbrev pub IsLineOf : Setup → BenchLine → Type 0
-IsLineOf s (Call k i) = IsCall s k i
+IsLineOf s (Call k i) = IsReadyCall s k i
 IsLineOf s (Cycles n) = (1 ≤ n) × (n ≤ 200000)
 IsLineOf s (End t) = t < length s.tasks
 

@@ -35,6 +35,7 @@ setup_of m =
     if is_axis_range m.axis.limits m.axis.inc m.axis.start && are_apart m then Some (record {
       axes = record { name = m.axis.name; limits = m.axis.limits; inc = m.axis.inc; start = m.axis.start; ready = true } ∷ [];
       groups = [];
+      tables = [];
       tasks = m.task ∷ [];
       blocks = record { name = m.block; task = 0; kind = MoveAbsolute; object = 0 } ∷ [];
       cycles = m.room.cycles;

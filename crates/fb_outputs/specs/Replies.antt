@@ -1,4 +1,5 @@
--- What each reply keeps, whatever happened to its instance (PLCopen Motion Control Part 1, general rules).
+-- What each reply keeps, whatever happened to its instance (PLCopen Motion Control Part 1, general
+-- rules).
 use Rattle.std.specs.Prelude.{◌≡◌, ℕ, ◌≤◌, Bool, true, false, ◌&&◌, ◌||◌, nat_le, List, [], ◌∷◌, count_by}
 use Rattle.command_pool.specs.declared.ending.Finish.{Finish}
 use Rattle.command_pool.specs.declared.ending.Finish.TheVariants as finish
@@ -6,7 +7,7 @@ use Rattle.fb_outputs.specs.InstanceState.{InstanceState}
 use Rattle.fb_outputs.specs.Steps.{is_stop, called, started, finished, with_reached, shown}
 use Rattle.fb_outputs.specs.declared.outputs.Outputs.{Outputs}
 
--- at most one of some outputs is true. PLCopen Motion Control Part 1, general rules
+-- at most one of some outputs is true
 abbrev pub AtMostOne : List Bool → Type 0
 AtMostOne outputs = count_by (λ o. o) outputs ≤ 1
 
@@ -14,19 +15,22 @@ AtMostOne outputs = count_by (λ o. o) outputs ≤ 1
 abbrev pub may_hold : InstanceState → Bool
 may_hold i = is_stop i.kind && i.execute
 
--- a reply tells one result and one state: a Stop alone may be active after its Done, while its Execute is true. A reply
--- without an error has the number 0. PLCopen Motion Control Part 1, general rules and MC_Stop
+-- a reply tells one result and one state: a Stop alone may be active after its Done, while its
+-- Execute is true. A reply without an error has the number 0. PLCopen Motion Control Part 1,
+-- general rules and MC_Stop
 pub record IsReply (holds : Bool) (o : Outputs) : Type 0 where
   pub one_result : AtMostOne (o.busy ∷ o.done ∷ o.aborted ∷ o.error ∷ [])
-  pub one_state : (o.active && o.done) ≡ false → AtMostOne (o.active ∷ o.done ∷ o.aborted ∷ o.error ∷ [])
+  pub one_state : (o.active && o.done) ≡ false →
+      AtMostOne (o.active ∷ o.done ∷ o.aborted ∷ o.error ∷ [])
   pub holding : (o.active && o.done) ≡ true → holds ≡ true
   pub no_number : o.error ≡ false → o.error_id ≡ 0
 
--- whether a number is one of an error: 1 to 19 for a refused call, 101 to 106 for an axis error. This project's profile
+-- whether a number is one of an error: 1 to 19 for a refused call, 101 to 106 for an axis error.
+-- This project's profile
 abbrev pub is_error_number : ℕ → Bool
 is_error_number n = nat_le 1 n && nat_le n 19 || nat_le 101 n && nat_le n 106
 
--- what happens to an instance between its making and a reply. PLCopen Motion Control Part 1, general rules
+-- what happens to an instance between its making and a reply
 pub data Happening : Type 0 where
   call : Bool → Happening
   start : Bool → Happening
@@ -34,7 +38,7 @@ pub data Happening : Type 0 where
   cycle : Bool → Happening
   reply : Happening
 
--- the instance after it. PLCopen Motion Control Part 1, general rules
+-- the instance after it
 abbrev pub happened : InstanceState → Happening → InstanceState
 happened i (call execute) = called i execute
 happened i (start active) = started i active
@@ -42,7 +46,7 @@ happened i (ending f) = finished i f
 happened i (cycle reached) = with_reached i reached
 happened i reply = shown i
 
--- the instance after all that happened to it, in order. PLCopen Motion Control Part 1, general rules
+-- the instance after all that happened to it, in order
 abbrev pub after_all : InstanceState → List Happening → InstanceState
 after_all i [] = i
 after_all i (h ∷ hs) = after_all (happened i h) hs

@@ -31,7 +31,8 @@ pub enum Progress {
     Ended { finish: Finish, shown: bool },
 }
 
-/// An instance of a function block.
+/// An instance of a function block. What it shows follows from its Execute and from what becomes of
+/// its command.
 #[derive(Drop)]
 pub struct Instance {
     kind: BlockKind,
@@ -45,7 +46,8 @@ impl Model for Instance {
 
     ghost Value = { InstanceState };
 
-    ghost view = { λ i. record { kind = i.kind; execute = i.execute; reached = i.reached; progress = i.progress } };
+    ghost view = { λ i.
+        record { kind = i.kind; execute = i.execute; reached = i.reached; progress = i.progress } };
 }
 
 impl Instance {
@@ -61,7 +63,8 @@ impl Instance {
         }
     }
 
-    /// Takes a call's Execute, and tells how it changed. A rising edge takes the earlier command's owner away.
+    /// Takes a call's Execute, and tells how it changed. A rising edge takes the earlier command's
+    /// owner away.
     pub fn on_call(&mut self, execute: bool) -> Edge
         ensures edge { result ≡ edge_of self.old.execute execute }
         ensures after { self.new ≡ called self.old execute }
@@ -95,8 +98,9 @@ impl Instance {
         };
     }
 
-    /// Takes what the last cycle found: InVelocity, InGear, InSync, whether a Power's axis was driven, and of a Stop
-    /// whether its axis is in Stopping under its hold.
+    /// Takes what the last cycle found: InVelocity, InGear, InSync, whether a Power's axis was
+    /// driven, and of a Stop whether its axis is in Stopping under its hold. Opening counts as a
+    /// driven last cycle of a ready axis, so a Power on one takes true before its first call.
     pub fn set_reached(&mut self, reached: bool)
         ensures { self.new ≡ with_reached self.old reached }
     {
@@ -208,7 +212,8 @@ const NOTHING: Outputs = Outputs {
 
 // The outputs of an instance.
 fn outputs_now(kind: BlockKind, execute: bool, reached: bool, progress: Progress) -> Outputs
-    ensures { result ≡ outputs_of (record { kind = kind; execute = execute; reached = reached; progress = progress }) }
+    ensures { result ≡ outputs_of
+        (record { kind = kind; execute = execute; reached = reached; progress = progress }) }
 {
     if is_power(kind) {
         Outputs {

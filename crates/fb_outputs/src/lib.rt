@@ -1,14 +1,16 @@
-//! Instances of function blocks: what a call gives them, and what they show (PLCopen Motion Control Part 1, general rules).
+//! Instances of function blocks: what a call gives them, and what they show (PLCopen Motion Control
+//! Part 1, general rules).
 #![tactic(auto)]
 
 mod inputs;
 mod instance;
-pub mod laws;
+mod laws;
 mod outputs;
 #[cfg(test)]
 mod tests;
 
 pub use command_pool::{BlockKind, BufferMode, Finish, Rates, Refusal};
-pub use inputs::Inputs;
+pub use inputs::{Input, Inputs, takes};
 pub use instance::{Edge, Instance, Progress};
+pub use laws::replies_tell_one_result;
 pub use outputs::Outputs;

@@ -1,6 +1,6 @@
 // Replies of instances beside a pool of waiting commands.
 
-use crate::{BlockKind, BufferMode, Edge, Finish, Instance, Outputs, Rates};
+use crate::{BlockKind, BufferMode, Edge, Finish, Input, Instance, Outputs, Rates, takes};
 use command_pool::{CommandPool, Follow, Notes, OutOfMemory, Wanted};
 
 const NOTHING: Outputs = Outputs {
@@ -48,7 +48,8 @@ fn buffered(owner: u16, target: i64) -> Wanted {
     }
 }
 
-// A rising edge of a buffered move: active where none is, else behind those that wait, and refused where eight wait.
+// A rising edge of a buffered move: active where none is, else behind those that wait, and refused
+// where eight wait.
 fn reply_to_the_edge(
     pool: &mut CommandPool,
     active: &mut Option<Wanted>,
@@ -125,4 +126,43 @@ fn tells_nothing_of_the_command_before_a_new_edge(rt: HostRuntime) -> Result<(),
     instance.on_finish(Finish::Done);
     assert_eq!(rt; instance.show(), DONE);
     Ok(())
+}
+
+#[test]
+fn shows_a_ready_axis_before_the_first_cycle(rt: HostRuntime) {
+    let cases = [(true, true), (false, false)];
+    for (ready, reached) in cases {
+        let mut power = Instance::new(BlockKind::Power);
+        power.set_reached(ready);
+        assert_eq!(rt; power.on_call(true), Edge::Rising);
+        assert_eq!(rt;
+            power.show(),
+            Outputs {
+                busy: true,
+                reached,
+                ..NOTHING
+            }
+        );
+    }
+}
+
+#[test]
+fn takes_the_inputs_of_its_kind(rt: HostRuntime) {
+    let cases = [
+        (BlockKind::Power, Input::Velocity, false),
+        (BlockKind::Home, Input::Position, true),
+        (BlockKind::Home, Input::Mode, false),
+        (BlockKind::Stop, Input::Jerk, true),
+        (BlockKind::Halt, Input::Acceleration, false),
+        (BlockKind::MoveVelocity, Input::Position, false),
+        (BlockKind::GearIn, Input::Velocity, false),
+        (BlockKind::GearIn, Input::Denominator, true),
+        (BlockKind::CamIn, Input::Velocity, true),
+        (BlockKind::CamIn, Input::Table, true),
+        (BlockKind::GroupStop, Input::Deceleration, true),
+        (BlockKind::MoveCircularAbsolute, Input::Master, false),
+    ];
+    for (kind, input, want) in cases {
+        assert!(rt; takes(kind, input) == want);
+    }
 }

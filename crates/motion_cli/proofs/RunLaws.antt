@@ -14,7 +14,7 @@ use Rattle.bench_text.specs.declared.bench.BenchLine.{BenchLine}
 use Rattle.bench_text.specs.declared.bench.BenchLine.TheVariants.{Call, Cycles, End}
 use Rattle.cia402_machine.specs.declared.drive.DriveIn.{DriveIn}
 use Rattle.cia402_machine.specs.declared.drive.DriveOut.{DriveOut}
-use Rattle.motion_history.specs.Entries.{Entry, cycle, cycle_count, cycles_of}
+use Rattle.motion_history.specs.Entries.{CyclesAddUp, Entry, cycle, cycles_of}
 use Rattle.motion_history.specs.Setup.{Setup, IsSetup}
 use Rattle.motion_kernel.specs.KernelState.{KernelState, state_of}
 use Rattle.motion_kernel.specs.Machine.{IsOperational, rows_of}
@@ -57,28 +57,24 @@ pub record IsUnderWay (k : KernelState) (answers : List DriveIn) (more_entries m
 abbrev pub run_at : KernelState → List DriveIn → Run
 run_at k answers = record { history = k.history; answers = answers }
 
-cycles_of_more : (es : List Entry) (e : Entry) → cycles_of (es ++ e ∷ []) ≡ cycles_of es + cycle_count e
-cycles_of_more [] e = omega arith
-cycles_of_more (d ∷ es) e = let h = cycles_of_more es e in omega arith
-
 length_more : (es : List Entry) (e : Entry) → length (es ++ e ∷ []) ≡ length es + 1
 length_more [] e = refl
 length_more (d ∷ es) e = let h = length_more es e in omega arith
 
 -- a cycle further, the rest is one less
-pub cycle-further : (s : Setup) (k k2 : KernelState) (answers answers2 : List DriveIn) (n i : ℕ) (whole : Run) → i < n →
+pub cycle-further : CyclesAddUp → (s : Setup) (k k2 : KernelState) (answers answers2 : List DriveIn) (n i : ℕ) (whole : Run) → i < n →
     IsUnderWay k answers (n - i) (n - i) (cycled_often s (n - i) (run_at k answers)) whole →
     k.config ≡ s → k2.config ≡ k.config → run_at k2 answers2 ≡ cycled k.config (run_at k answers) → IsGoing k2 answers2 →
     IsUnderWay k2 answers2 (n - (i + 1)) (n - (i + 1)) (cycled_often s (n - (i + 1)) (run_at k2 answers2)) whole
 unfolding cycled
-cycle-further s k k2 answers answers2 n i whole l before c c2 e g =
+cycle-further add s k k2 answers answers2 n i whole l before c c2 e g =
     let left = n - (i + 1) in
     let P : ℕ → Type 0 = λ m. IsUnderWay k answers m m (cycled_often s m (run_at k answers)) whole in
     let one : n - i ≡ suc left = omega arith in
     let u : P (suc left) = subst P one before in
     let h : k2.history ≡ k.history ++ cycle (cycles_of k.history + 1) (rows_of (state_of k) answers) [] ∷ [] = ap (λ (r : Run). r.history) e in
     let x : length k2.history ≡ length k.history + 1 = ap length h ∙ length_more k.history _ in
-    let y : cycles_of k2.history ≡ cycles_of k.history + 1 = ap cycles_of h ∙ cycles_of_more k.history _ in
+    let y : cycles_of k2.history ≡ cycles_of k.history + 1 = ap cycles_of h ∙ add k.history _ in
     let a = u.room in
     let b = u.cycles in
     record {
@@ -93,10 +89,10 @@ unfolding cycled
 length_often s zero r = omega arith
 length_often s (suc n) r = let h = length_often s n (cycled s r) in let e = length_more r.history (cycle (cycles_of r.history + 1) (rows_of (state_of (record { config = s; history = r.history })) r.answers) []) in omega arith
 
-cycles_often : (s : Setup) (n : ℕ) (r : Run) → cycles_of (cycled_often s n r).history ≡ cycles_of r.history + n
+cycles_often : CyclesAddUp → (s : Setup) (n : ℕ) (r : Run) → cycles_of (cycled_often s n r).history ≡ cycles_of r.history + n
 unfolding cycled
-cycles_often s zero r = omega arith
-cycles_often s (suc n) r = let h = cycles_often s n (cycled s r) in let e = cycles_of_more r.history (cycle (cycles_of r.history + 1) (rows_of (state_of (record { config = s; history = r.history })) r.answers) []) in omega arith
+cycles_often add s zero r = omega arith
+cycles_often add s (suc n) r = let h = cycles_often add s n (cycled s r) in let e = add r.history (cycle (cycles_of r.history + 1) (rows_of (state_of (record { config = s; history = r.history })) r.answers) []) in omega arith
 
 -- how long the history is after a line
 length-made : (s : Setup) (l : BenchLine) (r : Run) → length (made s l r).history ≡ length r.history + bench.entry_count l
@@ -106,26 +102,26 @@ length-made s (Cycles n) r = length_often s n r
 length-made s (End t) r = length_more r.history _
 
 -- how many cycles it has after a line
-cycles-made : (s : Setup) (l : BenchLine) (r : Run) → cycles_of (made s l r).history ≡ cycles_of r.history + bench.cycle_count l
+cycles-made : CyclesAddUp → (s : Setup) (l : BenchLine) (r : Run) → cycles_of (made s l r).history ≡ cycles_of r.history + bench.cycle_count l
 unfolding made
-cycles-made s (Call k i) r = cycles_of_more r.history _
-cycles-made s (Cycles n) r = cycles_often s n r
-cycles-made s (End t) r = cycles_of_more r.history _
+cycles-made add s (Call k i) r = add r.history _
+cycles-made add s (Cycles n) r = cycles_often add s n r
+cycles-made add s (End t) r = add r.history _
 
 -- a line further, the rest is that much less
-pub line-further : (s : Setup) (k k2 : KernelState) (answers answers2 : List DriveIn) (lines : List BenchLine) (i : ℕ) (d : BenchLine) (whole : Run) → i < length lines →
+pub line-further : CyclesAddUp → (s : Setup) (k k2 : KernelState) (answers answers2 : List DriveIn) (lines : List BenchLine) (i : ℕ) (d : BenchLine) (whole : Run) → i < length lines →
     IsUnderWay k answers (entries_of (drop i lines)) (cycles_of_lines (drop i lines)) (made_all s (drop i lines) (run_at k answers)) whole →
     k.config ≡ s → k2.config ≡ k.config → run_at k2 answers2 ≡ made k.config (slice_index_or lines i d) (run_at k answers) → IsGoing k2 answers2 →
     let rest = drop (i + 1) lines in
     IsUnderWay k2 answers2 (entries_of rest) (cycles_of_lines rest) (made_all s rest (run_at k2 answers2)) whole
-line-further s k k2 answers answers2 lines i d whole at before c c2 e g =
+line-further add s k k2 answers answers2 lines i d whole at before c c2 e g =
     let l = slice_index_or lines i d in
     let ls = drop (i + 1) lines in
     let P : List BenchLine → Type 0 = λ m. IsUnderWay k answers (entries_of m) (cycles_of_lines m) (made_all s m (run_at k answers)) whole in
     let u : P (l ∷ ls) = subst P (drop_more lines i d at) before in
     let h : k2.history ≡ (made k.config l (run_at k answers)).history = ap (λ (r : Run). r.history) e in
     let n : length k2.history ≡ length k.history + bench.entry_count l = ap length h ∙ length-made k.config l (run_at k answers) in
-    let m : cycles_of k2.history ≡ cycles_of k.history + bench.cycle_count l = ap cycles_of h ∙ cycles-made k.config l (run_at k answers) in
+    let m : cycles_of k2.history ≡ cycles_of k.history + bench.cycle_count l = ap cycles_of h ∙ cycles-made add k.config l (run_at k answers) in
     let p = sum_by-cons bench.entry_count l ls in
     let q = sum_by-cons bench.cycle_count l ls in
     let a : length k.history + (bench.entry_count l + entries_of ls) ≤ k.config.entries = let w = u.room in omega (arith, p, w) in
@@ -158,6 +154,6 @@ first_operational (d ∷ ds) = All-cons IsOperational _ _ (record { statusword =
 pub going-first : (k : KernelState) (s : Setup) (answers : List DriveIn) → IsSetup s → k.config ≡ s → answers ≡ map opening_answer s.axes → IsGoing k answers
 going-first k s answers h c a = rw (a, c) (record {
   drives = length-map s.axes opening_answer;
-  few = h.within.few_axes;
+  few = h.within.sizes.axes;
   operational = first_operational s.axes;
 })

@@ -3,7 +3,7 @@
 ghost use Rattle.std.specs.Prelude.{◌≡◌, ◌+◌, ◌<◌, ◌≤◌, ◌++◌, ◌∷◌, [], IfOk, length, All};
 ghost use Rattle.bench_text.specs.BenchState.{IsLineOf, entry_count, cycle_count, entries_of, cycles_of_lines};
 ghost use Rattle.motion_history.specs.Entries.{call, cycles_of};
-ghost use Rattle.motion_history.specs.Ready.{IsCall};
+ghost use Rattle.motion_history.specs.Ready.{IsReadyCall};
 ghost use Rattle.motion_kernel.specs.KernelState.{state_of};
 ghost use Rattle.motion_kernel.specs.Machine.{reply_of};
 ghost use Rattle.motion_cli.specs.Run as spec;
@@ -13,12 +13,9 @@ use crate::drives::{answer, opening_answers};
 use bench_text::{Bench, BenchLine};
 use cia402_machine::{DriveIn, DriveOut};
 use fb_outputs::Inputs;
-use motion_history::{Config, OutOfMemory};
+use motion_history::{MOST_AXES, OutOfMemory, cycles_add_up};
 use motion_kernel::Kernel;
 use std::alloc::Global;
-
-/// The most axes of a kernel.
-const MOST_AXES: usize = 16;
 
 /// An output before it is written.
 const NO_OUTPUT: DriveOut = DriveOut {
@@ -55,6 +52,7 @@ fn make_cycles(kernel: &mut Kernel, answers: &mut [DriveIn], count: u32)
     ensures going { IsGoing kernel.new answers.new }
 {
     for _ in 0..count {
+        cycles_add_up();
         make_cycle(kernel, answers);
     }
 }
@@ -62,7 +60,7 @@ fn make_cycles(kernel: &mut Kernel, answers: &mut [DriveIn], count: u32)
 // A call of a block, in its task.
 fn make_call(kernel: &mut Kernel, instance: u16, inputs: &Inputs)
     requires room { length kernel.old.history < kernel.old.config.entries }
-    requires call { IsCall kernel.old.config instance inputs.now }
+    requires call { IsReadyCall kernel.old.config instance inputs.now }
     ensures { kernel.new ≡ record kernel.old {
       history = kernel.old.history ++
           call instance inputs.now (reply_of (state_of kernel.old) instance inputs.now) ∷ [];
@@ -103,6 +101,7 @@ fn make_all(kernel: &mut Kernel, answers: &mut [DriveIn], lines: &[BenchLine])
     ensures going { IsGoing kernel.new answers.new }
 {
     for line in lines {
+        cycles_add_up();
         make_line(kernel, answers, line);
     }
 }

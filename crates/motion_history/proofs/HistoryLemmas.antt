@@ -1,5 +1,5 @@
 -- A history that is kept in arrays grows at its end.
-use Rattle.std.specs.Prelude.{◌≡◌, ℕ, ◌+◌, ◌-◌, ◌*◌, ◌≤◌, zero, suc, List, [], ◌∷◌, ◌++◌, drop, length, refl, slice_get, Some}
+use Rattle.std.specs.Prelude.{◌≡◌, ℕ, ◌+◌, ◌-◌, ◌*◌, ◌<◌, ◌≤◌, zero, suc, List, [], ◌∷◌, ◌++◌, drop, length, refl, slice_get, Some}
 use Rattle.std.specs.Option.{option_map}
 use Rattle.std.specs.List.{AllByRecursion}
 use Rattle.std.proofs.Common.{◌∙◌, sym, ap, subst, arith}
@@ -9,10 +9,12 @@ use Rattle.std.proofs.lemmas.List.{map-append, length-map, length-drop, drop-app
 use Rattle.std.proofs.lemmas.Option.{slice_get-map}
 use Rattle.axis_state.specs.declared.definition.AxisRow.{AxisRow}
 use Rattle.group_state.specs.declared.state.GroupRow.{GroupRow}
+use Rattle.motion_history.specs.declared.history.CallMade.{CallMade}
 use Rattle.motion_history.specs.declared.history.Stored.{Stored}
 use Rattle.motion_history.specs.declared.history.Stored.TheVariants as stored
-use Rattle.motion_history.specs.Entries.{Entry, cycle_count, cycles_of}
-use Rattle.motion_history.specs.Stored.{entry_of, entries_of, IsMade}
+use Rattle.motion_history.specs.Entries.{Entry, call, cycle, end_of, cycle_count, cycles_of}
+use Rattle.motion_history.specs.Stored.{Store, call_entry, entry_of, entries_of, IsMade}
+use Rattle.motion_history.proofs.DistinctLemmas.{each-weaker}
 use Rattle.motion_history.specs.Rows.{rows_at}
 
 -- one more entry has its own cycles
@@ -20,25 +22,41 @@ pub cycles_of-more : (es : List Entry) (e : Entry) → cycles_of (es ++ e ∷ []
 cycles_of-more [] e = omega arith
 cycles_of-more (d ∷ es) e = let h = cycles_of-more es e in omega arith
 
+-- entries that are added have their own cycles
+pub cycles_of-append : (es more : List Entry) → cycles_of (es ++ more) ≡ cycles_of es + cycles_of more
+cycles_of-append [] more = omega arith
+cycles_of-append (e ∷ es) more = let h = cycles_of-append es more in omega arith
+
+cycle_count-few : (e : Entry) → cycle_count e ≤ 1
+cycle_count-few (call k i reply) = omega arith
+cycle_count-few (cycle n axes groups) = omega arith
+cycle_count-few (end_of task) = omega arith
+
+-- there are no more cycles than entries
+pub cycles_of-few : (es : List Entry) → cycles_of es ≤ length es
+cycles_of-few [] = omega arith
+cycles_of-few (e ∷ es) = let h = cycles_of-few es in let k = cycle_count-few e in omega arith
+
 -- so many entries are kept
-pub length-entries_of : (axes groups : ℕ) (axis_rows : List AxisRow) (group_rows : List GroupRow) (es : List Stored) →
-    length (entries_of axes groups axis_rows group_rows es) ≡ length es
+pub length-entries_of : (s : Store) (es : List Stored) → length (entries_of s es) ≡ length es
 unfolding entries_of
-length-entries_of axes groups axis_rows group_rows es = length-map es _
+length-entries_of s es = length-map es _
 
 -- one more entry that is kept stands at the end
-pub entries_of-more : (axes groups : ℕ) (axis_rows : List AxisRow) (group_rows : List GroupRow) (es : List Stored) (e : Stored) →
-    entries_of axes groups axis_rows group_rows (es ++ e ∷ []) ≡
-    entries_of axes groups axis_rows group_rows es ++ entry_of axes groups axis_rows group_rows e ∷ []
+pub entries_of-more : (s : Store) (es : List Stored) (e : Stored) → entries_of s (es ++ e ∷ []) ≡ entries_of s es ++ entry_of s e ∷ []
 unfolding entries_of
-entries_of-more axes groups axis_rows group_rows es e = map-append _ es (e ∷ [])
+entries_of-more s es e = map-append _ es (e ∷ [])
 
 -- the entry that is kept at a place
-pub slice_get-entries_of : (axes groups : ℕ) (axis_rows : List AxisRow) (group_rows : List GroupRow) (es : List Stored) (place : ℕ) →
-    slice_get (entries_of axes groups axis_rows group_rows es) place ≡
-    option_map (entry_of axes groups axis_rows group_rows) (slice_get es place)
+pub slice_get-entries_of : (s : Store) (es : List Stored) (place : ℕ) →
+    slice_get (entries_of s es) place ≡ option_map (entry_of s) (slice_get es place)
 unfolding entries_of
-slice_get-entries_of axes groups axis_rows group_rows es place = slice_get-map _ es place
+slice_get-entries_of s es place = slice_get-map _ es place
+
+-- nothing is kept of no entries
+pub entries_of-none : (s : Store) → entries_of s [] ≡ []
+unfolding entries_of
+entries_of-none s = refl
 
 -- n times width is one width behind n - 1 times width
 before_last : (n width : ℕ) → 1 ≤ n → (n - 1) * width + width ≡ n * width
@@ -67,45 +85,59 @@ rows_at-next width made rows more len same =
     let first : (made + 1 - 1) * width ≡ length rows = ap (λ k. k * width) (add_sub made) ∙ sym len in
     rw (first, drop-append_seam rows more, ← same) (take-length more)
 
--- the entries stay as they are where rows of a further cycle are added
-pub entries_of-rows : (axes groups made : ℕ) (axis_rows more_axes : List AxisRow) (group_rows more_groups : List GroupRow) (es : List Stored) →
-    AllByRecursion (IsMade made) es → length axis_rows ≡ made * axes → length group_rows ≡ made * groups →
-    entries_of axes groups (axis_rows ++ more_axes) (group_rows ++ more_groups) es ≡ entries_of axes groups axis_rows group_rows es
+-- a store that has what another has, and more behind it
+pub record Extends (s more : Store) (called made : ℕ) : Type 0 where
+  pub axes : more.axes ≡ s.axes
+  pub groups : more.groups ≡ s.groups
+  pub new_calls : List CallMade
+  pub calls : more.calls ≡ s.calls ++ new_calls
+  pub few_calls : called ≤ length s.calls
+  pub new_axes : List AxisRow
+  pub axis_rows : more.axis_rows ≡ s.axis_rows ++ new_axes
+  pub all_axes : length s.axis_rows ≡ made * s.axes
+  pub new_groups : List GroupRow
+  pub group_rows : more.group_rows ≡ s.group_rows ++ new_groups
+  pub all_groups : length s.group_rows ≡ made * s.groups
+
+-- an element that is there stays where more stand behind
+slice_get-front : {X : Type 0} (xs ys : List X) (i : ℕ) → i < length xs → slice_get (xs ++ ys) i ≡ slice_get xs i
+slice_get-front [] ys i l = absurd (omega arith)
+slice_get-front (x ∷ xs) ys zero l = refl
+slice_get-front (x ∷ xs) ys (suc i) l = slice_get-front xs ys i (omega arith)
+
+-- an entry that was made stays as it is in a store that has more
+entry_of-more : (s more : Store) (calls made : ℕ) (e : Stored) → Extends s more calls made → IsMade calls made e → entry_of more e ≡ entry_of s e
+entry_of-more s more calls made (stored.Call place) x m =
+    ap call_entry (ap (λ cs. slice_get cs place) x.calls ∙ slice_get-front s.calls x.new_calls place (omega (arith, x.few_calls)))
+entry_of-more s more calls made (stored.Cycle n) x m =
+    let a = rows_at-more s.axes n made s.axis_rows x.new_axes m.0 m.1 x.all_axes in
+    let g = rows_at-more s.groups n made s.group_rows x.new_groups m.0 m.1 x.all_groups in
+    rw (x.axes, x.groups, x.axis_rows, x.group_rows) (λ i. cycle n (a i) (g i))
+entry_of-more s more calls made (stored.End task) x m = refl
+
+-- entries that were made stay as they are in a store that has more
+pub entries_of-extends : (s more : Store) (calls made : ℕ) (es : List Stored) → Extends s more calls made →
+    AllByRecursion (IsMade calls made) es → entries_of more es ≡ entries_of s es
 unfolding entries_of
-entries_of-rows axes groups made axis_rows more_axes group_rows more_groups [] h la lg = refl
-entries_of-rows axes groups made axis_rows more_axes group_rows more_groups (stored.Call k i r ∷ es) h la lg =
-    let t = entries_of-rows axes groups made axis_rows more_axes group_rows more_groups es h.1 la lg in cc
-entries_of-rows axes groups made axis_rows more_axes group_rows more_groups (stored.Cycle n ∷ es) h la lg =
-    let a = rows_at-more axes n made axis_rows more_axes h.0.0 h.0.1 la in
-    let g = rows_at-more groups n made group_rows more_groups h.0.0 h.0.1 lg in
-    let t = entries_of-rows axes groups made axis_rows more_axes group_rows more_groups es h.1 la lg in
+entries_of-extends s more calls made [] x h = refl
+entries_of-extends s more calls made (e ∷ es) x h =
+    let a = entry_of-more s more calls made e x h.0 in
+    let t = entries_of-extends s more calls made es x h.1 in
     cc
-entries_of-rows axes groups made axis_rows more_axes group_rows more_groups (stored.End task ∷ es) h la lg =
-    let t = entries_of-rows axes groups made axis_rows more_axes group_rows more_groups es h.1 la lg in cc
 
--- a cycle that was made is made where there are more
-IsMade-later : (made : ℕ) (e : Stored) → IsMade made e → IsMade (made + 1) e
-IsMade-later made (stored.Call k i r) h = tt
-IsMade-later made (stored.Cycle n) h = (h.0, omega (arith, h.1))
-IsMade-later made (stored.End task) h = tt
+-- what was made is made where more is
+IsMade-later : (calls made more_calls more_made : ℕ) → calls ≤ more_calls → made ≤ more_made → (e : Stored) → IsMade calls made e → IsMade more_calls more_made e
+IsMade-later calls made more_calls more_made c m (stored.Call place) h = omega arith
+IsMade-later calls made more_calls more_made c m (stored.Cycle n) h = (h.0, omega (arith, h.1))
+IsMade-later calls made more_calls more_made c m (stored.End task) h = tt
 
-pub AllMade-later : (made : ℕ) (es : List Stored) → AllByRecursion (IsMade made) es → AllByRecursion (IsMade (made + 1)) es
-AllMade-later made [] h = tt
-AllMade-later made (e ∷ es) h = (IsMade-later made e h.0, AllMade-later made es h.1)
-
-pub AllMade-more : (made : ℕ) (es : List Stored) (e : Stored) → AllByRecursion (IsMade made) es → IsMade made e →
-    AllByRecursion (IsMade made) (es ++ e ∷ [])
-AllMade-more made [] e h m = (m, tt)
-AllMade-more made (d ∷ es) e h m = (h.0, AllMade-more made es e h.1 m)
+pub AllMade-later : (calls made more_calls more_made : ℕ) → calls ≤ more_calls → made ≤ more_made → (es : List Stored) →
+    AllByRecursion (IsMade calls made) es → AllByRecursion (IsMade more_calls more_made) es
+AllMade-later calls made more_calls more_made c m es h = each-weaker _ _ (IsMade-later calls made more_calls more_made c m) es h
 
 -- an entry that is kept at a place was made
-pub AllMade-at : (made : ℕ) (es : List Stored) (place : ℕ) (e : Stored) → AllByRecursion (IsMade made) es →
-    slice_get es place ≡ Some e → IsMade made e
-AllMade-at made [] place e h at = absurd (cc)
-AllMade-at made (d ∷ es) zero e h at = let same : d ≡ e = cc in let P : Stored → Type 0 = IsMade made in subst P same h.0
-AllMade-at made (d ∷ es) (suc place) e h at = AllMade-at made es place e h.1 at
-
--- nothing is kept of no entries
-pub entries_of-none : (axes groups : ℕ) (axis_rows : List AxisRow) (group_rows : List GroupRow) → entries_of axes groups axis_rows group_rows [] ≡ []
-unfolding entries_of
-entries_of-none axes groups axis_rows group_rows = refl
+pub AllMade-at : (calls made : ℕ) (es : List Stored) (place : ℕ) (e : Stored) → AllByRecursion (IsMade calls made) es →
+    slice_get es place ≡ Some e → IsMade calls made e
+AllMade-at calls made [] place e h at = absurd (cc)
+AllMade-at calls made (d ∷ es) zero e h at = let same : d ≡ e = cc in let P : Stored → Type 0 = IsMade calls made in subst P same h.0
+AllMade-at calls made (d ∷ es) (suc place) e h at = AllMade-at calls made es place e h.1 at

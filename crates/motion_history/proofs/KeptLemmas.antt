@@ -1,22 +1,26 @@
 -- A history keeps its arrays in step with its entries.
-use Rattle.std.specs.Prelude.{◌≡◌, ℕ, ◌+◌, ◌*◌, ◌≤◌, ◌<◌, List, [], ◌∷◌, ◌++◌, length, vec_len, vec_capacity, slice_get, Option, Some}
+use Rattle.std.specs.Prelude.{◌≡◌, refl, ℕ, ◌+◌, ◌*◌, ◌≤◌, ◌<◌, List, [], ◌∷◌, ◌++◌, length, vec_len, vec_capacity, slice_get, Option, Some}
 use Rattle.std.specs.Option.{option_map}
 use Rattle.std.specs.List.{AllByRecursion}
 use Rattle.std.proofs.Common.{Vec, Global, ◌∙◌, sym, ap, arith}
 use Rattle.std.proofs.Math.Nat.{mul-le-mul_right}
+use Rattle.std.proofs.lemmas.List.{append-nil}
 use Rattle.axis_state.specs.declared.definition.AxisRow.{AxisRow}
 use Rattle.group_state.specs.declared.state.GroupRow.{GroupRow}
+use Rattle.motion_history.specs.declared.history.CallMade.{CallMade}
 use Rattle.motion_history.specs.declared.history.Stored.{Stored}
 use Rattle.motion_history.specs.declared.history.Stored.TheVariants as stored
 use Rattle.motion_history.specs.declared.history.History.TheInside.{Inside}
-use Rattle.motion_history.specs.Entries.{cycle, cycle_count, cycles_of, HistoryState}
-use Rattle.motion_history.specs.Stored.{entry_of, entries_of, IsMade, HasRows}
-use Rattle.motion_history.specs.Kept.{state_of, IsKept}
-use Rattle.motion_history.proofs.HistoryLemmas.{entries_of-none, cycles_of-more, length-entries_of, entries_of-more, slice_get-entries_of, rows_at-next, entries_of-rows, AllMade-later, AllMade-more, AllMade-at}
+use Rattle.motion_history.specs.Entries.{Entry, call, cycle, end_of, cycle_count, cycles_of, HistoryState}
+use Rattle.motion_history.specs.Stored.{Store, call_entry, entry_of, entries_of, IsMade, IsThere}
+use Rattle.motion_history.specs.Rows.{rows_at}
+use Rattle.motion_history.specs.Kept.{store_of, state_of, IsKept}
+use Rattle.motion_history.proofs.DistinctLemmas.{each-append}
+use Rattle.motion_history.proofs.HistoryLemmas.{Extends, cycles_of-more, length-entries_of, entries_of-none, entries_of-more, entries_of-extends, slice_get-entries_of, rows_at-next, AllMade-later, AllMade-at}
 
 -- so many entries are kept
 pub kept-length : (h : Inside) → length (state_of h).entries ≡ vec_len h.stored
-kept-length h = length-entries_of h.axes h.groups h.axis_rows.items h.group_rows.items h.stored.items ∙ sym h.stored.ok.0
+kept-length h = length-entries_of (store_of h) h.stored.items ∙ sym h.stored.ok.0
 
 -- there is room for an entry
 pub has-room : (h : Inside) (s : HistoryState) → state_of h ≡ s → length s.entries < s.room → vec_len h.stored < h.room
@@ -25,36 +29,187 @@ has-room h s e l =
     let m : h.room ≡ s.room = ap (λ (t : HistoryState). t.room) e in
     omega (arith, kept-length h)
 
--- the entries with one more, of which no rows are kept
-pub entries-push : (h : Inside) (stored : Vec Stored Global) (e : Stored) → stored.items ≡ h.stored.items ++ e ∷ [] →
-    state_of (record h { stored = stored }) ≡
-    record (state_of h) { entries = (state_of h).entries ++ entry_of h.axes h.groups h.axis_rows.items h.group_rows.items e ∷ [] }
-entries-push h stored e items =
-    let p = ap (entries_of h.axes h.groups h.axis_rows.items h.group_rows.items) items ∙
-    entries_of-more h.axes h.groups h.axis_rows.items h.group_rows.items h.stored.items e in
-    λ i. record { axes = h.axes; groups = h.groups; room = h.room; cycles = h.most; entries = p i }
+-- there is a cycle left
+pub has-cycle : (h : Inside) (s : HistoryState) → IsKept h → state_of h ≡ s → cycles_of s.entries < s.cycles → h.made < h.most
+has-cycle h s k e l =
+    let n : cycles_of (state_of h).entries ≡ cycles_of s.entries = ap (λ (t : HistoryState). cycles_of t.entries) e in
+    let m : h.most ≡ s.cycles = ap (λ (t : HistoryState). t.cycles) e in
+    omega (arith, k.cycles)
 
--- an entry that is no cycle keeps the arrays in step
-pub IsKept-push : (h : Inside) (stored : Vec Stored Global) (e : Stored) → IsKept h → vec_len h.stored < h.room →
-    stored.items ≡ h.stored.items ++ e ∷ [] → vec_len stored ≡ vec_len h.stored + 1 → vec_capacity stored ≡ vec_capacity h.stored →
-    IsMade h.made e → cycle_count (entry_of h.axes h.groups h.axis_rows.items h.group_rows.items e) ≡ 0 →
-    IsKept (record h { stored = stored })
-IsKept-push h stored e k room items len capacity made none =
-    let p = ap (entries_of h.axes h.groups h.axis_rows.items h.group_rows.items) items ∙
-    entries_of-more h.axes h.groups h.axis_rows.items h.group_rows.items h.stored.items e in
-    let q = ap cycles_of p ∙ cycles_of-more _ _ in
-    let c : h.made ≡ cycles_of (entries_of h.axes h.groups h.axis_rows.items h.group_rows.items stored.items) = omega (arith, q, none, k.cycles) in
+-- ---- one more entry
+
+-- one more entry, for which the arrays have room, beside what it holds
+pub record AddsEntry (h next : Inside) (e : Stored) : Type 0 where
+  pub extends : Extends (store_of h) (store_of next) (vec_len h.calls) h.made
+  pub entry : next.stored.items ≡ h.stored.items ++ e ∷ []
+  pub entry_len : vec_len next.stored ≡ vec_len h.stored + 1
+  pub made : IsMade (vec_len next.calls) next.made e
+  pub room : next.room ≡ h.room
+  pub most : next.most ≡ h.most
+
+-- the entries with one more
+pub entries-next : (h next : Inside) (e : Stored) → IsKept h → AddsEntry h next e →
+    entries_of (store_of next) next.stored.items ≡ entries_of (store_of h) h.stored.items ++ entry_of (store_of next) e ∷ []
+entries-next h next e k a =
+    ap (entries_of (store_of next)) a.entry ∙ entries_of-more (store_of next) h.stored.items e ∙
+    ap (λ es. es ++ entry_of (store_of next) e ∷ [])
+    (entries_of-extends (store_of h) (store_of next) (vec_len h.calls) h.made h.stored.items a.extends k.numbers)
+
+-- the history with one more entry
+pub state-next : (h next : Inside) (e : Stored) (entry : Entry) → IsKept h → AddsEntry h next e → entry_of (store_of next) e ≡ entry →
+    state_of next ≡ record (state_of h) { entries = (state_of h).entries ++ entry ∷ [] }
+state-next h next e entry k a is =
+    let entries = entries-next h next e k a ∙ ap (λ d. (state_of h).entries ++ d ∷ []) is in
+    λ i. record { axes = a.extends.axes i; groups = a.extends.groups i; room = a.room i; cycles = a.most i; entries = entries i }
+
+-- how the lengths and the room of the arrays grow
+pub record GrowsBy (h next : Inside) (called cycled : ℕ) : Type 0 where
+  pub stored_room : vec_capacity next.stored ≡ vec_capacity h.stored
+  pub calls : vec_len next.calls ≡ vec_len h.calls + called
+  pub few_calls : called ≤ 1
+  pub calls_room : vec_capacity next.calls ≡ vec_capacity h.calls
+  pub axis_rows : vec_len next.axis_rows ≡ vec_len h.axis_rows + cycled * h.axes
+  pub axis_room : vec_capacity h.axis_rows ≤ vec_capacity next.axis_rows
+  pub group_rows : vec_len next.group_rows ≡ vec_len h.group_rows + cycled * h.groups
+  pub group_room : vec_capacity h.group_rows ≤ vec_capacity next.group_rows
+  pub made : next.made ≡ h.made + cycled
+
+next_rows : (made cycles width next rows len : ℕ) → rows ≡ made * width → len ≡ rows + cycles * width → next ≡ made + cycles → len ≡ next * width
+next_rows made cycles width next rows len r l n = rw (l, r, n) (omega arith)
+
+-- one more entry keeps the arrays in step
+pub IsKept-next : (h next : Inside) (e : Stored) (calls cycles : ℕ) → IsKept h → AddsEntry h next e → GrowsBy h next calls cycles →
+    cycle_count (entry_of (store_of next) e) ≡ cycles → vec_len h.stored < h.room → next.made ≤ h.most → IsKept next
+IsKept-next h next e calls cycles k a g counted room made =
+    let entries = ap cycles_of (entries-next h next e k a) ∙ cycles_of-more _ _ in
+    let axes : next.axes ≡ h.axes = a.extends.axes in
+    let groups : next.groups ≡ h.groups = a.extends.groups in
     record {
-      stored = omega arith;
-      stored_room = omega (arith, k.stored_room);
-      axis_rows = k.axis_rows;
-      axis_room = k.axis_room;
-      group_rows = k.group_rows;
-      group_room = k.group_room;
-      made = k.made;
-      cycles = c;
-      numbers = rw items (AllMade-more h.made h.stored.items e k.numbers made);
+      stored = omega (arith, a.entry_len, a.room);
+      stored_room = omega (arith, k.stored_room, g.stored_room, a.room);
+      calls = omega (arith, k.calls, g.calls, g.few_calls, a.entry_len);
+      calls_room = omega (arith, k.calls_room, g.calls_room, a.room);
+      axis_rows = rw axes (next_rows h.made cycles h.axes next.made _ _ k.axis_rows g.axis_rows g.made);
+      axis_room = rw (axes, a.most) (omega (arith, k.axis_room, g.axis_room));
+      group_rows = rw groups (next_rows h.made cycles h.groups next.made _ _ k.group_rows g.group_rows g.made);
+      group_room = rw (groups, a.most) (omega (arith, k.group_room, g.group_room));
+      made = omega (arith, a.most);
+      cycles = omega (arith, entries, counted, k.cycles, g.made);
+      numbers = rw a.entry
+          (each-append _ h.stored.items (e ∷ [])
+          (AllMade-later (vec_len h.calls) h.made (vec_len next.calls) next.made (omega (arith, g.calls)) (omega (arith, g.made)) h.stored.items k.numbers)
+          (a.made, tt));
     }
+
+-- the history that is kept has one more entry
+pub record IsNext (h next : Inside) (entry : Entry) : Type 0 where
+  pub kept : IsKept next
+  pub state : state_of next ≡ record (state_of h) { entries = (state_of h).entries ++ entry ∷ [] }
+
+is_next : (h next : Inside) (e : Stored) (entry : Entry) (calls cycles : ℕ) → IsKept h → AddsEntry h next e → GrowsBy h next calls cycles →
+    entry_of (store_of next) e ≡ entry → cycle_count entry ≡ cycles → vec_len h.stored < h.room → next.made ≤ h.most → IsNext h next entry
+is_next h next e entry calls cycles k a g is counted room made = record {
+  kept = IsKept-next h next e calls cycles k a g (ap cycle_count is ∙ counted) room made;
+  state = state-next h next e entry k a is;
+}
+
+-- the history that contracts see has one more entry
+pub state-then : (h next : Inside) (s : HistoryState) (entry : Entry) → IsNext h next entry → state_of h ≡ s →
+    state_of next ≡ record s { entries = s.entries ++ entry ∷ [] }
+state-then h next s entry n e = n.state ∙ ap (λ (t : HistoryState). record t { entries = t.entries ++ entry ∷ [] }) e
+
+-- as many rows stand there as the cycles have
+rows_len : {X : Type 0} (rows : Vec X Global) (made width : ℕ) → vec_len rows ≡ made * width → length rows.items ≡ made * width
+rows_len rows made width h = sym rows.ok.0 ∙ h
+
+-- a store with more calls alone
+more_calls : (h : Inside) (entries : Vec Stored Global) (calls : Vec CallMade Global) (more : List CallMade) → IsKept h →
+    calls.items ≡ h.calls.items ++ more →
+    Extends (store_of h) (store_of (record h { stored = entries; calls = calls })) (vec_len h.calls) h.made
+more_calls h entries calls more k items = record {
+  axes = refl;
+  groups = refl;
+  new_calls = more;
+  calls = items;
+  few_calls = let l : vec_len h.calls ≡ length h.calls.items = h.calls.ok.0 in omega arith;
+  new_axes = [];
+  axis_rows = sym (append-nil _);
+  all_axes = rows_len h.axis_rows h.made h.axes k.axis_rows;
+  new_groups = [];
+  group_rows = sym (append-nil _);
+  all_groups = rows_len h.group_rows h.made h.groups k.group_rows;
+}
+
+-- what a call adds to the arrays
+pub record AddsCall (h : Inside) (entries : Vec Stored Global) (calls : Vec CallMade Global) (place : ℕ) (c : CallMade) : Type 0 where
+  pub entry : entries.items ≡ h.stored.items ++ stored.Call place ∷ []
+  pub entry_len : vec_len entries ≡ vec_len h.stored + 1
+  pub entry_room : vec_capacity entries ≡ vec_capacity h.stored
+  pub call_items : calls.items ≡ h.calls.items ++ c ∷ []
+  pub call_len : vec_len calls ≡ vec_len h.calls + 1
+  pub call_room : vec_capacity calls ≡ vec_capacity h.calls
+  pub last : place ≡ vec_len h.calls
+
+-- the last element stands behind the others
+slice_get-last : {X : Type 0} (xs : List X) (x : X) → slice_get (xs ++ x ∷ []) (length xs) ≡ Some x
+slice_get-last [] x = refl
+slice_get-last (y ∷ xs) x = slice_get-last xs x
+
+-- the history with one more call
+pub call-next : (h : Inside) (entries : Vec Stored Global) (calls : Vec CallMade Global) (place : ℕ) (c : CallMade) → IsKept h →
+    vec_len h.stored < h.room → AddsCall h entries calls place c →
+    IsNext h (record h { stored = entries; calls = calls }) (call c.instance c.inputs c.reply)
+call-next h entries calls place c k room a =
+    let next : Inside = record h { stored = entries; calls = calls } in
+    let at : slice_get calls.items place ≡ Some c =
+    (λ i. slice_get (a.call_items i) ((a.last ∙ h.calls.ok.0) i)) ∙ slice_get-last h.calls.items c in
+    let adds : AddsEntry h next (stored.Call place) = record {
+      extends = more_calls h entries calls (c ∷ []) k a.call_items;
+      entry = a.entry;
+      entry_len = a.entry_len;
+      made = omega (arith, a.call_len, a.last);
+      room = refl;
+      most = refl;
+    } in
+    let grows : GrowsBy h next 1 0 = record {
+      stored_room = a.entry_room;
+      calls = a.call_len;
+      few_calls = omega arith;
+      calls_room = a.call_room;
+      axis_rows = omega arith;
+      axis_room = omega arith;
+      group_rows = omega arith;
+      group_room = omega arith;
+      made = omega arith;
+    } in
+    is_next h next (stored.Call place) _ 1 0 k adds grows (ap call_entry at) refl room k.made
+
+-- the history with one more end of a task
+pub end-next : (h : Inside) (entries : Vec Stored Global) (task : ℕ) → IsKept h → vec_len h.stored < h.room →
+    entries.items ≡ h.stored.items ++ stored.End task ∷ [] → vec_len entries ≡ vec_len h.stored + 1 →
+    vec_capacity entries ≡ vec_capacity h.stored → IsNext h (record h { stored = entries }) (end_of task)
+end-next h entries task k room items len capacity =
+    let next : Inside = record h { stored = entries } in
+    let adds : AddsEntry h next (stored.End task) = record {
+      extends = more_calls h entries h.calls [] k (sym (append-nil _));
+      entry = items;
+      entry_len = len;
+      made = tt;
+      room = refl;
+      most = refl;
+    } in
+    let grows : GrowsBy h next 0 0 = record {
+      stored_room = capacity;
+      calls = omega arith;
+      few_calls = omega arith;
+      calls_room = refl;
+      axis_rows = omega arith;
+      axis_room = omega arith;
+      group_rows = omega arith;
+      group_room = omega arith;
+      made = omega arith;
+    } in
+    is_next h next (stored.End task) _ 0 0 k adds grows refl refl room k.made
 
 -- what a cycle adds to the arrays
 pub record AddsCycle (h : Inside) (entries : Vec Stored Global) (axis_rows : Vec AxisRow Global) (group_rows : Vec GroupRow Global)
@@ -71,112 +226,129 @@ pub record AddsCycle (h : Inside) (entries : Vec Stored Global) (axis_rows : Vec
   pub group_room : vec_capacity h.group_rows ≤ vec_capacity group_rows
   pub groups : length more_groups ≡ h.groups
 
--- the entries with one more cycle
-entries_of-cycle : (h : Inside) (entries : Vec Stored Global) (axis_rows : Vec AxisRow Global) (group_rows : Vec GroupRow Global)
-    (more_axes : List AxisRow) (more_groups : List GroupRow) → IsKept h → AddsCycle h entries axis_rows group_rows more_axes more_groups →
-    entries_of h.axes h.groups axis_rows.items group_rows.items entries.items ≡
-    (state_of h).entries ++ cycle (h.made + 1) more_axes more_groups ∷ []
-entries_of-cycle h entries axis_rows group_rows more_axes more_groups k a =
-    let la : length h.axis_rows.items ≡ h.made * h.axes = sym h.axis_rows.ok.0 ∙ k.axis_rows in
-    let lg : length h.group_rows.items ≡ h.made * h.groups = sym h.group_rows.ok.0 ∙ k.group_rows in
-    let p = entries_of-more h.axes h.groups (h.axis_rows.items ++ more_axes) (h.group_rows.items ++ more_groups) h.stored.items (stored.Cycle (h.made + 1)) in
-    let q = entries_of-rows h.axes h.groups h.made h.axis_rows.items more_axes h.group_rows.items more_groups h.stored.items k.numbers la lg in
-    let ra = rows_at-next h.axes h.made h.axis_rows.items more_axes la a.axes in
-    let rg = rows_at-next h.groups h.made h.group_rows.items more_groups lg a.groups in
-    rw (a.entry, a.axis_items, a.group_items) (p ∙ (λ i. q i ++ cycle (h.made + 1) (ra i) (rg i) ∷ []))
-
 -- the history with one more cycle
-pub state-cycle : (h : Inside) (entries : Vec Stored Global) (axis_rows : Vec AxisRow Global) (group_rows : Vec GroupRow Global)
-    (more_axes : List AxisRow) (more_groups : List GroupRow) → IsKept h → AddsCycle h entries axis_rows group_rows more_axes more_groups →
-    state_of (record h { stored = entries; axis_rows = axis_rows; group_rows = group_rows; made = h.made + 1 }) ≡
-    record (state_of h) { entries = (state_of h).entries ++ cycle (cycles_of (state_of h).entries + 1) more_axes more_groups ∷ [] }
-state-cycle h entries axis_rows group_rows more_axes more_groups k a =
-    let p = entries_of-cycle h entries axis_rows group_rows more_axes more_groups k a in
-    let q = p ∙ ap (λ n. (state_of h).entries ++ cycle (n + 1) more_axes more_groups ∷ []) k.cycles in
-    λ i. record { axes = h.axes; groups = h.groups; room = h.room; cycles = h.most; entries = q i }
+pub cycle-next : (h : Inside) (entries : Vec Stored Global) (axis_rows : Vec AxisRow Global) (group_rows : Vec GroupRow Global)
+    (more_axes : List AxisRow) (more_groups : List GroupRow) → IsKept h → vec_len h.stored < h.room → h.made < h.most →
+    AddsCycle h entries axis_rows group_rows more_axes more_groups →
+    IsNext h (record h { stored = entries; axis_rows = axis_rows; group_rows = group_rows; made = h.made + 1 })
+    (cycle (cycles_of (state_of h).entries + 1) more_axes more_groups)
+cycle-next h entries axis_rows group_rows more_axes more_groups k room more a =
+    let next : Inside = record h { stored = entries; axis_rows = axis_rows; group_rows = group_rows; made = h.made + 1 } in
+    let axes = rows_len h.axis_rows h.made h.axes k.axis_rows in
+    let groups = rows_len h.group_rows h.made h.groups k.group_rows in
+    let adds : AddsEntry h next (stored.Cycle (h.made + 1)) = record {
+      extends = record {
+        axes = refl;
+        groups = refl;
+        new_calls = [];
+        calls = sym (append-nil _);
+        few_calls = let l : vec_len h.calls ≡ length h.calls.items = h.calls.ok.0 in omega arith;
+        new_axes = more_axes;
+        axis_rows = a.axis_items;
+        all_axes = axes;
+        new_groups = more_groups;
+        group_rows = a.group_items;
+        all_groups = groups;
+      };
+      entry = a.entry;
+      entry_len = a.entry_len;
+      made = (omega arith, omega arith);
+      room = refl;
+      most = refl;
+    } in
+    let grows : GrowsBy h next 0 1 = record {
+      stored_room = a.entry_room;
+      calls = omega arith;
+      few_calls = omega arith;
+      calls_room = refl;
+      axis_rows = omega (arith, a.axis_len, a.axes);
+      axis_room = a.axis_room;
+      group_rows = omega (arith, a.group_len, a.groups);
+      group_room = a.group_room;
+      made = refl;
+    } in
+    let rows = ap (rows_at h.axes (h.made + 1)) a.axis_items ∙ rows_at-next h.axes h.made h.axis_rows.items more_axes axes a.axes in
+    let group_rows_are = ap (rows_at h.groups (h.made + 1)) a.group_items ∙ rows_at-next h.groups h.made h.group_rows.items more_groups groups a.groups in
+    is_next h next (stored.Cycle (h.made + 1)) _ 0 1 k adds grows (λ i. cycle (k.cycles i + 1) (rows i) (group_rows_are i)) refl room (omega arith)
 
-next_rows : (made width rows len more : ℕ) → rows ≡ made * width → len ≡ rows + more → more ≡ width → len ≡ (made + 1) * width
-next_rows made width rows len more r l m = omega arith
+-- ---- looks
 
--- a cycle keeps the arrays in step
-pub IsKept-cycle : (h : Inside) (entries : Vec Stored Global) (axis_rows : Vec AxisRow Global) (group_rows : Vec GroupRow Global)
-    (more_axes : List AxisRow) (more_groups : List GroupRow) → IsKept h → AddsCycle h entries axis_rows group_rows more_axes more_groups →
-    vec_len h.stored < h.room → h.made < h.most →
-    IsKept (record h { stored = entries; axis_rows = axis_rows; group_rows = group_rows; made = h.made + 1 })
-IsKept-cycle h entries axis_rows group_rows more_axes more_groups k a room more =
-    let p = entries_of-cycle h entries axis_rows group_rows more_axes more_groups k a in
-    let q = ap cycles_of p ∙ cycles_of-more _ _ in
-    let n : AllByRecursion (IsMade (h.made + 1)) (h.stored.items ++ stored.Cycle (h.made + 1) ∷ []) =
-    AllMade-more (h.made + 1) h.stored.items (stored.Cycle (h.made + 1)) (AllMade-later h.made h.stored.items k.numbers) (omega arith, omega arith) in
-    record {
-      stored = omega (arith, a.entry_len);
-      stored_room = omega (arith, k.stored_room, a.entry_room);
-      axis_rows = next_rows h.made h.axes _ _ _ k.axis_rows a.axis_len a.axes;
-      axis_room = omega (arith, k.axis_room, a.axis_room);
-      group_rows = next_rows h.made h.groups _ _ _ k.group_rows a.group_len a.groups;
-      group_room = omega (arith, k.group_room, a.group_room);
-      made = omega arith;
-      cycles = omega (arith, q, k.cycles);
-      numbers = rw a.entry n;
-    }
-
--- there is a cycle left
-pub has-cycle : (h : Inside) (s : HistoryState) → IsKept h → state_of h ≡ s → cycles_of s.entries < s.cycles → h.made < h.most
-has-cycle h s k e l =
-    let n : cycles_of (state_of h).entries ≡ cycles_of s.entries = ap (λ (t : HistoryState). cycles_of t.entries) e in
-    let m : h.most ≡ s.cycles = ap (λ (t : HistoryState). t.cycles) e in
-    omega (arith, k.cycles)
-
--- an entry that was made has its rows
-HasRows-made : (h : Inside) (e : Stored) → IsKept h → IsMade h.made e → HasRows h.axes h.groups h.axis_rows.items h.group_rows.items e
-HasRows-made h (stored.Call k i r) kept m = tt
-HasRows-made h (stored.Cycle n) kept m =
+-- an entry that was made has what it holds
+IsThere-made : (h : Inside) (e : Stored) → IsKept h → IsMade (vec_len h.calls) h.made e → IsThere (store_of h) e
+IsThere-made h (stored.Call place) kept m = let l : vec_len h.calls ≡ length h.calls.items = h.calls.ok.0 in omega arith
+IsThere-made h (stored.Cycle n) kept m =
     let a : n * h.axes ≤ h.made * h.axes = mul-le-mul_right h.axes m.1 in
     let g : n * h.groups ≤ h.made * h.groups = mul-le-mul_right h.groups m.1 in
     let la : length h.axis_rows.items ≡ h.made * h.axes = sym h.axis_rows.ok.0 ∙ kept.axis_rows in
     let lg : length h.group_rows.items ≡ h.made * h.groups = sym h.group_rows.ok.0 ∙ kept.group_rows in
     (m.0, omega arith, omega arith)
-HasRows-made h (stored.End task) kept m = tt
+IsThere-made h (stored.End task) kept m = tt
 
--- the entry that is kept at a place has its rows
-pub HasRows-at : (h : Inside) (place : ℕ) (e : Stored) → IsKept h → slice_get h.stored.items place ≡ Some e →
-    HasRows h.axes h.groups h.axis_rows.items h.group_rows.items e
-HasRows-at h place e kept at = HasRows-made h e kept (AllMade-at h.made h.stored.items place e kept.numbers at)
+-- what is found at a place of the array
+pub record IsFound (h : Inside) (place : ℕ) (e : Stored) : Type 0 where
+  pub items : List Stored
+  pub same : items ≡ h.stored.items
+  pub found : Option Stored
+  pub at : found ≡ slice_get items place
+  pub inner : Stored
+  pub some : found ≡ Some inner
+  pub is : inner ≡ e
 
--- the entry at a place, of the history that is kept so
-pub entry-at : (h : Inside) (s : HistoryState) (place : ℕ) → state_of h ≡ s →
-    slice_get s.entries place ≡ option_map (entry_of h.axes h.groups h.axis_rows.items h.group_rows.items) (slice_get h.stored.items place)
-entry-at h s place e =
-    ap (λ (t : HistoryState). slice_get t.entries place) (sym e) ∙
-    slice_get-entries_of h.axes h.groups h.axis_rows.items h.group_rows.items h.stored.items place
+-- the entry that is kept at a place has what it holds
+pub IsThere-found : (h : Inside) (place : ℕ) (e : Stored) → IsKept h → IsFound h place e → IsThere (store_of h) e
+IsThere-found h place e kept f =
+    IsThere-made h e kept (AllMade-at (vec_len h.calls) h.made h.stored.items place e kept.numbers
+    ((λ i. slice_get (sym f.same i) place) ∙ sym f.at ∙ f.some ∙ ap Some f.is))
 
 -- what is found at a place of the array tells the entry at this place of the history
-pub entry-found : (h : Inside) (s : HistoryState) (place : ℕ) (es : List Stored) (o : Option Stored) → state_of h ≡ s →
-    es ≡ h.stored.items → o ≡ slice_get es place →
-    option_map (entry_of h.axes h.groups h.axis_rows.items h.group_rows.items) o ≡ slice_get s.entries place
-entry-found h s place es o e same found =
-    ap (option_map (entry_of h.axes h.groups h.axis_rows.items h.group_rows.items)) (found ∙ ap (λ xs. slice_get xs place) same) ∙
-    sym (entry-at h s place e)
+pub entry-at : (h : Inside) (s : HistoryState) (place : ℕ) (es : List Stored) (o : Option Stored) → state_of h ≡ s →
+    es ≡ h.stored.items → o ≡ slice_get es place → option_map (entry_of (store_of h)) o ≡ slice_get s.entries place
+entry-at h s place es o e same found =
+    ap (option_map (entry_of (store_of h))) (found ∙ ap (λ xs. slice_get xs place) same) ∙
+    sym (ap (λ (t : HistoryState). slice_get t.entries place) (sym e) ∙ slice_get-entries_of (store_of h) h.stored.items place)
+
+-- what is found at a place of the array is the entry at this place of the history
+pub entry-found : (h : Inside) (s : HistoryState) (place : ℕ) (e : Stored) → state_of h ≡ s → IsFound h place e →
+    Some (entry_of (store_of h) e) ≡ slice_get s.entries place
+entry-found h s place e same f = entry-at h s place f.items (Some e) same f.same (sym (f.some ∙ ap Some f.is) ∙ f.at)
+
+-- ---- opening
 
 -- the history of no entries
 pub state-open : (h : Inside) → h.stored.items ≡ [] → (state_of h).entries ≡ []
-state-open h s = ap (entries_of h.axes h.groups h.axis_rows.items h.group_rows.items) s ∙ entries_of-none h.axes h.groups h.axis_rows.items h.group_rows.items
+state-open h s = ap (entries_of (store_of h)) s ∙ entries_of-none (store_of h)
 
--- nothing is kept at opening, and all arrays have their room
-pub IsKept-open : (h : Inside) → h.stored.items ≡ [] → h.axis_rows.items ≡ [] → h.group_rows.items ≡ [] → h.made ≡ 0 →
-    h.room ≤ vec_capacity h.stored → h.most * h.axes ≤ vec_capacity h.axis_rows → h.most * h.groups ≤ vec_capacity h.group_rows → IsKept h
-IsKept-open h s a g made rs ra rg =
-    let ls : vec_len h.stored ≡ 0 = h.stored.ok.0 ∙ ap length s in
-    let la : vec_len h.axis_rows ≡ 0 = h.axis_rows.ok.0 ∙ ap length a in
-    let lg : vec_len h.group_rows ≡ 0 = h.group_rows.ok.0 ∙ ap length g in
+-- nothing is kept at opening
+pub record IsEmpty (h : Inside) : Type 0 where
+  pub stored : h.stored.items ≡ []
+  pub calls : h.calls.items ≡ []
+  pub axis_rows : h.axis_rows.items ≡ []
+  pub group_rows : h.group_rows.items ≡ []
+  pub made : h.made ≡ 0
+
+-- the arrays have room for all that may come
+pub record HasRoom (h : Inside) : Type 0 where
+  pub stored : h.room ≤ vec_capacity h.stored
+  pub calls : h.room ≤ vec_capacity h.calls
+  pub axis_rows : h.most * h.axes ≤ vec_capacity h.axis_rows
+  pub group_rows : h.most * h.groups ≤ vec_capacity h.group_rows
+
+pub IsKept-open : (h : Inside) → IsEmpty h → HasRoom h → IsKept h
+IsKept-open h e r =
+    let ls : vec_len h.stored ≡ 0 = h.stored.ok.0 ∙ ap length e.stored in
+    let lc : vec_len h.calls ≡ 0 = h.calls.ok.0 ∙ ap length e.calls in
+    let la : vec_len h.axis_rows ≡ 0 = h.axis_rows.ok.0 ∙ ap length e.axis_rows in
+    let lg : vec_len h.group_rows ≡ 0 = h.group_rows.ok.0 ∙ ap length e.group_rows in
     record {
       stored = omega arith;
-      stored_room = rs;
-      axis_rows = rw made (omega arith);
-      axis_room = ra;
-      group_rows = rw made (omega arith);
-      group_room = rg;
-      made = omega arith;
-      cycles = made ∙ ap cycles_of (sym (state-open h s));
-      numbers = rw s tt;
+      stored_room = r.stored;
+      calls = omega arith;
+      calls_room = r.calls;
+      axis_rows = rw e.made (omega arith);
+      axis_room = r.axis_rows;
+      group_rows = rw e.made (omega arith);
+      group_room = r.group_rows;
+      made = omega (arith, e.made);
+      cycles = e.made ∙ ap cycles_of (sym (state-open h e.stored));
+      numbers = rw e.stored tt;
     }

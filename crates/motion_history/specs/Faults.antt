@@ -1,58 +1,108 @@
--- When an item of a configuration is refused, and why.
-use Rattle.std.specs.Prelude.{◌≡◌, ℕ, ℤ, Bool, ◌||◌, ◌&&◌, not, nat_le, if◌then◌else◌, Option, Some, None, Result, Err, IsOkUnless, List, length}
-use Rattle.std.specs.List.{list_any}
+-- When an item of a configuration is refused, and why. This project's profile.
+use Rattle.std.specs.Prelude.{◌≡◌, ◌≤◌, ℕ, ℤ, Bool, true, ◌||◌, ◌&&◌, not, nat_eq, nat_le, nat_lt, if◌then◌else◌, Option, Some, None, Result, Err, IsOkUnless, List, [], ◌∷◌, length}
+use Rattle.std.specs.List.{list_all, list_any}
 use Rattle.std.specs.Str.{bytes_eq}
 use Rattle.kin_core.specs.declared.limits.Limits.{Limits}
 use Rattle.axis_state.specs.Names.{is_name}
+use Rattle.cam_table.specs.CamFault.{IsFault}
+use Rattle.cam_table.specs.CamTable.{IsCamTable}
 use Rattle.command_pool.specs.declared.kind.BlockKind.{BlockKind}
-use Rattle.motion_history.specs.declared.builder.ConfigFault.{ConfigFault}
-use Rattle.motion_history.specs.declared.builder.ConfigFault.TheVariants.{BadName, NameUsed, NameUnknown, OutOfRange, TooMany, TooFew, OutOfMemory}
-use Rattle.motion_history.specs.Setup.{Setup}
+use Rattle.motion_history.specs.declared.sizes.TheConstants.{MOST_AXES, MOST_GROUPS, MOST_MEMBERS, MOST_TABLES, MOST_TASKS, MOST_BLOCKS, MOST_CYCLES, MOST_ENTRIES}
+use Rattle.motion_history.specs.declared.config.GroupDef.{GroupDef}
+use Rattle.motion_history.specs.declared.fault.ConfigFault.{ConfigFault}
+use Rattle.motion_history.specs.declared.fault.ConfigFault.TheVariants.{BadName, NameUsed, NameUnknown, OutOfRange, Table, TooMany, TooFew, OutOfMemory}
+use Rattle.motion_history.specs.Members.{members_of}
 use Rattle.motion_history.specs.Ranges.{is_axis_range, has_block}
+use Rattle.motion_history.specs.Setup.{Setup, names_of}
 
--- whether an axis, a group, a task or a block has this name. This project's profile
+-- whether an axis, a group, a task or a block has this name
 unfoldable pub is_used : Setup → List ℕ → Bool
-is_used s name =
-    list_any (λ d. bytes_eq d.name name) s.axes || list_any (λ d. bytes_eq d.name name) s.groups ||
-    list_any (λ n. bytes_eq n name) s.tasks || list_any (λ d. bytes_eq d.name name) s.blocks
+is_used s name = list_any (λ n. bytes_eq n name) (names_of s)
 
--- why the room is refused. This project's profile
+-- why the room is refused
 abbrev pub room_fault : ℕ → ℕ → Option ConfigFault
 room_fault cycles entries =
-    if nat_le 1 cycles && nat_le cycles 200000 && nat_le 1 entries && nat_le entries 1000000 then None else Some OutOfRange
+    if nat_le 1 cycles && nat_le cycles MOST_CYCLES &&
+    nat_le 1 entries && nat_le entries MOST_ENTRIES
+    then None else Some OutOfRange
 
--- why a name is refused: it is none, or it is used. This project's profile
+-- why a name is refused: it is none, or it is used
 abbrev pub name_fault : Setup → List ℕ → Option ConfigFault
-name_fault s name = if not (is_name name) then Some BadName else if is_used s name then Some NameUsed else None
+name_fault s name =
+    if not (is_name name) then Some BadName else if is_used s name then Some NameUsed else None
 
 -- the first of two reasons that there is
 abbrev pub first_fault : Option ConfigFault → Option ConfigFault → Option ConfigFault
 first_fault (Some f) later = Some f
 first_fault None later = later
 
--- why an axis is refused. This project's profile
+-- why an axis is refused
 unfoldable pub axis_fault : Setup → List ℕ → Limits → ℤ → ℤ → Option ConfigFault
 axis_fault s name limits inc start =
     first_fault (name_fault s name)
     (if not (is_axis_range limits inc start) then Some OutOfRange
-    else if nat_le 16 (length s.axes) then Some TooMany else None)
+    else if nat_le MOST_AXES (length s.axes) then Some TooMany else None)
 
--- why a task is refused. This project's profile
+-- whether an axis is in a group
+abbrev pub is_member : List GroupDef → ℕ → Bool
+is_member groups axis = list_any (λ d. list_any (nat_eq axis) (members_of d)) groups
+
+-- whether no number comes twice
+abbrev pub are_distinct : List ℕ → Bool
+are_distinct [] = true
+are_distinct (n ∷ more) = not (list_any (nat_eq n) more) && are_distinct more
+
+-- whether axes are there, are in no group, and none comes twice
+abbrev pub are_free : ℕ → List GroupDef → List ℕ → Bool
+are_free axes groups new =
+    list_all (λ axis. nat_lt axis axes && not (is_member groups axis)) new && are_distinct new
+
+-- why a group is refused
+unfoldable pub group_fault : Setup → List ℕ → List ℕ → Option ConfigFault
+group_fault s name axes =
+    first_fault (name_fault s name)
+    (if not (are_free (length s.axes) s.groups axes) then Some NameUnknown
+    else if nat_le MOST_GROUPS (length s.groups) || nat_lt MOST_MEMBERS (length axes)
+    then Some TooMany
+    else if nat_lt (length axes) 2 then Some TooFew else None)
+
+-- why the points of one more table beside so many are refused: they make none, or there are as many
+-- tables as there may be
+abbrev pub IsPointsFault : ℕ → List (ℤ × ℤ) → ConfigFault → Type 0
+IsPointsFault tables points (Table fault) = IsFault points fault
+IsPointsFault tables points TooMany = IsCamTable points × (MOST_TABLES ≤ tables)
+IsPointsFault tables points BadName = ⊥
+IsPointsFault tables points NameUsed = ⊥
+IsPointsFault tables points NameUnknown = ⊥
+IsPointsFault tables points OutOfRange = ⊥
+IsPointsFault tables points TooFew = ⊥
+IsPointsFault tables points OutOfMemory = ⊥
+
+-- why a table is refused
+abbrev pub IsTableFault : Setup → List (ℤ × ℤ) → ConfigFault → Type 0
+IsTableFault s points fault = IsPointsFault (length s.tables) points fault
+
+-- why a task is refused
 unfoldable pub task_fault : Setup → List ℕ → Option ConfigFault
-task_fault s name = first_fault (name_fault s name) (if nat_le 8 (length s.tasks) then Some TooMany else None)
+task_fault s name =
+    first_fault (name_fault s name)
+    (if nat_le MOST_TASKS (length s.tasks) then Some TooMany else None)
 
--- why a block is refused. This project's profile
+-- why a block is refused
 unfoldable pub block_fault : Setup → List ℕ → ℕ → BlockKind → ℕ → Option ConfigFault
 block_fault s name task kind object =
     first_fault (name_fault s name)
-    (if not (has_block (length s.tasks) (length s.axes) (length s.groups) task kind object) then Some NameUnknown
-    else if nat_le 256 (length s.blocks) then Some TooMany else None)
+    (if not (has_block (length s.tasks) (length s.axes) (length s.groups) task kind object)
+    then Some NameUnknown
+    else if nat_le MOST_BLOCKS (length s.blocks) then Some TooMany else None)
 
--- why a configuration is refused as a whole: it has no axis, no task or no block. This project's profile
+-- why a configuration is refused as a whole: it has no axis, no task or no block
 abbrev pub whole_fault : Setup → Option ConfigFault
-whole_fault s = if nat_le 1 (length s.axes) && nat_le 1 (length s.tasks) && nat_le 1 (length s.blocks) then None else Some TooFew
+whole_fault s =
+    if nat_le 1 (length s.axes) && nat_le 1 (length s.tasks) && nat_le 1 (length s.blocks)
+    then None else Some TooFew
 
--- a call answers the fault where there is one, and else is Ok unless memory ran out. This project's profile
+-- a call answers the fault where there is one, and else is Ok unless memory ran out
 abbrev pub FaultsBy : {A : Type 0} → Option ConfigFault → Result A ConfigFault → Type 0
 FaultsBy (Some f) r = r ≡ Err f
 FaultsBy None r = IsOkUnless r OutOfMemory

@@ -1,9 +1,20 @@
--- How a history is kept: the entries in one array, the rows of all cycles in two others.
+-- How a history is kept: the entries in one array, the calls and the rows of all cycles in three
+-- others.
 use Rattle.std.specs.Prelude.{◌≡◌, ◌≤◌, ◌*◌, vec_len, vec_capacity}
 use Rattle.std.specs.List.{AllByRecursion}
 use Rattle.motion_history.specs.declared.history.History.TheInside.{Inside}
 use Rattle.motion_history.specs.Entries.{cycles_of, HistoryState}
-use Rattle.motion_history.specs.Stored.{entries_of, IsMade}
+use Rattle.motion_history.specs.Stored.{Store, entries_of, IsMade}
+
+-- what stands beside the entries
+abbrev pub store_of : Inside → Store
+store_of h = record {
+  axes = h.axes;
+  groups = h.groups;
+  calls = h.calls.items;
+  axis_rows = h.axis_rows.items;
+  group_rows = h.group_rows.items;
+}
 
 -- the history that is kept so
 abbrev pub state_of : Inside → HistoryState
@@ -12,17 +23,19 @@ state_of h = record {
   groups = h.groups;
   room = h.room;
   cycles = h.most;
-  entries = entries_of h.axes h.groups h.axis_rows.items h.group_rows.items h.stored.items;
+  entries = entries_of (store_of h) h.stored.items;
 }
 
--- the arrays have room for all that may come, and the rows of each cycle that was made
+-- the arrays have room for all that may come, and hold what the entries do
 pub record IsKept (h : Inside) : Type 0 where
   pub stored : vec_len h.stored ≤ h.room
   pub stored_room : h.room ≤ vec_capacity h.stored
+  pub calls : vec_len h.calls ≤ vec_len h.stored
+  pub calls_room : h.room ≤ vec_capacity h.calls
   pub axis_rows : vec_len h.axis_rows ≡ h.made * h.axes
   pub axis_room : h.most * h.axes ≤ vec_capacity h.axis_rows
   pub group_rows : vec_len h.group_rows ≡ h.made * h.groups
   pub group_room : h.most * h.groups ≤ vec_capacity h.group_rows
   pub made : h.made ≤ h.most
-  pub cycles : h.made ≡ cycles_of (entries_of h.axes h.groups h.axis_rows.items h.group_rows.items h.stored.items)
-  pub numbers : AllByRecursion (IsMade h.made) h.stored.items
+  pub cycles : h.made ≡ cycles_of (entries_of (store_of h) h.stored.items)
+  pub numbers : AllByRecursion (IsMade (vec_len h.calls) h.made) h.stored.items

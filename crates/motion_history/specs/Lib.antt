@@ -1,3 +1,4 @@
+pub mod Members
 pub mod Setup
 pub mod Items
 pub mod Ranges
@@ -7,6 +8,8 @@ pub mod Looks
 pub mod Rows
 pub mod Stored
 pub mod Kept
+pub mod Calls
 pub mod Ready
 pub mod AxisRanges
+pub mod Configurations
 pub mod Columns

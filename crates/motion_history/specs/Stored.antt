@@ -1,31 +1,47 @@
--- Entries that are kept without the rows of their cycles.
-use Rattle.std.specs.Prelude.{ℕ, ◌≤◌, ◌*◌, List, length, map}
+-- Entries that are kept without what they hold: the calls stand in one array, the rows of all
+-- cycles in two others.
+use Rattle.std.specs.Prelude.{ℕ, ◌<◌, ◌≤◌, ◌*◌, List, Option, Some, None, length, map, slice_get}
 use Rattle.axis_state.specs.declared.definition.AxisRow.{AxisRow}
 use Rattle.group_state.specs.declared.state.GroupRow.{GroupRow}
+use Rattle.motion_history.specs.declared.history.CallMade.{CallMade}
 use Rattle.motion_history.specs.declared.history.Stored.{Stored}
 use Rattle.motion_history.specs.declared.history.Stored.TheVariants as stored
 use Rattle.motion_history.specs.Entries.{Entry, call, cycle, end_of}
 use Rattle.motion_history.specs.Rows.{rows_at}
 
+-- what stands beside the entries: how many rows a cycle has, the calls, and the rows of all cycles
+pub record Store : Type 0 where
+  pub axes : ℕ
+  pub groups : ℕ
+  pub calls : List CallMade
+  pub axis_rows : List AxisRow
+  pub group_rows : List GroupRow
+
+-- the entry of a call; where there is none, one that no history has
+abbrev pub call_entry : Option CallMade → Entry
+call_entry None = end_of 256
+call_entry (Some c) = call c.instance c.inputs c.reply
+
 -- the entry that is kept so
-abbrev pub entry_of : ℕ → ℕ → List AxisRow → List GroupRow → Stored → Entry
-entry_of axes groups axis_rows group_rows (stored.Call k inputs reply) = call k inputs reply
-entry_of axes groups axis_rows group_rows (stored.Cycle n) = cycle n (rows_at axes n axis_rows) (rows_at groups n group_rows)
-entry_of axes groups axis_rows group_rows (stored.End task) = end_of task
+abbrev pub entry_of : Store → Stored → Entry
+entry_of s (stored.Call place) = call_entry (slice_get s.calls place)
+entry_of s (stored.Cycle n) =
+    cycle n (rows_at s.axes n s.axis_rows) (rows_at s.groups n s.group_rows)
+entry_of s (stored.End task) = end_of task
 
 -- the entries that are kept so
-unfoldable pub entries_of : ℕ → ℕ → List AxisRow → List GroupRow → List Stored → List Entry
-entries_of axes groups axis_rows group_rows es = map (entry_of axes groups axis_rows group_rows) es
+unfoldable pub entries_of : Store → List Stored → List Entry
+entries_of s es = map (entry_of s) es
 
--- a cycle that is kept is one of those that were made
-abbrev pub IsMade : ℕ → Stored → Type 0
-IsMade made (stored.Call k inputs reply) = Unit {0}
-IsMade made (stored.Cycle n) = (1 ≤ n) × (n ≤ made)
-IsMade made (stored.End task) = Unit {0}
+-- a call or a cycle that is kept is one of those that were made
+abbrev pub IsMade : ℕ → ℕ → Stored → Type 0
+IsMade calls cycles (stored.Call place) = place < calls
+IsMade calls cycles (stored.Cycle n) = (1 ≤ n) × (n ≤ cycles)
+IsMade calls cycles (stored.End task) = Unit {0}
 
--- the rows of an entry that is kept are there
-abbrev pub HasRows : ℕ → ℕ → List AxisRow → List GroupRow → Stored → Type 0
-HasRows axes groups axis_rows group_rows (stored.Call k inputs reply) = Unit {0}
-HasRows axes groups axis_rows group_rows (stored.Cycle n) =
-    (1 ≤ n) × (n * axes ≤ length axis_rows) × (n * groups ≤ length group_rows)
-HasRows axes groups axis_rows group_rows (stored.End task) = Unit {0}
+-- what an entry holds is there
+abbrev pub IsThere : Store → Stored → Type 0
+IsThere s (stored.Call place) = place < length s.calls
+IsThere s (stored.Cycle n) =
+    (1 ≤ n) × (n * s.axes ≤ length s.axis_rows) × (n * s.groups ≤ length s.group_rows)
+IsThere s (stored.End task) = Unit {0}

@@ -1,49 +1,24 @@
 // Making a configuration item by item.
 
-ghost use Rattle.std.specs.Prelude.{◌≡◌, ◌↔◌, if◌then◌else◌, Some, Err, pos, ◌+◌, ◌++◌, ◌∷◌, [], IfOk, IfErr, OnErr, OnOk, None, length, IsTrue};
+ghost use Rattle.std.specs.Prelude.{◌≡◌, ◌↔◌, ◌≢◌, if◌then◌else◌, Some, Err, ◌+◌, ◌++◌, ◌∷◌, [], IfOk, IfErr, OnErr, OnOk, None, length};
 ghost use Rattle.motion_history.specs.Setup.{Setup, IsWithin};
 ghost use Rattle.motion_history.specs.Items.{setup_of};
-ghost use Rattle.std.specs.List.{list_any};
-ghost use Rattle.std.specs.Str.{bytes_eq};
-ghost use Rattle.motion_history.specs.Ranges as ranges;
 ghost use Rattle.motion_history.specs.Faults as faults;
-ghost use Rattle.motion_history.specs.Faults.{FaultsBy};
+ghost use Rattle.motion_history.specs.Faults.{FaultsBy, IsTableFault};
+ghost use Rattle.motion_history.specs.Members as members;
 
+use crate::axes::axis_fault;
+use crate::blocks::{block_fault, task_fault};
 use crate::config::{BlockDef, Config, GroupDef, Items};
-use axis_state::{AxisDef, Limits, Name, is_name};
+use crate::fault::ConfigFault;
+use crate::groups::{group_fault, group_of};
+use crate::sizes::{MOST_CYCLES, MOST_ENTRIES};
+use crate::tables::new_table;
+use axis_state::{AxisDef, Limits, Name};
+use cam_table::CamTable;
 use command_pool::BlockKind;
-use motion_numbers::MOST_INCREMENT;
-use std::alloc::{AllocFailed, Global};
+use std::alloc::Global;
 use std::marker::Model;
-
-/// Why an item of a configuration is refused. The reasons are tested in this order.
-#[derive(Clone, Copy, Debug, PartialEq, Eq)]
-pub enum ConfigFault {
-    /// The bytes are no name.
-    BadName,
-    /// An axis, a group, a task or a block has the name.
-    NameUsed,
-    /// A task, an axis or a group with that number isn't there.
-    NameUnknown,
-    /// A number is outside its range.
-    OutOfRange,
-    /// There are as many of the kind as there may be.
-    TooMany,
-    /// The configuration has no axis, no task or no block.
-    TooFew,
-    OutOfMemory,
-}
-
-impl<T: Drop> From<AllocFailed<T>> for ConfigFault {
-    ghost use Rattle.std.specs.Prelude.{◌≡◌};
-    ghost use Rattle.motion_history.specs.declared.builder.ConfigFault.TheVariants.{OutOfMemory};
-
-    ghost from_gives = { λ _ e. e ≡ OutOfMemory };
-
-    fn from(_e: AllocFailed<T>) -> ConfigFault {
-        ConfigFault::OutOfMemory
-    }
-}
 
 /// A configuration in the making. Contracts see it as the `Setup` that it has so far.
 #[derive(Drop)]
@@ -69,6 +44,7 @@ impl Builder {
         ensures ok { IfOk result (λ b. b ≡ record {
           axes = [];
           groups = [];
+          tables = [];
           tasks = [];
           blocks = [];
           cycles = cycles;
@@ -83,6 +59,7 @@ impl Builder {
             items: Items {
                 axes: Vec::new(alloc),
                 groups: Vec::new(alloc),
+                tables: Vec::new(alloc),
                 tasks: Vec::new(alloc),
                 blocks: Vec::new(alloc),
                 cycles,
@@ -127,10 +104,47 @@ impl Builder {
         Ok(number)
     }
 
+    /// Adds a group of axes and answers its number.
+    pub fn group(&mut self, name: &[u8], axes: &[u8]) -> Result<u8, ConfigFault>
+        ensures number { IfOk result (λ n. n ≡ length self.old.groups) }
+        ensures ok { OnOk result (self.new ≡ record self.old {
+          groups = self.old.groups ++ members.group_of name.now axes.now ∷ [];
+        }) }
+        ensures faults { FaultsBy (faults.group_fault self.old name.now axes.now) result }
+        ensures unchanged { OnErr result (self.new ≡ self.old) }
+    {
+        if let Some(fault) = group_fault(&self.items, name, axes) {
+            return Err(fault);
+        }
+        let number = self.items.groups.len() as u8;
+        self.items.groups.push(group_of(name, axes))?;
+        Ok(number)
+    }
+
+    /// Adds a cam table and answers its number, counted from 1.
+    pub fn table(&mut self, alloc: Global, points: &[(i64, i64)]) -> Result<u16, ConfigFault>
+        ensures number { IfOk result (λ n. n ≡ length self.new.tables) }
+        ensures ok { OnOk result (self.new ≡ record self.old {
+          tables = self.old.tables ++ points.now ∷ [];
+        }) }
+        ensures faults { (fault : ConfigFault) → fault ≢ ConfigFault.OutOfMemory →
+            (result ≡ Err fault) ↔ IsTableFault self.old points.now fault }
+        ensures unchanged { OnErr result (self.new ≡ self.old) }
+    {
+        let table = match new_table(alloc, points, self.items.tables.len()) {
+            Ok(table) => table,
+            Err(fault) => return Err(fault),
+        };
+        self.items.tables.push(table)?;
+        Ok(self.items.tables.len() as u16)
+    }
+
     /// Adds a task and answers its number.
     pub fn task(&mut self, name: &[u8]) -> Result<u8, ConfigFault>
         ensures number { IfOk result (λ n. n ≡ length self.old.tasks) }
-        ensures ok { OnOk result (self.new ≡ record self.old { tasks = self.old.tasks ++ name.now ∷ [] }) }
+        ensures ok { OnOk result (self.new ≡ record self.old {
+          tasks = self.old.tasks ++ name.now ∷ [];
+        }) }
         ensures faults { FaultsBy (faults.task_fault self.old name.now) result }
         ensures unchanged { OnErr result (self.new ≡ self.old) }
     {
@@ -178,7 +192,8 @@ impl Builder {
     /// The whole configuration. Where it is refused, the Builder is given up.
     pub fn finish(self) -> Result<Config, ConfigFault>
         ensures ok { IfOk result (λ c. c ≡ self) }
-        ensures faults { result ≡ Err ConfigFault.TooFew ↔ (faults.whole_fault self ≡ Some ConfigFault.TooFew) }
+        ensures faults { (result ≡ Err ConfigFault.TooFew) ↔
+            (faults.whole_fault self ≡ Some ConfigFault.TooFew) }
         ensures only { IfErr result (λ e. e ≡ ConfigFault.TooFew) }
     {
         let Builder { items } = self;
@@ -201,6 +216,13 @@ impl Builder {
         ensures { result.now ≡ self.now.groups }
     {
         self.items.groups.as_slice()
+    }
+
+    /// The cam tables so far.
+    pub fn tables(&self) -> &[CamTable]
+        ensures { result.now ≡ self.now.tables }
+    {
+        self.items.tables.as_slice()
     }
 
     /// The names of the tasks so far.
@@ -234,200 +256,16 @@ impl Builder {
 
 // Whether a history may have this room.
 fn is_room(cycles: u32, entries: u32) -> bool
-    ensures { faults.room_fault cycles entries ≡ (if result then None else Some ConfigFault.OutOfRange) }
+    ensures { faults.room_fault cycles entries ≡
+        (if result then None else Some ConfigFault.OutOfRange) }
 {
-    1 <= cycles && cycles <= 200_000 && 1 <= entries && entries <= 1_000_000
+    1 <= cycles && cycles <= MOST_CYCLES && 1 <= entries && entries <= MOST_ENTRIES
 }
 
 // Whether there is an axis, a task and a block.
 fn is_whole(items: &Items) -> bool
-    ensures { faults.whole_fault (setup_of items.now) ≡ (if result then None else Some ConfigFault.TooFew) }
+    ensures { faults.whole_fault (setup_of items.now) ≡
+        (if result then None else Some ConfigFault.TooFew) }
 {
     1 <= items.axes.len() && 1 <= items.tasks.len() && 1 <= items.blocks.len()
-}
-
-// Whether two names are the same.
-fn is_same(name: &Name, bytes: &[u8]) -> bool
-    ensures { result ≡ bytes_eq name.now bytes.now }
-{
-    name.bytes() == bytes
-}
-
-// Whether an item has the name.
-#[tactic(auto, unfolding(crate::specs::Faults::is_used))]
-fn is_used(items: &Items, name: &[u8]) -> bool
-    ensures { result ≡ faults.is_used (setup_of items.now) name.now }
-{
-    is_axis(items.axes.as_slice(), name)
-        || is_group(items.groups.as_slice(), name)
-        || is_task(items.tasks.as_slice(), name)
-        || is_block(items.blocks.as_slice(), name)
-}
-
-// Whether an axis has the name.
-fn is_axis(axes: &[AxisDef], name: &[u8]) -> bool
-    ensures { result ≡ list_any (λ d. bytes_eq d.name name.now) axes.now }
-{
-    axes.iter().any(|d| is_same(&d.name, name))
-}
-
-// Whether a group has the name.
-fn is_group(groups: &[GroupDef], name: &[u8]) -> bool
-    ensures { result ≡ list_any (λ d. bytes_eq d.name name.now) groups.now }
-{
-    groups.iter().any(|d| is_same(&d.name, name))
-}
-
-// Whether a task has the name.
-fn is_task(tasks: &[Name], name: &[u8]) -> bool
-    ensures { result ≡ list_any (λ n. bytes_eq n name.now) tasks.now }
-{
-    tasks.iter().any(|n| is_same(n, name))
-}
-
-// Whether a block has the name.
-fn is_block(blocks: &[BlockDef], name: &[u8]) -> bool
-    ensures { result ≡ list_any (λ d. bytes_eq d.name name.now) blocks.now }
-{
-    blocks.iter().any(|d| is_same(&d.name, name))
-}
-
-// Why a name is refused.
-fn name_fault(items: &Items, name: &[u8]) -> Option<ConfigFault>
-    ensures { result ≡ faults.name_fault (setup_of items.now) name.now }
-{
-    if !is_name(name) {
-        Some(ConfigFault::BadName)
-    } else if is_used(items, name) {
-        Some(ConfigFault::NameUsed)
-    } else {
-        None
-    }
-}
-
-// Why an axis is refused.
-#[tactic(auto, unfolding(crate::specs::Faults::axis_fault))]
-fn axis_fault(
-    items: &Items,
-    name: &[u8],
-    limits: &Limits,
-    inc: i64,
-    start: i64,
-) -> Option<ConfigFault>
-    ensures { result ≡ faults.axis_fault (setup_of items.now) name.now limits.now inc start }
-{
-    if let Some(fault) = name_fault(items, name) {
-        return Some(fault);
-    }
-    if !is_axis_range(limits, inc, start) {
-        Some(ConfigFault::OutOfRange)
-    } else if items.axes.len() >= 16 {
-        Some(ConfigFault::TooMany)
-    } else {
-        None
-    }
-}
-
-// Why a task is refused.
-#[tactic(auto, unfolding(crate::specs::Faults::task_fault))]
-fn task_fault(items: &Items, name: &[u8]) -> Option<ConfigFault>
-    ensures { result ≡ faults.task_fault (setup_of items.now) name.now }
-{
-    if let Some(fault) = name_fault(items, name) {
-        return Some(fault);
-    }
-    if items.tasks.len() >= 8 {
-        Some(ConfigFault::TooMany)
-    } else {
-        None
-    }
-}
-
-// Why a block is refused.
-#[tactic(auto, unfolding(crate::specs::Faults::block_fault))]
-fn block_fault(
-    items: &Items,
-    name: &[u8],
-    task: u8,
-    kind: BlockKind,
-    object: u8,
-) -> Option<ConfigFault>
-    ensures { result ≡ faults.block_fault (setup_of items.now) name.now task kind object }
-{
-    if let Some(fault) = name_fault(items, name) {
-        return Some(fault);
-    }
-    if !has_block(items, task, kind, object) {
-        Some(ConfigFault::NameUnknown)
-    } else if items.blocks.len() >= 256 {
-        Some(ConfigFault::TooMany)
-    } else {
-        None
-    }
-}
-
-// Whether the task and the axis or group of a block are there.
-fn has_block(items: &Items, task: u8, kind: BlockKind, object: u8) -> bool
-    ensures { let s = setup_of items.now in
-        result ≡ ranges.has_block (length s.tasks) (length s.axes) (length s.groups) task kind object }
-{
-    let objects = if kind.acts_on_group() {
-        items.groups.len()
-    } else {
-        items.axes.len()
-    };
-    (task as usize) < items.tasks.len() && (object as usize) < objects
-}
-
-// Whether z lies between two numbers, both included.
-fn is_between(low: i64, z: i64, high: i64) -> bool
-    ensures { result ≡ ranges.is_between low z high }
-{
-    low <= z && z <= high
-}
-
-// Whether the least and the greatest place of an axis are in range.
-fn are_places(limits: &Limits) -> bool
-    ensures { result ≡ ranges.are_places limits.now }
-{
-    -1_000_000_000_000_000 <= limits.lo
-        && limits.lo < limits.hi
-        && limits.hi <= 1_000_000_000_000_000
-}
-
-// Whether the greatest steps of an axis and of their changes are in range.
-fn are_speeds(limits: &Limits) -> bool
-    ensures { result ≡ ranges.are_speeds limits.now }
-{
-    is_between(1, limits.vmax, 10_000_000_000)
-        && is_between(2, limits.amax, 10_000_000_000)
-        && is_between(limits.amax, limits.dmax, 10_000_000_000)
-}
-
-// Whether the places of an axis have target counts of 32 bits.
-fn has_counts(limits: &Limits, inc: i64) -> bool
-    requires { IsTrue (ranges.is_between (pos 1) inc (pos MOST_INCREMENT)) }
-    ensures { result ≡ ranges.has_counts limits.now inc }
-{
-    -2_147_483_648 <= limits.lo.div_euclid(inc) && limits.hi.div_euclid(inc) <= 2_147_483_647
-}
-
-// Whether the start is a multiple of the increment within the limits.
-fn is_start(limits: &Limits, inc: i64, start: i64) -> bool
-    requires { IsTrue (ranges.is_between (pos 1) inc (pos MOST_INCREMENT)) }
-    ensures { result ≡ ranges.is_start limits.now inc start }
-{
-    is_between(limits.lo, start, limits.hi) && start.rem_euclid(inc).unsigned_abs() == 0
-}
-
-// Whether an axis may have these limits, this increment and this start.
-#[tactic(auto, unfolding(crate::specs::Ranges::is_axis_range))]
-fn is_axis_range(limits: &Limits, inc: i64, start: i64) -> bool
-    ensures { result ≡ ranges.is_axis_range limits.now inc start }
-{
-    are_places(limits)
-        && are_speeds(limits)
-        && is_between(1, inc, MOST_INCREMENT as i64)
-        && has_counts(limits, inc)
-        && is_start(limits, inc, start)
 }

@@ -1,13 +1,18 @@
-// A configuration: the axes, groups, tasks and blocks of a machine, and the room of its history.
+// A configuration: the axes, groups, cam tables, tasks and blocks of a machine, and the room of its
+// history.
 
-ghost use Rattle.std.specs.Prelude.{◌≡◌, IfOk, map};
+ghost use Rattle.std.specs.Prelude.{◌≡◌, IfOk};
 ghost use Rattle.motion_history.specs.Setup.{IsSetup};
 ghost use Rattle.motion_history.specs.Items.{setup_of};
+ghost use Rattle.motion_history.specs.Members.{members_of};
 
+use crate::sizes::MOST_MEMBERS;
+use crate::tables::copied_tables;
 use axis_state::{AxisDef, Name};
+use cam_table::CamTable;
 use command_pool::BlockKind;
 use out_of_memory::OutOfMemory;
-use std::alloc::{AllocError, Global};
+use std::alloc::Global;
 use std::marker::Model;
 
 /// A group of axes.
@@ -18,6 +23,15 @@ pub struct GroupDef {
     pub count: u8,
     /// The numbers of its axes; 0 from `count` on.
     pub axes: [u8; 6],
+}
+
+impl GroupDef {
+    /// The numbers of its axes, in their order.
+    pub fn members(&self) -> &[u8]
+        ensures { result.now ≡ members_of self.now }
+    {
+        &self.axes[..(self.count as usize).min(MOST_MEMBERS)]
+    }
 }
 
 /// An instance of a function block.
@@ -36,6 +50,7 @@ pub struct BlockDef {
 pub struct Items {
     pub(crate) axes: Vec<AxisDef>,
     pub(crate) groups: Vec<GroupDef>,
+    pub(crate) tables: Vec<CamTable>,
     pub(crate) tasks: Vec<Name>,
     pub(crate) blocks: Vec<BlockDef>,
     pub(crate) cycles: u32,
@@ -76,6 +91,13 @@ impl Config {
         self.items.groups.as_slice()
     }
 
+    /// The cam tables, in the order of their numbers.
+    pub fn tables(&self) -> &[CamTable]
+        ensures { result.now ≡ self.now.tables }
+    {
+        self.items.tables.as_slice()
+    }
+
     /// The names of the tasks, in the order of their numbers.
     pub fn tasks(&self) -> &[Name]
         ensures { result.now ≡ self.now.tasks }
@@ -108,18 +130,19 @@ impl Config {
     pub fn copy(&self, alloc: Global) -> Result<Config, OutOfMemory>
         ensures { IfOk result (λ c. c ≡ self.now) }
     {
-        let items = copied(alloc, &self.items).map_err(|_| OutOfMemory)?;
+        let items = copied(alloc, &self.items)?;
         Ok(Config { items })
     }
 }
 
 // The same items in memory of their own.
-fn copied(alloc: Global, items: &Items) -> Result<Items, AllocError>
+fn copied(alloc: Global, items: &Items) -> Result<Items, OutOfMemory>
     ensures { IfOk result (λ c. setup_of c ≡ setup_of items.now) }
 {
     Ok(Items {
         axes: Vec::from_slice(alloc, items.axes.as_slice())?,
         groups: Vec::from_slice(alloc, items.groups.as_slice())?,
+        tables: copied_tables(alloc, items.tables.as_slice())?,
         tasks: Vec::from_slice(alloc, items.tasks.as_slice())?,
         blocks: Vec::from_slice(alloc, items.blocks.as_slice())?,
         cycles: items.cycles,

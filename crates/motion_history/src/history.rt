@@ -1,11 +1,11 @@
 // The history of a kernel: each call, cycle and end of a task, in room that is reserved at opening.
 
 ghost use Rattle.std.specs.Prelude.{◌≡◌, ◌<◌, ◌≤◌, ◌+◌, ◌-◌, ◌*◌, ◌++◌, ◌∷◌, [], IfOk, length, vec_len, vec_capacity, slice_get};
-ghost use Rattle.std.specs.Option.{option_copied, option_map};
+ghost use Rattle.std.specs.Option.{option_map};
 ghost use Rattle.motion_history.specs.Entries.{call, cycle, end_of, cycles_of, HistoryState};
 ghost use Rattle.motion_history.specs.Looks.{told};
 ghost use Rattle.motion_history.specs.Rows as kept;
-ghost use Rattle.motion_history.specs.Stored.{entry_of, HasRows};
+ghost use Rattle.motion_history.specs.Stored.{call_entry};
 
 use crate::config::Config;
 use axis_state::AxisRow;
@@ -36,31 +36,32 @@ pub enum EntryLook<'a> {
     },
 }
 
-/// An entry as it is kept, a cycle without its rows.
+/// A call that was made, and its reply.
+#[derive(Clone, Copy)]
+pub struct CallMade {
+    pub instance: u16,
+    pub inputs: Inputs,
+    pub reply: Outputs,
+}
+
+/// An entry as it is kept: a call by its place among the calls, and a cycle without its rows.
 #[derive(Clone, Copy)]
 pub enum Stored {
-    Call {
-        instance: u16,
-        inputs: Inputs,
-        reply: Outputs,
-    },
-    Cycle {
-        number: u32,
-    },
-    End {
-        task: u8,
-    },
+    Call { place: u32 },
+    Cycle { number: u32 },
+    End { task: u8 },
 }
 
 /// A history. Contracts see it as a `HistoryState`.
 #[derive(Drop)]
 pub struct History {
     stored: Vec<Stored>,
+    calls: Vec<CallMade>,
     axis_rows: Vec<AxisRow>,
     group_rows: Vec<GroupRow>,
     axes: usize,
     groups: usize,
-    room: usize,
+    room: u32,
     made: u32,
     most: u32,
 }
@@ -98,11 +99,13 @@ impl History {
           entries = self.old.entries ++ call instance inputs.now reply.now ∷ [];
         } }
     {
-        self.stored.push_reserved(Stored::Call {
+        let place = self.calls.len() as u32;
+        self.calls.push_reserved(CallMade {
             instance,
             inputs: *inputs,
             reply: *reply,
         });
+        self.stored.push_reserved(Stored::Call { place });
     }
 
     /// Adds a cycle with one row per axis and one per group.
@@ -143,66 +146,51 @@ impl History {
         ensures { option_map told result ≡ slice_get self.now.entries place }
     {
         match stored_at(self.stored.as_slice(), place) {
-            Some(stored) => Some(look_of(
-                self.axes,
-                self.groups,
-                self.axis_rows.as_slice(),
-                self.group_rows.as_slice(),
-                stored,
-            )),
+            Some(Stored::Call { place }) => Some(call_at(self.calls.as_slice(), place)),
+            Some(Stored::Cycle { number }) => Some(EntryLook::Cycle {
+                number,
+                axes: rows_at(self.axis_rows.as_slice(), self.axes, number),
+                groups: rows_at(self.group_rows.as_slice(), self.groups, number),
+            }),
+            Some(Stored::End { task }) => Some(EntryLook::End { task }),
             None => None,
         }
     }
 
     /// How many entries more it has room for.
     pub fn room_left(&self) -> u64
-        ensures { result ≡ self.now.room - length self.now.entries }
+        ensures left { result ≡ self.now.room - length self.now.entries }
+        ensures within { length self.now.entries ≤ self.now.room }
     {
-        (self.room - self.stored.len()) as u64
+        u64::from(self.room) - self.stored.len() as u64
     }
 
     /// How many cycles more it may have.
     pub fn cycles_left(&self) -> u32
-        ensures { result ≡ self.now.cycles - cycles_of self.now.entries }
+        ensures left { result ≡ self.now.cycles - cycles_of self.now.entries }
+        ensures within { cycles_of self.now.entries ≤ self.now.cycles }
     {
         self.most - self.made
     }
 }
 
 // The entry that is kept at a place.
-fn stored_at(stored: &[Stored], place: u64) -> Option<&Stored>
-    ensures { option_copied result ≡ slice_get stored.now place }
+fn stored_at(stored: &[Stored], place: u64) -> Option<Stored>
+    ensures { result ≡ slice_get stored.now place }
 {
-    stored.get(place as usize)
+    stored.get(place as usize).copied()
 }
 
-// The entry that is kept so, with the rows of its cycle.
-fn look_of<'a>(
-    axes: usize,
-    groups: usize,
-    axis_rows: &'a [AxisRow],
-    group_rows: &'a [GroupRow],
-    stored: &'a Stored,
-) -> EntryLook<'a>
-    requires { HasRows axes groups axis_rows.now group_rows.now stored.now }
-    ensures { told result ≡ entry_of axes groups axis_rows.now group_rows.now stored.now }
+// The call at a place.
+fn call_at<'a>(calls: &'a [CallMade], place: u32) -> EntryLook<'a>
+    requires { place < length calls.now }
+    ensures { told result ≡ call_entry (slice_get calls.now place) }
 {
-    match stored {
-        Stored::Call {
-            instance,
-            inputs,
-            reply,
-        } => EntryLook::Call {
-            instance: *instance,
-            inputs,
-            reply,
-        },
-        Stored::Cycle { number } => EntryLook::Cycle {
-            number: *number,
-            axes: rows_at(axis_rows, axes, *number),
-            groups: rows_at(group_rows, groups, *number),
-        },
-        Stored::End { task } => EntryLook::End { task: *task },
+    let made = &calls[place as usize];
+    EntryLook::Call {
+        instance: made.instance,
+        inputs: &made.inputs,
+        reply: &made.reply,
     }
 }
 
@@ -218,10 +206,11 @@ fn reserved(alloc: Global, config: &Config) -> Result<History, AllocError>
 {
     let axes = config.axes().len();
     let groups = config.groups().len();
-    let room = config.entries() as usize;
+    let room = config.entries();
     let most = config.cycles();
     Ok(History {
-        stored: Vec::with_capacity(alloc, room)?,
+        stored: Vec::with_capacity(alloc, room as usize)?,
+        calls: Vec::with_capacity(alloc, room as usize)?,
         axis_rows: Vec::with_capacity(alloc, most as usize * axes)?,
         group_rows: Vec::with_capacity(alloc, most as usize * groups)?,
         axes,

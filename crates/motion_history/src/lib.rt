@@ -1,18 +1,42 @@
-//! What a motion kernel is configured with, and the history of what was called, cycled and ended on it.
+//! What a motion kernel is configured with, and the history of what was called, cycled and ended on
+//! it.
 #![tactic(auto)]
 
+mod axes;
+mod blocks;
 mod builder;
 mod config;
+mod drives;
+#[cfg(test)]
+mod edge_tests;
+mod event;
+mod fault;
+mod groups;
 mod history;
+#[cfg(test)]
+mod history_tests;
 mod laws;
+mod names;
 mod refused;
+mod sizes;
+mod tables;
+#[cfg(test)]
+mod tests;
 
 pub use axis_state::{AxisDef, AxisRow, AxisState, DriveIn, DriveOut, Limits, Name};
-pub use builder::{Builder, ConfigFault};
+pub use builder::Builder;
+pub use cam_table::{CamFault, CamTable};
 pub use config::{BlockDef, Config, GroupDef};
+pub use drives::{DriveDef, DriveDefs, FaultList};
+pub use event::Event;
+pub use fault::ConfigFault;
 pub use fb_outputs::{BlockKind, BufferMode, Inputs, Outputs};
 pub use group_state::{GroupRow, GroupState};
 pub use history::{EntryLook, History};
-pub use laws::axes_are_in_range;
+pub use laws::{axes_are_in_range, configurations_are_sound, cycles_add_up};
 pub use out_of_memory::OutOfMemory;
 pub use refused::{Rule, TextFault, TextRefused, TraceVersion};
+pub use sizes::{
+    MOST_AXES, MOST_BLOCKS, MOST_CYCLES, MOST_ENTRIES, MOST_FAULTS, MOST_GROUPS, MOST_LAG,
+    MOST_MEMBERS, MOST_TABLES, MOST_TASKS,
+};

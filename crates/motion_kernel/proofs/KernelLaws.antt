@@ -8,7 +8,7 @@ use Rattle.axis_state.specs.declared.definition.AxisDef.{AxisDef}
 use Rattle.kin_core.specs.Admissible.{AreLimits, IsKept}
 use Rattle.kin_core.specs.declared.limits.Limits.{Limits}
 use Rattle.fb_outputs.specs.Steps as step
-use Rattle.motion_history.specs.Entries.{Entry, cycle_count, cycles_of, HistoryState}
+use Rattle.motion_history.specs.Entries.{CyclesAddUp, Entry, cycle_count, cycles_of, HistoryState}
 use Rattle.motion_history.specs.AxisRanges.{AreAxisRanges}
 use Rattle.motion_history.specs.Ranges.{is_axis}
 use Rattle.motion_history.specs.Setup.{Setup, IsSetup}
@@ -89,16 +89,16 @@ IsKernelKept-open k standing ranges setup ready axes instances history =
     }
 
 -- a kernel with one more entry
-pub IsKernelKept-more : (k next : Inside) (e : Entry) → IsKernelKept k → next.config ≡ k.config →
+pub IsKernelKept-more : CyclesAddUp → (k next : Inside) (e : Entry) → IsKernelKept k → next.config ≡ k.config →
     next.history ≡ record k.history { entries = k.history.entries ++ e ∷ [] } →
     machine_of next ≡ after (machine_of k) e → IsOf (machine_of k) e → IsMachineKept (machine_of next) →
     length k.history.entries < k.config.entries → cycles_of k.history.entries + cycle_count e ≤ k.config.cycles →
     IsKernelKept next
 unfolding state_of
-IsKernelKept-more k next e kept config history step of machine room cycles =
+IsKernelKept-more add k next e kept config history step of machine room cycles =
     let es : next.history.entries ≡ k.history.entries ++ e ∷ [] = ap (λ (h : HistoryState). h.entries) history in
     let r : IsReplayed k.config k.history.entries (machine_of k) = record { replayed = kept.replayed; legal = kept.legal } in
-    let n = IsReplayed-more k.config k.history.entries (machine_of k) e (machine_of next) r step of room cycles in
+    let n = IsReplayed-more add k.config k.history.entries (machine_of k) e (machine_of next) r step of room cycles in
     let there : machine_of next ≡ replay (opened next.config) next.history.entries =
     n.replayed ∙ (λ i. replay (opened (sym config i)) (sym es i)) in
     let P : Setup → List Entry → Type 0 = IsLegal in

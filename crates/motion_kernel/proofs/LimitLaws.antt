@@ -139,7 +139,7 @@ rows-keep : TakingKeeps → (m : Machine) (es : List Entry) → IsMachineKept m 
     KeepFrom (place_of (axis_at m.axes n)) (rows_in n es)
 rows-keep taking m [] kept f n l = tt
 rows-keep taking m (call k i reply ∷ es) kept f n l =
-    let there = f.0.0.there in
+    let there = f.0.0.call.there in
     let P : Place → Type 0 = λ p. KeepFrom p (rows_in n es) in
     let next = IsMachineKept-call m k i kept (omega (arith, kept.instances)) (object-there m k kept there) in
     subst P (place-call m k i n) (rows-keep taking (after_call m k i) es next f.1 n (omega (arith, length-set m.axes (object_of m.setup k) (shown_by k (called k i (parts_of m k))).axis)))

@@ -4,7 +4,7 @@ use Rattle.std.proofs.Common.{◌∙◌, sym, ap, subst, arith, length-append}
 use Rattle.std.proofs.lemmas.List.{length-set}
 use Rattle.cia402_machine.specs.declared.drive.DriveIn.{DriveIn}
 use Rattle.fb_outputs.specs.declared.inputs.Inputs.{Inputs}
-use Rattle.motion_history.specs.Entries.{Entry, cycle_count, cycles_of}
+use Rattle.motion_history.specs.Entries.{CyclesAddUp, Entry, cycle_count, cycles_of}
 use Rattle.motion_history.specs.Setup.{Setup}
 use Rattle.motion_history.specs.declared.config.BlockDef.{BlockDef}
 use Rattle.motion_kernel.specs.declared.axis.Axis.{Axis}
@@ -27,24 +27,19 @@ Follows-more : (m : Machine) (es : List Entry) (e : Entry) → Follows m es → 
 Follows-more m [] e f h = (h, tt)
 Follows-more m (d ∷ es) e f h = (f.0, Follows-more (after m d) es e f.1 h)
 
--- one more entry has its own cycles
-pub cycles_of-more : (es : List Entry) (e : Entry) → cycles_of (es ++ e ∷ []) ≡ cycles_of es + cycle_count e
-cycles_of-more [] e = omega arith
-cycles_of-more (d ∷ es) e = let h = cycles_of-more es e in omega arith
-
 -- the machine that a legal history leads to
 pub record IsReplayed (s : Setup) (es : List Entry) (m : Machine) : Type 0 where
   pub replayed : m ≡ replay (opened s) es
   pub legal : IsLegal s es
 
 -- one more entry that is the machine's, for which there is room, leads on
-pub IsReplayed-more : (s : Setup) (es : List Entry) (m : Machine) (e : Entry) (next : Machine) → IsReplayed s es m → next ≡ after m e → IsOf m e →
+pub IsReplayed-more : CyclesAddUp → (s : Setup) (es : List Entry) (m : Machine) (e : Entry) (next : Machine) → IsReplayed s es m → next ≡ after m e → IsOf m e →
     length es < s.entries → cycles_of es + cycle_count e ≤ s.cycles → IsReplayed s (es ++ e ∷ []) next
-IsReplayed-more s es m e next r step of room cycles = record {
+IsReplayed-more add s es m e next r step of room cycles = record {
   replayed = step ∙ ap (λ n. after n e) r.replayed ∙ sym (replay-more (opened s) es e);
   legal = record {
     entries = let l = length-append es (e ∷ []) in omega arith;
-    cycles = let c = cycles_of-more es e in omega arith;
+    cycles = let c = add es e in omega arith;
     follows = Follows-more (opened s) es e r.legal.follows (let P : Machine → Type 0 = λ n. IsOf n e in subst P r.replayed of);
   };
 }

@@ -11,7 +11,7 @@ use Rattle.fb_outputs.specs.Steps as step
 use Rattle.fb_outputs.specs.declared.inputs.Inputs.{Inputs}
 use Rattle.fb_outputs.specs.declared.outputs.Outputs.{Outputs}
 use Rattle.motion_history.specs.Entries.{Entry, call, cycle, end_of, cycles_of}
-use Rattle.motion_history.specs.Ready.{IsCall}
+use Rattle.motion_history.specs.Ready.{IsReadyCall}
 use Rattle.motion_history.specs.Setup.{Setup}
 use Rattle.motion_history.specs.declared.config.BlockDef.{BlockDef}
 use Rattle.motion_kernel.specs.declared.axis.Axis.{Axis}
@@ -113,7 +113,7 @@ pub record IsOperational (d : DriveIn) : Type 0 where
 
 -- the entry is the machine's: its reply or its rows are what the machine gives. This project's profile
 abbrev pub IsOf : Machine → Entry → Type 0
-IsOf m (call k i reply) = IsCall m.setup k i × (reply ≡ reply_of m k i)
+IsOf m (call k i reply) = IsReadyCall m.setup k i × (reply ≡ reply_of m k i)
 IsOf m (cycle n rows groups) =
     (n ≡ m.cycles + 1) × (length rows ≡ length m.axes) × (rows ≡ rows_of m (inputs_of rows)) × (groups ≡ [])
 IsOf m (end_of task) = task < length m.setup.tasks

@@ -14,9 +14,6 @@ use kin_core::{Limits, nearest_safe};
 use motion_history::AxisDef;
 use trapezoid_plan::move_step;
 
-/// The most axes of a kernel.
-pub const MOST_AXES: usize = 16;
-
 /// A move that is the active command of an axis.
 #[derive(Clone, Copy)]
 pub struct Move {

@@ -8,12 +8,13 @@ ghost use Rattle.motion_kernel.specs.Instances as instance;
 ghost use Rattle.motion_kernel.specs.Lists.{zip_with};
 ghost use Rattle.motion_kernel.specs.Machine.{axis_after, row_after, done_after, axis_at};
 
-use crate::axis::{Axis, MOST_AXES, cycled};
+use crate::axis::{Axis, cycled};
 use crate::calls::notify;
 use axis_state::AxisRow;
 use cia402_machine::{DriveIn, DriveOut};
 use command_pool::Finish;
 use fb_outputs::Instance;
+use motion_history::MOST_AXES;
 
 /// One axis goes through a cycle.
 #[tactic(auto, unfolding(crate::specs::Machine::axis_after, crate::specs::Machine::row_after, crate::specs::Machine::done_after))]

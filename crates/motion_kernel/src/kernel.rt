@@ -6,11 +6,11 @@ ghost use Rattle.motion_history.specs.Columns.{KeepTheirLimits};
 ghost use Rattle.motion_history.specs.Entries.{call, cycle, end_of, cycles_of};
 ghost use Rattle.fb_outputs.specs.Steps as step;
 ghost use Rattle.motion_kernel.specs.Axes as axis;
-ghost use Rattle.motion_history.specs.Ready.{IsCall, IsReadyMachine};
+ghost use Rattle.motion_history.specs.Ready.{IsReadyCall, IsReadyMachine};
 ghost use Rattle.motion_kernel.specs.KernelState.{KernelState, state_of};
 ghost use Rattle.motion_kernel.specs.Machine.{IsLegal, IsOperational, reply_of, rows_of};
 
-use crate::axis::{Axis, MOST_AXES, opened};
+use crate::axis::{Axis, opened};
 use crate::calls::call_block;
 use crate::cycles::cycle_machine;
 use crate::laws::rows_keep_limits;
@@ -18,7 +18,9 @@ use axis_state::{AxisRow, AxisState};
 use cia402_machine::{DriveIn, DriveOut};
 use fb_outputs::{Inputs, Instance, Outputs};
 use kin_core::standing_is_kept;
-use motion_history::{AxisDef, BlockDef, Config, History, axes_are_in_range};
+use motion_history::{
+    AxisDef, BlockDef, Config, History, MOST_AXES, axes_are_in_range, cycles_add_up,
+};
 use std::alloc::{AllocError, Global};
 use std::marker::Model;
 
@@ -63,12 +65,13 @@ impl Kernel {
     pub fn call(&mut self, task: u8, instance: u16, inputs: &Inputs) -> Outputs
         requires room { length self.old.history < self.old.config.entries }
         requires task { IsSomeAnd (slice_get self.old.config.blocks instance) (λ b. b.task ≡ task) }
-        requires call { IsCall self.old.config instance inputs.now }
+        requires call { IsReadyCall self.old.config instance inputs.now }
         ensures reply { result ≡ reply_of (state_of self.old) instance inputs.now }
         ensures after { self.new ≡ record self.old {
           history = self.old.history ++ call instance inputs.now result ∷ [];
         } }
     {
+        cycles_add_up();
         let object = self.config.blocks()[instance as usize].object;
         let reply = call_block(
             instance,
@@ -94,6 +97,7 @@ impl Kernel {
               cycle (cycles_of self.old.history + 1) (rows_of (state_of self.old) ins.now) [] ∷ [];
         } }
     {
+        cycles_add_up();
         let mut room = [NO_ROW; MOST_AXES];
         let rows = &mut room[..self.axes.len()];
         cycle_machine(
@@ -112,6 +116,7 @@ impl Kernel {
         requires task { task < length self.old.config.tasks }
         ensures { self.new ≡ record self.old { history = self.old.history ++ end_of task ∷ [] } }
     {
+        cycles_add_up();
         self.history.record_end(task);
     }
 

@@ -1,19 +1,34 @@
 -- Nothing is kept yet, and there is room for all.
 use Rattle.std.specs.Prelude.{refl, length}
 use Rattle.std.proofs.Common.{arith, ap}
+use Rattle.motion_history.specs.Kept.{IsKept}
 use Rattle.motion_history.proofs.KeptLemmas.{IsKept-open, state-open}
 use Rattle.motion_history.proofs.history.reserved.Goals as goal
 
 pub invariant_of-result : goal.invariant_of-result
-invariant_of-result c = IsKept-open _ c.in_ok-with_capacity.ensures.items c.in_ok-with_capacity-2.ensures.items c.in_ok-with_capacity-3.ensures.items refl
-    (omega (arith, c.in_ok-with_capacity.ensures.exact)) (omega (arith, c.in_ok-with_capacity-2.ensures.exact)) (omega (arith, c.in_ok-with_capacity-3.ensures.exact))
+invariant_of-result c =
+    IsKept-open _
+    (record {
+      stored = c.in_ok-with_capacity.ensures.items;
+      calls = c.in_ok-with_capacity-2.ensures.items;
+      axis_rows = c.in_ok-with_capacity-3.ensures.items;
+      group_rows = c.in_ok-with_capacity-4.ensures.items;
+      made = refl;
+    })
+    (record {
+      stored = omega (arith, c.in_ok-with_capacity.ensures.exact);
+      calls = omega (arith, c.in_ok-with_capacity-2.ensures.exact);
+      axis_rows = omega (arith, c.in_ok-with_capacity-3.ensures.exact);
+      group_rows = omega (arith, c.in_ok-with_capacity-4.ensures.exact);
+    })
 
 pub returns : goal.returns
 returns c =
     let e = state-open (record {
       stored = c.in_ok-with_capacity.field-0;
-      axis_rows = c.in_ok-with_capacity-2.field-0;
-      group_rows = c.in_ok-with_capacity-3.field-0;
+      calls = c.in_ok-with_capacity-2.field-0;
+      axis_rows = c.in_ok-with_capacity-3.field-0;
+      group_rows = c.in_ok-with_capacity-4.field-0;
       axes = length c.axes-axes.result.now;
       groups = length c.groups-groups.result.now;
       room = c.entries-room.result;

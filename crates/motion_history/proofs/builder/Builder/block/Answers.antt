@@ -6,10 +6,10 @@ use Rattle.motion_history.proofs.SetupLemmas.{IsWithin-block}
 use Rattle.motion_history.proofs.builder.Builder.block.Goals as goal
 
 pub new-requires : goal.new-requires
-new-requires c = (block_fault-none _ _ _ _ _ (sym c.block_fault.ensures ∙ c.in_default.is)).named
+new-requires c = (block_fault-none _ _ _ _ _ (sym c.block_fault.ensures ∙ c.in_default.is)).name_is.named
 
 pub invariant_of-self-2 : goal.invariant_of-self-2
 invariant_of-self-2 c =
     let new : IsNewBlock (setup_of c.self.inside.items) c.args.name.now c.args.task c.args.kind c.args.object =
     block_fault-none _ _ _ _ _ (sym c.block_fault.ensures ∙ c.in_default.is) in
-    rw c.in_ok-push.ensures.items (IsWithin-block _ _ c.self.invariant new.there new.room)
+    rw (c.in_ok-push.ensures.items, c.new.ensures) (IsWithin-block _ _ c.self.invariant new)

@@ -6,10 +6,10 @@ use Rattle.motion_history.proofs.SetupLemmas.{IsWithin-task}
 use Rattle.motion_history.proofs.builder.Builder.task.Goals as goal
 
 pub new-requires : goal.new-requires
-new-requires c = (task_fault-none _ _ (sym c.task_fault.ensures ∙ c.in_default.is)).named
+new-requires c = (task_fault-none _ _ (sym c.task_fault.ensures ∙ c.in_default.is)).name_is.named
 
 pub invariant_of-self-2 : goal.invariant_of-self-2
 invariant_of-self-2 c =
     let new : IsNewTask (setup_of c.self.inside.items) c.args.name.now =
     task_fault-none _ _ (sym c.task_fault.ensures ∙ c.in_default.is) in
-    rw c.in_ok-push.ensures.items (IsWithin-task _ _ c.self.invariant new.room)
+    rw (c.in_ok-push.ensures.items, c.new.ensures) (IsWithin-task _ _ c.self.invariant new)

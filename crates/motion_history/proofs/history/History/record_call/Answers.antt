@@ -1,23 +1,39 @@
--- The entry stands at the end, in room that was there.
-use Rattle.std.specs.Prelude.{◌<◌, ◌∷◌, ◌++◌, [], refl, vec_len}
-use Rattle.std.proofs.Common.{◌∙◌, ap, arith}
-use Rattle.motion_history.specs.declared.history.Stored.TheVariants as stored
-use Rattle.motion_history.specs.Entries.{HistoryState, call}
-use Rattle.motion_history.proofs.KeptLemmas.{has-room, entries-push, IsKept-push}
+-- The call stands at the end of the calls, and its entry at the end of the entries.
+use Rattle.std.specs.Prelude.{◌<◌, vec_len}
+use Rattle.std.proofs.Common.{arith}
+use Rattle.motion_history.specs.Entries.{call}
+use Rattle.motion_history.proofs.KeptLemmas.{IsNext, has-room, call-next, state-then}
 use Rattle.motion_history.proofs.history.History.record_call.Goals as goal
 
 pub push_reserved-requires : goal.push_reserved-requires
 push_reserved-requires c =
     let room : vec_len c.self.inside.stored < c.self.inside.room = has-room c.self.inside _ c.self.view_is c.requires in
+    omega (arith, c.self.invariant.calls, c.self.invariant.calls_room)
+
+pub push_reserved-requires-2 : goal.push_reserved-requires-2
+push_reserved-requires-2 c =
+    let room : vec_len c.self.inside.stored < c.self.inside.room = has-room c.self.inside _ c.self.view_is c.requires in
     omega (arith, c.self.invariant.stored_room)
 
+next : (c : goal.After-push_reserved-2) →
+    IsNext c.self.inside (record c.self.inside { stored = c.push_reserved-2.new.self; calls = c.push_reserved.new.self })
+    (call c.args.instance c.args.inputs.now c.args.reply.now)
+next c =
+    call-next c.self.inside c.push_reserved-2.new.self c.push_reserved.new.self c.len-place.result
+    (record { instance = c.args.instance; inputs = c.args.inputs.now; reply = c.args.reply.now }) c.self.invariant
+    (has-room c.self.inside _ c.self.view_is c.requires)
+    (record {
+      entry = c.push_reserved-2.ensures.items;
+      entry_len = c.push_reserved-2.ensures.len;
+      entry_room = c.push_reserved-2.ensures.capacity;
+      call_items = c.push_reserved.ensures.items;
+      call_len = c.push_reserved.ensures.len;
+      call_room = c.push_reserved.ensures.capacity;
+      last = c.len-place.ensures;
+    })
+
 pub invariant_of-self : goal.invariant_of-self
-invariant_of-self c =
-    let room : vec_len c.self.inside.stored < c.self.inside.room = has-room c.self.inside _ c.self.view_is c.requires in
-    IsKept-push c.self.inside c.push_reserved.new.self (stored.Call c.args.instance c.args.inputs.now c.args.reply.now) c.self.invariant room
-    c.push_reserved.ensures.items c.push_reserved.ensures.len c.push_reserved.ensures.capacity tt refl
+invariant_of-self c = (next c).kept
 
 pub returns : goal.returns
-returns c =
-    entries-push c.self.inside c.push_reserved.new.self (stored.Call c.args.instance c.args.inputs.now c.args.reply.now) c.push_reserved.ensures.items ∙
-    ap (λ (s : HistoryState). record s { entries = s.entries ++ call c.args.instance c.args.inputs.now c.args.reply.now ∷ [] }) c.self.view_is
+returns c = state-then c.self.inside _ _ _ (next c) c.self.view_is

@@ -1,7 +1,10 @@
-use Rattle.std.specs.Prelude.{◌-◌}
-use Rattle.std.proofs.Common.{◌∙◌, ap, sym}
+-- The room that is left is what the entries leave.
+use Rattle.std.proofs.Common.{◌≡◌, ◌∙◌, ◌≤◌, length, sym, arith, subst}
+use Rattle.motion_history.specs.Entries.{HistoryState}
 use Rattle.motion_history.proofs.KeptLemmas.{kept-length}
 use Rattle.motion_history.proofs.history.History.room_left.Goals as goal
 
 pub returns : goal.returns
-returns c = rw (← c.self.view_is) (ap (λ n. c.self.inside.room - n) (c.len.ensures ∙ sym (kept-length c.self.inside)))
+returns c =
+    let kept = kept-length c.self.inside in
+    rw (← c.self.view_is) (record { left = omega (arith, kept); within = omega (arith, kept, c.self.invariant.stored) })

@@ -12,7 +12,7 @@ use Rattle.motion_kernel.specs.KernelKept.{machine_of, IsMachineKept}
 use Rattle.motion_kernel.specs.KernelState.{KernelState}
 use Rattle.motion_kernel.specs.Lists.{zip_with}
 use Rattle.motion_kernel.specs.Machine.{Machine, axis_at, axis_after, row_after, done_after, rows_of, after, after_cycle}
-use Rattle.motion_kernel.proofs.MachineLaws.{cycles_of-more, IsMachineKept-cycle, inputs_of-rows}
+use Rattle.motion_kernel.proofs.MachineLaws.{IsMachineKept-cycle, inputs_of-rows}
 use Rattle.motion_kernel.proofs.ListLemmas.{length-zip_with}
 use Rattle.motion_kernel.proofs.PartsLaws.{length-notified_all}
 use Rattle.motion_kernel.proofs.KernelLaws.{IsKernelKept-more}
@@ -47,7 +47,7 @@ invariant_of-self c =
     let history = c.record_cycle.ensures ∙
     ap (λ r. record k.history { entries = k.history.entries ++ cycle (cycles_of k.history.entries + 1) r [] ∷ [] }) rows in
     let cycles : cycles_of next.history.entries ≡ cycles_of k.history.entries + 1 =
-    ap (λ (h : HistoryState). cycles_of h.entries) history ∙ cycles_of-more k.history.entries e in
+    ap (λ (h : HistoryState). cycles_of h.entries) history ∙ c.cycles_add_up.ensures.more k.history.entries e in
     let step : machine_of next ≡ after m e = stepped-cycle m ins next.axes.items next.instances.items (cycles_of next.history.entries) same
     (with_items_is k.axes _ long_axes ∙ axes) (with_items_is k.instances _ long_instances ∙ instances) cycles in
     let each = let P : List Axis → Type 0 = λ xs. (n : ℕ) → n < length xs → IsAxisKept (axis_at xs n) in subst P axes c.cycle_machine.ensures.kept in
@@ -55,5 +55,5 @@ invariant_of-self c =
     let to : after m e ≡ after_cycle m ins = ap (after_cycle m) (inputs_of-rows m.axes ins same) in
     let P : Machine → Type 0 = IsMachineKept in
     let more : cycles_of k.history.entries < k.config.cycles = cycles-of k _ c.self.view_is c.requires.cycle in
-    IsKernelKept-more k next e c.self.invariant refl history step (cycle-of m ins same)
+    IsKernelKept-more c.cycles_add_up.ensures.more k next e c.self.invariant refl history step (cycle-of m ins same)
     (subst P (sym (step ∙ to)) kept) (room-of k _ c.self.view_is c.requires.room) (omega arith)
