@@ -1,6 +1,7 @@
 -- The trace text of a history.
-use Rattle.std.specs.Prelude.{ℕ, suc, List, [], ◌∷◌, ◌++◌}
+use Rattle.std.specs.Prelude.{◌≡◌, ℕ, suc, List, [], ◌∷◌, ◌++◌, All}
 use Rattle.std.specs.List.{flat_map}
+use Rattle.axis_state.specs.declared.definition.AxisDef.{AxisDef}
 use Rattle.motion_history.specs.Entries.{Entry, call, cycle, end_of}
 use Rattle.motion_history.specs.Setup.{Setup}
 use Rattle.trace_text.specs.declared.write.Command.{Command}
@@ -27,6 +28,10 @@ entry_text s (end_of task) = record_text (end_fields s task)
 -- what each drive took. This project's profile
 unfoldable pub drives_text : Setup → List DriveEndRow → List ℕ
 drives_text s ds = numbered (λ j d. record_text (drive_fields s j d)) 0 ds
+
+-- each axis brakes as hard as it speeds up: format version 1 has no field for dmax. This project's profile
+abbrev pub IsVersionOne : Setup → Type 0
+IsVersionOne s = All (λ (d : AxisDef). d.limits.dmax ≡ d.limits.amax) s.axes
 
 -- the trace text of a machine, its history and its drives. This project's profile
 unfoldable pub trace_text : Command → Setup → List Entry → List DriveEndRow → List ℕ
