@@ -18,7 +18,8 @@ use Rattle.trace_text.specs.declared.taken.TakenInputs.{TakenInputs}
 use Rattle.trace_text.specs.Taken.{taken_in, taken_text}
 use Rattle.trace_text.specs.Fields.{flag_text, hex_text, outputs_text, axis_state_text, drive_state_text, kind_text, mode_text}
 
--- the text of a record: its fields with commas between them, and a line feed. RFC 4180, with line feeds
+-- the text of a record: its fields with commas between them, and a line feed. RFC 4180, with line
+-- feeds
 unfoldable pub record_text : List (List ℕ) → List ℕ
 record_text fields = row_text default_writer fields
 
@@ -89,7 +90,8 @@ call_fields s k i o = call_fields_of (block_name s k) (taken_in s k) (slice_inde
 abbrev pub cycle_fields : ℕ → List (List ℕ)
 cycle_fields n = codes "cycle" ∷ decimal n ∷ [] ∷ [] ∷ [] ∷ [] ∷ [] ∷ [] ∷ [] ∷ [] ∷ [] ∷ [] ∷ []
 
--- a row: the axis, what its drive answered, its state, error, whether it is driven, its setpoint, and what its drive is given
+-- a row: the axis, what its drive answered, its state, error, whether it is driven, its setpoint,
+-- and what its drive is given
 abbrev pub row_fields : Setup → ℕ → AxisRow → List (List ℕ)
 row_fields s n r =
     codes "row" ∷ axis_name s n ∷ hex_text r.input.statusword ∷ signed_decimal r.input.actual ∷ signed_decimal r.input.mode_display ∷
@@ -99,7 +101,8 @@ row_fields s n r =
 abbrev pub end_fields : Setup → ℕ → List (List ℕ)
 end_fields s task = codes "end" ∷ task_name s task ∷ [] ∷ [] ∷ [] ∷ [] ∷ [] ∷ [] ∷ [] ∷ [] ∷ [] ∷ [] ∷ []
 
--- what a drive took: the axis, the number of setpoints, the drive's state and its actual position at the end
+-- what a drive took: the axis, the number of setpoints, the drive's state and its actual position
+-- at the end
 abbrev pub drive_fields : Setup → ℕ → DriveEndRow → List (List ℕ)
 drive_fields s n d =
     codes "drive" ∷ axis_name s n ∷ decimal d.taken ∷ drive_state_text d.state ∷ signed_decimal d.actual ∷ [] ∷ [] ∷ [] ∷ [] ∷ [] ∷ [] ∷ [] ∷ []

@@ -13,7 +13,8 @@ abbrev pub numbered : {X : Type 0} → (ℕ → X → List ℕ) → ℕ → List
 numbered f n [] = []
 numbered f n (x ∷ xs) = f n x ++ numbered f (suc n) xs
 
--- the machine part: the header, who made the trace, the axes, the tasks and the blocks. This project's profile
+-- the machine part: the header, who made the trace, the axes, the tasks and the blocks. This
+-- project's profile
 unfoldable pub machine_text : Command → Setup → List ℕ
 machine_text c s =
     record_text header_fields ++ record_text (trace_fields c s) ++ flat_map (λ d. record_text (axis_fields d)) s.axes ++
@@ -29,7 +30,8 @@ entry_text s (end_of task) = record_text (end_fields s task)
 unfoldable pub drives_text : Setup → List DriveEndRow → List ℕ
 drives_text s ds = numbered (λ j d. record_text (drive_fields s j d)) 0 ds
 
--- each axis brakes as hard as it speeds up: format version 1 has no field for dmax. This project's profile
+-- each axis brakes as hard as it speeds up: format version 1 has no field for dmax. This project's
+-- profile
 abbrev pub IsVersionOne : Setup → Type 0
 IsVersionOne s = All (λ (d : AxisDef). d.limits.dmax ≡ d.limits.amax) s.axes
 

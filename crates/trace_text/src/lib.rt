@@ -1,4 +1,5 @@
-//! Traces: the text of a machine, its history and what its drives took, as records of comma-separated fields.
+//! Traces: the text of a machine, its history and what its drives took, as records of
+//! comma-separated fields.
 #![tactic(auto)]
 
 mod entries;
