@@ -1,14 +1,16 @@
--- What is read is whole: its machine is one that the kernel runs, its lines are of this machine, and there is room for them.
+-- What is read is whole: its machine is one that the kernel runs, its lines are of this machine,
+-- and there is room for them.
 use Rattle.std.proofs.Common.{◌≡◌, ℕ, zero, suc, ◌≤◌, Bool, true, false, cond, List, [], ◌∷◌, length, Option, Some, None, refl, subst, inl, inr, drop, lit≤, arith, ap, sym, ◌∙◌}
 use Rattle.std.specs.Prelude.{ℤ, pos, neg_ℤ, unsigned_abs, ◌&&◌, ◌⊎◌, nat_le, int_le, slice_get, slice_index_or, codes, nat_eq, ◌==◌, if◌then◌else◌}
-use Rattle.std.specs.List.{AllByRecursion, list_all, starts_with}
+use Rattle.std.specs.List.{All, AllByRecursion, list_all, starts_with}
 use Rattle.std.proofs.lemmas.Bool.{and_parts, leb-true, cases_Bool}
 use Rattle.std.proofs.lemmas.Int.{ints}
-use Rattle.std.proofs.lemmas.List.Elements.{All-from_recursion}
+use Rattle.std.proofs.lemmas.List.Elements.{All-cons, All-from_recursion, All-nil}
 use Rattle.command_pool.specs.Kinds.{acts_on_group}
 use Rattle.command_pool.specs.declared.kind.BlockKind.{BlockKind}
 use Rattle.command_pool.specs.declared.kind.BlockKind.TheVariants.{MoveAbsolute}
 use Rattle.command_pool.specs.declared.kind.BufferMode.TheVariants.{Aborting}
+use Rattle.fixed_units.specs.Numbers.{is_negative}
 use Rattle.fb_outputs.specs.declared.inputs.Inputs.{Inputs}
 use Rattle.fb_outputs.specs.Inputs.{AreInputs, IsTaken}
 use Rattle.motion_history.specs.Setup.{Setup, IsSetup}
@@ -19,33 +21,35 @@ use Rattle.motion_history.specs.Ranges.{is_axis_range}
 use Rattle.bench_text.specs.declared.bench.BenchLine.{BenchLine}
 use Rattle.bench_text.specs.declared.bench.BenchLine.TheVariants.{Call, Cycles, End}
 use Rattle.bench_text.specs.declared.machine.MachinePart.{MachinePart}
-use Rattle.bench_text.specs.BenchState.{IsBench, IsLineOf, entries_of, cycles_of_lines}
+use Rattle.bench_text.specs.declared.machine.TheConstants.{MOST_CYCLES}
+use Rattle.bench_text.specs.declared.number.TheConstants.{LARGEST, MOST_DIGITS}
+use Rattle.bench_text.specs.BenchState.{BrakesAsItSpeedsUp, IsBench, IsLineOf, entries_of, cycles_of_lines}
 use Rattle.bench_text.specs.Grammar.{value_at, inputs_of, call_of, cycles_line_of, end_line_of, event_of, first_of_two}
-use Rattle.bench_text.specs.Numbers.{◌>>=◌, size_of, number_of, count_of, is_negative, value_of}
+use Rattle.bench_text.specs.Numbers.{◌>>=◌, size_of, number_of, count_of, value_of}
 use Rattle.bench_text.specs.Reading.{setup_of, are_fitting, has_room, are_apart, is_first_within}
 use Rattle.bench_text.specs.Texts.{says}
 use Rattle.bench_text.specs.Words.{each_of}
-use Rattle.bench_text.proofs.Building.{with_block}
+use Rattle.bench_text.proofs.Building.{axis_in, with_block}
 use Rattle.bench_text.proofs.Lines.{bind_some, if_some, some_is}
 
 -- ---- numbers
 
-size_of-small : (digits : List ℕ) (n : ℕ) → size_of digits ≡ Some n → n ≤ 1000000000000000000
+size_of-small : (digits : List ℕ) (n : ℕ) → size_of digits ≡ Some n → n ≤ LARGEST
 unfolding size_of
 size_of-small digits n h =
-    let chosen = if_some (nat_le 1 (length digits) && nat_le (length digits) 19 && list_all _ digits && nat_le (value_of digits) 1000000000000000000) (Some (value_of digits)) n h in
-    let small : value_of digits ≤ 1000000000000000000 = leb-true _ _ (and_parts _ _ chosen.0).1 in
+    let chosen = if_some (nat_le 1 (length digits) && nat_le (length digits) MOST_DIGITS && list_all _ digits && nat_le (value_of digits) LARGEST) (Some (value_of digits)) n h in
+    let small : value_of digits ≤ LARGEST = leb-true _ _ (and_parts _ _ chosen.0).1 in
     let is : value_of digits ≡ n = some_is _ _ chosen.1 in
-    subst (λ (k : ℕ). k ≤ 1000000000000000000) is small
+    subst (λ (k : ℕ). k ≤ LARGEST) is small
 
 -- a number is at most 10^18 in size
 abbrev Small : ℤ → Type 0
-Small z = unsigned_abs z ≤ 1000000000000000000
+Small z = unsigned_abs z ≤ LARGEST
 
-negated-small : (n : ℕ) → n ≤ 1000000000000000000 → unsigned_abs (neg_ℤ (pos n)) ≤ 1000000000000000000
+negated-small : (n : ℕ) → n ≤ LARGEST → unsigned_abs (neg_ℤ (pos n)) ≤ LARGEST
 negated-small n h = omega (arith, ints)
 
-number_of-small : (word : List ℕ) (z : ℤ) → number_of word ≡ Some z → unsigned_abs z ≤ 1000000000000000000
+number_of-small : (word : List ℕ) (z : ℤ) → number_of word ≡ Some z → unsigned_abs z ≤ LARGEST
 unfolding number_of
 number_of-small word z h =
     elim (cases_Bool (is_negative word)) [
@@ -66,7 +70,7 @@ either_some : {A : Type 0} (b : Bool) (x y : Option A) (z : A) → cond b x y �
 either_some true x y z h = inl h
 either_some false x y z h = inr h
 
-value_at-small : (key : List ℕ) (words : List (List ℕ)) (r : ℤ × List (List ℕ)) → value_at key words ≡ Some r → unsigned_abs r.0 ≤ 1000000000000000000
+value_at-small : (key : List ℕ) (words : List (List ℕ)) (r : ℤ × List (List ℕ)) → value_at key words ≡ Some r → unsigned_abs r.0 ≤ LARGEST
 unfolding value_at
 value_at-small key [] r h =
     let is : (pos 0, []) ≡ r = some_is _ _ h in subst (λ (q : ℤ × List (List ℕ)). Small q.0) is (lit≤ tt)
@@ -216,7 +220,7 @@ count_of-within most word n h =
     let is : unsigned_abs number.0 ≡ n = some_is _ _ chosen.1 in
     (omega (arith, ints, range.0, range.1, is), omega (arith, ints, range.0, range.1, is))
 
-cycles-read : (n : ℕ) → 1 ≤ n → n ≤ 200000 → IsRead (Cycles n)
+cycles-read : (n : ℕ) → 1 ≤ n → n ≤ MOST_CYCLES → IsRead (Cycles n)
 cycles-read n some few = record { line-of = λ s ready axes tasks blocks. (some, few) }
 
 cycles_line_of-read : (words : List (List ℕ)) (line : BenchLine) → cycles_line_of words ≡ Some line → IsRead line
@@ -227,10 +231,10 @@ cycles_line_of-read (word ∷ []) line h =
     let is : Cycles 1 ≡ line = some_is _ _ chosen.1 in
     subst (λ (l : BenchLine). IsRead l) is (cycles-read 1 (lit≤ tt) (lit≤ tt))
 cycles_line_of-read (word ∷ count ∷ []) line h =
-    let chosen = if_some (says word (codes "cycle")) (count_of 200000 count >>= λ n. Some (Cycles n)) line h in
-    let number = bind_some (count_of 200000 count) (λ n. Some (Cycles n)) line chosen.1 in
+    let chosen = if_some (says word (codes "cycle")) (count_of MOST_CYCLES count >>= λ n. Some (Cycles n)) line h in
+    let number = bind_some (count_of MOST_CYCLES count) (λ n. Some (Cycles n)) line chosen.1 in
     let is : Cycles number.0 ≡ line = some_is _ _ number.1.1 in
-    let range = count_of-within 200000 count number.0 number.1.0 in
+    let range = count_of-within MOST_CYCLES count number.0 number.1.0 in
     subst (λ (l : BenchLine). IsRead l) is (cycles-read number.0 range.0 range.1)
 cycles_line_of-read (word ∷ count ∷ other ∷ more) line h = absurd (cc)
 
@@ -286,10 +290,10 @@ ready m = record { ready = refl; moves = refl; groups = refl }
 
 -- what is read is whole
 pub IsBench-read : (m : MachinePart) (s : Setup) (events : List (List (List ℕ))) (lines : List BenchLine) → setup_of m ≡ Some s →
-    each_of (event_of m.task m.block) events ≡ Some lines → are_fitting s lines ≡ true → IsSetup s →
+    each_of (event_of m.task m.block) events ≡ Some lines → are_fitting s lines ≡ true → IsSetup s → m.axis.limits.dmax ≡ m.axis.limits.amax →
     IsBench (record { config = s; lines = lines })
 unfolding are_fitting has_room
-IsBench-read m s events lines made read fits setup =
+IsBench-read m s events lines made read fits setup even =
     let tests = and_parts (list_all (λ a. is_first_within a.limits lines) s.axes) (nat_le (entries_of lines) s.entries && nat_le (cycles_of_lines lines) s.cycles) fits in
     let room = and_parts (nat_le (entries_of lines) s.entries) (nat_le (cycles_of_lines lines) s.cycles) tests.1 in
     let all : AllByRecursion IsRead lines = each_of-all (event_of m.task m.block) IsRead (event_of-read m.task m.block) events lines read in
@@ -297,6 +301,7 @@ IsBench-read m s events lines made read fits setup =
     record {
       ready = here;
       setup = setup;
+      braking = subst (λ (t : Setup). All BrakesAsItSpeedsUp t.axes) (setup_is m s made) (All-cons BrakesAsItSpeedsUp (axis_in m) [] even (All-nil BrakesAsItSpeedsUp));
       lines = All-from_recursion (IsLineOf s) lines (lines-of s here setup lines all);
       entries = leb-true (entries_of lines) s.entries room.0;
       cycles = leb-true (cycles_of_lines lines) s.cycles room.1;

@@ -1,7 +1,8 @@
--- A configuration is made item by item where its parts pass the tests, and no item is refused otherwise.
+-- A configuration is made item by item where its parts pass the tests, and no item is refused
+-- otherwise.
 use Rattle.std.proofs.Common.{◌≡◌, ℕ, Bool, true, false, List, [], ◌∷◌, ◌++◌, length, Option, Some, None, Ok, Err, refl, sym, ap, subst, ◌∙◌, inl, inr}
-use Rattle.std.specs.Prelude.{ℤ, not, ◌&&◌}
-use Rattle.std.proofs.lemmas.Bool.{cases_Bool}
+use Rattle.std.specs.Prelude.{ℤ, not}
+use Rattle.std.proofs.lemmas.Bool.{cases_Bool, and_left, and_right}
 use Rattle.axis_state.specs.Names.{is_name}
 use Rattle.axis_state.specs.declared.definition.AxisDef.{AxisDef}
 use Rattle.command_pool.specs.declared.kind.BlockKind.TheVariants.{MoveAbsolute}
@@ -57,14 +58,6 @@ block_in m = record { name = m.block; task = 0; kind = MoveAbsolute; object = 0 
 abbrev pub with_block : MachinePart → Setup
 with_block m = record (with_task m) { blocks = block_in m ∷ [] }
 
-false_left : (a b : Bool) → a ≡ false → (a && b) ≡ false
-false_left true b h = absurd cc
-false_left false b h = refl
-
-false_right : (a b : Bool) → b ≡ false → (a && b) ≡ false
-false_right true b h = h
-false_right false b h = refl
-
 -- the test of its range
 abbrev in_range : MachinePart → Bool
 in_range m = is_axis_range m.axis.limits m.axis.inc m.axis.start
@@ -75,7 +68,7 @@ out_of_range m h = rw h refl
 
 not_apart : (m : MachinePart) → are_apart m ≡ false → setup_of m ≡ None
 unfolding setup_of
-not_apart m h = rw (false_right (in_range m) (are_apart m) h) refl
+not_apart m h = rw (and_right (in_range m) (are_apart m) h) refl
 
 whole : (m : MachinePart) → in_range m ≡ true → are_apart m ≡ true → setup_of m ≡ Some (with_block m)
 unfolding setup_of
@@ -145,9 +138,9 @@ pub block_refused : (m : MachinePart) (s : Setup) (name : List ℕ) (task object
 block_refused m s name task object e p q r t named h =
     let faults : FaultsBy {A = ℕ} (block_fault (with_task m) m.block 0 MoveAbsolute 0) (Err e) = rw (p, q, r, t) at h in
     stops _ e _ faults (λ fails. elim (cases_Bool (says m.axis.name m.block)) [
-      | inl same ↦ not_apart m (false_left _ _ (false_right _ _ (ap not same)))
+      | inl same ↦ not_apart m (and_left _ _ (and_right _ _ (ap not same)))
       | inr apart ↦ elim (cases_Bool (says m.task m.block)) [
-        | inl same ↦ not_apart m (false_right _ _ (ap not same))
+        | inl same ↦ not_apart m (and_right _ _ (ap not same))
         | inr other ↦ absurd (fails (block_passes m named apart other))
       ]
     ])

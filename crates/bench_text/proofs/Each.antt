@@ -1,7 +1,7 @@
 -- Items that are read one behind the other, as a loop does.
-use Rattle.std.proofs.Common.{◌≡◌, ℕ, suc, ◌+◌, ◌<◌, ◌≤◌, List, [], ◌∷◌, ◌++◌, length, get_or, drop, map, Option, Some, None, refl, sym, ap, subst, ◌∙◌, append_assoc, add-one}
+use Rattle.std.proofs.Common.{◌≡◌, ℕ, suc, ◌+◌, ◌<◌, List, [], ◌∷◌, ◌++◌, length, get_or, drop, map, Option, Some, None, refl, sym, ap, subst, ◌∙◌, append_assoc, add-one}
 use Rattle.std.proofs.Math.Seq.{drop-cons}
-use Rattle.std.proofs.lemmas.List.{append-nil, drop_all, get_or-map, length-map}
+use Rattle.std.proofs.lemmas.List.{get_or-map, length-map}
 use Rattle.motion_history.specs.declared.refused.TextFault.{TextFault}
 use Rattle.motion_history.specs.declared.refused.TextFault.TheVariants.{Refused, OutOfMemory}
 use Rattle.bench_text.specs.Numbers.{◌>>=◌}
@@ -16,18 +16,10 @@ after_front front read = read >>= λ ys. Some (front ++ ys)
 pub record IsReadSoFar {A B : Type 0} (read : A → Option B) (xs : List A) (i : ℕ) (front : List B) : Type 0 where
   pub whole : after_front front (each_of read (drop i xs)) ≡ each_of read xs
 
-after_front-nil : {B : Type 0} (read : Option (List B)) → after_front [] read ≡ read
-after_front-nil (Some ys) = refl
-after_front-nil None = refl
-
 regroup : {B : Type 0} (front : List B) (y : B) (read : Option (List B)) →
     after_front front (read >>= λ ys. Some (y ∷ ys)) ≡ after_front (front ++ y ∷ []) read
 regroup front y (Some ys) = ap (λ (zs : List _). Some zs) (sym (append_assoc front (y ∷ []) ys))
 regroup front y None = refl
-
--- nothing is read before the first
-pub IsReadSoFar-first : {A B : Type 0} (read : A → Option B) (xs : List A) → IsReadSoFar read xs 0 []
-IsReadSoFar-first read xs = record { whole = after_front-nil (each_of read xs) }
 
 map_length : {X A : Type 0} (f : X → A) (xs : List X) → length (map f xs) ≡ length xs
 map_length f xs = simp length-map
@@ -64,11 +56,3 @@ pub IsReadSoFar-stops : {X A B : Type 0} (read : A → Option B) (f : X → A) (
     Refuses (read (f (get_or xs i d))) e → IsReadSoFar read (map f xs) i front → Refuses (each_of read (map f xs)) e
 IsReadSoFar-stops read f xs i front d (Refused r) l h s = (IsReadSoFar-none read f xs i front d l h.0 s, h.1)
 IsReadSoFar-stops read f xs i front d OutOfMemory l h s = tt
-
--- all items
-pub IsReadSoFar-whole : {X A B : Type 0} (read : A → Option B) (f : X → A) (xs : List X) (i : ℕ) (front : List B) → length xs ≤ i →
-    IsReadSoFar read (map f xs) i front → each_of read (map f xs) ≡ Some front
-IsReadSoFar-whole read f xs i front l s =
-    let short : length (map f xs) ≤ i = subst (λ (n : ℕ). n ≤ i) (sym (map_length f xs)) l in
-    let none : each_of read (drop i (map f xs)) ≡ Some [] = rw (drop_all i (map f xs) short) refl in
-    sym s.whole ∙ ap (after_front front) none ∙ ap (λ (zs : List _). Some zs) (append-nil front)

@@ -2,7 +2,7 @@
 use Rattle.std.proofs.Common.{◌≡◌, ℕ, ◌+◌, ◌<◌, Bool, true, false, List, [], ◌∷◌, length, refl, ap, ◌∙◌, inl, inr, arith}
 use Rattle.std.specs.Prelude.{not, ◌||◌, ◌==◌, count_by}
 use Rattle.std.specs.List.{AllByRecursion, join_with_byte, list_all, onto_first, slice_split}
-use Rattle.std.proofs.lemmas.Bool.{cases_Bool, and_from, and_parts}
+use Rattle.std.proofs.lemmas.Bool.{cases_Bool, and_from, and_parts, not-true}
 use Rattle.std.proofs.lemmas.List.Elements.{All-from_recursion}
 use Rattle.std.proofs.lemmas.List.Folds.{list_all-append}
 use Rattle.std.proofs.lemmas.List.Splits.{slice_split_none, slice_split_at, length-slice_split}
@@ -44,13 +44,9 @@ some-part p xs = let h : length (slice_split p xs) ≡ count_by p xs + 1 = lengt
 abbrev pub Uncut : (c : ℕ) → List ℕ → Type 0
 Uncut c xs = Passes (λ b. not (b == c)) xs
 
-not-false : (b : Bool) → not b ≡ true → b ≡ false
-not-false true h = absurd cc
-not-false false h = refl
-
 uncut : (c : ℕ) (xs : List ℕ) → Uncut c xs → AllByRecursion (λ b. (b == c) ≡ false) xs
 uncut c [] h = tt
-uncut c (x ∷ xs) h = let both = and_parts (not (x == c)) (list_all (λ b. not (b == c)) xs) h in (not-false _ both.0, uncut c xs both.1)
+uncut c (x ∷ xs) h = let both = and_parts (not (x == c)) (list_all (λ b. not (b == c)) xs) h in (not-true _ both.0, uncut c xs both.1)
 
 -- joined parts are cut into them again
 pub split-joined : (c : ℕ) (part : List ℕ) (parts : List (List ℕ)) → AllByRecursion (Uncut c) (part ∷ parts) → (c == c) ≡ true →

@@ -13,7 +13,8 @@ abbrev pub Refuses : {Y : Type 0} → Option Y → TextFault → Type 0
 Refuses reading (Refused r) = (reading ≡ None) × (r ≡ not_the_form)
 Refuses reading OutOfMemory = Unit {0}
 
--- the answer, seen by the view, is this reading where there is one; it is refused where there is none; or memory ran out
+-- the answer, seen by the view, is this reading where there is one; it is refused where there is
+-- none; or memory ran out
 abbrev pub Gives : {X Y : Type 0} → (X → Y) → Option Y → Result X TextFault → Type 0
 Gives view reading (Ok x) = reading ≡ Some (view x)
 Gives view reading (Err e) = Refuses reading e

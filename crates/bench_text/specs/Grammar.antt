@@ -1,4 +1,5 @@
--- The lines of a bench in the form that is read so far: one ready axis, one task and one block of kind MoveAbsolute.
+-- The lines of a bench in the form that is read so far: one ready axis, one task and one block of
+-- kind MoveAbsolute.
 use Rattle.std.specs.Prelude.{ℕ, ℤ, pos, Bool, true, false, ◌&&◌, ◌==◌, if◌then◌else◌, codes, nat_eq, Option, Some, None, List, [], ◌∷◌, length, drop}
 use Rattle.std.specs.List.{starts_with}
 use Rattle.axis_state.specs.Names.{is_name}
@@ -9,6 +10,7 @@ use Rattle.fb_outputs.specs.declared.inputs.Inputs.{Inputs}
 use Rattle.bench_text.specs.declared.bench.BenchLine.{BenchLine}
 use Rattle.bench_text.specs.declared.bench.BenchLine.TheVariants.{Call, Cycles, End}
 use Rattle.bench_text.specs.declared.machine.Room.{Room}
+use Rattle.bench_text.specs.declared.machine.TheConstants.{MOST_CYCLES, MOST_ENTRIES}
 use Rattle.bench_text.specs.Texts.{says}
 use Rattle.bench_text.specs.Numbers.{◌>>=◌, number_of, count_of}
 
@@ -17,15 +19,17 @@ unfoldable pub is_version : List (List ℕ) → Bool
 is_version (word ∷ version ∷ []) = says word (codes "motion-bench") && says version (codes "1")
 is_version _ = false
 
--- `limit CYCLES ENTRIES`: the room of the history, 1 to 200,000 cycles and 1 to 1,000,000 entries. This project's profile
+-- `limit CYCLES ENTRIES`: the room of the history, 1 to 200,000 cycles and 1 to 1,000,000 entries.
+-- This project's profile
 unfoldable pub room_of : List (List ℕ) → Option Room
 room_of (word ∷ cycles ∷ entries ∷ []) =
     if says word (codes "limit") then
-    (count_of 200000 cycles >>= λ c. count_of 1000000 entries >>= λ e. Some (record { cycles = c; entries = e }))
+    (count_of MOST_CYCLES cycles >>= λ c. count_of MOST_ENTRIES entries >>= λ e. Some (record { cycles = c; entries = e }))
     else None
 room_of _ = None
 
--- LO HI VMAX AMAX of an axis, in internal units, per cycle and per cycle per cycle; it brakes as hard as it speeds up. This project's profile
+-- LO HI VMAX AMAX of an axis, in internal units, per cycle and per cycle per cycle; it brakes as
+-- hard as it speeds up. This project's profile
 unfoldable pub limits_of : List ℕ → List ℕ → List ℕ → List ℕ → Option Limits
 limits_of lo hi vmax amax =
     number_of lo >>= λ l. number_of hi >>= λ h. number_of vmax >>= λ v. number_of amax >>= λ a.
@@ -57,14 +61,16 @@ unfoldable pub is_go : List (List ℕ) → Bool
 is_go (word ∷ []) = says word (codes "go")
 is_go _ = false
 
--- `KEY=VALUE` at the front of the words: the value, and the words behind it. Where the key is left out, 0 and all the words. This project's profile
+-- `KEY=VALUE` at the front of the words: the value, and the words behind it. Where the key is left
+-- out, 0 and all the words. This project's profile
 unfoldable pub value_at : List ℕ → List (List ℕ) → Option (ℤ × List (List ℕ))
 value_at key [] = Some (pos 0, [])
 value_at key (word ∷ words) =
     if starts_with nat_eq word key then (number_of (drop (length key) word) >>= λ value. Some (value, words))
     else Some (pos 0, word ∷ words)
 
--- the inputs of a call with Execute true: pos, vel, acc and dec, each at most once and in this order. This project's profile
+-- the inputs of a call with Execute true: pos, vel, acc and dec, each at most once and in this
+-- order. This project's profile
 unfoldable pub inputs_of : List (List ℕ) → Option Inputs
 inputs_of words =
     value_at (codes "pos=") words >>= λ p. value_at (codes "vel=") p.1 >>= λ v. value_at (codes "acc=") v.1 >>= λ a.
@@ -96,7 +102,7 @@ single_cycle word = if says word (codes "cycle") then Some (Cycles 1) else None
 
 -- `cycle N`: so many cycles, 1 to 200,000. This project's profile
 abbrev pub some_cycles : List ℕ → List ℕ → Option BenchLine
-some_cycles word count = if says word (codes "cycle") then (count_of 200000 count >>= λ n. Some (Cycles n)) else None
+some_cycles word count = if says word (codes "cycle") then (count_of MOST_CYCLES count >>= λ n. Some (Cycles n)) else None
 
 -- a line of cycles. This project's profile
 unfoldable pub cycles_line_of : List (List ℕ) → Option BenchLine

@@ -1,7 +1,9 @@
 -- Numbers in a text.
-use Rattle.std.specs.Prelude.{ℕ, ◌+◌, ◌-◌, ◌*◌, ◌^◌, ℤ, pos, neg_ℤ, unsigned_abs, int_le, Bool, false, ◌&&◌, ◌==◌, nat_le, if◌then◌else◌, Option, Some, None, option_and_then, List, [], ◌∷◌, length, drop}
+use Rattle.std.specs.Prelude.{ℕ, ◌+◌, ◌-◌, ◌*◌, ◌^◌, ℤ, pos, neg_ℤ, unsigned_abs, int_le, ◌&&◌, nat_le, if◌then◌else◌, Option, Some, None, option_and_then, List, [], ◌∷◌, length, drop}
 use Rattle.std.specs.List.{list_all}
 use Rattle.axis_state.specs.Names.{is_digit}
+use Rattle.bench_text.specs.declared.number.TheConstants.{LARGEST, MOST_DIGITS}
+use Rattle.fixed_units.specs.Numbers.{is_negative}
 
 infixl 10 ◌>>=◌
 -- what comes of the second step where the first has an answer
@@ -16,13 +18,8 @@ value_of (b ∷ bs) = (b - 48) * 10 ^ length bs + value_of bs
 -- the size of a number: 1 to 19 digits, at most 10^18. This project's profile
 unfoldable pub size_of : List ℕ → Option ℕ
 size_of digits =
-    if nat_le 1 (length digits) && nat_le (length digits) 19 && list_all is_digit digits && nat_le (value_of digits) 1000000000000000000
+    if nat_le 1 (length digits) && nat_le (length digits) MOST_DIGITS && list_all is_digit digits && nat_le (value_of digits) LARGEST
     then Some (value_of digits) else None
-
--- whether a word begins with a minus sign
-abbrev pub is_negative : List ℕ → Bool
-is_negative [] = false
-is_negative (b ∷ bs) = b == 45
 
 -- a number: its size, behind a minus sign where it is negative. This project's profile
 unfoldable pub number_of : List ℕ → Option ℤ

@@ -29,7 +29,8 @@ machine_of version limit axis task block go =
 abbrev pub are_apart : MachinePart → Bool
 are_apart m = not (says m.axis.name m.task) && not (says m.axis.name m.block) && not (says m.task m.block)
 
--- the configuration of a machine part: its axis is in its ranges, and its names differ. This project's profile
+-- the configuration of a machine part: its axis is in its ranges, and its names differ. This
+-- project's profile
 unfoldable pub setup_of : MachinePart → Option Setup
 setup_of m =
     if is_axis_range m.axis.limits m.axis.inc m.axis.start && are_apart m then Some (record {
@@ -46,12 +47,14 @@ setup_of m =
 unfoldable pub is_from_to : ℤ → ℤ → ℤ → Bool
 is_from_to low z high = is_between low z high
 
--- whether a call has rates within an axis's limits: vel from 1 to vmax, acc and dec from 1 to amax. This project's profile
+-- whether a call has rates within an axis's limits: vel from 1 to vmax, acc and dec from 1 to amax.
+-- This project's profile
 unfoldable pub are_rates_within : Limits → Inputs → Bool
 are_rates_within l i =
     is_from_to (pos 1) i.velocity l.vmax && is_from_to (pos 1) i.acceleration l.amax && is_from_to (pos 1) i.deceleration l.amax
 
--- whether a call moves within an axis's limits: pos from lo to hi, and its rates. This project's profile
+-- whether a call moves within an axis's limits: pos from lo to hi, and its rates. This project's
+-- profile
 unfoldable pub is_within : Limits → Inputs → Bool
 is_within l i = is_from_to l.lo (slice_index_or i.positions 0 (pos 0)) l.hi && are_rates_within l i
 
@@ -62,15 +65,18 @@ is_first_within l (Call k i ∷ lines) = is_within l i
 is_first_within l (Cycles n ∷ lines) = is_first_within l lines
 is_first_within l (End t ∷ lines) = is_first_within l lines
 
--- whether a configuration has room for every entry and every cycle of the lines. This project's profile
+-- whether a configuration has room for every entry and every cycle of the lines. This project's
+-- profile
 unfoldable pub has_room : Setup → List BenchLine → Bool
 has_room s lines = nat_le (entries_of lines) s.entries && nat_le (cycles_of_lines lines) s.cycles
 
--- whether the lines fit a configuration: the first call moves within the axis's limits, and there is room for all. This project's profile
+-- whether the lines fit a configuration: the first call moves within the axis's limits, and there
+-- is room for all. This project's profile
 unfoldable pub are_fitting : Setup → List BenchLine → Bool
 are_fitting s lines = list_all (λ a. is_first_within a.limits lines) s.axes && has_room s lines
 
--- the bench that lines of words are: the six lines of its machine part, and then its lines of events. This project's profile
+-- the bench that lines of words are: the six lines of its machine part, and then its lines of
+-- events. This project's profile
 unfoldable pub reading : List (List (List ℕ)) → Option BenchState
 reading (version ∷ limit ∷ axis ∷ task ∷ block ∷ go ∷ events) =
     machine_of version limit axis task block go >>= λ m. setup_of m >>= λ s. each_of (event_of m.task m.block) events >>= λ lines.
@@ -81,13 +87,15 @@ reading _ = None
 unfoldable pub bench_of : List ℕ → Option BenchState
 bench_of text = lines_of text >>= reading
 
--- a text is this bench: it spells lines of words of which the bench is the reading. This project's profile
+-- a text is this bench: it spells lines of words of which the bench is the reading. This project's
+-- profile
 pub record IsBenchOf (text : List ℕ) (bench : BenchState) : Type 0 where
   pub lines : List (List (List ℕ))
   pub words : AreLines lines
   pub spelled : text ≡ spelling lines
   pub read : reading lines ≡ Some bench
 
--- the answer is this bench where there is one; it is refused at place 0 by rule B0 where there is none; or memory ran out
+-- the answer is this bench where there is one; it is refused at place 0 by rule B0 where there is
+-- none; or memory ran out
 abbrev pub ReadsBy : Option BenchState → Result BenchState TextFault → Type 0
 ReadsBy bench result = Gives (λ b. b) bench result

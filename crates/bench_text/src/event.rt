@@ -7,7 +7,7 @@ ghost use Rattle.bench_text.specs.Texts.{texts};
 
 use crate::bench::BenchLine;
 use crate::machine::MOST_CYCLES;
-use crate::number::{count_of, number_of};
+use crate::number::{LARGEST, count_of, number_of};
 use crate::word::says;
 use axis_state::Name;
 use command_pool::BufferMode;
@@ -126,7 +126,7 @@ fn inputs_of(words: &[&[u8]]) -> Option<Inputs>
 fn value_at<'a, 'b>(key: &[u8], words: &'b [&'a [u8]]) -> Option<(i64, &'b [&'a [u8]])>
     ensures value { option_map (λ r. (r.0, texts r.1.now)) result ≡
         grammar.value_at key.now (texts words.now) }
-    ensures small { IfSome result (λ r. unsigned_abs r.0 ≤ 1000000000000000000) }
+    ensures small { IfSome result (λ r. unsigned_abs r.0 ≤ LARGEST) }
 {
     let [word, others @ ..] = words else {
         return Some((0, words));

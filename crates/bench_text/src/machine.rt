@@ -14,7 +14,7 @@ use axis_state::{AxisDef, Limits, Name, is_name};
 pub const MOST_CYCLES: u32 = 200_000;
 
 /// The most entries of the history that a bench may have room for.
-const MOST_ENTRIES: u32 = 1_000_000;
+pub const MOST_ENTRIES: u32 = 1_000_000;
 
 /// The room of a history.
 #[derive(Clone, Copy)]
@@ -76,7 +76,8 @@ pub fn room_of(words: &[&[u8]]) -> Option<Room>
 // The limits of an axis.
 #[tactic(auto, unfolding(crate::specs::Grammar::limits_of))]
 fn limits_of(lo: &[u8], hi: &[u8], vmax: &[u8], amax: &[u8]) -> Option<Limits>
-    ensures { result ≡ grammar.limits_of lo.now hi.now vmax.now amax.now }
+    ensures value { result ≡ grammar.limits_of lo.now hi.now vmax.now amax.now }
+    ensures braking { IfSome result (λ l. l.dmax ≡ l.amax) }
 {
     let lo = number_of(lo)?;
     let hi = number_of(hi)?;
@@ -94,7 +95,8 @@ fn limits_of(lo: &[u8], hi: &[u8], vmax: &[u8], amax: &[u8]) -> Option<Limits>
 /// The axis that a line defines, its ranges aside.
 #[tactic(auto, unfolding(crate::specs::Grammar::axis_of))]
 pub fn axis_of(words: &[&[u8]]) -> Option<AxisDef>
-    ensures { result ≡ grammar.axis_of (texts words.now) }
+    ensures value { result ≡ grammar.axis_of (texts words.now) }
+    ensures braking { IfSome result (λ a. a.limits.dmax ≡ a.limits.amax) }
 {
     let [word, name, lo, hi, vmax, amax, inc, start, ready] = words else {
         return None;
@@ -162,6 +164,7 @@ pub fn machine_of(
     ensures value { result ≡ spec.machine_of (texts version.now) (texts limit.now) (texts axis.now)
         (texts task.now) (texts block.now) (texts go.now) }
     ensures room { IfSome result (λ m. IsRoom m.room) }
+    ensures braking { IfSome result (λ m. m.axis.limits.dmax ≡ m.axis.limits.amax) }
 {
     if !is_version(version) || !is_go(go) {
         return None;

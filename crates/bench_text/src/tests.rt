@@ -49,7 +49,8 @@ fn is_refused(answer: &Result<Bench, TextFault>) -> bool {
     }
 }
 
-// Stops the test unless the machine has this room, this axis and one block of kind MoveAbsolute on it.
+// Stops the test unless the machine has this room, this axis and one block of kind MoveAbsolute on
+// it.
 fn expect_machine(rt: &impl Abort, bench: &Bench, cycles: u32, entries: u32, axis_name: &[u8]) {
     let config = bench.config();
     assert_eq!(rt; config.cycles(), cycles);
@@ -128,7 +129,8 @@ fn refuses_amax_one(rt: HostRuntime) {
     assert!(rt; is_refused(&read_bench(rt.alloc(), AMAX_ONE.as_bytes())));
 }
 
-// Stops the test unless each text is refused that has in place of what stands first what stands second.
+// Stops the test unless each text is refused that has in place of what stands first what stands
+// second.
 fn expect_refused(
     rt: &impl Abort,
     alloc: Global,
@@ -304,7 +306,8 @@ fn refuses_bytes_that_are_no_text(rt: HostRuntime) {
     }
 }
 
-// What stands in the text of one move, what stands there instead, and how many lines of events there are.
+// What stands in the text of one move, what stands there instead, and how many lines of events
+// there are.
 #[test]
 fn reads_other_texts(rt: HostRuntime) -> Result<(), Fail> {
     let cases = [

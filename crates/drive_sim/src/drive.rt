@@ -84,10 +84,8 @@ impl Drive {
         requires rising { RisesAbove 0 faults.now }
         ensures { IfOk result (λ drive. drive ≡ spec.opened lag faults.now count ready) }
     {
-        let faults = faults.to_vec(alloc).map_err(|_| OutOfMemory)?;
-        let kept = HeapCircularBuffer::with_capacity(alloc, lag as usize + 1).map_err(
-            |_| OutOfMemory,
-        )?;
+        let faults = faults.to_vec(alloc)?;
+        let kept = HeapCircularBuffer::with_capacity(alloc, lag as usize + 1)?;
         Ok(opened(faults, kept, count, ready))
     }
 

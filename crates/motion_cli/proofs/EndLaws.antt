@@ -2,6 +2,7 @@
 use Rattle.std.specs.Prelude.{◌≡◌, refl, ℕ, Option, Some, None, Result, Ok, Err, List, map, IfOk}
 use Rattle.std.specs.declared.alloc.AllocError.{AllocError}
 use Rattle.std.proofs.Common.{Vec, Global, ◌∙◌, sym, ap, subst}
+use Rattle.bench_text.specs.Answers.{not_the_form}
 use Rattle.bench_text.specs.BenchState.{BenchState}
 use Rattle.cia402_machine.specs.declared.drive.DriveIn.{DriveIn}
 use Rattle.cia402_machine.specs.declared.drive.DriveState.TheVariants.{OperationEnabled}
@@ -14,32 +15,35 @@ use Rattle.motion_history.specs.declared.refused.TextFault.TheVariants.{Refused}
 use Rattle.motion_history.specs.declared.refused.TextRefused.{TextRefused}
 use Rattle.motion_kernel.specs.KernelState.{KernelState}
 use Rattle.motion_kernel.specs.Machine.{IsLegal}
-use Rattle.trace_text.proofs.Writing.{WritesPrefix-none}
 use Rattle.trace_text.specs.Trace.{trace_text}
-use Rattle.trace_text.specs.Writes.{Output, Writes}
+use Rattle.trace_text.specs.Writes.{Output, Writes, WritesPrefix}
 use Rattle.trace_text.specs.declared.write.Command.TheVariants.{Bench}
 use Rattle.trace_text.specs.declared.write.DriveEndRow.{DriveEndRow}
 use Rattle.trace_text.specs.declared.write.TraceFault.{TraceFault}
 use Rattle.trace_text.specs.declared.write.TraceFault.TheVariants as fault
 use Rattle.motion_cli.proofs.RunLaws.{run_at}
-use Rattle.motion_cli.specs.Ends.{Plan, EndsBy, EndsEarly, IsLegalRun, RunsBy, Says, status_by, bench_trace, not_the_form, plan_of_reading, refused_line}
+use Rattle.motion_cli.specs.Ends.{Plan, EndsBy, EndsEarly, IsLegalRun, RunsBy, Says, status_by, bench_trace, plan_of_reading, refused_line}
 use Rattle.motion_cli.specs.Run.{Run, run_of, drives_of}
 use Rattle.motion_cli.specs.declared.status.Status.{Status}
 use Rattle.motion_cli.specs.declared.status.Status.TheVariants as status
 
+-- nothing of a text is a beginning of it
+abbrev pub NothingIsABeginning : Type 0
+NothingIsABeginning = (told : Option (List ℕ)) (text : List ℕ) → WritesPrefix told told text
+
 -- memory that runs out before anything is written is a cause to end by any plan
-pub early : (old new : Output) (plan : Plan) (s : Status) → EndsEarly old new s → EndsBy old new plan s
-early old new plan s e = rw e.output (record {
+pub early : NothingIsABeginning → (old new : Output) (plan : Plan) (s : Status) → EndsEarly old new s → EndsBy old new plan s
+early none old new plan s e = rw e.output (record {
   written = Err fault.OutOfMemory;
-  writes = (refl, WritesPrefix-none old.told plan.text);
+  writes = (refl, none old.told plan.text);
   status = e.status;
 })
 
 -- a line that is the text of a plan
-pub said : (old new : Output) (line : Result (Vec ℕ Global) AllocError) (text : List ℕ) (s r : Status) → IfOk line (λ v. v.items ≡ text) →
+pub said : NothingIsABeginning → (old new : Output) (line : Result (Vec ℕ Global) AllocError) (text : List ℕ) (s r : Status) → IfOk line (λ v. v.items ≡ text) →
     Says old new line s r → EndsBy old new (record { status = s; text = text }) r
-said old new (Ok v) text s r e w = let P : List ℕ → Type 0 = λ t. EndsBy old new (record { status = s; text = t }) r in subst P e w
-said old new (Err x) text s r e w = early old new (record { status = s; text = text }) r w
+said none old new (Ok v) text s r e w = let P : List ℕ → Type 0 = λ t. EndsBy old new (record { status = s; text = t }) r in subst P e w
+said none old new (Err x) text s r e w = early none old new (record { status = s; text = text }) r w
 
 -- the same plan
 pub same-plan : (old new : Output) (p q : Plan) (s : Status) → p ≡ q → EndsBy old new p s → EndsBy old new q s
@@ -71,10 +75,9 @@ drives-are b k shown answers drives cycles r n a d =
 
 -- the trace that is written is that of the bench
 pub trace-is : (b : BenchState) (s : Setup) (k : KernelState) (es : List Entry) (answers : List DriveIn) (drives : List DriveEndRow) →
-    s ≡ k.config → k.config ≡ b.config → es ≡ k.history → run_at k answers ≡ run_of b → drives ≡ drives_of (run_of b) →
+    s ≡ b.config → es ≡ k.history → run_at k answers ≡ run_of b → drives ≡ drives_of (run_of b) →
     trace_text Bench s es drives ≡ bench_trace b
-trace-is b s k es answers drives c c2 e r d =
-    let config = c ∙ c2 in
+trace-is b s k es answers drives config e r d =
     let history : es ≡ (run_of b).history = e ∙ ap (λ (x : Run). x.history) r in
     λ t. trace_text Bench (config t) (history t) (d t)
 

@@ -46,7 +46,8 @@ going-on k k2 ins answers outs g c a l = record {
   operational = rw a (all_operational outs);
 }
 
--- what a loop of a run keeps: it goes on, there is room for the rest, and the rest leads to the whole
+-- what a loop of a run keeps: it goes on, there is room for the rest, and the rest leads to the
+-- whole
 pub record IsUnderWay (k : KernelState) (answers : List DriveIn) (more_entries more_cycles : ℕ) (rest whole : Run) : Type 0 where
   pub going : IsGoing k answers
   pub room : length k.history + more_entries ≤ k.config.entries
@@ -132,19 +133,6 @@ line-further add s k k2 answers answers2 lines i d whole at before c c2 e g =
       cycles = rw (m, c2) (omega (arith, b));
       so_far = ap (made_all s ls) (e ∙ ap (λ t. made t l (run_at k answers)) c) ∙ u.so_far;
     }
-
--- there is room for a line
-pub room-for : (k : KernelState) (answers : List DriveIn) (lines : List BenchLine) (i : ℕ) (d : BenchLine) (rest whole : Run) → i < length lines →
-    IsUnderWay k answers (entries_of (drop i lines)) (cycles_of_lines (drop i lines)) rest whole →
-    (length k.history + bench.entry_count (slice_index_or lines i d) ≤ k.config.entries) ×
-    (cycles_of k.history + bench.cycle_count (slice_index_or lines i d) ≤ k.config.cycles)
-room-for k answers lines i d rest whole at u =
-    let e : drop i lines ≡ slice_index_or lines i d ∷ drop (i + 1) lines = drop_more lines i d at in
-    let n = ap entries_of e ∙ sum_by-cons bench.entry_count (slice_index_or lines i d) (drop (i + 1) lines) in
-    let m = ap cycles_of_lines e ∙ sum_by-cons bench.cycle_count (slice_index_or lines i d) (drop (i + 1) lines) in
-    let a = u.room in
-    let b = u.cycles in
-    (omega arith, omega arith)
 
 first_operational : (axes : List AxisDef) → All IsOperational (map opening_answer axes)
 first_operational [] = All-nil IsOperational

@@ -1,7 +1,8 @@
 -- What the program writes, and the status that it ends with.
-use Rattle.std.specs.Prelude.{◌≡◌, ℕ, ◌≤◌, ◌⊎◌, codes, decimal, Option, Some, None, Result, Ok, Err, List, [], ◌∷◌, ◌++◌, length}
+use Rattle.std.specs.Prelude.{◌≡◌, ℕ, ◌^◌, ◌≤◌, ◌⊎◌, codes, decimal, Option, Some, None, Result, Ok, Err, List, [], ◌∷◌, ◌++◌, length}
 use Rattle.std.proofs.Common.{Vec, Global}
 use Rattle.std.specs.declared.alloc.AllocError.{AllocError}
+use Rattle.bench_text.specs.Answers.{not_the_form}
 use Rattle.bench_text.specs.BenchState.{BenchState}
 use Rattle.bench_text.specs.Reading.{bench_of}
 use Rattle.motion_history.specs.Columns.{KeepTheirLimits}
@@ -26,6 +27,10 @@ pub record Plan : Type 0 where
 abbrev pub usage_line : List ℕ
 usage_line = codes "usage: motion bench FILE | run CONFIG PROGRAM | check TRACE | gen SEED\n"
 
+-- what faulty words lead to: they are told what the program takes. This project's profile
+abbrev pub usage_plan : Plan
+usage_plan = record { status = status.Usage; text = usage_line }
+
 -- the line that tells that a file can't be read. This project's profile
 abbrev pub unread_line : List ℕ → List ℕ
 unread_line name = codes "cannot read " ++ name ++ codes "\n"
@@ -42,15 +47,11 @@ refused_line name r = codes "refused " ++ name ++ codes " " ++ decimal r.place +
 abbrev pub bench_trace : BenchState → List ℕ
 bench_trace b = trace_text Bench b.config (run_of b).history (drives_of (run_of b))
 
--- place 0 and rule B0: the text has not the form that is read so far. This project's profile
-abbrev pub not_the_form : TextRefused
-not_the_form = record { place = 0; rule = record { letter = 66; number = 0 } }
-
 -- what a reading of the file leads to. This project's profile
 abbrev pub plan_of_reading : List ℕ → Option BenchState → Plan
 plan_of_reading name (Some b) = record { status = status.Ok; text = bench_trace b }
 plan_of_reading name None = record {
-  status = status.TextRefused 1 0 (record { letter = 66; number = 0 });
+  status = status.TextRefused 1 not_the_form.place not_the_form.rule;
   text = refused_line name not_the_form;
 }
 
@@ -63,12 +64,12 @@ pub data Found : Type 0 where
   -- its bytes
   Content : List ℕ → Found
 
--- a file can't be read only where the count of faults rose or the told map lacks it; it is too long where it has more than
--- 16 MiB; its bytes are those of the told map. This project's profile
+-- a file can't be read only where the count of faults rose or the told map lacks it; it is too long
+-- where it has more than 16 MiB; its bytes are those of the told map. This project's profile
 abbrev pub IsFound : Option FileMap → Type 0 → List ℕ → Found → Type 0
 IsFound told rose name Unread = rose ⊎ LacksFile told name
-IsFound told rose name Longer = IsLonger told name 16777216
-IsFound told rose name (Content bytes) = HasFile told name bytes × (length bytes ≤ 16777216)
+IsFound told rose name Longer = IsLonger told name (2 ^ 24)
+IsFound told rose name (Content bytes) = HasFile told name bytes × (length bytes ≤ 2 ^ 24)
 
 -- what the file leads to. This project's profile
 abbrev pub plan_of : List ℕ → Found → Plan
@@ -76,7 +77,8 @@ plan_of name Unread = record { status = status.ReadFault 1; text = unread_line n
 plan_of name Longer = record { status = status.TooLong 1; text = too_long_line name }
 plan_of name (Content bytes) = plan_of_reading name (bench_of bytes)
 
--- the run of a bench has a legal history, in which each axis keeps its limits in every row. This project's profile
+-- the run of a bench has a legal history, in which each axis keeps its limits in every row. This
+-- project's profile
 pub record IsLegalRun (b : BenchState) : Type 0 where
   pub legal : IsLegal b.config (run_of b).history
   pub limits : KeepTheirLimits b.config (run_of b).history
@@ -97,8 +99,9 @@ status_by s (Ok u) = s
 status_by s (Err fault.WriteFault) = status.WriteFault
 status_by s (Err fault.OutOfMemory) = status.OutOfMemory
 
--- the text of the plan is written and its status answered; else what was written is a beginning of it, and the status is WriteFault, only where
--- the count of faults of the output rose, or OutOfMemory. This project's profile
+-- the text of the plan is written and its status answered; else what was written is a beginning of
+-- it, and the status is WriteFault, only where the count of faults of the output rose, or
+-- OutOfMemory. This project's profile
 pub record EndsBy (old new : Output) (plan : Plan) (s : Status) : Type 0 where
   pub written : Result (Unit {0}) TraceFault
   pub writes : Writes old new plan.text written
@@ -116,9 +119,10 @@ pub record EndsByFile (told : Option FileMap) (rose : Type 0) (name : List ℕ) 
   pub ends : EndsBy old new (plan_of name found) s
   pub runs : RunsBy (bench_in found) s
 
--- how the program ends: words that are not `bench FILE` are told what is; else it is as the file leads to; or memory ran out. This project's profile
+-- how the program ends: words that are not `bench FILE` are told what is; else it is as the file
+-- leads to; or memory ran out. This project's profile
 abbrev pub Ends : Option FileMap → Type 0 → Option (List ℕ) → Output → Output → Status → Type 0
-Ends told rose None old new s = EndsBy old new (record { status = status.Usage; text = usage_line }) s
+Ends told rose None old new s = EndsBy old new usage_plan s
 Ends told rose (Some name) old new s = EndsByFile told rose name old new s ⊎ EndsEarly old new s
 
 -- a line that there may have been no memory for. This project's profile

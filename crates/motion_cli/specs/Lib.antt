@@ -5,3 +5,4 @@ pub mod WordList
 pub mod Asked
 pub mod Ends
 pub mod Exits
+pub mod Args

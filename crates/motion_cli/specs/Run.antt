@@ -18,7 +18,8 @@ pub record Run : Type 0 where
   pub history : List Entry
   pub answers : List DriveIn
 
--- a cycle: the machine takes the drives' answers, and the drives take its outputs. This project's profile
+-- a cycle: the machine takes the drives' answers, and the drives take its outputs. This project's
+-- profile
 unfoldable pub cycled : Setup → Run → Run
 cycled s r =
     let rows = rows_of (state_of (record { config = s; history = r.history })) r.answers in
@@ -32,7 +33,8 @@ abbrev pub cycled_often : Setup → ℕ → Run → Run
 cycled_often s zero r = r
 cycled_often s (suc n) r = cycled_often s n (cycled s r)
 
--- a line: a call with the machine's reply, so many cycles, or the end of a task. This project's profile
+-- a line: a call with the machine's reply, so many cycles, or the end of a task. This project's
+-- profile
 unfoldable pub made : Setup → BenchLine → Run → Run
 made s (Call k i) r = record r { history = r.history ++ call k i (reply_of (state_of (record { config = s; history = r.history })) k i) ∷ [] }
 made s (Cycles n) r = cycled_often s n r
@@ -43,7 +45,8 @@ abbrev pub made_all : Setup → List BenchLine → Run → Run
 made_all s [] r = r
 made_all s (l ∷ ls) r = made_all s ls (made s l r)
 
--- the run of a bench: from an empty history, with each drive at its axis's start. This project's profile
+-- the run of a bench: from an empty history, with each drive at its axis's start. This project's
+-- profile
 unfoldable pub run_of : BenchState → Run
 run_of b = made_all b.config b.lines (record { history = []; answers = map opening_answer b.config.axes })
 

@@ -7,7 +7,7 @@ ghost use Rattle.motion_cli.specs.Drives as spec;
 ghost use Rattle.cia402_machine.specs.declared.drive.DriveIn.{DriveIn};
 
 use axis_state::{AxisDef, setpoints_have_counts, target_count};
-use cia402_machine::{DriveIn, DriveOut, DriveState};
+use cia402_machine::{CYCLIC_SYNCHRONOUS_POSITION, DriveIn, DriveOut, DriveState};
 use motion_history::axes_are_in_range;
 use std::alloc::{AllocError, Global};
 use trace_text::DriveEndRow;
@@ -15,10 +15,7 @@ use trace_text::DriveEndRow;
 /// The statusword of Operation enabled (object 6041h).
 const OPERATION_ENABLED: u16 = 0x0037;
 
-/// Cyclic synchronous position mode (object 6061h).
-const SYNCHRONOUS_POSITION: i8 = 8;
-
-/// What a drive answers before the first cycle.
+// What a drive answers before the first cycle.
 fn opening_answer(axis: &AxisDef) -> DriveIn
     requires { IsTrue (is_axis axis.now) }
     ensures { result ≡ spec.opening_answer axis.now }
@@ -27,7 +24,7 @@ fn opening_answer(axis: &AxisDef) -> DriveIn
     setpoints_have_counts();
     DriveIn {
         statusword: OPERATION_ENABLED,
-        mode_display: SYNCHRONOUS_POSITION,
+        mode_display: CYCLIC_SYNCHRONOUS_POSITION,
         actual: target_count(axis.start, 0, axis.inc),
     }
 }
@@ -44,13 +41,13 @@ pub fn opening_answers(alloc: Global, axes: &[AxisDef]) -> Result<Vec<DriveIn>, 
     Ok(answers)
 }
 
-/// What a drive answers to an output.
+// What a drive answers to an output.
 fn answer_to(output: &DriveOut) -> DriveIn
     ensures { result ≡ spec.answer_to output.now }
 {
     DriveIn {
         statusword: OPERATION_ENABLED,
-        mode_display: SYNCHRONOUS_POSITION,
+        mode_display: CYCLIC_SYNCHRONOUS_POSITION,
         actual: output.target,
     }
 }
@@ -65,7 +62,7 @@ pub fn answer(outputs: &[DriveOut], answers: &mut [DriveIn])
     }
 }
 
-/// What a drive took at the end, by the cycles that there were.
+// What a drive took at the end, by the cycles that there were.
 fn end_row(cycles: u32, answer: &DriveIn) -> DriveEndRow
     ensures { result ≡ record { taken = cycles; state = DriveState.OperationEnabled; actual = answer.now.actual } }
 {

@@ -1,4 +1,5 @@
-//! The program `motion`: from its words and files to the text that it writes and the status that it ends with.
+//! The program `motion`: from its words and files to the text that it writes and the status that it
+//! ends with.
 #![tactic(auto)]
 
 mod drives;
@@ -9,9 +10,9 @@ mod status;
 mod words;
 
 pub use outside::{Files, OutOfMemory, Sink};
-pub use program::top;
+pub use program::{top, top_of_args};
 pub use status::Status;
-pub use words::Words;
+pub use words::{Words, words_from};
 
 #[cfg(test)]
 mod tests;

@@ -1,8 +1,10 @@
 // The top call of the program.
 
-ghost use Rattle.std.specs.Prelude.{◌≡◌, Some, IfOk};
+ghost use Rattle.std.specs.Prelude.{◌≡◌, ◌≢◌, ◌⊎◌, Some, IfErr, IfOk, OnErr};
+ghost use Rattle.std.specs.IoError.{error_kind};
+ghost use Rattle.motion_cli.specs.Args.{words_of};
 ghost use Rattle.motion_cli.specs.Asked as asked;
-ghost use Rattle.motion_cli.specs.Ends.{Ends, EndsBy, RunsBy, IsLegalRun, Says, plan_of_reading, bench_trace, status_by};
+ghost use Rattle.motion_cli.specs.Ends.{Ends, EndsBy, EndsEarly, RunsBy, IsLegalRun, Says, plan_of_reading, bench_trace, status_by, usage_plan};
 ghost use Rattle.bench_text.specs.Reading.{bench_of};
 ghost use Rattle.outside.specs.Faults.{Rose};
 ghost use Rattle.trace_text.specs.Writes.{Writes};
@@ -11,15 +13,65 @@ use crate::drives::end_rows;
 use crate::lines::{USAGE, named_line, refused_line};
 use crate::run::run;
 use crate::status::Status;
-use crate::words::{Words, bench_file};
+use crate::words::{Words, bench_file, words_from};
 use bench_text::{Bench, read_bench};
 use motion_history::{TextFault, TraceVersion};
-use outside::{Files, FilesFault, Sink, write_all};
+use outside::{Files, FilesFault, OutOfMemory, Sink, write_all};
 use std::alloc::{AllocError, Global};
-use trace_text::{Command, TraceFault, write_trace};
+use std::env::Args;
+use std::io::{self, ErrorKind};
+use trace_text::{Command, TraceFault, parts_are_beginnings, write_trace};
 
 /// The most bytes of a file, 16 MiB.
 const MOST_BYTES: u64 = 16_777_216;
+
+/// Does what the arguments of the process ask for: `top` by their words. Arguments that are no
+/// texts are a faulty command line.
+pub fn top_of_args<F: Files, K: Sink>(
+    alloc: Global,
+    args: io::Result<Args>,
+    files: &mut F,
+    out: &mut K,
+) -> Status
+    ensures words { IfOk args (λ all. Ends (F.told files.old)
+        (Rose (F.count files.old) (F.count files.new)) (asked.bench_file (words_of all))
+        (record { count = K.count out.old; told = K.told out.old })
+        (record { count = K.count out.new; told = K.told out.new }) result ⊎
+        EndsEarly (record { count = K.count out.old; told = K.told out.old })
+        (record { count = K.count out.new; told = K.told out.new }) result) }
+    ensures faulty { IfErr args (λ error. error_kind error ≢ ErrorKind.OutOfMemory →
+        EndsBy (record { count = K.count out.old; told = K.told out.old })
+        (record { count = K.count out.new; told = K.told out.new }) usage_plan result) }
+    ensures memory { IfErr args (λ error. error_kind error ≡ ErrorKind.OutOfMemory →
+        EndsEarly (record { count = K.count out.old; told = K.told out.old })
+        (record { count = K.count out.new; told = K.told out.new }) result) }
+{
+    match args {
+        Ok(args) => top_of_words(words_from(alloc, args), alloc, files, out),
+        Err(error) if error.kind() == ErrorKind::OutOfMemory => Status::OutOfMemory,
+        Err(_) => say_all(USAGE, Status::Usage, out),
+    }
+}
+
+// Does what the words ask for, if there was memory for them.
+fn top_of_words<F: Files, K: Sink>(
+    words: Result<Words, OutOfMemory>,
+    alloc: Global,
+    files: &mut F,
+    out: &mut K,
+) -> Status
+    ensures words { IfOk words (λ all. Ends (F.told files.old)
+        (Rose (F.count files.old) (F.count files.new)) (asked.bench_file all)
+        (record { count = K.count out.old; told = K.told out.old })
+        (record { count = K.count out.new; told = K.told out.new }) result) }
+    ensures memory { OnErr words (EndsEarly (record { count = K.count out.old; told = K.told out.old })
+        (record { count = K.count out.new; told = K.told out.new }) result) }
+{
+    match words {
+        Ok(words) => top(alloc, &words, files, out),
+        Err(OutOfMemory) => Status::OutOfMemory,
+    }
+}
 
 /// Does what the words ask for with the files, writes to the output, and answers how it ended.
 pub fn top<F: Files, K: Sink>(alloc: Global, words: &Words, files: &mut F, out: &mut K) -> Status
@@ -38,6 +90,7 @@ fn say_all<K: Sink>(line: &[u8], status: Status, out: &mut K) -> Status
     ensures { EndsBy (record { count = K.count out.old; told = K.told out.old })
         (record { count = K.count out.new; told = K.told out.new }) (record { status = status; text = line.now }) result }
 {
+    parts_are_beginnings();
     match write_all(out, line) {
         Ok(()) => status,
         Err(_) => Status::WriteFault,
@@ -61,6 +114,7 @@ fn bench<F: Files, K: Sink>(alloc: Global, name: &str, files: &mut F, out: &mut 
         (record { count = K.count out.old; told = K.told out.old })
         (record { count = K.count out.new; told = K.told out.new }) result }
 {
+    parts_are_beginnings();
     let mut text = Vec::new(alloc);
     match files.read_all(name, &mut text, MOST_BYTES) {
         Ok(()) => run_text(alloc, name, text.as_slice(), out),
@@ -84,6 +138,7 @@ fn run_text<K: Sink>(alloc: Global, name: &str, text: &[u8], out: &mut K) -> Sta
     ensures ends { EndsBy (record { count = K.count out.old; told = K.told out.old })
         (record { count = K.count out.new; told = K.told out.new }) (plan_of_reading name.now (bench_of text.now)) result }
 {
+    parts_are_beginnings();
     match read_bench(alloc, text) {
         Ok(bench) => status_of(write_run(alloc, &bench, out)),
         Err(TextFault::Refused(refused)) => say(
@@ -128,7 +183,7 @@ fn write_run<K: Sink>(alloc: Global, bench: &Bench, out: &mut K) -> Result<(), T
         alloc,
         TraceVersion::One,
         Command::Bench,
-        kernel.config(),
+        bench.config(),
         history,
         drives.as_slice(),
         out,

@@ -114,9 +114,7 @@ pub fn run(alloc: Global, bench: &Bench) -> Result<(Kernel, Vec<DriveIn>), OutOf
     ensures going { IfOk result (λ r. IsGoing r.0 r.1.items) }
 {
     let config = bench.config();
-    let Ok(mut answers) = opening_answers(alloc, config.axes()) else {
-        return Err(OutOfMemory);
-    };
+    let mut answers = opening_answers(alloc, config.axes())?;
     let Ok(mut kernel) = Kernel::open(alloc, config.copy(alloc)?) else {
         return Err(OutOfMemory);
     };

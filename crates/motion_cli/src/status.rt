@@ -16,7 +16,8 @@ pub enum Status {
     Illegal { record: u64 },
     /// The words are none of the program's.
     Usage,
-    /// The text of the file is refused: at its first place that breaks a rule, by the first rule there.
+    /// The text of the file is refused: at its first place that breaks a rule, by the first rule
+    /// there.
     TextRefused { word: u8, place: u64, rule: Rule },
     /// The file isn't there, or reading it failed.
     ReadFault { word: u8 },

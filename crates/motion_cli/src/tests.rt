@@ -2,6 +2,7 @@
 use crate::*;
 use motion_history::Rule;
 use outside::{MemoryFiles, MemorySink};
+use std::io::{Error, ErrorKind};
 use std::test::Fail;
 
 const ONE_MOVE: &[u8] = b"motion-bench 1
@@ -150,6 +151,33 @@ fn tells_the_words_that_it_takes(rt: HostRuntime) -> Result<(), Fail> {
         );
         assert_eq!(rt; out.bytes(), USAGE);
     }
+    Ok(())
+}
+
+// Arguments that are no texts, or for which there was no memory, and those of a bench.
+#[test]
+fn takes_the_arguments_of_the_process(rt: HostRuntime) -> Result<(), Fail> {
+    let cases: [(ErrorKind, Status, &[u8]); 2] = [
+        (ErrorKind::InvalidData, Status::Usage, USAGE),
+        (ErrorKind::OutOfMemory, Status::OutOfMemory, b""),
+    ];
+    let mut files = files(&rt, &[])?;
+    for (kind, wanted, line) in cases {
+        let mut out = MemorySink::new(rt.alloc(), &[], u32::MAX)?;
+        let args = Err(Error::from(kind));
+        assert_eq!(rt; top_of_args(rt.alloc(), args, &mut files, &mut out), wanted);
+        assert_eq!(rt; out.bytes(), line);
+    }
+    let mut args = Vec::new(rt.alloc());
+    for arg in ["motion", "bench", "one_move"] {
+        args.push(String::from_str(rt.alloc(), arg)?)?;
+    }
+    let mut out = MemorySink::new(rt.alloc(), &[], u32::MAX)?;
+    assert_eq!(rt;
+        top_of_args(rt.alloc(), Ok(args.into_iter()), &mut files, &mut out),
+        Status::Ok
+    );
+    assert_eq!(rt; out.bytes(), ONE_MOVE_TRACE);
     Ok(())
 }
 

@@ -1,13 +1,16 @@
 // The words of a call of the program.
 
-ghost use Rattle.std.specs.Prelude.{◌≡◌, ◌++◌, ◌∷◌, [], OnErr, OnOk, option_map};
+ghost use Rattle.std.specs.Prelude.{◌≡◌, ◌++◌, ◌∷◌, [], IfOk, OnErr, OnOk, option_map};
+ghost use Rattle.motion_cli.specs.Args.{words_of};
 ghost use Rattle.motion_cli.specs.Asked as spec;
 
 use crate::OutOfMemory;
-use std::alloc::Global;
+use std::alloc::{AllocError, Global};
+use std::env::Args;
 use std::marker::Model;
 
-/// The words with which the program is called, without its own name. Contracts see them as a list of texts.
+/// The words with which the program is called, without its own name. Contracts see them as a list
+/// of texts.
 #[derive(Drop)]
 pub struct Words {
     alloc: Global,
@@ -41,8 +44,25 @@ impl Words {
         ensures err { OnErr result (self.new ≡ self.old) }
     {
         let text = String::from_str(self.alloc, word)?;
-        self.texts.push(text).map_err(|_| OutOfMemory)
+        Ok(push_text(&mut self.texts, text)?)
     }
+}
+
+// Adds a text behind the others.
+fn push_text(texts: &mut Vec<String>, text: String) -> Result<(), AllocError>
+    ensures ok { OnOk result (texts.new.items ≡ texts.old.items ++ text ∷ []) }
+    ensures err { OnErr result (texts.new.items ≡ texts.old.items) }
+{
+    texts.push(text)?;
+    Ok(())
+}
+
+/// The words of the arguments of the process: those behind the first, which is the program's name.
+pub fn words_from(alloc: Global, args: Args) -> Result<Words, OutOfMemory>
+    ensures { IfOk result (λ words. words ≡ words_of args) }
+{
+    let texts = args.skip(1).collect(alloc)?;
+    Ok(Words { alloc, texts })
 }
 
 /// The file of the words `bench FILE`.

@@ -1,5 +1,5 @@
 // Files that are read whole by their names.
-ghost use Rattle.std.specs.Prelude.{◌≡◌, ◌≢◌, ℕ, ◌+◌, ◌≤◌, ◌↔◌, ◌⊎◌, List, Option, Err, OnOk, vec_len};
+ghost use Rattle.std.specs.Prelude.{◌≡◌, ◌≢◌, ℕ, ◌+◌, ◌-◌, ◌<◌, ◌≤◌, ◌↔◌, ◌⊎◌, true, false, List, ◌++◌, length, take, Option, Ok, Err, OnOk, OnErr, vec_len};
 ghost use Rattle.outside.specs.Faults.{Rose};
 ghost use Rattle.outside.specs.Told.{HasFile, LacksFile, BeginsFile, IsLonger};
 
@@ -55,4 +55,24 @@ pub trait Files {
         ensures kept { result ≢ Err FilesFault.Failed → count self.new ≡ count self.old }
 
         ensures map_stays { told self.new ≡ told self.old };
+}
+
+// Appends a piece as far as the budget allows and one byte more, and says whether all of it fits.
+pub(crate) fn take_within(into: &mut Vec<u8>, piece: &[u8], budget: u64) -> Result<bool, AllocError>
+    requires { vec_len into.old ≤ budget }
+    ensures whole { result ≡ Ok true → into.new.items ≡ into.old.items ++ piece.now }
+    ensures within { result ≡ Ok true → vec_len into.new ≤ budget }
+    ensures cut { result ≡ Ok false →
+        into.new.items ≡ into.old.items ++ take (budget + 1 - vec_len into.old) piece.now }
+    ensures over { result ≡ Ok false → vec_len into.new ≡ budget + 1 }
+    ensures longer { result ≡ Ok false → budget < vec_len into.old + length piece.now }
+    ensures err { OnErr result (into.new.items ≡ into.old.items) }
+{
+    let left = budget - into.len() as u64;
+    if piece.len() as u64 <= left {
+        into.extend_from_slice(piece)?;
+        return Ok(true);
+    }
+    into.extend_from_slice(&piece[..left as usize + 1])?;
+    Ok(false)
 }

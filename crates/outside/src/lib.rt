@@ -6,7 +6,7 @@ mod host_files;
 mod memory_files;
 mod memory_sink;
 mod sink;
-mod std_sink;
+mod writer_sink;
 
 pub use files::{Files, FilesFault};
 pub use host_files::HostFiles;
@@ -14,7 +14,7 @@ pub use memory_files::MemoryFiles;
 pub use memory_sink::MemorySink;
 pub use out_of_memory::OutOfMemory;
 pub use sink::{Sink, SinkFailed, write_all};
-pub use std_sink::StdSink;
+pub use writer_sink::{StdSink, WriterSink};
 
 #[cfg(test)]
 mod tests;

@@ -2,6 +2,7 @@
 ghost use Rattle.std.specs.Prelude.{◌≡◌, ◌≢◌, ◌+◌, ◌-◌, ◌^◌, ◌<◌, ◌≤◌, ◌↔◌, ◌⊎◌, [], min, Some, None, Err, IfOk, OnOk, OnErr, IsTrue, Contains, length, take, vec_len};
 ghost use Rattle.outside.specs.Told.{BeginsFile, IsLonger};
 
+use crate::files::take_within;
 use crate::{Files, FilesFault, OutOfMemory};
 use std::alloc::Global;
 use std::collections::BTreeMap;
@@ -107,10 +108,8 @@ fn copy_within(file: &[u8], into: &mut Vec<u8>, budget: u64) -> Result<(), Files
     ensures memory { result ≡ Err FilesFault.OutOfMemory → into.new.items ≡ [] }
     ensures read { result ≢ Err FilesFault.Failed }
 {
-    if file.len() as u64 <= budget {
-        into.extend_from_slice(file)?;
+    if take_within(into, file, budget)? {
         return Ok(());
     }
-    into.extend_from_slice(&file[..budget as usize + 1])?;
     Err(FilesFault::TooLong)
 }

@@ -16,7 +16,7 @@ pub struct MemorySink {
 }
 
 impl MemorySink {
-    ghost use Rattle.outside.specs.MemorySink.{IsNew, CountsWrite, bytes_of, fails_of, writes_of, faults_of};
+    ghost use Rattle.outside.specs.MemorySink.{IsNew, KeepsCounts, CountsWrite, bytes_of, fails_of, writes_of, faults_of, room_of};
 
     /// Nothing was written yet. A write takes at most `most` bytes, and the writes of the listed
     /// numbers fail; they are counted from 1, without those of an empty piece.
@@ -33,6 +33,16 @@ impl MemorySink {
         })
     }
 
+    /// Makes room for so many bytes more.
+    pub fn reserve(&mut self, bytes: usize) -> Result<(), OutOfMemory>
+        ensures room { OnOk result (length (bytes_of self.new) + bytes ≤ room_of self.new) }
+        ensures bytes { bytes_of self.new ≡ bytes_of self.old }
+        ensures kept { KeepsCounts self.old self.new }
+    {
+        self.bytes.reserve(bytes)?;
+        Ok(())
+    }
+
     /// The bytes so far.
     pub fn bytes(&self) -> &[u8]
         ensures { result.now ≡ bytes_of self.now }
@@ -45,6 +55,7 @@ impl MemorySink {
         ensures counts { CountsWrite self.old self.new }
         ensures bytes { bytes_of self.new ≡ bytes_of self.old }
         ensures kept { faults_of self.new ≡ faults_of self.old }
+        ensures room { room_of self.new ≡ room_of self.old }
         ensures listed { IsTrue result ↔ Contains (fails_of self.old) (writes_of self.new) }
     {
         self.writes = self.writes.saturating_add(1);
@@ -54,13 +65,13 @@ impl MemorySink {
 
 impl Sink for MemorySink {
     ghost use Rattle.std.specs.Prelude.{Some};
-    ghost use Rattle.outside.specs.MemorySink.{CountsWrite, bytes_of, fails_of, most_of, writes_of, faults_of};
+    ghost use Rattle.outside.specs.MemorySink.{CountsWrite, bytes_of, fails_of, most_of, writes_of, faults_of, room_of};
 
     ghost count = { faults_of };
 
     ghost told = { λ sink. Some (bytes_of sink) };
 
-    // Where no memory is left, the write fails as a listed one does.
+    // Where no memory is left for more room, the write fails as a listed one does.
     fn write(&mut self, bytes: &[u8]) -> Result<usize, SinkFailed>
         ensures empty { bytes.now ≡ [] → (result ≡ Ok 0) × (self.new ≡ self.old) }
         ensures taken { IfOk result (λ taken. taken ≡ min (length bytes.now) (most_of self.old)) }
@@ -70,6 +81,11 @@ impl Sink for MemorySink {
         ensures listed { bytes.now ≢ [] → Contains (fails_of self.old) (writes_of self.new) →
             IsErr result }
         ensures counts { bytes.now ≢ [] → CountsWrite self.old self.new }
+
+        // A write that fails is one of the listed, or there was no room for what it takes.
+        ensures full { bytes.now ≢ [] → ¬ Contains (fails_of self.old) (writes_of self.new) →
+            OnErr result (room_of self.old <
+            length (bytes_of self.old) + min (length bytes.now) (most_of self.old)) }
         ensures failed { OnErr result (
             faults_of self.new ≡ min (faults_of self.old + 1) (2 ^ 64 - 1)) }
         ensures unchanged { OnErr result (bytes_of self.new ≡ bytes_of self.old) }

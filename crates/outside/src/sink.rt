@@ -1,6 +1,6 @@
 // An output that takes bytes, and writing all of a piece to it.
 ghost use Rattle.std.specs.Prelude.{◌≡◌, ℕ, ◌<◌, ◌≤◌, List, [], Option, Ok, length, take, OnOk, OnErr, IfOk};
-ghost use Rattle.std.specs.Io.KnownBytes.{Appends};
+ghost use Rattle.std.specs.Io.KnownBytes.{Appends, Keeps};
 ghost use Rattle.outside.specs.Faults.{Rose};
 ghost use Rattle.outside.specs.Told.{AppendsPart};
 
@@ -27,7 +27,7 @@ pub trait Sink {
 
         // A failure raises the count of faults, and nothing was taken.
         ensures failed { OnErr result (Rose (count self.old) (count self.new)) }
-        ensures unchanged { OnErr result (told self.new ≡ told self.old) };
+        ensures unchanged { OnErr result (Keeps (told self.old) (told self.new)) };
 }
 
 /// Writes all the bytes, in as many pieces as the sink wants.

@@ -1,7 +1,8 @@
 // What no clause says: the calls in memory, on the host's files and on its output, one by one.
 use crate::*;
+use std::io::{self, ErrorKind, Read, Write};
 use std::test::Fail;
-use std::{fmt, fs, io};
+use std::{fmt, fs};
 
 #[test]
 fn reads_the_files_in_memory(rt: HostRuntime) -> Result<(), Fail> {
@@ -33,6 +34,7 @@ fn reads_the_files_in_memory(rt: HostRuntime) -> Result<(), Fail> {
 #[test]
 fn writes_to_the_sink_in_memory(rt: HostRuntime) -> Result<(), Fail> {
     let mut sink = MemorySink::new(rt.alloc(), &[2], 2)?;
+    assert_eq!(rt; sink.reserve(3), Ok(()));
     let cases: [(&[u8], Result<usize, SinkFailed>, &[u8]); 5] = [
         (b"", Ok(0), b""),
         (b"abc", Ok(2), b"ab"),
@@ -67,10 +69,12 @@ fn writes_all_in_pieces(rt: HostRuntime) -> Result<(), Fail> {
 #[test]
 fn reads_the_files_of_the_host(rt: HostRuntime) -> Result<(), Fail> {
     fs::write(&rt, "three_bytes.txt", "abc")?;
+    fs::write(&rt, "other_bytes.txt", "xyz")?;
     let mut files = HostFiles::new(&rt);
     let mut into = Vec::new(rt.alloc());
-    let cases: [(&str, u64, Result<(), FilesFault>, &[u8]); 5] = [
+    let cases: [(&str, u64, Result<(), FilesFault>, &[u8]); 6] = [
         ("three_bytes.txt", 3, Ok(()), b"abc"),
+        ("other_bytes.txt", 3, Ok(()), b"xyz"),
         ("three_bytes.txt", 2, Err(FilesFault::TooLong), b"abc"),
         ("three_bytes.txt", 0, Err(FilesFault::TooLong), b"a"),
         ("no_such_file.txt", 3, Err(FilesFault::Failed), b""),
@@ -85,6 +89,65 @@ fn reads_the_files_of_the_host(rt: HostRuntime) -> Result<(), Fail> {
         assert_eq!(rt; into.as_slice(), bytes, "{name} within {budget}");
     }
     fs::remove_file(&rt, "three_bytes.txt")?;
+    fs::remove_file(&rt, "other_bytes.txt")?;
+    Ok(())
+}
+
+// A reader that a signal interrupts before each byte, and that ends by an error, if it has one.
+#[derive(Drop)]
+struct Halting {
+    left: &'static [u8],
+    interrupted: bool,
+    error: Option<ErrorKind>,
+}
+
+impl Read for Halting {
+    fn read(&mut self, buf: &mut [u8]) -> io::Result<usize> {
+        self.interrupted = !self.interrupted;
+        if self.interrupted {
+            return Err(io::Error::from(ErrorKind::Interrupted));
+        }
+        let [first, left @ ..] = self.left else {
+            return match self.error {
+                Some(kind) => Err(io::Error::from(kind)),
+                None => Ok(0),
+            };
+        };
+        if buf.is_empty() {
+            return Ok(0);
+        }
+        buf[0] = *first;
+        self.left = left;
+        Ok(1)
+    }
+}
+
+#[test]
+fn reads_no_shorter_file_where_a_read_fails(rt: HostRuntime) -> Result<(), Fail> {
+    let failed = Some(ErrorKind::BrokenPipe);
+    let memory = Some(ErrorKind::OutOfMemory);
+    let cases: [(Option<ErrorKind>, u64, Result<(), FilesFault>); 5] = [
+        (None, 3, Ok(())),
+        (failed, 9, Err(FilesFault::Failed)),
+        (failed, 3, Err(FilesFault::Failed)),
+        (memory, 9, Err(FilesFault::OutOfMemory)),
+        (failed, 2, Err(FilesFault::TooLong)),
+    ];
+    let mut files = HostFiles::new(&rt);
+    let mut into = Vec::new(rt.alloc());
+    for (error, budget, result) in cases {
+        let reader = Halting {
+            left: b"abc",
+            interrupted: false,
+            error,
+        };
+        assert_eq!(rt;
+            files.read_opened(Ok(reader), &mut into, budget),
+            result,
+            "within {budget}"
+        );
+        assert_eq!(rt; into.as_slice(), b"abc".as_slice(), "within {budget}");
+    }
     Ok(())
 }
 
@@ -93,6 +156,49 @@ fn writes_to_the_output_of_the_process(rt: HostRuntime) {
     let mut sink = StdSink::new(&rt);
     assert_eq!(rt; sink.write(b""), Ok(0));
     assert_eq!(rt; write_all(&mut sink, b"written\n"), Ok(()));
+}
+
+// A writer that takes one byte of a piece and keeps it, and that fails once it has so many.
+#[derive(Drop)]
+struct OneByOne {
+    bytes: Vec<u8>,
+    most: usize,
+}
+
+impl Write for OneByOne {
+    fn write(&mut self, buf: &[u8]) -> io::Result<usize> {
+        let [first, ..] = buf else {
+            return Ok(0);
+        };
+        if self.bytes.len() >= self.most {
+            return Err(io::Error::from(ErrorKind::StorageFull));
+        }
+        self.bytes.push(*first)?;
+        Ok(1)
+    }
+
+    fn flush(&mut self) -> io::Result<()> {
+        Ok(())
+    }
+}
+
+#[test]
+fn writes_all_to_a_writer_of_short_writes(rt: HostRuntime) -> Result<(), Fail> {
+    let cases: [(usize, Result<(), SinkFailed>, &[u8]); 3] = [
+        (9, Ok(()), b"hello"),
+        (5, Ok(()), b"hello"),
+        (4, Err(SinkFailed), b"hell"),
+    ];
+    for (most, result, bytes) in cases {
+        let mut writer = OneByOne {
+            bytes: Vec::new(rt.alloc()),
+            most,
+        };
+        let mut sink = WriterSink::over(&mut writer);
+        assert_eq!(rt; write_all(&mut sink, b"hello"), result, "{most} bytes");
+        assert_eq!(rt; writer.bytes.as_slice(), bytes, "{most} bytes");
+    }
+    Ok(())
 }
 
 // A host whose output takes nothing, or fails.

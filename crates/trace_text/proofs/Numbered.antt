@@ -1,19 +1,13 @@
 -- Texts that are written one behind the other.
-use Rattle.std.specs.Prelude.{◌≡◌, refl, ℕ, zero, suc, ◌+◌, ◌<◌, Option, Some, None, List, [], ◌∷◌, ◌++◌, take, drop, length, slice_get, slice_index_or}
+use Rattle.std.specs.Prelude.{◌≡◌, refl, ℕ, zero, suc, ◌+◌, ◌<◌, Option, List, [], ◌∷◌, ◌++◌, take, drop, length, slice_get, slice_index_or}
 use Rattle.std.specs.List.{flat_map}
 use Rattle.std.specs.Option.{option_to_list}
 use Rattle.std.specs.Io.KnownBytes.{Appends}
 use Rattle.std.proofs.Common.{◌∙◌, sym, ap, arith, add-one, append_assoc}
+use Rattle.std.proofs.KnownBytes.{Appends-trans}
 use Rattle.std.proofs.lemmas.Grind.{flat_map-append}
 use Rattle.std.proofs.lemmas.List.{append-nil}
 use Rattle.trace_text.specs.Trace.{numbered}
-
--- what was appended, and what was appended then
-pub Appends-both : (a b c : Option (List ℕ)) (x y : List ℕ) → Appends a b x → Appends b c y → Appends a c (x ++ y)
-Appends-both None b c x y p q = tt
-Appends-both (Some a) None c x y p q = absurd p
-Appends-both (Some a) (Some b) None x y p q = absurd q
-Appends-both (Some a) (Some b) (Some c) x y p q = q ∙ ap (λ l. l ++ y) p ∙ append_assoc a x y
 
 numbered-suc : {X : Type 0} (f : ℕ → X → List ℕ) (n : ℕ) (xs : List X) (i k : ℕ) (d : X) → i < length xs → k ≡ n + i →
     numbered f n (take (suc i) xs) ≡ numbered f n (take i xs) ++ f k (slice_index_or xs i d)
@@ -31,7 +25,7 @@ numbered-more f xs i d l = rw add-one (numbered-suc f 0 xs i i d l (omega arith)
 -- one more text of those by their numbers, appended
 pub numbered-appended : {X : Type 0} (f : ℕ → X → List ℕ) (xs : List X) (i : ℕ) (d : X) (a b c : Option (List ℕ)) → i < length xs →
     Appends a b (numbered f 0 (take i xs)) → Appends b c (f i (slice_index_or xs i d)) → Appends a c (numbered f 0 (take (i + 1) xs))
-numbered-appended f xs i d a b c l p q = rw (numbered-more f xs i d l) (Appends-both a b c _ _ p q)
+numbered-appended f xs i d a b c l p q = rw (numbered-more f xs i d l) (Appends-trans a b c _ _ p q)
 
 take_next : {X : Type 0} (xs : List X) (i : ℕ) → take (suc i) xs ≡ take i xs ++ option_to_list (slice_get xs i)
 take_next [] zero = refl
@@ -52,4 +46,4 @@ pub from-appended : {X : Type 0} (f : X → List ℕ) (xs : List X) (from i : �
 from-appended f xs from i a b c p q =
     let e : take (i + 1) (drop from xs) ≡ take i (drop from xs) ++ option_to_list (slice_get xs (from + i)) =
     rw add-one (take_next (drop from xs) i ∙ ap (λ o. take i (drop from xs) ++ option_to_list o) (get_behind xs from i (from + i) refl)) in
-    rw (e, flat_map-append f) (Appends-both a b c _ _ p q)
+    rw (e, flat_map-append f) (Appends-trans a b c _ _ p q)

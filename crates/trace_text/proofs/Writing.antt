@@ -1,16 +1,16 @@
 -- A text that is written piece after piece.
-use Rattle.std.specs.Prelude.{◌≡◌, refl, ℕ, ◌+◌, ◌*◌, ◌/◌, ◌-◌, ◌≤◌, ◌<◌, min, Option, Some, None, Result, Ok, Err, List, [], ◌++◌, take, drop, length}
+use Rattle.std.specs.Prelude.{◌≡◌, refl, ℕ, ◌+◌, ◌*◌, ◌/◌, ◌-◌, ◌≤◌, ◌<◌, min, Option, Result, Ok, Err, List, [], ◌++◌, take, drop, length}
 use Rattle.std.specs.List.{flat_map}
 use Rattle.std.specs.Io.KnownBytes.{Appends}
 use Rattle.std.proofs.Common.{◌∙◌, sym, ap, subst, arith, append_assoc}
-use Rattle.std.proofs.Math.Seq.{take-add, take-length}
+use Rattle.std.proofs.Math.Seq.{take-add}
+use Rattle.std.proofs.KnownBytes.{Appends-nil, Appends-trans}
 use Rattle.std.proofs.lemmas.Grind.{flat_map-append}
-use Rattle.std.proofs.lemmas.List.{append-nil, take-append-drop}
+use Rattle.std.proofs.lemmas.List.{take-append-drop}
 use Rattle.outside.specs.Told.{AppendsPart}
 use Rattle.trace_text.specs.declared.write.TraceFault.{TraceFault}
 use Rattle.trace_text.specs.declared.write.TraceFault.TheVariants as fault
 use Rattle.trace_text.specs.Writes.{WritesPrefix, Output, Writes}
-use Rattle.trace_text.proofs.Numbered.{Appends-both}
 
 -- a piece that was taken in part
 pub WritesPrefix-part : (old new : Option (List ℕ)) (piece : List ℕ) → AppendsPart old new piece → WritesPrefix old new piece
@@ -21,13 +21,9 @@ WritesPrefix-part old new piece p = record {
   appended = p.appended;
 }
 
-Appends-none : (old : Option (List ℕ)) → Appends old old []
-Appends-none None = tt
-Appends-none (Some xs) = sym (append-nil xs)
-
 -- nothing of a text was written
 pub WritesPrefix-none : (old : Option (List ℕ)) (text : List ℕ) → WritesPrefix old old text
-WritesPrefix-none old text = record { written = []; left = text; whole = refl; appended = Appends-none old }
+WritesPrefix-none old text = record { written = []; left = text; whole = refl; appended = Appends-nil old }
 
 WritesPrefix-more : (old new : Option (List ℕ)) (x y : List ℕ) → WritesPrefix old new x → WritesPrefix old new (x ++ y)
 WritesPrefix-more old new x y p = record {
@@ -42,13 +38,13 @@ WritesPrefix-then old mid new x y a p = record {
   written = x ++ p.written;
   left = p.left;
   whole = ap (λ t. x ++ t) p.whole ∙ sym (append_assoc x p.written p.left);
-  appended = Appends-both old mid new x p.written a p.appended;
+  appended = Appends-trans old mid new x p.written a p.appended;
 }
 
 -- a piece, and what was written behind it
 pub Writes-then : (old mid new : Output) (x y : List ℕ) (r : Result (Unit {0}) TraceFault) →
     Appends old.told mid.told x → mid.count ≡ old.count → Writes mid new y r → Writes old new (x ++ y) r
-Writes-then old mid new x y (Ok u) a e w = (Appends-both old.told mid.told new.told x y a w.0, w.1 ∙ e)
+Writes-then old mid new x y (Ok u) a e w = (Appends-trans old.told mid.told new.told x y a w.0, w.1 ∙ e)
 Writes-then old mid new x y (Err fault.WriteFault) a e w = (rw (← e) w.0, WritesPrefix-then old.told mid.told new.told x y a w.1)
 Writes-then old mid new x y (Err fault.OutOfMemory) a e w = (w.0 ∙ e, WritesPrefix-then old.told mid.told new.told x y a w.1)
 
@@ -112,19 +108,11 @@ Appends-piece f es n count entries old mid new same l c text more =
     ap (flat_map f) (take-piece es n le) ∙ flat_map-append f (take (min (n * 1000) (length es)) es) (take (min (length es - n * 1000) 1000) (drop (n * 1000) es)) ∙
     ap (λ k. flat_map f (take (min (n * 1000) (length es)) es) ++ flat_map f (take k (drop (n * 1000) es))) (sym m) in
     let P : List ℕ → Type 0 = Appends old new in
-    subst P (sym all) (Appends-both old mid new _ _ text more)
-
--- all pieces are the entries
-pub Appends-all : {X : Type 0} (f : X → List ℕ) (es : List X) (n entries : ℕ) (old new : Option (List ℕ)) → entries ≡ length es → n ≡ entries / 1000 + 1 →
-    Appends old new (flat_map f (take (min (n * 1000) (length es)) es)) → Appends old new (flat_map f es)
-Appends-all f es n entries old new same e text =
-    let m : min (n * 1000) (length es) ≡ length es = omega arith in
-    let all : take (min (n * 1000) (length es)) es ≡ es = rw m (take-length es) in
-    rw all at text
+    subst P (sym all) (Appends-trans old mid new _ _ text more)
 
 -- three texts one behind the other
 pub trace-then : (old mid later new : Output) (x y z : List ℕ) (r : Result (Unit {0}) TraceFault) →
     Appends old.told mid.told x × (mid.count ≡ old.count) → Appends mid.told later.told y × (later.count ≡ mid.count) →
     Writes later new z r → Writes old new ((x ++ y) ++ z) r
 trace-then old mid later new x y z r a b w =
-    Writes-then old later new (x ++ y) z r (Appends-both old.told mid.told later.told x y a.0 b.0) (b.1 ∙ a.1) w
+    Writes-then old later new (x ++ y) z r (Appends-trans old.told mid.told later.told x y a.0 b.0) (b.1 ∙ a.1) w

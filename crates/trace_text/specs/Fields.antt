@@ -26,7 +26,8 @@ hex_text w = hex_digit (w / 4096) ∷ hex_digit (w / 256 % 16) ∷ hex_digit (w 
 abbrev pub letter_where : Bool → ℕ → List ℕ
 letter_where b letter = if b then letter ∷ [] else []
 
--- the outputs are the letters of those that are true: Busy, Active, Done, commandAborted, Error, Reached. This project's profile
+-- the outputs are the letters of those that are true: Busy, Active, Done, commandAborted, Error,
+-- Reached. This project's profile
 unfoldable pub outputs_text : Outputs → List ℕ
 outputs_text o =
     letter_where o.busy 66 ++ letter_where o.active 65 ++ letter_where o.done 68 ++

@@ -3,3 +3,4 @@ pub mod Records
 pub mod Trace
 pub mod Between
 pub mod Writes
+pub mod Taken

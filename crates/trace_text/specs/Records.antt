@@ -14,9 +14,12 @@ use Rattle.motion_history.specs.declared.config.GroupDef.{GroupDef}
 use Rattle.trace_text.specs.declared.write.Command.{Command}
 use Rattle.trace_text.specs.declared.write.Command.TheVariants as command
 use Rattle.trace_text.specs.declared.write.DriveEndRow.{DriveEndRow}
+use Rattle.trace_text.specs.declared.taken.TakenInputs.{TakenInputs}
+use Rattle.trace_text.specs.Taken.{taken_in, taken_text}
 use Rattle.trace_text.specs.Fields.{flag_text, hex_text, outputs_text, axis_state_text, drive_state_text, kind_text, mode_text}
 
--- the text of a record: its fields with commas between them, and a line feed. RFC 4180, with line feeds
+-- the text of a record: its fields with commas between them, and a line feed. RFC 4180, with line
+-- feeds
 unfoldable pub record_text : List (List ℕ) → List ℕ
 record_text fields = row_text default_writer fields
 
@@ -72,20 +75,23 @@ abbrev pub block_fields : Setup → BlockDef → List (List ℕ)
 block_fields s d =
     codes "block" ∷ d.name ∷ task_name s d.task ∷ kind_text d.kind ∷ object_name s d ∷ [] ∷ [] ∷ [] ∷ [] ∷ [] ∷ [] ∷ [] ∷ []
 
--- a call of a move: the name of the block, its inputs, its outputs and the ErrorID
-abbrev pub call_fields_of : List ℕ → ℤ → Inputs → List ℕ → ℕ → List (List ℕ)
-call_fields_of name first i outputs error_id =
-    codes "call" ∷ name ∷ flag_text i.execute ∷ signed_decimal first ∷ signed_decimal i.velocity ∷
-    signed_decimal i.acceleration ∷ signed_decimal i.deceleration ∷ signed_decimal i.jerk ∷ mode_text i.mode ∷ [] ∷ outputs ∷ decimal error_id ∷ []
+-- a call: the name of the block, its inputs that are taken, its outputs and the ErrorID
+abbrev pub call_fields_of : List ℕ → TakenInputs → ℤ → Inputs → List ℕ → ℕ → List (List ℕ)
+call_fields_of name taken first i outputs error_id =
+    codes "call" ∷ name ∷ flag_text i.execute ∷ taken_text taken.positions (signed_decimal first) ∷ taken_text taken.velocity (signed_decimal i.velocity) ∷
+    taken_text taken.acceleration (signed_decimal i.acceleration) ∷ taken_text taken.deceleration (signed_decimal i.deceleration) ∷
+    taken_text taken.deceleration (signed_decimal i.jerk) ∷ taken_text taken.acceleration (mode_text i.mode) ∷ [] ∷ outputs ∷ decimal error_id ∷ []
 
+-- a call of the block of a number. So far its position is that of one axis
 abbrev pub call_fields : Setup → ℕ → Inputs → Outputs → List (List ℕ)
-call_fields s k i o = call_fields_of (block_name s k) (slice_index_or i.positions 0 (pos 0)) i (outputs_text o) o.error_id
+call_fields s k i o = call_fields_of (block_name s k) (taken_in s k) (slice_index_or i.positions 0 (pos 0)) i (outputs_text o) o.error_id
 
 -- a cycle: its number
 abbrev pub cycle_fields : ℕ → List (List ℕ)
 cycle_fields n = codes "cycle" ∷ decimal n ∷ [] ∷ [] ∷ [] ∷ [] ∷ [] ∷ [] ∷ [] ∷ [] ∷ [] ∷ [] ∷ []
 
--- a row: the axis, what its drive answered, its state, error, whether it is driven, its setpoint, and what its drive is given
+-- a row: the axis, what its drive answered, its state, error, whether it is driven, its setpoint,
+-- and what its drive is given
 abbrev pub row_fields : Setup → ℕ → AxisRow → List (List ℕ)
 row_fields s n r =
     codes "row" ∷ axis_name s n ∷ hex_text r.input.statusword ∷ signed_decimal r.input.actual ∷ signed_decimal r.input.mode_display ∷
@@ -95,7 +101,8 @@ row_fields s n r =
 abbrev pub end_fields : Setup → ℕ → List (List ℕ)
 end_fields s task = codes "end" ∷ task_name s task ∷ [] ∷ [] ∷ [] ∷ [] ∷ [] ∷ [] ∷ [] ∷ [] ∷ [] ∷ [] ∷ []
 
--- what a drive took: the axis, the number of setpoints, the drive's state and its actual position at the end
+-- what a drive took: the axis, the number of setpoints, the drive's state and its actual position
+-- at the end
 abbrev pub drive_fields : Setup → ℕ → DriveEndRow → List (List ℕ)
 drive_fields s n d =
     codes "drive" ∷ axis_name s n ∷ decimal d.taken ∷ drive_state_text d.state ∷ signed_decimal d.actual ∷ [] ∷ [] ∷ [] ∷ [] ∷ [] ∷ [] ∷ [] ∷ []

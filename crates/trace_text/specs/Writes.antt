@@ -19,8 +19,8 @@ pub record Output : Type 0 where
   pub count : ℕ
   pub told : Option (List ℕ)
 
--- on Ok the text was appended and no fault counted; a write fault comes only where the count of faults rose; where a
--- text isn't written whole, its first bytes are. This project's profile
+-- on Ok the text was appended and no fault counted; a write fault comes only where the count of
+-- faults rose; where a text isn't written whole, its first bytes are. This project's profile
 abbrev pub Writes : Output → Output → List ℕ → Result (Unit {0}) TraceFault → Type 0
 Writes old new text (Ok u) = Appends old.told new.told text × (new.count ≡ old.count)
 Writes old new text (Err fault.WriteFault) = Rose old.count new.count × WritesPrefix old.told new.told text

@@ -14,6 +14,7 @@ use crate::fields::{
     axis_state_text, drive_state_text, flag_text, hex_text, mode_text, outputs_text,
 };
 use crate::records::{axis_name, block_name, name_text, task_name, write_record};
+use crate::taken::{TakenInputs, number_text, taken_in, taken_text};
 use crate::write::DriveEndRow;
 use axis_state::{AxisRow, Name};
 use csv::Writer;
@@ -30,18 +31,19 @@ fn first_position(inputs: &Inputs) -> i64
     inputs.positions[0]
 }
 
-// A call by the name of its block and the letters of its outputs.
+// A call by the name of its block, the inputs that are taken and the letters of its outputs.
 fn put_call<W: Write + Drop>(
     wtr: &mut Writer<W>,
     block: Option<Name>,
-    first: i64,
+    taken: TakenInputs,
     inputs: &Inputs,
     outputs: Vec<u8>,
     error_id: u16,
 ) -> Result<(), OutOfMemory>
     requires { IsBetween wtr.old }
     ensures text { OnOk result (Appends (text_written W.contents wtr.old) (text_written W.contents wtr.new)
-        (record_text (spec.call_fields_of (spec.name_text block) first inputs.now outputs.items error_id))) }
+        (record_text (spec.call_fields_of (spec.name_text block) taken
+        (slice_index_or inputs.now.positions 0 (pos 0)) inputs.now outputs.items error_id))) }
     ensures between { OnOk result (IsBetween wtr.new) }
 {
     let mut position = Buffer::new();
@@ -56,12 +58,12 @@ fn put_call<W: Write + Drop>(
             b"call",
             name_text(&block),
             flag_text(inputs.execute).as_bytes(),
-            position.format(first).as_bytes(),
-            velocity.format(inputs.velocity).as_bytes(),
-            acceleration.format(inputs.acceleration).as_bytes(),
-            deceleration.format(inputs.deceleration).as_bytes(),
-            jerk.format(inputs.jerk).as_bytes(),
-            mode_text(inputs.mode).as_bytes(),
+            number_text(taken.positions, &mut position, first_position(inputs)),
+            number_text(taken.velocity, &mut velocity, inputs.velocity),
+            number_text(taken.acceleration, &mut acceleration, inputs.acceleration),
+            number_text(taken.deceleration, &mut deceleration, inputs.deceleration),
+            number_text(taken.deceleration, &mut jerk, inputs.jerk),
+            taken_text(taken.acceleration, mode_text(inputs.mode).as_bytes()),
             b"",
             outputs.as_slice(),
             error.format(error_id).as_bytes(),
@@ -82,13 +84,11 @@ fn write_call<W: Write + Drop>(
         (record_text (call_fields config.now block inputs.now reply.now))) }
     ensures between { OnOk result (IsBetween wtr.new) }
 {
-    let Ok(outputs) = outputs_text(alloc, reply) else {
-        return Err(OutOfMemory);
-    };
+    let outputs = outputs_text(alloc, reply)?;
     put_call(
         wtr,
         block_name(config, block as usize),
-        first_position(inputs),
+        taken_in(config, block as usize),
         inputs,
         outputs,
         reply.error_id,

@@ -7,7 +7,7 @@ ghost use Rattle.std.specs.Io.KnownBytes.{Appends};
 ghost use Rattle.csv.specs.Writing.{text_written};
 ghost use Rattle.trace_text.specs.Between.{IsBetween};
 ghost use Rattle.trace_text.specs.Writes.{Output, Writes, WritesPiece};
-ghost use Rattle.trace_text.specs.Trace.{machine_text, drives_text, entry_text, trace_text};
+ghost use Rattle.trace_text.specs.Trace.{IsVersionOne, machine_text, drives_text, entry_text, trace_text};
 
 use crate::entries::{write_drives, write_entry};
 use crate::machine::write_machine;
@@ -221,8 +221,8 @@ fn put_history<K: Sink>(
     Ok(())
 }
 
-/// Writes the trace of a history of this configuration and of what its drives took. So far the version is One, which
-/// gives no braking limit: each is the axis's `amax`.
+/// Writes the trace of a history of this configuration and of what its drives took. So far the
+/// version is One, which gives no braking limit: each is the axis's `amax`.
 #[tactic(auto, unfolding(crate::specs::Trace::trace_text))]
 pub fn write_trace<K: Sink>(
     alloc: Global,
@@ -234,6 +234,7 @@ pub fn write_trace<K: Sink>(
     out: &mut K,
 ) -> Result<(), TraceFault>
     requires version { version ≡ TraceVersion.One }
+    requires braking { IsVersionOne config.now }
     requires drives { length drives.now ≡ length config.now.axes }
     ensures { Writes (record { count = K.count out.old; told = K.told out.old })
         (record { count = K.count out.new; told = K.told out.new })

@@ -4,22 +4,22 @@ use Rattle.bench_text.specs.Grammar.{axis_of}
 use Rattle.bench_text.proofs.Places.{texts-nine}
 use Rattle.bench_text.proofs.machine.axis_of.Goals as goal
 
-pub returns-then-not-says : goal.returns-then-not-says
+pub returns-then-not-says-clause-value : goal.returns-then-not-says-clause-value
 unfolding axis_of
-returns-then-not-says c = rw (texts-nine _ c.in-len9.len_at_least c.in-len9.len_below) (search rules)
+returns-then-not-says-clause-value c = rw (texts-nine _ c.in-len9.len_at_least c.in-len9.len_below) (search rules)
 
-pub returns-in_err-limits : goal.returns-in_err-limits
+pub returns-in_err-limits-clause-value : goal.returns-in_err-limits-clause-value
 unfolding axis_of
-returns-in_err-limits c = rw (texts-nine _ c.in-len9.len_at_least c.in-len9.len_below) (search rules)
+returns-in_err-limits-clause-value c = rw (texts-nine _ c.in-len9.len_at_least c.in-len9.len_below) (search rules)
 
-pub returns-in_err-inc : goal.returns-in_err-inc
+pub returns-in_err-inc-clause-value : goal.returns-in_err-inc-clause-value
 unfolding axis_of
-returns-in_err-inc c = rw (texts-nine _ c.in-len9.len_at_least c.in-len9.len_below) (search rules)
+returns-in_err-inc-clause-value c = rw (texts-nine _ c.in-len9.len_at_least c.in-len9.len_below) (search rules)
 
-pub returns-in_err-start : goal.returns-in_err-start
+pub returns-in_err-start-clause-value : goal.returns-in_err-start-clause-value
 unfolding axis_of
-returns-in_err-start c = rw (texts-nine _ c.in-len9.len_at_least c.in-len9.len_below) (search rules)
+returns-in_err-start-clause-value c = rw (texts-nine _ c.in-len9.len_at_least c.in-len9.len_below) (search rules)
 
-pub returns : goal.returns
+pub returns-clause-value : goal.returns-clause-value
 unfolding axis_of
-returns c = rw (texts-nine _ c.in-len9.len_at_least c.in-len9.len_below) (search rules)
+returns-clause-value c = rw (texts-nine _ c.in-len9.len_at_least c.in-len9.len_below) (search rules)

@@ -19,6 +19,6 @@ pub returns-in-Err-Failed : goal.returns-in-Err-Failed
 returns-in-Err-Failed g c = inl (record {
   found = Unread;
   is_found = c.in-Err-Failed.ensures.failed (ap Err c.in-Err-Failed.field-0-is);
-  ends = said _ _ _ _ _ _ c.named_line.ensures c.say.ensures;
+  ends = said c.parts_are_beginnings.ensures.none _ _ _ _ _ _ c.named_line.ensures c.say.ensures;
   runs = runs-none _ _ refl;
 })

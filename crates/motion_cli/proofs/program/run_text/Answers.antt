@@ -11,8 +11,8 @@ returns-in-Err-Refused g c =
     let why = refused-why _ _ _ c.in-Err-Refused.field-0-is c.in-Err-Refused.ensures.exact in
     record {
       runs = runs-none _ _ why.0;
-      ends = same-plan _ _ _ _ _ (refused-plan c.args.name.now _ c.in-Err-Refused.refused why.0 why.1) (said _ _ _ _ _ _ c.refused_line.ensures c.say.ensures);
+      ends = same-plan _ _ _ _ _ (refused-plan c.args.name.now _ c.in-Err-Refused.refused why.0 why.1) (said c.parts_are_beginnings.ensures.none _ _ _ _ _ _ c.refused_line.ensures c.say.ensures);
     }
 
 pub returns-in-Err-OutOfMemory : goal.returns-in-Err-OutOfMemory
-returns-in-Err-OutOfMemory g c = record { runs = runs-early _ _ refl; ends = early _ _ _ _ (record { status = refl; output = refl }) }
+returns-in-Err-OutOfMemory g c = record { runs = runs-early _ _ refl; ends = early c.parts_are_beginnings.ensures.none _ _ _ _ (record { status = refl; output = refl }) }

@@ -1,6 +1,5 @@
 -- A line was said, or not.
 use Rattle.std.specs.Prelude.{Ok, Err, refl}
-use Rattle.trace_text.proofs.Writing.{WritesPrefix-part}
 use Rattle.trace_text.specs.declared.write.TraceFault.TheVariants as fault
 use Rattle.motion_cli.proofs.program.say_all.Goals as goal
 
@@ -10,6 +9,6 @@ returns-in-Ok g c = record { written = Ok tt; writes = (c.in-Ok.ensures.appended
 pub returns-in-Err : goal.returns-in-Err
 returns-in-Err g c = record {
   written = Err fault.WriteFault;
-  writes = (c.in-Err.ensures.failed, WritesPrefix-part _ _ _ c.in-Err.ensures.part);
+  writes = (c.in-Err.ensures.failed, c.parts_are_beginnings.ensures.part _ _ _ c.in-Err.ensures.part);
   status = refl;
 }

@@ -16,7 +16,7 @@ returns g c =
     let answers = c.in-Ok.answers.items in
     let cycles : c.cycles.result - c.cycles_left.result ≡ cycles_of k.history = omega (arith, few, all, left, same) in
     let drives = drives-are _ k _ answers _ _ c.in-Ok.ensures.made cycles c.as_slice.ensures.value c.in-Ok-end_rows.ensures in
-    let text = trace-is _ _ k _ answers _ c.config-2.ensures c.in-Ok.ensures.config c.history-history.ensures.entries c.in-Ok.ensures.made (c.as_slice-2.ensures.value ∙ drives) in
+    let text = trace-is _ _ k _ answers _ c.config-2.ensures.value c.history-history.ensures.entries c.in-Ok.ensures.made (c.as_slice-2.ensures.value ∙ drives) in
     let told = g.K.Sink.told in
     let count = g.K.Sink.count in
     record {

@@ -9,5 +9,5 @@ use Rattle.motion_cli.proofs.run.run.Goals as goal
 pub make_all-requires-clause-going : goal.make_all-requires-clause-going
 make_all-requires-clause-going c =
     going-first _ _ _ c.axes.ensures.setup
-    (ap (λ (k : KernelState). k.config) c.in-Ok-open.ensures ∙ c.in_ok-copy.ensures)
-    (c.as_mut_slice.ensures.value ∙ c.in-Ok.ensures ∙ ap (map opening_answer) c.axes.ensures.axes)
+    (ap (λ (k : KernelState). k.config) c.in-Ok.ensures ∙ c.in_ok-copy.ensures)
+    (c.as_mut_slice.ensures.value ∙ c.in_ok-answers.ensures ∙ ap (map opening_answer) c.axes.ensures.axes)
