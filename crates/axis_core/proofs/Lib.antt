@@ -1,6 +1,7 @@
 pub mod SmallTargets
 pub mod Queues
 pub mod Moving
+pub mod Blends
 pub mod Events
 pub mod KeptRanges
 pub mod KeptParts

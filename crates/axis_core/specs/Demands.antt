@@ -1,14 +1,14 @@
 -- What a command is asked with.
-use Rattle.std.specs.Prelude.{◌≡◌, ℕ, ◌≤◌, Bool, true, false, ℤ, unsigned_abs, Option, Some, None, List}
+use Rattle.std.specs.Prelude.{◌≡◌, ℕ, ◌≤◌, Bool, true, false, ℤ, unsigned_abs, Option, Some, None, List, length}
 use Rattle.motion_numbers.specs.declared.TheConstants.{MOST_NUMBER}
-use Rattle.command_pool.specs.Waiting.{queue_of}
+use Rattle.command_pool.specs.Waiting.{last_of, queue_of}
 use Rattle.command_pool.specs.declared.kind.BlockKind.{BlockKind}
 use Rattle.command_pool.specs.declared.kind.BlockKind.TheVariants as kind
 use Rattle.command_pool.specs.declared.kind.BufferMode.TheVariants.{Aborting}
 use Rattle.command_pool.specs.declared.wanted.Wanted.{Wanted}
-use Rattle.axis_core.specs.AxisKept.{may_wait}
+use Rattle.axis_core.specs.Kinds.{may_wait}
 use Rattle.axis_core.specs.Refusals.{Asked}
-use Rattle.axis_core.specs.Targets.{position_of}
+use Rattle.axis_core.specs.blocks.Moves.{position_of}
 use Rattle.axis_core.specs.declared.axis.Axis.{Axis}
 
 -- whether a kind is a command of an axis that is asked by a rising edge. PLCopen Motion Control Part 1
@@ -44,7 +44,8 @@ abbrev pub asked_by : Axis → List (List Wanted) → ℕ → Wanted → ℤ →
 asked_by a lists list w jerk held tables = record {
   axis = a;
   number = list;
-  waiting = queue_of lists list;
+  waiting = length (queue_of lists list);
+  last = last_of (queue_of lists list);
   wanted = w;
   jerk = jerk;
   held = held;

@@ -1,13 +1,14 @@
 // Laws of an axis: each is the contract of a function that does nothing.
 
 ghost use Rattle.std.specs.Prelude.{◌≡◌, ℕ, Bool};
-ghost use Rattle.axis_core.specs.Commands.{commanded, detached, on_path, powered_by};
+ghost use Rattle.axis_core.specs.Calls.{commanded, detached, powered_by};
 ghost use Rattle.axis_core.specs.Cores.{Core};
 ghost use Rattle.axis_core.specs.Cycles.{cycled, opened};
 ghost use Rattle.axis_core.specs.Demands.{IsMade};
 ghost use Rattle.axis_core.specs.Refusals.{Asked};
 ghost use Rattle.axis_core.specs.Rows.{Stays};
 ghost use Rattle.axis_core.specs.Shown.{IsShown};
+ghost use Rattle.axis_core.specs.blocks.Path.{on_path};
 ghost use Rattle.axis_core.specs.declared.look.AxisLook.{AxisLook};
 ghost use Rattle.axis_state.specs.declared.definition.AxisDef.{AxisDef};
 ghost use Rattle.axis_core.specs.declared.axis.Axis.{Axis};

@@ -1,30 +1,25 @@
-//! One axis of the kernel: what its commands, its Power and each cycle make of it (PLCopen Motion Control Part 1).
+//! One axis of the kernel: what its commands, its Power and each cycle make of it (PLCopen Motion
+//! Control Part 1).
 #![tactic(auto)]
 
 mod axis;
-mod beginning;
-#[cfg(test)]
-mod bench;
-mod blendings;
-mod commands;
+mod blocks;
+mod calls;
 mod cycles;
-#[cfg(test)]
-mod drive_tests;
 mod driving;
+mod kinds;
 mod laws;
 mod look;
 mod one_axis;
 mod opening;
-mod powering;
+mod progress;
 mod reason;
 mod refusing;
 mod states;
-mod targets;
+mod steps;
+mod taking_over;
 #[cfg(test)]
 mod tests;
-mod tests_of;
-mod wish;
-mod wishes;
 
 pub use axis::{Axis, PendingReset};
 pub use axis_state::{AxisDef, AxisRow, AxisState, DriveIn, DriveOut, Limits};
