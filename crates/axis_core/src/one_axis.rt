@@ -4,7 +4,7 @@ ghost use Rattle.std.specs.Prelude.{◌≡◌, ◌<◌, ◌≤◌, ◌≤ℤ◌,
 ghost use Rattle.command_pool.specs.Waiting as waiting_lists;
 ghost use Rattle.command_pool.specs.Waiting.{queue_of};
 ghost use Rattle.command_pool.specs.declared.wanted.Wanted.{Wanted};
-ghost use Rattle.axis_core.specs.AxisKept.{IsAxisDef, IsLook, IsQueueKept};
+ghost use Rattle.axis_core.specs.AxisKept.{IsAxisDef, IsAxisKept, IsLook, IsQueueKept};
 ghost use Rattle.axis_core.specs.Calls as commands;
 ghost use Rattle.axis_core.specs.Cores.{core_at};
 ghost use Rattle.axis_core.specs.Cycles as cycles;
@@ -18,7 +18,7 @@ use crate::axis::Axis;
 use crate::look::{ActiveLook, AxisLook};
 use axis_state::{AxisDef, AxisRow, AxisState, DriveIn, offsets_are_small, setpoints_have_counts};
 use command_pool::{CommandPool, Notes, Refusal, Wanted};
-use kin_core::standing_is_kept;
+use kin_core::{Limits, standing_is_kept};
 use std::marker::Model;
 
 /// One axis: its PLCopen state, its setpoints and its active command; those that wait behind it are in a list of the
@@ -111,7 +111,8 @@ impl AxisCore {
 
     /// Its state.
     pub fn state(&self) -> AxisState
-        ensures { result ≡ self.now.state }
+        ensures value { result ≡ self.now.state }
+        ensures kept { IsAxisKept self.now }
     {
         self.axis.state
     }
@@ -120,8 +121,16 @@ impl AxisCore {
     pub fn pair(&self) -> (i64, i64)
         ensures previous { result.0 ≡ self.now.previous }
         ensures setpoint { result.1 ≡ self.now.setpoint }
+        ensures kept { IsAxisKept self.now }
     {
         (self.axis.previous, self.axis.setpoint)
+    }
+
+    /// Its limits.
+    pub fn limits(&self) -> &Limits
+        ensures { result.now ≡ self.now.limits }
+    {
+        &self.axis.limits
     }
 
     /// The axis goes on its group's path, from Standstill to SynchronizedMotion, or leaves it.

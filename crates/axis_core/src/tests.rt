@@ -3,3 +3,4 @@
 mod bench;
 mod drives;
 mod motions;
+mod paths;

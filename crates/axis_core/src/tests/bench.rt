@@ -1,16 +1,19 @@
 // An axis for the tests, with a drive that follows in step or answers by hand.
 
-ghost use Rattle.std.specs.Prelude.{◌≡◌, length};
+ghost use Rattle.std.specs.Prelude.{◌≡◌, true, length};
 ghost use Rattle.axis_core.specs.AxisKept as kept;
 ghost use Rattle.axis_core.specs.AxisKept.{IsAxisDef, IsLook};
 ghost use Rattle.axis_core.specs.Demands as demands;
 ghost use Rattle.axis_core.specs.Demands.{IsMade};
+ghost use Rattle.axis_core.specs.blocks.Path as path;
+ghost use Rattle.kin_core.specs.Admissible.{IsSafe};
 
 use crate::{
     AxisCore, AxisDef, AxisLook, AxisRow, AxisState, BlockKind, BufferMode, CommandPool, DriveIn,
     DriveOut, Finish, Follow, Limits, Note, Notes, OutOfMemory, Rates, Refusal, Wanted,
 };
 use axis_state::Name;
+use kin_core::nearest_safe;
 use std::alloc::Global;
 use std::marker::Model;
 use std::process::Abort;
@@ -208,13 +211,36 @@ fn expect_made(rt: &impl Abort, wanted: &Wanted)
     assert!(rt; may_wait(wanted.kind) || wanted.mode == BufferMode::Aborting);
 }
 
+// Whether an axis is on its group's path.
+fn is_on_path(core: &AxisCore) -> bool
+    ensures value { result ≡ path.is_on_path core.now }
+{
+    core.state() == AxisState::SynchronizedMotion && core.active().is_none()
+}
+
+// Stops the test where a place is not safe after the setpoints of an axis that is on its group's path.
+fn expect_place(rt: &impl Abort, core: &AxisCore, place: i64)
+    requires { path.is_on_path core.now ≡ true }
+    ensures { IsSafe core.now.limits core.now.previous core.now.setpoint place }
+{
+    let (before, now) = core.pair();
+    assert!(rt; place.unsigned_abs() <= 1000);
+    let step = place - now;
+    assert!(rt; nearest_safe(core.limits(), before, now, step) == step);
+}
+
 // Stops the test where a cycle brings what is out of range.
 fn expect_look(rt: &impl Abort, core: &AxisCore, look: &AxisLook)
     ensures { IsLook core.now look.now }
 {
     assert!(rt; look.cam.unsigned_abs() <= 1_000_000_000_000_000);
-    assert!(rt; look.path.is_none());
-    assert!(rt; core.state() != AxisState::SynchronizedMotion || core.active().is_some());
+    if is_on_path(core) {
+        assert!(rt; look.path.is_some());
+        if let Some(place) = look.path {
+            expect_place(rt, core, place);
+            assert!(rt; !look.path_ends || place == core.pair().1);
+        }
+    }
 }
 
 // An axis with its list of two, and the count at which its drive stands.
@@ -292,6 +318,14 @@ impl Bench {
     // Takes an instance away from its command.
     pub(crate) fn detach(&mut self, owner: u16) {
         self.core.detach(owner);
+    }
+
+    // The axis goes on its group's path, or leaves it at rest.
+    pub(crate) fn on_path(&mut self, rt: &impl Abort, on: bool) {
+        let (before, now) = self.core.pair();
+        assert!(rt; self.core.active().is_none());
+        assert!(rt; on || before == now);
+        self.core.on_path(on);
     }
 
     // A cycle; compares the row and what is told.
