@@ -7,6 +7,7 @@ pub mod KeptRanges
 pub mod KeptParts
 pub mod KeptMoves
 pub mod KeptCycles
+pub mod DriveAnswers
 pub mod KeptRows
 pub mod KeptCalls
 pub mod KeptQueues

@@ -7,6 +7,7 @@ ghost use Rattle.command_pool.specs.Waiting.{queue_of};
 ghost use Rattle.axis_core.specs.AxisKept.{IsCoreKept, IsLook};
 ghost use Rattle.axis_core.specs.Cores.{core_at};
 ghost use Rattle.axis_core.specs.Cycles as spec;
+ghost use Rattle.axis_core.specs.Drives as drives;
 ghost use Rattle.axis_core.specs.Kept.{HasDrive, IsMoving, IsTarget, MayAdvance, MayGoOn};
 ghost use Rattle.axis_core.specs.Rows.{KeepsSpell};
 ghost use Rattle.axis_core.specs.States as states;
@@ -20,7 +21,7 @@ use crate::blocks::moves::target_of;
 use crate::blocks::path::{place_on_path, take_place};
 use crate::blocks::power::is_powered;
 use crate::blocks::reset::reset;
-use crate::driving::{answer_error, is_driven, stand};
+use crate::driving::{error_where, is_driven, stand};
 use crate::kinds;
 use crate::look::AxisLook;
 use crate::progress::Progress;
@@ -158,6 +159,7 @@ fn go_on(look: &AxisLook, axis: &mut Axis, pool: &mut CommandPool, list: u8, not
 
 // The drive's answer is read, with its error.
 fn read_answer(
+    driven: bool,
     input: &DriveIn,
     axis: &mut Axis,
     pool: &mut CommandPool,
@@ -167,10 +169,11 @@ fn read_answer(
     requires list { list < length pool.old }
     requires room { length notes.old ≤ 2 }
     requires drive { HasDrive axis.old }
+    requires driven { driven ≡ drives.is_driven axis.old input.now }
     ensures after { core_at axis.new pool.new list notes.new ≡ spec.answered input.now (core_at axis.old pool.old list notes.old) }
     ensures others { pool.new ≡ slice_set pool.old list (queue_of pool.new list) }
 {
-    let error = answer_error(axis, input);
+    let error = error_where(driven, axis, input);
     if error != 0 {
         fail(error, axis, pool, list, notes);
     }
@@ -266,7 +269,7 @@ fn cycle_axis(look: &AxisLook, axis: &mut Axis, pool: &mut CommandPool, list: u8
     let _ = pool.waiting(list);
     let _ = reported(&look.input);
     let driven = is_driven(axis, &look.input);
-    read_answer(&look.input, axis, pool, list, notes);
+    read_answer(driven, &look.input, axis, pool, list, notes);
     run(driven, look, axis, pool, list, notes);
     reset(&look.input, axis, notes);
     give(&look.input, axis);
