@@ -16,3 +16,4 @@ pub mod MayAdmit
 pub mod KeptCommands
 pub mod KeptPowers
 pub mod ShownKept
+pub mod FateLaws

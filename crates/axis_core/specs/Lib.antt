@@ -15,3 +15,4 @@ pub mod Demands
 pub mod Looks
 pub mod Rows
 pub mod Shown
+pub mod Fates

@@ -5,6 +5,7 @@ ghost use Rattle.axis_core.specs.Calls.{commanded, detached, powered_by};
 ghost use Rattle.axis_core.specs.Cores.{Core};
 ghost use Rattle.axis_core.specs.Cycles.{cycled, opened};
 ghost use Rattle.axis_core.specs.Demands.{IsMade};
+ghost use Rattle.axis_core.specs.Fates.{IsFate, IsSame, command_fate, power_fate, cycle_fate};
 ghost use Rattle.axis_core.specs.Refusals.{Asked};
 ghost use Rattle.axis_core.specs.Rows.{Stays};
 ghost use Rattle.axis_core.specs.Shown.{IsShown};
@@ -30,4 +31,14 @@ pub fn errors_stand_in_error_stop()
     ensures detach { (owner : ℕ) (a : Axis) → IsShown a → IsShown (detached owner a) }
     ensures path { (on : Bool) (a : Axis) → IsShown a → IsShown (on_path on a) }
     ensures cycle { (look : AxisLook) (c : Core) → IsShown c.axis → IsShown (cycled look c).axis }
+{}
+
+/// A fate is what becomes of the active command of an axis: by a command that is asked, a Power, an owner that is taken
+/// away, a group's path and a cycle.
+pub fn fates_are_told()
+    ensures command { (q : Asked) (c : Core) → IsFate (command_fate q c) c.axis.active (commanded q c).axis.active }
+    ensures power { (enable : Bool) (c : Core) → IsFate (power_fate enable c) c.axis.active (powered_by enable c).axis.active }
+    ensures detach { (owner : ℕ) (a : Axis) → IsSame a.active (detached owner a).active }
+    ensures path { (on : Bool) (a : Axis) → (on_path on a).active ≡ a.active }
+    ensures cycle { (look : AxisLook) (c : Core) → IsFate (cycle_fate look c) c.axis.active (cycled look c).axis.active }
 {}
