@@ -96,36 +96,45 @@ fate-ended blends (Some finish.Done) active c e some =
 fate-ended blends (Some finish.Aborted) active c e some =
     fate-taken blends finish.Aborted active _ (taker_of c.waiting c.axis) (some (λ h. cc)) (taken-active c.waiting _ refl ∙ takers-same c.waiting c.axis)
 
--- an axis that advances keeps its active command, and only where it has one that may end
-pub record Advances (active : Option Wanted) (step : Advance) : Type 0 where
+-- an axis that advances keeps its active command and its pending Reset; only where it has an active one may that end
+pub record Advances (active : Option Wanted) (before : Option PendingReset) (step : Advance) : Type 0 where
   pub same : step.axis.active ≡ active
+  pub reset : step.axis.reset ≡ before
   pub ends : step.ending ≢ None → active ≢ None
 
 followed-active : (k : BlockKind) (target : ℤ) (p : Progress) (a : Axis) → (followed k target p a).active ≡ a.active
 followed-active kind.Home target p a = refl
 followed-active _ target p a = refl
 
-by-progress : (w : Wanted) (k : BlockKind) (target : ℤ) (a : Axis) (made : Result Progress ℕ) → a.active ≡ Some w → Advances a.active (advanced_by k target a made)
-by-progress w k target a (Ok p) e = record { same = followed-active k target p a; ends = λ h g. cc }
-by-progress w k target a (Err n) e = record { same = refl; ends = λ h g. cc }
+followed-reset : (k : BlockKind) (target : ℤ) (p : Progress) (a : Axis) → (followed k target p a).reset ≡ a.reset
+followed-reset kind.Home target p a = refl
+followed-reset _ target p a = refl
 
-by-command : (active next : Option Wanted) (look : AxisLook) (a : Axis) → a.active ≡ active → Advances a.active (advanced_with active next look a)
-by-command None next look a e = record { same = refl; ends = λ h. absurd (h refl) }
+by-progress : (w : Wanted) (k : BlockKind) (target : ℤ) (a : Axis) (made : Result Progress ℕ) → a.active ≡ Some w → Advances a.active a.reset (advanced_by k target a made)
+by-progress w k target a (Ok p) e = record { same = followed-active k target p a; reset = followed-reset k target p a; ends = λ h g. cc }
+by-progress w k target a (Err n) e = record { same = refl; reset = refl; ends = λ h g. cc }
+
+by-command : (active next : Option Wanted) (look : AxisLook) (a : Axis) → a.active ≡ active → Advances a.active a.reset (advanced_with active next look a)
+by-command None next look a e = record { same = refl; reset = refl; ends = λ h. absurd (h refl) }
 by-command (Some w) next look a e = by-progress w w.kind (target_of w) a (progress_of a w next look) e
 
 path-active : (ends : Bool) (a : Axis) → (path_left ends a).active ≡ a.active
 path-active true a = refl
 path-active false a = refl
 
-by-place : (o : Option ℤ) (next : Option Wanted) (look : AxisLook) (a : Axis) → Advances a.active (advanced_from o next look a)
-by-place (Some place) next look a = record { same = path-active look.path_ends _; ends = λ h. absurd (h refl) }
+path-reset : (ends : Bool) (a : Axis) → (path_left ends a).reset ≡ a.reset
+path-reset true a = refl
+path-reset false a = refl
+
+by-place : (o : Option ℤ) (next : Option Wanted) (look : AxisLook) (a : Axis) → Advances a.active a.reset (advanced_from o next look a)
+by-place (Some place) next look a = record { same = path-active look.path_ends _; reset = path-reset look.path_ends _; ends = λ h. absurd (h refl) }
 by-place None next look a = by-command a.active next look a refl
 
-by-state : (b : Bool) (next : Option Wanted) (look : AxisLook) (a : Axis) → Advances a.active (if b then record { axis = braked a; ending = None } else advanced_from (place_on_path a look) next look a)
-by-state true next look a = record { same = refl; ends = λ h. absurd (h refl) }
+by-state : (b : Bool) (next : Option Wanted) (look : AxisLook) (a : Axis) → Advances a.active a.reset (if b then record { axis = braked a; ending = None } else advanced_from (place_on_path a look) next look a)
+by-state true next look a = record { same = refl; reset = refl; ends = λ h. absurd (h refl) }
 by-state false next look a = by-place (place_on_path a look) next look a
 
-pub advances : (next : Option Wanted) (look : AxisLook) (a : Axis) → Advances a.active (advanced next look a)
+pub advances : (next : Option Wanted) (look : AxisLook) (a : Axis) → Advances a.active a.reset (advanced next look a)
 unfolding advanced
 advances next look a = by-state (is_error_stop a.state) next look a
 

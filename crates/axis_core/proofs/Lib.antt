@@ -17,3 +17,5 @@ pub mod KeptCommands
 pub mod KeptPowers
 pub mod ShownKept
 pub mod FateLaws
+pub mod ToldLaws
+pub mod OwnerLaws

@@ -16,3 +16,4 @@ pub mod Looks
 pub mod Rows
 pub mod Shown
 pub mod Fates
+pub mod Owners

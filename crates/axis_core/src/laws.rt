@@ -1,12 +1,13 @@
 // Laws of an axis: each is the contract of a function that does nothing.
 
-ghost use Rattle.std.specs.Prelude.{◌≡◌, ℕ, Bool};
+ghost use Rattle.std.specs.Prelude.{◌≡◌, ◌+◌, ℕ, Bool, false, nat_eq};
 ghost use Rattle.axis_core.specs.Calls.{commanded, detached, powered_by};
 ghost use Rattle.axis_core.specs.Cores.{Core};
 ghost use Rattle.axis_core.specs.Cycles.{cycled, opened};
 ghost use Rattle.axis_core.specs.Demands.{IsMade};
 ghost use Rattle.axis_core.specs.Fates.{IsFate, IsSame, command_fate, power_fate, cycle_fate};
-ghost use Rattle.axis_core.specs.Refusals.{Asked};
+ghost use Rattle.axis_core.specs.Owners.{TellsOwner, is_owner, owns, told, brought, disowned};
+ghost use Rattle.axis_core.specs.Refusals.{Asked, refusal_of};
 ghost use Rattle.axis_core.specs.Rows.{Stays};
 ghost use Rattle.axis_core.specs.Shown.{IsShown};
 ghost use Rattle.axis_core.specs.blocks.Path.{on_path};
@@ -41,4 +42,20 @@ pub fn fates_are_told()
     ensures detach { (owner : ℕ) (a : Axis) → IsSame a.active (detached owner a).active }
     ensures path { (on : Bool) (a : Axis) → (on_path on a).active ≡ a.active }
     ensures cycle { (look : AxisLook) (c : Core) → IsFate (cycle_fate look c) c.axis.active (cycled look c).axis.active }
+{}
+
+/// The owner of the active command is told how it ends; and each instance is told of each command that it has no longer,
+/// once, and of no other: what it has and what it was told stay the same together, but for the command that it brings.
+pub fn ends_are_told_once()
+    ensures told_command { (q : Asked) (c : Core) → TellsOwner (command_fate q c) c.axis.active (commanded q c).notes }
+    ensures told_power { (enable : Bool) (c : Core) → TellsOwner (power_fate enable c) c.axis.active (powered_by enable c).notes }
+    ensures told_cycle { (look : AxisLook) (c : Core) → TellsOwner (cycle_fate look c) c.axis.active (cycled look c).notes }
+    ensures once_command { (k : ℕ) (q : Asked) (c : Core) →
+        owns k (commanded q c) + told k (commanded q c).notes ≡ owns k c + told k c.notes + is_owner k (brought (refusal_of q) q.wanted) }
+    ensures once_power { (k : ℕ) (enable : Bool) (c : Core) →
+        owns k (powered_by enable c) + told k (powered_by enable c).notes ≡ owns k c + told k c.notes }
+    ensures once_cycle { (k : ℕ) (look : AxisLook) (c : Core) →
+        owns k (cycled look c) + told k (cycled look c).notes ≡ owns k c + told k c.notes }
+    ensures taken_away { (k : ℕ) (c : Core) → owns k (disowned k c) ≡ 0 }
+    ensures left { (j k : ℕ) (c : Core) → nat_eq k j ≡ false → owns j (disowned k c) ≡ owns j c }
 {}

@@ -27,7 +27,7 @@ pub use command_pool::{
     BlockKind, BufferMode, CommandPool, Finish, Follow, Note, Notes, OutOfMemory, Rates, Refusal,
     Wanted,
 };
-pub use laws::{calls_move_no_axis, errors_stand_in_error_stop, fates_are_told};
+pub use laws::{calls_move_no_axis, ends_are_told_once, errors_stand_in_error_stop, fates_are_told};
 pub use look::{ActiveLook, AxisLook};
 pub use one_axis::AxisCore;
 pub use reason::Reason;
