@@ -211,7 +211,7 @@ error-not-driven a input h =
     error-ends (is_error_stop a.state) (has_fault input) (is_powered a) (is_operational input) a.driven (is_within a input)
     (fault-stops (state_of_word input.statusword) (int_eq input.mode_display CYCLIC_SYNCHRONOUS_POSITION)) h
 
-driven-without-error : (a : Axis) (input : DriveIn) → is_error_stop a.state ≡ false → is_powered a ≡ true → a.driven ≡ true → nat_eq (answer_error_of a input) 0 ≡ true →
+pub driven-without-error : (a : Axis) (input : DriveIn) → is_error_stop a.state ≡ false → is_powered a ≡ true → a.driven ≡ true → nat_eq (answer_error_of a input) 0 ≡ true →
     is_operational input ≡ true
 unfolding answer_error_of
 driven-without-error a input s p d h =
@@ -243,7 +243,7 @@ begins-within driven true false h d w = absurd (cc)
 begins-within driven false false h d w = absurd (cc)
 
 -- all three say that the axis is driven
-all-three : (x y z : Bool) → x ≡ true → y ≡ true → z ≡ true → (x && y && z) ≡ true
+pub all-three : (x y z : Bool) → x ≡ true → y ≡ true → z ≡ true → (x && y && z) ≡ true
 all-three true true true a b c = refl
 all-three false y z a b c = absurd (cc)
 all-three true false z a b c = absurd (cc)

@@ -82,7 +82,7 @@ place-ended : (f : Finish) (c : Core) → place_of (ended f c).axis ≡ place_of
 unfolding ended
 place-ended f c = place-taken_over c.waiting _
 
-place-ended_by : (o : Option Finish) (c : Core) → place_of (ended_by o c).axis ≡ place_of c.axis
+pub place-ended_by : (o : Option Finish) (c : Core) → place_of (ended_by o c).axis ≡ place_of c.axis
 place-ended_by None c = refl
 place-ended_by (Some (finish.Error n)) c = place-failed n c
 place-ended_by (Some finish.Done) c = place-ended finish.Done c

@@ -19,3 +19,5 @@ pub mod ShownKept
 pub mod FateLaws
 pub mod ToldLaws
 pub mod OwnerLaws
+pub mod ArrivalLaws
+pub mod DoneLaws

@@ -273,7 +273,7 @@ without-own : (k : ℕ) (o : Option ℕ) → is_owner k (without k o) ≡ 0
 unfolding is_owner
 without-own k None = refl
 without-own k (Some n) = by (nat_eq n k) refl
-    where
+  where
     by : (b : Bool) → nat_eq n k ≡ b → is_owner k (if b then None else Some n) ≡ 0
     by true e = refl
     by false e = ap one_of e
@@ -282,7 +282,7 @@ without-other : (j k : ℕ) (o : Option ℕ) → nat_eq k j ≡ false → is_own
 unfolding is_owner
 without-other j k None h = refl
 without-other j k (Some n) h = by (nat_eq n k) refl
-    where
+  where
     by : (b : Bool) → nat_eq n k ≡ b → is_owner j (if b then None else Some n) ≡ is_owner j (Some n)
     by true e = let same : n ≡ k = eqb-true n k e in sym (ap one_of (ap (λ x. nat_eq x j) same ∙ h))
     by false e = refl

@@ -17,3 +17,4 @@ pub mod Rows
 pub mod Shown
 pub mod Fates
 pub mod Owners
+pub mod Arrivals

@@ -1,6 +1,11 @@
 // Laws of an axis: each is the contract of a function that does nothing.
 
-ghost use Rattle.std.specs.Prelude.{◌≡◌, ◌+◌, ℕ, Bool, false, nat_eq};
+ghost use Rattle.std.specs.Prelude.{◌≡◌, ◌+◌, ℕ, Bool, Some, true, false, nat_eq, slice_get};
+ghost use Rattle.command_pool.specs.declared.ending.Finish.TheVariants as finish;
+ghost use Rattle.axis_core.specs.blocks.Moves.{blended_with, is_move, target_of};
+ghost use Rattle.command_pool.specs.declared.wanted.Wanted.{Wanted};
+ghost use Rattle.axis_core.specs.Arrivals.{Course, course_of, bound_of, turn_of, IsUnderWay, Carried, IsMoveDone};
+ghost use Rattle.axis_core.specs.AxisKept.{IsCoreKept};
 ghost use Rattle.axis_core.specs.Calls.{commanded, detached, powered_by};
 ghost use Rattle.axis_core.specs.Cores.{Core};
 ghost use Rattle.axis_core.specs.Cycles.{cycled, opened};
@@ -14,6 +19,9 @@ ghost use Rattle.axis_core.specs.blocks.Path.{on_path};
 ghost use Rattle.axis_core.specs.declared.look.AxisLook.{AxisLook};
 ghost use Rattle.axis_state.specs.declared.definition.AxisDef.{AxisDef};
 ghost use Rattle.axis_core.specs.declared.axis.Axis.{Axis};
+
+use blend_plan::blends_apply_by_test;
+use trapezoid_plan::{halts_come_to_rest_in_time, moves_arrive_in_time};
 
 /// Calls between cycles move no axis: it stays where it is, within the same limits and in its driven spell.
 pub fn calls_move_no_axis()
@@ -59,3 +67,31 @@ pub fn ends_are_told_once()
     ensures taken_away { (k : ℕ) (c : Core) → owns k (disowned k c) ≡ 0 }
     ensures left { (j k : ℕ) (c : Core) → nat_eq k j ≡ false → owns j (disowned k c) ≡ owns j c }
 {}
+
+/// A move, a Halt and a Stop come to their end in time: an active one is under way for as many cycles as its bound, and
+/// every event carries it on, with fewer cycles to go, or turns it: it is Done at the end of its course, replaced, faulted
+/// or blended.
+pub fn courses_end_in_time()
+    ensures begins { (course : Course) (c : Core) (w : Wanted) → IsCoreKept c → c.axis.active ≡ Some w → course_of w ≡ Some course →
+        IsUnderWay (bound_of course c.axis) course c.axis }
+    ensures command { (n : ℕ) (course : Course) (q : Asked) (c : Core) → IsUnderWay n course c.axis →
+        Carried n 0 course (turn_of (command_fate q c)) (commanded q c).axis }
+    ensures power { (n : ℕ) (course : Course) (enable : Bool) (c : Core) → IsUnderWay n course c.axis →
+        Carried n 0 course (turn_of (power_fate enable c)) (powered_by enable c).axis }
+    ensures detach { (n : ℕ) (course : Course) (owner : ℕ) (a : Axis) → IsUnderWay n course a → IsUnderWay n course (detached owner a) }
+    ensures cycle { (n : ℕ) (course : Course) (look : AxisLook) (c : Core) → IsCoreKept c → IsUnderWay n course c.axis →
+        Carried n 1 course (turn_of (cycle_fate look c)) (cycled look c).axis }
+{
+    moves_arrive_in_time();
+    halts_come_to_rest_in_time();
+}
+
+/// A move is Done at its target with step 0, or, where it is blended, by a step of at most the blend velocity that
+/// crosses the target.
+pub fn moves_are_done_at_their_targets()
+    ensures { (look : AxisLook) (c : Core) (w : Wanted) → IsCoreKept c → c.axis.active ≡ Some w → is_move w.kind ≡ true →
+        (cycle_fate look c).ends ≡ Some finish.Done →
+        IsMoveDone (blended_with c.axis w (slice_get c.waiting 0)) (target_of w) c.axis.setpoint (cycled look c).axis }
+{
+    blends_apply_by_test();
+}

@@ -27,7 +27,10 @@ pub use command_pool::{
     BlockKind, BufferMode, CommandPool, Finish, Follow, Note, Notes, OutOfMemory, Rates, Refusal,
     Wanted,
 };
-pub use laws::{calls_move_no_axis, ends_are_told_once, errors_stand_in_error_stop, fates_are_told};
+pub use laws::{
+    calls_move_no_axis, courses_end_in_time, ends_are_told_once, errors_stand_in_error_stop,
+    fates_are_told, moves_are_done_at_their_targets,
+};
 pub use look::{ActiveLook, AxisLook};
 pub use one_axis::AxisCore;
 pub use reason::Reason;
