@@ -18,9 +18,9 @@ use Rattle.command_pool.specs.declared.wanted.Wanted.{Wanted}
 use Rattle.kin_core.specs.Admissible.{IsKept}
 use Rattle.kin_core.specs.declared.limits.Limits.{Limits}
 use Rattle.axis_core.specs.AxisKept.{AreNumbers, AreRampsWithin, AreRatesWithin, AreWaiting, IsActive, IsCoreKept, IsGearWithin, IsInState, IsMoveWithin, IsReady, IsRelativeWithin, IsRunning, IsVelocityWithin, IsWaiting, MayQueue, fits}
-use Rattle.axis_core.specs.Calls.{admitted_by, joined, left, queue_in}
+use Rattle.axis_core.specs.Calls.{admitted_by, commanded, commanded_by, joined, left, queue_in}
 use Rattle.axis_core.specs.Cores.{Core, all_ended, begun, begun_by, state_with}
-use Rattle.axis_core.specs.Demands.{IsMade}
+use Rattle.axis_core.specs.Demands.{IsMade, asked_in}
 use Rattle.axis_core.specs.Kept.{IsGear, IsSmallTarget}
 use Rattle.axis_core.specs.Kinds.{tests_of}
 use Rattle.axis_core.specs.Ranges.{IsBetween, is_outside}
@@ -33,7 +33,7 @@ use Rattle.axis_core.specs.blocks.Power.{is_powered}
 use Rattle.axis_core.specs.declared.axis.Axis.{Axis}
 use Rattle.axis_core.proofs.KeptParts.{Based, begun-kept, not-outside, small-within}
 use Rattle.axis_core.proofs.KeptRanges.{moving-of}
-use Rattle.axis_core.proofs.MayAdmit.{asked_in, NoneHolds, none-holds, of_kind, running-of, standstill-of}
+use Rattle.axis_core.proofs.MayAdmit.{NoneHolds, none-holds, of_kind, running-of, standstill-of}
 
 -- the axis on which a command becomes active, with none behind it, is kept
 begins-kept : (w : Wanted) (c : Core) → Based c.axis →
@@ -428,3 +428,12 @@ pub admitted-kept : (c : Core) (number : ℕ) (w : Wanted) (jerk : ℤ) (held : 
 unfolding refusal_of
 admitted-kept c number w jerk held tables k m h =
     admitted-by w.kind c number w jerk held tables k m (none-holds (asked_in c number w jerk held tables) (tests_of w.kind) h)
+
+-- a command that is asked keeps the axis, refused or not
+pub commanded-kept : (c : Core) (number : ℕ) (w : Wanted) (jerk : ℤ) (held : Bool) (tables : ℕ) → IsCoreKept c → IsMade w →
+    IsCoreKept (commanded (asked_in c number w jerk held tables) c)
+unfolding commanded
+commanded-kept c number w jerk held tables k m =
+    elim (refusal_of (asked_in c number w jerk held tables)) as
+    (λ r. refusal_of (asked_in c number w jerk held tables) ≡ r → IsCoreKept (commanded_by r w c))
+    [ None ↦ λ h. admitted-kept c number w jerk held tables k m h | Some r ↦ λ h. k ] refl

@@ -16,7 +16,7 @@ use Rattle.axis_core.specs.blocks.Gear.{is_ended_by, is_not_following}
 use Rattle.axis_core.specs.AxisKept.{IsCoreKept, IsInState, IsRunning, fits}
 use Rattle.axis_core.specs.Calls.{queue_in}
 use Rattle.axis_core.specs.Cores.{Core}
-use Rattle.axis_core.specs.Demands.{IsMade}
+use Rattle.axis_core.specs.Demands.{IsMade, asked_in}
 use Rattle.axis_core.specs.Kept.{MayAdmit, MayLeave}
 use Rattle.axis_core.specs.Kinds.{tests_of}
 use Rattle.axis_core.specs.Refusals.{Asked, first_holding, holds, refusal_of}
@@ -26,19 +26,6 @@ use Rattle.axis_core.specs.declared.reason.Reason.{Reason}
 use Rattle.axis_core.specs.declared.reason.Reason.TheVariants.{QueueFull}
 use Rattle.axis_core.proofs.KeptRanges.{moving-of}
 use Rattle.axis_core.proofs.Moving.{small_of}
-
--- what a command is asked of, on an axis with the commands that wait for it
-abbrev pub asked_in : Core → ℕ → Wanted → ℤ → Bool → ℕ → Asked
-asked_in c number w jerk held tables = record {
-  axis = c.axis;
-  number = number;
-  waiting = length c.waiting;
-  last = last_of c.waiting;
-  wanted = w;
-  jerk = jerk;
-  held = held;
-  tables = tables;
-}
 
 -- none of these reasons holds
 abbrev pub NoneHolds : Asked → List Reason → Type 0

@@ -6,6 +6,7 @@ use Rattle.command_pool.specs.declared.kind.BlockKind.{BlockKind}
 use Rattle.command_pool.specs.declared.kind.BlockKind.TheVariants as kind
 use Rattle.command_pool.specs.declared.kind.BufferMode.TheVariants.{Aborting}
 use Rattle.command_pool.specs.declared.wanted.Wanted.{Wanted}
+use Rattle.axis_core.specs.Cores.{Core}
 use Rattle.axis_core.specs.Kinds.{may_wait}
 use Rattle.axis_core.specs.Refusals.{Asked}
 use Rattle.axis_core.specs.blocks.Moves.{position_of}
@@ -39,7 +40,20 @@ pub record IsMade (w : Wanted) : Type 0 where
   pub target : w.target ≡ asked_target w.kind w
   pub mode : may_wait w.kind ≡ false → w.mode ≡ Aborting
 
--- what a command is asked of: the axis of this number, with the commands in its list of the pool. This project's profile
+-- what a command is asked of: the axis of this number, with the commands that wait for it. This project's profile
+abbrev pub asked_in : Core → ℕ → Wanted → ℤ → Bool → ℕ → Asked
+asked_in c number w jerk held tables = record {
+  axis = c.axis;
+  number = number;
+  waiting = length c.waiting;
+  last = last_of c.waiting;
+  wanted = w;
+  jerk = jerk;
+  held = held;
+  tables = tables;
+}
+
+-- the same, with the commands in its list of the pool. This project's profile
 abbrev pub asked_by : Axis → List (List Wanted) → ℕ → Wanted → ℤ → Bool → ℕ → Asked
 asked_by a lists list w jerk held tables = record {
   axis = a;

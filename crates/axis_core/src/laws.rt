@@ -1,27 +1,56 @@
 // Laws of an axis: each is the contract of a function that does nothing.
 
-ghost use Rattle.std.specs.Prelude.{◌≡◌, ◌+◌, ℕ, Bool, Some, true, false, nat_eq, slice_get};
+ghost use Rattle.std.specs.Prelude.{◌≡◌, ◌⊎◌, IsTrue, None, ℤ, [], ◌+◌, ℕ, Bool, Some, true, false, nat_eq, slice_get};
 ghost use Rattle.command_pool.specs.declared.ending.Finish.TheVariants as finish;
 ghost use Rattle.axis_core.specs.blocks.Moves.{blended_with, is_move, target_of};
 ghost use Rattle.command_pool.specs.declared.wanted.Wanted.{Wanted};
 ghost use Rattle.axis_core.specs.Arrivals.{Course, course_of, bound_of, turn_of, IsUnderWay, Carried, IsMoveDone};
-ghost use Rattle.axis_core.specs.AxisKept.{IsCoreKept};
+ghost use Rattle.axis_core.specs.AxisKept.{IsAxisDef, IsCoreKept, IsLook};
 ghost use Rattle.axis_core.specs.Calls.{commanded, detached, powered_by};
 ghost use Rattle.axis_core.specs.Cores.{Core};
-ghost use Rattle.axis_core.specs.Cycles.{cycled, opened};
-ghost use Rattle.axis_core.specs.Demands.{IsMade};
+ghost use Rattle.axis_core.specs.Cycles.{cycled, opened, row_of};
+ghost use Rattle.axis_core.specs.Demands.{IsMade, asked_in};
 ghost use Rattle.axis_core.specs.Fates.{IsFate, IsSame, command_fate, power_fate, cycle_fate};
 ghost use Rattle.axis_core.specs.Owners.{TellsOwner, is_owner, owns, told, brought, disowned};
 ghost use Rattle.axis_core.specs.Refusals.{Asked, refusal_of};
-ghost use Rattle.axis_core.specs.Rows.{Stays};
+ghost use Rattle.axis_core.specs.Rows.{KeepsSpell, Stays};
 ghost use Rattle.axis_core.specs.Shown.{IsShown};
 ghost use Rattle.axis_core.specs.blocks.Path.{on_path};
 ghost use Rattle.axis_core.specs.declared.look.AxisLook.{AxisLook};
+ghost use Rattle.axis_state.specs.Counts.{IsCount};
 ghost use Rattle.axis_state.specs.declared.definition.AxisDef.{AxisDef};
 ghost use Rattle.axis_core.specs.declared.axis.Axis.{Axis};
 
+use axis_state::{
+    counts_are_read_back, homing_keeps_counts, offsets_are_small, setpoints_have_counts,
+};
 use blend_plan::blends_apply_by_test;
+use kin_core::{braking_steps_are_only_cut, standing_is_kept, taken_steps_keep};
 use trapezoid_plan::{halts_come_to_rest_in_time, moves_arrive_in_time};
+
+/// What always holds of an axis and of the commands that wait for it holds at opening, and after every call and every
+/// cycle, whose row keeps the axis's limits.
+pub fn axes_stay_kept()
+    ensures opened { (d : AxisDef) → IsAxisDef d → IsCoreKept (record { axis = opened d; waiting = []; notes = [] }) }
+    ensures command { (c : Core) (number : ℕ) (w : Wanted) (jerk : ℤ) (held : Bool) (tables : ℕ) → IsCoreKept c → IsMade w →
+        IsCoreKept (commanded (asked_in c number w jerk held tables) c) }
+    ensures power { (enable : Bool) (c : Core) → IsCoreKept c → IsCoreKept (powered_by enable c) }
+    ensures detach { (owner : ℕ) (c : Core) → IsCoreKept c → IsCoreKept (disowned owner c) }
+    ensures path { (on : Bool) (c : Core) → IsCoreKept c → c.axis.active ≡ None → IsTrue on ⊎ (c.axis.previous ≡ c.axis.setpoint) →
+        IsCoreKept (record c { axis = on_path on c.axis }) }
+    ensures cycle { (look : AxisLook) (c : Core) → IsCoreKept c → IsLook c.axis look → IsCount look.input.actual →
+        IsCoreKept (cycled look c) }
+    ensures row { (look : AxisLook) (c : Core) → IsCoreKept c → IsLook c.axis look →
+        KeepsSpell c.axis (row_of look.input (cycled look c).axis) (cycled look c).axis }
+{
+    taken_steps_keep();
+    braking_steps_are_only_cut();
+    standing_is_kept();
+    setpoints_have_counts();
+    homing_keeps_counts();
+    counts_are_read_back();
+    offsets_are_small();
+}
 
 /// Calls between cycles move no axis: it stays where it is, within the same limits and in its driven spell.
 pub fn calls_move_no_axis()

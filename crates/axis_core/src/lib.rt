@@ -28,8 +28,8 @@ pub use command_pool::{
     Wanted,
 };
 pub use laws::{
-    calls_move_no_axis, courses_end_in_time, ends_are_told_once, errors_stand_in_error_stop,
-    fates_are_told, moves_are_done_at_their_targets,
+    axes_stay_kept, calls_move_no_axis, courses_end_in_time, ends_are_told_once,
+    errors_stand_in_error_stop, fates_are_told, moves_are_done_at_their_targets,
 };
 pub use look::{ActiveLook, AxisLook};
 pub use one_axis::AxisCore;
