@@ -5,11 +5,15 @@ use Rattle.buffer_modes.specs.Queue.{is_active_at_once}
 use Rattle.command_pool.specs.declared.kind.BlockKind.{BlockKind}
 use Rattle.command_pool.specs.declared.kind.BlockKind.TheVariants as kind
 use Rattle.command_pool.specs.declared.wanted.Wanted.{Wanted}
-use Rattle.axis_core.specs.Commands.{admitted_by, commanded_by, commanded, left, joined, queued, queue_in, velocity_command, powered_by, disabled, detached, on_path}
-use Rattle.axis_core.specs.Cores.{Core, begun, with_target}
-use Rattle.axis_core.specs.Refusals.{Asked, refusal_of, is_error_stop}
+use Rattle.command_pool.specs.Waiting.{last_of}
+use Rattle.axis_core.specs.Calls.{admitted_by, commanded, commanded_by, detached, disabled, joined, left, powered_by, queue_in, queued}
+use Rattle.axis_core.specs.Cores.{Core, begun, begun_by}
+use Rattle.axis_core.specs.Refusals.{Asked, refusal_of}
 use Rattle.axis_core.specs.Rows.{Stays}
-use Rattle.axis_core.specs.Targets.{known_target_of}
+use Rattle.axis_core.specs.States.{is_error_stop}
+use Rattle.axis_core.specs.blocks.Gear.{velocity_command}
+use Rattle.axis_core.specs.blocks.Moves.{known_target_of, with_target}
+use Rattle.axis_core.specs.blocks.Path.{on_path}
 use Rattle.axis_core.specs.declared.axis.Axis.{Axis}
 use Rattle.axis_core.specs.declared.reason.Reason.{Reason}
 use Rattle.axis_core.proofs.KeptRows.{Place, place_of, place-begun}
@@ -27,16 +31,17 @@ place-joined w c =
     [ true ↦ place-begun w (queued w c).axis | false ↦ refl ]
 
 place-left : (w : Wanted) (c : Core) → place_of (left w c).axis ≡ place_of c.axis
-place-left w c = place-begun (velocity_command w c.axis) (record c.axis { active = None })
+unfolding begun_by
+place-left w c = refl
 
 place-admitted : (k : BlockKind) (w : Wanted) (c : Core) → place_of (admitted_by k w c).axis ≡ place_of c.axis
 place-admitted kind.Reset w c = refl
 place-admitted kind.GearOut w c = place-left w c
 place-admitted kind.CamOut w c = place-left w c
-place-admitted _ w c = place-joined (with_target (known_target_of c.axis c.waiting w) w) c
+place-admitted _ w c = place-joined w c
 
 place-commanded : (o : Option Reason) (w : Wanted) (c : Core) → place_of (commanded_by o w c).axis ≡ place_of c.axis
-place-commanded None w c = place-admitted w.kind w c
+place-commanded None w c = place-admitted w.kind (with_target (known_target_of c.axis (last_of c.waiting) w) w) c
 place-commanded (Some r) w c = refl
 
 pub stays-commanded : (q : Asked) (c : Core) → Stays c.axis (commanded q c).axis

@@ -17,24 +17,29 @@ use Rattle.command_pool.specs.declared.wanted.Follow.TheVariants as follow
 use Rattle.command_pool.specs.declared.wanted.Wanted.{Wanted}
 use Rattle.kin_core.specs.Admissible.{IsKept}
 use Rattle.kin_core.specs.declared.limits.Limits.{Limits}
-use Rattle.axis_core.specs.AxisKept.{AreRampsWithin, AreRatesWithin, AreNumbers, IsMoveWithin, IsRelativeWithin, IsVelocityWithin, IsGearWithin, IsReady, IsActive, IsRunning, IsInState, IsWaiting, AreWaiting, MayQueue, IsCoreKept, fits}
-use Rattle.axis_core.specs.Commands.{queue_in, velocity_command, left, joined, admitted_by}
-use Rattle.axis_core.specs.Cores.{Core, begun, state_with, with_target, all_ended}
-use Rattle.axis_core.specs.Cycles.{is_powered}
-use Rattle.axis_core.specs.Demands.{IsMade}
-use Rattle.axis_core.specs.Kept.{IsBetween, IsGear, IsSmallTarget}
-use Rattle.axis_core.specs.Refusals.{tests_of, is_outside, is_disabled, is_error_stop, is_stopping, is_homing, has_counts, breaks_counts, is_target_outside, is_bad_ratio, holds, refusal_of}
-use Rattle.axis_core.specs.Targets.{position_of, known_target_of, relative_target_of, target_from, move_target_of, command_before}
+use Rattle.axis_core.specs.AxisKept.{AreNumbers, AreRampsWithin, AreRatesWithin, AreWaiting, IsActive, IsCoreKept, IsGearWithin, IsInState, IsMoveWithin, IsReady, IsRelativeWithin, IsRunning, IsVelocityWithin, IsWaiting, MayQueue, fits}
+use Rattle.axis_core.specs.Calls.{admitted_by, commanded, commanded_by, joined, left, queue_in}
+use Rattle.axis_core.specs.Cores.{Core, all_ended, begun, begun_by, state_with}
+use Rattle.axis_core.specs.Demands.{IsMade, asked_in}
+use Rattle.axis_core.specs.Kept.{IsGear, IsSmallTarget}
+use Rattle.axis_core.specs.Kinds.{tests_of}
+use Rattle.axis_core.specs.Ranges.{IsBetween, is_outside}
+use Rattle.axis_core.specs.Refusals.{holds, is_target_outside, refusal_of}
+use Rattle.axis_core.specs.States.{is_disabled, is_error_stop, is_homing, is_stopping}
+use Rattle.axis_core.specs.blocks.Gear.{is_bad_ratio, out_event, velocity_command}
+use Rattle.axis_core.specs.blocks.Home.{breaks_counts, has_counts}
+use Rattle.axis_core.specs.blocks.Moves.{command_before, known_target_of, move_target_of, position_of, relative_target_of, target_from, with_target}
+use Rattle.axis_core.specs.blocks.Power.{is_powered}
 use Rattle.axis_core.specs.declared.axis.Axis.{Axis}
 use Rattle.axis_core.proofs.KeptParts.{Based, begun-kept, not-outside, small-within}
 use Rattle.axis_core.proofs.KeptRanges.{moving-of}
-use Rattle.axis_core.proofs.MayAdmit.{asked_in, NoneHolds, none-holds, of_kind, running-of, standstill-of}
+use Rattle.axis_core.proofs.MayAdmit.{NoneHolds, none-holds, of_kind, running-of, standstill-of}
 
 -- the axis on which a command becomes active, with none behind it, is kept
 begins-kept : (w : Wanted) (c : Core) → Based c.axis →
     IsInState (state_with w.kind c.axis.state) c.axis.driven (is_powered c.axis) c.axis.was_off c.axis.previous c.axis.setpoint (Some w) →
     IsActive (state_with w.kind c.axis.state) c.axis.limits c.axis.inc c.axis.offset c.axis.setpoint w → c.waiting ≡ [] → IsCoreKept (record c { axis = begun w c.axis })
-unfolding begun
+unfolding begun_by
 begins-kept w c b s i empty = record {
   axis = record {
     base = b;
@@ -170,14 +175,14 @@ at-once false None h = refl
 at-once false (Some w) h = absurd (cc)
 
 -- the target of a MoveRelative that is active at once is fixed
-relative-fixed : (c : Core) (w : Wanted) → (is_aborting w.mode || is_none c.axis.active) ≡ true → relative_target_of c.axis c.waiting w ≡ Some (c.axis.setpoint +ℤ position_of w)
+relative-fixed : (c : Core) (w : Wanted) → (is_aborting w.mode || is_none c.axis.active) ≡ true → relative_target_of c.axis (last_of c.waiting) w ≡ Some (c.axis.setpoint +ℤ position_of w)
 relative-fixed c w h =
     chosen (is_aborting w.mode || not (is_some c.axis.active)) (Some (c.axis.setpoint +ℤ position_of w))
     (target_from (position_of w) (move_target_of (command_before c.axis.active (last_of c.waiting)))) (at-once (is_aborting w.mode) c.axis.active h)
 
 -- a command with its target as far as it is known
 abbrev known : BlockKind → Core → Wanted → Wanted
-known k c w = with_target (known_target_of c.axis c.waiting (of_kind k w)) (of_kind k w)
+known k c w = with_target (known_target_of c.axis (last_of c.waiting) (of_kind k w)) (of_kind k w)
 
 -- what each kind brings where it joins others
 move-joins : (c : Core) (number : ℕ) (w : Wanted) (jerk : ℤ) (held : Bool) (tables : ℕ) → IsCoreKept c → IsMade (of_kind kind.MoveAbsolute w) →
@@ -372,6 +377,11 @@ home-joins c number w jerk held tables k m n =
 step-within : (l : Limits) (before now : ℤ) → IsKept l before now → IsBetween (neg_ℤ l.vmax) (now -ℤ before) l.vmax
 step-within l before now k = let speed = k.speed in record { above = omega (arith, ints, speed); below = omega (arith, ints, speed) }
 
+-- the velocity command of a gear or a cam that is left becomes active as any other
+left-begun : (w : Wanted) (a b : Axis) → begun (velocity_command w a) b ≡ begun_by (Some out_event) (velocity_command w a) b
+unfolding begun_by
+left-begun w a b = refl
+
 -- leaving a gear or a cam keeps the axis
 left-kept : (w : Wanted) (c : Core) → IsCoreKept c → IsRunning c.axis.driven (is_powered c.axis) → IsCoreKept (left w c)
 left-kept w c k r =
@@ -385,11 +395,13 @@ left-kept w c k r =
       velocity = step-within l c.axis.previous c.axis.setpoint (moving-of c.axis k.axis r.on).kept;
       ramps = record { acceleration = record { above = least; below = omega (arith, ints) }; deceleration = record { above = least; below = most } };
     } in
-    (begun-kept v (all_ended finish.Aborted c) b r tt refl numbers tt (small-none v refl)).kept
+    let ended = all_ended finish.Aborted c in
+    let P : Axis → Type 0 = λ a. IsCoreKept (record ended { axis = a }) in
+    subst P (left-begun w c.axis ended.axis) (begun-kept v ended b r tt refl numbers tt (small-none v refl)).kept
 
 -- a command that is not refused keeps the axis, by its kind
 admitted-by : (k : BlockKind) (c : Core) (number : ℕ) (w : Wanted) (jerk : ℤ) (held : Bool) (tables : ℕ) → IsCoreKept c → IsMade (of_kind k w) →
-    NoneHolds (asked_in c number (of_kind k w) jerk held tables) (tests_of k) → IsCoreKept (admitted_by k (of_kind k w) c)
+    NoneHolds (asked_in c number (of_kind k w) jerk held tables) (tests_of k) → IsCoreKept (admitted_by k (known k c w) c)
 unfolding holds
 admitted-by kind.Reset c number w jerk held tables k m n = record {
   axis = record { base = k.axis.base; state = k.axis.state; active = k.axis.active };
@@ -397,9 +409,9 @@ admitted-by kind.Reset c number w jerk held tables k m n = record {
   queue = k.queue;
 }
 admitted-by kind.GearOut c number w jerk held tables k m n =
-    left-kept (of_kind kind.GearOut w) c k (running-of c.axis.state c.axis.driven (is_powered c.axis) c.axis.was_off c.axis.previous c.axis.setpoint c.axis.active n.0 n.1.0 k.axis.state)
+    left-kept (known kind.GearOut c w) c k (running-of c.axis.state c.axis.driven (is_powered c.axis) c.axis.was_off c.axis.previous c.axis.setpoint c.axis.active n.0 n.1.0 k.axis.state)
 admitted-by kind.CamOut c number w jerk held tables k m n =
-    left-kept (of_kind kind.CamOut w) c k (running-of c.axis.state c.axis.driven (is_powered c.axis) c.axis.was_off c.axis.previous c.axis.setpoint c.axis.active n.0 n.1.0 k.axis.state)
+    left-kept (known kind.CamOut c w) c k (running-of c.axis.state c.axis.driven (is_powered c.axis) c.axis.was_off c.axis.previous c.axis.setpoint c.axis.active n.0 n.1.0 k.axis.state)
 admitted-by kind.Home c number w jerk held tables k m n = joined-kept (known kind.Home c w) c k (home-joins c number w jerk held tables k m n)
 admitted-by kind.Stop c number w jerk held tables k m n = joined-kept (known kind.Stop c w) c k (stop-joins c number w jerk held tables k m n)
 admitted-by kind.Halt c number w jerk held tables k m n = joined-kept (known kind.Halt c w) c k (halt-joins c number w jerk held tables k m n)
@@ -412,7 +424,16 @@ admitted-by _ c number w jerk held tables k m n = absurd (let made = m.kind in c
 
 -- a command that is not refused keeps the axis
 pub admitted-kept : (c : Core) (number : ℕ) (w : Wanted) (jerk : ℤ) (held : Bool) (tables : ℕ) → IsCoreKept c → IsMade w →
-    refusal_of (asked_in c number w jerk held tables) ≡ None → IsCoreKept (admitted_by w.kind w c)
+    refusal_of (asked_in c number w jerk held tables) ≡ None → IsCoreKept (admitted_by w.kind (with_target (known_target_of c.axis (last_of c.waiting) w) w) c)
 unfolding refusal_of
 admitted-kept c number w jerk held tables k m h =
     admitted-by w.kind c number w jerk held tables k m (none-holds (asked_in c number w jerk held tables) (tests_of w.kind) h)
+
+-- a command that is asked keeps the axis, refused or not
+pub commanded-kept : (c : Core) (number : ℕ) (w : Wanted) (jerk : ℤ) (held : Bool) (tables : ℕ) → IsCoreKept c → IsMade w →
+    IsCoreKept (commanded (asked_in c number w jerk held tables) c)
+unfolding commanded
+commanded-kept c number w jerk held tables k m =
+    elim (refusal_of (asked_in c number w jerk held tables)) as
+    (λ r. refusal_of (asked_in c number w jerk held tables) ≡ r → IsCoreKept (commanded_by r w c))
+    [ None ↦ λ h. admitted-kept c number w jerk held tables k m h | Some r ↦ λ h. k ] refl

@@ -1,5 +1,5 @@
 -- What a cycle keeps of an axis.
-use Rattle.std.specs.Prelude.{◌≡◌, refl, ◌⊎◌, ℕ, ◌≤◌, Bool, true, false, not, ◌&&◌, ◌||◌, nat_eq, ℤ, pos, ◌≤ℤ◌, ◌-ℤ◌, unsigned_abs, Option, Some, None, is_some, List, [], ◌++◌, if◌then◌else◌}
+use Rattle.std.specs.Prelude.{◌≡◌, refl, ◌⊎◌, ℕ, ◌≤◌, Bool, true, false, not, ◌&&◌, ◌||◌, nat_eq, ℤ, pos, ◌≤ℤ◌, ◌-ℤ◌, unsigned_abs, Option, Some, None, is_some, List, [], ◌++◌, slice_get, if◌then◌else◌}
 use Rattle.std.proofs.lemmas.Bool.{and_parts, not-true, or_left}
 use Rattle.std.specs.Ordering.{int_eq}
 use Rattle.std.proofs.Common.{◌∙◌, sym, ap, subst, arith, inl, inr}
@@ -8,6 +8,7 @@ use Rattle.axis_state.specs.Counts.{IsCount}
 use Rattle.axis_state.specs.declared.state.AxisState.{AxisState}
 use Rattle.axis_state.specs.declared.state.AxisState.TheVariants as state
 use Rattle.cia402_machine.specs.Statusword.{state_of_word}
+use Rattle.cia402_machine.specs.declared.controlword.TheConstants.{CYCLIC_SYNCHRONOUS_POSITION}
 use Rattle.cia402_machine.specs.declared.drive.DriveIn.{DriveIn}
 use Rattle.cia402_machine.specs.declared.drive.DriveState.{DriveState}
 use Rattle.cia402_machine.specs.declared.drive.DriveState.TheVariants as drive
@@ -16,15 +17,21 @@ use Rattle.command_pool.specs.declared.notes.Note.{Note}
 use Rattle.command_pool.specs.declared.wanted.Wanted.{Wanted}
 use Rattle.kin_core.specs.Admissible.{AreLimits, IsKept, IsSafe}
 use Rattle.kin_core.specs.declared.limits.Limits.{Limits}
-use Rattle.axis_core.specs.AxisKept.{IsActive, IsRunning, IsInState, IsSet, IsBased, AreWaiting, MayQueue, IsCoreKept, IsLook}
+use Rattle.axis_core.specs.AxisKept.{AreWaiting, IsActive, IsBased, IsCoreKept, IsInState, IsLook, IsRunning, IsSet, MayQueue}
 use Rattle.axis_core.specs.Cores.{Core, core_at, failed}
-use Rattle.axis_core.specs.Cycles.{is_powered, is_enabled, is_operational, reads_fault, has_fault, actual_of, is_within, is_driven, new_error_of, answer_error_of, answered, enabled_from, standing, placed, place_on_path, is_on_path, moved, stop_left, is_at_rest, is_released, gone_on, may_reset, reset_from, after_reset, reset_axis, reset_notes, reset_where, given, run, cycled, braked}
+use Rattle.axis_core.specs.Cycles.{advanced, advanced_from, answered, braked, cycled, given, gone_on, moved, reset_where, run}
+use Rattle.axis_core.specs.Drives.{actual_of, answer_error_of, has_fault, is_driven, is_enabled, is_operational, is_within, new_error_of, reads_fault, standing}
 use Rattle.axis_core.specs.Kept.{HasDrive, MayGoOn}
-use Rattle.axis_core.specs.Refusals.{is_error_stop, is_stopping, is_outside}
+use Rattle.axis_core.specs.Ranges.{is_outside}
+use Rattle.axis_core.specs.States.{is_error_stop, is_stopping}
+use Rattle.axis_core.specs.blocks.Halts.{is_at_rest, is_released, stop_left}
+use Rattle.axis_core.specs.blocks.Path.{is_on_path, place_on_path}
+use Rattle.axis_core.specs.blocks.Power.{enabled_from, is_powered}
+use Rattle.axis_core.specs.blocks.Reset.{after_reset, may_reset, reset_axis, reset_from, reset_notes}
 use Rattle.axis_core.specs.declared.axis.Axis.{Axis}
 use Rattle.axis_core.specs.declared.axis.PendingReset.{PendingReset}
 use Rattle.axis_core.specs.declared.look.AxisLook.{AxisLook}
-use Rattle.axis_core.proofs.KeptMoves.{Laws, OffsetsAreSmall, by-command, takes-place, brakes, stopped-idle, idle-of, eq-of}
+use Rattle.axis_core.proofs.KeptMoves.{Laws, OffsetsAreSmall, by-command, concluded, takes-place, brakes, stopped-idle, idle-of, eq-of}
 use Rattle.axis_core.proofs.KeptRanges.{go-on-of}
 use Rattle.axis_core.proofs.KeptParts.{Based, Runs, IsGoing, failed-kept, not-outside}
 
@@ -48,7 +55,8 @@ on-place true path place h = (refl, h)
 on-place false path place h = absurd (cc)
 
 -- an axis that no error stops
-placed-going : Laws → (o : Option ℤ) (look : AxisLook) (c : Core) → IsLook c.axis look → IsCoreKept c → Runs c.axis → place_on_path c.axis look ≡ o → IsGoing (placed o look c)
+placed-going : Laws → (o : Option ℤ) (look : AxisLook) (c : Core) → IsLook c.axis look → IsCoreKept c → Runs c.axis → place_on_path c.axis look ≡ o →
+    IsGoing (concluded (advanced_from o (slice_get c.waiting 0) look c.axis) c)
 placed-going g None look c i k r e = by-command g look c k r
 placed-going g (Some place) look c i k r e =
     let p = on-place (is_on_path c.axis) look.path place e in
@@ -56,8 +64,10 @@ placed-going g (Some place) look c i k r e =
 
 -- the step of a cycle
 moved-going : Laws → (look : AxisLook) (c : Core) → IsLook c.axis look → IsCoreKept c → Runs c.axis → IsGoing (moved look c)
+unfolding advanced
 moved-going g look c i k r =
-    elim (is_error_stop c.axis.state) as (λ b. is_error_stop c.axis.state ≡ b → IsGoing (if b then record c { axis = braked c.axis } else placed (place_on_path c.axis look) look c))
+    elim (is_error_stop c.axis.state) as (λ b. is_error_stop c.axis.state ≡ b →
+    IsGoing (concluded (if b then record { axis = braked c.axis; ending = None } else advanced_from (place_on_path c.axis look) (slice_get c.waiting 0) look c.axis) c))
     [ true ↦ λ h. brakes g c k r h | false ↦ λ h. placed-going g (place_on_path c.axis look) look c i k r refl ] refl
 
 stopping-empty : (s : AxisState) (active : Option Wanted) (ws : List Wanted) → is_stopping s ≡ true → (ws ≡ []) ⊎ MayQueue s active → ws ≡ []
@@ -199,9 +209,9 @@ pub error-not-driven : (a : Axis) (input : DriveIn) → nat_eq (answer_error_of 
 unfolding answer_error_of
 error-not-driven a input h =
     error-ends (is_error_stop a.state) (has_fault input) (is_powered a) (is_operational input) a.driven (is_within a input)
-    (fault-stops (state_of_word input.statusword) (int_eq input.mode_display (pos 8))) h
+    (fault-stops (state_of_word input.statusword) (int_eq input.mode_display CYCLIC_SYNCHRONOUS_POSITION)) h
 
-driven-without-error : (a : Axis) (input : DriveIn) → is_error_stop a.state ≡ false → is_powered a ≡ true → a.driven ≡ true → nat_eq (answer_error_of a input) 0 ≡ true →
+pub driven-without-error : (a : Axis) (input : DriveIn) → is_error_stop a.state ≡ false → is_powered a ≡ true → a.driven ≡ true → nat_eq (answer_error_of a input) 0 ≡ true →
     is_operational input ≡ true
 unfolding answer_error_of
 driven-without-error a input s p d h =
@@ -233,7 +243,7 @@ begins-within driven true false h d w = absurd (cc)
 begins-within driven false false h d w = absurd (cc)
 
 -- all three say that the axis is driven
-all-three : (x y z : Bool) → x ≡ true → y ≡ true → z ≡ true → (x && y && z) ≡ true
+pub all-three : (x y z : Bool) → x ≡ true → y ≡ true → z ≡ true → (x && y && z) ≡ true
 all-three true true true a b c = refl
 all-three false y z a b c = absurd (cc)
 all-three true false z a b c = absurd (cc)
@@ -459,12 +469,13 @@ distance-by offsets a b =
     omega (arith, ints, s, o)
 
 -- a kept axis that is driven in this cycle may go on after its drive's answer
-pub may-go-on : Laws → (input : DriveIn) (c : Core) → IsCoreKept c → (is_driven c.axis input && (answered input c).axis.driven) ≡ true →
-    MayGoOn (answered input c).axis (answered input c).waiting
-may-go-on g input c k h =
+pub may-go-on : Laws → (look : AxisLook) (c : Core) → IsLook c.axis look → IsCoreKept c → (is_driven c.axis look.input && (answered look.input c).axis.driven) ≡ true →
+    MayGoOn (answered look.input c).axis (answered look.input c).waiting look
+may-go-on g look c i k h =
+    let input = look.input in
     let after = answered-kept input c k in
     let p = and_parts (is_driven c.axis input) (answered input c).axis.driven h in
-    go-on-of (answered input c) after p.1 (drive-of g (answered input c).axis after.axis.base).offset
+    go-on-of look (answered input c) i.cam after p.1 (drive-of g (answered input c).axis after.axis.base).offset
 
 -- a cycle in which the axis is driven on brings no error, and so no note before its step
 pub quiet : (input : DriveIn) (c : Core) → (is_driven c.axis input && (answered input c).axis.driven) ≡ true → (answered input c).notes ≡ c.notes

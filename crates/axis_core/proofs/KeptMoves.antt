@@ -1,5 +1,5 @@
 -- What the step of a cycle keeps of an axis.
-use Rattle.std.specs.Prelude.{◌≡◌, refl, ◌⊎◌, ℕ, ◌-◌, ◌≤◌, Bool, true, false, not, ◌&&◌, ℤ, pos, neg_ℤ, ◌≤ℤ◌, ◌+ℤ◌, ◌-ℤ◌, unsigned_abs, Option, Some, None, is_some, List, [], ◌∷◌, slice_get, unwrap_or}
+use Rattle.std.specs.Prelude.{◌≡◌, refl, ◌⊎◌, ℕ, ◌-◌, ◌≤◌, Bool, true, false, not, ◌&&◌, ◌||◌, ℤ, pos, neg_ℤ, ◌≤ℤ◌, ◌+ℤ◌, ◌-ℤ◌, unsigned_abs, Option, Some, None, Result, Ok, Err, is_some, List, [], ◌∷◌, slice_get, unwrap_or}
 use Rattle.std.proofs.lemmas.Bool.{and_parts}
 use Rattle.std.specs.Ordering.{int_eq}
 use Rattle.std.proofs.Common.{◌∙◌, sym, ap, subst, arith, inl, inr}
@@ -17,18 +17,21 @@ use Rattle.kin_core.specs.Admissible.{AreLimits, IsKept}
 use Rattle.kin_core.specs.Taken.{taken_step_of}
 use Rattle.kin_core.specs.Toward.{toward_zero}
 use Rattle.kin_core.specs.declared.limits.Limits.{Limits}
-use Rattle.axis_core.specs.AxisKept.{IsHomeWithin, IsReady, IsActive, IsInState, IsSet, IsBased, MayQueue, IsCoreKept, fits}
-use Rattle.axis_core.specs.Blendings.{old_step_of, blending_of}
-use Rattle.axis_core.specs.Cores.{Core, failed, ended, settled}
-use Rattle.axis_core.specs.Cycles.{is_powered, moved_to, homed, braking_step, braked, broken_off, ending_by, ends_where, is_move_done, followed, ended_where, carried_by, wished, placed, path_left, is_on_path}
-use Rattle.axis_core.specs.Kept.{IsBetween}
-use Rattle.axis_core.specs.Refusals.{is_error_stop, is_synchronized}
-use Rattle.axis_core.specs.Wishes.{taken_of, target_of, wish_of, wish_with, wish_by, is_reached}
+use Rattle.axis_core.specs.AxisKept.{IsActive, IsBased, IsCoreKept, IsHomeWithin, IsInState, IsReady, IsSet, MayQueue, fits}
+use Rattle.axis_core.specs.Cores.{Core, ended, ended_by, failed, settled}
+use Rattle.axis_core.specs.Cycles.{Advance, advanced_by, advanced_from, advanced_with, braked, braking_step, followed, progress_of, progress_with}
+use Rattle.axis_core.specs.Kinds.{ending_by, is_reached, wish_by}
+use Rattle.axis_core.specs.Ranges.{IsBetween}
+use Rattle.axis_core.specs.States.{is_error_stop, is_synchronized}
+use Rattle.axis_core.specs.Steps.{ends_where, moved_to, old_step_of, taken_by, taken_of}
+use Rattle.axis_core.specs.blocks.Home.{homed}
+use Rattle.axis_core.specs.blocks.Moves.{blended_with, is_crossing, stands_at_target, target_of}
+use Rattle.axis_core.specs.blocks.Path.{is_on_path, path_left}
+use Rattle.axis_core.specs.blocks.Power.{is_powered}
 use Rattle.axis_core.specs.declared.axis.Axis.{Axis}
 use Rattle.axis_core.specs.declared.look.AxisLook.{AxisLook}
-use Rattle.axis_core.specs.declared.wish.Wish.{Wish}
-use Rattle.axis_core.specs.declared.wish.Wish.TheVariants.{Step, Error}
-use Rattle.axis_core.proofs.KeptParts.{Based, Runs, IsGoing, ended-kept}
+use Rattle.axis_core.specs.declared.progress.Progress.{Progress}
+use Rattle.axis_core.proofs.KeptParts.{Based, Runs, IsGoing, ended-kept, failed-going}
 
 -- the offset of an axis is small
 abbrev pub OffsetsAreSmall : Type 0
@@ -68,8 +71,12 @@ based-at g a next b r k = record {
 pub step-kept : Laws → (a : Axis) (step : ℤ) → Based a → Runs a → IsKept a.limits a.setpoint (a.setpoint +ℤ taken_of a step)
 step-kept g a step b r = g.taken a.limits a.previous a.setpoint step b.limits (kept-of a b r)
 
+-- what an axis's step and the end of its command make of it
+abbrev pub concluded : Advance → Core → Core
+concluded s c = ended_by s.ending (record c { axis = s.axis })
+
 -- a command's error stops the axis
-pub broken-going : Laws → (n : ℕ) (c : Core) → Based c.axis → Runs c.axis → IsGoing (broken_off n c)
+pub broken-going : Laws → (n : ℕ) (c : Core) → Based c.axis → Runs c.axis → IsGoing (failed n (record c { axis = braked c.axis }))
 unfolding failed
 broken-going g n c b r = record {
   runs = r;
@@ -140,12 +147,18 @@ goes-on g c w step reached k r e h next =
 pub goes-or-ends : Laws → (c : Core) (w : Wanted) (step : ℤ) (reached : Bool) (ending : Option Finish) → IsCoreKept c → Runs c.axis → c.axis.active ≡ Some w → is_home w.kind ≡ false →
     IsKept c.axis.limits c.axis.setpoint (c.axis.setpoint +ℤ step) →
     ((f : Finish) → ending ≡ Some f → c.waiting ≡ [] → settled c.axis.state ≡ state.Standstill → step ≡ pos 0) →
-    IsGoing (ended_where ending (record c { axis = after_step c.axis step reached }))
+    IsGoing (ended_by ending (record c { axis = after_step c.axis step reached }))
 goes-or-ends g c w step reached None k r e h next stands = goes-on g c w step reached k r e h next
-goes-or-ends g c w step reached (Some f) k r e h next stands =
+goes-or-ends g c w step reached (Some (finish.Error n)) k r e h next stands =
+    failed-going n (record c { axis = after_step c.axis step reached }) (goes-on g c w step reached k r e h next).kept.axis.base r
+goes-or-ends g c w step reached (Some finish.Done) k r e h next stands =
     let on = goes-on g c w step reached k r e h next in
-    ended-kept f (record c { axis = after_step c.axis step reached }) on.kept.axis.base r on.kept.waiting on.kept.axis.state
-    (λ none settles. let zero : step ≡ pos 0 = stands f refl none settles in omega (arith, ints, zero))
+    ended-kept finish.Done (record c { axis = after_step c.axis step reached }) on.kept.axis.base r on.kept.waiting on.kept.axis.state
+    (λ none settles. let zero : step ≡ pos 0 = stands finish.Done refl none settles in omega (arith, ints, zero))
+goes-or-ends g c w step reached (Some finish.Aborted) k r e h next stands =
+    let on = goes-on g c w step reached k r e h next in
+    ended-kept finish.Aborted (record c { axis = after_step c.axis step reached }) on.kept.axis.base r on.kept.waiting on.kept.axis.state
+    (λ none settles. let zero : step ≡ pos 0 = stands finish.Aborted refl none settles in omega (arith, ints, zero))
 
 -- an end that comes says that its condition holds
 ends-when : (b : Bool) (f g : Finish) → ends_where b f ≡ Some g → b ≡ true
@@ -160,8 +173,8 @@ at-rest : (a : Axis) (w : Wanted) (step : ℤ) → (int_eq (a.setpoint +ℤ step
 at-rest a w step h = eq-of step (pos 0) (and_parts (int_eq (a.setpoint +ℤ step) (target_of w)) (int_eq step (pos 0)) h).1
 
 -- a move without one behind it is done at rest alone
-pub done-at-rest : (a : Axis) (w : Wanted) (ws : List Wanted) (step : ℤ) → ws ≡ [] → is_move_done a w (slice_get ws 0) step ≡ true → step ≡ pos 0
-unfolding blending_of
+pub done-at-rest : (a : Axis) (w : Wanted) (ws : List Wanted) (step : ℤ) → ws ≡ [] → (is_crossing (blended_with a w (slice_get ws 0)) a w step || stands_at_target a w step) ≡ true → step ≡ pos 0
+unfolding blended_with
 done-at-rest a w [] step none h = at-rest a w step h
 done-at-rest a w (v ∷ vs) step none h = absurd (cc)
 
@@ -236,10 +249,18 @@ none-first : (ws : List Wanted) → ws ≡ [] → is_some (slice_get ws 0) ≡ t
 none-first [] e h = cc
 none-first (w ∷ ws) e h = cc
 
+-- what the active command makes of a taken step
+abbrev made : BlockKind → Core → Wanted → ℤ → AxisLook → Progress
+made k c w step look = record {
+  step = step;
+  reached = is_reached k c.axis w step look;
+  ending = ending_by k c.axis w (slice_get c.waiting 0) step look;
+}
+
 -- the step of the active command and its end, by its kind
 carried-by-going : Laws → (k : BlockKind) (c : Core) (w : Wanted) (step : ℤ) (look : AxisLook) → IsCoreKept c → Runs c.axis → c.axis.active ≡ Some w → w.kind ≡ k →
     IsKept c.axis.limits c.axis.setpoint (c.axis.setpoint +ℤ step) →
-    IsGoing (ended_where (ending_by k c.axis w (slice_get c.waiting 0) step look) (record c { axis = followed k w step look c.axis }))
+    IsGoing (concluded (advanced_by k (target_of w) c.axis (Ok (made k c w step look))) c)
 carried-by-going g kind.MoveAbsolute c w step look k r e h next =
     goes-or-ends g c w step false _ k r e (ap is_home h) next (λ f fe none settles. done-at-rest c.axis w c.waiting step none (ends-when _ finish.Done f fe))
 carried-by-going g kind.MoveRelative c w step look k r e h next =
@@ -256,7 +277,7 @@ carried-by-going g kind.GearIn c w step look k r e h next =
     (λ f fe none settles. absurd (none-first c.waiting none (and_parts _ _ (ends-when _ finish.Aborted f fe)).0))
 carried-by-going g kind.CamIn c w step look k r e h next =
     goes-or-ends g c w step (is_reached kind.CamIn c.axis w step look) _ k r e (ap is_home h) next
-    (λ f fe none settles. absurd (none-first c.waiting none (and_parts _ _ (and_parts _ _ (ends-when _ finish.Aborted f fe)).0).0))
+    (λ f fe none settles. absurd (none-first c.waiting none (and_parts _ _ (ends-when _ finish.Aborted f fe)).0))
 carried-by-going g kind.Home c w step look k r e h next = home-ends g c w k r e h
 carried-by-going g other c w step look k r e h next =
     let F : BlockKind → Type 0 = λ x. fits c.axis.state x ≡ true in
@@ -313,25 +334,19 @@ rests g c k r none =
     }
 
 -- what the active command wants is taken, or is an error
-wished-going : Laws → (wish : Wish) (w : Wanted) (look : AxisLook) (c : Core) → IsCoreKept c → Runs c.axis → c.axis.active ≡ Some w → IsGoing (wished wish look c)
-wished-going g (Step step) w look c k r e =
-    let P : Option Wanted → Type 0 = λ o. IsGoing (carried_by o (taken_of c.axis step) look c) in
-    subst P (sym e) (carried-by-going g w.kind c w (taken_of c.axis step) look k r e refl (step-kept g c.axis step k.axis.base r))
-wished-going g (Error n) w look c k r e = broken-going g n c k.axis.base r
+wished-going : Laws → (wish : Result ℤ ℕ) (w : Wanted) (look : AxisLook) (c : Core) → IsCoreKept c → Runs c.axis → c.axis.active ≡ Some w →
+    IsGoing (concluded (advanced_by w.kind (target_of w) c.axis (progress_with c.axis w (slice_get c.waiting 0) look (taken_by c.axis wish))) c)
+wished-going g (Ok step) w look c k r e =
+    carried-by-going g w.kind c w (taken_of c.axis step) look k r e refl (step-kept g c.axis step k.axis.base r)
+wished-going g (Err n) w look c k r e = broken-going g n c k.axis.base r
 
-wished-none : Laws → (look : AxisLook) (c : Core) → IsCoreKept c → Runs c.axis → c.axis.active ≡ None → IsGoing (wished (Step (pos 0)) look c)
-wished-none g look c k r e =
-    let P : Option Wanted → Type 0 = λ o. IsGoing (carried_by o (taken_of c.axis (pos 0)) look c) in
-    subst P (sym e) (rests g c k r e)
-
--- a cycle by the active command
+-- a cycle by the active command, or without one
 commanded-by : Laws → (active : Option Wanted) (look : AxisLook) (c : Core) → IsCoreKept c → Runs c.axis → c.axis.active ≡ active →
-    IsGoing (wished (wish_with active c.axis (slice_get c.waiting 0) look) look c)
-commanded-by g None look c k r e = wished-none g look c k r e
+    IsGoing (concluded (advanced_with active (slice_get c.waiting 0) look c.axis) c)
+commanded-by g None look c k r e = rests g c k r e
 commanded-by g (Some w) look c k r e = wished-going g (wish_by w.kind c.axis w (slice_get c.waiting 0) look) w look c k r e
 
-pub by-command : Laws → (look : AxisLook) (c : Core) → IsCoreKept c → Runs c.axis → IsGoing (placed None look c)
-unfolding wish_of
+pub by-command : Laws → (look : AxisLook) (c : Core) → IsCoreKept c → Runs c.axis → IsGoing (concluded (advanced_from None (slice_get c.waiting 0) look c.axis) c)
 by-command g look c k r = commanded-by g c.axis.active look c k r refl
 
 -- a state that is SynchronizedMotion

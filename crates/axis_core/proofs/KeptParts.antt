@@ -11,12 +11,13 @@ use Rattle.command_pool.specs.declared.kind.BlockKind.TheVariants as kind
 use Rattle.command_pool.specs.declared.wanted.Wanted.{Wanted}
 use Rattle.kin_core.specs.Admissible.{AreLimits}
 use Rattle.kin_core.specs.declared.limits.Limits.{Limits}
-use Rattle.axis_core.specs.AxisKept.{AreNumbers, IsMoveWithin, IsReady, IsActive, IsRunning, IsInState, IsBased, IsWaiting, AreWaiting, MayQueue, IsCoreKept, fits, may_wait}
-use Rattle.axis_core.specs.Cores.{Core, begun, failed, ended, taken_over, taken_over_by, begun_from, settled, state_with, with_target}
-use Rattle.axis_core.specs.Cycles.{is_powered}
-use Rattle.axis_core.specs.Kept.{IsBetween, IsSmallTarget}
-use Rattle.axis_core.specs.Refusals.{is_outside}
-use Rattle.axis_core.specs.Targets.{position_of}
+use Rattle.axis_core.specs.AxisKept.{AreNumbers, AreWaiting, IsActive, IsBased, IsCoreKept, IsInState, IsMoveWithin, IsReady, IsRunning, IsWaiting, MayQueue, fits}
+use Rattle.axis_core.specs.Cores.{Core, begun, begun_by, begun_from, ended, failed, settled, state_with, taken_over, taken_over_by}
+use Rattle.axis_core.specs.Kept.{IsSmallTarget}
+use Rattle.axis_core.specs.Kinds.{may_wait}
+use Rattle.axis_core.specs.Ranges.{IsBetween, is_outside}
+use Rattle.axis_core.specs.blocks.Moves.{position_of, with_target}
+use Rattle.axis_core.specs.blocks.Power.{is_powered}
 use Rattle.axis_core.specs.declared.axis.Axis.{Axis}
 
 -- the numbers of an axis
@@ -41,7 +42,7 @@ failed-kept n c b = record {
   queue = inl refl;
 }
 
-failed-going : (n : ℕ) (c : Core) → Based c.axis → Runs c.axis → IsGoing (failed n c)
+pub failed-going : (n : ℕ) (c : Core) → Based c.axis → Runs c.axis → IsGoing (failed n c)
 unfolding failed
 failed-going n c b r = record { kept = failed-kept n c b; runs = r }
 
@@ -83,7 +84,7 @@ runs-with _ s driven powered off p q active h r = absurd (cc)
 pub begun-kept : (w : Wanted) (c : Core) → Based c.axis → Runs c.axis → AreWaiting c.axis.limits c.waiting → may_wait w.kind ≡ true →
     AreNumbers w.kind c.axis.limits w → IsReady w.kind c.axis.limits c.axis.inc c.axis.offset c.axis.setpoint w → IsSmallTarget (Some w) →
     IsGoing (record c { axis = begun w c.axis })
-unfolding begun
+unfolding begun_by
 begun-kept w c b r ws may n ready small = record {
   runs = r;
   kept = record {

@@ -12,14 +12,17 @@ use Rattle.command_pool.specs.declared.kind.BlockKind.TheVariants as kind
 use Rattle.command_pool.specs.declared.wanted.Wanted.{Wanted}
 use Rattle.kin_core.specs.Admissible.{AreLimits, IsKept}
 use Rattle.kin_core.specs.declared.limits.Limits.{Limits}
+use Rattle.std.specs.Option.{option_copied}
 use Rattle.axis_core.specs.Asking.{MayAsk}
-use Rattle.axis_core.specs.AxisKept.{AreRampsWithin, AreRatesWithin, AreNumbers, IsReady, IsActive, IsInState, IsSet, IsBased, IsAxisKept, AreWaiting, MayQueue, IsCoreKept, IsAxisDef, IsQueueKept}
-use Rattle.axis_core.specs.Commands.{powered_by, disabled, active_without, detached, on_path_from, on_path}
+use Rattle.axis_core.specs.AxisKept.{AreNumbers, AreRampsWithin, AreRatesWithin, AreWaiting, IsActive, IsAxisDef, IsAxisKept, IsBased, IsCoreKept, IsInState, IsQueueKept, IsReady, IsSet, MayQueue}
+use Rattle.axis_core.specs.Calls.{active_without, detached, disabled, powered_by}
 use Rattle.axis_core.specs.Cores.{Core}
-use Rattle.axis_core.specs.Cycles.{is_powered, opened}
+use Rattle.axis_core.specs.Cycles.{opened}
 use Rattle.axis_core.specs.Demands.{IsMade}
-use Rattle.axis_core.specs.Kept.{HasDrive, IsSmallTarget, AreSmallTargets}
-use Rattle.axis_core.specs.Refusals.{is_error_stop}
+use Rattle.axis_core.specs.Kept.{AreSmallTargets, HasDrive, IsSmallTarget}
+use Rattle.axis_core.specs.States.{is_error_stop}
+use Rattle.axis_core.specs.blocks.Path.{on_path, on_path_from}
+use Rattle.axis_core.specs.blocks.Power.{is_powered}
 use Rattle.axis_core.specs.declared.axis.Axis.{Axis}
 use Rattle.axis_core.specs.declared.refusing.Asking.{Asking}
 use Rattle.axis_core.proofs.KeptCycles.{setpoint-of, drive-by}
@@ -39,9 +42,8 @@ waiting-small l [] h = tt
 waiting-small l (w ∷ ws) h = (h.0.small, waiting-small l ws h.1)
 
 -- the numbers of what is asked are small enough to be worked with
-pub may-ask : OffsetsAreSmall → (q : Asking) → q.list < length q.pool.now → IsMade q.wanted.now → IsAxisKept q.axis.now →
-    AreWaiting q.axis.now.limits (queue_of q.pool.now q.list) → MayAsk q
-may-ask offsets q list made k ws =
+pub may-ask : OffsetsAreSmall → (q : Asking) → IsMade q.wanted.now → IsAxisKept q.axis.now → IsSmallTarget (option_copied q.last) → MayAsk q
+may-ask offsets q made k last =
     let l = q.axis.now.limits in
     let b = k.base in
     let lo = b.limits.lo_in_range in
@@ -51,7 +53,6 @@ may-ask offsets q list made k ws =
     let speed = b.limits.vmax_positive in
     let o = offsets l q.axis.now.offset q.axis.now.inc b.least b.most (omega (arith, ints, lo)) ordered top b.counts in
     record {
-      list = list;
       position = made.position;
       increment = b.least;
       lo = lo;
@@ -60,7 +61,7 @@ may-ask offsets q list made k ws =
       setpoint = setpoint-of q.axis.now b;
       offset = omega (arith, o);
       active = active-small q.axis.now k;
-      waiting = waiting-small l (queue_of q.pool.now q.list) ws;
+      last = last;
     }
 
 -- power that is on stays on where a Power has Enable true

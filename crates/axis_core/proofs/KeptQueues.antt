@@ -8,7 +8,7 @@ use Rattle.kin_core.specs.declared.limits.Limits.{Limits}
 use Rattle.command_pool.specs.declared.kind.BlockKind.{BlockKind}
 use Rattle.command_pool.specs.declared.kind.BlockKind.TheVariants as kind
 use Rattle.axis_core.specs.AxisKept.{AreNumbers, AreWaiting, IsQueueKept, MayQueue}
-use Rattle.axis_core.specs.Commands.{active_without, detached}
+use Rattle.axis_core.specs.Calls.{active_without, detached}
 use Rattle.axis_core.specs.declared.axis.Axis.{Axis}
 use Rattle.axis_core.proofs.KeptPowers.{queue-owned}
 

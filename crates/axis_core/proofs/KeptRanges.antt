@@ -11,11 +11,12 @@ use Rattle.command_pool.specs.declared.wanted.Wanted.{Wanted}
 use Rattle.kin_core.specs.Admissible.{AreLimits}
 use Rattle.kin_core.specs.declared.limits.Limits.{Limits}
 use Rattle.command_pool.specs.Rates.{AreRates, AreRamps}
-use Rattle.axis_core.specs.AxisKept.{AreRatesWithin, AreRampsWithin, AreNumbers, IsMoveWithin, IsHomeWithin, IsReady, IsActive, IsAxisKept, IsSet, IsWaiting, AreWaiting, MayQueue, IsCoreKept}
+use Rattle.axis_core.specs.declared.look.AxisLook.{AxisLook}
+use Rattle.axis_core.specs.AxisKept.{AreNumbers, AreRampsWithin, AreRatesWithin, AreWaiting, IsActive, IsAxisKept, IsCoreKept, IsHomeWithin, IsMoveWithin, IsReady, IsSet, IsWaiting, MayQueue}
 use Rattle.axis_core.specs.Cores.{Core, MayTakeOver}
-use Rattle.axis_core.specs.Kept.{IsBetween, IsMoving, IsBlendable, IsCarried, IsNear, MayGoOn}
-use Rattle.axis_core.specs.Targets.{is_move}
-use Rattle.axis_core.specs.Wishes.{target_of}
+use Rattle.axis_core.specs.Kept.{IsBlendable, IsCarried, IsMoving, IsNear, MayGoOn}
+use Rattle.axis_core.specs.Ranges.{IsBetween}
+use Rattle.axis_core.specs.blocks.Moves.{is_move, target_of}
 use Rattle.axis_core.specs.declared.axis.Axis.{Axis}
 use Rattle.axis_core.proofs.Events.{error_from, begin_from_motion}
 
@@ -125,12 +126,15 @@ take-over-of s active l (w ∷ ws) h (inl e) = absurd (cc)
 take-over-of s active l (w ∷ ws) h (inr q) = (begin_from_motion w.kind s h.0.waits (motion-of s active q), h.0.position)
 
 -- a kept axis that is driven may go on
-pub go-on-of : (c : Core) → IsCoreKept c → c.axis.driven ≡ true → unsigned_abs c.axis.offset ≤ 4000000000000000000 → MayGoOn c.axis c.waiting
-go-on-of c k d o = record {
-  moving = moving-of c.axis k.axis d;
-  active = carried-of c.axis k.axis;
-  next = next-of c.axis.limits c.waiting k.axis.base.limits k.axis.base.top k.waiting;
-  offset = o;
+pub go-on-of : (look : AxisLook) (c : Core) → IsNear look.cam → IsCoreKept c → c.axis.driven ≡ true → unsigned_abs c.axis.offset ≤ 4000000000000000000 → MayGoOn c.axis c.waiting look
+go-on-of look c cam k d o = record {
+  advance = record {
+    moving = moving-of c.axis k.axis d;
+    active = carried-of c.axis k.axis;
+    next = next-of c.axis.limits c.waiting k.axis.base.limits k.axis.base.top k.waiting;
+    cam = cam;
+    offset = o;
+  };
   state = error_from c.axis.state;
   queue = take-over-of c.axis.state c.axis.active c.axis.limits c.waiting k.waiting k.queue;
 }

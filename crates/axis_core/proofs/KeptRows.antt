@@ -1,5 +1,5 @@
 -- Every row of a driven axis keeps its limits.
-use Rattle.std.specs.Prelude.{◌≡◌, refl, ℕ, Bool, true, false, not, ◌&&◌, nat_eq, ℤ, pos, ◌+ℤ◌, ◌-ℤ◌, unsigned_abs, ◌≤◌, ◌-◌, Option, Some, None, is_some, List, [], ◌∷◌, slice_get, unwrap_or, if◌then◌else◌}
+use Rattle.std.specs.Prelude.{Bool, Err, List, None, Ok, Option, Result, Some, [], false, if◌then◌else◌, is_some, nat_eq, not, pos, refl, slice_get, true, unsigned_abs, unwrap_or, ℕ, ℤ, ◌&&◌, ◌+ℤ◌, ◌-ℤ◌, ◌-◌, ◌∷◌, ◌≡◌, ◌≤◌}
 use Rattle.std.proofs.lemmas.Bool.{and_parts, not-true}
 use Rattle.std.proofs.Common.{◌∙◌, sym, ap, subst, arith}
 use Rattle.std.proofs.lemmas.Int.{ints}
@@ -15,21 +15,27 @@ use Rattle.kin_core.specs.Admissible.{AreLimits, IsAdmissible, IsKept}
 use Rattle.kin_core.specs.Taken.{taken_step_of}
 use Rattle.kin_core.specs.Toward.{toward_zero}
 use Rattle.kin_core.specs.declared.limits.Limits.{Limits}
-use Rattle.axis_core.specs.AxisKept.{IsHomeWithin, IsReady, IsInState, IsCoreKept, IsLook, fits}
-use Rattle.axis_core.specs.Blendings.{old_step_of}
-use Rattle.axis_core.specs.Cores.{Core, begun, failed, ended, taken_over, taken_over_by, begun_from, with_target}
-use Rattle.axis_core.specs.Cycles.{is_driven, is_within, answer_error_of, answered, standing, actual_of, moved_to, homed, braking_step, braked, ending_by, followed, ended_where, carried_by, wished, placed, place_on_path, is_on_path, path_left, moved, stop_left, is_at_rest, is_released, gone_on, run, may_reset, after_reset, reset_axis, cycled, row_of}
-use Rattle.axis_core.specs.Kept.{IsBetween}
-use Rattle.axis_core.specs.Refusals.{is_error_stop, is_stopping, is_outside}
-use Rattle.axis_core.specs.Rows.{spell_of, KeepsSpell}
-use Rattle.axis_core.specs.Wishes.{taken_of, target_of, wish_of}
+use Rattle.command_pool.specs.declared.ending.Finish.TheVariants as finish
+use Rattle.axis_core.specs.AxisKept.{IsCoreKept, IsHomeWithin, IsInState, IsLook, IsReady, fits}
+use Rattle.axis_core.specs.Cores.{Core, begun, begun_by, begun_from, ended, ended_by, failed, taken_over, taken_over_by}
+use Rattle.axis_core.specs.Cycles.{Advance, advanced, advanced_by, advanced_from, advanced_with, answered, braked, braking_step, cycled, followed, gone_on, moved, progress_with, row_of, run}
+use Rattle.axis_core.specs.Drives.{actual_of, answer_error_of, is_driven, is_within, standing}
+use Rattle.axis_core.specs.Kinds.{ending_by, wish_by}
+use Rattle.axis_core.specs.Ranges.{IsBetween, is_outside}
+use Rattle.axis_core.specs.Rows.{KeepsSpell, spell_of}
+use Rattle.axis_core.specs.States.{is_error_stop, is_stopping}
+use Rattle.axis_core.specs.Steps.{moved_to, old_step_of, taken_by, taken_of}
+use Rattle.axis_core.specs.blocks.Halts.{is_at_rest, is_released, stop_left}
+use Rattle.axis_core.specs.blocks.Home.{homed}
+use Rattle.axis_core.specs.blocks.Moves.{target_of, with_target}
+use Rattle.axis_core.specs.blocks.Path.{is_on_path, path_left, place_on_path}
+use Rattle.axis_core.specs.blocks.Reset.{after_reset, may_reset, reset_axis}
 use Rattle.axis_core.specs.declared.axis.Axis.{Axis}
 use Rattle.axis_core.specs.declared.axis.PendingReset.{PendingReset}
 use Rattle.axis_core.specs.declared.look.AxisLook.{AxisLook}
-use Rattle.axis_core.specs.declared.wish.Wish.{Wish}
-use Rattle.axis_core.specs.declared.wish.Wish.TheVariants.{Step, Error}
+use Rattle.axis_core.specs.declared.progress.Progress.{Progress}
 use Rattle.axis_core.proofs.KeptCycles.{on-place, driven-says, begins-within, error-not-driven}
-use Rattle.axis_core.proofs.KeptMoves.{Laws, kept-of, toward-rest}
+use Rattle.axis_core.proofs.KeptMoves.{Laws, concluded, kept-of, toward-rest}
 use Rattle.axis_core.proofs.KeptParts.{Based, Runs, not-outside}
 
 -- the taken step is admissible
@@ -54,7 +60,7 @@ unfolding failed
 place-failed n c = refl
 
 pub place-begun : (w : Wanted) (a : Axis) → place_of (begun w a) ≡ place_of a
-unfolding begun
+unfolding begun_by
 place-begun w a = refl
 
 place-begun_from : (w : Wanted) (t : ℤ) (c : Core) → place_of (begun_from w t c).axis ≡ place_of c.axis
@@ -76,9 +82,11 @@ place-ended : (f : Finish) (c : Core) → place_of (ended f c).axis ≡ place_of
 unfolding ended
 place-ended f c = place-taken_over c.waiting _
 
-place-ended_where : (o : Option Finish) (c : Core) → place_of (ended_where o c).axis ≡ place_of c.axis
-place-ended_where None c = refl
-place-ended_where (Some f) c = place-ended f c
+pub place-ended_by : (o : Option Finish) (c : Core) → place_of (ended_by o c).axis ≡ place_of c.axis
+place-ended_by None c = refl
+place-ended_by (Some (finish.Error n)) c = place-failed n c
+place-ended_by (Some finish.Done) c = place-ended finish.Done c
+place-ended_by (Some finish.Aborted) c = place-ended finish.Aborted c
 
 -- what a cycle makes of where a driven axis stands: it is at an admissible setpoint, or its Home moved the coordinate
 pub data Moved (a b : Axis) : Type 0 where
@@ -94,9 +102,9 @@ home-facts : (s : AxisState) (driven powered off : Bool) (p q : ℤ) (active : O
 home-facts state.Homing driven powered off p q active f i = i.stands
 home-facts _ driven powered off p q active f i = absurd (cc)
 
-followed-moved : (k : BlockKind) (c : Core) (w : Wanted) (step : ℤ) (look : AxisLook) → IsCoreKept c → c.axis.active ≡ Some w → w.kind ≡ k →
-    IsAdmissible c.axis.limits c.axis.previous c.axis.setpoint (c.axis.setpoint +ℤ step) → Moved c.axis (followed k w step look c.axis)
-followed-moved kind.Home c w step look k e h next =
+followed-moved : (k : BlockKind) (c : Core) (w : Wanted) (p : Progress) → IsCoreKept c → c.axis.active ≡ Some w → w.kind ≡ k →
+    IsAdmissible c.axis.limits c.axis.previous c.axis.setpoint (c.axis.setpoint +ℤ p.step) → Moved c.axis (followed k (target_of w) p c.axis)
+followed-moved kind.Home c w p k e h next =
     let a = c.axis in
     let i = k.axis.active w e in
     let P : BlockKind → Type 0 = λ x. IsReady x a.limits a.inc a.offset a.setpoint w in
@@ -106,43 +114,52 @@ followed-moved kind.Home c w step look k e h next =
     let F : BlockKind → Type 0 = λ x. fits a.state x ≡ true in
     let still = home-facts a.state a.driven _ _ a.previous a.setpoint a.active (subst F h i.fitting) k.axis.state in
     by_home (target_of w) still (subst W t m.within) refl
-followed-moved _ c w step look k e h next = by_step (c.axis.setpoint +ℤ step) next refl
+followed-moved _ c w p k e h next = by_step (c.axis.setpoint +ℤ p.step) next refl
 
-carried_by-moved : (o : Option Wanted) (c : Core) (step : ℤ) (look : AxisLook) → IsCoreKept c → c.axis.active ≡ o →
-    IsAdmissible c.axis.limits c.axis.previous c.axis.setpoint (c.axis.setpoint +ℤ step) → Moved c.axis (carried_by o step look c).axis
-carried_by-moved None c step look k e next = by_step (c.axis.setpoint +ℤ step) next refl
-carried_by-moved (Some w) c step look k e next =
-    moved-same c.axis (followed w.kind w step look c.axis) _ (followed-moved w.kind c w step look k e refl next)
-    (place-ended_where (ending_by w.kind c.axis w (slice_get c.waiting 0) step look) (record c { axis = followed w.kind w step look c.axis }))
+-- what an axis's step and the end of its command move
+concluded-moved : (s : Advance) (c : Core) → Moved c.axis s.axis → Moved c.axis (concluded s c).axis
+concluded-moved s c m = moved-same c.axis s.axis _ m (place-ended_by s.ending (record c { axis = s.axis }))
 
 -- the taken step
 step-admissible : TakenIsAdmissible → (a : Axis) (step : ℤ) → Based a → Runs a → IsAdmissible a.limits a.previous a.setpoint (a.setpoint +ℤ taken_of a step)
 step-admissible taken a step b r = taken a.limits a.previous a.setpoint step b.limits (kept-of a b r)
 
-wished-moved : TakenIsAdmissible → (wish : Wish) (look : AxisLook) (c : Core) → IsCoreKept c → Runs c.axis → Moved c.axis (wished wish look c).axis
-unfolding failed
-wished-moved taken (Step step) look c k r =
-    carried_by-moved c.axis.active c (taken_of c.axis step) look k refl (step-admissible taken c.axis step k.axis.base r)
-wished-moved taken (Error n) look c k r =
+braked-moved : TakenIsAdmissible → (c : Core) → IsCoreKept c → Runs c.axis → Moved c.axis (braked c.axis)
+braked-moved taken c k r =
     by_step (c.axis.setpoint +ℤ braking_step c.axis) (step-admissible taken c.axis (toward_zero (old_step_of c.axis) c.axis.limits.dmax) k.axis.base r) refl
+
+wished-moved : TakenIsAdmissible → (wish : Result ℤ ℕ) (w : Wanted) (look : AxisLook) (c : Core) → IsCoreKept c → Runs c.axis → c.axis.active ≡ Some w →
+    Moved c.axis (advanced_by w.kind (target_of w) c.axis (progress_with c.axis w (slice_get c.waiting 0) look (taken_by c.axis wish))).axis
+wished-moved taken (Ok step) w look c k r e =
+    followed-moved w.kind c w _ k e refl (step-admissible taken c.axis step k.axis.base r)
+wished-moved taken (Err n) w look c k r e = braked-moved taken c k r
+
+commanded-moved : TakenIsAdmissible → (active : Option Wanted) (look : AxisLook) (c : Core) → IsCoreKept c → Runs c.axis → c.axis.active ≡ active →
+    Moved c.axis (advanced_with active (slice_get c.waiting 0) look c.axis).axis
+commanded-moved taken None look c k r e =
+    by_step (c.axis.setpoint +ℤ taken_of c.axis (pos 0)) (step-admissible taken c.axis (pos 0) k.axis.base r) refl
+commanded-moved taken (Some w) look c k r e = wished-moved taken (wish_by w.kind c.axis w (slice_get c.waiting 0) look) w look c k r e
 
 path_left-place : (ends : Bool) (a : Axis) → place_of (path_left ends a) ≡ place_of a
 path_left-place true a = refl
 path_left-place false a = refl
 
 placed-moved : TakenIsAdmissible → (o : Option ℤ) (look : AxisLook) (c : Core) → IsLook c.axis look → IsCoreKept c → Runs c.axis → place_on_path c.axis look ≡ o →
-    Moved c.axis (placed o look c).axis
-placed-moved taken None look c i k r e = wished-moved taken (wish_of c.axis (slice_get c.waiting 0) look) look c k r
+    Moved c.axis (advanced_from o (slice_get c.waiting 0) look c.axis).axis
+placed-moved taken None look c i k r e = commanded-moved taken c.axis.active look c k r refl
 placed-moved taken (Some place) look c i k r e =
     let p = on-place (is_on_path c.axis) look.path place e in
     by_step place (i.place p.0 place p.1).admissible (path_left-place look.path_ends (moved_to place c.axis))
 
+advanced-moved : TakenIsAdmissible → (look : AxisLook) (c : Core) → IsLook c.axis look → IsCoreKept c → Runs c.axis → Moved c.axis (advanced (slice_get c.waiting 0) look c.axis).axis
+unfolding advanced
+advanced-moved taken look c i k r =
+    elim (is_error_stop c.axis.state) as
+    (λ b. Moved c.axis (if b then record { axis = braked c.axis; ending = None } else advanced_from (place_on_path c.axis look) (slice_get c.waiting 0) look c.axis).axis)
+    [ true ↦ braked-moved taken c k r | false ↦ placed-moved taken (place_on_path c.axis look) look c i k r refl ]
+
 moved-moved : TakenIsAdmissible → (look : AxisLook) (c : Core) → IsLook c.axis look → IsCoreKept c → Runs c.axis → Moved c.axis (moved look c).axis
-moved-moved taken look c i k r =
-    elim (is_error_stop c.axis.state) as (λ b. Moved c.axis (if b then record c { axis = braked c.axis } else placed (place_on_path c.axis look) look c).axis) [
-      | true ↦ by_step (c.axis.setpoint +ℤ braking_step c.axis) (step-admissible taken c.axis (toward_zero (old_step_of c.axis) c.axis.limits.dmax) k.axis.base r) refl
-      | false ↦ placed-moved taken (place_on_path c.axis look) look c i k r refl
-    ]
+moved-moved taken look c i k r = concluded-moved (advanced (slice_get c.waiting 0) look c.axis) c (advanced-moved taken look c i k r)
 
 stop_left-place : (look : AxisLook) (a : Axis) → place_of (stop_left look a) ≡ place_of a
 stop_left-place look a =

@@ -1,11 +1,13 @@
 pub mod SmallTargets
 pub mod Queues
 pub mod Moving
+pub mod Blends
 pub mod Events
 pub mod KeptRanges
 pub mod KeptParts
 pub mod KeptMoves
 pub mod KeptCycles
+pub mod DriveAnswers
 pub mod KeptRows
 pub mod KeptCalls
 pub mod KeptQueues
@@ -14,3 +16,8 @@ pub mod MayAdmit
 pub mod KeptCommands
 pub mod KeptPowers
 pub mod ShownKept
+pub mod FateLaws
+pub mod ToldLaws
+pub mod OwnerLaws
+pub mod ArrivalLaws
+pub mod DoneLaws

@@ -1,6 +1,6 @@
 -- A command that is not refused may be admitted.
 use Rattle.std.specs.Prelude.{◌≡◌, refl, ◌⊎◌, ℕ, Bool, true, false, not, ◌&&◌, nat_eq, ℤ, Option, Some, None, is_some, List, [], ◌∷◌, length, if◌then◌else◌}
-use Rattle.std.proofs.Common.{ap, inl, inr}
+use Rattle.std.proofs.Common.{◌∙◌, ap, sym, subst, inl, inr}
 use Rattle.axis_state.specs.Diagram.{TakesMotion}
 use Rattle.axis_state.specs.declared.state.AxisState.{AxisState}
 use Rattle.axis_state.specs.declared.state.AxisState.TheVariants as state
@@ -9,29 +9,23 @@ use Rattle.command_pool.specs.declared.kind.BlockKind.{BlockKind}
 use Rattle.command_pool.specs.declared.kind.BlockKind.TheVariants as kind
 use Rattle.command_pool.specs.declared.kind.BufferMode.TheVariants.{Aborting}
 use Rattle.command_pool.specs.declared.wanted.Wanted.{Wanted}
-use Rattle.axis_core.specs.AxisKept.{IsRunning, IsInState, IsCoreKept}
-use Rattle.axis_core.specs.Commands.{queue_in}
+use Rattle.std.proofs.lemmas.Bool.{not-false}
+use Rattle.command_pool.specs.Waiting.{last_of}
+use Rattle.axis_core.specs.blocks.Moves.{known_target_of, with_target}
+use Rattle.axis_core.specs.blocks.Gear.{is_ended_by, is_not_following}
+use Rattle.axis_core.specs.AxisKept.{IsCoreKept, IsInState, IsRunning, fits}
+use Rattle.axis_core.specs.Calls.{queue_in}
 use Rattle.axis_core.specs.Cores.{Core}
-use Rattle.axis_core.specs.Cycles.{is_powered}
-use Rattle.axis_core.specs.Demands.{IsMade}
-use Rattle.axis_core.specs.Kept.{MayLeave, MayAdmit}
-use Rattle.axis_core.specs.Refusals.{Asked, tests_of, is_disabled, is_error_stop, is_stopping, is_homing, is_standstill, holds, first_holding, refusal_of}
+use Rattle.axis_core.specs.Demands.{IsMade, asked_in}
+use Rattle.axis_core.specs.Kept.{MayAdmit, MayLeave}
+use Rattle.axis_core.specs.Kinds.{tests_of}
+use Rattle.axis_core.specs.Refusals.{Asked, first_holding, holds, refusal_of}
+use Rattle.axis_core.specs.States.{is_disabled, is_error_stop, is_homing, is_standstill, is_stopping}
+use Rattle.axis_core.specs.blocks.Power.{is_powered}
 use Rattle.axis_core.specs.declared.reason.Reason.{Reason}
 use Rattle.axis_core.specs.declared.reason.Reason.TheVariants.{QueueFull}
 use Rattle.axis_core.proofs.KeptRanges.{moving-of}
 use Rattle.axis_core.proofs.Moving.{small_of}
-
--- what a command is asked of, on an axis with the commands that wait for it
-abbrev pub asked_in : Core → ℕ → Wanted → ℤ → Bool → ℕ → Asked
-asked_in c number w jerk held tables = record {
-  axis = c.axis;
-  number = number;
-  waiting = c.waiting;
-  wanted = w;
-  jerk = jerk;
-  held = held;
-  tables = tables;
-}
 
 -- none of these reasons holds
 abbrev pub NoneHolds : Asked → List Reason → Type 0
@@ -90,60 +84,95 @@ and-right : (x y z : Bool) → ((x && y) && z) ≡ false → (x && (y && z)) ≡
 and-right true y z h = h
 and-right false y z h = refl
 
-room-of : (q : Asked) → holds QueueFull q ≡ false → is_full (record { active = q.axis.active; waiting = q.waiting }) q.wanted ≡ false
+room-of : (c : Core) (number : ℕ) (w : Wanted) (jerk : ℤ) (held : Bool) (tables : ℕ) → holds QueueFull (asked_in c number w jerk held tables) ≡ false → is_full (queue_in c) w ≡ false
 unfolding holds
-room-of q h = and-right (not (is_aborting q.wanted.mode)) (is_some q.axis.active) (nat_eq (length q.waiting) 8) h
+room-of c number w jerk held tables h = and-right (not (is_aborting w.mode)) (is_some c.axis.active) (nat_eq (length c.waiting) 8) h
 
 room-aborting : (c : Commands) (w : Wanted) → w.mode ≡ Aborting → is_full c w ≡ false
 room-aborting c w e = ap (λ m. not (is_aborting m) && (is_some c.active && nat_eq (length c.waiting) 8)) e
 
+-- an axis whose gear or cam is left follows
+fits-gear : (s : AxisState) (k : BlockKind) → fits s k ≡ true → is_ended_by kind.GearOut k ≡ true → s ≡ state.SynchronizedMotion
+fits-gear state.SynchronizedMotion kind.GearIn f h = refl
+fits-gear _ kind.GearIn f h = absurd (cc)
+fits-gear _ _ f h = absurd (cc)
+
+fits-cam : (s : AxisState) (k : BlockKind) → fits s k ≡ true → is_ended_by kind.CamOut k ≡ true → s ≡ state.SynchronizedMotion
+fits-cam state.SynchronizedMotion kind.CamIn f h = refl
+fits-cam _ kind.CamIn f h = absurd (cc)
+fits-cam _ _ f h = absurd (cc)
+
+follows : (out : BlockKind) (active : Option Wanted) (s : AxisState) → ((w : Wanted) → active ≡ Some w → fits s w.kind ≡ true) →
+    ((k : BlockKind) → fits s k ≡ true → is_ended_by out k ≡ true → s ≡ state.SynchronizedMotion) → is_not_following out active ≡ false → s ≡ state.SynchronizedMotion
+follows out None s f g h = absurd (cc)
+follows out (Some w) s f g h = g w.kind (f w refl) (not-false (is_ended_by out w.kind) h)
+
 -- a gear or a cam may be left
-may-leave : (c : Core) → IsCoreKept c → TakesMotion c.axis.state → IsRunning c.axis.driven (is_powered c.axis) → MayLeave c.axis
-may-leave c k t r = record {
+may-leave : (c : Core) → IsCoreKept c → IsRunning c.axis.driven (is_powered c.axis) → c.axis.state ≡ state.SynchronizedMotion → MayLeave c.axis
+may-leave c k r h = record {
   step = (small_of c.axis (moving-of c.axis k.axis r.on)).step;
-  begin = (state.ContinuousMotion, (t, refl));
+  begin = (state.ContinuousMotion, (h, refl));
 }
 
 -- a command that is not refused may be admitted, by its kind
-may-by : (k : BlockKind) (c : Core) (number : ℕ) (w : Wanted) (jerk : ℤ) (held : Bool) (tables : ℕ) → IsCoreKept c → IsMade (of_kind k w) →
-    NoneHolds (asked_in c number (of_kind k w) jerk held tables) (tests_of k) → MayAdmit k (of_kind k w) c
+may-by : (k : BlockKind) (t : Option ℤ) (c : Core) (number : ℕ) (w : Wanted) (jerk : ℤ) (held : Bool) (tables : ℕ) → IsCoreKept c → IsMade (of_kind k w) →
+    NoneHolds (asked_in c number (of_kind k w) jerk held tables) (tests_of k) → MayAdmit k (with_target t (of_kind k w)) c
 unfolding holds
-may-by kind.Reset c number w jerk held tables k m n = tt
-may-by kind.GearOut c number w jerk held tables k m n =
-    may-leave c k (takes c.axis.state n.0 n.1.0 n.1.1.0 n.1.1.1.0) (running-of c.axis.state _ _ _ _ _ _ n.0 n.1.0 k.axis.state)
-may-by kind.CamOut c number w jerk held tables k m n =
-    may-leave c k (takes c.axis.state n.0 n.1.0 n.1.1.0 n.1.1.1.0) (running-of c.axis.state _ _ _ _ _ _ n.0 n.1.0 k.axis.state)
-may-by kind.Home c number w jerk held tables k m n =
+may-by kind.Reset t c number w jerk held tables k m n = tt
+may-by kind.GearOut t c number w jerk held tables k m n =
+    may-leave c k (running-of c.axis.state _ _ _ _ _ _ n.0 n.1.0 k.axis.state)
+    (follows kind.GearOut c.axis.active c.axis.state (λ v e. (k.axis.active v e).fitting) (fits-gear c.axis.state) n.1.1.1.1.1.0)
+may-by kind.CamOut t c number w jerk held tables k m n =
+    may-leave c k (running-of c.axis.state _ _ _ _ _ _ n.0 n.1.0 k.axis.state)
+    (follows kind.CamOut c.axis.active c.axis.state (λ v e. (k.axis.active v e).fitting) (fits-cam c.axis.state) n.1.1.1.1.1.0)
+may-by kind.Home t c number w jerk held tables k m n =
     record { begin = (state.Homing, (standstill-of c.axis.state n.1.1.1.1.1.1.0, refl)); place = room-aborting (queue_in c) (of_kind kind.Home w) (m.mode refl) }
-may-by kind.Stop c number w jerk held tables k m n =
+may-by kind.Stop t c number w jerk held tables k m n =
     record { begin = (state.Stopping, (stop-from c.axis.state n.0 n.1.0 n.1.1.0, refl)); place = room-aborting (queue_in c) (of_kind kind.Stop w) (m.mode refl) }
-may-by kind.Halt c number w jerk held tables k m n =
+may-by kind.Halt t c number w jerk held tables k m n =
     record { begin = (state.DiscreteMotion, (takes c.axis.state n.0 n.1.0 n.1.1.0 n.1.1.1.0, refl)); place = room-aborting (queue_in c) (of_kind kind.Halt w) (m.mode refl) }
-may-by kind.MoveAbsolute c number w jerk held tables k m n = record {
+may-by kind.MoveAbsolute t c number w jerk held tables k m n = record {
   begin = (state.DiscreteMotion, (takes c.axis.state n.0 n.1.0 n.1.1.0 n.1.1.1.0, refl));
-  place = room-of (asked_in c number (of_kind kind.MoveAbsolute w) jerk held tables) n.1.1.1.1.1.1.1.1.1.1.0;
+  place = room-of c number (of_kind kind.MoveAbsolute w) jerk held tables n.1.1.1.1.1.1.1.1.1.1.0;
 }
-may-by kind.MoveRelative c number w jerk held tables k m n = record {
+may-by kind.MoveRelative t c number w jerk held tables k m n = record {
   begin = (state.DiscreteMotion, (takes c.axis.state n.0 n.1.0 n.1.1.0 n.1.1.1.0, refl));
-  place = room-of (asked_in c number (of_kind kind.MoveRelative w) jerk held tables) n.1.1.1.1.1.1.1.1.1.1.0;
+  place = room-of c number (of_kind kind.MoveRelative w) jerk held tables n.1.1.1.1.1.1.1.1.1.1.0;
 }
-may-by kind.MoveVelocity c number w jerk held tables k m n = record {
+may-by kind.MoveVelocity t c number w jerk held tables k m n = record {
   begin = (state.ContinuousMotion, (takes c.axis.state n.0 n.1.0 n.1.1.0 n.1.1.1.0, refl));
-  place = room-of (asked_in c number (of_kind kind.MoveVelocity w) jerk held tables) n.1.1.1.1.1.1.1.1.1.0;
+  place = room-of c number (of_kind kind.MoveVelocity w) jerk held tables n.1.1.1.1.1.1.1.1.1.0;
 }
-may-by kind.GearIn c number w jerk held tables k m n = record {
+may-by kind.GearIn t c number w jerk held tables k m n = record {
   begin = (state.SynchronizedMotion, (takes c.axis.state n.0 n.1.0 n.1.1.0 n.1.1.1.0, refl));
-  place = room-of (asked_in c number (of_kind kind.GearIn w) jerk held tables) n.1.1.1.1.1.1.1.1.0;
+  place = room-of c number (of_kind kind.GearIn w) jerk held tables n.1.1.1.1.1.1.1.1.0;
 }
-may-by kind.CamIn c number w jerk held tables k m n = record {
+may-by kind.CamIn t c number w jerk held tables k m n = record {
   begin = (state.SynchronizedMotion, (takes c.axis.state n.0 n.1.0 n.1.1.0 n.1.1.1.0, refl));
-  place = room-of (asked_in c number (of_kind kind.CamIn w) jerk held tables) n.1.1.1.1.1.1.1.1.1.0;
+  place = room-of c number (of_kind kind.CamIn w) jerk held tables n.1.1.1.1.1.1.1.1.1.0;
 }
-may-by _ c number w jerk held tables k m n = absurd (let made = m.kind in cc)
+may-by _ t c number w jerk held tables k m n = absurd (let made = m.kind in cc)
 
 -- a command that is not refused may be admitted
 pub may-admit : (c : Core) (number : ℕ) (w : Wanted) (jerk : ℤ) (held : Bool) (tables : ℕ) → IsCoreKept c → IsMade w →
-    refusal_of (asked_in c number w jerk held tables) ≡ None → MayAdmit w.kind w c
+    refusal_of (asked_in c number w jerk held tables) ≡ None → MayAdmit w.kind (with_target (known_target_of c.axis (last_of c.waiting) w) w) c
 unfolding refusal_of
 may-admit c number w jerk held tables k m h =
-    may-by w.kind c number w jerk held tables k m (none-holds (asked_in c number w jerk held tables) (tests_of w.kind) h)
+    may-by w.kind (known_target_of c.axis (last_of c.waiting) w) c number w jerk held tables k m (none-holds (asked_in c number w jerk held tables) (tests_of w.kind) h)
+
+-- what a command is asked of, with the number and the last of those that wait as they were read
+abbrev pub asked_with : Core → ℕ → Wanted → ℤ → Bool → ℕ → ℕ → Option Wanted → Asked
+asked_with c number w jerk held tables n l = record (asked_in c number w jerk held tables) { waiting = n; last = l }
+
+-- a command that is not refused, as it was read
+pub asked-as : (c : Core) (number : ℕ) (w : Wanted) (jerk : ℤ) (held : Bool) (tables n : ℕ) (l : Option Wanted) →
+    n ≡ length c.waiting → l ≡ last_of c.waiting → refusal_of (asked_with c number w jerk held tables n l) ≡ None →
+    refusal_of (asked_in c number w jerk held tables) ≡ None
+asked-as c number w jerk held tables n l many last h =
+    subst (λ (o : Option Wanted). refusal_of (asked_with c number w jerk held tables (length c.waiting) o) ≡ None) last
+    (subst (λ (k : ℕ). refusal_of (asked_with c number w jerk held tables k l) ≡ None) many h)
+
+-- its target, as it was read
+pub target-as : (c : Core) (w : Wanted) (l : Option Wanted) (t : Option ℤ) → l ≡ last_of c.waiting → t ≡ known_target_of c.axis l w →
+    known_target_of c.axis (last_of c.waiting) w ≡ t
+target-as c w l t last h = sym (h ∙ ap (λ (o : Option Wanted). known_target_of c.axis o w) last)

@@ -9,13 +9,16 @@ use Rattle.command_pool.specs.declared.ending.Finish.TheVariants as finish
 use Rattle.command_pool.specs.declared.kind.BlockKind.{BlockKind}
 use Rattle.command_pool.specs.declared.kind.BlockKind.TheVariants as kind
 use Rattle.command_pool.specs.declared.wanted.Wanted.{Wanted}
-use Rattle.axis_core.specs.Cores.{Core, begun, failed, ended, taken_over, taken_over_by, begun_from, with_target}
-use Rattle.axis_core.specs.Cycles.{answered, answer_error_of, run, gone_on, moved, placed, place_on_path, wished, carried_by, ended_where, ending_by, followed, standing, braked}
-use Rattle.axis_core.specs.Refusals.{is_error_stop, is_outside}
-use Rattle.axis_core.specs.Wishes.{wish_of, taken_of}
+use Rattle.axis_core.specs.Cores.{Core, begun, begun_from, ended, ended_by, failed, taken_over, taken_over_by}
+use Rattle.axis_core.specs.Cycles.{advanced, answered, gone_on, moved, run}
+use Rattle.axis_core.specs.Drives.{answer_error_of, standing}
+use Rattle.axis_core.specs.Kinds.{ending_by}
+use Rattle.axis_core.specs.Ranges.{is_outside}
+use Rattle.axis_core.specs.States.{is_error_stop}
+use Rattle.axis_core.specs.Steps.{taken_of}
+use Rattle.axis_core.specs.blocks.Moves.{with_target}
+use Rattle.axis_core.specs.blocks.Path.{place_on_path}
 use Rattle.axis_core.specs.declared.look.AxisLook.{AxisLook}
-use Rattle.axis_core.specs.declared.wish.Wish.{Wish}
-use Rattle.axis_core.specs.declared.wish.Wish.TheVariants.{Step, Error}
 
 -- at most one note tells of a command's end
 told-count : (o : Option ℕ) (f : Finish) → length (told_to o f) ≤ 1
@@ -69,27 +72,15 @@ ended-count f c =
     let n = taken_over-count c.waiting (record c { axis = record c.axis { active = None; reached = false }; notes = c.notes ++ active_note f c.axis.active }) in
     omega arith
 
-ended_where-count : (o : Option Finish) (c : Core) → IsCounted 2 c (ended_where o c)
-ended_where-count None c = omega arith
-ended_where-count (Some f) c = ended-count f c
-
-carried_by-count : (o : Option Wanted) (step : ℤ) (look : AxisLook) (c : Core) → IsCounted 2 c (carried_by o step look c)
-carried_by-count None step look c = omega arith
-carried_by-count (Some w) step look c =
-    ended_where-count (ending_by w.kind c.axis w (slice_get c.waiting 0) step look) (record c { axis = followed w.kind w step look c.axis })
-
-wished-count : (w : Wish) (look : AxisLook) (c : Core) → IsCounted 2 c (wished w look c)
-wished-count (Step step) look c = carried_by-count c.axis.active (taken_of c.axis step) look c
-wished-count (Error n) look c = let m = failed-count n c in omega arith
-
-placed-count : (o : Option ℤ) (look : AxisLook) (c : Core) → IsCounted 2 c (placed o look c)
-placed-count None look c = wished-count (wish_of c.axis (slice_get c.waiting 0) look) look c
-placed-count (Some place) look c = omega arith
+ended_by-count : (o : Option Finish) (c : Core) → IsCounted 2 c (ended_by o c)
+ended_by-count None c = omega arith
+ended_by-count (Some (finish.Error n)) c = let m = failed-count n c in omega arith
+ended_by-count (Some finish.Done) c = ended-count finish.Done c
+ended_by-count (Some finish.Aborted) c = ended-count finish.Aborted c
 
 moved-count : (look : AxisLook) (c : Core) → IsCounted 2 c (moved look c)
 moved-count look c =
-    elim (is_error_stop c.axis.state) as (λ b. IsCounted 2 c (if b then record c { axis = braked c.axis } else placed (place_on_path c.axis look) look c))
-    [ true ↦ omega arith | false ↦ placed-count (place_on_path c.axis look) look c ]
+    let step = advanced (slice_get c.waiting 0) look c.axis in ended_by-count step.ending (record c { axis = step.axis })
 
 pub run-count : (look : AxisLook) (driven : Bool) (c : Core) → IsCounted 2 c (run look driven c)
 run-count look driven c =

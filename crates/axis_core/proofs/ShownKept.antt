@@ -1,5 +1,5 @@
 -- Every call and every cycle keeps what an axis shows of its errors and of its Stop.
-use Rattle.std.specs.Prelude.{◌≡◌, refl, ◌⊎◌, ℕ, ◌≤◌, Bool, true, false, not, ◌&&◌, ◌||◌, nat_eq, ℤ, ◌-ℤ◌, Option, Some, None, is_some, List, [], ◌∷◌, slice_get, if◌then◌else◌}
+use Rattle.std.specs.Prelude.{Bool, Err, List, None, Ok, Option, Result, Some, [], false, if◌then◌else◌, is_some, nat_eq, not, refl, slice_get, true, ℕ, ℤ, ◌&&◌, ◌-ℤ◌, ◌||◌, ◌∷◌, ◌≡◌, ◌≤◌, ◌⊎◌}
 use Rattle.std.proofs.lemmas.Bool.{and_parts}
 use Rattle.std.proofs.Common.{◌∙◌, sym, ap, subst, arith, inl, inr}
 use Rattle.axis_state.specs.declared.definition.AxisDef.{AxisDef}
@@ -7,26 +7,37 @@ use Rattle.axis_state.specs.declared.state.AxisState.{AxisState}
 use Rattle.axis_state.specs.declared.state.AxisState.TheVariants as state
 use Rattle.buffer_modes.specs.Queue.{is_active_at_once}
 use Rattle.cia402_machine.specs.declared.drive.DriveIn.{DriveIn}
-use Rattle.command_pool.specs.Waiting.{without}
+use Rattle.command_pool.specs.Waiting.{last_of, without}
 use Rattle.command_pool.specs.declared.ending.Finish.{Finish}
 use Rattle.command_pool.specs.declared.kind.BlockKind.{BlockKind}
 use Rattle.command_pool.specs.declared.kind.BlockKind.TheVariants as kind
 use Rattle.command_pool.specs.declared.wanted.Wanted.{Wanted}
-use Rattle.axis_core.specs.Blendings.{old_step_of}
-use Rattle.axis_core.specs.Commands.{admitted_by, commanded_by, commanded, left, joined, queued, queue_in, velocity_command, powered_by, disabled, detached, on_path_from, on_path}
-use Rattle.axis_core.specs.Cores.{Core, state_with, hold_by, begun, failed, settled, with_target, begun_from, taken_over_by, taken_over, ended}
-use Rattle.axis_core.specs.Cycles.{has_fault, is_driven, answer_error_of, new_error_of, answered, enabled_from, standing, moved_to, braked, ending_by, followed, ended_where, carried, carried_by, wished, is_on_path, place_on_path, path_left, placed, moved, is_released, is_at_rest, stop_left, gone_on, may_reset, reset_from, after_reset, reset_axis, run, cycled, opened}
+use Rattle.command_pool.specs.declared.ending.Finish.TheVariants as finish
+use Rattle.axis_core.proofs.KeptMoves.{concluded}
+use Rattle.axis_core.specs.Calls.{admitted_by, commanded, commanded_by, detached, disabled, joined, left, powered_by, queue_in, queued}
+use Rattle.axis_core.specs.Cores.{Core, begun, begun_by, begun_from, ended, ended_by, failed, settled, state_with, taken_over, taken_over_by}
+use Rattle.axis_core.specs.Cycles.{advanced, advanced_by, advanced_from, advanced_with, answered, braked, cycled, followed, gone_on, moved, opened, progress_with, run}
 use Rattle.axis_core.specs.Demands.{IsMade, is_axis_command}
-use Rattle.axis_core.specs.Refusals.{Asked, holds, first_holding, refusal_of, tests_of, is_error_stop, is_stopping, is_synchronized, is_outside}
-use Rattle.axis_core.specs.Shown.{IsAxisError, AreShown, IsShown}
-use Rattle.axis_core.specs.Targets.{known_target_of}
-use Rattle.axis_core.specs.Wishes.{is_braking, is_safe_step, guarded, cam_wish_where, wish_by, wish_with, wish_of, step_toward, step_to_velocity, gear_step_of}
+use Rattle.axis_core.specs.Drives.{answer_error_of, has_fault, is_driven, new_error_of, standing}
+use Rattle.axis_core.specs.Kinds.{ending_by, tests_of, wish_by}
+use Rattle.axis_core.specs.Ranges.{is_outside}
+use Rattle.axis_core.specs.Refusals.{Asked, first_holding, holds, refusal_of}
+use Rattle.axis_core.specs.Shown.{AreShown, IsAxisError, IsShown}
+use Rattle.axis_core.specs.States.{is_error_stop, is_stopping, is_synchronized}
+use Rattle.axis_core.specs.Steps.{ends_where, guarded, is_braking, is_safe_step, moved_to, old_step_of, step_toward, taken_by, taken_of}
+use Rattle.axis_core.specs.blocks.Cam.{cam_wish_where}
+use Rattle.axis_core.specs.blocks.Gear.{gear_step_of, velocity_command}
+use Rattle.axis_core.specs.blocks.Halts.{hold_by, is_at_rest, is_released, stop_left}
+use Rattle.axis_core.specs.blocks.Moves.{known_target_of, target_of, with_target}
+use Rattle.axis_core.specs.blocks.Path.{is_on_path, on_path, on_path_from, path_left, place_on_path}
+use Rattle.axis_core.specs.blocks.Power.{enabled_from}
+use Rattle.axis_core.specs.blocks.Reset.{after_reset, may_reset, reset_axis, reset_from}
+use Rattle.axis_core.specs.blocks.Velocity.{step_to_velocity}
 use Rattle.follow_plan.specs.Gear.{gear_toward_of}
 use Rattle.axis_core.specs.declared.axis.Axis.{Axis}
 use Rattle.axis_core.specs.declared.axis.PendingReset.{PendingReset}
 use Rattle.axis_core.specs.declared.look.AxisLook.{AxisLook}
-use Rattle.axis_core.specs.declared.wish.Wish.{Wish}
-use Rattle.axis_core.specs.declared.wish.Wish.TheVariants.{Step, Error}
+use Rattle.axis_core.specs.declared.progress.Progress.{Progress}
 use Rattle.axis_core.proofs.KeptCycles.{on-place}
 use Rattle.axis_core.proofs.MayAdmit.{NoneHolds, none-holds}
 
@@ -51,7 +62,7 @@ begun-in kind.CamIn s e h owner f a = record { stopped = λ x. absurd (cc); clea
 begun-in _ s e h owner f a = record { stopped = a.stopped; clear = a.clear; held = λ x. refl }
 
 begun-shown : (w : Wanted) (a : Axis) → is_error_stop a.state ≡ false → IsShown a → IsShown (begun w a)
-unfolding begun
+unfolding begun_by
 begun-shown w a f h = begun-in w.kind a.state a.error a.hold w.owner f h
 
 begun_from-shown : (w : Wanted) (t : ℤ) (c : Core) → is_error_stop c.axis.state ≡ false → IsShown c.axis → IsShown (begun_from w t c).axis
@@ -78,42 +89,60 @@ ended-shown : (g : Finish) (c : Core) → is_error_stop c.axis.state ≡ false �
 unfolding ended
 ended-shown g c f h = taken_over-shown c.waiting _ f h
 
-ended_where-shown : (o : Option Finish) (c : Core) → is_error_stop c.axis.state ≡ false → IsShown c.axis → IsShown (ended_where o c).axis
-ended_where-shown None c f h = h
-ended_where-shown (Some g) c f h = ended-shown g c f h
+-- how a command may end: an error has an axis error's number
+abbrev IsEnding : Option Finish → Type 0
+IsEnding (Some (finish.Error n)) = IsAxisError n
+IsEnding o = Unit {0}
+
+ended_by-shown : (o : Option Finish) (c : Core) → IsEnding o → is_error_stop c.axis.state ≡ false → IsShown c.axis → IsShown (ended_by o c).axis
+ended_by-shown None c i f h = h
+ended_by-shown (Some (finish.Error n)) c i f h = failed-shown n c i
+ended_by-shown (Some finish.Done) c i f h = ended-shown finish.Done c f h
+ended_by-shown (Some finish.Aborted) c i f h = ended-shown finish.Aborted c f h
 
 -- the step of a command changes nothing of it
-state-followed : (k : BlockKind) (w : Wanted) (step : ℤ) (look : AxisLook) (a : Axis) → (followed k w step look a).state ≡ a.state
-state-followed kind.Home w step look a = refl
-state-followed _ w step look a = refl
+state-followed : (k : BlockKind) (t : ℤ) (p : Progress) (a : Axis) → (followed k t p a).state ≡ a.state
+state-followed kind.Home t p a = refl
+state-followed _ t p a = refl
 
-shown-followed : (k : BlockKind) (w : Wanted) (step : ℤ) (look : AxisLook) (a : Axis) → IsShown a → IsShown (followed k w step look a)
-shown-followed kind.Home w step look a h = h
-shown-followed _ w step look a h = h
+shown-followed : (k : BlockKind) (t : ℤ) (p : Progress) (a : Axis) → IsShown a → IsShown (followed k t p a)
+shown-followed kind.Home t p a h = h
+shown-followed _ t p a h = h
 
-carried-shown : (w : Wanted) (step : ℤ) (look : AxisLook) (c : Core) → is_error_stop c.axis.state ≡ false → IsShown c.axis → IsShown (carried w step look c).axis
-carried-shown w step look c f h =
-    ended_where-shown (ending_by w.kind c.axis w (slice_get c.waiting 0) step look) (record c { axis = followed w.kind w step look c.axis })
-    (ap is_error_stop (state-followed w.kind w step look c.axis) ∙ f) (shown-followed w.kind w step look c.axis h)
+-- an end that comes where something holds is no error
+ends-done : (b : Bool) → IsEnding (ends_where b finish.Done)
+ends-done true = tt
+ends-done false = tt
 
-carried_by-shown : (o : Option Wanted) (step : ℤ) (look : AxisLook) (c : Core) → is_error_stop c.axis.state ≡ false → IsShown c.axis → IsShown (carried_by o step look c).axis
-carried_by-shown None step look c f h = h
-carried_by-shown (Some w) step look c f h = carried-shown w step look c f h
+ends-aborted : (b : Bool) → IsEnding (ends_where b finish.Aborted)
+ends-aborted true = tt
+ends-aborted false = tt
+
+ending-by : (k : BlockKind) (a : Axis) (w : Wanted) (next : Option Wanted) (step : ℤ) (look : AxisLook) → IsEnding (ending_by k a w next step look)
+ending-by kind.MoveAbsolute a w next step look = ends-done _
+ending-by kind.MoveRelative a w next step look = ends-done _
+ending-by kind.Halt a w next step look = ends-done _
+ending-by kind.Stop a w next step look = ends-done _
+ending-by kind.Home a w next step look = tt
+ending-by kind.MoveVelocity a w next step look = ends-aborted _
+ending-by kind.GearIn a w next step look = ends-aborted _
+ending-by kind.CamIn a w next step look = ends-aborted _
+ending-by _ a w next step look = tt
 
 -- a wish that is an error is an axis error
-abbrev IsWish : Wish → Type 0
-IsWish (Step step) = Unit {0}
-IsWish (Error n) = IsAxisError n
+abbrev IsWish : Result ℤ ℕ → Type 0
+IsWish (Ok step) = Unit {0}
+IsWish (Err n) = IsAxisError n
 
 guarded-wish : (a : Axis) (step : ℤ) → IsWish (guarded a step)
 guarded-wish a step =
-    elim (is_braking (old_step_of a) step || is_safe_step a step) as (λ b. IsWish (if b then Step step else Error 103))
+    elim (is_braking (old_step_of a) step || is_safe_step a step) as (λ b. IsWish (if b then Ok step else Err 103))
     [ true ↦ tt | false ↦ number 103 (omega arith) (omega arith) ]
 
 cam-wish : (safe : Bool) (a : Axis) (w : Wanted) (cam : ℤ) → IsWish (cam_wish_where safe a w cam)
 cam-wish true a w cam = tt
 cam-wish false a w cam =
-    elim a.reached as (λ b. IsWish (if b then Error 104 else guarded a (step_toward a cam w)))
+    elim a.reached as (λ b. IsWish (if b then Err 104 else guarded a (step_toward a cam w)))
     [ true ↦ number 104 (omega arith) (omega arith) | false ↦ guarded-wish a (step_toward a cam w) ]
 
 wish-by : (k : BlockKind) (a : Axis) (w : Wanted) (next : Option Wanted) (look : AxisLook) → IsWish (wish_by k a w next look)
@@ -126,17 +155,19 @@ wish-by kind.GearIn a w next look = guarded-wish a (step_to_velocity a (gear_tow
 wish-by kind.CamIn a w next look = cam-wish (is_safe_step a (look.cam -ℤ a.setpoint)) a w look.cam
 wish-by _ a w next look = tt
 
-wish-with : (o : Option Wanted) (a : Axis) (next : Option Wanted) (look : AxisLook) → IsWish (wish_with o a next look)
-wish-with None a next look = tt
-wish-with (Some w) a next look = wish-by w.kind a w next look
+-- the step of an axis that no error stops, and the end of its command
+wished-shown : (wish : Result ℤ ℕ) (w : Wanted) (look : AxisLook) (c : Core) → IsWish wish → is_error_stop c.axis.state ≡ false → IsShown c.axis →
+    IsShown (concluded (advanced_by w.kind (target_of w) c.axis (progress_with c.axis w (slice_get c.waiting 0) look (taken_by c.axis wish))) c).axis
+wished-shown (Ok step) w look c i f h =
+    ended_by-shown _ _ (ending-by w.kind c.axis w (slice_get c.waiting 0) (taken_of c.axis step) look)
+    (ap is_error_stop (state-followed w.kind (target_of w) _ c.axis) ∙ f) (shown-followed w.kind (target_of w) _ c.axis h)
+wished-shown (Err n) w look c i f h = failed-shown n (record c { axis = braked c.axis }) i
 
-wish-is : (a : Axis) (next : Option Wanted) (look : AxisLook) → IsWish (wish_of a next look)
-unfolding wish_of
-wish-is a next look = wish-with a.active a next look
-
-wished-shown : (w : Wish) (look : AxisLook) (c : Core) → IsWish w → is_error_stop c.axis.state ≡ false → IsShown c.axis → IsShown (wished w look c).axis
-wished-shown (Step step) look c i f h = carried_by-shown c.axis.active _ look c f h
-wished-shown (Error n) look c i f h = failed-shown n c i
+commanded-by-shown : (active : Option Wanted) (look : AxisLook) (c : Core) → is_error_stop c.axis.state ≡ false → IsShown c.axis →
+    IsShown (concluded (advanced_with active (slice_get c.waiting 0) look c.axis) c).axis
+commanded-by-shown None look c f h = h
+commanded-by-shown (Some w) look c f h =
+    wished-shown (wish_by w.kind c.axis w (slice_get c.waiting 0) look) w look c (wish-by w.kind c.axis w (slice_get c.waiting 0) look) f h
 
 -- the axis at its place on its group's path
 runs-on : (s : AxisState) → is_synchronized s ≡ true → is_stopping s ≡ false
@@ -148,14 +179,15 @@ left-shown true a s f h = record { stopped = λ x. absurd (cc); clear = λ x. h.
 left-shown false a s f h = h
 
 placed-shown : (o : Option ℤ) (look : AxisLook) (c : Core) → ((place : ℤ) → o ≡ Some place → is_synchronized c.axis.state ≡ true) → is_error_stop c.axis.state ≡ false → IsShown c.axis →
-    IsShown (placed o look c).axis
-placed-shown None look c s f h = wished-shown (wish_of c.axis (slice_get c.waiting 0) look) look c (wish-is c.axis (slice_get c.waiting 0) look) f h
+    IsShown (concluded (advanced_from o (slice_get c.waiting 0) look c.axis) c).axis
+placed-shown None look c s f h = commanded-by-shown c.axis.active look c f h
 placed-shown (Some place) look c s f h = left-shown look.path_ends (moved_to place c.axis) (s place refl) f h
 
 moved-shown : (look : AxisLook) (c : Core) → IsShown c.axis → IsShown (moved look c).axis
+unfolding advanced
 moved-shown look c h =
-    elim (is_error_stop c.axis.state) as
-    (λ b. is_error_stop c.axis.state ≡ b → IsShown (if b then record c { axis = braked c.axis } else placed (place_on_path c.axis look) look c).axis) [
+    elim (is_error_stop c.axis.state) as (λ b. is_error_stop c.axis.state ≡ b →
+    IsShown (concluded (if b then record { axis = braked c.axis; ending = None } else advanced_from (place_on_path c.axis look) (slice_get c.waiting 0) look c.axis) c).axis) [
       | true ↦ λ e. h
       | false ↦ λ e.
           placed-shown (place_on_path c.axis look) look c
@@ -240,7 +272,8 @@ joined-shown w c f h =
     [ true ↦ begun-shown w (queued w c).axis f h | false ↦ h ]
 
 left-gear-shown : (w : Wanted) (c : Core) → is_error_stop c.axis.state ≡ false → IsShown c.axis → IsShown (left w c).axis
-left-gear-shown w c f h = begun-shown (velocity_command w c.axis) (record c.axis { active = None }) f h
+unfolding begun_by
+left-gear-shown w c f h = record { stopped = λ x. absurd (cc); clear = λ x. h.clear f; held = λ x. refl }
 
 -- a command that is not a Reset is refused in ErrorStop
 not-stopped : (k : BlockKind) (q : Asked) → is_axis_command k ≡ true → NoneHolds q (tests_of k) → (k ≡ kind.Reset) ⊎ (is_error_stop q.axis.state ≡ false)
@@ -262,7 +295,7 @@ admitted-free : (k : BlockKind) (w : Wanted) (c : Core) → is_error_stop c.axis
 admitted-free kind.Reset w c f h = h
 admitted-free kind.GearOut w c f h = left-gear-shown w c f h
 admitted-free kind.CamOut w c f h = left-gear-shown w c f h
-admitted-free _ w c f h = joined-shown (with_target (known_target_of c.axis c.waiting w) w) c f h
+admitted-free _ w c f h = joined-shown w c f h
 
 admitted-shown : (k : BlockKind) (w : Wanted) (c : Core) → (k ≡ kind.Reset) ⊎ (is_error_stop c.axis.state ≡ false) → IsShown c.axis → IsShown (admitted_by k w c).axis
 admitted-shown k w c (inl e) h = let P : BlockKind → Type 0 = λ x. IsShown (admitted_by x w c).axis in subst P (sym e) h
@@ -275,7 +308,7 @@ commanded-shown q c same m h =
     (λ o. first_holding q (tests_of q.wanted.kind) ≡ o → IsShown (commanded_by o q.wanted c).axis) [
       | None ↦ λ e.
           let P : Axis → Type 0 = λ a. (q.wanted.kind ≡ kind.Reset) ⊎ (is_error_stop a.state ≡ false) in
-          admitted-shown q.wanted.kind q.wanted c
+          admitted-shown q.wanted.kind (with_target (known_target_of c.axis (last_of c.waiting) q.wanted) q.wanted) c
           (subst P same (not-stopped q.wanted.kind q m.kind (none-holds q (tests_of q.wanted.kind) e))) h
       | Some r ↦ λ e. h
     ] refl

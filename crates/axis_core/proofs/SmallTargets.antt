@@ -2,7 +2,7 @@
 use Rattle.std.specs.Prelude.{List, [], ◌∷◌}
 use Rattle.command_pool.specs.Waiting.{last_of}
 use Rattle.command_pool.specs.declared.wanted.Wanted.{Wanted}
-use Rattle.axis_core.specs.Kept.{IsSmallTarget, AreSmallTargets}
+use Rattle.axis_core.specs.Kept.{AreSmallTargets, IsSmallTarget}
 
 -- the last of commands whose targets are small has a small one
 pub last-small : (ws : List Wanted) → AreSmallTargets ws → IsSmallTarget (last_of ws)

@@ -1,5 +1,6 @@
 -- What always holds of an axis and of the commands that wait for it.
 use Rattle.std.specs.Prelude.{◌≡◌, ◌⊎◌, ◌≤◌, Bool, true, false, ℤ, pos, neg_ℤ, ◌≤ℤ◌, ◌+ℤ◌, ◌-ℤ◌, unsigned_abs, Option, Some, None, List, [], ◌∷◌}
+use Rattle.axis_core.specs.Kinds.{may_wait}
 use Rattle.axis_core.specs.declared.axis.TheConstants.{MOST_SETPOINT}
 use Rattle.motion_numbers.specs.declared.TheConstants.{MOST_INCREMENT, MOST_NUMBER, MOST_PLACE}
 use Rattle.axis_state.specs.Counts.{count_of, IsCount, HasCounts}
@@ -12,9 +13,11 @@ use Rattle.command_pool.specs.declared.wanted.Wanted.{Wanted}
 use Rattle.kin_core.specs.Admissible.{AreLimits, IsKept, IsSafe}
 use Rattle.kin_core.specs.declared.limits.Limits.{Limits}
 use Rattle.axis_core.specs.Cores.{Core}
-use Rattle.axis_core.specs.Cycles.{is_powered, is_on_path}
-use Rattle.axis_core.specs.Kept.{IsBetween, IsGear, IsNear, IsSmallTarget}
-use Rattle.axis_core.specs.Targets.{position_of}
+use Rattle.axis_core.specs.Kept.{IsGear, IsNear, IsSmallTarget}
+use Rattle.axis_core.specs.Ranges.{IsBetween}
+use Rattle.axis_core.specs.blocks.Moves.{position_of}
+use Rattle.axis_core.specs.blocks.Path.{is_on_path}
+use Rattle.axis_core.specs.blocks.Power.{is_powered}
 use Rattle.axis_core.specs.declared.axis.Axis.{Axis}
 use Rattle.axis_core.specs.declared.look.AxisLook.{AxisLook}
 
@@ -150,15 +153,6 @@ pub record IsAxisKept (a : Axis) : Type 0 where
   pub base : IsBased a.limits a.inc a.offset a.previous a.setpoint a.driven
   pub state : IsInState a.state a.driven (is_powered a) a.was_off a.previous a.setpoint a.active
   pub active : (w : Wanted) → a.active ≡ Some w → IsActive a.state a.limits a.inc a.offset a.setpoint w
-
--- whether a kind takes a buffer mode, so that its command may wait. PLCopen Motion Control Part 1, BufferMode
-abbrev pub may_wait : BlockKind → Bool
-may_wait kind.MoveAbsolute = true
-may_wait kind.MoveRelative = true
-may_wait kind.MoveVelocity = true
-may_wait kind.GearIn = true
-may_wait kind.CamIn = true
-may_wait k = false
 
 -- a command that waits: its kind takes a mode, and its numbers are within the limits. PLCopen Motion Control Part 1, BufferMode
 pub record IsWaiting (l : Limits) (w : Wanted) : Type 0 where

@@ -1,14 +1,15 @@
 -- What a command is asked with.
-use Rattle.std.specs.Prelude.{◌≡◌, ℕ, ◌≤◌, Bool, true, false, ℤ, unsigned_abs, Option, Some, None, List}
+use Rattle.std.specs.Prelude.{◌≡◌, ℕ, ◌≤◌, Bool, true, false, ℤ, unsigned_abs, Option, Some, None, List, length}
 use Rattle.motion_numbers.specs.declared.TheConstants.{MOST_NUMBER}
-use Rattle.command_pool.specs.Waiting.{queue_of}
+use Rattle.command_pool.specs.Waiting.{last_of, queue_of}
 use Rattle.command_pool.specs.declared.kind.BlockKind.{BlockKind}
 use Rattle.command_pool.specs.declared.kind.BlockKind.TheVariants as kind
 use Rattle.command_pool.specs.declared.kind.BufferMode.TheVariants.{Aborting}
 use Rattle.command_pool.specs.declared.wanted.Wanted.{Wanted}
-use Rattle.axis_core.specs.AxisKept.{may_wait}
+use Rattle.axis_core.specs.Cores.{Core}
+use Rattle.axis_core.specs.Kinds.{may_wait}
 use Rattle.axis_core.specs.Refusals.{Asked}
-use Rattle.axis_core.specs.Targets.{position_of}
+use Rattle.axis_core.specs.blocks.Moves.{position_of}
 use Rattle.axis_core.specs.declared.axis.Axis.{Axis}
 
 -- whether a kind is a command of an axis that is asked by a rising edge. PLCopen Motion Control Part 1
@@ -39,12 +40,26 @@ pub record IsMade (w : Wanted) : Type 0 where
   pub target : w.target ≡ asked_target w.kind w
   pub mode : may_wait w.kind ≡ false → w.mode ≡ Aborting
 
--- what a command is asked of: the axis of this number, with the commands in its list of the pool. This project's profile
+-- what a command is asked of: the axis of this number, with the commands that wait for it. This project's profile
+abbrev pub asked_in : Core → ℕ → Wanted → ℤ → Bool → ℕ → Asked
+asked_in c number w jerk held tables = record {
+  axis = c.axis;
+  number = number;
+  waiting = length c.waiting;
+  last = last_of c.waiting;
+  wanted = w;
+  jerk = jerk;
+  held = held;
+  tables = tables;
+}
+
+-- the same, with the commands in its list of the pool. This project's profile
 abbrev pub asked_by : Axis → List (List Wanted) → ℕ → Wanted → ℤ → Bool → ℕ → Asked
 asked_by a lists list w jerk held tables = record {
   axis = a;
   number = list;
-  waiting = queue_of lists list;
+  waiting = length (queue_of lists list);
+  last = last_of (queue_of lists list);
   wanted = w;
   jerk = jerk;
   held = held;

@@ -1,6 +1,6 @@
 -- The ranges of the numbers that a cycle works with.
 use Rattle.std.specs.Prelude.{◌≡◌, ◌≤◌, ◌*◌, ℤ, pos, ◌≤ℤ◌, ◌<ℤ◌, ◌-ℤ◌, unsigned_abs, false, Option, Some, None, IfSome, slice_get, List, [], ◌∷◌}
-use Rattle.axis_state.specs.declared.count.TheConstants.{MOST_OFFSET}
+use Rattle.axis_state.specs.declared.count.TheConstants.{MOST_OFFSET, MOST_REPORTED}
 use Rattle.axis_core.specs.declared.axis.TheConstants.{MOST_TARGET}
 use Rattle.motion_numbers.specs.declared.TheConstants.{MOST_INCREMENT, MOST_PLACE, MOST_RATIO, MOST_STEP, MOST_WAY}
 use Rattle.motion_numbers.specs.Ranges.{IsStep, IsPlace}
@@ -12,21 +12,16 @@ use Rattle.axis_state.specs.Diagram.{IsFrom}
 use Rattle.axis_state.specs.declared.diagram.AxisEvent.TheVariants as event
 use Rattle.buffer_modes.specs.Queue.{is_full}
 use Rattle.axis_core.specs.Cores.{Core, MayBegin, MayTakeOver}
-use Rattle.axis_core.specs.Refusals.{is_error_stop}
-use Rattle.axis_core.specs.Targets.{move_target_of}
+use Rattle.axis_core.specs.Ranges.{IsBetween}
+use Rattle.axis_core.specs.States.{is_error_stop}
+use Rattle.axis_core.specs.blocks.Moves.{move_target_of, target_of}
 use Rattle.command_pool.specs.declared.wanted.Follow.{Follow}
 use Rattle.command_pool.specs.declared.wanted.Follow.TheVariants as follow
 use Rattle.command_pool.specs.Rates.{AreRates, AreRamps}
-use Rattle.axis_core.specs.Wishes.{target_of}
 use Rattle.axis_core.specs.declared.axis.Axis.{Axis}
-use Rattle.axis_core.specs.declared.wish.Blending.{Blending}
-use Rattle.axis_core.specs.declared.wish.Wish.{Wish}
-use Rattle.axis_core.specs.declared.wish.Wish.TheVariants.{Step, Error}
-
--- a number lies between two others
-pub record IsBetween (least z most : ℤ) : Type 0 where
-  pub above : least ≤ℤ z
-  pub below : z ≤ℤ most
+use Rattle.axis_core.specs.declared.look.AxisLook.{AxisLook}
+use Rattle.blend_plan.specs.Blends.{BlendApplies}
+use Rattle.axis_core.specs.declared.blocks.moves.SecondMove.{SecondMove}
 
 -- the fixed target of a command, if there is one, is small enough to be worked with
 abbrev pub IsSmallTarget : Option Wanted → Type 0
@@ -38,26 +33,23 @@ abbrev pub AreSmallTargets : List Wanted → Type 0
 AreSmallTargets [] = Unit {0}
 AreSmallTargets (w ∷ ws) = IsSmallTarget (Some w) × AreSmallTargets ws
 
--- a blending whose numbers are in their ranges. This project's profile
-pub record IsBlending (b : Blending) : Type 0 where
-  pub first : pos 0 ≤ℤ b.first
-  pub apart : b.first <ℤ b.second
-  pub far : b.second ≤ℤ pos MOST_WAY
-  pub old : pos 0 ≤ℤ b.old
-  pub old_in_range : b.old ≤ℤ pos MOST_STEP
-  pub rates : AreRates b.rates
-  pub least : pos 1 ≤ℤ b.velocity
-  pub most : b.velocity ≤ℤ pos MOST_STEP
+-- a place within the range of places. This project's profile
+abbrev pub IsNear : ℤ → Type 0
+IsNear place = IsPlace place
+
+-- a blend of a move to the target into a second one applies to the axis, and its numbers are in their ranges. This project's profile
+pub record IsBlend (a : Axis) (target : ℤ) (s : SecondMove) : Type 0 where
+  pub applies : BlendApplies target s.target a.previous a.setpoint
+  pub near : IsNear s.target
+  pub rates : AreRates s.rates
+  pub least : pos 1 ≤ℤ s.velocity
+  pub most : s.velocity ≤ℤ pos MOST_STEP
 
 -- an axis that is driven: it can be stopped within its limits. This project's profile
 pub record IsMoving (a : Axis) : Type 0 where
   pub limits : AreLimits a.limits
   pub top : a.limits.hi ≤ℤ pos MOST_PLACE
   pub kept : IsKept a.limits a.previous a.setpoint
-
--- a place within 10^15 of 0. This project's profile
-abbrev pub IsNear : ℤ → Type 0
-IsNear place = IsPlace place
 
 -- the axis and its old step are small enough to be worked with
 pub record IsSmall (a : Axis) : Type 0 where
@@ -102,11 +94,6 @@ IsCarried kind.CamIn w = AreRates w.rates
 IsCarried kind.Home w = IsNear (target_of w)
 IsCarried k w = Unit {0}
 
--- a wished step is small enough to be worked with
-abbrev pub IsSmallWish : Wish → Type 0
-IsSmallWish (Step step) = unsigned_abs step ≤ 2 * MOST_WAY
-IsSmallWish (Error n) = Unit {0}
-
 -- the numbers from which the drive's counts are places are in their ranges. IEC 61800-7-201, object 6064h
 pub record HasDrive (a : Axis) : Type 0 where
   pub least : pos 1 ≤ℤ a.inc
@@ -114,19 +101,35 @@ pub record HasDrive (a : Axis) : Type 0 where
   pub lowest : IsNear a.limits.lo
   pub offset : unsigned_abs a.offset ≤ MOST_OFFSET
 
--- an axis whose driven spell may go on, and the commands that wait: the numbers are in their ranges. This project's profile
-pub record MayGoOn (a : Axis) (waiting : List Wanted) : Type 0 where
+-- an axis whose driven spell goes on may advance, with the command that waits first: the numbers are in their ranges. This project's profile
+pub record MayAdvance (a : Axis) (first : Option Wanted) (look : AxisLook) : Type 0 where
   pub moving : IsMoving a
   pub active : IfSome a.active (λ w. IsCarried w.kind w)
-  pub next : IfSome (slice_get waiting 0) IsBlendable
+  pub next : IfSome first IsBlendable
+  pub cam : IsNear look.cam
   pub offset : unsigned_abs a.offset ≤ MOST_OFFSET
+
+-- the position of a Home is a place; that of another command is not looked at. This project's profile
+abbrev pub IsTarget : BlockKind → ℤ → Type 0
+IsTarget kind.Home target = IsNear target
+IsTarget k target = Unit {0}
+
+-- the active command may end in a state, and the first one that waits take over. This project's profile
+pub record MayEnd (a : Axis) (waiting : List Wanted) : Type 0 where
+  pub state : IsFrom a.state event.Error
+  pub queue : MayTakeOver a.state waiting
+  pub setpoint : unsigned_abs a.setpoint ≤ MOST_REPORTED
+
+-- an axis whose driven spell goes on, with the commands that wait: it may advance, its command may end, and the next one take over. This project's profile
+pub record MayGoOn (a : Axis) (waiting : List Wanted) (look : AxisLook) : Type 0 where
+  pub advance : MayAdvance a (slice_get waiting 0) look
   pub state : is_error_stop a.state ≡ false → IsFrom a.state event.Error
   pub queue : MayTakeOver a.state waiting
 
 -- a gear or a cam may be left. PLCopen Motion Control Part 1, MC_GearOut and MC_CamOut
 pub record MayLeave (a : Axis) : Type 0 where
   pub step : IsStep (a.setpoint -ℤ a.previous)
-  pub begin : MayBegin kind.MoveVelocity a.state
+  pub begin : IsFrom a.state event.FollowOut
 
 -- a command may join the others: there is a place for it, and it may become active in the state. PLCopen Motion Control Part 1, BufferMode
 pub record MayJoin (w : Wanted) (c : Core) : Type 0 where

@@ -3,13 +3,14 @@
 ghost use Rattle.std.specs.Prelude.{◌≡◌, ◌≤◌, ◌<◌, unsigned_abs};
 ghost use Rattle.axis_state.specs.Diagram.{IsFrom};
 ghost use Rattle.axis_state.specs.declared.diagram.AxisEvent.TheVariants as event;
-ghost use Rattle.axis_core.specs.Cycles as spec;
+ghost use Rattle.axis_core.specs.Drives as spec;
 ghost use Rattle.axis_core.specs.Kept.{HasDrive};
 
 use crate::axis::Axis;
+use crate::blocks::power::{enabled_from, is_powered};
 use crate::refusing::is_outside;
 use crate::states::is_error_stop;
-use axis_state::{AxisEvent, AxisState, DriveIn, MOST_REPORTED, axis_next, place};
+use axis_state::{DriveIn, MOST_REPORTED, place};
 use cia402_machine::{CYCLIC_SYNCHRONOUS_POSITION, DriveState, state_of};
 
 /// DriveFault: the drive reads Fault or Fault reaction active.
@@ -20,13 +21,6 @@ const DRIVE_LOST: u16 = 102;
 
 /// ActualOutside: the drive would be driven from outside the limits.
 const ACTUAL_OUTSIDE: u16 = 105;
-
-/// Whether power is on in a cycle.
-pub fn is_powered(axis: &Axis) -> bool
-    ensures { result ≡ spec.is_powered axis.now }
-{
-    axis.power && !axis.was_off
-}
 
 // Whether a drive that reads so may take setpoints.
 fn is_enabled(state: Option<DriveState>) -> bool
@@ -59,8 +53,8 @@ pub fn has_fault(input: &DriveIn) -> bool
     reads_fault(state_of(input.statusword))
 }
 
-/// Where the drive stands.
-pub fn actual(axis: &Axis, input: &DriveIn) -> i64
+// Where the drive stands.
+fn actual(axis: &Axis, input: &DriveIn) -> i64
     requires { HasDrive axis.now }
     ensures value { result ≡ spec.actual_of axis.now input.now }
     ensures small { unsigned_abs result ≤ MOST_REPORTED }
@@ -101,7 +95,7 @@ fn new_error(axis: &Axis, input: &DriveIn) -> u16
 }
 
 /// The error that a drive's answer brings to the axis; one in ErrorStop gets no further error.
-#[tactic(auto, using(crate::proofs::Events::error_from), unfolding(crate::specs::Cycles::answer_error_of))]
+#[tactic(auto, using(crate::proofs::Events::error_from), unfolding(crate::specs::Drives::answer_error_of))]
 pub fn answer_error(axis: &Axis, input: &DriveIn) -> u16
     requires { HasDrive axis.now }
     ensures value { result ≡ spec.answer_error_of axis.now input.now }
@@ -114,14 +108,15 @@ pub fn answer_error(axis: &Axis, input: &DriveIn) -> u16
     }
 }
 
-// The state at the first cycle of a driven spell.
-fn enabled_from(driven: bool, state: AxisState) -> AxisState
-    ensures { result ≡ spec.enabled_from driven state }
+/// The error that a drive's answer brings to the axis: one by which it is driven brings none.
+#[tactic(auto, using(crate::proofs::DriveAnswers::no_error_where_driven))]
+pub fn error_where(driven: bool, axis: &Axis, input: &DriveIn) -> u16
+    requires drive { HasDrive axis.now }
+    requires driven { driven ≡ spec.is_driven axis.now input.now }
+    ensures value { result ≡ spec.answer_error_of axis.now input.now }
+    ensures may { 0 < result → IsFrom axis.now.state event.Error }
 {
-    match (driven, state) {
-        (true, AxisState::Disabled) => axis_next(state, AxisEvent::DrivenFirst),
-        _ => state,
-    }
+    if driven { 0 } else { answer_error(axis, input) }
 }
 
 /// An axis that is not driven, or begins to be, stands where its drive does.
@@ -130,11 +125,8 @@ pub fn stand(driven: bool, input: &DriveIn, axis: &mut Axis)
     ensures { axis.new ≡ spec.standing driven input.now axis.old }
 {
     let place = actual(axis, input);
-    *axis = Axis {
-        state: enabled_from(driven, axis.state),
-        driven,
-        previous: place,
-        setpoint: place,
-        ..*axis
-    };
+    axis.state = enabled_from(driven, axis.state);
+    axis.driven = driven;
+    axis.previous = place;
+    axis.setpoint = place;
 }

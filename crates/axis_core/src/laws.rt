@@ -1,16 +1,56 @@
 // Laws of an axis: each is the contract of a function that does nothing.
 
-ghost use Rattle.std.specs.Prelude.{◌≡◌, ℕ, Bool};
-ghost use Rattle.axis_core.specs.Commands.{commanded, detached, on_path, powered_by};
+ghost use Rattle.std.specs.Prelude.{◌≡◌, ◌⊎◌, IsTrue, None, ℤ, [], ◌+◌, ℕ, Bool, Some, true, false, nat_eq, slice_get};
+ghost use Rattle.command_pool.specs.declared.ending.Finish.TheVariants as finish;
+ghost use Rattle.axis_core.specs.blocks.Moves.{blended_with, is_move, target_of};
+ghost use Rattle.command_pool.specs.declared.wanted.Wanted.{Wanted};
+ghost use Rattle.axis_core.specs.Arrivals.{Course, course_of, bound_of, turn_of, IsUnderWay, Carried, IsMoveDone};
+ghost use Rattle.axis_core.specs.AxisKept.{IsAxisDef, IsCoreKept, IsLook};
+ghost use Rattle.axis_core.specs.Calls.{commanded, detached, powered_by};
 ghost use Rattle.axis_core.specs.Cores.{Core};
-ghost use Rattle.axis_core.specs.Cycles.{cycled, opened};
-ghost use Rattle.axis_core.specs.Demands.{IsMade};
-ghost use Rattle.axis_core.specs.Refusals.{Asked};
-ghost use Rattle.axis_core.specs.Rows.{Stays};
+ghost use Rattle.axis_core.specs.Cycles.{cycled, opened, row_of};
+ghost use Rattle.axis_core.specs.Demands.{IsMade, asked_in};
+ghost use Rattle.axis_core.specs.Fates.{IsFate, IsSame, command_fate, power_fate, cycle_fate};
+ghost use Rattle.axis_core.specs.Owners.{TellsOwner, is_owner, owns, told, brought, disowned};
+ghost use Rattle.axis_core.specs.Refusals.{Asked, refusal_of};
+ghost use Rattle.axis_core.specs.Rows.{KeepsSpell, Stays};
 ghost use Rattle.axis_core.specs.Shown.{IsShown};
+ghost use Rattle.axis_core.specs.blocks.Path.{on_path};
 ghost use Rattle.axis_core.specs.declared.look.AxisLook.{AxisLook};
+ghost use Rattle.axis_state.specs.Counts.{IsCount};
 ghost use Rattle.axis_state.specs.declared.definition.AxisDef.{AxisDef};
 ghost use Rattle.axis_core.specs.declared.axis.Axis.{Axis};
+
+use axis_state::{
+    counts_are_read_back, homing_keeps_counts, offsets_are_small, setpoints_have_counts,
+};
+use blend_plan::blends_apply_by_test;
+use kin_core::{braking_steps_are_only_cut, standing_is_kept, taken_steps_keep};
+use trapezoid_plan::{halts_come_to_rest_in_time, moves_arrive_in_time};
+
+/// What always holds of an axis and of the commands that wait for it holds at opening, and after every call and every
+/// cycle, whose row keeps the axis's limits.
+pub fn axes_stay_kept()
+    ensures opened { (d : AxisDef) → IsAxisDef d → IsCoreKept (record { axis = opened d; waiting = []; notes = [] }) }
+    ensures command { (c : Core) (number : ℕ) (w : Wanted) (jerk : ℤ) (held : Bool) (tables : ℕ) → IsCoreKept c → IsMade w →
+        IsCoreKept (commanded (asked_in c number w jerk held tables) c) }
+    ensures power { (enable : Bool) (c : Core) → IsCoreKept c → IsCoreKept (powered_by enable c) }
+    ensures detach { (owner : ℕ) (c : Core) → IsCoreKept c → IsCoreKept (disowned owner c) }
+    ensures path { (on : Bool) (c : Core) → IsCoreKept c → c.axis.active ≡ None → IsTrue on ⊎ (c.axis.previous ≡ c.axis.setpoint) →
+        IsCoreKept (record c { axis = on_path on c.axis }) }
+    ensures cycle { (look : AxisLook) (c : Core) → IsCoreKept c → IsLook c.axis look → IsCount look.input.actual →
+        IsCoreKept (cycled look c) }
+    ensures row { (look : AxisLook) (c : Core) → IsCoreKept c → IsLook c.axis look →
+        KeepsSpell c.axis (row_of look.input (cycled look c).axis) (cycled look c).axis }
+{
+    taken_steps_keep();
+    braking_steps_are_only_cut();
+    standing_is_kept();
+    setpoints_have_counts();
+    homing_keeps_counts();
+    counts_are_read_back();
+    offsets_are_small();
+}
 
 /// Calls between cycles move no axis: it stays where it is, within the same limits and in its driven spell.
 pub fn calls_move_no_axis()
@@ -30,3 +70,57 @@ pub fn errors_stand_in_error_stop()
     ensures path { (on : Bool) (a : Axis) → IsShown a → IsShown (on_path on a) }
     ensures cycle { (look : AxisLook) (c : Core) → IsShown c.axis → IsShown (cycled look c).axis }
 {}
+
+/// A fate is what becomes of the active command of an axis: by a command that is asked, a Power, an owner that is taken
+/// away, a group's path and a cycle.
+pub fn fates_are_told()
+    ensures command { (q : Asked) (c : Core) → IsFate (command_fate q c) c.axis.active (commanded q c).axis.active }
+    ensures power { (enable : Bool) (c : Core) → IsFate (power_fate enable c) c.axis.active (powered_by enable c).axis.active }
+    ensures detach { (owner : ℕ) (a : Axis) → IsSame a.active (detached owner a).active }
+    ensures path { (on : Bool) (a : Axis) → (on_path on a).active ≡ a.active }
+    ensures cycle { (look : AxisLook) (c : Core) → IsFate (cycle_fate look c) c.axis.active (cycled look c).axis.active }
+{}
+
+/// The owner of the active command is told how it ends; and each instance is told of each command that it has no longer,
+/// once, and of no other: what it has and what it was told stay the same together, but for the command that it brings.
+pub fn ends_are_told_once()
+    ensures told_command { (q : Asked) (c : Core) → TellsOwner (command_fate q c) c.axis.active (commanded q c).notes }
+    ensures told_power { (enable : Bool) (c : Core) → TellsOwner (power_fate enable c) c.axis.active (powered_by enable c).notes }
+    ensures told_cycle { (look : AxisLook) (c : Core) → TellsOwner (cycle_fate look c) c.axis.active (cycled look c).notes }
+    ensures once_command { (k : ℕ) (q : Asked) (c : Core) →
+        owns k (commanded q c) + told k (commanded q c).notes ≡ owns k c + told k c.notes + is_owner k (brought (refusal_of q) q.wanted) }
+    ensures once_power { (k : ℕ) (enable : Bool) (c : Core) →
+        owns k (powered_by enable c) + told k (powered_by enable c).notes ≡ owns k c + told k c.notes }
+    ensures once_cycle { (k : ℕ) (look : AxisLook) (c : Core) →
+        owns k (cycled look c) + told k (cycled look c).notes ≡ owns k c + told k c.notes }
+    ensures taken_away { (k : ℕ) (c : Core) → owns k (disowned k c) ≡ 0 }
+    ensures left { (j k : ℕ) (c : Core) → nat_eq k j ≡ false → owns j (disowned k c) ≡ owns j c }
+{}
+
+/// A move, a Halt and a Stop come to their end in time: an active one is under way for as many cycles as its bound, and
+/// every event carries it on, with fewer cycles to go, or turns it: it is Done at the end of its course, replaced, faulted
+/// or blended.
+pub fn courses_end_in_time()
+    ensures begins { (course : Course) (c : Core) (w : Wanted) → IsCoreKept c → c.axis.active ≡ Some w → course_of w ≡ Some course →
+        IsUnderWay (bound_of course c.axis) course c.axis }
+    ensures command { (n : ℕ) (course : Course) (q : Asked) (c : Core) → IsUnderWay n course c.axis →
+        Carried n 0 course (turn_of (command_fate q c)) (commanded q c).axis }
+    ensures power { (n : ℕ) (course : Course) (enable : Bool) (c : Core) → IsUnderWay n course c.axis →
+        Carried n 0 course (turn_of (power_fate enable c)) (powered_by enable c).axis }
+    ensures detach { (n : ℕ) (course : Course) (owner : ℕ) (a : Axis) → IsUnderWay n course a → IsUnderWay n course (detached owner a) }
+    ensures cycle { (n : ℕ) (course : Course) (look : AxisLook) (c : Core) → IsCoreKept c → IsUnderWay n course c.axis →
+        Carried n 1 course (turn_of (cycle_fate look c)) (cycled look c).axis }
+{
+    moves_arrive_in_time();
+    halts_come_to_rest_in_time();
+}
+
+/// A move is Done at its target with step 0, or, where it is blended, by a step of at most the blend velocity that
+/// crosses the target.
+pub fn moves_are_done_at_their_targets()
+    ensures { (look : AxisLook) (c : Core) (w : Wanted) → IsCoreKept c → c.axis.active ≡ Some w → is_move w.kind ≡ true →
+        (cycle_fate look c).ends ≡ Some finish.Done →
+        IsMoveDone (blended_with c.axis w (slice_get c.waiting 0)) (target_of w) c.axis.setpoint (cycled look c).axis }
+{
+    blends_apply_by_test();
+}

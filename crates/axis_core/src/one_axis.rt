@@ -4,19 +4,21 @@ ghost use Rattle.std.specs.Prelude.{◌≡◌, ◌<◌, ◌≤◌, ◌≤ℤ◌,
 ghost use Rattle.command_pool.specs.Waiting as waiting_lists;
 ghost use Rattle.command_pool.specs.Waiting.{queue_of};
 ghost use Rattle.command_pool.specs.declared.wanted.Wanted.{Wanted};
-ghost use Rattle.axis_core.specs.AxisKept.{IsAxisDef, IsLook, IsQueueKept};
-ghost use Rattle.axis_core.specs.Commands as commands;
+ghost use Rattle.axis_core.specs.AxisKept.{IsAxisDef, IsAxisKept, IsLook, IsQueueKept};
+ghost use Rattle.axis_core.specs.Calls as commands;
 ghost use Rattle.axis_core.specs.Cores.{core_at};
 ghost use Rattle.axis_core.specs.Cycles as cycles;
 ghost use Rattle.axis_core.specs.Demands.{IsMade, asked_by};
+ghost use Rattle.axis_core.specs.Drives as drives;
 ghost use Rattle.axis_core.specs.Looks as looks;
+ghost use Rattle.axis_core.specs.blocks.Path as path;
 ghost use Rattle.axis_core.specs.Rows.{KeepsSpell};
 
 use crate::axis::Axis;
 use crate::look::{ActiveLook, AxisLook};
 use axis_state::{AxisDef, AxisRow, AxisState, DriveIn, offsets_are_small, setpoints_have_counts};
 use command_pool::{CommandPool, Notes, Refusal, Wanted};
-use kin_core::standing_is_kept;
+use kin_core::{Limits, standing_is_kept};
 use std::marker::Model;
 
 /// One axis: its PLCopen state, its setpoints and its active command; those that wait behind it are in a list of the
@@ -74,7 +76,7 @@ impl AxisCore {
         ensures others { pool.new ≡ slice_set pool.old list (queue_of pool.new list) }
         ensures queue { IsQueueKept self.new (queue_of pool.new list) }
     {
-        crate::commands::command(
+        crate::calls::command(
             &mut self.axis,
             pool,
             list,
@@ -96,12 +98,12 @@ impl AxisCore {
         ensures others { pool.new ≡ slice_set pool.old list (queue_of pool.new list) }
         ensures queue { IsQueueKept self.new (queue_of pool.new list) }
     {
-        crate::powering::power(enable, &mut self.axis, pool, list, notes);
+        crate::calls::power(enable, &mut self.axis, pool, list, notes);
     }
 
     /// The error, 101, 102 or 105, that a drive's answer brings in a cycle, else 0.
     pub fn answer_error(&self, input: &DriveIn) -> u16
-        ensures { result ≡ cycles.answer_error_of self.now input.now }
+        ensures { result ≡ drives.answer_error_of self.now input.now }
     {
         offsets_are_small();
         crate::driving::answer_error(&self.axis, input)
@@ -109,7 +111,8 @@ impl AxisCore {
 
     /// Its state.
     pub fn state(&self) -> AxisState
-        ensures { result ≡ self.now.state }
+        ensures value { result ≡ self.now.state }
+        ensures kept { IsAxisKept self.now }
     {
         self.axis.state
     }
@@ -118,18 +121,26 @@ impl AxisCore {
     pub fn pair(&self) -> (i64, i64)
         ensures previous { result.0 ≡ self.now.previous }
         ensures setpoint { result.1 ≡ self.now.setpoint }
+        ensures kept { IsAxisKept self.now }
     {
         (self.axis.previous, self.axis.setpoint)
+    }
+
+    /// Its limits.
+    pub fn limits(&self) -> &Limits
+        ensures { result.now ≡ self.now.limits }
+    {
+        &self.axis.limits
     }
 
     /// The axis goes on its group's path, from Standstill to SynchronizedMotion, or leaves it.
     pub fn on_path(&mut self, on: bool)
         requires idle { self.old.active ≡ None }
         requires rest { IsTrue on ⊎ (self.old.previous ≡ self.old.setpoint) }
-        ensures after { self.new ≡ commands.on_path on self.old }
+        ensures after { self.new ≡ path.on_path on self.old }
         ensures queue { (waiting : List Wanted) → IsQueueKept self.old waiting → IsQueueKept self.new waiting }
     {
-        crate::powering::on_path(on, &mut self.axis);
+        crate::blocks::path::on_path(on, &mut self.axis);
     }
 
     /// Takes an owner away from the active command, the pending Reset and the hold on Stopping.
@@ -138,7 +149,7 @@ impl AxisCore {
         ensures queue { (waiting : List Wanted) → IsQueueKept self.old waiting
             → IsQueueKept self.new (map (waiting_lists.detached owner) waiting) }
     {
-        crate::powering::detach(owner, &mut self.axis);
+        crate::calls::detach(owner, &mut self.axis);
     }
 
     /// The owner of the active command, what it follows, and whether it is at its velocity, in gear or in sync as of

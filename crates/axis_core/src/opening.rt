@@ -5,7 +5,7 @@ ghost use Rattle.axis_core.specs.Cycles as spec;
 
 use crate::axis::Axis;
 use axis_state::{AxisDef, AxisState};
-use cia402_machine::ENABLE_OPERATION;
+use cia402_machine::{DISABLE_VOLTAGE, ENABLE_OPERATION};
 
 /// An axis at opening: a ready one is driven, in Standstill, with power on; another is Disabled.
 #[tactic(auto, unfolding(crate::specs::Cycles::opened))]
@@ -31,6 +31,10 @@ pub fn opened(def: &AxisDef) -> Axis
         reached: false,
         reset: None,
         hold: None,
-        controlword: if def.ready { ENABLE_OPERATION } else { 0 },
+        controlword: if def.ready {
+            ENABLE_OPERATION
+        } else {
+            DISABLE_VOLTAGE
+        },
     }
 }

@@ -1,7 +1,7 @@
 // In which state an axis is.
 
 ghost use Rattle.std.specs.Prelude.{◌≡◌};
-ghost use Rattle.axis_core.specs.Refusals as spec;
+ghost use Rattle.axis_core.specs.States as spec;
 
 use axis_state::AxisState;
 

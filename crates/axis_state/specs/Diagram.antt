@@ -28,6 +28,25 @@ AxisTransition state LastDone next = (state ≡ DiscreteMotion) × (next ≡ Sta
 AxisTransition state GroupActive next = ((state ≡ Standstill) ⊎ (state ≡ SynchronizedMotion)) × (next ≡ SynchronizedMotion)
 AxisTransition state PathRest next = (state ≡ SynchronizedMotion) × (next ≡ Standstill)
 
+-- the state to which an event leads, from each state in which it may come. PLCopen Motion Control Part 1, the state diagram, and Part 4 for the last two
+abbrev pub next_of : AxisEvent → AxisState
+next_of Error = ErrorStop
+next_of PowerOff = Disabled
+next_of DrivenFirst = Standstill
+next_of ResetDriven = Standstill
+next_of ResetNotDriven = Disabled
+next_of HomeAdmitted = Homing
+next_of HomeDone = Standstill
+next_of DiscreteActive = DiscreteMotion
+next_of VelocityActive = ContinuousMotion
+next_of FollowOut = ContinuousMotion
+next_of FollowActive = SynchronizedMotion
+next_of StopAdmitted = Stopping
+next_of StopReleased = Standstill
+next_of LastDone = Standstill
+next_of GroupActive = SynchronizedMotion
+next_of PathRest = Standstill
+
 -- an event may come in a state: it leads somewhere. PLCopen Motion Control Part 1, the state diagram
 abbrev pub IsFrom : AxisState → AxisEvent → Type 0
 IsFrom state event = (next : AxisState) × AxisTransition state event next

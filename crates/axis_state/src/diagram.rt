@@ -1,7 +1,7 @@
 // The axis state diagram: what changes the state of an axis, and to which state.
 
 ghost use Rattle.std.specs.Prelude.{◌≡◌};
-ghost use Rattle.axis_state.specs.Diagram.{AxisTransition, IsFrom};
+ghost use Rattle.axis_state.specs.Diagram.{AxisTransition, IsFrom, next_of};
 ghost use Rattle.axis_state.specs.declared.state.AxisState.{AxisState};
 
 use crate::state::AxisState;
@@ -46,6 +46,7 @@ pub enum AxisEvent {
 /// The state of an axis after an event that may come in its state.
 pub fn axis_next(state: AxisState, event: AxisEvent) -> AxisState
     requires { IsFrom state event }
+    ensures value { result ≡ next_of event }
     ensures transition { AxisTransition state event result }
     ensures only { (next : AxisState) → AxisTransition state event next → next ≡ result }
 {

@@ -4,7 +4,8 @@ use Rattle.std.proofs.Common.{◌∙◌, sym, ap, subst, arith}
 use Rattle.command_pool.specs.Waiting.{queue_of}
 use Rattle.axis_core.specs.AxisKept.{IsCoreKept}
 use Rattle.axis_core.specs.Cores.{Core, core_at}
-use Rattle.axis_core.specs.Cycles.{answered, cycled, is_driven, row_of, run}
+use Rattle.axis_core.specs.Cycles.{answered, cycled, row_of, run}
+use Rattle.axis_core.specs.Drives.{is_driven}
 use Rattle.axis_core.specs.Kept.{HasDrive, MayGoOn}
 use Rattle.axis_core.specs.Rows.{KeepsSpell}
 use Rattle.axis_core.specs.declared.axis.Axis.{Axis}
@@ -53,8 +54,8 @@ run-requires-clause-room c = λ h.
 
 pub run-requires-clause-may : goal.run-requires-clause-may
 run-requires-clause-may c = λ h.
-    let P : Core → Type 0 = λ x. (is_driven c.args.axis.now c.args.look.now.input && x.axis.driven) ≡ true → MayGoOn x.axis x.waiting in
-    let q = subst P (sym c.read_answer.ensures.after) (may-go-on (laws c) c.args.look.now.input (before c) c.requires.kept) in
+    let P : Core → Type 0 = λ x. (is_driven c.args.axis.now c.args.look.now.input && x.axis.driven) ≡ true → MayGoOn x.axis x.waiting c.args.look.now in
+    let q = subst P (sym c.read_answer.ensures.after) (may-go-on (laws c) c.args.look.now (before c) c.requires.look c.requires.kept) in
     q (ap (λ d. d && c.read_answer.new.axis.driven) (sym c.is_driven-driven.ensures) ∙ h)
 
 pub reset-requires : goal.reset-requires

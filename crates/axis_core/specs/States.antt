@@ -1,0 +1,29 @@
+-- In which state an axis is (PLCopen Motion Control Part 1, the state diagram).
+use Rattle.std.specs.Prelude.{Bool, true, false}
+use Rattle.axis_state.specs.declared.state.AxisState.{AxisState}
+use Rattle.axis_state.specs.declared.state.AxisState.TheVariants as state
+
+-- whether the state is the one named
+abbrev pub is_disabled : AxisState → Bool
+is_disabled state.Disabled = true
+is_disabled s = false
+
+abbrev pub is_error_stop : AxisState → Bool
+is_error_stop state.ErrorStop = true
+is_error_stop s = false
+
+abbrev pub is_stopping : AxisState → Bool
+is_stopping state.Stopping = true
+is_stopping s = false
+
+abbrev pub is_homing : AxisState → Bool
+is_homing state.Homing = true
+is_homing s = false
+
+abbrev pub is_synchronized : AxisState → Bool
+is_synchronized state.SynchronizedMotion = true
+is_synchronized s = false
+
+abbrev pub is_standstill : AxisState → Bool
+is_standstill state.Standstill = true
+is_standstill s = false

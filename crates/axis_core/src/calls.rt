@@ -1,0 +1,208 @@
+// What a command on an axis, a Power and a detachment make of the axis.
+
+ghost use Rattle.std.specs.Prelude.{◌≡◌, ◌<◌, ◌≤◌, ◌++◌, false, [], length, slice_set, unsigned_abs, Some};
+ghost use Rattle.buffer_modes.specs.Queue.{is_active_at_once, is_full, commands};
+ghost use Rattle.command_pool.specs.Waiting as waiting;
+ghost use Rattle.command_pool.specs.Waiting.{queue_of};
+ghost use Rattle.axis_core.specs.AxisKept.{IsCoreKept};
+ghost use Rattle.axis_core.specs.Calls as spec;
+ghost use Rattle.axis_core.specs.Cores.{core_at, MayBegin};
+ghost use Rattle.axis_core.specs.Demands.{IsMade, asked_by};
+ghost use Rattle.axis_core.specs.Kept.{MayAdmit, MayLeave};
+ghost use Rattle.axis_core.specs.States.{is_error_stop};
+ghost use Rattle.axis_core.specs.blocks.Moves.{with_target};
+
+use crate::axis::{Axis, PendingReset};
+use crate::blocks::gear::velocity_command;
+use crate::blocks::moves::known_target;
+use crate::blocks::power::{switch_off, wish};
+use crate::blocks::reset::await_reset;
+use crate::refusing::{Asking, refusal_of};
+use crate::states::is_error_stop;
+use crate::taking_over::{end_all, enter};
+use axis_state::{AxisEvent, axis_next, offsets_are_small};
+use buffer_modes::admit;
+use command_pool::{BlockKind, CommandPool, Finish, Notes, Refusal, Wanted};
+
+// The velocity command goes on where a gear or a cam is left.
+#[tactic(auto, unfolding(crate::specs::Cores::begun_by))]
+fn leave(wanted: &Wanted, axis: &mut Axis, pool: &mut CommandPool, list: u8, notes: &mut Notes)
+    requires list { list < length pool.old }
+    requires room { length notes.old ≤ 3 }
+    requires may { MayLeave axis.old }
+    ensures after { core_at axis.new pool.new list notes.new ≡ spec.left wanted.now (core_at axis.old pool.old list notes.old) }
+    ensures others { pool.new ≡ slice_set pool.old list (queue_of pool.new list) }
+{
+    let velocity = velocity_command(wanted, axis);
+    end_all(axis, pool, list, Finish::Aborted, notes);
+    axis.state = axis_next(axis.state, AxisEvent::FollowOut);
+    axis.active = Some(velocity);
+    axis.reached = false;
+    axis.hold = None;
+}
+
+// A command joins the others, and it is answered whether it is active.
+#[tactic(auto, unfolding(crate::specs::Cores::begun_by))]
+fn join(
+    wanted: Wanted,
+    axis: &mut Axis,
+    pool: &mut CommandPool,
+    list: u8,
+    notes: &mut Notes,
+) -> bool
+    requires list { list < length pool.old }
+    requires room { length notes.old ≤ 3 }
+    requires begin { MayBegin wanted.kind axis.old.state }
+    requires place { is_full (commands axis.old.active pool.old list) wanted ≡ false }
+    ensures active { result ≡ is_active_at_once (commands axis.old.active pool.old list) wanted }
+    ensures after { core_at axis.new pool.new list notes.new ≡ spec.joined wanted (core_at axis.old pool.old list notes.old) }
+    ensures others { pool.new ≡ slice_set pool.old list (queue_of pool.new list) }
+{
+    let (kind, owner) = (wanted.kind, wanted.owner);
+    let Ok(active) = admit(pool, list, &mut axis.active, wanted, notes) else {
+        return false;
+    };
+    if active {
+        enter(kind, owner, axis);
+    }
+    active
+}
+
+// A command that is not refused, with its target as far as it is known, and whether it is active.
+fn admit_command(
+    wanted: Wanted,
+    axis: &mut Axis,
+    pool: &mut CommandPool,
+    list: u8,
+    notes: &mut Notes,
+) -> bool
+    requires list { list < length pool.old }
+    requires room { length notes.old ≤ 3 }
+    requires may { MayAdmit wanted.kind wanted (core_at axis.old pool.old list notes.old) }
+    ensures active { result ≡ spec.is_active_by wanted.kind wanted (core_at axis.old pool.old list notes.old) }
+    ensures after { core_at axis.new pool.new list notes.new
+        ≡ spec.admitted_by wanted.kind wanted (core_at axis.old pool.old list notes.old) }
+    ensures others { pool.new ≡ slice_set pool.old list (queue_of pool.new list) }
+{
+    match wanted.kind {
+        BlockKind::Reset => {
+            await_reset(&wanted, axis, notes);
+            false
+        }
+        BlockKind::GearOut | BlockKind::CamOut => {
+            leave(&wanted, axis, pool, list, notes);
+            false
+        }
+        _ => join(wanted, axis, pool, list, notes),
+    }
+}
+
+/// Asks a command of the axis: it is refused by the first reason of its kind that holds, else it is
+/// admitted, and answered whether it is active.
+#[tactic(auto, unfolding(crate::specs::Calls::commanded, crate::specs::Calls::answer_of))]
+pub fn command(
+    axis: &mut Axis,
+    pool: &mut CommandPool,
+    list: u8,
+    wanted: &Wanted,
+    jerk: i64,
+    held: bool,
+    tables: u16,
+    notes: &mut Notes,
+) -> Result<bool, Refusal>
+    requires list { list < length pool.old }
+    requires room { notes.old ≡ [] }
+    requires kept { IsCoreKept (core_at axis.old pool.old list notes.old) }
+    requires made { IsMade wanted.now }
+    ensures answer { result ≡ spec.answer_of (asked_by axis.old pool.old list wanted.now jerk held tables)
+        (core_at axis.old pool.old list notes.old) }
+    ensures after { core_at axis.new pool.new list notes.new
+        ≡ spec.commanded (asked_by axis.old pool.old list wanted.now jerk held tables) (core_at axis.old pool.old list notes.old) }
+    ensures others { pool.new ≡ slice_set pool.old list (queue_of pool.new list) }
+    ensures kept { IsCoreKept (core_at axis.new pool.new list notes.new) }
+{
+    offsets_are_small();
+    let last = pool.last(list);
+    let asking = Asking {
+        axis,
+        number: list,
+        waiting: pool.waiting(list),
+        last,
+        wanted,
+        jerk,
+        held,
+        tables,
+    };
+    if let Some(reason) = refusal_of(&asking) {
+        return Err(Refusal {
+            number: reason.number(),
+        });
+    }
+    let target = known_target(axis, last, wanted);
+    let wanted = Wanted { target, ..*wanted };
+    Ok(admit_command(wanted, axis, pool, list, notes))
+}
+
+// The axis is Disabled, and its commands are aborted.
+fn disable(axis: &mut Axis, pool: &mut CommandPool, list: u8, notes: &mut Notes)
+    requires list { list < length pool.old }
+    requires room { length notes.old ≤ 3 }
+    requires state { is_error_stop axis.old.state ≡ false }
+    ensures after { core_at axis.new pool.new list notes.new ≡ spec.disabled (core_at axis.old pool.old list notes.old) }
+    ensures others { pool.new ≡ slice_set pool.old list (queue_of pool.new list) }
+{
+    end_all(axis, pool, list, Finish::Aborted, notes);
+    switch_off(axis);
+}
+
+/// Takes the Enable of a Power.
+#[tactic(auto, unfolding(crate::specs::Calls::powered_by))]
+pub fn power(enable: bool, axis: &mut Axis, pool: &mut CommandPool, list: u8, notes: &mut Notes)
+    requires list { list < length pool.old }
+    requires room { length notes.old ≤ 3 }
+    ensures after { core_at axis.new pool.new list notes.new ≡ spec.powered_by enable (core_at axis.old pool.old list notes.old) }
+    ensures others { pool.new ≡ slice_set pool.old list (queue_of pool.new list) }
+{
+    wish(enable, axis);
+    if !enable && !is_error_stop(axis.state) {
+        disable(axis, pool, list, notes);
+    }
+}
+
+// An owner, and None where it is the one that is gone.
+fn without(owner: Option<u16>, gone: u16) -> Option<u16>
+    ensures { result ≡ waiting.without gone owner }
+{
+    match owner {
+        Some(owner) if owner == gone => None,
+        _ => owner,
+    }
+}
+
+// An active command without this owner.
+fn disown(owner: u16, active: &mut Option<Wanted>)
+    ensures { active.new ≡ spec.active_without owner active.old }
+{
+    if let Some(wanted) = active {
+        wanted.owner = without(wanted.owner, owner);
+    }
+}
+
+// A pending Reset without this owner.
+fn disown_reset(owner: u16, reset: &mut Option<PendingReset>)
+    ensures { reset.new ≡ spec.reset_without owner reset.old }
+{
+    if let Some(pending) = reset {
+        pending.owner = without(pending.owner, owner);
+    }
+}
+
+/// Takes an owner away from the active command, the pending Reset and the hold.
+#[tactic(auto, unfolding(crate::specs::Calls::detached))]
+pub fn detach(owner: u16, axis: &mut Axis)
+    ensures { axis.new ≡ spec.detached owner axis.old }
+{
+    disown(owner, &mut axis.active);
+    disown_reset(owner, &mut axis.reset);
+    axis.hold = without(axis.hold, owner);
+}

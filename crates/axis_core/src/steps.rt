@@ -1,0 +1,117 @@
+// The steps of an axis, and which of them its commands may want.
+
+ghost use Rattle.std.specs.Prelude.{◌≡◌, ◌≤◌, ◌*◌, ◌+ℤ◌, ◌-ℤ◌, unsigned_abs, IfOk};
+ghost use Rattle.std.specs.Option.{option_copied};
+ghost use Rattle.command_pool.specs.Rates.{AreRates};
+ghost use Rattle.axis_core.specs.Kept.{IsMoving, IsNear};
+ghost use Rattle.axis_core.specs.Steps as spec;
+ghost use Rattle.axis_core.specs.Steps.{guarded, old_step_of, taken_by, taken_of};
+ghost use Rattle.motion_numbers.specs.Ranges.{IsPlace, IsStep, IsWay};
+
+use crate::axis::Axis;
+use command_pool::{Finish, Wanted};
+use kin_core::nearest_safe;
+use motion_numbers::MOST_WAY;
+use trapezoid_plan::move_step;
+
+/// SoftLimit: a step is not safe and brakes not.
+const SOFT_LIMIT: u16 = 103;
+
+/// The step of the last cycle.
+pub fn old_step(axis: &Axis) -> i64
+    requires { IsStep (old_step_of axis.now) }
+    ensures value { result ≡ old_step_of axis.now }
+    ensures small { IsStep result }
+{
+    axis.setpoint - axis.previous
+}
+
+/// The step that is taken where this one is wanted.
+pub fn taken(axis: &Axis, step: i64) -> i64
+    requires moving { IsMoving axis.now }
+    requires step { unsigned_abs step ≤ 2 * MOST_WAY }
+    ensures value { result ≡ taken_of axis.now step }
+    ensures small { IsStep result }
+{
+    nearest_safe(&axis.limits, axis.previous, axis.setpoint, step)
+}
+
+// Whether a wanted step brakes.
+fn is_braking(old: i64, step: i64) -> bool
+    requires old { unsigned_abs old ≤ 2 * MOST_WAY }
+    requires step { unsigned_abs step ≤ 2 * MOST_WAY }
+    ensures { result ≡ spec.is_braking old step }
+{
+    step.unsigned_abs() < old.unsigned_abs()
+        && (step == 0 || (0 < step && 0 < old) || (step < 0 && old < 0))
+}
+
+/// The step that is taken where a command without a target wants this one, or its error.
+#[tactic(auto, using(crate::proofs::Moving::small_of))]
+pub fn take_guarded(axis: &Axis, step: i64) -> Result<i64, u16>
+    requires moving { IsMoving axis.now }
+    requires step { unsigned_abs step ≤ 2 * MOST_WAY }
+    ensures value { result ≡ taken_by axis.now (guarded axis.now step) }
+    ensures small { IfOk result IsStep }
+{
+    let safe = taken(axis, step);
+    if is_braking(old_step(axis), step) || safe == step {
+        Ok(safe)
+    } else {
+        Err(SOFT_LIMIT)
+    }
+}
+
+/// The way from one place to another.
+pub fn way(from: i64, to: i64) -> i64
+    requires from { IsPlace from }
+    requires to { IsPlace to }
+    ensures value { result ≡ to -ℤ from }
+    ensures small { IsWay result }
+{
+    to - from
+}
+
+/// The move step toward a place.
+#[tactic(auto, using(crate::proofs::Moving::small_of))]
+pub fn step_toward(axis: &Axis, place: i64, wanted: &Wanted) -> i64
+    requires moving { IsMoving axis.now }
+    requires place { IsNear place }
+    requires rates { AreRates wanted.now.rates }
+    ensures value { result ≡ spec.step_toward axis.now place wanted.now }
+    ensures small { IsStep result }
+{
+    move_step(way(axis.setpoint, place), old_step(axis), &wanted.rates)
+}
+
+/// Where a step leads.
+pub fn place_after(axis: &Axis, step: i64) -> i64
+    requires setpoint { IsNear axis.now.setpoint }
+    requires step { IsStep step }
+    ensures value { result ≡ axis.now.setpoint +ℤ step }
+    ensures small { IsWay result }
+{
+    axis.setpoint + step
+}
+
+/// The axis at its next setpoint.
+pub fn move_to(next: i64, axis: &mut Axis)
+    ensures { axis.new ≡ spec.moved_to next axis.old }
+{
+    axis.previous = axis.setpoint;
+    axis.setpoint = next;
+}
+
+/// How a command ends where this holds.
+pub fn ends_where(holds: bool, finish: Finish) -> Option<Finish>
+    ensures { result ≡ spec.ends_where holds finish }
+{
+    if holds { Some(finish) } else { None }
+}
+
+/// The first command that waits takes over where the active one has reached what it goes for.
+pub fn gives_way(next: Option<&Wanted>, reached: bool) -> Option<Finish>
+    ensures { result ≡ spec.gives_way (option_copied next.entry) reached }
+{
+    ends_where(next.is_some() && reached, Finish::Aborted)
+}

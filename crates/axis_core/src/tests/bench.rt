@@ -1,0 +1,427 @@
+// An axis for the tests, with a drive that follows in step or answers by hand.
+
+ghost use Rattle.std.specs.Prelude.{◌≡◌, true, length};
+ghost use Rattle.axis_core.specs.AxisKept as kept;
+ghost use Rattle.axis_core.specs.AxisKept.{IsAxisDef, IsLook};
+ghost use Rattle.axis_core.specs.Demands as demands;
+ghost use Rattle.axis_core.specs.Demands.{IsMade};
+ghost use Rattle.axis_core.specs.blocks.Path as path;
+ghost use Rattle.kin_core.specs.Admissible.{IsSafe};
+
+use crate::{
+    AxisCore, AxisDef, AxisLook, AxisRow, AxisState, BlockKind, BufferMode, CommandPool, DriveIn,
+    DriveOut, Finish, Follow, Limits, Note, Notes, OutOfMemory, Rates, Refusal, Wanted,
+};
+use axis_state::Name;
+use kin_core::nearest_safe;
+use std::alloc::Global;
+use std::marker::Model;
+use std::process::Abort;
+
+// The axis of the worked rows, with this highest place and braking limit, ready or not.
+#[tactic(auto, unfolding(axis_state::specs::Counts::count_of))]
+pub(crate) fn axis(rt: &impl Abort, hi: i64, dmax: i64, ready: bool) -> AxisDef
+    ensures { IsAxisDef result }
+{
+    assert!(rt; 0 <= hi);
+    assert!(rt; hi <= 1000);
+    assert!(rt; 4 <= dmax);
+    assert!(rt; dmax <= 1000);
+    assert!(rt; -2_147_483_648 <= 0i64.wrapping_sub(0).div_euclid(1));
+    assert!(rt; hi.wrapping_sub(0).div_euclid(1) <= 2_147_483_647);
+    AxisDef {
+        name: Name::new(b"A"),
+        limits: Limits {
+            lo: 0,
+            hi,
+            vmax: 10,
+            amax: 4,
+            dmax,
+        },
+        inc: 1,
+        start: 0,
+        ready,
+    }
+}
+
+pub(crate) fn rates(v: i64, a: i64, d: i64) -> Rates {
+    Rates { v, a, d }
+}
+
+// A command of an instance at a position, with its target where its kind has one.
+pub(crate) fn at(
+    owner: u16,
+    kind: BlockKind,
+    position: i64,
+    rates: Rates,
+    mode: BufferMode,
+) -> Wanted {
+    let target = match kind {
+        BlockKind::MoveAbsolute | BlockKind::Home => Some(position),
+        _ => None,
+    };
+    Wanted {
+        kind,
+        owner: Some(owner),
+        target,
+        targets: [position, 0, 0, 0, 0, 0],
+        rates,
+        mode,
+        follow: Follow::None,
+    }
+}
+
+// An aborting MoveAbsolute.
+pub(crate) fn move_to(owner: u16, position: i64, rates: Rates) -> Wanted {
+    at(
+        owner,
+        BlockKind::MoveAbsolute,
+        position,
+        rates,
+        BufferMode::Aborting,
+    )
+}
+
+// A MoveAbsolute that waits or blends.
+pub(crate) fn move_then(owner: u16, position: i64, rates: Rates, mode: BufferMode) -> Wanted {
+    at(owner, BlockKind::MoveAbsolute, position, rates, mode)
+}
+
+// An aborting MoveVelocity.
+pub(crate) fn go_at(owner: u16, rates: Rates) -> Wanted {
+    at(
+        owner,
+        BlockKind::MoveVelocity,
+        0,
+        rates,
+        BufferMode::Aborting,
+    )
+}
+
+// A command of a kind that takes at most a deceleration.
+pub(crate) fn plain(owner: u16, kind: BlockKind, d: i64) -> Wanted {
+    at(owner, kind, 0, rates(0, 0, d), BufferMode::Aborting)
+}
+
+// A GearIn or a CamIn behind the axis 1.
+pub(crate) fn follow(owner: u16, kind: BlockKind, rates: Rates, follow: Follow) -> Wanted {
+    Wanted {
+        follow,
+        ..at(owner, kind, 0, rates, BufferMode::Aborting)
+    }
+}
+
+pub(crate) fn ended(owner: u16, finish: Finish) -> Note {
+    Note { owner, finish }
+}
+
+// What a cycle is to show of a driven axis.
+#[derive(Clone, Copy, Debug)]
+pub(crate) struct Seen {
+    pub(crate) setpoint: i64,
+    pub(crate) state: AxisState,
+    pub(crate) error: u16,
+}
+
+pub(crate) fn at_place(setpoint: i64, state: AxisState) -> Seen {
+    Seen {
+        setpoint,
+        state,
+        error: 0,
+    }
+}
+
+pub(crate) fn stopped(setpoint: i64, error: u16) -> Seen {
+    Seen {
+        setpoint,
+        state: AxisState::ErrorStop,
+        error,
+    }
+}
+
+// A cycle's look with nothing but the drive's answer.
+pub(crate) fn look(statusword: u16, mode_display: i8, actual: i32) -> AxisLook {
+    AxisLook {
+        input: DriveIn {
+            statusword,
+            mode_display,
+            actual,
+        },
+        master: (0, 0),
+        cam: 0,
+        cam_ended: false,
+        path: None,
+        path_ends: false,
+        stop_held: false,
+    }
+}
+
+// Whether a kind is a command of an axis.
+fn is_command(kind: BlockKind) -> bool
+    ensures { result ≡ demands.is_axis_command kind }
+{
+    matches!(
+        kind,
+        BlockKind::Reset
+            | BlockKind::Home
+            | BlockKind::Stop
+            | BlockKind::Halt
+            | BlockKind::MoveAbsolute
+            | BlockKind::MoveRelative
+            | BlockKind::MoveVelocity
+            | BlockKind::GearIn
+            | BlockKind::GearOut
+            | BlockKind::CamIn
+            | BlockKind::CamOut
+    )
+}
+
+// Whether a kind takes a mode.
+fn may_wait(kind: BlockKind) -> bool
+    ensures { result ≡ kept.may_wait kind }
+{
+    matches!(
+        kind,
+        BlockKind::MoveAbsolute
+            | BlockKind::MoveRelative
+            | BlockKind::MoveVelocity
+            | BlockKind::GearIn
+            | BlockKind::CamIn
+    )
+}
+
+// The target that a call gives a command.
+fn asked_target(wanted: &Wanted) -> Option<i64>
+    ensures { result ≡ demands.asked_target wanted.now.kind wanted.now }
+{
+    if matches!(wanted.kind, BlockKind::MoveAbsolute | BlockKind::Home) {
+        Some(wanted.targets[0])
+    } else {
+        None
+    }
+}
+
+// Stops the test where a command is not made of a call's inputs.
+fn expect_made(rt: &impl Abort, wanted: &Wanted)
+    ensures { IsMade wanted.now }
+{
+    assert!(rt; is_command(wanted.kind));
+    assert!(rt; wanted.targets[0].unsigned_abs() <= 1_000_000_000_000_000_000);
+    assert!(rt; wanted.target == asked_target(wanted));
+    assert!(rt; may_wait(wanted.kind) || wanted.mode == BufferMode::Aborting);
+}
+
+// Whether an axis is on its group's path.
+fn is_on_path(core: &AxisCore) -> bool
+    ensures value { result ≡ path.is_on_path core.now }
+{
+    core.state() == AxisState::SynchronizedMotion && core.active().is_none()
+}
+
+// Stops the test where a place is not safe after the setpoints of an axis that is on its group's path.
+fn expect_place(rt: &impl Abort, core: &AxisCore, place: i64)
+    requires { path.is_on_path core.now ≡ true }
+    ensures { IsSafe core.now.limits core.now.previous core.now.setpoint place }
+{
+    let (before, now) = core.pair();
+    assert!(rt; place.unsigned_abs() <= 1000);
+    let step = place - now;
+    assert!(rt; nearest_safe(core.limits(), before, now, step) == step);
+}
+
+// Stops the test where a cycle brings what is out of range.
+fn expect_look(rt: &impl Abort, core: &AxisCore, look: &AxisLook)
+    ensures { IsLook core.now look.now }
+{
+    assert!(rt; look.cam.unsigned_abs() <= 1_000_000_000_000_000);
+    if is_on_path(core) {
+        assert!(rt; look.path.is_some());
+        if let Some(place) = look.path {
+            expect_place(rt, core, place);
+            assert!(rt; !look.path_ends || place == core.pair().1);
+        }
+    }
+}
+
+// An axis with its list of two, and the count at which its drive stands.
+#[derive(Drop)]
+pub(crate) struct Bench {
+    pub(crate) core: AxisCore,
+    pub(crate) pool: CommandPool,
+    pub(crate) actual: i32,
+}
+
+impl Model for Bench {
+    ghost use Rattle.axis_core.specs.declared.axis.Axis.{Axis};
+
+    ghost Value = { Axis };
+
+    ghost use Rattle.std.specs.Prelude.{◌≡◌, length};
+    ghost use Rattle.command_pool.specs.Waiting.{queue_of};
+    ghost use Rattle.axis_core.specs.AxisKept.{IsQueueKept};
+
+    ghost view = { λ b. b.core };
+
+    ghost invariant = { λ b. (length b.pool ≡ 2) × IsQueueKept b.core (queue_of b.pool 0) };
+}
+
+impl Bench {
+    pub(crate) fn open(alloc: Global, def: &AxisDef) -> Result<Bench, OutOfMemory>
+        requires { IsAxisDef def.now }
+    {
+        Ok(Bench {
+            core: AxisCore::open(def),
+            pool: CommandPool::open(alloc, 2)?,
+            actual: 0,
+        })
+    }
+
+    // Asks a command with a Jerk and one cam table, and compares the answer and what is told of others.
+    pub(crate) fn ask_with(
+        &mut self,
+        rt: &impl Abort,
+        wanted: &Wanted,
+        jerk: i64,
+        answer: Result<bool, u16>,
+        told: &[Note],
+    ) {
+        expect_made(rt, wanted);
+        let mut notes = Notes::new();
+        let given = self
+            .core
+            .command(&mut self.pool, 0, wanted, jerk, false, 1, &mut notes);
+        let answer = match answer {
+            Ok(active) => Ok(active),
+            Err(number) => Err(Refusal { number }),
+        };
+        assert_eq!(rt; given, answer, "{wanted:?}");
+        assert_eq!(rt; notes.as_slice(), told, "{wanted:?}");
+    }
+
+    pub(crate) fn ask(
+        &mut self,
+        rt: &impl Abort,
+        wanted: &Wanted,
+        answer: Result<bool, u16>,
+        told: &[Note],
+    ) {
+        self.ask_with(rt, wanted, 0, answer, told);
+    }
+
+    // Takes the Enable of a Power, and compares what is told.
+    pub(crate) fn power(&mut self, rt: &impl Abort, enable: bool, told: &[Note]) {
+        let mut notes = Notes::new();
+        self.core.power(&mut self.pool, 0, enable, &mut notes);
+        assert_eq!(rt; notes.as_slice(), told);
+    }
+
+    // Takes an instance away from its command.
+    pub(crate) fn detach(&mut self, owner: u16) {
+        self.core.detach(owner);
+    }
+
+    // The axis goes on its group's path, or leaves it at rest.
+    pub(crate) fn on_path(&mut self, rt: &impl Abort, on: bool) {
+        let (before, now) = self.core.pair();
+        assert!(rt; self.core.active().is_none());
+        assert!(rt; on || before == now);
+        self.core.on_path(on);
+    }
+
+    // A cycle; compares the row and what is told.
+    pub(crate) fn cycle(&mut self, rt: &impl Abort, look: &AxisLook, row: &AxisRow, told: &[Note]) {
+        expect_look(rt, &self.core, look);
+        let mut notes = Notes::new();
+        let given = self.core.cycle(&mut self.pool, 0, look, &mut notes);
+        assert_eq!(rt; given, *row);
+        assert_eq!(rt; notes.as_slice(), told, "at {row:?}");
+        self.actual = given.output.target;
+    }
+
+    // A cycle with the drive in step at the last target.
+    pub(crate) fn follow(&mut self, rt: &impl Abort, look: &AxisLook, seen: Seen, told: &[Note]) {
+        assert!(rt; 0 <= seen.setpoint);
+        assert!(rt; seen.setpoint <= 1000);
+        let look = AxisLook {
+            input: DriveIn {
+                statusword: 0x0037,
+                mode_display: 8,
+                actual: self.actual,
+            },
+            ..*look
+        };
+        let row = AxisRow {
+            input: look.input,
+            state: seen.state,
+            error: seen.error,
+            driven: true,
+            setpoint: seen.setpoint,
+            offset: 0,
+            output: DriveOut {
+                controlword: 0x000f,
+                mode: 8,
+                target: seen.setpoint as i32,
+            },
+        };
+        self.cycle(rt, &look, &row, told);
+    }
+
+    // Cycles in step that tell nothing.
+    pub(crate) fn run(&mut self, rt: &impl Abort, setpoints: &[i64], state: AxisState) {
+        for setpoint in setpoints {
+            self.follow(rt, &look(0, 0, 0), at_place(*setpoint, state), &[]);
+        }
+    }
+
+    // One cycle in step that tells how commands ended.
+    pub(crate) fn end(&mut self, rt: &impl Abort, seen: Seen, told: &[Note]) {
+        self.follow(rt, &look(0, 0, 0), seen, told);
+    }
+
+    // Whether the active command is at its velocity, in gear or in sync.
+    pub(crate) fn reached(&self) -> Option<bool> {
+        match self.core.active() {
+            Some(active) => Some(active.reached),
+            None => None,
+        }
+    }
+}
+
+// A cycle of an axis of which the drive is not in step.
+#[derive(Clone, Copy)]
+pub(crate) struct Answered {
+    pub(crate) statusword: u16,
+    pub(crate) mode_display: i8,
+    pub(crate) actual: i32,
+    pub(crate) state: AxisState,
+    pub(crate) error: u16,
+    pub(crate) driven: bool,
+    pub(crate) controlword: u16,
+}
+
+// The row that shows an axis which stands where its drive does.
+fn standing(answered: &Answered) -> AxisRow {
+    AxisRow {
+        input: DriveIn {
+            statusword: answered.statusword,
+            mode_display: answered.mode_display,
+            actual: answered.actual,
+        },
+        state: answered.state,
+        error: answered.error,
+        driven: answered.driven,
+        setpoint: i64::from(answered.actual),
+        offset: 0,
+        output: DriveOut {
+            controlword: answered.controlword,
+            mode: 8,
+            target: answered.actual,
+        },
+    }
+}
+
+// A cycle by hand.
+pub(crate) fn answer(bench: &mut Bench, rt: &impl Abort, answered: &Answered, told: &[Note]) {
+    let look = look(answered.statusword, answered.mode_display, answered.actual);
+    bench.cycle(rt, &look, &standing(answered), told);
+}
