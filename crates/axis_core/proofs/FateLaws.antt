@@ -17,7 +17,7 @@ use Rattle.axis_core.specs.Cores.{Core, begun, begun_by, failed, ended, ended_by
 use Rattle.axis_core.specs.Cycles.{Advance, advanced, advanced_by, advanced_from, advanced_with, answered, braked, cycled, followed, gone_on, moved, progress_of, run}
 use Rattle.axis_core.specs.Drives.{answer_error_of, is_driven, standing}
 use Rattle.axis_core.specs.Fates.{Fate, goes_on, replaced, joined_fate, admitted_fate, asked_fate, command_fate, power_fate, taker_by, taker_of, ending_fate, is_blended, moved_fate, cycle_fate, IsSame, IsFate}
-use Rattle.axis_core.specs.Ranges.{is_outside}
+use Rattle.motion_numbers.specs.Ranges.{is_outside}
 use Rattle.axis_core.specs.Refusals.{Asked, refusal_of}
 use Rattle.axis_core.specs.States.{is_error_stop}
 use Rattle.axis_core.specs.blocks.Gear.{velocity_command}

@@ -23,7 +23,8 @@ use Rattle.axis_core.specs.Cores.{Core, all_ended, begun, begun_by, state_with}
 use Rattle.axis_core.specs.Demands.{IsMade, asked_in}
 use Rattle.axis_core.specs.Kept.{IsGear, IsSmallTarget}
 use Rattle.axis_core.specs.Kinds.{tests_of}
-use Rattle.axis_core.specs.Ranges.{IsBetween, is_outside}
+use Rattle.axis_core.specs.Ranges.{IsBetween}
+use Rattle.motion_numbers.specs.Ranges.{is_outside}
 use Rattle.axis_core.specs.Refusals.{holds, is_target_outside, refusal_of}
 use Rattle.axis_core.specs.States.{is_disabled, is_error_stop, is_homing, is_stopping}
 use Rattle.axis_core.specs.blocks.Gear.{is_bad_ratio, out_event, velocity_command}

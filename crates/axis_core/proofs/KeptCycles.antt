@@ -22,7 +22,7 @@ use Rattle.axis_core.specs.Cores.{Core, core_at, failed}
 use Rattle.axis_core.specs.Cycles.{advanced, advanced_from, answered, braked, cycled, given, gone_on, moved, reset_where, run}
 use Rattle.axis_core.specs.Drives.{actual_of, answer_error_of, has_fault, is_driven, is_enabled, is_operational, is_within, new_error_of, reads_fault, standing}
 use Rattle.axis_core.specs.Kept.{HasDrive, MayGoOn}
-use Rattle.axis_core.specs.Ranges.{is_outside}
+use Rattle.motion_numbers.specs.Ranges.{is_outside}
 use Rattle.axis_core.specs.States.{is_error_stop, is_stopping}
 use Rattle.axis_core.specs.blocks.Halts.{is_at_rest, is_released, stop_left}
 use Rattle.axis_core.specs.blocks.Path.{is_on_path, place_on_path}

@@ -15,7 +15,8 @@ use Rattle.axis_core.specs.AxisKept.{AreNumbers, AreWaiting, IsActive, IsBased, 
 use Rattle.axis_core.specs.Cores.{Core, begun, begun_by, begun_from, ended, failed, settled, state_with, taken_over, taken_over_by}
 use Rattle.axis_core.specs.Kept.{IsSmallTarget}
 use Rattle.axis_core.specs.Kinds.{may_wait}
-use Rattle.axis_core.specs.Ranges.{IsBetween, is_outside}
+use Rattle.axis_core.specs.Ranges.{IsBetween}
+use Rattle.motion_numbers.specs.Ranges.{is_outside}
 use Rattle.axis_core.specs.blocks.Moves.{position_of, with_target}
 use Rattle.axis_core.specs.blocks.Power.{is_powered}
 use Rattle.axis_core.specs.declared.axis.Axis.{Axis}

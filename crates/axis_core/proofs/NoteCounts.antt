@@ -13,7 +13,7 @@ use Rattle.axis_core.specs.Cores.{Core, begun, begun_from, ended, ended_by, fail
 use Rattle.axis_core.specs.Cycles.{advanced, answered, gone_on, moved, run}
 use Rattle.axis_core.specs.Drives.{answer_error_of, standing}
 use Rattle.axis_core.specs.Kinds.{ending_by}
-use Rattle.axis_core.specs.Ranges.{is_outside}
+use Rattle.motion_numbers.specs.Ranges.{is_outside}
 use Rattle.axis_core.specs.States.{is_error_stop}
 use Rattle.axis_core.specs.Steps.{taken_of}
 use Rattle.axis_core.specs.blocks.Moves.{with_target}

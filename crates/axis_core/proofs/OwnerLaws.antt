@@ -11,7 +11,7 @@ use Rattle.axis_core.specs.Cycles.{advanced, answered, cycled, gone_on, moved, r
 use Rattle.axis_core.specs.Drives.{answer_error_of, is_driven, standing}
 use Rattle.axis_core.specs.Fates.{replaced}
 use Rattle.axis_core.specs.Owners.{brought, brought_by, disowned, is_owner, one_of, owner_by, owns, reset_owner, told, waits_of}
-use Rattle.axis_core.specs.Ranges.{is_outside}
+use Rattle.motion_numbers.specs.Ranges.{is_outside}
 use Rattle.axis_core.specs.Refusals.{Asked, refusal_of}
 use Rattle.axis_core.specs.States.{is_error_stop}
 use Rattle.axis_core.specs.blocks.Halts.{leaves_stopping}

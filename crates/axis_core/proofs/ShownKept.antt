@@ -20,7 +20,7 @@ use Rattle.axis_core.specs.Cycles.{advanced, advanced_by, advanced_from, advance
 use Rattle.axis_core.specs.Demands.{IsMade, is_axis_command}
 use Rattle.axis_core.specs.Drives.{answer_error_of, has_fault, is_driven, new_error_of, standing}
 use Rattle.axis_core.specs.Kinds.{ending_by, tests_of, wish_by}
-use Rattle.axis_core.specs.Ranges.{is_outside}
+use Rattle.motion_numbers.specs.Ranges.{is_outside}
 use Rattle.axis_core.specs.Refusals.{Asked, first_holding, holds, refusal_of}
 use Rattle.axis_core.specs.Shown.{AreShown, IsAxisError, IsShown}
 use Rattle.axis_core.specs.States.{is_error_stop, is_stopping, is_synchronized}

@@ -17,7 +17,7 @@ use Rattle.axis_core.specs.Cycles.{advanced, answered, cycled, gone_on, moved, r
 use Rattle.axis_core.specs.Drives.{answer_error_of, is_driven, standing}
 use Rattle.axis_core.specs.Fates.{Fate, admitted_fate, asked_fate, command_fate, cycle_fate, ending_fate, goes_on, is_blended, moved_fate, power_fate, replaced, taker_of}
 use Rattle.axis_core.specs.Owners.{TellsOwner, owner_by, told}
-use Rattle.axis_core.specs.Ranges.{is_outside}
+use Rattle.motion_numbers.specs.Ranges.{is_outside}
 use Rattle.axis_core.specs.Refusals.{Asked, refusal_of}
 use Rattle.axis_core.specs.States.{is_error_stop}
 use Rattle.axis_core.specs.blocks.Moves.{known_target_of, position_of, with_target}

@@ -15,7 +15,7 @@ use Rattle.command_pool.specs.declared.kind.BlockKind.TheVariants as kind
 use Rattle.command_pool.specs.declared.notes.Note.{Note}
 use Rattle.command_pool.specs.declared.wanted.Wanted.{Wanted}
 use Rattle.axis_core.specs.Kinds.{event_of}
-use Rattle.axis_core.specs.Ranges.{is_outside}
+use Rattle.motion_numbers.specs.Ranges.{is_outside}
 use Rattle.axis_core.specs.blocks.Halts.{hold_by}
 use Rattle.axis_core.specs.blocks.Home.{home_done_event}
 use Rattle.axis_core.specs.blocks.Moves.{position_of, with_target}

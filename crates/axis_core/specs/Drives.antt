@@ -8,7 +8,7 @@ use Rattle.cia402_machine.specs.declared.controlword.TheConstants.{CYCLIC_SYNCHR
 use Rattle.cia402_machine.specs.declared.drive.DriveIn.{DriveIn}
 use Rattle.cia402_machine.specs.declared.drive.DriveState.{DriveState}
 use Rattle.cia402_machine.specs.declared.drive.DriveState.TheVariants.{OperationEnabled}
-use Rattle.axis_core.specs.Ranges.{is_outside}
+use Rattle.motion_numbers.specs.Ranges.{is_outside}
 use Rattle.axis_core.specs.States.{is_error_stop}
 use Rattle.axis_core.specs.blocks.Power.{enabled_from, is_powered}
 use Rattle.axis_core.specs.declared.axis.Axis.{Axis}

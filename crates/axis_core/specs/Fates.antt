@@ -11,7 +11,7 @@ use Rattle.axis_core.specs.Calls.{queue_in}
 use Rattle.axis_core.specs.Cores.{Core}
 use Rattle.axis_core.specs.Cycles.{advanced}
 use Rattle.axis_core.specs.Drives.{answer_error_of, is_driven}
-use Rattle.axis_core.specs.Ranges.{is_outside}
+use Rattle.motion_numbers.specs.Ranges.{is_outside}
 use Rattle.axis_core.specs.Refusals.{Asked, refusal_of}
 use Rattle.axis_core.specs.States.{is_error_stop}
 use Rattle.axis_core.specs.blocks.Gear.{velocity_command}

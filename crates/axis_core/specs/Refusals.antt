@@ -5,7 +5,7 @@ use Rattle.buffer_modes.specs.Queue.{is_aborting}
 use Rattle.command_pool.specs.declared.kind.BlockKind.{BlockKind}
 use Rattle.command_pool.specs.declared.wanted.Wanted.{Wanted}
 use Rattle.axis_core.specs.Kinds.{tests_of}
-use Rattle.axis_core.specs.Ranges.{is_outside}
+use Rattle.motion_numbers.specs.Ranges.{is_outside}
 use Rattle.axis_core.specs.States.{is_disabled, is_error_stop, is_homing, is_standstill, is_stopping}
 use Rattle.axis_core.specs.blocks.Cam.{is_no_table}
 use Rattle.axis_core.specs.blocks.Gear.{is_bad_ratio, is_master, is_not_following}

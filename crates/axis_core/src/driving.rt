@@ -8,10 +8,10 @@ ghost use Rattle.axis_core.specs.Kept.{HasDrive};
 
 use crate::axis::Axis;
 use crate::blocks::power::{enabled_from, is_powered};
-use crate::refusing::is_outside;
 use crate::states::is_error_stop;
 use axis_state::{DriveIn, MOST_REPORTED, place};
 use cia402_machine::{CYCLIC_SYNCHRONOUS_POSITION, DriveState, state_of};
+use motion_numbers::is_outside;
 
 /// DriveFault: the drive reads Fault or Fault reaction active.
 const DRIVE_FAULT: u16 = 101;

@@ -2,7 +2,6 @@
 
 ghost use Rattle.std.specs.Prelude.{◌≡◌, ◌≤◌, ◌≤ℤ◌, pos, unsigned_abs};
 ghost use Rattle.axis_core.specs.Asking.{asked_of, MayAsk};
-ghost use Rattle.axis_core.specs.Ranges as ranges;
 ghost use Rattle.axis_core.specs.Refusals as spec;
 ghost use Rattle.motion_numbers.specs.Ranges.{IsPlace};
 
@@ -17,6 +16,7 @@ use crate::reason::Reason;
 use crate::states::{is_disabled, is_error_stop, is_homing, is_standstill, is_stopping};
 use axis_state::MOST_OFFSET;
 use command_pool::{BlockKind, Wanted};
+use motion_numbers::is_outside;
 
 /// What a command is asked of.
 #[derive(Clone, Copy)]
@@ -34,13 +34,6 @@ pub struct Asking<'a> {
     pub held: bool,
     /// How many cam tables there are.
     pub tables: u16,
-}
-
-/// Whether z lies outside two numbers.
-pub fn is_outside(low: i64, z: i64, high: i64) -> bool
-    ensures { result ≡ ranges.is_outside low z high }
-{
-    z < low || high < z
 }
 
 // Whether a target that is known lies outside the limits, or breaks the counts.

@@ -11,7 +11,8 @@ use Rattle.cia402_machine.specs.declared.drive.DriveIn.{DriveIn}
 use Rattle.fb_outputs.specs.declared.inputs.Inputs.{Inputs}
 use Rattle.motion_kernel.specs.declared.axis.Axis.{Axis}
 use Rattle.motion_kernel.specs.declared.axis.Move.{Move}
-use Rattle.motion_kernel.specs.Axes.{refused, owner_without, cycled, next_setpoint, is_done_at, row_at, owner_of, at_setpoint, without_owner, move_without, begun, move_of, refusal_of, rates_refusal_of, target_refusal_of, first_refusal, is_outside, target_of}
+use Rattle.motion_kernel.specs.Axes.{refused, owner_without, cycled, next_setpoint, is_done_at, row_at, owner_of, at_setpoint, without_owner, move_without, begun, move_of, refusal_of, rates_refusal_of, target_refusal_of, first_refusal, target_of}
+use Rattle.motion_numbers.specs.Ranges.{is_outside}
 use Rattle.motion_kernel.specs.AxisKept.{IsAxisKept, IsMoveWithin}
 
 -- a command that goes on is the one that was active

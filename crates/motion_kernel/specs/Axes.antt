@@ -1,5 +1,5 @@
 -- What a block call and a cycle do to one axis.
-use Rattle.std.specs.Prelude.{ℕ, Bool, true, false, ◌&&◌, ◌||◌, if◌then◌else◌, ℤ, pos, ◌+ℤ◌, ◌-ℤ◌, int_lt, nat_eq, Option, Some, None, slice_index_or}
+use Rattle.std.specs.Prelude.{ℕ, Bool, true, false, ◌&&◌, ◌||◌, if◌then◌else◌, ℤ, pos, ◌+ℤ◌, ◌-ℤ◌, nat_eq, Option, Some, None, slice_index_or}
 use Rattle.std.specs.Ordering.{int_eq}
 use Rattle.axis_state.specs.Counts.{count_of}
 use Rattle.axis_state.specs.declared.definition.AxisDef.{AxisDef}
@@ -12,6 +12,7 @@ use Rattle.fb_outputs.specs.declared.inputs.Inputs.{Inputs}
 use Rattle.kin_core.specs.Taken.{taken_step_of}
 use Rattle.kin_core.specs.declared.limits.Limits.{Limits}
 use Rattle.trapezoid_plan.specs.MoveStep.{move_step_of}
+use Rattle.motion_numbers.specs.Ranges.{is_outside}
 use Rattle.motion_kernel.specs.declared.axis.Axis.{Axis}
 use Rattle.motion_kernel.specs.declared.axis.AxisCycle.{AxisCycle}
 use Rattle.motion_kernel.specs.declared.axis.Move.{Move}
@@ -26,10 +27,6 @@ opened d = record {
   setpoint = d.start;
   active = None;
 }
-
--- whether z lies outside two numbers
-abbrev pub is_outside : ℤ → ℤ → ℤ → Bool
-is_outside low z high = int_lt z low || int_lt high z
 
 -- the first position of a call, in internal units. PLCopen Motion Control Part 1, MC_MoveAbsolute
 abbrev pub target_of : Inputs → ℤ

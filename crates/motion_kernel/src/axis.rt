@@ -12,6 +12,7 @@ use command_pool::{Rates, Refusal};
 use fb_outputs::Inputs;
 use kin_core::{Limits, nearest_safe};
 use motion_history::AxisDef;
+use motion_numbers::is_outside;
 use trapezoid_plan::move_step;
 
 /// A move that is the active command of an axis.
@@ -177,13 +178,6 @@ pub fn cycled(axis: &Axis, input: &DriveIn) -> AxisCycle
         row: row_at(&after, input),
         done: owner_where(done, &axis.active),
     }
-}
-
-/// Whether z lies outside two numbers.
-fn is_outside(low: i64, z: i64, high: i64) -> bool
-    ensures { result ≡ spec.is_outside low z high }
-{
-    z < low || high < z
 }
 
 /// Why the rates of a move are refused.

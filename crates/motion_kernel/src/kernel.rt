@@ -19,7 +19,7 @@ use cia402_machine::{DriveIn, DriveOut};
 use fb_outputs::{Inputs, Instance, Outputs};
 use kin_core::standing_is_kept;
 use motion_history::{
-    AxisDef, BlockDef, Config, History, MOST_AXES, axes_are_in_range, cycles_add_up,
+    AxisDef, BlockDef, Config, History, MOST_AXES, OutOfMemory, axes_are_in_range, cycles_add_up,
 };
 use std::alloc::{AllocError, Global};
 use std::marker::Model;
@@ -28,6 +28,18 @@ use std::marker::Model;
 #[derive(Clone, Copy, Debug, PartialEq, Eq)]
 pub enum OpenFault {
     OutOfMemory,
+}
+
+impl From<AllocError> for OpenFault {
+    fn from(_: AllocError) -> OpenFault {
+        OpenFault::OutOfMemory
+    }
+}
+
+impl From<OutOfMemory> for OpenFault {
+    fn from(_: OutOfMemory) -> OpenFault {
+        OpenFault::OutOfMemory
+    }
 }
 
 /// A motion kernel. Contracts see it as its configuration and its history.
@@ -58,7 +70,7 @@ impl Kernel {
         requires { IsReadyMachine config }
         ensures { IfOk result (λ k. k ≡ record { config = config; history = [] }) }
     {
-        made(alloc, config).map_err(|_| OpenFault::OutOfMemory)
+        made(alloc, config)
     }
 
     /// Calls a block, which belongs to this task, and answers its outputs. So far the buffer mode is Aborting.
@@ -172,7 +184,7 @@ const NO_ROW: AxisRow = AxisRow {
 };
 
 // A kernel at rest.
-fn made(alloc: Global, config: Config) -> Result<Kernel, AllocError>
+fn made(alloc: Global, config: Config) -> Result<Kernel, OpenFault>
     requires { IsReadyMachine config }
     ensures { IfOk result (λ k. k ≡ record { config = config; history = [] }) }
 {
@@ -180,9 +192,7 @@ fn made(alloc: Global, config: Config) -> Result<Kernel, AllocError>
     axes_are_in_range();
     let axes = opened_axes(alloc, config.axes())?;
     let instances = opened_instances(alloc, config.blocks())?;
-    let Ok(history) = History::open(alloc, &config) else {
-        return Err(AllocError);
-    };
+    let history = History::open(alloc, &config)?;
     Ok(Kernel {
         config,
         axes,

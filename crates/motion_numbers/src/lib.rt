@@ -3,9 +3,11 @@
 
 mod laws;
 mod ramp;
+mod ranges;
 
 pub use laws::{searches_find_the_greatest, ways_to_rest};
 pub use ramp::{greatest_ramp, ramp_sum, run_sum};
+pub use ranges::is_outside;
 
 /// The greatest size of a place, in internal units.
 pub const MOST_PLACE: u64 = 1_000_000_000_000_000;

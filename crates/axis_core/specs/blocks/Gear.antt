@@ -12,7 +12,7 @@ use Rattle.command_pool.specs.declared.wanted.Follow.TheVariants as follow
 use Rattle.command_pool.specs.declared.wanted.Wanted.{Wanted}
 use Rattle.follow_plan.specs.Gear.{gear_difference_of, gear_toward_of}
 use Rattle.motion_numbers.specs.declared.TheConstants.{MOST_RATIO}
-use Rattle.axis_core.specs.Ranges.{is_outside}
+use Rattle.motion_numbers.specs.Ranges.{is_outside}
 use Rattle.axis_core.specs.Steps.{gives_way, guarded, old_step_of}
 use Rattle.axis_core.specs.blocks.Velocity.{step_to_velocity}
 use Rattle.axis_core.specs.declared.axis.Axis.{Axis}

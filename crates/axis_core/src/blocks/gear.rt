@@ -17,11 +17,10 @@ use crate::blocks::velocity;
 use crate::look::AxisLook;
 use crate::progress::Progress;
 use crate::reason::Reason::{self, *};
-use crate::refusing::is_outside;
 use crate::steps::{gives_way, old_step, take_guarded};
 use command_pool::{BlockKind, BufferMode, Follow, Rates, Wanted};
 use follow_plan::{gear_difference, gear_toward};
-use motion_numbers::MOST_RATIO;
+use motion_numbers::{MOST_RATIO, is_outside};
 
 /// The reasons against which a GearIn is tested, in their order.
 pub const TESTS: &[Reason] = &[
