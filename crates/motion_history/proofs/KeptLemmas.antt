@@ -1,7 +1,6 @@
 -- A history keeps its arrays in step with its entries.
 use Rattle.std.specs.Prelude.{◌≡◌, refl, ℕ, ◌+◌, ◌*◌, ◌≤◌, ◌<◌, List, [], ◌∷◌, ◌++◌, length, vec_len, vec_capacity, slice_get, Option, Some}
 use Rattle.std.specs.Option.{option_map}
-use Rattle.std.specs.List.{AllByRecursion}
 use Rattle.std.proofs.Common.{Vec, Global, ◌∙◌, sym, ap, arith}
 use Rattle.std.proofs.Math.Nat.{mul-le-mul_right}
 use Rattle.std.proofs.lemmas.List.{append-nil}
@@ -12,7 +11,7 @@ use Rattle.motion_history.specs.declared.history.Stored.{Stored}
 use Rattle.motion_history.specs.declared.history.Stored.TheVariants as stored
 use Rattle.motion_history.specs.declared.history.History.TheInside.{Inside}
 use Rattle.motion_history.specs.Entries.{Entry, call, cycle, end_of, cycle_count, cycles_of, HistoryState}
-use Rattle.motion_history.specs.Stored.{Store, call_entry, entry_of, entries_of, IsMade, IsThere}
+use Rattle.motion_history.specs.Stored.{call_entry, entry_of, entries_of, IsMade, IsThere}
 use Rattle.motion_history.specs.Rows.{rows_at}
 use Rattle.motion_history.specs.Kept.{store_of, state_of, IsKept}
 use Rattle.motion_history.proofs.DistinctLemmas.{each-append}

@@ -1,7 +1,6 @@
 -- A configuration stays within its ranges with one more item.
-use Rattle.std.specs.Prelude.{◌≡◌, ℕ, ℤ, ◌+◌, ◌-◌, ◌≤◌, ◌<◌, Bool, true, false, ◌&&◌, not, nat_eq, nat_lt, if◌then◌else◌, List, [], ◌∷◌, ◌++◌, drop, length, map, refl, replicate, take, Some, None}
-use Rattle.std.specs.List.{AllByRecursion, IsDistinct, flat_map, list_all, list_any}
-use Rattle.std.specs.Str.{bytes_eq}
+use Rattle.std.specs.Prelude.{◌≡◌, ℕ, ℤ, ◌+◌, ◌-◌, ◌≤◌, ◌<◌, Bool, true, false, ◌&&◌, not, nat_eq, nat_lt, if◌then◌else◌, List, [], ◌∷◌, ◌++◌, length, map, refl, replicate, Some, None}
+use Rattle.std.specs.List.{AllByRecursion, IsDistinct, flat_map, list_all}
 use Rattle.std.proofs.Common.{◌∙◌, sym, ap, subst, arith, append_assoc, length-append}
 use Rattle.std.proofs.Math.Seq.{take-length, drop-append_seam}
 use Rattle.std.proofs.lemmas.Bool.{and_from, and_parts, ltb-true, lt-ltb, not-true}
@@ -11,14 +10,14 @@ use Rattle.std.proofs.lemmas.List.Folds.{list_all-append}
 use Rattle.axis_state.specs.declared.definition.AxisDef.{AxisDef}
 use Rattle.cam_table.specs.CamTable.{IsCamTable}
 use Rattle.command_pool.specs.Kinds.{acts_on_group}
-use Rattle.motion_history.specs.declared.sizes.TheConstants.{MOST_AXES, MOST_GROUPS, MOST_MEMBERS, MOST_TABLES, MOST_TASKS, MOST_BLOCKS}
+use Rattle.motion_history.specs.declared.sizes.TheConstants.{MOST_MEMBERS, MOST_TABLES}
 use Rattle.motion_history.specs.declared.fault.ConfigFault.TheVariants.{OutOfRange}
 use Rattle.motion_history.specs.declared.config.BlockDef.{BlockDef}
 use Rattle.motion_history.specs.declared.config.GroupDef.{GroupDef}
 use Rattle.motion_history.specs.Faults.{is_used, is_member, are_distinct, are_free, room_fault}
 use Rattle.motion_history.specs.Members.{members_of, group_of, IsGroup, AreApart}
 use Rattle.motion_history.specs.Ranges.{is_axis, is_block}
-use Rattle.motion_history.specs.Setup.{Setup, names_of, AreNames, FitsSizes, IsWithin}
+use Rattle.motion_history.specs.Setup.{Setup, names_of, AreNames, IsWithin}
 use Rattle.motion_history.proofs.DistinctLemmas.{AreNames-insert, apart-more, each-append, each-from_list_all, each-weaker}
 use Rattle.motion_history.proofs.FaultLemmas.{IsNewName, IsNewAxis, IsNewGroup, IsNewTask, IsNewBlock, room_fault-none}
 

@@ -1,5 +1,5 @@
 -- What a configuration keeps, as facts.
-use Rattle.std.specs.Prelude.{◌≡◌, true, nat_lt, length, All, if◌then◌else◌}
+use Rattle.std.specs.Prelude.{◌≡◌, true, nat_lt, length}
 use Rattle.std.specs.List.{flat_map}
 use Rattle.std.proofs.lemmas.Bool.{and_parts, ltb-true}
 use Rattle.std.proofs.lemmas.Bool.Decides.{Decides-eqb}
@@ -8,7 +8,6 @@ use Rattle.std.proofs.lemmas.Map.Made.{AllPairs-from_IsDistinct}
 use Rattle.std.proofs.lemmas.Slice.Eq.{bytes_eq-Decides}
 use Rattle.axis_state.specs.Names.{is_name}
 use Rattle.cam_table.specs.CamTable.{IsCamTable}
-use Rattle.command_pool.specs.Kinds.{acts_on_group}
 use Rattle.motion_history.specs.AxisRanges.{AreAxisRanges}
 use Rattle.motion_history.specs.Configurations.{IsBlock, IsSound}
 use Rattle.motion_history.specs.Members.{members_of, IsGroup}

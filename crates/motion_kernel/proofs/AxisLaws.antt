@@ -1,5 +1,5 @@
 -- What each step of an axis keeps.
-use Rattle.std.specs.Prelude.{◌≡◌, refl, ◌||◌, int_lt, ℕ, nat_eq, Bool, true, false, ℤ, pos, ◌≤ℤ◌, Option, Some, None, if◌then◌else◌}
+use Rattle.std.specs.Prelude.{◌≡◌, refl, int_lt, ℕ, nat_eq, Bool, true, false, ℤ, pos, ◌≤ℤ◌, Option, Some, None, if◌then◌else◌}
 use Rattle.std.proofs.lemmas.Bool.{or_parts}
 use Rattle.std.proofs.Common.{subst, arith}
 use Rattle.std.proofs.lemmas.Int.{ints}

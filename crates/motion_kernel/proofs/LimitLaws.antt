@@ -1,5 +1,5 @@
 -- Every row of a legal history keeps its axis's limits.
-use Rattle.std.specs.Prelude.{◌≡◌, refl, IsTrue, ℕ, zero, suc, ◌+◌, ◌<◌, ℤ, pos, ◌+ℤ◌, ◌-ℤ◌, true, List, [], ◌∷◌, length, map, Option, Some, None, slice_get, slice_index_or, slice_set}
+use Rattle.std.specs.Prelude.{◌≡◌, refl, ℕ, zero, suc, ◌<◌, ℤ, pos, ◌+ℤ◌, ◌-ℤ◌, true, List, [], ◌∷◌, length, map, Option, Some, None, slice_get, slice_index_or, slice_set}
 use Rattle.std.specs.List.{list_all}
 use Rattle.std.proofs.Common.{◌∙◌, sym, ap, subst, arith}
 use Rattle.std.proofs.lemmas.Bool.{and_parts}
@@ -25,10 +25,10 @@ use Rattle.motion_kernel.specs.declared.axis.Axis.{Axis}
 use Rattle.motion_kernel.specs.Axes as axis
 use Rattle.motion_kernel.specs.Axes.{cycled, next_setpoint, is_done_at, refusal_of, without_owner}
 use Rattle.motion_kernel.specs.AxisKept.{IsAxisKept}
-use Rattle.motion_kernel.specs.Instances.{Parts, instance_at, by_edge, decided, risen, called, shown_by}
+use Rattle.motion_kernel.specs.Instances.{Parts, instance_at, by_edge, decided, called, shown_by}
 use Rattle.motion_kernel.specs.KernelKept.{IsMachineKept}
 use Rattle.motion_kernel.specs.Lists.{zip_with}
-use Rattle.motion_kernel.specs.Machine.{Machine, opened, after, after_call, after_cycle, axis_at, nowhere, object_of, parts_of, axis_after, row_after, inputs_of, IsOf, Follows, IsLegal}
+use Rattle.motion_kernel.specs.Machine.{Machine, opened, after_call, after_cycle, axis_at, nowhere, object_of, parts_of, axis_after, row_after, inputs_of, Follows, IsLegal}
 use Rattle.motion_kernel.proofs.AxisLaws.{IsAxisKept-at_setpoint}
 use Rattle.motion_kernel.proofs.CallLaws.{object-there}
 use Rattle.motion_kernel.proofs.KernelLaws.{StandingIsKept, RangesHold, opened-machine-kept}

@@ -1,7 +1,8 @@
 -- Which inputs a call has in a trace: those that the kind of its block takes.
 use Rattle.std.specs.Prelude.{ℕ, Bool, false, if◌then◌else◌, Option, Some, None, List, [], slice_get}
 use Rattle.command_pool.specs.declared.kind.BlockKind.{BlockKind}
-use Rattle.fb_outputs.specs.Inputs.{takes_positions, takes_velocity, takes_acceleration, takes_deceleration}
+use Rattle.fb_outputs.specs.Inputs.{takes}
+use Rattle.fb_outputs.specs.declared.inputs.Input.TheVariants.{Position, Velocity, Acceleration, Deceleration}
 use Rattle.motion_history.specs.Setup.{Setup}
 use Rattle.motion_history.specs.declared.config.BlockDef.{BlockDef}
 use Rattle.trace_text.specs.declared.taken.TakenInputs.{TakenInputs}
@@ -9,10 +10,10 @@ use Rattle.trace_text.specs.declared.taken.TakenInputs.{TakenInputs}
 -- the inputs that a kind takes, besides Execute
 abbrev pub taken_by : BlockKind → TakenInputs
 taken_by k = record {
-  positions = takes_positions k;
-  velocity = takes_velocity k;
-  acceleration = takes_acceleration k;
-  deceleration = takes_deceleration k;
+  positions = takes k Position;
+  velocity = takes k Velocity;
+  acceleration = takes k Acceleration;
+  deceleration = takes k Deceleration;
 }
 
 -- the inputs that a block takes, and none where it isn't there

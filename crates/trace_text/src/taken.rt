@@ -2,10 +2,10 @@
 
 ghost use Rattle.std.specs.Prelude.{◌≡◌};
 ghost use Rattle.std.specs.Fmt.{signed_decimal};
-ghost use Rattle.fb_outputs.specs.Inputs as inputs;
 ghost use Rattle.trace_text.specs.Taken as spec;
 
 use command_pool::BlockKind;
+use fb_outputs::{Input, takes};
 use itoa::Buffer;
 use motion_history::Config;
 
@@ -44,55 +44,10 @@ fn taken_by(kind: BlockKind) -> TakenInputs
     ensures { result ≡ spec.taken_by kind }
 {
     TakenInputs {
-        positions: takes_positions(kind),
-        velocity: takes_velocity(kind),
-        acceleration: takes_acceleration(kind),
-        deceleration: takes_deceleration(kind),
-    }
-}
-
-fn takes_positions(kind: BlockKind) -> bool
-    ensures { result ≡ inputs.takes_positions kind }
-{
-    matches!(
-        kind,
-        BlockKind::Home
-            | BlockKind::MoveAbsolute
-            | BlockKind::MoveRelative
-            | BlockKind::MoveLinearAbsolute
-            | BlockKind::MoveCircularAbsolute
-    )
-}
-
-fn takes_velocity(kind: BlockKind) -> bool
-    ensures { result ≡ inputs.takes_velocity kind }
-{
-    matches!(
-        kind,
-        BlockKind::MoveAbsolute
-            | BlockKind::MoveRelative
-            | BlockKind::MoveVelocity
-            | BlockKind::CamIn
-            | BlockKind::MoveLinearAbsolute
-            | BlockKind::MoveCircularAbsolute
-    )
-}
-
-fn takes_acceleration(kind: BlockKind) -> bool
-    ensures { result ≡ inputs.takes_acceleration kind }
-{
-    match kind {
-        BlockKind::GearIn => true,
-        _ => takes_velocity(kind),
-    }
-}
-
-fn takes_deceleration(kind: BlockKind) -> bool
-    ensures { result ≡ inputs.takes_deceleration kind }
-{
-    match kind {
-        BlockKind::Stop | BlockKind::Halt | BlockKind::GroupStop | BlockKind::GroupHalt => true,
-        _ => takes_acceleration(kind),
+        positions: takes(kind, Input::Position),
+        velocity: takes(kind, Input::Velocity),
+        acceleration: takes(kind, Input::Acceleration),
+        deceleration: takes(kind, Input::Deceleration),
     }
 }
 

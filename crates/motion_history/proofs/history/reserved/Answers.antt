@@ -1,7 +1,6 @@
 -- Nothing is kept yet, and there is room for all.
 use Rattle.std.specs.Prelude.{refl, length}
 use Rattle.std.proofs.Common.{arith, ap}
-use Rattle.motion_history.specs.Kept.{IsKept}
 use Rattle.motion_history.proofs.KeptLemmas.{IsKept-open, state-open}
 use Rattle.motion_history.proofs.history.reserved.Goals as goal
 

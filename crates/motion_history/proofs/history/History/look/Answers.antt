@@ -1,6 +1,6 @@
 -- The look tells the entry that is kept at the place.
-use Rattle.std.specs.Prelude.{◌≡◌, Some, None, length}
-use Rattle.std.proofs.Common.{◌∙◌, ap, sym, arith}
+use Rattle.std.specs.Prelude.{Some, None}
+use Rattle.std.proofs.Common.{◌∙◌, ap, sym}
 use Rattle.motion_history.specs.Entries.{cycle}
 use Rattle.motion_history.specs.Kept.{store_of}
 use Rattle.motion_history.specs.Rows.{rows_at}

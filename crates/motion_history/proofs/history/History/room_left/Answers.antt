@@ -1,6 +1,5 @@
 -- The room that is left is what the entries leave.
-use Rattle.std.proofs.Common.{◌≡◌, ◌∙◌, ◌≤◌, length, sym, arith, subst}
-use Rattle.motion_history.specs.Entries.{HistoryState}
+use Rattle.std.proofs.Common.{arith}
 use Rattle.motion_history.proofs.KeptLemmas.{kept-length}
 use Rattle.motion_history.proofs.history.History.room_left.Goals as goal
 
