@@ -21,3 +21,4 @@ pub mod ToldLaws
 pub mod OwnerLaws
 pub mod ArrivalLaws
 pub mod DoneLaws
+pub mod ChangeLaws

@@ -18,3 +18,4 @@ pub mod Shown
 pub mod Fates
 pub mod Owners
 pub mod Arrivals
+pub mod Changes

@@ -6,6 +6,7 @@ ghost use Rattle.axis_core.specs.blocks.Moves.{blended_with, is_move, target_of}
 ghost use Rattle.command_pool.specs.declared.wanted.Wanted.{Wanted};
 ghost use Rattle.axis_core.specs.Arrivals.{Course, course_of, bound_of, turn_of, IsUnderWay, Carried, IsMoveDone};
 ghost use Rattle.axis_core.specs.AxisKept.{IsAxisDef, IsCoreKept, IsLook};
+ghost use Rattle.axis_core.specs.Changes.{GoesBy};
 ghost use Rattle.axis_core.specs.Calls.{commanded, detached, powered_by};
 ghost use Rattle.axis_core.specs.Cores.{Core};
 ghost use Rattle.axis_core.specs.Cycles.{cycled, opened, row_of};
@@ -123,4 +124,23 @@ pub fn moves_are_done_at_their_targets()
         IsMoveDone (blended_with c.axis w (slice_get c.waiting 0)) (target_of w) c.axis.setpoint (cycled look c).axis }
 {
     blends_apply_by_test();
+}
+
+/// Every change of state is by the diagram: a call takes at most one of its rows, a cycle at most three, one after
+/// another, each from a state of its row; an owner that is taken away changes none.
+pub fn states_change_by_the_diagram()
+    ensures command { (c : Core) (number : ℕ) (w : Wanted) (jerk : ℤ) (held : Bool) (tables : ℕ) → IsCoreKept c → IsMade w →
+        GoesBy 1 c.axis.state (commanded (asked_in c number w jerk held tables) c).axis.state }
+    ensures power { (enable : Bool) (c : Core) → GoesBy 1 c.axis.state (powered_by enable c).axis.state }
+    ensures path { (on : Bool) (a : Axis) → GoesBy 1 a.state (on_path on a).state }
+    ensures detach { (owner : ℕ) (a : Axis) → (detached owner a).state ≡ a.state }
+    ensures cycle { (look : AxisLook) (c : Core) → IsCoreKept c → IsLook c.axis look → GoesBy 3 c.axis.state (cycled look c).axis.state }
+{
+    taken_steps_keep();
+    braking_steps_are_only_cut();
+    standing_is_kept();
+    setpoints_have_counts();
+    homing_keeps_counts();
+    counts_are_read_back();
+    offsets_are_small();
 }

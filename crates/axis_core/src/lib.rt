@@ -30,6 +30,7 @@ pub use command_pool::{
 pub use laws::{
     axes_stay_kept, calls_move_no_axis, courses_end_in_time, ends_are_told_once,
     errors_stand_in_error_stop, fates_are_told, moves_are_done_at_their_targets,
+    states_change_by_the_diagram,
 };
 pub use look::{ActiveLook, AxisLook};
 pub use one_axis::AxisCore;
