@@ -29,7 +29,7 @@ use Rattle.kin_core.specs.Toward.{toward_zero}
 use Rattle.axis_core.specs.Arrivals as turn
 use Rattle.axis_core.specs.Arrivals.{toward, slowing, Carried, Course, GoesOn, IsAtEnd, IsTurn, IsUnderWay, RunsWithin, Turn, bound_of, course_by, course_of, turn_by, turn_of}
 use Rattle.axis_core.specs.AxisKept.{AreNumbers, IsCoreKept, IsInState, IsMoveWithin, IsReady, IsRunning}
-use Rattle.axis_core.specs.Calls.{active_without, admitted_by, commanded, commanded_by, detached, disabled, joined, left, powered_by, queue_in, queued}
+use Rattle.axis_core.specs.Calls.{active_without, admitted_by, commanded, commanded_by, detached, disabled, powered_by, queue_in, queued}
 use Rattle.axis_core.specs.Cores.{Core, begun, ended_by, failed}
 use Rattle.axis_core.specs.Cycles.{Advance, advanced, advanced_by, advanced_from, advanced_with, answered, braked, cycled, followed, given, gone_on, moved, progress_of, progress_with, run}
 use Rattle.axis_core.specs.Drives.{answer_error_of, is_driven, is_operational, is_within, standing}

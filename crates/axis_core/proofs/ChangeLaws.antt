@@ -1,13 +1,13 @@
 -- Every call takes at most one row of the diagram, and a cycle at most three.
-use Rattle.std.specs.Prelude.{◌≡◌, ◌≢◌, IfSome, refl, ◌⊎◌, ℕ, ◌≤◌, ◌+◌, Bool, true, false, not, ◌&&◌, IsTrue, nat_eq, ℤ, ◌+ℤ◌, Option, Some, None, is_some, List, [], ◌∷◌, ◌++◌, length, slice_get, if◌then◌else◌, Result, Ok, Err}
-use Rattle.std.proofs.Common.{◌∙◌, sym, ap, subst, arith, inl, inr}
+use Rattle.std.specs.Prelude.{◌≡◌, IfSome, refl, ℕ, ◌+◌, Bool, true, false, not, ◌&&◌, nat_eq, ℤ, ◌+ℤ◌, Option, Some, None, is_some, List, [], ◌∷◌, ◌++◌, length, slice_get, if◌then◌else◌, Result, Ok, Err}
+use Rattle.std.proofs.Common.{◌∙◌, sym, ap, subst, arith, inl}
 use Rattle.std.proofs.lemmas.Bool.{and_parts}
 use Rattle.axis_state.specs.Diagram.{IsFrom, next_of}
 use Rattle.axis_state.specs.declared.diagram.AxisEvent.{AxisEvent}
 use Rattle.axis_state.specs.declared.diagram.AxisEvent.TheVariants as event
 use Rattle.axis_state.specs.declared.state.AxisState.{AxisState}
 use Rattle.axis_state.specs.declared.state.AxisState.TheVariants as state
-use Rattle.buffer_modes.specs.Queue.{active_note, is_active_at_once, is_full}
+use Rattle.buffer_modes.specs.Queue.{active_note, is_active_at_once}
 use Rattle.cia402_machine.specs.declared.drive.DriveIn.{DriveIn}
 use Rattle.command_pool.specs.Waiting.{last_of}
 use Rattle.command_pool.specs.declared.ending.Finish.{Finish}
@@ -16,7 +16,7 @@ use Rattle.command_pool.specs.declared.kind.BlockKind.{BlockKind}
 use Rattle.command_pool.specs.declared.kind.BlockKind.TheVariants as kind
 use Rattle.command_pool.specs.declared.wanted.Wanted.{Wanted}
 use Rattle.axis_core.specs.AxisKept.{IsCoreKept, IsLook}
-use Rattle.axis_core.specs.Calls.{admitted_by, commanded, commanded_by, detached, disabled, joined, powered_by, queue_in, queued}
+use Rattle.axis_core.specs.Calls.{admitted_by, commanded, commanded_by, detached, disabled, powered_by, queue_in, queued}
 use Rattle.axis_core.specs.Changes.{GoesBy, Lead}
 use Rattle.axis_core.specs.Cores.{Core, MayBegin, MayTakeOver, begun, begun_by, ended, ended_by, failed, next_by, settled, taken_over, taken_over_by}
 use Rattle.axis_core.specs.Cycles.{Advance, advanced, advanced_by, advanced_from, advanced_with, answered, braked, cycled, followed, gone_on, moved, progress_of, run}
@@ -25,7 +25,7 @@ use Rattle.axis_core.specs.Drives.{answer_error_of, is_driven, new_error_of, sta
 use Rattle.axis_core.specs.Kept.{MayAdmit, MayGoOn}
 use Rattle.axis_core.specs.Kinds.{event_of}
 use Rattle.axis_core.specs.Owners.{brought}
-use Rattle.axis_core.specs.Ranges.{is_outside}
+use Rattle.motion_numbers.specs.Ranges.{is_outside}
 use Rattle.axis_core.specs.Refusals.{refusal_of}
 use Rattle.axis_core.specs.States.{is_error_stop, is_stopping, is_synchronized}
 use Rattle.axis_core.specs.Steps.{moved_to}
@@ -38,9 +38,8 @@ use Rattle.axis_core.specs.declared.axis.Axis.{Axis}
 use Rattle.axis_core.specs.declared.axis.PendingReset.{PendingReset}
 use Rattle.axis_core.specs.declared.look.AxisLook.{AxisLook}
 use Rattle.axis_core.specs.declared.progress.Progress.{Progress}
-use Rattle.axis_core.specs.declared.reason.Reason.{Reason}
 use Rattle.axis_core.proofs.Events.{error_from}
-use Rattle.axis_core.proofs.KeptCycles.{IsSeen, may-go-on}
+use Rattle.axis_core.proofs.KeptCycles.{may-go-on}
 use Rattle.axis_core.proofs.KeptMoves.{Laws}
 use Rattle.axis_core.proofs.MayAdmit.{may-admit}
 

@@ -1,5 +1,5 @@
 -- Where a move is done.
-use Rattle.std.specs.Prelude.{◌≡◌, ◌↔◌, refl, ◌⊎◌, ℕ, Bool, true, false, ◌&&◌, ◌||◌, nat_eq, ℤ, pos, neg_ℤ, ◌+ℤ◌, ◌-ℤ◌, ◌≤ℤ◌, ◌<ℤ◌, int_le, int_lt, Ok, Option, Some, None, List, slice_get, if◌then◌else◌}
+use Rattle.std.specs.Prelude.{◌≡◌, ◌↔◌, refl, ◌⊎◌, ℕ, Bool, true, false, ◌&&◌, ◌||◌, nat_eq, ℤ, pos, neg_ℤ, ◌+ℤ◌, ◌-ℤ◌, ◌≤ℤ◌, int_le, int_lt, Ok, Option, Some, None, List, slice_get, if◌then◌else◌}
 use Rattle.std.specs.Ordering.{int_eq}
 use Rattle.std.proofs.Common.{◌∙◌, sym, ap, subst, arith, inl, inr}
 use Rattle.std.proofs.lemmas.Int.{ints}
@@ -25,7 +25,6 @@ use Rattle.axis_core.specs.blocks.Reset.{reset_axis}
 use Rattle.axis_core.specs.declared.axis.Axis.{Axis}
 use Rattle.axis_core.specs.declared.blocks.moves.SecondMove.{SecondMove}
 use Rattle.axis_core.specs.declared.look.AxisLook.{AxisLook}
-use Rattle.axis_core.specs.declared.progress.Progress.{Progress}
 use Rattle.axis_core.proofs.ArrivalLaws.{AreAlike, active-runs, advances-by, both-true, ending-move, followed-move, given-alike, int-same, only-true, progress_at, reset-alike, still-driven, stop-alike, wish-move}
 use Rattle.axis_core.proofs.Blends.{first_down, first_up}
 use Rattle.axis_core.proofs.KeptRows.{Place, place-ended_by}

@@ -1,5 +1,5 @@
 -- A fate is what becomes of the active command of an axis.
-use Rattle.std.specs.Prelude.{◌≡◌, ◌≢◌, refl, ℕ, Bool, true, false, not, ◌&&◌, ◌||◌, is_none, nat_eq, ℤ, ◌+ℤ◌, Option, Some, None, is_some, List, [], ◌∷◌, slice_get, if◌then◌else◌, Result, Ok, Err}
+use Rattle.std.specs.Prelude.{◌≡◌, ◌≢◌, refl, ℕ, Bool, true, false, ◌&&◌, ◌||◌, is_none, nat_eq, ℤ, ◌+ℤ◌, Option, Some, None, List, [], ◌∷◌, slice_get, if◌then◌else◌, Result, Ok, Err}
 use Rattle.std.proofs.Common.{◌∙◌, sym, subst}
 use Rattle.axis_state.specs.Diagram.{next_of}
 use Rattle.axis_state.specs.declared.diagram.AxisEvent.TheVariants.{StopReleased}

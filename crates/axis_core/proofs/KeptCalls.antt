@@ -11,7 +11,6 @@ use Rattle.axis_core.specs.Cores.{Core, begun, begun_by}
 use Rattle.axis_core.specs.Refusals.{Asked, refusal_of}
 use Rattle.axis_core.specs.Rows.{Stays}
 use Rattle.axis_core.specs.States.{is_error_stop}
-use Rattle.axis_core.specs.blocks.Gear.{velocity_command}
 use Rattle.axis_core.specs.blocks.Moves.{known_target_of, with_target}
 use Rattle.axis_core.specs.blocks.Path.{on_path}
 use Rattle.axis_core.specs.declared.axis.Axis.{Axis}

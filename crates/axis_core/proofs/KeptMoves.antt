@@ -19,7 +19,7 @@ use Rattle.kin_core.specs.Toward.{toward_zero}
 use Rattle.kin_core.specs.declared.limits.Limits.{Limits}
 use Rattle.axis_core.specs.AxisKept.{IsActive, IsBased, IsCoreKept, IsHomeWithin, IsInState, IsReady, IsSet, MayQueue, fits}
 use Rattle.axis_core.specs.Cores.{Core, ended, ended_by, failed, settled}
-use Rattle.axis_core.specs.Cycles.{Advance, advanced_by, advanced_from, advanced_with, braked, braking_step, followed, progress_of, progress_with}
+use Rattle.axis_core.specs.Cycles.{Advance, advanced_by, advanced_from, advanced_with, braked, braking_step, progress_with}
 use Rattle.axis_core.specs.Kinds.{ending_by, is_reached, wish_by}
 use Rattle.axis_core.specs.Ranges.{IsBetween}
 use Rattle.axis_core.specs.States.{is_error_stop, is_synchronized}

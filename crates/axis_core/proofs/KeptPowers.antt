@@ -1,12 +1,12 @@
 -- What opening, a Power, a path and the loss of an owner keep of an axis, and what a kept axis lets its calls ask.
-use Rattle.std.specs.Prelude.{◌≡◌, refl, ◌⊎◌, ℕ, ◌<◌, Bool, true, false, not, ◌&&◌, ℤ, pos, ◌≤ℤ◌, Option, Some, None, List, [], ◌∷◌, length, if◌then◌else◌, IsTrue}
+use Rattle.std.specs.Prelude.{◌≡◌, refl, ◌⊎◌, ℕ, Bool, true, false, not, ◌&&◌, ℤ, pos, ◌≤ℤ◌, Option, Some, None, List, [], ◌∷◌, if◌then◌else◌, IsTrue}
 use Rattle.std.proofs.Common.{sym, ap, subst, arith, inl, inr}
 use Rattle.std.proofs.lemmas.Int.{ints}
 use Rattle.axis_state.specs.Counts.{count_of, IsCount, HasCounts}
 use Rattle.axis_state.specs.declared.definition.AxisDef.{AxisDef}
 use Rattle.axis_state.specs.declared.state.AxisState.{AxisState}
 use Rattle.axis_state.specs.declared.state.AxisState.TheVariants as state
-use Rattle.command_pool.specs.Waiting.{queue_of, without}
+use Rattle.command_pool.specs.Waiting.{without}
 use Rattle.command_pool.specs.declared.kind.BlockKind.{BlockKind}
 use Rattle.command_pool.specs.declared.kind.BlockKind.TheVariants as kind
 use Rattle.command_pool.specs.declared.wanted.Wanted.{Wanted}

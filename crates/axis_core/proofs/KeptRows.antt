@@ -20,7 +20,7 @@ use Rattle.axis_core.specs.AxisKept.{IsCoreKept, IsHomeWithin, IsInState, IsLook
 use Rattle.axis_core.specs.Cores.{Core, begun, begun_by, begun_from, ended, ended_by, failed, taken_over, taken_over_by}
 use Rattle.axis_core.specs.Cycles.{Advance, advanced, advanced_by, advanced_from, advanced_with, answered, braked, braking_step, cycled, followed, gone_on, moved, progress_with, row_of, run}
 use Rattle.axis_core.specs.Drives.{actual_of, answer_error_of, is_driven, is_within, standing}
-use Rattle.axis_core.specs.Kinds.{ending_by, wish_by}
+use Rattle.axis_core.specs.Kinds.{wish_by}
 use Rattle.axis_core.specs.Ranges.{IsBetween}
 use Rattle.motion_numbers.specs.Ranges.{is_outside}
 use Rattle.axis_core.specs.Rows.{KeepsSpell, spell_of}

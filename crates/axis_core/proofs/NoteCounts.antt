@@ -12,12 +12,8 @@ use Rattle.command_pool.specs.declared.wanted.Wanted.{Wanted}
 use Rattle.axis_core.specs.Cores.{Core, begun, begun_from, ended, ended_by, failed, taken_over, taken_over_by}
 use Rattle.axis_core.specs.Cycles.{advanced, answered, gone_on, moved, run}
 use Rattle.axis_core.specs.Drives.{answer_error_of, standing}
-use Rattle.axis_core.specs.Kinds.{ending_by}
 use Rattle.motion_numbers.specs.Ranges.{is_outside}
-use Rattle.axis_core.specs.States.{is_error_stop}
-use Rattle.axis_core.specs.Steps.{taken_of}
 use Rattle.axis_core.specs.blocks.Moves.{with_target}
-use Rattle.axis_core.specs.blocks.Path.{place_on_path}
 use Rattle.axis_core.specs.declared.look.AxisLook.{AxisLook}
 
 -- at most one note tells of a command's end

@@ -1,15 +1,14 @@
 -- An instance is told of the end of each command that it has, once.
-use Rattle.std.specs.Prelude.{◌≡◌, refl, map, ℕ, ◌+◌, Bool, true, false, ◌&&◌, ◌||◌, not, is_none, nat_eq, ℤ, ◌+ℤ◌, Option, Some, None, is_some, List, [], ◌∷◌, ◌++◌, slice_get, if◌then◌else◌}
+use Rattle.std.specs.Prelude.{◌≡◌, refl, map, ℕ, ◌+◌, Bool, true, false, ◌&&◌, ◌||◌, is_none, nat_eq, ℤ, ◌+ℤ◌, Option, Some, None, List, [], ◌∷◌, ◌++◌, slice_get, if◌then◌else◌}
 use Rattle.std.proofs.Common.{sym, ◌∙◌, ap, arith}
 use Rattle.axis_state.specs.Diagram.{next_of}
 use Rattle.axis_state.specs.declared.diagram.AxisEvent.TheVariants.{StopReleased}
 use Rattle.axis_state.specs.declared.state.AxisState.{AxisState}
 use Rattle.buffer_modes.specs.Queue.{active_note, end_notes, is_aborting, is_active_at_once, behind}
-use Rattle.axis_core.specs.Calls.{active_without, admitted_by, commanded, commanded_by, detached, disabled, joined, powered_by, queue_in, queued, reset_without}
+use Rattle.axis_core.specs.Calls.{active_without, admitted_by, commanded, commanded_by, detached, disabled, powered_by, queue_in, queued, reset_without}
 use Rattle.axis_core.specs.Cores.{Core, begun, begun_by, ended, ended_by, failed, taken_over, taken_over_by}
 use Rattle.axis_core.specs.Cycles.{advanced, answered, cycled, gone_on, moved, run}
 use Rattle.axis_core.specs.Drives.{answer_error_of, is_driven, standing}
-use Rattle.axis_core.specs.Fates.{replaced}
 use Rattle.axis_core.specs.Owners.{brought, brought_by, disowned, is_owner, one_of, owner_by, owns, reset_owner, told, waits_of}
 use Rattle.motion_numbers.specs.Ranges.{is_outside}
 use Rattle.axis_core.specs.Refusals.{Asked, refusal_of}

@@ -26,7 +26,7 @@ use Rattle.axis_core.specs.Shown.{AreShown, IsAxisError, IsShown}
 use Rattle.axis_core.specs.States.{is_error_stop, is_stopping, is_synchronized}
 use Rattle.axis_core.specs.Steps.{ends_where, guarded, is_braking, is_safe_step, moved_to, old_step_of, step_toward, taken_by, taken_of}
 use Rattle.axis_core.specs.blocks.Cam.{cam_wish_where}
-use Rattle.axis_core.specs.blocks.Gear.{gear_step_of, velocity_command}
+use Rattle.axis_core.specs.blocks.Gear.{gear_step_of}
 use Rattle.axis_core.specs.blocks.Halts.{hold_by, is_at_rest, is_released, stop_left}
 use Rattle.axis_core.specs.blocks.Moves.{known_target_of, target_of, with_target}
 use Rattle.axis_core.specs.blocks.Path.{is_on_path, on_path, on_path_from, path_left, place_on_path}

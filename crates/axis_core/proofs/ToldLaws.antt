@@ -1,7 +1,7 @@
 -- The instance that has the active command is told how it ends.
 use Rattle.std.specs.Prelude.{◌≡◌, refl, ℕ, Bool, true, false, ◌&&◌, ◌||◌, nat_eq, ℤ, ◌+ℤ◌, Option, Some, None, is_none, List, [], ◌∷◌, ◌++◌, slice_get, if◌then◌else◌}
 use Rattle.std.specs.List.{Contains}
-use Rattle.std.proofs.Common.{◌∙◌, sym, ap, subst, arith}
+use Rattle.std.proofs.Common.{sym, ap, subst, arith}
 use Rattle.std.proofs.lemmas.List.Elements.{Contains-append_left, Contains-append_right}
 use Rattle.buffer_modes.specs.Queue.{active_note, is_active_at_once, is_aborting, end_notes}
 use Rattle.command_pool.specs.Waiting.{last_of, told_to, notes_of}
@@ -11,18 +11,17 @@ use Rattle.command_pool.specs.declared.kind.BlockKind.{BlockKind}
 use Rattle.command_pool.specs.declared.kind.BlockKind.TheVariants as kind
 use Rattle.command_pool.specs.declared.notes.Note.{Note}
 use Rattle.command_pool.specs.declared.wanted.Wanted.{Wanted}
-use Rattle.axis_core.specs.Calls.{admitted_by, commanded, commanded_by, disabled, joined, powered_by, queue_in, queued}
+use Rattle.axis_core.specs.Calls.{admitted_by, commanded, commanded_by, disabled, powered_by, queue_in, queued}
 use Rattle.axis_core.specs.Cores.{Core, begun, ended, ended_by, failed, taken_over, taken_over_by}
 use Rattle.axis_core.specs.Cycles.{advanced, answered, cycled, gone_on, moved, run}
 use Rattle.axis_core.specs.Drives.{answer_error_of, is_driven, standing}
 use Rattle.axis_core.specs.Fates.{Fate, admitted_fate, asked_fate, command_fate, cycle_fate, ending_fate, goes_on, is_blended, moved_fate, power_fate, replaced, taker_of}
-use Rattle.axis_core.specs.Owners.{TellsOwner, owner_by, told}
+use Rattle.axis_core.specs.Owners.{TellsOwner, owner_by}
 use Rattle.motion_numbers.specs.Ranges.{is_outside}
 use Rattle.axis_core.specs.Refusals.{Asked, refusal_of}
 use Rattle.axis_core.specs.States.{is_error_stop}
 use Rattle.axis_core.specs.blocks.Moves.{known_target_of, position_of, with_target}
 use Rattle.axis_core.specs.blocks.Reset.{reset_notes}
-use Rattle.axis_core.specs.declared.axis.Axis.{Axis}
 use Rattle.axis_core.specs.declared.look.AxisLook.{AxisLook}
 use Rattle.axis_core.specs.declared.reason.Reason.{Reason}
 use Rattle.axis_core.proofs.FateLaws.{advances, both-ways}

@@ -9,8 +9,6 @@ use Rattle.command_pool.specs.declared.wanted.Wanted.{Wanted}
 use Rattle.kin_core.specs.declared.limits.Limits.{Limits}
 use Rattle.trapezoid_plan.specs.CyclesBound.{cycles_bound_of}
 use Rattle.trapezoid_plan.specs.MoveRun.{IsDoneWithin, IsAtRestWithin}
-use Rattle.axis_core.specs.Calls.{left}
-use Rattle.axis_core.specs.Cycles.{run}
 use Rattle.axis_core.specs.Fates.{Fate}
 use Rattle.axis_core.specs.blocks.Moves.{target_of}
 use Rattle.axis_core.specs.declared.axis.Axis.{Axis}

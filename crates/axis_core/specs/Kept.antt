@@ -1,8 +1,8 @@
 -- The ranges of the numbers that a cycle works with.
-use Rattle.std.specs.Prelude.{◌≡◌, ◌≤◌, ◌*◌, ℤ, pos, ◌≤ℤ◌, ◌<ℤ◌, ◌-ℤ◌, unsigned_abs, false, Option, Some, None, IfSome, slice_get, List, [], ◌∷◌}
+use Rattle.std.specs.Prelude.{◌≡◌, ◌≤◌, ℤ, pos, ◌≤ℤ◌, ◌-ℤ◌, unsigned_abs, false, Option, Some, None, IfSome, slice_get, List, [], ◌∷◌}
 use Rattle.axis_state.specs.declared.count.TheConstants.{MOST_OFFSET, MOST_REPORTED}
 use Rattle.axis_core.specs.declared.axis.TheConstants.{MOST_TARGET}
-use Rattle.motion_numbers.specs.declared.TheConstants.{MOST_INCREMENT, MOST_PLACE, MOST_RATIO, MOST_STEP, MOST_WAY}
+use Rattle.motion_numbers.specs.declared.TheConstants.{MOST_INCREMENT, MOST_PLACE, MOST_RATIO, MOST_STEP}
 use Rattle.motion_numbers.specs.Ranges.{IsStep, IsPlace}
 use Rattle.command_pool.specs.declared.kind.BlockKind.{BlockKind}
 use Rattle.command_pool.specs.declared.kind.BlockKind.TheVariants as kind

@@ -15,7 +15,7 @@ use Rattle.command_pool.specs.declared.kind.BlockKind.TheVariants as kind
 use Rattle.command_pool.specs.declared.kind.BufferMode.{BufferMode}
 use Rattle.command_pool.specs.declared.kind.BufferMode.TheVariants as mode
 use Rattle.command_pool.specs.declared.wanted.Wanted.{Wanted}
-use Rattle.axis_core.specs.Steps.{ends_where, old_step_of, step_toward}
+use Rattle.axis_core.specs.Steps.{ends_where, step_toward}
 use Rattle.axis_core.specs.declared.axis.Axis.{Axis}
 use Rattle.axis_core.specs.declared.blocks.moves.SecondMove.{SecondMove}
 use Rattle.axis_core.specs.declared.reason.Reason.{Reason}

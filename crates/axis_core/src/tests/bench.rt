@@ -1,7 +1,7 @@
 // An axis for the tests, with a drive that follows in step or answers by hand.
 
-ghost use Rattle.std.specs.Prelude.{◌≡◌, true, length};
-ghost use Rattle.axis_core.specs.AxisKept as kept;
+ghost use Rattle.std.specs.Prelude.{◌≡◌, ◌≢◌, ◌≤◌, IsTrue, IfSome, None, true, length, unsigned_abs};
+ghost use Rattle.axis_core.specs.Kinds as kinds;
 ghost use Rattle.axis_core.specs.AxisKept.{IsAxisDef, IsLook};
 ghost use Rattle.axis_core.specs.Demands as demands;
 ghost use Rattle.axis_core.specs.Demands.{IsMade};
@@ -178,7 +178,7 @@ fn is_command(kind: BlockKind) -> bool
 
 // Whether a kind takes a mode.
 fn may_wait(kind: BlockKind) -> bool
-    ensures { result ≡ kept.may_wait kind }
+    ensures { result ≡ kinds.may_wait kind }
 {
     matches!(
         kind,
@@ -218,15 +218,55 @@ fn is_on_path(core: &AxisCore) -> bool
     core.state() == AxisState::SynchronizedMotion && core.active().is_none()
 }
 
+fn is_same(a: i64, b: i64) -> bool
+    ensures { IsTrue result → a ≡ b }
+{
+    a == b
+}
+
+// Whether a place is a safe one after the setpoints of an axis that is on its group's path.
+fn is_safe(core: &AxisCore, place: i64) -> bool
+    requires path { path.is_on_path core.now ≡ true }
+    requires small { unsigned_abs place ≤ 1000 }
+    ensures { IsTrue result → IsSafe core.now.limits core.now.previous core.now.setpoint place }
+{
+    let (before, now) = core.pair();
+    let step = place - now;
+    is_same(nearest_safe(core.limits(), before, now, step), step)
+}
+
 // Stops the test where a place is not safe after the setpoints of an axis that is on its group's path.
 fn expect_place(rt: &impl Abort, core: &AxisCore, place: i64)
     requires { path.is_on_path core.now ≡ true }
     ensures { IsSafe core.now.limits core.now.previous core.now.setpoint place }
 {
-    let (before, now) = core.pair();
     assert!(rt; place.unsigned_abs() <= 1000);
-    let step = place - now;
-    assert!(rt; nearest_safe(core.limits(), before, now, step) == step);
+    assert!(rt; is_safe(core, place));
+}
+
+// Whether a path that ends does so where the axis is.
+fn ends_at_rest(core: &AxisCore, look: &AxisLook, place: i64) -> bool
+    ensures { IsTrue result → look.now.path_ends ≡ true → place ≡ core.now.setpoint }
+{
+    if look.path_ends {
+        is_same(place, core.pair().1)
+    } else {
+        true
+    }
+}
+
+// Stops the test where an axis that is on its group's path is given no place, or one that it can't take.
+fn expect_path(rt: &impl Abort, core: &AxisCore, look: &AxisLook)
+    requires { path.is_on_path core.now ≡ true }
+    ensures safe { IfSome look.now.path (IsSafe core.now.limits core.now.previous core.now.setpoint) }
+    ensures given { look.now.path ≢ None }
+    ensures ends { IfSome look.now.path (λ place. look.now.path_ends ≡ true → place ≡ core.now.setpoint) }
+{
+    assert!(rt; look.path.is_some());
+    if let Some(place) = look.path {
+        expect_place(rt, core, place);
+        assert!(rt; ends_at_rest(core, look, place));
+    }
 }
 
 // Stops the test where a cycle brings what is out of range.
@@ -235,11 +275,7 @@ fn expect_look(rt: &impl Abort, core: &AxisCore, look: &AxisLook)
 {
     assert!(rt; look.cam.unsigned_abs() <= 1_000_000_000_000_000);
     if is_on_path(core) {
-        assert!(rt; look.path.is_some());
-        if let Some(place) = look.path {
-            expect_place(rt, core, place);
-            assert!(rt; !look.path_ends || place == core.pair().1);
-        }
+        expect_path(rt, core, look);
     }
 }
 

@@ -1,5 +1,5 @@
 -- What a command asks of its parts, and what it keeps.
-use Rattle.std.proofs.Common.{◌∙◌, sym, subst, to_z, of_z, w64}
+use Rattle.std.proofs.Common.{◌∙◌, sym, subst}
 use Rattle.axis_core.specs.AxisKept.{IsCoreKept}
 use Rattle.axis_core.specs.Cores.{Core, core_at}
 use Rattle.axis_core.specs.Calls.{admitted_by}

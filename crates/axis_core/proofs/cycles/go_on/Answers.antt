@@ -1,5 +1,5 @@
 -- A command ends only where the axis is not in ErrorStop.
-use Rattle.std.specs.Prelude.{ℕ, ◌≡◌, ◌≤◌, false, Option, Some, None, IfSome, List, unsigned_abs}
+use Rattle.std.specs.Prelude.{◌≡◌, ◌≤◌, false, Option, Some, None, IfSome, List, unsigned_abs}
 use Rattle.std.proofs.Common.{sym, subst}
 use Rattle.axis_state.specs.Diagram.{IsFrom}
 use Rattle.axis_state.specs.declared.count.TheConstants.{MOST_REPORTED}

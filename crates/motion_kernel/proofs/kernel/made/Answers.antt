@@ -8,4 +8,4 @@ use Rattle.motion_kernel.proofs.kernel.made.Goals as goal
 
 pub invariant_of-result : goal.invariant_of-result
 invariant_of-result c = IsKernelKept-open _ c.standing_is_kept.ensures.kept c.axes_are_in_range.ensures.ranges c.axes.ensures.setup c.requires
-    (c.in_ok-axes.ensures ∙ ap (map axis.opened) c.axes.ensures.axes) (c.in_ok-instances.ensures ∙ ap (map (λ b. step.opened b.kind)) c.blocks-2.ensures) c.in-Ok.ensures
+    (c.in_ok-axes.ensures ∙ ap (map axis.opened) c.axes.ensures.axes) (c.in_ok-instances.ensures ∙ ap (map (λ b. step.opened b.kind)) c.blocks-2.ensures) c.in_ok-history.ensures
