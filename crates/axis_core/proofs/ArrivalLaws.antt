@@ -35,6 +35,7 @@ use Rattle.axis_core.specs.Cycles.{Advance, advanced, advanced_by, advanced_from
 use Rattle.axis_core.specs.Drives.{answer_error_of, is_driven, is_operational, is_within, standing}
 use Rattle.axis_core.specs.Fates.{Fate, admitted_fate, asked_fate, command_fate, cycle_fate, ending_fate, goes_on, is_blended, moved_fate, power_fate, replaced}
 use Rattle.axis_core.specs.Kinds.{ending_by, is_reached, wish_by}
+use Rattle.axis_core.specs.Motions.{is_slowing}
 use Rattle.axis_core.specs.Ranges.{IsBetween}
 use Rattle.axis_core.specs.Refusals.{Asked, refusal_of}
 use Rattle.axis_core.specs.States.{is_error_stop, is_synchronized}
@@ -145,11 +146,6 @@ toward-of _ w target rates h = absurd (cc)
 is-toward : (w : Wanted) (target : ℤ) (rates : Rates) → course_of w ≡ Some (toward target rates) → IsToward w target rates
 is-toward w target rates h = let f = toward-of w.kind w target rates h in record { kind = f.0; same_target = f.1; same_rates = f.2 }
 
-abbrev is_slowing : BlockKind → Bool
-is_slowing kind.Halt = true
-is_slowing kind.Stop = true
-is_slowing k = false
-
 slowing-of : (k : BlockKind) (w : Wanted) (d : ℤ) → course_by k w ≡ Some (slowing d) → (is_slowing k ≡ true) × (w.rates.d ≡ d)
 slowing-of kind.Halt w d h = (refl, (let e : w.rates.d ≡ d = cc in e))
 slowing-of kind.Stop w d h = (refl, (let e : w.rates.d ≡ d = cc in e))
@@ -248,18 +244,18 @@ move-by n target rates c w look false b e course run p is ends =
     subst P (sym ending) (carries-done n (toward target rates) c false (stands_at_target c.axis w p.step) (followed w.kind (target_of w) p c.axis)
     (alone n target rates c w p (stands_at_target c.axis w p.step) e course run (is ∙ alone-step c.axis w next none) refl))
 
-wish-halt : (k : BlockKind) (a : Axis) (w : Wanted) (next : Option Wanted) (look : AxisLook) → is_slowing k ≡ true → wish_by k a w next look ≡ halt_wish a w
+pub wish-halt : (k : BlockKind) (a : Axis) (w : Wanted) (next : Option Wanted) (look : AxisLook) → is_slowing k ≡ true → wish_by k a w next look ≡ halt_wish a w
 wish-halt kind.Halt a w next look h = refl
 wish-halt kind.Stop a w next look h = refl
 wish-halt _ a w next look h = absurd (cc)
 
-ending-halt : (k : BlockKind) (a : Axis) (w : Wanted) (next : Option Wanted) (step : ℤ) (look : AxisLook) → is_slowing k ≡ true →
+pub ending-halt : (k : BlockKind) (a : Axis) (w : Wanted) (next : Option Wanted) (step : ℤ) (look : AxisLook) → is_slowing k ≡ true →
     ending_by k a w next step look ≡ halt_ending step
 ending-halt kind.Halt a w next step look h = refl
 ending-halt kind.Stop a w next step look h = refl
 ending-halt _ a w next step look h = absurd (cc)
 
-followed-halt : (k : BlockKind) (target : ℤ) (p : Progress) (a : Axis) → is_slowing k ≡ true → AreAlike (moved_to (a.setpoint +ℤ p.step) a) (followed k target p a)
+pub followed-halt : (k : BlockKind) (target : ℤ) (p : Progress) (a : Axis) → is_slowing k ≡ true → AreAlike (moved_to (a.setpoint +ℤ p.step) a) (followed k target p a)
 followed-halt kind.Halt target p a h = record { limits = refl; previous = refl; setpoint = refl; active = refl }
 followed-halt kind.Stop target p a h = record { limits = refl; previous = refl; setpoint = refl; active = refl }
 followed-halt _ target p a h = absurd (cc)

@@ -22,3 +22,6 @@ pub mod OwnerLaws
 pub mod ArrivalLaws
 pub mod DoneLaws
 pub mod ChangeLaws
+pub mod LedLaws
+pub mod WaitingLaws
+pub mod MotionLaws

@@ -1,6 +1,6 @@
 // Laws of an axis: each is the contract of a function that does nothing.
 
-ghost use Rattle.std.specs.Prelude.{◌≡◌, ◌⊎◌, IsTrue, None, ℤ, [], ◌+◌, ℕ, Bool, Some, true, false, nat_eq, slice_get};
+ghost use Rattle.std.specs.Prelude.{◌≡◌, ◌≤◌, ◌⊎◌, length, IsTrue, None, ℤ, [], ◌+◌, ℕ, Bool, Some, true, false, nat_eq, slice_get};
 ghost use Rattle.command_pool.specs.declared.ending.Finish.TheVariants as finish;
 ghost use Rattle.axis_core.specs.blocks.Moves.{blended_with, is_move, target_of};
 ghost use Rattle.command_pool.specs.declared.wanted.Wanted.{Wanted};
@@ -12,6 +12,10 @@ ghost use Rattle.axis_core.specs.Cores.{Core};
 ghost use Rattle.axis_core.specs.Cycles.{cycled, opened, row_of};
 ghost use Rattle.axis_core.specs.Demands.{IsMade, asked_in};
 ghost use Rattle.axis_core.specs.Fates.{IsFate, IsSame, command_fate, power_fate, cycle_fate};
+ghost use Rattle.axis_core.specs.Led.{HasCommand, StaysLed};
+ghost use Rattle.axis_core.specs.Drives.{answer_error_of};
+ghost use Rattle.axis_core.specs.Motions.{Leads, halt_step_taken, is_done_by, is_rest, is_slowing, move_step_taken};
+ghost use Rattle.axis_core.specs.declared.reason.Reason.{Reason};
 ghost use Rattle.axis_core.specs.Owners.{TellsOwner, is_owner, owns, told, brought, disowned};
 ghost use Rattle.axis_core.specs.Refusals.{Asked, refusal_of};
 ghost use Rattle.axis_core.specs.Rows.{KeepsSpell, Stays};
@@ -144,3 +148,38 @@ pub fn states_change_by_the_diagram()
     counts_are_read_back();
     offsets_are_small();
 }
+
+/// An axis in a state of a command that moves it has an active command, and it comes on its group's path by `on_path`
+/// alone.
+pub fn moving_axes_have_commands()
+    ensures opened { (d : AxisDef) → HasCommand (opened d) }
+    ensures command { (q : Asked) (c : Core) → StaysLed c.axis (commanded q c).axis }
+    ensures power { (enable : Bool) (c : Core) → StaysLed c.axis (powered_by enable c).axis }
+    ensures detach { (owner : ℕ) (a : Axis) → StaysLed a (detached owner a) }
+    ensures path { (on : Bool) (a : Axis) → HasCommand a → HasCommand (on_path on a) }
+    ensures cycle { (look : AxisLook) (c : Core) → IsCoreKept c → StaysLed c.axis (cycled look c).axis }
+{}
+
+/// At most eight commands wait for an axis: a command that is asked keeps that, and a Power and a cycle add none.
+pub fn at_most_eight_wait()
+    ensures command { (c : Core) (number : ℕ) (w : Wanted) (jerk : ℤ) (held : Bool) (tables : ℕ) → IsCoreKept c → IsMade w →
+        length c.waiting ≤ 8 → length (commanded (asked_in c number w jerk held tables) c).waiting ≤ 8 }
+    ensures power { (enable : Bool) (c : Core) → length (powered_by enable c).waiting ≤ length c.waiting }
+    ensures cycle { (look : AxisLook) (c : Core) → length (cycled look c).waiting ≤ length c.waiting }
+{}
+
+/// While the drive's answer brings no error, a move goes on by the taken step of its plan, alone or in a blend, and is
+/// Done exactly where that crosses its target in a blend or stands at it with step 0; a Halt and a Stop go on by
+/// theirs, and are Done exactly where it is 0. A refused command changes nothing.
+pub fn moves_go_on_by_their_steps()
+    ensures moves { (look : AxisLook) (c : Core) (w : Wanted) → IsCoreKept c → c.axis.active ≡ Some w → is_move w.kind ≡ true →
+        nat_eq (answer_error_of c.axis look.input) 0 ≡ true →
+        Leads (move_step_taken (blended_with c.axis w (slice_get c.waiting 0)) c.axis w)
+        (is_done_by (blended_with c.axis w (slice_get c.waiting 0)) c.axis w
+        (move_step_taken (blended_with c.axis w (slice_get c.waiting 0)) c.axis w))
+        c.axis (cycle_fate look c) (cycled look c).axis }
+    ensures halts { (look : AxisLook) (c : Core) (w : Wanted) → IsCoreKept c → c.axis.active ≡ Some w → is_slowing w.kind ≡ true →
+        nat_eq (answer_error_of c.axis look.input) 0 ≡ true →
+        Leads (halt_step_taken c.axis w) (is_rest (halt_step_taken c.axis w)) c.axis (cycle_fate look c) (cycled look c).axis }
+    ensures refused { (q : Asked) (c : Core) (r : Reason) → refusal_of q ≡ Some r → commanded q c ≡ c }
+{}

@@ -28,8 +28,9 @@ pub use command_pool::{
     Wanted,
 };
 pub use laws::{
-    axes_stay_kept, calls_move_no_axis, courses_end_in_time, ends_are_told_once,
-    errors_stand_in_error_stop, fates_are_told, moves_are_done_at_their_targets,
+    at_most_eight_wait, axes_stay_kept, calls_move_no_axis, courses_end_in_time,
+    ends_are_told_once, errors_stand_in_error_stop, fates_are_told,
+    moves_are_done_at_their_targets, moves_go_on_by_their_steps, moving_axes_have_commands,
     states_change_by_the_diagram,
 };
 pub use look::{ActiveLook, AxisLook};
