@@ -6,10 +6,11 @@ use Rattle.command_pool.specs.declared.pool.CommandPool.TheInside.{Inside}
 use Rattle.command_pool.specs.declared.linking.Queue.{Queue}
 use Rattle.command_pool.specs.declared.wanted.Wanted.{Wanted}
 use Rattle.command_pool.specs.Waiting.{queue_of, last_of}
-use Rattle.command_pool.specs.Layout.{links_of, commands_of, command_at, queue_at, empty}
+use Rattle.command_pool.specs.Layout.{chains, links_of, commands_of, command_at, queue_at, times_in_all, empty}
 use Rattle.command_pool.specs.Kept.{lists_in, IsKept, IsLinked}
 use Rattle.command_pool.proofs.Records.{length-links_of}
 use Rattle.command_pool.proofs.Pools.{has_free, first_free, last_listed, first_listed}
+use Rattle.command_pool.proofs.Times.{once}
 use Rattle.command_pool.proofs.Lists.{length-lists_of, length-queue_of, queue_of-none, queue_of-rest, last_of-lists_of}
 
 -- a list's places that were read by its number
@@ -109,3 +110,10 @@ has_first p lists list q kept e there some read =
     let n = count_is p lists list e in
     let s : 0 < q.count = rw r (omega arith) in
     record { read = r; some = s; below = first_below p list q kept r s }
+
+-- a place that stands in a list is a record's
+pub listed_below : (p : Inside) (k : ℕ) → IsKept p → 0 < times_in_all k (chains (links_of p.records.items) p.queues.items) → k < vec_len p.records
+listed_below p k kept some =
+    let l = length-links_of p.records.items in
+    let h = once k (length (links_of p.records.items)) _ (kept.once k) (omega arith) in
+    omega (arith, p.records.ok.0, h.below)

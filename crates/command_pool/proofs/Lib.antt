@@ -1,5 +1,6 @@
 pub mod Times
 pub mod Chains
+pub mod Detached
 pub mod Pools
 pub mod Pushed
 pub mod Popped

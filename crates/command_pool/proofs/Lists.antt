@@ -1,10 +1,10 @@
 -- The commands of each list, as its records give them.
-use Rattle.std.proofs.Common.{◌≡◌, refl, sym, ap, ◌∙◌, ℕ, zero, suc, ◌<◌, Some, List, [], ◌∷◌, ◌++◌, length, map, get_or, set, drop, replicate, arith}
+use Rattle.std.proofs.Common.{◌≡◌, refl, ap, ◌∙◌, ℕ, zero, suc, ◌<◌, Some, List, [], ◌∷◌, ◌++◌, length, map, get_or, set, drop, replicate, arith}
 use Rattle.std.proofs.Math.ListN.{get_or-map}
 use Rattle.std.proofs.lemmas.List.{get_or-set_same, get_or-set_other, length-map, map-set, map-append}
 use Rattle.command_pool.specs.declared.linking.Queue.{Queue}
 use Rattle.command_pool.specs.declared.wanted.Wanted.{Wanted}
-use Rattle.command_pool.specs.Waiting.{queue_of, last_of, waiting_in_all, detached}
+use Rattle.command_pool.specs.Waiting.{queue_of, last_of, waiting_in_all}
 use Rattle.command_pool.specs.Layout.{command_at, unused, places, chain, chains, times, times_in_all, count_in_all, end_of, queue_at, longer, links_with, shorter, empty, lists_of}
 use Rattle.command_pool.specs.Kept.{IsLinked}
 use Rattle.command_pool.proofs.Times.{not_first, not_later}
@@ -163,29 +163,6 @@ last_of-lists_of links commands queues free count list h some =
     let l : 0 < length (chain links (queue_at queues list)) = rw (length-chain links (queue_at queues list)) some in
     ap last_of (queue_of-lists_of links commands queues list) ∙
     last-some commands (chain links (queue_at queues list)) (queue_at queues list).last l (h.last list)
-
--- a change of each command, which leaves no command as it is
-changed-at : (g : Wanted → Wanted) (commands : List Wanted) → g unused ≡ unused → (p : ℕ) →
-    command_at (map g commands) p ≡ g (command_at commands p)
-unfolding command_at
-changed-at g commands same p = ap (get_or (map g commands) p) (sym same) ∙ get_or-map g commands p unused
-
-changed-one : (g : Wanted → Wanted) (commands : List Wanted) → g unused ≡ unused → (c : List ℕ) →
-    map (command_at (map g commands)) c ≡ map g (map (command_at commands) c)
-changed-one g commands same [] = refl
-changed-one g commands same (p ∷ c) =
-    rw (changed-at g commands same p) (ap (λ (ws : List Wanted). g (command_at commands p) ∷ ws) (changed-one g commands same c))
-
-changed-all : (g : Wanted → Wanted) (commands : List Wanted) → g unused ≡ unused → (cs : List (List ℕ)) →
-    map (map (command_at (map g commands))) cs ≡ map (map g) (map (map (command_at commands)) cs)
-changed-all g commands same [] = refl
-changed-all g commands same (c ∷ cs) =
-    rw (changed-one g commands same c) (ap (λ (ws : List (List Wanted)). map g (map (command_at commands) c) ∷ ws) (changed-all g commands same cs))
-
-pub lists_of-detached : (links : List ℕ) (commands : List Wanted) (queues : List Queue) (owner : ℕ) →
-    lists_of links (map (detached owner) commands) queues ≡ map (map (detached owner)) (lists_of links commands queues)
-unfolding lists_of
-lists_of-detached links commands queues owner = changed-all (detached owner) commands refl (chains links queues)
 
 -- a pool that is opened has no commands
 pub lists_of-opened : (links : List ℕ) (commands : List Wanted) (n : ℕ) → lists_of links commands (replicate n empty) ≡ replicate n []

@@ -90,9 +90,15 @@ links_with links q place = if nat_eq q.count 0 then links else slice_set links q
 unfoldable pub shorter : List ℕ → Queue → Queue
 shorter links q = record { first = slice_index links q.first; last = q.last; count = q.count - 1 }
 
--- a record whose command loses its owner where it is this one. This project's profile
-unfoldable pub record_detached : ℕ → Record → Record
-record_detached owner r = record r { wanted = detached owner r.wanted }
+-- the commands where those in the records at some places have lost the owner. This project's profile
+unfoldable pub detached_in : ℕ → List ℕ → List Wanted → List Wanted
+detached_in owner [] commands = commands
+detached_in owner (p ∷ ps) commands = detached_in owner ps (slice_set commands p (detached owner (command_at commands p)))
+
+-- the same, with the places of several lists. This project's profile
+unfoldable pub detached_in_all : ℕ → List (List ℕ) → List Wanted → List Wanted
+detached_in_all owner [] commands = commands
+detached_in_all owner (c ∷ cs) commands = detached_in_all owner cs (detached_in owner c commands)
 
 -- so many places in the array's order, from one on. This project's profile
 unfoldable pub rising : ℕ → ℕ → List ℕ

@@ -7,7 +7,7 @@ ghost use Rattle.command_pool.specs.declared.ending.Finish.TheVariants as finish
 
 use crate::ending::Finish;
 use crate::linking::{
-    EMPTY, Queue, Record, append, command, detach_all, fill, free_records, link, next_of,
+    EMPTY, Queue, Record, append, command, detach_in_all, fill, free_records, link, next_of,
 };
 use crate::notes::Notes;
 use crate::wanted::Wanted;
@@ -119,7 +119,7 @@ impl CommandPool {
     pub fn detach(&mut self, owner: u16)
         ensures { self.new ≡ map (map (detached owner)) self.old }
     {
-        detach_all(&mut self.records, owner);
+        detach_in_all(&mut self.records, &self.queues, owner);
     }
 
     /// How many lists it has.
