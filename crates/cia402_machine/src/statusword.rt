@@ -24,9 +24,9 @@ fn masked_state(statusword: u16) -> Option<DriveState>
     ensures { result ≡ state_of_word statusword }
 {
     match statusword & 0x006f {
+        0x0027 => Some(DriveState::OperationEnabled),
         0x0021 => Some(DriveState::ReadyToSwitchOn),
         0x0023 => Some(DriveState::SwitchedOn),
-        0x0027 => Some(DriveState::OperationEnabled),
         0x0007 => Some(DriveState::QuickStopActive),
         _ => match statusword & 0x004f {
             0x0000 => Some(DriveState::NotReady),

@@ -6,7 +6,7 @@ mod ramp;
 mod ranges;
 
 pub use laws::{searches_find_the_greatest, ways_to_rest};
-pub use ramp::{greatest_ramp, ramp_sum, run_sum};
+pub use ramp::{greatest_ramp, ramp_sum, run_sum, way_fits};
 pub use ranges::is_outside;
 
 /// The greatest size of a place, in internal units.

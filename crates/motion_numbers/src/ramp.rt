@@ -1,6 +1,6 @@
 // The way to rest, and the greatest step whose way fits a room.
 
-ghost use Rattle.std.specs.Prelude.{◌≡◌, ℕ, ◌<◌, ◌≤◌, min, pos, ◌≤ℤ◌, unsigned_abs};
+ghost use Rattle.std.specs.Prelude.{◌≡◌, ◌↔◌, IsTrue, ℕ, ◌<◌, ◌≤◌, min, pos, ◌≤ℤ◌, unsigned_abs};
 ghost use Rattle.motion_numbers.specs.Ranges.{IsStep};
 ghost use Rattle.motion_numbers.specs.Run.{run_of, reach_of, cut_at_zero};
 
@@ -31,13 +31,35 @@ pub fn ramp_sum(u: u64, d: u64) -> u128
     terms as u128 * first_and_last as u128 / 2
 }
 
+/// Whether the way to rest from a step of size `u`, braking by `d` each cycle, fits a room. Twice the
+/// fall times the way is at least u * (u + d), and at most a quarter of d * d more: only between the
+/// two it takes a division to tell.
+pub fn way_fits(u: u64, d: u64, room: u64) -> bool
+    requires step { u ≤ MOST_STEP }
+    requires fall { 1 ≤ d }
+    ensures { IsTrue result ↔ (run_of u d ≤ room) }
+{
+    if u <= d {
+        return u <= room;
+    }
+    let least = u as u128 * (u + d) as u128;
+    let twice = (2 * d) as u128 * room as u128;
+    if twice < least {
+        false
+    } else if least + d as u128 * d as u128 / 4 <= twice {
+        true
+    } else {
+        ramp_sum(u, d) <= room as u128
+    }
+}
+
 /// The greatest step up to `most` whose way to rest, braking by `d`, is no longer than `room`.
 pub fn greatest_ramp(room: u64, d: u64, most: u64) -> u64
     requires step { most ≤ MOST_STEP }
     requires fall { 1 ≤ d }
     ensures value { result ≡ min most (reach_of room d) }
 {
-    if ramp_sum(most, d) <= room as u128 {
+    if way_fits(most, d, room) {
         most
     } else {
         greatest_ramp_below(room, d, most)

@@ -6,8 +6,8 @@ ghost use Rattle.motion_numbers.specs.Ranges.{IsStep, IsWay};
 
 use crate::halts::halt_step;
 use command_pool::Rates;
-use kin_core::{ramp_sum, steps_fall_toward_zero};
-use motion_numbers::{MOST_STEP, MOST_WAY, searches_find_the_greatest, ways_to_rest};
+use kin_core::steps_fall_toward_zero;
+use motion_numbers::{MOST_STEP, MOST_WAY, searches_find_the_greatest, way_fits, ways_to_rest};
 use ramp_root::{Steps, reach};
 use std::marker::Brand;
 use std::sync::ledger::{Blank, Ledger};
@@ -81,9 +81,9 @@ fn step_ahead<L: Ledger>(way: u64, speed: u64, rates: &Rates, steps: &mut Steps<
     let d = rates.d as u64;
     let fastest = (rates.v as u64).min(speed + rates.a as u64);
     let slowest = speed.saturating_sub(d);
-    if ramp_sum(fastest, d) <= way as u128 {
+    if way_fits(fastest, d, way) {
         fastest.max(slowest)
-    } else if ramp_sum(slowest + 1, d) > way as u128 {
+    } else if !way_fits(slowest + 1, d, way) {
         slowest
     } else {
         fastest.min(reach(way, d, steps)).max(slowest)
