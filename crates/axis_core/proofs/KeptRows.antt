@@ -6,7 +6,12 @@ use Rattle.std.proofs.lemmas.Int.{ints}
 use Rattle.axis_state.specs.Spells.{Spell, KeepsRow, spell_after}
 use Rattle.axis_state.specs.declared.state.AxisState.{AxisState}
 use Rattle.axis_state.specs.declared.state.AxisState.TheVariants as state
+use Rattle.cia402_machine.specs.Controlword.{next_controlword_of}
+use Rattle.cia402_machine.specs.Statusword.{state_of_word}
+use Rattle.cia402_machine.specs.declared.controlword.TheConstants.{ENABLE_OPERATION}
 use Rattle.cia402_machine.specs.declared.drive.DriveIn.{DriveIn}
+use Rattle.cia402_machine.specs.declared.drive.DriveState.{DriveState}
+use Rattle.cia402_machine.specs.declared.drive.DriveState.TheVariants.{OperationEnabled}
 use Rattle.command_pool.specs.declared.ending.Finish.{Finish}
 use Rattle.command_pool.specs.declared.kind.BlockKind.{BlockKind}
 use Rattle.command_pool.specs.declared.kind.BlockKind.TheVariants as kind
@@ -18,8 +23,8 @@ use Rattle.kin_core.specs.declared.limits.Limits.{Limits}
 use Rattle.command_pool.specs.declared.ending.Finish.TheVariants as finish
 use Rattle.axis_core.specs.AxisKept.{IsCoreKept, IsHomeWithin, IsInState, IsLook, IsReady, fits}
 use Rattle.axis_core.specs.Cores.{Core, begun, begun_by, begun_from, ended, ended_by, failed, taken_over, taken_over_by}
-use Rattle.axis_core.specs.Cycles.{Advance, advanced, advanced_by, advanced_from, advanced_with, answered, braked, braking_step, cycled, followed, gone_on, moved, progress_with, row_of, run}
-use Rattle.axis_core.specs.Drives.{actual_of, answer_error_of, is_driven, is_within, standing}
+use Rattle.axis_core.specs.Cycles.{Advance, advanced, advanced_by, advanced_from, advanced_with, answered, braked, braking_step, cycled, followed, gone_on, moved, progress_with, row_of, run, word_of}
+use Rattle.axis_core.specs.Drives.{actual_of, answer_error_of, is_driven, is_enabled, is_within, standing}
 use Rattle.axis_core.specs.Kinds.{wish_by}
 use Rattle.axis_core.specs.Ranges.{IsBetween}
 use Rattle.motion_numbers.specs.Ranges.{is_outside}
@@ -30,12 +35,13 @@ use Rattle.axis_core.specs.blocks.Halts.{is_at_rest, is_released, stop_left}
 use Rattle.axis_core.specs.blocks.Home.{homed}
 use Rattle.axis_core.specs.blocks.Moves.{target_of, with_target}
 use Rattle.axis_core.specs.blocks.Path.{is_on_path, path_left, place_on_path}
+use Rattle.axis_core.specs.blocks.Power.{is_powered}
 use Rattle.axis_core.specs.blocks.Reset.{after_reset, may_reset, reset_axis}
 use Rattle.axis_core.specs.declared.axis.Axis.{Axis}
 use Rattle.axis_core.specs.declared.axis.PendingReset.{PendingReset}
 use Rattle.axis_core.specs.declared.look.AxisLook.{AxisLook}
 use Rattle.axis_core.specs.declared.progress.Progress.{Progress}
-use Rattle.axis_core.proofs.KeptCycles.{on-place, driven-says, begins-within, error-not-driven}
+use Rattle.axis_core.proofs.KeptCycles.{IsSeen, on-place, driven-says, begins-within, error-not-driven, run-of}
 use Rattle.axis_core.proofs.KeptMoves.{Laws, concluded, kept-of, toward-rest}
 use Rattle.axis_core.proofs.KeptParts.{Based, Runs, not-outside}
 
@@ -216,6 +222,13 @@ cycled-ran taken look c i k =
     let ran = run look (is_driven c.axis look.input) (answered look.input c) in
     ran-same c.axis look.input ran.axis _ (answered-ran taken look c i k) (reset-place ran.axis.reset look.input ran.axis)
 
+-- the word of a drive in Operation enabled with power on
+enabled-word : (s : Option DriveState) (powered reset : Bool) (last : ℕ) → is_enabled s ≡ true → powered ≡ true →
+    next_controlword_of s powered reset last ≡ ENABLE_OPERATION
+enabled-word (Some OperationEnabled) true reset last h on = refl
+enabled-word (Some OperationEnabled) false reset last h on = absurd (cc)
+enabled-word _ powered reset last h on = absurd (cc)
+
 -- standing still is admissible
 standing-admissible : TakenIsAdmissible → Laws → (l : Limits) (t : ℤ) → AreLimits l → IsBetween l.lo t l.hi → IsAdmissible l t t t
 standing-admissible taken g l t are w =
@@ -259,6 +272,30 @@ moved-leads a b (by_home t still w e) =
 moved-driven : (a b : Axis) → Moved a b → b.driven ≡ a.driven
 moved-driven a b (by_step next h e) = ap (λ (p : Place). p.driven) e
 moved-driven a b (by_home t still w e) = ap (λ (p : Place). p.driven) e
+
+-- a Reset leaves power as it is
+reset-powered : (o : Option PendingReset) (input : DriveIn) (a : Axis) → is_powered (reset_axis o input a) ≡ is_powered a
+reset-powered None input a = refl
+reset-powered (Some p) input a =
+    elim (may_reset input a) as (λ b. is_powered (if b then after_reset a else a) ≡ is_powered a) [ true ↦ refl | false ↦ refl ]
+
+-- an axis that is driven in a cycle is so after it
+ran-driven : (a : Axis) (input : DriveIn) (b : Axis) → Ran a input b → is_driven a input ≡ true → b.driven ≡ true
+ran-driven a input b (went on m) h = moved-driven a b m ∙ on
+ran-driven a input b (stood off e) h = ap (λ (p : Place). p.driven) e ∙ h
+
+-- and gets the word by which it stays so
+pub driven-word : TakenIsAdmissible → Laws → (look : AxisLook) (c ran : Core) (b : Axis) → IsSeen c.axis look → IsCoreKept c →
+    ran ≡ run look (is_driven c.axis look.input) (answered look.input c) → b ≡ reset_axis ran.axis.reset look.input ran.axis →
+    is_driven c.axis look.input ≡ true → word_of look.input b ≡ ENABLE_OPERATION
+driven-word taken g look c ran b i k ee eb on =
+    let says = driven-says c.axis look.input on in
+    let enabled = (and_parts (is_enabled (state_of_word look.input.statusword)) _ says.1).0 in
+    let ran-is = run look (is_driven c.axis look.input) (answered look.input c) in
+    let stays : is_powered b ≡ is_powered ran.axis = ap is_powered eb ∙ reset-powered ran.axis.reset look.input ran.axis in
+    let driven = ran-driven c.axis look.input ran-is.axis (answered-ran taken look c i.brought k) on in
+    let power : is_powered ran.axis ≡ true = ap (λ (x : Core). is_powered x.axis) ee ∙ (run-of g look c i k).power driven in
+    enabled-word (state_of_word look.input.statusword) (is_powered b) (is_some b.reset) b.controlword enabled (stays ∙ power)
 
 -- a row of an axis that went on
 went-kept : TakenIsAdmissible → Laws → (input : DriveIn) (a b : Axis) → Based a → a.driven ≡ true → Moved a b → KeepsSpell a (row_of input b) b

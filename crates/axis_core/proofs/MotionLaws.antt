@@ -1,11 +1,9 @@
 -- A move and a halt lead the axis by the taken steps of their plans.
-use Rattle.std.specs.Prelude.{◌≡◌, ◌↔◌, refl, ℕ, Bool, true, false, ◌&&◌, ◌||◌, nat_eq, ℤ, pos, ◌+ℤ◌, Ok, Option, Some, None, List, slice_get, if◌then◌else◌}
+use Rattle.std.specs.Prelude.{◌≡◌, ◌↔◌, refl, Bool, true, false, ◌&&◌, nat_eq, ℤ, ◌+ℤ◌, Ok, Option, Some, None, List, slice_get, if◌then◌else◌}
 use Rattle.std.proofs.Common.{◌∙◌, sym, ap, subst}
 use Rattle.blend_plan.specs.BlendRun.{blend_taken_of}
 use Rattle.command_pool.specs.declared.ending.Finish.{Finish}
 use Rattle.command_pool.specs.declared.ending.Finish.TheVariants as finish
-use Rattle.command_pool.specs.declared.kind.BlockKind.{BlockKind}
-use Rattle.command_pool.specs.declared.kind.BlockKind.TheVariants as kind
 use Rattle.command_pool.specs.declared.wanted.Wanted.{Wanted}
 use Rattle.kin_core.specs.Toward.{toward_zero}
 use Rattle.trapezoid_plan.specs.MoveRun.{halt_taken_of, move_taken_of}
@@ -27,7 +25,6 @@ use Rattle.axis_core.specs.blocks.Reset.{reset_axis}
 use Rattle.axis_core.specs.declared.axis.Axis.{Axis}
 use Rattle.axis_core.specs.declared.blocks.moves.SecondMove.{SecondMove}
 use Rattle.axis_core.specs.declared.look.AxisLook.{AxisLook}
-use Rattle.axis_core.specs.declared.progress.Progress.{Progress}
 use Rattle.axis_core.specs.declared.reason.Reason.{Reason}
 use Rattle.axis_core.proofs.ArrivalLaws.{AreAlike, active-runs, advances-by, ending-halt, ending-move, followed-halt, followed-move, given-alike, only-true, progress_at, reset-alike, still-driven, stop-alike, wish-halt, wish-move}
 use Rattle.axis_core.proofs.KeptRows.{Place, place-ended_by}

@@ -1,6 +1,6 @@
 -- At most eight commands wait for an axis.
 use Rattle.std.specs.Prelude.{◌≡◌, refl, ℕ, ◌≤◌, ◌+◌, Bool, true, false, not, ◌&&◌, nat_eq, ℤ, ◌+ℤ◌, Option, Some, None, is_some, List, [], ◌∷◌, ◌++◌, length, slice_get, if◌then◌else◌}
-use Rattle.std.proofs.Common.{◌∙◌, ap, subst, arith}
+use Rattle.std.proofs.Common.{ap, arith}
 use Rattle.std.proofs.lemmas.Bool.{eqb-false}
 use Rattle.buffer_modes.specs.Queue.{behind, is_aborting, is_active_at_once, is_full}
 use Rattle.cia402_machine.specs.declared.drive.DriveIn.{DriveIn}
@@ -11,7 +11,7 @@ use Rattle.command_pool.specs.declared.kind.BlockKind.{BlockKind}
 use Rattle.command_pool.specs.declared.kind.BlockKind.TheVariants as kind
 use Rattle.command_pool.specs.declared.wanted.Wanted.{Wanted}
 use Rattle.axis_core.specs.AxisKept.{IsCoreKept}
-use Rattle.axis_core.specs.Calls.{admitted_by, commanded, commanded_by, disabled, joined, powered_by, queue_in, queued}
+use Rattle.axis_core.specs.Calls.{admitted_by, commanded, commanded_by, disabled, powered_by, queue_in, queued}
 use Rattle.axis_core.specs.Cores.{Core, begun, ended, ended_by, failed, taken_over, taken_over_by}
 use Rattle.axis_core.specs.Cycles.{advanced, answered, cycled, gone_on, moved}
 use Rattle.axis_core.specs.Demands.{IsMade, asked_in}
@@ -21,9 +21,7 @@ use Rattle.motion_numbers.specs.Ranges.{is_outside}
 use Rattle.axis_core.specs.Refusals.{refusal_of}
 use Rattle.axis_core.specs.States.{is_error_stop}
 use Rattle.axis_core.specs.blocks.Moves.{known_target_of, position_of, with_target}
-use Rattle.axis_core.specs.declared.axis.Axis.{Axis}
 use Rattle.axis_core.specs.declared.look.AxisLook.{AxisLook}
-use Rattle.axis_core.specs.declared.reason.Reason.{Reason}
 use Rattle.axis_core.proofs.MayAdmit.{may-admit}
 
 longer : (ws : List Wanted) (w : Wanted) → length (ws ++ w ∷ []) ≡ length ws + 1

@@ -32,7 +32,7 @@ use axis_state::{
     AxisRow, DriveIn, DriveOut, MOST_COUNTED, MOST_OFFSET, MOST_REPORTED, counts_are_read_back,
     homing_keeps_counts, offsets_are_small, setpoints_have_counts, target_count,
 };
-use cia402_machine::{CYCLIC_SYNCHRONOUS_POSITION, next_controlword, state_of};
+use cia402_machine::{CYCLIC_SYNCHRONOUS_POSITION, ENABLE_OPERATION, next_controlword, state_of};
 use command_pool::{BlockKind, CommandPool, Finish, Notes, Wanted};
 use kin_core::{braking_steps_are_only_cut, standing_is_kept, taken_steps_keep};
 
@@ -210,17 +210,25 @@ fn reported(input: &DriveIn) -> i32
     input.actual
 }
 
-// The axis after its drive got its controlword.
-fn give(input: &DriveIn, axis: &mut Axis)
-    ensures { axis.new ≡ spec.given input.now axis.old }
+// The controlword by what the drive's answer tells.
+fn word(input: &DriveIn, axis: &Axis) -> u16
+    ensures { result ≡ spec.word_of input.now axis.now }
 {
     let state = state_of(input.statusword);
-    axis.controlword = next_controlword(
-        state,
-        is_powered(axis),
-        axis.reset.is_some(),
-        axis.controlword,
-    );
+    let pending = axis.reset.is_some();
+    next_controlword(state, is_powered(axis), pending, axis.controlword)
+}
+
+// The axis after its drive got its controlword: a driven one stays so.
+fn give(driven: bool, input: &DriveIn, axis: &mut Axis)
+    requires { driven ≡ true → spec.word_of input.now axis.old ≡ ENABLE_OPERATION }
+    ensures { axis.new ≡ spec.given input.now axis.old }
+{
+    axis.controlword = if driven {
+        ENABLE_OPERATION
+    } else {
+        word(input, axis)
+    };
     axis.was_off = false;
 }
 
@@ -272,7 +280,7 @@ fn cycle_axis(look: &AxisLook, axis: &mut Axis, pool: &mut CommandPool, list: u8
     read_answer(driven, &look.input, axis, pool, list, notes);
     run(driven, look, axis, pool, list, notes);
     reset(&look.input, axis, notes);
-    give(&look.input, axis);
+    give(driven, &look.input, axis);
 }
 
 /// A cycle of the axis, and what it shows of it.

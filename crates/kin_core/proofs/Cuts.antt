@@ -1,5 +1,8 @@
 -- Numbers cut to bounds, by other names of the bounds.
-use Rattle.std.proofs.Common.{◌≡◌, ℕ, ◌≤◌, ℤ, pos, neg_ℤ, ◌+ℤ◌, ◌-ℤ◌, ◌≤ℤ◌, ◌<ℤ◌, unsigned_abs, ◌∙◌, ap, min, w64, FitsSigned, arith}
+use Rattle.std.specs.Prelude.{Bool, false, int_lt}
+use Rattle.std.proofs.lemmas.Bool.{or_parts}
+use Rattle.motion_numbers.specs.Ranges.{is_outside}
+use Rattle.std.proofs.Common.{◌≡◌, sym, ℕ, ◌≤◌, ℤ, pos, neg_ℤ, ◌+ℤ◌, ◌-ℤ◌, ◌≤ℤ◌, ◌<ℤ◌, unsigned_abs, ◌∙◌, ap, min, w64, FitsSigned, arith}
 use Rattle.std.specs.Int.{int_min, int_max}
 use Rattle.std.proofs.lemmas.Int.{ints, clamps}
 use Rattle.kin_core.specs.declared.limits.Limits.{Limits}
@@ -68,3 +71,42 @@ opposite z = omega (arith, ints)
 -- the step of a kept pair fits
 pub step_fits : (limits : Limits) (before now : ℤ) → AreLimits limits → IsKept limits before now → FitsSigned w64 (now -ℤ before)
 step_fits limits before now ok kept = let slow : pos (unsigned_abs (now -ℤ before)) ≤ℤ limits.vmax = kept.speed in omega (arith, ints)
+
+-- a number that is not outside lies between
+pub within_of : (outside : Bool) (low z high : ℤ) → outside ≡ false → outside ≡ is_outside low z high → (low ≤ℤ z) × (z ≤ℤ high)
+within_of outside low z high inside is =
+    let parts = or_parts (int_lt z low) (int_lt high z) (sym is ∙ inside) in
+    let above : int_lt z low ≡ false = parts.0 in
+    let below : int_lt high z ≡ false = parts.1 in
+    (omega (arith, ints), omega (arith, ints))
+
+-- a step that goes on in the old one's direction may follow it
+pub record Follows (limits : Limits) (old step : ℤ) : Type 0 where
+  pub falls : least_step_after limits old ≤ℤ step
+  pub rises : step ≤ℤ greatest_step_after limits old
+  pub speed : pos (unsigned_abs step) ≤ℤ limits.vmax
+
+pub follows_up : (limits : Limits) (old step : ℤ) → AreLimits limits → pos 0 ≤ℤ old → pos 0 ≤ℤ step → step ≤ℤ limits.vmax →
+    (old -ℤ limits.dmax) ≤ℤ step → step ≤ℤ (old +ℤ limits.amax) → Follows limits old step
+follows_up limits old step ok up ahead fast falls rises = record {
+  falls = omega (arith, ints, clamps, ok);
+  rises = omega (arith, ints, clamps, ok);
+  speed = omega (arith, ints);
+}
+
+pub follows_down : (limits : Limits) (old step : ℤ) → AreLimits limits → old ≤ℤ pos 0 → neg_ℤ limits.vmax ≤ℤ step → step ≤ℤ pos 0 →
+    (old -ℤ limits.amax) ≤ℤ step → step ≤ℤ (old +ℤ limits.dmax) → Follows limits old step
+follows_down limits old step ok down fast ahead falls rises = record {
+  falls = omega (arith, ints, clamps, ok);
+  rises = omega (arith, ints, clamps, ok);
+  speed = omega (arith, ints);
+}
+
+-- a step between two ends is not cut
+pub not_cut : (low high step : ℤ) → low ≤ℤ step → step ≤ℤ high → step ≡ int_max low (int_min high step)
+not_cut low high step above below = omega (arith, ints, clamps)
+
+pub not_cut_by : (limits : Limits) (old step : ℤ) → Follows limits old step →
+    step ≡ int_max (int_max (neg_ℤ limits.vmax) (least_step_after limits old)) (int_min (int_min limits.vmax (greatest_step_after limits old)) step)
+not_cut_by limits old step f =
+    not_cut _ _ step (omega (arith, ints, clamps, f.falls, f.speed)) (omega (arith, ints, clamps, f.rises, f.speed))

@@ -1,14 +1,14 @@
 // The step that an axis takes: the safe step nearest to the wanted one.
 
-ghost use Rattle.std.specs.Prelude.{◌≡◌, ◌≤◌, ◌*◌, ℤ, pos, neg_ℤ, ◌+ℤ◌, ◌-ℤ◌, ◌≤ℤ◌, unsigned_abs};
+ghost use Rattle.std.specs.Prelude.{◌≡◌, IsTrue, ◌≤◌, ◌*◌, ℤ, pos, neg_ℤ, ◌+ℤ◌, ◌-ℤ◌, ◌≤ℤ◌, unsigned_abs};
 ghost use Rattle.std.specs.Int.{int_min, int_max};
 ghost use Rattle.kin_core.specs.Admissible.{AreLimits, IsAdmissible, IsKept, IsSafe, IsTakenStep};
-ghost use Rattle.kin_core.specs.Admissible.{least_step_after, greatest_step_after};
+ghost use Rattle.kin_core.specs.Admissible.{least_step_after, greatest_step_after, StepMayFollow};
 ghost use Rattle.kin_core.specs.Taken.{reach_up_of, reach_down_of, taken_step_of};
 ghost use Rattle.motion_numbers.specs.Ranges.{IsStep};
 
 use crate::limits::Limits;
-use motion_numbers::{MOST_WAY, greatest_ramp, ways_to_rest};
+use motion_numbers::{MOST_WAY, greatest_ramp, is_outside, ways_to_rest};
 
 /// The safe step nearest to the `wanted` one, for an axis whose setpoints were `prev` and then
 /// `cur`. All are in internal units, and steps are signed; the wanted step is one where it is safe.
@@ -56,7 +56,27 @@ fn step_that_may_follow(limits: &Limits, old: i64, wanted: i64) -> i64
         (int_min (int_min limits.now.vmax (greatest_step_after limits.now old)) wanted) }
     ensures small { IsStep result }
 {
-    least_step(limits, old).max(greatest_step(limits, old).min(wanted))
+    if goes_on(limits, old, wanted) {
+        wanted
+    } else {
+        least_step(limits, old).max(greatest_step(limits, old).min(wanted))
+    }
+}
+
+// Whether the wanted step goes on in the direction of the step `old` so that nothing is to be cut:
+// mostly a command wants such a step.
+fn goes_on(limits: &Limits, old: i64, wanted: i64) -> bool
+    requires ranges { AreLimits limits.now }
+    requires old_in_range { IsStep old }
+    ensures { IsTrue result → StepMayFollow limits.now old wanted × (pos (unsigned_abs wanted) ≤ℤ limits.now.vmax) }
+{
+    if 0 <= old {
+        !is_outside(0, wanted, limits.vmax)
+            && !is_outside(old - limits.dmax, wanted, old + limits.amax)
+    } else {
+        !is_outside(-limits.vmax, wanted, 0)
+            && !is_outside(old - limits.amax, wanted, old + limits.dmax)
+    }
 }
 
 // The greatest step that may follow the step `old`.

@@ -1,6 +1,6 @@
 -- Sums of ramps: what a proof on whole numbers needs of them.
-use Rattle.std.proofs.Common.{◌≡◌, ℕ, ◌+◌, ◌-◌, ◌*◌, ◌/◌, ◌%◌, ◌<◌, ◌≤◌, zero, suc, ℤ, pos, negsuc, refl, sym, ◌∙◌, ap, inl, inr, arith}
-use Rattle.std.proofs.lemmas.Bool.{cases_lt}
+use Rattle.std.proofs.Common.{◌≡◌, ℕ, ◌+◌, ◌-◌, ◌*◌, ◌/◌, ◌%◌, ◌<◌, ◌≤◌, zero, suc, ℤ, pos, negsuc, refl, sym, ◌∙◌, ap, arith}
+use Rattle.std.proofs.Math.Nat.{le_of_mul-le-mul_left}
 use Rattle.std.proofs.lemmas.Nat.{div-add-mod'}
 use Rattle.motion_numbers.specs.Run.{ramp, run_of, cut_at_zero}
 use borrow.Author.Differences.{up, down}
@@ -93,30 +93,16 @@ run_half u d some =
     let twice : 2 * run_of u d ≡ (u / d + 1) * (u + u % d) = rw first at (run_twice u d some) in
     omega (arith, twice)
 
--- a product is at most a quarter of the square of its factors' sum
-quarter : (r k : ℕ) → 4 * (r * (r + k)) ≤ (r + (r + k)) * (r + (r + k))
-quarter r k = omega arith
+-- twice the fall times the way is at most the square of the step and the fall together
+square : (k r d : ℕ) → r < d → 2 * d * run_of (k * d + r) d ≤ (k * d + r + d) * (k * d + r + d)
+square k r d h =
+    let way : d * (2 * run_of (k * d + r) d) ≡ d * ((k + 1) * (k * d + 2 * r)) = ap (λ n. d * n) (run_terms k r d h) in
+    omega (arith, way)
 
-halves : (r e : ℕ) → 4 * (r * e) ≤ (r + e) * (r + e)
-halves r e =
-    elim (cases_lt e r) [
-      | inl lt ↦ let k : r ≡ e + (r - e) = omega arith in rw k (omega (arith, quarter e (r - e)))
-      | inr le ↦ let k : e ≡ r + (e - r) = omega arith in rw k (quarter r (e - r))
-    ]
+run_square : (u d : ℕ) → 0 < d → 2 * d * run_of u d ≤ (u + d) * (u + d)
+run_square u d some = rw (div-add-mod' u d) at (square (u / d) (u % d) d (omega arith))
 
--- how twice the fall times the way lies to the product of the step and the step with the fall
-pub record LiesBetween (u d way : ℕ) : Type 0 where
-  pub least : u * (u + d) ≤ 2 * d * way
-  pub most : 2 * d * way ≤ u * (u + d) + d * d / 4
-
-lies-between : (k r e : ℕ) → 0 < e → LiesBetween (k * (r + e) + r) (r + e) (run_of (k * (r + e) + r) (r + e))
-lies-between k r e h =
-    let way : (r + e) * (2 * run_of (k * (r + e) + r) (r + e)) ≡ (r + e) * ((k + 1) * (k * (r + e) + 2 * r)) =
-    ap (λ n. (r + e) * n) (run_terms k r (r + e) (omega arith)) in
-    record { least = omega (arith, way); most = omega (arith, way, halves r e) }
-
-pub run_between : (u d : ℕ) → 0 < d → LiesBetween u d (run_of u d)
-run_between u d some =
-    let rest : d ≡ u % d + (d - u % d) = omega arith in
-    let whole = div-add-mod' u d in
-    rw whole at (rw (← rest) at (lies-between (u / d) (u % d) (d - u % d) (omega arith)))
+-- so that the way fits a room that is long enough for that
+pub run_fits : (u d room : ℕ) → 0 < d → (u + d) * (u + d) ≤ 2 * d * room → run_of u d ≤ room
+run_fits u d room some enough =
+    le_of_mul-le-mul_left {k = 2 * d} (omega (arith, enough, run_square u d some)) (omega arith)

@@ -32,8 +32,8 @@ pub fn ramp_sum(u: u64, d: u64) -> u128
 }
 
 /// Whether the way to rest from a step of size `u`, braking by `d` each cycle, fits a room. Twice the
-/// fall times the way is at least u * (u + d), and at most a quarter of d * d more: only between the
-/// two it takes a division to tell.
+/// fall times the way is at most the square of the step and the fall together, so that mostly no
+/// division is needed to tell.
 pub fn way_fits(u: u64, d: u64, room: u64) -> bool
     requires step { u ≤ MOST_STEP }
     requires fall { 1 ≤ d }
@@ -42,15 +42,8 @@ pub fn way_fits(u: u64, d: u64, room: u64) -> bool
     if u <= d {
         return u <= room;
     }
-    let least = u as u128 * (u + d) as u128;
-    let twice = (2 * d) as u128 * room as u128;
-    if twice < least {
-        false
-    } else if least + d as u128 * d as u128 / 4 <= twice {
-        true
-    } else {
-        ramp_sum(u, d) <= room as u128
-    }
+    let whole = (u + d) as u128;
+    whole * whole <= (2 * d) as u128 * room as u128 || ramp_sum(u, d) <= room as u128
 }
 
 /// The greatest step up to `most` whose way to rest, braking by `d`, is no longer than `room`.

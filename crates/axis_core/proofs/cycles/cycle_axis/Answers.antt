@@ -9,7 +9,7 @@ use Rattle.axis_core.specs.Drives.{is_driven}
 use Rattle.axis_core.specs.Kept.{HasDrive, MayGoOn}
 use Rattle.axis_core.specs.Rows.{KeepsSpell}
 use Rattle.axis_core.specs.declared.axis.Axis.{Axis}
-use Rattle.axis_core.proofs.KeptRows.{row-kept}
+use Rattle.axis_core.proofs.KeptRows.{driven-word, row-kept}
 use Rattle.axis_core.proofs.KeptCycles.{IsSeen, answered-kept, cycled-kept, cycle-made, drive-by, drive-of, may-go-on, quiet}
 use Rattle.axis_core.proofs.KeptMoves.{Laws}
 use Rattle.axis_core.proofs.NoteCounts.{answered-count, run-count}
@@ -72,6 +72,29 @@ reset-requires c =
     let ran : length c.run.new.notes ≡ length (run c.args.look.now c.is_driven-driven.result (core_at c.read_answer.new.axis c.read_answer.new.pool c.args.list c.read_answer.new.notes)).notes =
     ap (λ (x : Core). length x.notes) c.run.ensures.after in
     omega (arith, n, m, few, count, none, read, wait, ran)
+
+laws-before : goal.After-give-arg-1 → Laws
+laws-before c = record {
+  taken = c.taken_steps_keep.ensures.kept;
+  slower = c.braking_steps_are_only_cut.ensures.slower;
+  standing = c.standing_is_kept.ensures.kept;
+  counts = c.setpoints_have_counts.ensures;
+  homing = c.homing_keeps_counts.ensures;
+  read_back = c.counts_are_read_back.ensures.count;
+  near = c.counts_are_read_back.ensures.distance;
+  offsets = c.offsets_are_small.ensures;
+}
+
+pub give-requires : goal.give-requires
+give-requires c = λ on.
+    let look = c.args.look.now in
+    let old = core_at c.args.axis.now c.args.pool.now c.args.list c.args.notes.now in
+    let ran = core_at c.run.new.axis c.run.new.pool c.args.list c.run.new.notes in
+    let d = c.is_driven-driven.ensures in
+    let is : ran ≡ run look (is_driven c.args.axis.now look.input) (answered look.input old) =
+    c.run.ensures.after ∙ (λ t. run look (d t) (c.read_answer.ensures.after t)) in
+    driven-word c.taken_steps_keep.ensures.admissible (laws-before c) look old ran c.reset.new.axis
+    (record { brought = c.requires.look; actual = c.reported.ensures.count }) c.requires.kept is c.reset.ensures.axis (sym d ∙ on)
 
 made : (c : goal.After-give) → core_at c.give.new.axis c.run.new.pool c.args.list c.reset.new.notes
     ≡ cycled c.args.look.now (core_at c.args.axis.now c.args.pool.now c.args.list c.args.notes.now)
