@@ -167,9 +167,9 @@ alone : (n : ℕ) (target : ℤ) (rates : Rates) (c : Core) (w : Wanted) (p : Pr
 alone zero target rates c w p done e course run is h = absurd run
 alone (suc n) target rates c w p true e course run is h =
     let f = is-toward w target rates course in
-    let parts = both-true (int_eq (c.axis.setpoint +ℤ p.step) (target_of w)) (int_eq p.step (pos 0)) h in
-    let there = int-same (c.axis.setpoint +ℤ p.step) (target_of w) parts.0 in
-    let zero : p.step ≡ pos 0 = int-same p.step (pos 0) parts.1 in
+    let parts = both-true (int_eq p.step (pos 0)) (int_eq (c.axis.setpoint +ℤ p.step) (target_of w)) h in
+    let there = int-same (c.axis.setpoint +ℤ p.step) (target_of w) parts.1 in
+    let zero : p.step ≡ pos 0 = int-same p.step (pos 0) parts.0 in
     let alike = followed-move w.kind (target_of w) p c.axis f.kind in
     let place = place-ended_by (Some finish.Done) (record c { axis = followed w.kind (target_of w) p c.axis }) in (
       omega arith,
@@ -192,7 +192,7 @@ alone (suc n) target rates c w p false e course run is h =
     by (inl r) taken goal =
         let zero : p.step ≡ pos 0 = taken ∙ r.1 in
         let there : c.axis.setpoint +ℤ p.step ≡ target_of w = (let e : c.axis.setpoint +ℤ p.step ≡ c.axis.setpoint = omega (arith, ints, zero) in e) ∙ r.0 ∙ sym goal in
-        absurd (let t : stands_at_target c.axis w p.step ≡ true = and_from _ _ (same-int _ _ there) (same-int _ _ zero) in cc)
+        absurd (let t : stands_at_target c.axis w p.step ≡ true = and_from _ _ (same-int _ _ zero) (same-int _ _ there) in cc)
     by (inr r) taken goal =
         let P : ℤ → Type 0 = λ s. IsDoneWithin n c.axis.limits rates target c.axis.setpoint (c.axis.setpoint +ℤ s) in
         run-on n (toward target rates) c w p.step e course (subst P (sym taken) r)

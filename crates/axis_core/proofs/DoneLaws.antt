@@ -114,9 +114,9 @@ or-cases false y h = inr h
 rests : (a b : Axis) (w : Wanted) (step : ℤ) → stands_at_target a w step ≡ true → b.setpoint ≡ a.setpoint +ℤ step → b.previous ≡ a.setpoint →
     (b.setpoint ≡ target_of w) × (b.previous ≡ target_of w)
 rests a b w step h s p =
-    let q = both-true (int_eq (a.setpoint +ℤ step) (target_of w)) (int_eq step (pos 0)) h in
-    let there = int-same (a.setpoint +ℤ step) (target_of w) q.0 in
-    let zero : step ≡ pos 0 = int-same step (pos 0) q.1 in
+    let q = both-true (int_eq step (pos 0)) (int_eq (a.setpoint +ℤ step) (target_of w)) h in
+    let there = int-same (a.setpoint +ℤ step) (target_of w) q.1 in
+    let zero : step ≡ pos 0 = int-same step (pos 0) q.0 in
     (s ∙ there, p ∙ (let e : a.setpoint ≡ a.setpoint +ℤ step = omega (arith, ints, zero) in e) ∙ there)
 
 -- where the step of a move ends it

@@ -169,8 +169,8 @@ ends-when false f g h = absurd (cc)
 pub eq-of : (x y : ℤ) → int_eq x y ≡ true → x ≡ y
 eq-of x y h = (Decides-int_eq x y).0 h
 
-at-rest : (a : Axis) (w : Wanted) (step : ℤ) → (int_eq (a.setpoint +ℤ step) (target_of w) && int_eq step (pos 0)) ≡ true → step ≡ pos 0
-at-rest a w step h = eq-of step (pos 0) (and_parts (int_eq (a.setpoint +ℤ step) (target_of w)) (int_eq step (pos 0)) h).1
+at-rest : (a : Axis) (w : Wanted) (step : ℤ) → (int_eq step (pos 0) && int_eq (a.setpoint +ℤ step) (target_of w)) ≡ true → step ≡ pos 0
+at-rest a w step h = eq-of step (pos 0) (and_parts (int_eq step (pos 0)) (int_eq (a.setpoint +ℤ step) (target_of w)) h).0
 
 -- a move without one behind it is done at rest alone
 pub done-at-rest : (a : Axis) (w : Wanted) (ws : List Wanted) (step : ℤ) → ws ≡ [] → (is_crossing (blended_with a w (slice_get ws 0)) a w step || stands_at_target a w step) ≡ true → step ≡ pos 0

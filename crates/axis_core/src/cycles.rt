@@ -1,6 +1,6 @@
 // The order within a cycle of an axis.
 
-ghost use Rattle.std.specs.Prelude.{◌≡◌, ◌<◌, ◌≤◌, ◌≤ℤ◌, ◌-ℤ◌, ◌+ℤ◌, ◌&&◌, true, false, [], length, slice_set, unsigned_abs, pos, IfOk, IfSome};
+ghost use Rattle.std.specs.Prelude.{◌≡◌, ℕ, Result, ◌<◌, ◌≤◌, ◌≤ℤ◌, ◌-ℤ◌, ◌+ℤ◌, ◌&&◌, true, false, [], length, slice_set, unsigned_abs, pos, IfOk, IfSome};
 ghost use Rattle.std.specs.Option.{option_copied};
 ghost use Rattle.axis_state.specs.Counts.{count_of, IsCount};
 ghost use Rattle.command_pool.specs.Waiting.{queue_of};
@@ -12,6 +12,9 @@ ghost use Rattle.axis_core.specs.Kept.{HasDrive, IsMoving, IsTarget, MayAdvance,
 ghost use Rattle.axis_core.specs.Rows.{KeepsSpell};
 ghost use Rattle.axis_core.specs.States as states;
 ghost use Rattle.axis_core.specs.Steps.{moved_to};
+ghost use Rattle.axis_core.specs.blocks.Moves.{target_of};
+ghost use Rattle.axis_core.specs.declared.axis.Axis.{Axis};
+ghost use Rattle.axis_core.specs.declared.progress.Progress.{Progress};
 ghost use Rattle.motion_numbers.specs.Ranges.{IsStep};
 
 use crate::axis::Axis;
@@ -105,6 +108,20 @@ fn carry(
     }
 }
 
+// Where a Home leads: of the other kinds no target is asked here.
+fn home_target(wanted: &Wanted) -> i64
+    requires target { IsTarget wanted.now.kind (target_of wanted.now) }
+    ensures target { IsTarget wanted.now.kind result }
+    ensures same { (made : Result Progress ℕ) (axis : Axis) →
+        spec.advanced_by wanted.now.kind result axis made ≡ spec.advanced_by wanted.now.kind (target_of wanted.now) axis made }
+{
+    if matches!(wanted.kind, BlockKind::Home) {
+        target_of(wanted)
+    } else {
+        0
+    }
+}
+
 // A cycle of an axis that no error stops: by its command, or at rest without one.
 fn obey(axis: &mut Axis, next: Option<&Wanted>, look: &AxisLook) -> Option<Finish>
     requires { MayAdvance axis.old (option_copied next) look.now }
@@ -119,7 +136,7 @@ fn obey(axis: &mut Axis, next: Option<&Wanted>, look: &AxisLook) -> Option<Finis
         return None;
     };
     let made = kinds::progress(axis, wanted, next, look);
-    let (kind, target) = (wanted.kind, target_of(wanted));
+    let (kind, target) = (wanted.kind, home_target(wanted));
     carry(made, kind, target, axis)
 }
 

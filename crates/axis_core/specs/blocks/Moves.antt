@@ -119,7 +119,7 @@ is_crossing (Some s) a w step = has_crossed (target_of w) s.target a.setpoint s.
 
 -- whether an axis stands at the target of its move by a taken step of 0
 abbrev pub stands_at_target : Axis → Wanted → ℤ → Bool
-stands_at_target a w step = int_eq (a.setpoint +ℤ step) (target_of w) && int_eq step (pos 0)
+stands_at_target a w step = int_eq step (pos 0) && int_eq (a.setpoint +ℤ step) (target_of w)
 
 -- how a move ends by a taken step, if it does: it is done where it crosses its target or stands at it
 abbrev pub move_ending_with : Option SecondMove → Axis → Wanted → ℤ → Option Finish

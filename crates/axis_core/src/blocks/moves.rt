@@ -352,7 +352,7 @@ fn stands(axis: &Axis, wanted: &Wanted, step: i64) -> bool
     requires step { IsStep step }
     ensures { result ≡ spec.stands_at_target axis.now wanted.now step }
 {
-    place_after(axis, step) == target_of(wanted) && step == 0
+    step == 0 && place_after(axis, step) == target_of(wanted)
 }
 
 // How a move ends by a taken step, if it does.
