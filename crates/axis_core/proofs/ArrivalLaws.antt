@@ -1,5 +1,5 @@
 -- A move that is under way is carried on by every event, or turned.
-use Rattle.std.specs.Prelude.{◌≡◌, refl, Ok, ◌⊎◌, ℕ, zero, suc, ◌+◌, ◌/◌, ◌≤◌, Bool, true, false, not, ◌&&◌, ◌||◌, nat_eq, ℤ, pos, ◌+ℤ◌, ◌-ℤ◌, ◌≤ℤ◌, unsigned_abs, Option, Some, None, is_some, is_none, unwrap_or, List, [], slice_get, if◌then◌else◌}
+use Rattle.std.specs.Prelude.{◌≡◌, refl, Ok, ◌⊎◌, ℕ, zero, suc, ◌+◌, ◌/◌, ◌≤◌, Bool, true, false, not, ◌&&◌, ◌||◌, nat_eq, ℤ, pos, ◌+ℤ◌, ◌-ℤ◌, ◌≤ℤ◌, unsigned_abs, Option, Some, None, is_some, unwrap_or, List, slice_get, if◌then◌else◌}
 use Rattle.std.specs.Ordering.{int_eq}
 use Rattle.std.proofs.Common.{◌∙◌, sym, ap, subst, arith, inl, inr}
 use Rattle.std.proofs.lemmas.Bool.{and_from, or_left}
@@ -9,7 +9,7 @@ use Rattle.axis_state.specs.Diagram.{next_of}
 use Rattle.axis_state.specs.declared.diagram.AxisEvent.TheVariants.{StopReleased}
 use Rattle.axis_state.specs.declared.state.AxisState.{AxisState}
 use Rattle.axis_state.specs.declared.state.AxisState.TheVariants as state
-use Rattle.buffer_modes.specs.Queue.{is_active_at_once, is_aborting, behind}
+use Rattle.buffer_modes.specs.Queue.{is_active_at_once, is_aborting}
 use Rattle.cia402_machine.specs.declared.drive.DriveIn.{DriveIn}
 use Rattle.command_pool.specs.declared.ending.Finish.{Finish}
 use Rattle.command_pool.specs.declared.ending.Finish.TheVariants as finish
@@ -29,18 +29,18 @@ use Rattle.kin_core.specs.Toward.{toward_zero}
 use Rattle.axis_core.specs.Arrivals as turn
 use Rattle.axis_core.specs.Arrivals.{toward, slowing, Carried, Course, GoesOn, IsAtEnd, IsTurn, IsUnderWay, RunsWithin, Turn, bound_of, course_by, course_of, turn_by, turn_of}
 use Rattle.axis_core.specs.AxisKept.{AreNumbers, IsCoreKept, IsInState, IsMoveWithin, IsReady, IsRunning}
-use Rattle.axis_core.specs.Calls.{active_without, admitted_by, commanded, commanded_by, detached, disabled, powered_by, queue_in, queued}
-use Rattle.axis_core.specs.Cores.{Core, begun, ended_by, failed}
-use Rattle.axis_core.specs.Cycles.{Advance, advanced, advanced_by, advanced_from, advanced_with, answered, braked, cycled, followed, given, gone_on, moved, progress_of, progress_with, run}
-use Rattle.axis_core.specs.Drives.{answer_error_of, is_driven, is_operational, is_within, standing}
+use Rattle.axis_core.specs.Calls.{active_without, admitted_by, commanded, commanded_by, axis_without_owner, core_after_disabling, core_after_power, queue_in, queued}
+use Rattle.axis_core.specs.Cores.{Core, axis_under, core_after_ending}
+use Rattle.axis_core.specs.Cycles.{Advance, advance_in_cycle, advance_by_progress, advance_without_error, advance_by_command, core_after_answer, axis_after_braking, core_after_cycle, axis_after_progress, axis_after_word, core_after_going_on, core_after_advance, progress_in_cycle, progress_by_step, core_after_step}
+use Rattle.axis_core.specs.Drives.{answer_error_of, is_driven, is_operational, is_within, axis_at_drive}
 use Rattle.axis_core.specs.Fates.{Fate, admitted_fate, asked_fate, command_fate, cycle_fate, ending_fate, goes_on, is_blended, moved_fate, power_fate, replaced}
 use Rattle.axis_core.specs.Kinds.{ending_by, is_reached, wish_by}
 use Rattle.axis_core.specs.Motions.{is_slowing}
 use Rattle.axis_core.specs.Ranges.{IsBetween}
 use Rattle.axis_core.specs.Refusals.{Asked, refusal_of}
 use Rattle.axis_core.specs.States.{is_error_stop, is_synchronized}
-use Rattle.axis_core.specs.Steps.{ends_where, moved_to, old_step_of, taken_by, taken_of}
-use Rattle.axis_core.specs.blocks.Halts.{halt_ending, halt_wish, leaves_stopping, stop_left}
+use Rattle.axis_core.specs.Steps.{ends_where, axis_after_step, old_step_of, taken_by, taken_of}
+use Rattle.axis_core.specs.blocks.Halts.{halt_ending, halt_wish, leaves_stopping, axis_after_stop}
 use Rattle.axis_core.specs.blocks.Moves.{blended_with, is_crossing, is_move, known_target_of, move_ending, move_ending_with, move_step_with, move_wish, stands_at_target, target_of, with_target}
 use Rattle.axis_core.specs.blocks.Path.{place_on_path}
 use Rattle.axis_core.specs.blocks.Power.{is_powered}
@@ -51,7 +51,8 @@ use Rattle.axis_core.specs.declared.look.AxisLook.{AxisLook}
 use Rattle.axis_core.specs.declared.progress.Progress.{Progress}
 use Rattle.axis_core.specs.declared.reason.Reason.{Reason}
 use Rattle.axis_core.proofs.KeptCycles.{all-three, driven-without-error}
-use Rattle.axis_core.proofs.KeptMoves.{kept-of}
+use Rattle.axis_core.proofs.FateLaws.{queued-later}
+use Rattle.axis_core.proofs.KeptMoves.{eq-of, kept-of}
 use Rattle.axis_core.proofs.KeptRows.{Place, place-ended_by}
 
 -- two axes that are alike in limits, setpoints and command
@@ -90,9 +91,6 @@ some-run (suc n) course l p q h = omega arith
 some-cycle : (n : ℕ) (course : Course) (a : Axis) → IsUnderWay n course a → 1 ≤ n
 some-cycle n course a u = some-run n course a.limits a.previous a.setpoint u.run
 
-pub int-same : (x y : ℤ) → int_eq x y ≡ true → x ≡ y
-int-same x y h = (Decides-int_eq x y).0 h
-
 same-int : (x y : ℤ) → x ≡ y → int_eq x y ≡ true
 same-int x y h = (Decides-int_eq x y).1 h
 
@@ -107,7 +105,7 @@ ending-move kind.MoveAbsolute a w next step look h = refl
 ending-move kind.MoveRelative a w next step look h = refl
 ending-move _ a w next step look h = absurd (cc)
 
-pub followed-move : (k : BlockKind) (target : ℤ) (p : Progress) (a : Axis) → is_move k ≡ true → AreAlike (moved_to (a.setpoint +ℤ p.step) a) (followed k target p a)
+pub followed-move : (k : BlockKind) (target : ℤ) (p : Progress) (a : Axis) → is_move k ≡ true → AreAlike (axis_after_step (a.setpoint +ℤ p.step) a) (axis_after_progress k target p a)
 followed-move kind.MoveAbsolute target p a h = record { limits = refl; previous = refl; setpoint = refl; active = refl }
 followed-move kind.MoveRelative target p a h = record { limits = refl; previous = refl; setpoint = refl; active = refl }
 followed-move _ target p a h = absurd (cc)
@@ -155,7 +153,7 @@ slowing-of _ w d h = absurd (cc)
 
 -- a step that ends a course, or one after which it goes on
 run-on : (n : ℕ) (course : Course) (c : Core) (w : Wanted) (step : ℤ) → c.axis.active ≡ Some w → course_of w ≡ Some course →
-    RunsWithin n course c.axis.limits c.axis.setpoint (c.axis.setpoint +ℤ step) → GoesOn (suc n) 1 course (moved_to (c.axis.setpoint +ℤ step) c.axis)
+    RunsWithin n course c.axis.limits c.axis.setpoint (c.axis.setpoint +ℤ step) → GoesOn (suc n) 1 course (axis_after_step (c.axis.setpoint +ℤ step) c.axis)
 run-on n course c w step e h run = record { left = n; sum = omega arith; under_way = record { command = w; active = e; leads = h; run = run } }
 
 -- a move that is alone takes its step, and is done or goes on
@@ -163,15 +161,15 @@ alone : (n : ℕ) (target : ℤ) (rates : Rates) (c : Core) (w : Wanted) (p : Pr
     course_of w ≡ Some (toward target rates) → IsDoneWithin n c.axis.limits rates target c.axis.previous c.axis.setpoint →
     p.step ≡ move_taken_of c.axis.limits w.rates (target_of w) c.axis.previous c.axis.setpoint → stands_at_target c.axis w p.step ≡ done →
     Carried n 1 (toward target rates) (turn_by false (ends_where done finish.Done))
-    (ended_by (ends_where done finish.Done) (record c { axis = followed w.kind (target_of w) p c.axis })).axis
+    (core_after_ending (ends_where done finish.Done) (record c { axis = axis_after_progress w.kind (target_of w) p c.axis })).axis
 alone zero target rates c w p done e course run is h = absurd run
 alone (suc n) target rates c w p true e course run is h =
     let f = is-toward w target rates course in
     let parts = both-true (int_eq p.step (pos 0)) (int_eq (c.axis.setpoint +ℤ p.step) (target_of w)) h in
-    let there = int-same (c.axis.setpoint +ℤ p.step) (target_of w) parts.1 in
-    let zero : p.step ≡ pos 0 = int-same p.step (pos 0) parts.0 in
+    let there = eq-of (c.axis.setpoint +ℤ p.step) (target_of w) parts.1 in
+    let zero : p.step ≡ pos 0 = eq-of p.step (pos 0) parts.0 in
     let alike = followed-move w.kind (target_of w) p c.axis f.kind in
-    let place = place-ended_by (Some finish.Done) (record c { axis = followed w.kind (target_of w) p c.axis }) in (
+    let place = place-ended_by (Some finish.Done) (record c { axis = axis_after_progress w.kind (target_of w) p c.axis }) in (
       omega arith,
       (
         ap (λ (x : Place). x.setpoint) place ∙ alike.setpoint ∙ there ∙ f.same_target,
@@ -183,12 +181,12 @@ alone (suc n) target rates c w p false e course run is h =
     let alike = followed-move w.kind (target_of w) p c.axis f.kind in
     let taken : p.step ≡ move_taken_of c.axis.limits rates target c.axis.previous c.axis.setpoint =
     is ∙ (λ t. move_taken_of c.axis.limits (f.same_rates t) (f.same_target t) c.axis.previous c.axis.setpoint) in
-    carried-alike (suc n) 1 (toward target rates) None (moved_to (c.axis.setpoint +ℤ p.step) c.axis) (followed w.kind (target_of w) p c.axis) alike (by run taken f.same_target)
+    carried-alike (suc n) 1 (toward target rates) None (axis_after_step (c.axis.setpoint +ℤ p.step) c.axis) (axis_after_progress w.kind (target_of w) p c.axis) alike (by run taken f.same_target)
   where
     by : ((c.axis.setpoint ≡ target) × (move_taken_of c.axis.limits rates target c.axis.previous c.axis.setpoint ≡ pos 0))
         ⊎ IsDoneWithin n c.axis.limits rates target c.axis.setpoint (c.axis.setpoint +ℤ move_taken_of c.axis.limits rates target c.axis.previous c.axis.setpoint) →
         p.step ≡ move_taken_of c.axis.limits rates target c.axis.previous c.axis.setpoint → target_of w ≡ target →
-        GoesOn (suc n) 1 (toward target rates) (moved_to (c.axis.setpoint +ℤ p.step) c.axis)
+        GoesOn (suc n) 1 (toward target rates) (axis_after_step (c.axis.setpoint +ℤ p.step) c.axis)
     by (inl r) taken goal =
         let zero : p.step ≡ pos 0 = taken ∙ r.1 in
         let there : c.axis.setpoint +ℤ p.step ≡ target_of w = (let e : c.axis.setpoint +ℤ p.step ≡ c.axis.setpoint = omega (arith, ints, zero) in e) ∙ r.0 ∙ sym goal in
@@ -211,14 +209,14 @@ turn-ended false ws a blends = refl
 -- what the active command does in a cycle, with how it ends
 abbrev Carries : ℕ → Course → Core → Bool → Advance → Type 0
 Carries n course c blends s =
-    Carried n 1 course (turn_of (ending_fate blends s.ending c.waiting s.axis)) (ended_by s.ending (record c { axis = s.axis })).axis
+    Carried n 1 course (turn_of (ending_fate blends s.ending c.waiting s.axis)) (core_after_ending s.ending (record c { axis = s.axis })).axis
 
 -- from an end that is Done or nothing
 carries-done : (n : ℕ) (course : Course) (c : Core) (blends done : Bool) (a : Axis) →
-    Carried n 1 course (turn_by blends (ends_where done finish.Done)) (ended_by (ends_where done finish.Done) (record c { axis = a })).axis →
+    Carried n 1 course (turn_by blends (ends_where done finish.Done)) (core_after_ending (ends_where done finish.Done) (record c { axis = a })).axis →
     Carries n course c blends (record { axis = a; ending = ends_where done finish.Done })
 carries-done n course c blends done a h =
-    let P : Option Turn → Type 0 = λ t. Carried n 1 course t (ended_by (ends_where done finish.Done) (record c { axis = a })).axis in
+    let P : Option Turn → Type 0 = λ t. Carried n 1 course t (core_after_ending (ends_where done finish.Done) (record c { axis = a })).axis in
     subst P (sym (turn-ended done c.waiting a blends)) h
 
 -- a move takes its step: where it is blended it is turned
@@ -226,22 +224,22 @@ move-by : (n : ℕ) (target : ℤ) (rates : Rates) (c : Core) (w : Wanted) (look
     course_of w ≡ Some (toward target rates) → IsDoneWithin n c.axis.limits rates target c.axis.previous c.axis.setpoint →
     (p : Progress) → p.step ≡ taken_of c.axis (move_step_with (blended_with c.axis w (slice_get c.waiting 0)) c.axis w) →
     p.ending ≡ ending_by w.kind c.axis w (slice_get c.waiting 0) p.step look →
-    Carries n (toward target rates) c blends (record { axis = followed w.kind (target_of w) p c.axis; ending = p.ending })
+    Carries n (toward target rates) c blends (record { axis = axis_after_progress w.kind (target_of w) p c.axis; ending = p.ending })
 move-by n target rates c w look true b e course run p is ends =
     let next = slice_get c.waiting 0 in
     let f = is-toward w target rates course in
     let done = is_crossing (blended_with c.axis w next) c.axis w p.step || stands_at_target c.axis w p.step in
     let ending : p.ending ≡ ends_where done finish.Done = ends ∙ ending-move w.kind c.axis w next p.step look f.kind in
-    let P : Option Finish → Type 0 = λ o. Carries n (toward target rates) c true (record { axis = followed w.kind (target_of w) p c.axis; ending = o }) in
-    subst P (sym ending) (carries-done n (toward target rates) c true done (followed w.kind (target_of w) p c.axis)
+    let P : Option Finish → Type 0 = λ o. Carries n (toward target rates) c true (record { axis = axis_after_progress w.kind (target_of w) p c.axis; ending = o }) in
+    subst P (sym ending) (carries-done n (toward target rates) c true done (axis_after_progress w.kind (target_of w) p c.axis)
     (some-run n (toward target rates) c.axis.limits c.axis.previous c.axis.setpoint run, tt))
 move-by n target rates c w look false b e course run p is ends =
     let next = slice_get c.waiting 0 in
     let f = is-toward w target rates course in
     let none : blended_with c.axis w next ≡ None = none-of (blended_with c.axis w next) (second (is_move w.kind) (is_some (blended_with c.axis w next)) f.kind b) in
     let ending = ends ∙ ending-alone c.axis w next p.step look f.kind none in
-    let P : Option Finish → Type 0 = λ o. Carries n (toward target rates) c false (record { axis = followed w.kind (target_of w) p c.axis; ending = o }) in
-    subst P (sym ending) (carries-done n (toward target rates) c false (stands_at_target c.axis w p.step) (followed w.kind (target_of w) p c.axis)
+    let P : Option Finish → Type 0 = λ o. Carries n (toward target rates) c false (record { axis = axis_after_progress w.kind (target_of w) p c.axis; ending = o }) in
+    subst P (sym ending) (carries-done n (toward target rates) c false (stands_at_target c.axis w p.step) (axis_after_progress w.kind (target_of w) p c.axis)
     (alone n target rates c w p (stands_at_target c.axis w p.step) e course run (is ∙ alone-step c.axis w next none) refl))
 
 pub wish-halt : (k : BlockKind) (a : Axis) (w : Wanted) (next : Option Wanted) (look : AxisLook) → is_slowing k ≡ true → wish_by k a w next look ≡ halt_wish a w
@@ -255,7 +253,7 @@ ending-halt kind.Halt a w next step look h = refl
 ending-halt kind.Stop a w next step look h = refl
 ending-halt _ a w next step look h = absurd (cc)
 
-pub followed-halt : (k : BlockKind) (target : ℤ) (p : Progress) (a : Axis) → is_slowing k ≡ true → AreAlike (moved_to (a.setpoint +ℤ p.step) a) (followed k target p a)
+pub followed-halt : (k : BlockKind) (target : ℤ) (p : Progress) (a : Axis) → is_slowing k ≡ true → AreAlike (axis_after_step (a.setpoint +ℤ p.step) a) (axis_after_progress k target p a)
 followed-halt kind.Halt target p a h = record { limits = refl; previous = refl; setpoint = refl; active = refl }
 followed-halt kind.Stop target p a h = record { limits = refl; previous = refl; setpoint = refl; active = refl }
 followed-halt _ target p a h = absurd (cc)
@@ -275,22 +273,22 @@ slows : (n : ℕ) (d : ℤ) (c : Core) (w : Wanted) (p : Progress) (done : Bool)
     course_of w ≡ Some (slowing d) → IsAtRestWithin n c.axis.limits d c.axis.previous c.axis.setpoint →
     p.step ≡ halt_taken_of c.axis.limits d c.axis.previous c.axis.setpoint → int_eq p.step (pos 0) ≡ done →
     Carried n 1 (slowing d) (turn_by false (ends_where done finish.Done))
-    (ended_by (ends_where done finish.Done) (record c { axis = followed w.kind (target_of w) p c.axis })).axis
+    (core_after_ending (ends_where done finish.Done) (record c { axis = axis_after_progress w.kind (target_of w) p c.axis })).axis
 slows zero d c w p done e kind course run is h = absurd run
 slows (suc n) d c w p true e kind course run is h =
-    let zero : p.step ≡ pos 0 = int-same p.step (pos 0) h in
+    let zero : p.step ≡ pos 0 = eq-of p.step (pos 0) h in
     let alike = followed-halt w.kind (target_of w) p c.axis kind in
-    let place = place-ended_by (Some finish.Done) (record c { axis = followed w.kind (target_of w) p c.axis }) in (
+    let place = place-ended_by (Some finish.Done) (record c { axis = axis_after_progress w.kind (target_of w) p c.axis }) in (
       omega arith,
       ap (λ (x : Place). x.setpoint) place ∙ alike.setpoint ∙ (let e : c.axis.setpoint +ℤ p.step ≡ c.axis.setpoint = omega (arith, ints, zero) in e) ∙
           sym (ap (λ (x : Place). x.previous) place ∙ alike.previous),
     )
 slows (suc n) d c w p false e kind course run is h =
-    carried-alike (suc n) 1 (slowing d) None (moved_to (c.axis.setpoint +ℤ p.step) c.axis) (followed w.kind (target_of w) p c.axis) (followed-halt w.kind (target_of w) p c.axis kind) (by run)
+    carried-alike (suc n) 1 (slowing d) None (axis_after_step (c.axis.setpoint +ℤ p.step) c.axis) (axis_after_progress w.kind (target_of w) p c.axis) (followed-halt w.kind (target_of w) p c.axis kind) (by run)
   where
     by : (halt_taken_of c.axis.limits d c.axis.previous c.axis.setpoint ≡ pos 0)
         ⊎ IsAtRestWithin n c.axis.limits d c.axis.setpoint (c.axis.setpoint +ℤ halt_taken_of c.axis.limits d c.axis.previous c.axis.setpoint) →
-        GoesOn (suc n) 1 (slowing d) (moved_to (c.axis.setpoint +ℤ p.step) c.axis)
+        GoesOn (suc n) 1 (slowing d) (axis_after_step (c.axis.setpoint +ℤ p.step) c.axis)
     by (inl r) = absurd (let t : int_eq p.step (pos 0) ≡ true = same-int _ _ (is ∙ r) in cc)
     by (inr r) =
         let P : ℤ → Type 0 = λ s. IsAtRestWithin n c.axis.limits d c.axis.setpoint (c.axis.setpoint +ℤ s) in
@@ -300,17 +298,17 @@ halt-by : (n : ℕ) (d : ℤ) (c : Core) (w : Wanted) (look : AxisLook) → c.ax
     course_of w ≡ Some (slowing d) → IsAtRestWithin n c.axis.limits d c.axis.previous c.axis.setpoint →
     (p : Progress) → p.step ≡ taken_of c.axis (toward_zero (old_step_of c.axis) w.rates.d) →
     p.ending ≡ ending_by w.kind c.axis w (slice_get c.waiting 0) p.step look →
-    Carries n (slowing d) c (is_blended (Some w) c) (record { axis = followed w.kind (target_of w) p c.axis; ending = p.ending })
+    Carries n (slowing d) c (is_blended (Some w) c) (record { axis = axis_after_progress w.kind (target_of w) p c.axis; ending = p.ending })
 halt-by n d c w look e course run p is ends =
     let next = slice_get c.waiting 0 in
     let f = slowing-of w.kind w d course in
     let taken : p.step ≡ halt_taken_of c.axis.limits d c.axis.previous c.axis.setpoint = is ∙ ap (λ z. taken_of c.axis (toward_zero (old_step_of c.axis) z)) f.1 ∙ halt-step c.axis d in
     let ending = ends ∙ ending-halt w.kind c.axis w next p.step look f.0 in
     let alone = unblended w.kind (is_some (blended_with c.axis w next)) f.0 in
-    let P : Bool → Option Finish → Type 0 = λ b o. Carries n (slowing d) c b (record { axis = followed w.kind (target_of w) p c.axis; ending = o }) in
+    let P : Bool → Option Finish → Type 0 = λ b o. Carries n (slowing d) c b (record { axis = axis_after_progress w.kind (target_of w) p c.axis; ending = o }) in
     let Q : Option Finish → Type 0 = P false in
     let R : Bool → Type 0 = λ b. P b p.ending in
-    subst R (sym alone) (subst Q (sym ending) (carries-done n (slowing d) c false (int_eq p.step (pos 0)) (followed w.kind (target_of w) p c.axis)
+    subst R (sym alone) (subst Q (sym ending) (carries-done n (slowing d) c false (int_eq p.step (pos 0)) (axis_after_progress w.kind (target_of w) p c.axis)
     (slows n d c w p (int_eq p.step (pos 0)) e f.0 course run taken refl)))
 
 -- the step that a command wants is known by its course
@@ -329,14 +327,14 @@ progress_at a w next look step = record { step = step; reached = is_reached w.ki
 
 -- a command that has a course takes its step
 pub progress-by : (course : Course) (a : Axis) (w : Wanted) (next : Option Wanted) (look : AxisLook) → course_of w ≡ Some course →
-    progress_of a w next look ≡ Ok (progress_at a w next look (taken_of a (step_by course a w next)))
-progress-by course a w next look h = ap (λ o. progress_with a w next look (taken_by a o)) (wish-by course a w next look h)
+    progress_in_cycle a w next look ≡ Ok (progress_at a w next look (taken_of a (step_by course a w next)))
+progress-by course a w next look h = ap (λ o. progress_by_step a w next look (taken_by a o)) (wish-by course a w next look h)
 
 carries-course : (n : ℕ) (course : Course) (c : Core) (w : Wanted) (look : AxisLook) → c.axis.active ≡ Some w → course_of w ≡ Some course →
     RunsWithin n course c.axis.limits c.axis.previous c.axis.setpoint →
     (p : Progress) → p.step ≡ taken_of c.axis (step_by course c.axis w (slice_get c.waiting 0)) →
     p.ending ≡ ending_by w.kind c.axis w (slice_get c.waiting 0) p.step look →
-    Carries n course c (is_blended (Some w) c) (record { axis = followed w.kind (target_of w) p c.axis; ending = p.ending })
+    Carries n course c (is_blended (Some w) c) (record { axis = axis_after_progress w.kind (target_of w) p c.axis; ending = p.ending })
 carries-course n (toward target rates) c w look e course run p is ends = move-by n target rates c w look (is_blended (Some w) c) refl e course run p is ends
 carries-course n (slowing d) c w look e course run p is ends = halt-by n d c w look e course run p is ends
 
@@ -346,22 +344,22 @@ no-path false o w path h = refl
 
 -- an axis with an active command, that no error stops, advances by that
 pub advances-by : (a : Axis) (w : Wanted) (next : Option Wanted) (look : AxisLook) → is_error_stop a.state ≡ false → a.active ≡ Some w →
-    advanced next look a ≡ advanced_by w.kind (target_of w) a (progress_of a w next look)
-unfolding advanced
+    advance_in_cycle next look a ≡ advance_by_progress w.kind (target_of w) a (progress_in_cycle a w next look)
+unfolding advance_in_cycle
 advances-by a w next look s e =
-    ap (λ b. if b then record { axis = braked a; ending = None } else advanced_from (place_on_path a look) next look a) s
-    ∙ ap (λ o. advanced_from o next look a) (no-path (is_synchronized a.state) a.active w look.path e)
-    ∙ ap (λ o. advanced_with o next look a) e
+    ap (λ b. if b then record { axis = axis_after_braking a; ending = None } else advance_without_error (place_on_path a look) next look a) s
+    ∙ ap (λ o. advance_without_error o next look a) (no-path (is_synchronized a.state) a.active w look.path e)
+    ∙ ap (λ o. advance_by_command o next look a) e
 
 carried-moved : (n : ℕ) (course : Course) (c : Core) (look : AxisLook) → is_error_stop c.axis.state ≡ false → IsUnderWay n course c.axis →
-    Carried n 1 course (turn_of (moved_fate look c)) (moved look c).axis
+    Carried n 1 course (turn_of (moved_fate look c)) (core_after_advance look c).axis
 carried-moved n course c look s u =
     let w = u.command in
     let next = slice_get c.waiting 0 in
     let p = progress_at c.axis w next look (taken_of c.axis (step_by course c.axis w next)) in
-    let is = advances-by c.axis w next look s u.active ∙ ap (advanced_by w.kind (target_of w) c.axis) (progress-by course c.axis w next look u.leads) in
+    let is = advances-by c.axis w next look s u.active ∙ ap (advance_by_progress w.kind (target_of w) c.axis) (progress-by course c.axis w next look u.leads) in
     let P : Option Wanted → Advance → Type 0 = λ o x. Carries n course c (is_blended o c) x in
-    let Q : Option Wanted → Type 0 = λ o. P o (advanced next look c.axis) in
+    let Q : Option Wanted → Type 0 = λ o. P o (advance_in_cycle next look c.axis) in
     let R : Advance → Type 0 = P (Some w) in
     subst Q (sym u.active) (subst R (sym is) (carries-course n course c w look u.active u.leads u.run p refl refl))
 
@@ -389,21 +387,21 @@ left-alike : (b : Bool) (s : AxisState) (a : Axis) → AreAlike a (if b then rec
 left-alike true s a = record { limits = refl; previous = refl; setpoint = refl; active = refl }
 left-alike false s a = record { limits = refl; previous = refl; setpoint = refl; active = refl }
 
-pub stop-alike : (look : AxisLook) (a : Axis) → AreAlike a (stop_left look a)
+pub stop-alike : (look : AxisLook) (a : Axis) → AreAlike a (axis_after_stop look a)
 stop-alike look a = left-alike (leaves_stopping look a) (next_of StopReleased) a
 
 carried-gone_on : (n : ℕ) (course : Course) (c : Core) (look : AxisLook) → is_error_stop c.axis.state ≡ false → IsUnderWay n course c.axis →
-    Carried n 1 course (turn_of (moved_fate look c)) (gone_on look c).axis
+    Carried n 1 course (turn_of (moved_fate look c)) (core_after_going_on look c).axis
 carried-gone_on n course c look s u =
-    let a = (moved look c).axis in
-    carried-alike n 1 course (turn_of (moved_fate look c)) a (stop_left look a)
+    let a = (core_after_advance look c).axis in
+    carried-alike n 1 course (turn_of (moved_fate look c)) a (axis_after_stop look a)
     (stop-alike look a) (carried-moved n course c look s u)
 
 carried-run : (n : ℕ) (course : Course) (c : Core) (look : AxisLook) (driven : Bool) → is_error_stop c.axis.state ≡ false → IsUnderWay n course c.axis →
     (driven && c.axis.driven) ≡ true →
-    Carried n 1 course (turn_of (if driven && c.axis.driven then moved_fate look c else goes_on)) (run look driven c).axis
+    Carried n 1 course (turn_of (if driven && c.axis.driven then moved_fate look c else goes_on)) (core_after_step look driven c).axis
 carried-run n course c look driven s u d =
-    only-true (driven && c.axis.driven) (moved_fate look c) goes_on (gone_on look c) (record c { axis = standing driven look.input c.axis })
+    only-true (driven && c.axis.driven) (moved_fate look c) goes_on (core_after_going_on look c) (record c { axis = axis_at_drive driven look.input c.axis })
     (λ (f : Fate) (e : Core). Carried n 1 course (turn_of f) e.axis) d (carried-gone_on n course c look s u)
 
 faulted : (n : ℕ) (course : Course) (error : ℕ) (active : Option Wanted) (w : Wanted) (a : Axis) → 1 ≤ n → active ≡ Some w →
@@ -423,7 +421,7 @@ carried-answered : (b : Bool) (n : ℕ) (course : Course) (c : Core) (look : Axi
     (failed : Core) →
     Carried n 1 course
     (turn_of (if b then (if is_driven c.axis look.input && c.axis.driven then moved_fate look c else goes_on) else replaced (finish.Error (answer_error_of c.axis look.input)) c.axis.active None))
-    (run look (is_driven c.axis look.input) (if b then c else failed)).axis
+    (core_after_step look (is_driven c.axis look.input) (if b then c else failed)).axis
 carried-answered true n course c look h s r u failed = carried-run n course c look (is_driven c.axis look.input) s u (still-driven c.axis look.input s r h)
 carried-answered false n course c look h s r u failed =
     faulted n course (answer_error_of c.axis look.input) c.axis.active u.command _ (some-cycle n course c.axis u) u.active
@@ -436,17 +434,17 @@ pub reset-alike : (o : Option PendingReset) (input : DriveIn) (a : Axis) → Are
 reset-alike None input a = record { limits = refl; previous = refl; setpoint = refl; active = refl }
 reset-alike (Some p) input a = reset-by (may_reset input a) a
 
-pub given-alike : (input : DriveIn) (a b : Axis) → AreAlike a b → AreAlike a (given input b)
+pub given-alike : (input : DriveIn) (a b : Axis) → AreAlike a b → AreAlike a (axis_after_word input b)
 given-alike input a b s = record { limits = s.limits; previous = s.previous; setpoint = s.setpoint; active = s.active }
 
 -- a cycle carries a move on, or turns it
 pub carried-cycled : (n : ℕ) (course : Course) (look : AxisLook) (c : Core) → IsCoreKept c → IsUnderWay n course c.axis →
-    Carried n 1 course (turn_of (cycle_fate look c)) (cycled look c).axis
-unfolding cycle_fate cycled
+    Carried n 1 course (turn_of (cycle_fate look c)) (core_after_cycle look c).axis
+unfolding cycle_fate core_after_cycle
 carried-cycled n course look c kept u =
     let runs = active-runs c.axis.state c.axis.driven (is_powered c.axis) c.axis.was_off c.axis.previous c.axis.setpoint c.axis.active u.command u.active kept.axis.state in
-    let after = run look (is_driven c.axis look.input) (answered look.input c) in
-    carried-alike n 1 course (turn_of (cycle_fate look c)) after.axis (given look.input (reset_axis after.axis.reset look.input after.axis))
+    let after = core_after_step look (is_driven c.axis look.input) (core_after_answer look.input c) in
+    carried-alike n 1 course (turn_of (cycle_fate look c)) after.axis (axis_after_word look.input (reset_axis after.axis.reset look.input after.axis))
     (given-alike look.input after.axis (reset_axis after.axis.reset look.input after.axis) (reset-alike after.axis.reset look.input after.axis))
     (carried-answered (nat_eq (answer_error_of c.axis look.input) 0) n course c look refl runs.0 runs.1 u _)
 
@@ -458,18 +456,12 @@ aborted-turn : (n : ℕ) (course : Course) (active next : Option Wanted) (w : Wa
 aborted-turn n course None next w a h = absurd (cc)
 aborted-turn n course (Some v) next w a h = (omega arith, tt)
 
-waits : (aborting : Bool) (active : Option Wanted) (ws : List Wanted) (w : Wanted) → (aborting || is_none active) ≡ false →
-    (if aborting then record { active = Some w; waiting = [] } else behind active ws w).active ≡ active
-waits true active ws w h = absurd (cc)
-waits false None ws w h = absurd (cc)
-waits false (Some a) ws w h = refl
-
 carried-joined : (n : ℕ) (course : Course) (b : Bool) (w : Wanted) (c : Core) → is_active_at_once (queue_in c) w ≡ b → IsUnderWay n course c.axis →
     Carried n 0 course (turn_of (if b then replaced finish.Aborted c.axis.active (Some w) else goes_on))
-    (if b then record (queued w c) { axis = begun w (queued w c).axis } else queued w c).axis
+    (if b then record (queued w c) { axis = axis_under w (queued w c).axis } else queued w c).axis
 carried-joined n course true w c h u = aborted-turn n course c.axis.active (Some w) u.command _ u.active
 carried-joined n course false w c h u =
-    still n course c.axis (queued w c).axis (record { limits = refl; previous = refl; setpoint = refl; active = waits (is_aborting w.mode) c.axis.active c.waiting w h }) u
+    still n course c.axis (queued w c).axis (record { limits = refl; previous = refl; setpoint = refl; active = queued-later (is_aborting w.mode) c.axis.active c.waiting w h }) u
 
 carried-admitted : (n : ℕ) (course : Course) (k : BlockKind) (w : Wanted) (c : Core) → IsUnderWay n course c.axis →
     Carried n 0 course (turn_of (admitted_fate k w c)) (admitted_by k w c).axis
@@ -491,15 +483,15 @@ carried-commanded n course q c u = carried-asked n course (refusal_of q) q.wante
 
 -- so does a Power
 pub carried-powered : (n : ℕ) (course : Course) (enable : Bool) (c : Core) → IsUnderWay n course c.axis →
-    Carried n 0 course (turn_of (power_fate enable c)) (powered_by enable c).axis
-unfolding power_fate powered_by
+    Carried n 0 course (turn_of (power_fate enable c)) (core_after_power enable c).axis
+unfolding power_fate core_after_power
 carried-powered n course true c u = still n course c.axis _ (record { limits = refl; previous = refl; setpoint = refl; active = refl }) u
 carried-powered n course false c u =
     let wished = record c { axis = record c.axis { power = false; was_off = true } } in
     by (is_error_stop c.axis.state)
   where
     by : (b : Bool) → Carried n 0 course (turn_of (if b then goes_on else replaced finish.Aborted c.axis.active None))
-        (if b then record c { axis = record c.axis { power = false; was_off = true } } else disabled (record c { axis = record c.axis { power = false; was_off = true } })).axis
+        (if b then record c { axis = record c.axis { power = false; was_off = true } } else core_after_disabling (record c { axis = record c.axis { power = false; was_off = true } })).axis
     by true = still n course c.axis _ (record { limits = refl; previous = refl; setpoint = refl; active = refl }) u
     by false = aborted-turn n course c.axis.active None u.command _ u.active
 
@@ -511,8 +503,8 @@ course-owned kind.Stop w owner = refl
 course-owned _ w owner = refl
 
 -- a command whose owner is taken away goes on
-pub carried-detached : (n : ℕ) (course : Course) (owner : ℕ) (a : Axis) → IsUnderWay n course a → IsUnderWay n course (detached owner a)
-unfolding detached
+pub carried-detached : (n : ℕ) (course : Course) (owner : ℕ) (a : Axis) → IsUnderWay n course a → IsUnderWay n course (axis_without_owner owner a)
+unfolding axis_without_owner
 carried-detached n course owner a u = record {
   command = record u.command { owner = without owner u.command.owner };
   active = ap (active_without owner) u.active;

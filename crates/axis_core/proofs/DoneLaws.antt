@@ -12,20 +12,21 @@ use Rattle.command_pool.specs.declared.rates.Rates.{Rates}
 use Rattle.command_pool.specs.declared.wanted.Wanted.{Wanted}
 use Rattle.axis_core.specs.Arrivals.{Crosses, IsMoveDone}
 use Rattle.axis_core.specs.AxisKept.{IsCoreKept, IsRunning}
-use Rattle.axis_core.specs.Cores.{Core, ended_by, failed}
-use Rattle.axis_core.specs.Cycles.{Advance, advanced_by, answered, cycled, followed, given, gone_on, moved, progress_of, progress_with, run}
-use Rattle.axis_core.specs.Drives.{answer_error_of, is_driven, standing}
+use Rattle.axis_core.specs.Cores.{Core, core_after_ending}
+use Rattle.axis_core.specs.Cycles.{Advance, advance_by_progress, core_after_answer, core_after_cycle, axis_after_progress, axis_after_word, core_after_going_on, core_after_advance, progress_in_cycle, progress_by_step, core_after_step}
+use Rattle.axis_core.specs.Drives.{answer_error_of, is_driven, axis_at_drive}
 use Rattle.axis_core.specs.Fates.{Fate, cycle_fate, ending_fate, goes_on, is_blended, moved_fate, replaced}
 use Rattle.axis_core.specs.States.{is_error_stop}
 use Rattle.axis_core.specs.Steps.{ends_where, taken_by, taken_of}
-use Rattle.axis_core.specs.blocks.Halts.{stop_left}
+use Rattle.axis_core.specs.blocks.Halts.{axis_after_stop}
 use Rattle.axis_core.specs.blocks.Moves.{blended_with, is_crossing, is_move, move_step_with, second_move_of, stands_at_target, target_of, where_applies}
 use Rattle.axis_core.specs.blocks.Power.{is_powered}
 use Rattle.axis_core.specs.blocks.Reset.{reset_axis}
 use Rattle.axis_core.specs.declared.axis.Axis.{Axis}
 use Rattle.axis_core.specs.declared.blocks.moves.SecondMove.{SecondMove}
 use Rattle.axis_core.specs.declared.look.AxisLook.{AxisLook}
-use Rattle.axis_core.proofs.ArrivalLaws.{AreAlike, active-runs, advances-by, both-true, ending-move, followed-move, given-alike, int-same, only-true, progress_at, reset-alike, still-driven, stop-alike, wish-move}
+use Rattle.axis_core.proofs.KeptMoves.{eq-of}
+use Rattle.axis_core.proofs.ArrivalLaws.{AreAlike, active-runs, advances-by, both-true, ending-move, followed-move, given-alike, only-true, progress_at, reset-alike, still-driven, stop-alike, wish-move}
 use Rattle.axis_core.proofs.Blends.{first_down, first_up}
 use Rattle.axis_core.proofs.KeptRows.{Place, place-ended_by}
 
@@ -33,25 +34,25 @@ use Rattle.axis_core.proofs.KeptRows.{Place, place-ended_by}
 pub by-cycle : (R : Fate → Axis → Type 0) (look : AxisLook) (c : Core) (w : Wanted) → IsCoreKept c → c.axis.active ≡ Some w →
     ((f : Fate) (a b : Axis) → AreAlike a b → R f a → R f b) →
     ((n : ℕ) (a : Axis) → R (replaced (finish.Error n) c.axis.active None) a) →
-    R (moved_fate look c) (moved look c).axis →
-    R (cycle_fate look c) (cycled look c).axis
-unfolding cycle_fate cycled
+    R (moved_fate look c) (core_after_advance look c).axis →
+    R (cycle_fate look c) (core_after_cycle look c).axis
+unfolding cycle_fate core_after_cycle
 by-cycle R look c w kept e alike fault moves =
     let runs = active-runs c.axis.state c.axis.driven (is_powered c.axis) c.axis.was_off c.axis.previous c.axis.setpoint c.axis.active w e kept.axis.state in
     let driven = is_driven c.axis look.input in
-    let after = run look driven (answered look.input c) in
-    let a = (moved look c).axis in
-    let goes : R (moved_fate look c) (gone_on look c).axis = alike (moved_fate look c) a (stop_left look a) (stop-alike look a) moves in
-    alike (cycle_fate look c) after.axis (given look.input (reset_axis after.axis.reset look.input after.axis))
+    let after = core_after_step look driven (core_after_answer look.input c) in
+    let a = (core_after_advance look c).axis in
+    let goes : R (moved_fate look c) (core_after_going_on look c).axis = alike (moved_fate look c) a (axis_after_stop look a) (stop-alike look a) moves in
+    alike (cycle_fate look c) after.axis (axis_after_word look.input (reset_axis after.axis.reset look.input after.axis))
     (given-alike look.input after.axis (reset_axis after.axis.reset look.input after.axis) (reset-alike after.axis.reset look.input after.axis))
     (by (nat_eq (answer_error_of c.axis look.input) 0) refl runs.0 runs.1 goes _)
   where
     by : (b : Bool) → nat_eq (answer_error_of c.axis look.input) 0 ≡ b → is_error_stop c.axis.state ≡ false → IsRunning c.axis.driven (is_powered c.axis) →
-        R (moved_fate look c) (gone_on look c).axis → (failed : Core) →
+        R (moved_fate look c) (core_after_going_on look c).axis → (failed : Core) →
         R (if b then (if is_driven c.axis look.input && c.axis.driven then moved_fate look c else goes_on) else replaced (finish.Error (answer_error_of c.axis look.input)) c.axis.active None)
-        (run look (is_driven c.axis look.input) (if b then c else failed)).axis
+        (core_after_step look (is_driven c.axis look.input) (if b then c else failed)).axis
     by true h s r goes failed =
-        only-true (is_driven c.axis look.input && c.axis.driven) (moved_fate look c) goes_on (gone_on look c) (record c { axis = standing (is_driven c.axis look.input) look.input c.axis })
+        only-true (is_driven c.axis look.input && c.axis.driven) (moved_fate look c) goes_on (core_after_going_on look c) (record c { axis = axis_at_drive (is_driven c.axis look.input) look.input c.axis })
         (λ (f : Fate) (d : Core). R f d.axis) (still-driven c.axis look.input s r h) goes
     by false h s r goes failed = fault (answer_error_of c.axis look.input) _
 
@@ -115,8 +116,8 @@ rests : (a b : Axis) (w : Wanted) (step : ℤ) → stands_at_target a w step ≡
     (b.setpoint ≡ target_of w) × (b.previous ≡ target_of w)
 rests a b w step h s p =
     let q = both-true (int_eq step (pos 0)) (int_eq (a.setpoint +ℤ step) (target_of w)) h in
-    let there = int-same (a.setpoint +ℤ step) (target_of w) q.1 in
-    let zero : step ≡ pos 0 = int-same step (pos 0) q.0 in
+    let there = eq-of (a.setpoint +ℤ step) (target_of w) q.1 in
+    let zero : step ≡ pos 0 = eq-of step (pos 0) q.0 in
     (s ∙ there, p ∙ (let e : a.setpoint ≡ a.setpoint +ℤ step = omega (arith, ints, zero) in e) ∙ there)
 
 -- where the step of a move ends it
@@ -141,7 +142,7 @@ abbrev EndsDone : Option SecondMove → ℤ → ℤ → Fate → Axis → Type 0
 EndsDone o target before f a = f.ends ≡ Some finish.Done → IsMoveDone o target before a
 
 ending-done : (b blends : Bool) (o : Option SecondMove) (target before : ℤ) (ws : List Wanted) (c : Core) →
-    (b ≡ true → IsMoveDone o target before c.axis) → EndsDone o target before (ending_fate blends (ends_where b finish.Done) ws c.axis) (ended_by (ends_where b finish.Done) c).axis
+    (b ≡ true → IsMoveDone o target before c.axis) → EndsDone o target before (ending_fate blends (ends_where b finish.Done) ws c.axis) (core_after_ending (ends_where b finish.Done) c).axis
 ending-done true blends o target before ws c h g =
     let place = place-ended_by (Some finish.Done) c in
     done-place o target before c.axis _ (ap (λ (p : Place). p.setpoint) place) (ap (λ (p : Place). p.previous) place) (h refl)
@@ -154,22 +155,22 @@ ending-done false blends o target before ws c h g = absurd (cc)
 
 -- a move takes the step that it wants
 takes-step : (a : Axis) (w : Wanted) (next : Option Wanted) (look : AxisLook) → is_move w.kind ≡ true →
-    progress_of a w next look ≡ Ok (progress_at a w next look (taken_of a (move_step_with (blended_with a w next) a w)))
-takes-step a w next look h = ap (λ o. progress_with a w next look (taken_by a o)) (wish-move w.kind a w next look h)
+    progress_in_cycle a w next look ≡ Ok (progress_at a w next look (taken_of a (move_step_with (blended_with a w next) a w)))
+takes-step a w next look h = ap (λ o. progress_by_step a w next look (taken_by a o)) (wish-move w.kind a w next look h)
 
 moved-done : IsTested → (look : AxisLook) (c : Core) (w : Wanted) → c.axis.active ≡ Some w → is_move w.kind ≡ true → is_error_stop c.axis.state ≡ false →
-    EndsDone (blended_with c.axis w (slice_get c.waiting 0)) (target_of w) c.axis.setpoint (moved_fate look c) (moved look c).axis
+    EndsDone (blended_with c.axis w (slice_get c.waiting 0)) (target_of w) c.axis.setpoint (moved_fate look c) (core_after_advance look c).axis
 moved-done tested look c w e kind runs =
     let a = c.axis in
     let next = slice_get c.waiting 0 in
     let o = blended_with a w next in
     let step = taken_of a (move_step_with o a w) in
     let p = progress_at a w next look step in
-    let b = followed w.kind (target_of w) p a in
+    let b = axis_after_progress w.kind (target_of w) p a in
     let alike = followed-move w.kind (target_of w) p a kind in
-    let is = advances-by a w next look runs e ∙ ap (advanced_by w.kind (target_of w) a) (takes-step a w next look kind) in
+    let is = advances-by a w next look runs e ∙ ap (advance_by_progress w.kind (target_of w) a) (takes-step a w next look kind) in
     let blends = is_blended c.axis.active c in
-    let P : Advance → Type 0 = λ s. EndsDone o (target_of w) a.setpoint (ending_fate blends s.ending c.waiting s.axis) (ended_by s.ending (record c { axis = s.axis })).axis in
+    let P : Advance → Type 0 = λ s. EndsDone o (target_of w) a.setpoint (ending_fate blends s.ending c.waiting s.axis) (core_after_ending s.ending (record c { axis = s.axis })).axis in
     let Q : Option Finish → Type 0 = λ f. P (record { axis = b; ending = f }) in
     subst P (sym is) (subst Q (sym (ending-move w.kind a w next step look kind))
     (ending-done (is_crossing o a w step || stands_at_target a w step) blends o (target_of w) a.setpoint c.waiting (record c { axis = b })
@@ -177,7 +178,7 @@ moved-done tested look c w e kind runs =
 
 -- a move is done at its target, or, where it is blended, by a step that crosses it
 pub move-done : IsTested → (look : AxisLook) (c : Core) (w : Wanted) → IsCoreKept c → c.axis.active ≡ Some w → is_move w.kind ≡ true → (cycle_fate look c).ends ≡ Some finish.Done →
-    IsMoveDone (blended_with c.axis w (slice_get c.waiting 0)) (target_of w) c.axis.setpoint (cycled look c).axis
+    IsMoveDone (blended_with c.axis w (slice_get c.waiting 0)) (target_of w) c.axis.setpoint (core_after_cycle look c).axis
 move-done tested look c w kept e kind =
     let runs = (active-runs c.axis.state c.axis.driven (is_powered c.axis) c.axis.was_off c.axis.previous c.axis.setpoint c.axis.active w e kept.axis.state).0 in
     by-cycle (EndsDone (blended_with c.axis w (slice_get c.waiting 0)) (target_of w) c.axis.setpoint) look c w kept e

@@ -6,13 +6,13 @@ use Rattle.command_pool.specs.declared.kind.BlockKind.{BlockKind}
 use Rattle.command_pool.specs.declared.kind.BlockKind.TheVariants as kind
 use Rattle.command_pool.specs.declared.wanted.Wanted.{Wanted}
 use Rattle.command_pool.specs.Waiting.{last_of}
-use Rattle.axis_core.specs.Calls.{admitted_by, commanded, commanded_by, detached, disabled, joined, left, powered_by, queue_in, queued}
-use Rattle.axis_core.specs.Cores.{Core, begun, begun_by}
+use Rattle.axis_core.specs.Calls.{admitted_by, commanded, commanded_by, axis_without_owner, core_after_disabling, core_after_joining, left, core_after_power, queue_in, queued}
+use Rattle.axis_core.specs.Cores.{Core, axis_under, axis_under_by}
 use Rattle.axis_core.specs.Refusals.{Asked, refusal_of}
 use Rattle.axis_core.specs.Rows.{Stays}
 use Rattle.axis_core.specs.States.{is_error_stop}
 use Rattle.axis_core.specs.blocks.Moves.{known_target_of, with_target}
-use Rattle.axis_core.specs.blocks.Path.{on_path}
+use Rattle.axis_core.specs.blocks.Path.{axis_on_path}
 use Rattle.axis_core.specs.declared.axis.Axis.{Axis}
 use Rattle.axis_core.specs.declared.reason.Reason.{Reason}
 use Rattle.axis_core.proofs.KeptRows.{Place, place_of, place-begun}
@@ -24,13 +24,13 @@ stays-at a b e = record {
   spell = ap (λ (p : Place). if p.driven then Some (record { before = p.previous -ℤ p.offset; now = p.setpoint -ℤ p.offset }) else None) e;
 }
 
-place-joined : (w : Wanted) (c : Core) → place_of (joined w c).axis ≡ place_of c.axis
+place-joined : (w : Wanted) (c : Core) → place_of (core_after_joining w c).axis ≡ place_of c.axis
 place-joined w c =
-    elim (is_active_at_once (queue_in c) w) as (λ b. place_of (if b then record (queued w c) { axis = begun w (queued w c).axis } else queued w c).axis ≡ place_of c.axis)
+    elim (is_active_at_once (queue_in c) w) as (λ b. place_of (if b then record (queued w c) { axis = axis_under w (queued w c).axis } else queued w c).axis ≡ place_of c.axis)
     [ true ↦ place-begun w (queued w c).axis | false ↦ refl ]
 
 place-left : (w : Wanted) (c : Core) → place_of (left w c).axis ≡ place_of c.axis
-unfolding begun_by
+unfolding axis_under_by
 place-left w c = refl
 
 place-admitted : (k : BlockKind) (w : Wanted) (c : Core) → place_of (admitted_by k w c).axis ≡ place_of c.axis
@@ -47,20 +47,20 @@ pub stays-commanded : (q : Asked) (c : Core) → Stays c.axis (commanded q c).ax
 unfolding commanded
 stays-commanded q c = stays-at c.axis _ (place-commanded (refusal_of q) q.wanted c)
 
-place-powered : (enable : Bool) (c : Core) → place_of (powered_by enable c).axis ≡ place_of c.axis
-unfolding powered_by
+place-powered : (enable : Bool) (c : Core) → place_of (core_after_power enable c).axis ≡ place_of c.axis
+unfolding core_after_power
 place-powered true c = refl
 place-powered false c =
     let wished : Core = record c { axis = record c.axis { power = false; was_off = true } } in
-    elim (is_error_stop c.axis.state) as (λ b. place_of (if b then wished else disabled wished).axis ≡ place_of c.axis) [ true ↦ refl | false ↦ refl ]
+    elim (is_error_stop c.axis.state) as (λ b. place_of (if b then wished else core_after_disabling wished).axis ≡ place_of c.axis) [ true ↦ refl | false ↦ refl ]
 
-pub stays-powered : (enable : Bool) (c : Core) → Stays c.axis (powered_by enable c).axis
+pub stays-powered : (enable : Bool) (c : Core) → Stays c.axis (core_after_power enable c).axis
 stays-powered enable c = stays-at c.axis _ (place-powered enable c)
 
-pub stays-detached : (owner : ℕ) (a : Axis) → Stays a (detached owner a)
-unfolding detached
+pub stays-detached : (owner : ℕ) (a : Axis) → Stays a (axis_without_owner owner a)
+unfolding axis_without_owner
 stays-detached owner a = stays-at a _ refl
 
-pub stays-on_path : (on : Bool) (a : Axis) → Stays a (on_path on a)
-unfolding on_path
+pub stays-on_path : (on : Bool) (a : Axis) → Stays a (axis_on_path on a)
+unfolding axis_on_path
 stays-on_path on a = stays-at a _ refl

@@ -18,8 +18,8 @@ use Rattle.command_pool.specs.declared.wanted.Wanted.{Wanted}
 use Rattle.kin_core.specs.Admissible.{IsKept}
 use Rattle.kin_core.specs.declared.limits.Limits.{Limits}
 use Rattle.axis_core.specs.AxisKept.{AreNumbers, AreRampsWithin, AreRatesWithin, AreWaiting, IsActive, IsCoreKept, IsGearWithin, IsInState, IsMoveWithin, IsReady, IsRelativeWithin, IsRunning, IsVelocityWithin, IsWaiting, MayQueue, fits}
-use Rattle.axis_core.specs.Calls.{admitted_by, commanded, commanded_by, joined, left, queue_in}
-use Rattle.axis_core.specs.Cores.{Core, all_ended, begun, begun_by, state_with}
+use Rattle.axis_core.specs.Calls.{admitted_by, commanded, commanded_by, core_after_joining, left, queue_in}
+use Rattle.axis_core.specs.Cores.{Core, core_after_all_ends, axis_under, axis_under_by, state_during}
 use Rattle.axis_core.specs.Demands.{IsMade, asked_in}
 use Rattle.axis_core.specs.Kept.{IsGear, IsSmallTarget}
 use Rattle.axis_core.specs.Kinds.{tests_of}
@@ -38,16 +38,16 @@ use Rattle.axis_core.proofs.MayAdmit.{NoneHolds, none-holds, of_kind, running-of
 
 -- the axis on which a command becomes active, with none behind it, is kept
 begins-kept : (w : Wanted) (c : Core) → Based c.axis →
-    IsInState (state_with w.kind c.axis.state) c.axis.driven (is_powered c.axis) c.axis.was_off c.axis.previous c.axis.setpoint (Some w) →
-    IsActive (state_with w.kind c.axis.state) c.axis.limits c.axis.inc c.axis.offset c.axis.setpoint w → c.waiting ≡ [] → IsCoreKept (record c { axis = begun w c.axis })
-unfolding begun_by
+    IsInState (state_during w.kind c.axis.state) c.axis.driven (is_powered c.axis) c.axis.was_off c.axis.previous c.axis.setpoint (Some w) →
+    IsActive (state_during w.kind c.axis.state) c.axis.limits c.axis.inc c.axis.offset c.axis.setpoint w → c.waiting ≡ [] → IsCoreKept (record c { axis = axis_under w c.axis })
+unfolding axis_under_by
 begins-kept w c b s i empty = record {
   axis = record {
     base = b;
     state = s;
     active = λ v h.
         let same : w ≡ v = cc in
-        let P : Wanted → Type 0 = IsActive (state_with w.kind c.axis.state) c.axis.limits c.axis.inc c.axis.offset c.axis.setpoint in
+        let P : Wanted → Type 0 = IsActive (state_during w.kind c.axis.state) c.axis.limits c.axis.inc c.axis.offset c.axis.setpoint in
         subst P same i;
   };
   waiting = let P : List Wanted → Type 0 = AreWaiting c.axis.limits in subst P (sym empty) tt;
@@ -59,8 +59,8 @@ record IsJoining (aborts : Bool) (c : Core) (w : Wanted) : Type 0 where
   on : is_disabled c.axis.state ≡ false
   sound : is_error_stop c.axis.state ≡ false
   moves : is_stopping c.axis.state ≡ false
-  state : IsInState (state_with w.kind c.axis.state) c.axis.driven (is_powered c.axis) c.axis.was_off c.axis.previous c.axis.setpoint (Some w)
-  fitting : fits (state_with w.kind c.axis.state) w.kind ≡ true
+  state : IsInState (state_during w.kind c.axis.state) c.axis.driven (is_powered c.axis) c.axis.was_off c.axis.previous c.axis.setpoint (Some w)
+  fitting : fits (state_during w.kind c.axis.state) w.kind ≡ true
   numbers : AreNumbers w.kind c.axis.limits w
   ready : (aborts || is_none c.axis.active) ≡ true → IsReady w.kind c.axis.limits c.axis.inc c.axis.offset c.axis.setpoint w
   small : IsSmallTarget (Some w)
@@ -76,10 +76,10 @@ joining aborts active w c =
       waiting = after.waiting;
       notes = c.notes ++ (if aborts then end_notes finish.Aborted (queue_in c) else []);
     } in
-    if aborts || is_none active then record queue { axis = begun w queue.axis } else queue
+    if aborts || is_none active then record queue { axis = axis_under w queue.axis } else queue
 
 active-of : (aborts : Bool) (c : Core) (w : Wanted) → IsJoining aborts c w → (aborts || is_none c.axis.active) ≡ true →
-    IsActive (state_with w.kind c.axis.state) c.axis.limits c.axis.inc c.axis.offset c.axis.setpoint w
+    IsActive (state_during w.kind c.axis.state) c.axis.limits c.axis.inc c.axis.offset c.axis.setpoint w
 active-of aborts c w j h = record { fitting = j.fitting; numbers = j.numbers; ready = j.ready h; small = j.small }
 
 -- without an active command none waits
@@ -120,7 +120,7 @@ joining-kept false (Some v) w c e k j =
       queue = inr (may-follow c.axis.state c.axis.driven (is_powered c.axis) c.axis.was_off c.axis.previous c.axis.setpoint v j.on j.sound j.moves (j.free refl) in-state);
     }
 
-joined-kept : (w : Wanted) (c : Core) → IsCoreKept c → IsJoining (is_aborting w.mode) c w → IsCoreKept (joined w c)
+joined-kept : (w : Wanted) (c : Core) → IsCoreKept c → IsJoining (is_aborting w.mode) c w → IsCoreKept (core_after_joining w c)
 joined-kept w c k j = joining-kept (is_aborting w.mode) c.axis.active w c refl k j
 
 -- numbers that are not out of range lie within the limits
@@ -379,8 +379,8 @@ step-within : (l : Limits) (before now : ℤ) → IsKept l before now → IsBetw
 step-within l before now k = let speed = k.speed in record { above = omega (arith, ints, speed); below = omega (arith, ints, speed) }
 
 -- the velocity command of a gear or a cam that is left becomes active as any other
-left-begun : (w : Wanted) (a b : Axis) → begun (velocity_command w a) b ≡ begun_by (Some out_event) (velocity_command w a) b
-unfolding begun_by
+left-begun : (w : Wanted) (a b : Axis) → axis_under (velocity_command w a) b ≡ axis_under_by (Some out_event) (velocity_command w a) b
+unfolding axis_under_by
 left-begun w a b = refl
 
 -- leaving a gear or a cam keeps the axis
@@ -396,7 +396,7 @@ left-kept w c k r =
       velocity = step-within l c.axis.previous c.axis.setpoint (moving-of c.axis k.axis r.on).kept;
       ramps = record { acceleration = record { above = least; below = omega (arith, ints) }; deceleration = record { above = least; below = most } };
     } in
-    let ended = all_ended finish.Aborted c in
+    let ended = core_after_all_ends finish.Aborted c in
     let P : Axis → Type 0 = λ a. IsCoreKept (record ended { axis = a }) in
     subst P (left-begun w c.axis ended.axis) (begun-kept v ended b r tt refl numbers tt (small-none v refl)).kept
 

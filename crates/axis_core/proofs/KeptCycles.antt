@@ -18,16 +18,16 @@ use Rattle.command_pool.specs.declared.wanted.Wanted.{Wanted}
 use Rattle.kin_core.specs.Admissible.{AreLimits, IsKept, IsSafe}
 use Rattle.kin_core.specs.declared.limits.Limits.{Limits}
 use Rattle.axis_core.specs.AxisKept.{AreWaiting, IsActive, IsBased, IsCoreKept, IsInState, IsLook, IsRunning, IsSet, MayQueue}
-use Rattle.axis_core.specs.Cores.{Core, core_at, failed}
-use Rattle.axis_core.specs.Cycles.{advanced, advanced_from, answered, braked, cycled, given, gone_on, moved, reset_where, run}
-use Rattle.axis_core.specs.Drives.{actual_of, answer_error_of, has_fault, is_driven, is_enabled, is_operational, is_within, new_error_of, reads_fault, standing}
+use Rattle.axis_core.specs.Cores.{Core, core_at, core_after_error}
+use Rattle.axis_core.specs.Cycles.{advance_in_cycle, advance_without_error, core_after_answer, axis_after_braking, core_after_cycle, axis_after_word, core_after_going_on, core_after_advance, core_after_reset, core_after_step}
+use Rattle.axis_core.specs.Drives.{actual_of, answer_error_of, has_fault, is_driven, is_enabled, is_operational, is_within, new_error_of, reads_fault, axis_at_drive}
 use Rattle.axis_core.specs.Kept.{HasDrive, MayGoOn}
 use Rattle.motion_numbers.specs.Ranges.{is_outside}
 use Rattle.axis_core.specs.States.{is_error_stop, is_stopping}
-use Rattle.axis_core.specs.blocks.Halts.{is_at_rest, is_released, stop_left}
+use Rattle.axis_core.specs.blocks.Halts.{is_at_rest, is_released, axis_after_stop}
 use Rattle.axis_core.specs.blocks.Path.{is_on_path, place_on_path}
-use Rattle.axis_core.specs.blocks.Power.{enabled_from, is_powered}
-use Rattle.axis_core.specs.blocks.Reset.{after_reset, may_reset, reset_axis, reset_from, reset_notes}
+use Rattle.axis_core.specs.blocks.Power.{state_when_driven, is_powered}
+use Rattle.axis_core.specs.blocks.Reset.{after_reset, may_reset, reset_axis, state_after_reset, reset_notes}
 use Rattle.axis_core.specs.declared.axis.Axis.{Axis}
 use Rattle.axis_core.specs.declared.axis.PendingReset.{PendingReset}
 use Rattle.axis_core.specs.declared.look.AxisLook.{AxisLook}
@@ -56,18 +56,18 @@ on-place false path place h = absurd (cc)
 
 -- an axis that no error stops
 placed-going : Laws → (o : Option ℤ) (look : AxisLook) (c : Core) → IsLook c.axis look → IsCoreKept c → Runs c.axis → place_on_path c.axis look ≡ o →
-    IsGoing (concluded (advanced_from o (slice_get c.waiting 0) look c.axis) c)
+    IsGoing (concluded (advance_without_error o (slice_get c.waiting 0) look c.axis) c)
 placed-going g None look c i k r e = by-command g look c k r
 placed-going g (Some place) look c i k r e =
     let p = on-place (is_on_path c.axis) look.path place e in
     takes-place g place look.path_ends c k r p.0 (kept-place c.axis.limits c.axis.previous c.axis.setpoint place (i.place p.0 place p.1)) (i.ends p.0 place p.1)
 
 -- the step of a cycle
-moved-going : Laws → (look : AxisLook) (c : Core) → IsLook c.axis look → IsCoreKept c → Runs c.axis → IsGoing (moved look c)
-unfolding advanced
+moved-going : Laws → (look : AxisLook) (c : Core) → IsLook c.axis look → IsCoreKept c → Runs c.axis → IsGoing (core_after_advance look c)
+unfolding advance_in_cycle
 moved-going g look c i k r =
     elim (is_error_stop c.axis.state) as (λ b. is_error_stop c.axis.state ≡ b →
-    IsGoing (concluded (if b then record { axis = braked c.axis; ending = None } else advanced_from (place_on_path c.axis look) (slice_get c.waiting 0) look c.axis) c))
+    IsGoing (concluded (if b then record { axis = axis_after_braking c.axis; ending = None } else advance_without_error (place_on_path c.axis look) (slice_get c.waiting 0) look c.axis) c))
     [ true ↦ λ h. brakes g c k r h | false ↦ λ h. placed-going g (place_on_path c.axis look) look c i k r refl ] refl
 
 stopping-empty : (s : AxisState) (active : Option Wanted) (ws : List Wanted) → is_stopping s ≡ true → (ws ≡ []) ⊎ MayQueue s active → ws ≡ []
@@ -76,7 +76,7 @@ stopping-empty state.Stopping active ws h (inr q) = absurd q
 stopping-empty _ active ws h (inr q) = absurd (cc)
 
 -- an axis that leaves Stopping
-stop_left-going : (look : AxisLook) (c : Core) → IsGoing c → IsGoing (record c { axis = stop_left look c.axis })
+stop_left-going : (look : AxisLook) (c : Core) → IsGoing c → IsGoing (record c { axis = axis_after_stop look c.axis })
 stop_left-going look c going =
     let a = c.axis in
     elim (is_stopping a.state && not (is_some a.active) && is_at_rest a && is_released a.hold look.stop_held) as
@@ -102,8 +102,8 @@ stop_left-going look c going =
     ] refl
 
 -- a driven spell that goes on
-pub gone_on-going : Laws → (look : AxisLook) (c : Core) → IsLook c.axis look → IsCoreKept c → Runs c.axis → IsGoing (gone_on look c)
-gone_on-going g look c i k r = stop_left-going look (moved look c) (moved-going g look c i k r)
+pub gone_on-going : Laws → (look : AxisLook) (c : Core) → IsLook c.axis look → IsCoreKept c → Runs c.axis → IsGoing (core_after_going_on look c)
+gone_on-going g look c i k r = stop_left-going look (core_after_advance look c) (moved-going g look c i k r)
 
 -- an axis after a cycle is kept, and power is on where it is driven
 pub record IsRun (c : Core) : Type 0 where
@@ -152,7 +152,7 @@ IsStill state.ErrorStop = Unit {0}
 IsStill s = ⊥
 
 still-in : (s : AxisState) (driven powered off : Bool) (p : ℤ) (active : Option Wanted) → IsStill s → (driven ≡ true → powered ≡ true) → active ≡ None →
-    IsInState (enabled_from driven s) driven powered off p p active
+    IsInState (state_when_driven driven s) driven powered off p p active
 still-in state.Disabled true powered off p active h power none = record { running = record { on = refl; power = power refl }; stands = refl; idle = none }
 still-in state.Disabled false powered off p active h power none = record { idle = none; off = λ e. absurd (cc) }
 still-in state.ErrorStop true powered off p active h power none = none
@@ -161,13 +161,13 @@ still-in _ driven powered off p active h power none = absurd h
 
 -- the axis stands, Disabled or in ErrorStop
 pub standing-run : Laws → (driven : Bool) (input : DriveIn) (c : Core) → Based c.axis → IsCount input.actual → (driven ≡ true → is_within c.axis input ≡ true) →
-    (driven ≡ true → is_powered c.axis ≡ true) → c.axis.active ≡ None → c.waiting ≡ [] → (s : AxisState) → c.axis.state ≡ s → IsStill s → IsRun (record c { axis = standing driven input c.axis })
+    (driven ≡ true → is_powered c.axis ≡ true) → c.axis.active ≡ None → c.waiting ≡ [] → (s : AxisState) → c.axis.state ≡ s → IsStill s → IsRun (record c { axis = axis_at_drive driven input c.axis })
 standing-run g driven input c b count within power none empty s e still = record {
   power = power;
   kept = record {
     axis = record {
       base = standing-based g driven c.axis input b count within;
-      state = let P : AxisState → Type 0 = λ x. IsInState (enabled_from driven x) driven (is_powered c.axis) c.axis.was_off (actual_of c.axis input) (actual_of c.axis input) c.axis.active in
+      state = let P : AxisState → Type 0 = λ x. IsInState (state_when_driven driven x) driven (is_powered c.axis) c.axis.was_off (actual_of c.axis input) (actual_of c.axis input) c.axis.active in
           subst P (sym e) (still-in s driven (is_powered c.axis) c.axis.was_off (actual_of c.axis input) c.axis.active still power none);
       active = λ w h. absurd (cc);
     };
@@ -251,11 +251,11 @@ all-three true true false a b c = absurd (cc)
 
 -- an axis without an error runs, or stands
 run-without-error : Laws → (look : AxisLook) (c : Core) → IsSeen c.axis look → IsCoreKept c → nat_eq (answer_error_of c.axis look.input) 0 ≡ true →
-    IsRun (run look (is_driven c.axis look.input) c)
+    IsRun (core_after_step look (is_driven c.axis look.input) c)
 run-without-error g look c i k none =
     let a = c.axis in
     let d = is_driven a look.input in
-    elim (d && a.driven) as (λ b. (d && a.driven) ≡ b → IsRun (if b then gone_on look c else record c { axis = standing d look.input a })) [
+    elim (d && a.driven) as (λ b. (d && a.driven) ≡ b → IsRun (if b then core_after_going_on look c else record c { axis = axis_at_drive d look.input a })) [
       | true ↦ λ h.
           let p = and_parts d a.driven h in
           let going = gone_on-going g look c i.brought k (record { on = p.1; power = (driven-says a look.input p.0).0 }) in
@@ -273,31 +273,31 @@ run-without-error g look c i k none =
 
 -- an axis with an error stands
 run-with-error : Laws → (n : ℕ) (look : AxisLook) (c : Core) → IsSeen c.axis look → IsCoreKept c → (is_driven c.axis look.input && c.axis.driven) ≡ false →
-    IsRun (run look (is_driven c.axis look.input) (failed n c))
-unfolding failed
+    IsRun (core_after_step look (is_driven c.axis look.input) (core_after_error n c))
+unfolding core_after_error
 run-with-error g n look c i k h =
     let a = c.axis in
     let d = is_driven a look.input in
-    rw h (standing-run g d look.input (failed n c) k.axis.base i.actual (λ on. begins-within d a.driven (is_within a look.input) h on (driven-says a look.input on).2)
+    rw h (standing-run g d look.input (core_after_error n c) k.axis.base i.actual (λ on. begins-within d a.driven (is_within a look.input) h on (driven-says a look.input on).2)
     (λ on. (driven-says a look.input on).0) refl refl state.ErrorStop refl tt)
 
-pub run-of : Laws → (look : AxisLook) (c : Core) → IsSeen c.axis look → IsCoreKept c → IsRun (run look (is_driven c.axis look.input) (answered look.input c))
+pub run-of : Laws → (look : AxisLook) (c : Core) → IsSeen c.axis look → IsCoreKept c → IsRun (core_after_step look (is_driven c.axis look.input) (core_after_answer look.input c))
 run-of g look c i k =
     elim (nat_eq (answer_error_of c.axis look.input) 0) as (λ b. nat_eq (answer_error_of c.axis look.input) 0 ≡ b →
-    IsRun (run look (is_driven c.axis look.input) (if b then c else failed (answer_error_of c.axis look.input) c))) [
+    IsRun (core_after_step look (is_driven c.axis look.input) (if b then c else core_after_error (answer_error_of c.axis look.input) c))) [
       | true ↦ λ h. run-without-error g look c i k h
       | false ↦ λ h. run-with-error g (answer_error_of c.axis look.input) look c i k (error-not-driven c.axis look.input h)
     ] refl
 
 -- an axis whose drive's answer is read is kept
-pub answered-kept : (input : DriveIn) (c : Core) → IsCoreKept c → IsCoreKept (answered input c)
+pub answered-kept : (input : DriveIn) (c : Core) → IsCoreKept c → IsCoreKept (core_after_answer input c)
 answered-kept input c k =
-    elim (nat_eq (answer_error_of c.axis input) 0) as (λ b. IsCoreKept (if b then c else failed (answer_error_of c.axis input) c))
+    elim (nat_eq (answer_error_of c.axis input) 0) as (λ b. IsCoreKept (if b then c else core_after_error (answer_error_of c.axis input) c))
     [ true ↦ k | false ↦ failed-kept (answer_error_of c.axis input) c k.axis.base ]
 
 -- what a Reset leaves of the state
 reset-in : (s : AxisState) (driven powered off : Bool) (p q : ℤ) (active : Option Wanted) → (driven ≡ true → powered ≡ true) → (is_error_stop s ≡ true → driven ≡ true → p ≡ q) →
-    IsInState s driven powered off p q active → IsInState (reset_from driven s) driven powered off p q active
+    IsInState s driven powered off p q active → IsInState (state_after_reset driven s) driven powered off p q active
 reset-in state.ErrorStop true powered off p q active on rest i = record { running = record { on = refl; power = on refl }; stands = rest refl refl; idle = i }
 reset-in state.ErrorStop false powered off p q active on rest i = record { idle = i; off = λ d. absurd (cc) }
 reset-in state.Disabled true powered off p q active on rest i = i
@@ -316,7 +316,7 @@ reset-in state.SynchronizedMotion true powered off p q active on rest i = i
 reset-in state.SynchronizedMotion false powered off p q active on rest i = i
 
 -- outside ErrorStop a Reset leaves the state
-reset-same : (s : AxisState) (driven : Bool) → is_error_stop s ≡ false → reset_from driven s ≡ s
+reset-same : (s : AxisState) (driven : Bool) → is_error_stop s ≡ false → state_after_reset driven s ≡ s
 reset-same state.ErrorStop driven h = absurd (cc)
 reset-same state.Disabled true h = refl
 reset-same state.Disabled false h = refl
@@ -335,9 +335,9 @@ reset-same state.SynchronizedMotion false h = refl
 
 -- an active command is so after a Reset
 reset-active : (s : AxisState) (driven powered off : Bool) (p q : ℤ) (active : Option Wanted) (l : Limits) (inc offset setpoint : ℤ) (w : Wanted) → active ≡ Some w →
-    IsInState s driven powered off p q active → IsActive s l inc offset setpoint w → IsActive (reset_from driven s) l inc offset setpoint w
+    IsInState s driven powered off p q active → IsActive s l inc offset setpoint w → IsActive (state_after_reset driven s) l inc offset setpoint w
 reset-active s driven powered off p q active l inc offset setpoint w e i a =
-    elim (is_error_stop s) as (λ b. is_error_stop s ≡ b → IsActive (reset_from driven s) l inc offset setpoint w) [
+    elim (is_error_stop s) as (λ b. is_error_stop s ≡ b → IsActive (state_after_reset driven s) l inc offset setpoint w) [
       | true ↦ λ h. absurd (let idle = stopped-idle s driven powered off p q active h i in cc)
       | false ↦ λ h. let P : AxisState → Type 0 = λ x. IsActive x l inc offset setpoint w in subst P (sym (reset-same s driven h)) a
     ] refl
@@ -346,11 +346,11 @@ no-queue : (s : AxisState) (active : Option Wanted) → is_error_stop s ≡ true
 no-queue state.ErrorStop active h q = q
 no-queue _ active h q = absurd (cc)
 
-reset-queue : (s : AxisState) (driven : Bool) (active : Option Wanted) (ws : List Wanted) → (ws ≡ []) ⊎ MayQueue s active → (ws ≡ []) ⊎ MayQueue (reset_from driven s) active
+reset-queue : (s : AxisState) (driven : Bool) (active : Option Wanted) (ws : List Wanted) → (ws ≡ []) ⊎ MayQueue s active → (ws ≡ []) ⊎ MayQueue (state_after_reset driven s) active
 reset-queue s driven active ws (inl e) = inl e
 reset-queue state.ErrorStop driven active ws (inr q) = absurd q
 reset-queue s driven active ws (inr q) =
-    elim (is_error_stop s) as (λ b. is_error_stop s ≡ b → (ws ≡ []) ⊎ MayQueue (reset_from driven s) active) [
+    elim (is_error_stop s) as (λ b. is_error_stop s ≡ b → (ws ≡ []) ⊎ MayQueue (state_after_reset driven s) active) [
       | true ↦ λ h. absurd (no-queue s active h q)
       | false ↦ λ h. let P : AxisState → Type 0 = λ x. (ws ≡ []) ⊎ MayQueue x active in subst P (sym (reset-same s driven h)) (inr q)
     ] refl
@@ -399,8 +399,8 @@ run-noted c d r a w =
     let Q : List Wanted → Type 0 = λ x. IsRun (record { axis = d.axis; waiting = x; notes = d.notes }) in
     subst Q (sym w) (subst P (sym a) (record { kept = record { axis = r.kept.axis; waiting = r.kept.waiting; queue = r.kept.queue }; power = r.power }))
 
-reset-run : (input : DriveIn) (c : Core) → IsRun c → IsRun (reset_where input c)
-reset-run input c r = run-noted (record c { axis = reset_axis c.axis.reset input c.axis }) (reset_where input c) (reset-run-by c.axis.reset input c r) refl refl
+reset-run : (input : DriveIn) (c : Core) → IsRun c → IsRun (core_after_reset input c)
+reset-run input c r = run-noted (record c { axis = reset_axis c.axis.reset input c.axis }) (core_after_reset input c) (reset-run-by c.axis.reset input c r) refl refl
 
 -- what is on stays on
 given-in : (s : AxisState) (driven powered off now : Bool) (p q : ℤ) (active : Option Wanted) → (powered ≡ true → now ≡ true) → (driven ≡ true → powered ≡ true) → (off ≡ true → powered ≡ false) →
@@ -423,7 +423,7 @@ off-stops true true h = refl
 off-stops false true h = refl
 off-stops power false h = absurd (cc)
 
-given-kept : (input : DriveIn) (c : Core) → IsRun c → IsCoreKept (record c { axis = given input c.axis })
+given-kept : (input : DriveIn) (c : Core) → IsRun c → IsCoreKept (record c { axis = axis_after_word input c.axis })
 given-kept input c r =
     let a = c.axis in
     record {
@@ -437,11 +437,11 @@ given-kept input c r =
     }
 
 -- a cycle keeps the axis
-pub cycled-kept : Laws → (look : AxisLook) (c : Core) → IsSeen c.axis look → IsCoreKept c → IsCoreKept (cycled look c)
-unfolding cycled
+pub cycled-kept : Laws → (look : AxisLook) (c : Core) → IsSeen c.axis look → IsCoreKept c → IsCoreKept (core_after_cycle look c)
+unfolding core_after_cycle
 cycled-kept g look c i k =
-    given-kept look.input (reset_where look.input (run look (is_driven c.axis look.input) (answered look.input c)))
-    (reset-run look.input (run look (is_driven c.axis look.input) (answered look.input c)) (run-of g look c i k))
+    given-kept look.input (core_after_reset look.input (core_after_step look (is_driven c.axis look.input) (core_after_answer look.input c)))
+    (reset-run look.input (core_after_step look (is_driven c.axis look.input) (core_after_answer look.input c)) (run-of g look c i k))
 
 -- the numbers from which the drive's counts are places
 pub drive-by : OffsetsAreSmall → (a : Axis) → Based a → HasDrive a
@@ -469,34 +469,34 @@ distance-by offsets a b =
     omega (arith, ints, s, o)
 
 -- a kept axis that is driven in this cycle may go on after its drive's answer
-pub may-go-on : Laws → (look : AxisLook) (c : Core) → IsLook c.axis look → IsCoreKept c → (is_driven c.axis look.input && (answered look.input c).axis.driven) ≡ true →
-    MayGoOn (answered look.input c).axis (answered look.input c).waiting look
+pub may-go-on : Laws → (look : AxisLook) (c : Core) → IsLook c.axis look → IsCoreKept c → (is_driven c.axis look.input && (core_after_answer look.input c).axis.driven) ≡ true →
+    MayGoOn (core_after_answer look.input c).axis (core_after_answer look.input c).waiting look
 may-go-on g look c i k h =
     let input = look.input in
     let after = answered-kept input c k in
-    let p = and_parts (is_driven c.axis input) (answered input c).axis.driven h in
-    go-on-of look (answered input c) i.cam after p.1 (drive-of g (answered input c).axis after.axis.base).offset
+    let p = and_parts (is_driven c.axis input) (core_after_answer input c).axis.driven h in
+    go-on-of look (core_after_answer input c) i.cam after p.1 (drive-of g (core_after_answer input c).axis after.axis.base).offset
 
 -- a cycle in which the axis is driven on brings no error, and so no note before its step
-pub quiet : (input : DriveIn) (c : Core) → (is_driven c.axis input && (answered input c).axis.driven) ≡ true → (answered input c).notes ≡ c.notes
-unfolding failed
+pub quiet : (input : DriveIn) (c : Core) → (is_driven c.axis input && (core_after_answer input c).axis.driven) ≡ true → (core_after_answer input c).notes ≡ c.notes
+unfolding core_after_error
 quiet input c =
     elim (nat_eq (answer_error_of c.axis input) 0) as (λ b. nat_eq (answer_error_of c.axis input) 0 ≡ b →
-    (is_driven c.axis input && (if b then c else failed (answer_error_of c.axis input) c).axis.driven) ≡ true →
-    (if b then c else failed (answer_error_of c.axis input) c).notes ≡ c.notes) [
+    (is_driven c.axis input && (if b then c else core_after_error (answer_error_of c.axis input) c).axis.driven) ≡ true →
+    (if b then c else core_after_error (answer_error_of c.axis input) c).notes ≡ c.notes) [
       | true ↦ λ e h. refl
       | false ↦ λ e h. absurd (let f = error-not-driven c.axis input e in let bad : true ≡ false = sym h ∙ f in cc)
     ] refl
 
 -- a cycle, from what its parts made
 pub cycle-made : (look : AxisLook) (c : Core) (lists1 lists2 : List (List Wanted)) (list : ℕ) (a1 a2 a3 a4 : Axis) (n1 n2 n3 : List Note) (d : Bool) →
-    d ≡ is_driven c.axis look.input → core_at a1 lists1 list n1 ≡ answered look.input c → core_at a2 lists2 list n2 ≡ run look d (core_at a1 lists1 list n1) →
-    a3 ≡ reset_axis a2.reset look.input a2 → n3 ≡ n2 ++ reset_notes a2.reset look.input a2 → a4 ≡ given look.input a3 →
-    core_at a4 lists2 list n3 ≡ cycled look c
-unfolding cycled
+    d ≡ is_driven c.axis look.input → core_at a1 lists1 list n1 ≡ core_after_answer look.input c → core_at a2 lists2 list n2 ≡ core_after_step look d (core_at a1 lists1 list n1) →
+    a3 ≡ reset_axis a2.reset look.input a2 → n3 ≡ n2 ++ reset_notes a2.reset look.input a2 → a4 ≡ axis_after_word look.input a3 →
+    core_at a4 lists2 list n3 ≡ core_after_cycle look c
+unfolding core_after_cycle
 cycle-made look c lists1 lists2 list a1 a2 a3 a4 n1 n2 n3 d ed e1 e2 e3 en e4 =
-    let F : Core → Core = λ x. record (reset_where look.input x) { axis = given look.input (reset_where look.input x).axis } in
-    let ran : core_at a2 lists2 list n2 ≡ run look (is_driven c.axis look.input) (answered look.input c) = e2 ∙ (λ t. run look (ed t) (e1 t)) in
+    let F : Core → Core = λ x. record (core_after_reset look.input x) { axis = axis_after_word look.input (core_after_reset look.input x).axis } in
+    let ran : core_at a2 lists2 list n2 ≡ core_after_step look (is_driven c.axis look.input) (core_after_answer look.input c) = e2 ∙ (λ t. core_after_step look (ed t) (e1 t)) in
     let made : core_at a4 lists2 list n3 ≡ F (core_at a2 lists2 list n2) =
-    (λ t. record { axis = (e4 ∙ ap (given look.input) e3) t; waiting = queue_of lists2 list; notes = en t }) in
+    (λ t. record { axis = (e4 ∙ ap (axis_after_word look.input) e3) t; waiting = queue_of lists2 list; notes = en t }) in
     made ∙ ap F ran

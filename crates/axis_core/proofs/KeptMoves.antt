@@ -18,15 +18,15 @@ use Rattle.kin_core.specs.Taken.{taken_step_of}
 use Rattle.kin_core.specs.Toward.{toward_zero}
 use Rattle.kin_core.specs.declared.limits.Limits.{Limits}
 use Rattle.axis_core.specs.AxisKept.{IsActive, IsBased, IsCoreKept, IsHomeWithin, IsInState, IsReady, IsSet, MayQueue, fits}
-use Rattle.axis_core.specs.Cores.{Core, ended, ended_by, failed, settled}
-use Rattle.axis_core.specs.Cycles.{Advance, advanced_by, advanced_from, advanced_with, braked, braking_step, progress_with}
+use Rattle.axis_core.specs.Cores.{Core, core_after_end, core_after_ending, core_after_error, state_after_last}
+use Rattle.axis_core.specs.Cycles.{Advance, advance_by_progress, advance_without_error, advance_by_command, axis_after_braking, braking_step, progress_by_step}
 use Rattle.axis_core.specs.Kinds.{ending_by, is_reached, wish_by}
 use Rattle.axis_core.specs.Ranges.{IsBetween}
 use Rattle.axis_core.specs.States.{is_error_stop, is_synchronized}
-use Rattle.axis_core.specs.Steps.{ends_where, moved_to, old_step_of, taken_by, taken_of}
-use Rattle.axis_core.specs.blocks.Home.{homed}
+use Rattle.axis_core.specs.Steps.{ends_where, axis_after_step, old_step_of, taken_by, taken_of}
+use Rattle.axis_core.specs.blocks.Home.{axis_after_home}
 use Rattle.axis_core.specs.blocks.Moves.{blended_with, is_crossing, stands_at_target, target_of}
-use Rattle.axis_core.specs.blocks.Path.{is_on_path, path_left}
+use Rattle.axis_core.specs.blocks.Path.{is_on_path, axis_after_path}
 use Rattle.axis_core.specs.blocks.Power.{is_powered}
 use Rattle.axis_core.specs.declared.axis.Axis.{Axis}
 use Rattle.axis_core.specs.declared.look.AxisLook.{AxisLook}
@@ -73,11 +73,11 @@ step-kept g a step b r = g.taken a.limits a.previous a.setpoint step b.limits (k
 
 -- what an axis's step and the end of its command make of it
 abbrev pub concluded : Advance → Core → Core
-concluded s c = ended_by s.ending (record c { axis = s.axis })
+concluded s c = core_after_ending s.ending (record c { axis = s.axis })
 
 -- a command's error stops the axis
-pub broken-going : Laws → (n : ℕ) (c : Core) → Based c.axis → Runs c.axis → IsGoing (failed n (record c { axis = braked c.axis }))
-unfolding failed
+pub broken-going : Laws → (n : ℕ) (c : Core) → Based c.axis → Runs c.axis → IsGoing (core_after_error n (record c { axis = axis_after_braking c.axis }))
+unfolding core_after_error
 broken-going g n c b r = record {
   runs = r;
   kept = record {
@@ -114,7 +114,7 @@ ready-at _ l inc offset setpoint next w h r = tt
 
 -- the axis after a step of its active command
 abbrev pub after_step : Axis → ℤ → Bool → Axis
-after_step a step reached = record (moved_to (a.setpoint +ℤ step) a) { reached = reached }
+after_step a step reached = record (axis_after_step (a.setpoint +ℤ step) a) { reached = reached }
 
 -- a command that is no Home goes on
 goes-on : Laws → (c : Core) (w : Wanted) (step : ℤ) (reached : Bool) → IsCoreKept c → Runs c.axis → c.axis.active ≡ Some w → is_home w.kind ≡ false →
@@ -146,8 +146,8 @@ goes-on g c w step reached k r e h next =
 -- a command that is no Home goes on, or ends; where nothing waits and the axis settles in Standstill, its step is 0
 pub goes-or-ends : Laws → (c : Core) (w : Wanted) (step : ℤ) (reached : Bool) (ending : Option Finish) → IsCoreKept c → Runs c.axis → c.axis.active ≡ Some w → is_home w.kind ≡ false →
     IsKept c.axis.limits c.axis.setpoint (c.axis.setpoint +ℤ step) →
-    ((f : Finish) → ending ≡ Some f → c.waiting ≡ [] → settled c.axis.state ≡ state.Standstill → step ≡ pos 0) →
-    IsGoing (ended_by ending (record c { axis = after_step c.axis step reached }))
+    ((f : Finish) → ending ≡ Some f → c.waiting ≡ [] → state_after_last c.axis.state ≡ state.Standstill → step ≡ pos 0) →
+    IsGoing (core_after_ending ending (record c { axis = after_step c.axis step reached }))
 goes-or-ends g c w step reached None k r e h next stands = goes-on g c w step reached k r e h next
 goes-or-ends g c w step reached (Some (finish.Error n)) k r e h next stands =
     failed-going n (record c { axis = after_step c.axis step reached }) (goes-on g c w step reached k r e h next).kept.axis.base r
@@ -207,7 +207,7 @@ home-state _ driven powered off p q t active f i = absurd (cc)
 
 -- a Home moves the coordinate
 pub home-ends : Laws → (c : Core) (w : Wanted) → IsCoreKept c → Runs c.axis → c.axis.active ≡ Some w → w.kind ≡ kind.Home →
-    IsGoing (ended finish.Done (record c { axis = homed (target_of w) c.axis }))
+    IsGoing (core_after_end finish.Done (record c { axis = axis_after_home (target_of w) c.axis }))
 home-ends g c w k r e h =
     let a = c.axis in
     let b = k.axis.base in
@@ -217,7 +217,7 @@ home-ends g c w k r e h =
     let t : target_of w ≡ m.target = ap (λ o. unwrap_or o (pos 0)) m.fixed in
     let F : BlockKind → Type 0 = λ x. fits a.state x ≡ true in
     let f : fits a.state kind.Home ≡ true = subst F h i.fitting in
-    ended-kept finish.Done (record c { axis = homed (target_of w) a }) (home-based g a (target_of w) m.target t b r w m refl) r k.waiting
+    ended-kept finish.Done (record c { axis = axis_after_home (target_of w) a }) (home-based g a (target_of w) m.target t b r w m refl) r k.waiting
     (home-state a.state a.driven (is_powered a) a.was_off a.previous a.setpoint (target_of w) a.active f k.axis.state)
     (λ none settles. refl)
 
@@ -260,7 +260,7 @@ made k c w step look = record {
 -- the step of the active command and its end, by its kind
 carried-by-going : Laws → (k : BlockKind) (c : Core) (w : Wanted) (step : ℤ) (look : AxisLook) → IsCoreKept c → Runs c.axis → c.axis.active ≡ Some w → w.kind ≡ k →
     IsKept c.axis.limits c.axis.setpoint (c.axis.setpoint +ℤ step) →
-    IsGoing (concluded (advanced_by k (target_of w) c.axis (Ok (made k c w step look))) c)
+    IsGoing (concluded (advance_by_progress k (target_of w) c.axis (Ok (made k c w step look))) c)
 carried-by-going g kind.MoveAbsolute c w step look k r e h next =
     goes-or-ends g c w step false _ k r e (ap is_home h) next (λ f fe none settles. done-at-rest c.axis w c.waiting step none (ends-when _ finish.Done f fe))
 carried-by-going g kind.MoveRelative c w step look k r e h next =
@@ -316,7 +316,7 @@ rest-in state.ContinuousMotion driven powered off p q step active h i = i
 rest-in state.SynchronizedMotion driven powered off p q step active h i = i
 
 rests : Laws → (c : Core) → IsCoreKept c → Runs c.axis → c.axis.active ≡ None →
-    IsGoing (record c { axis = moved_to (c.axis.setpoint +ℤ taken_of c.axis (pos 0)) c.axis })
+    IsGoing (record c { axis = axis_after_step (c.axis.setpoint +ℤ taken_of c.axis (pos 0)) c.axis })
 rests g c k r none =
     let a = c.axis in
     let step = taken_of a (pos 0) in
@@ -335,18 +335,18 @@ rests g c k r none =
 
 -- what the active command wants is taken, or is an error
 wished-going : Laws → (wish : Result ℤ ℕ) (w : Wanted) (look : AxisLook) (c : Core) → IsCoreKept c → Runs c.axis → c.axis.active ≡ Some w →
-    IsGoing (concluded (advanced_by w.kind (target_of w) c.axis (progress_with c.axis w (slice_get c.waiting 0) look (taken_by c.axis wish))) c)
+    IsGoing (concluded (advance_by_progress w.kind (target_of w) c.axis (progress_by_step c.axis w (slice_get c.waiting 0) look (taken_by c.axis wish))) c)
 wished-going g (Ok step) w look c k r e =
     carried-by-going g w.kind c w (taken_of c.axis step) look k r e refl (step-kept g c.axis step k.axis.base r)
 wished-going g (Err n) w look c k r e = broken-going g n c k.axis.base r
 
 -- a cycle by the active command, or without one
 commanded-by : Laws → (active : Option Wanted) (look : AxisLook) (c : Core) → IsCoreKept c → Runs c.axis → c.axis.active ≡ active →
-    IsGoing (concluded (advanced_with active (slice_get c.waiting 0) look c.axis) c)
+    IsGoing (concluded (advance_by_command active (slice_get c.waiting 0) look c.axis) c)
 commanded-by g None look c k r e = rests g c k r e
 commanded-by g (Some w) look c k r e = wished-going g (wish_by w.kind c.axis w (slice_get c.waiting 0) look) w look c k r e
 
-pub by-command : Laws → (look : AxisLook) (c : Core) → IsCoreKept c → Runs c.axis → IsGoing (concluded (advanced_from None (slice_get c.waiting 0) look c.axis) c)
+pub by-command : Laws → (look : AxisLook) (c : Core) → IsCoreKept c → Runs c.axis → IsGoing (concluded (advance_without_error None (slice_get c.waiting 0) look c.axis) c)
 by-command g look c k r = commanded-by g c.axis.active look c k r refl
 
 -- a state that is SynchronizedMotion
@@ -371,7 +371,7 @@ none-waits _ None ws h (inr q) = absurd q
 
 -- an axis on its path takes its place
 pub takes-place : Laws → (place : ℤ) (ends : Bool) (c : Core) → IsCoreKept c → Runs c.axis → is_on_path c.axis ≡ true → IsKept c.axis.limits c.axis.setpoint place →
-    (ends ≡ true → place ≡ c.axis.setpoint) → IsGoing (record c { axis = path_left ends (moved_to place c.axis) })
+    (ends ≡ true → place ≡ c.axis.setpoint) → IsGoing (record c { axis = axis_after_path ends (axis_after_step place c.axis) })
 takes-place g place false c k r on next stays =
     let a = c.axis in
     let parts = and_parts (is_synchronized a.state) (not (is_some a.active)) on in
@@ -414,7 +414,7 @@ stopped-idle state.ErrorStop driven powered off p q active h i = i
 stopped-idle _ driven powered off p q active h i = absurd (cc)
 
 -- an axis in ErrorStop brakes
-pub brakes : Laws → (c : Core) → IsCoreKept c → Runs c.axis → is_error_stop c.axis.state ≡ true → IsGoing (record c { axis = braked c.axis })
+pub brakes : Laws → (c : Core) → IsCoreKept c → Runs c.axis → is_error_stop c.axis.state ≡ true → IsGoing (record c { axis = axis_after_braking c.axis })
 brakes g c k r stop =
     let a = c.axis in
     let next = a.setpoint +ℤ braking_step a in

@@ -12,7 +12,7 @@ use Rattle.command_pool.specs.declared.wanted.Wanted.{Wanted}
 use Rattle.kin_core.specs.Admissible.{AreLimits}
 use Rattle.kin_core.specs.declared.limits.Limits.{Limits}
 use Rattle.axis_core.specs.AxisKept.{AreNumbers, AreWaiting, IsActive, IsBased, IsCoreKept, IsInState, IsMoveWithin, IsReady, IsRunning, IsWaiting, MayQueue, fits}
-use Rattle.axis_core.specs.Cores.{Core, begun, begun_by, begun_from, ended, failed, settled, state_with, taken_over, taken_over_by}
+use Rattle.axis_core.specs.Cores.{Core, axis_under, axis_under_by, core_under_from, core_after_end, core_after_error, state_after_last, state_during, core_after_take_over, core_taken_by}
 use Rattle.axis_core.specs.Kept.{IsSmallTarget}
 use Rattle.axis_core.specs.Kinds.{may_wait}
 use Rattle.axis_core.specs.Ranges.{IsBetween}
@@ -35,16 +35,16 @@ pub record IsGoing (c : Core) : Type 0 where
   pub runs : Runs c.axis
 
 -- an axis that fails is kept
-pub failed-kept : (n : ℕ) (c : Core) → Based c.axis → IsCoreKept (failed n c)
-unfolding failed
+pub failed-kept : (n : ℕ) (c : Core) → Based c.axis → IsCoreKept (core_after_error n c)
+unfolding core_after_error
 failed-kept n c b = record {
   axis = record { base = b; state = refl; active = λ w h. absurd (cc) };
   waiting = tt;
   queue = inl refl;
 }
 
-pub failed-going : (n : ℕ) (c : Core) → Based c.axis → Runs c.axis → IsGoing (failed n c)
-unfolding failed
+pub failed-going : (n : ℕ) (c : Core) → Based c.axis → Runs c.axis → IsGoing (core_after_error n c)
+unfolding core_after_error
 failed-going n c b r = record { kept = failed-kept n c b; runs = r }
 
 -- z lies between two numbers where it does not lie outside them
@@ -56,7 +56,7 @@ not-outside low z high h =
     record { above = omega (arith, ints); below = omega (arith, ints) }
 
 -- a command that may wait fits the state in which it becomes active, and others may wait behind it
-pub fits-with : (k : BlockKind) (s : AxisState) → may_wait k ≡ true → fits (state_with k s) k ≡ true
+pub fits-with : (k : BlockKind) (s : AxisState) → may_wait k ≡ true → fits (state_during k s) k ≡ true
 fits-with kind.MoveAbsolute s h = refl
 fits-with kind.MoveRelative s h = refl
 fits-with kind.MoveVelocity s h = refl
@@ -64,7 +64,7 @@ fits-with kind.GearIn s h = refl
 fits-with kind.CamIn s h = refl
 fits-with _ s h = absurd (cc)
 
-pub queue-with : (k : BlockKind) (s : AxisState) (w : Wanted) → may_wait k ≡ true → MayQueue (state_with k s) (Some w)
+pub queue-with : (k : BlockKind) (s : AxisState) (w : Wanted) → may_wait k ≡ true → MayQueue (state_during k s) (Some w)
 queue-with kind.MoveAbsolute s w h = tt
 queue-with kind.MoveRelative s w h = tt
 queue-with kind.MoveVelocity s w h = tt
@@ -73,7 +73,7 @@ queue-with kind.CamIn s w h = tt
 queue-with _ s w h = absurd (cc)
 
 pub runs-with : (k : BlockKind) (s : AxisState) (driven powered off : Bool) (p q : ℤ) (active : Option Wanted) → may_wait k ≡ true → IsRunning driven powered →
-    IsInState (state_with k s) driven powered off p q active
+    IsInState (state_during k s) driven powered off p q active
 runs-with kind.MoveAbsolute s driven powered off p q active h r = r
 runs-with kind.MoveRelative s driven powered off p q active h r = r
 runs-with kind.MoveVelocity s driven powered off p q active h r = r
@@ -84,8 +84,8 @@ runs-with _ s driven powered off p q active h r = absurd (cc)
 -- the axis on which a command that may wait becomes active is kept
 pub begun-kept : (w : Wanted) (c : Core) → Based c.axis → Runs c.axis → AreWaiting c.axis.limits c.waiting → may_wait w.kind ≡ true →
     AreNumbers w.kind c.axis.limits w → IsReady w.kind c.axis.limits c.axis.inc c.axis.offset c.axis.setpoint w → IsSmallTarget (Some w) →
-    IsGoing (record c { axis = begun w c.axis })
-unfolding begun_by
+    IsGoing (record c { axis = axis_under w c.axis })
+unfolding axis_under_by
 begun-kept w c b r ws may n ready small = record {
   runs = r;
   kept = record {
@@ -94,7 +94,7 @@ begun-kept w c b r ws may n ready small = record {
       state = runs-with w.kind c.axis.state c.axis.driven (is_powered c.axis) c.axis.was_off c.axis.previous c.axis.setpoint (Some w) may r;
       active = λ v h.
           let same : w ≡ v = cc in
-          let P : Wanted → Type 0 = IsActive (state_with w.kind c.axis.state) c.axis.limits c.axis.inc c.axis.offset c.axis.setpoint in
+          let P : Wanted → Type 0 = IsActive (state_during w.kind c.axis.state) c.axis.limits c.axis.inc c.axis.offset c.axis.setpoint in
           subst P same (record { fitting = fits-with w.kind c.axis.state may; numbers = n; ready = ready; small = small });
     };
     waiting = ws;
@@ -120,10 +120,10 @@ small-within l t w are top b e = λ u h.
 
 -- a MoveRelative that begins where the axis stands, or fails
 begun_from-kept : (w : Wanted) (t : ℤ) (c : Core) → Based c.axis → Runs c.axis → AreWaiting c.axis.limits c.waiting → w.kind ≡ kind.MoveRelative →
-    AreNumbers kind.MoveRelative c.axis.limits w → IsGoing (begun_from w t c)
+    AreNumbers kind.MoveRelative c.axis.limits w → IsGoing (core_under_from w t c)
 begun_from-kept w t c b r ws k n =
     elim (is_outside c.axis.limits.lo t c.axis.limits.hi) as (λ o. is_outside c.axis.limits.lo t c.axis.limits.hi ≡ o →
-    IsGoing (if o then failed 106 (record c { axis = record c.axis { active = Some w } }) else record c { axis = begun (with_target (Some t) w) c.axis })) [
+    IsGoing (if o then core_after_error 106 (record c { axis = record c.axis { active = Some w } }) else record c { axis = axis_under (with_target (Some t) w) c.axis })) [
       | true ↦ λ h. failed-going 106 (record c { axis = record c.axis { active = Some w } }) b r
       | false ↦ λ h.
           let v : Wanted = with_target (Some t) w in
@@ -138,7 +138,7 @@ begun_from-kept w t c b r ws k n =
 
 -- a command that waited takes over
 taken_over_by-kept : (k : BlockKind) (target : Option ℤ) (w : Wanted) (c : Core) → w.kind ≡ k → w.target ≡ target → Based c.axis → Runs c.axis →
-    AreWaiting c.axis.limits c.waiting → IsWaiting c.axis.limits w → IsGoing (taken_over_by k target w c)
+    AreWaiting c.axis.limits c.waiting → IsWaiting c.axis.limits w → IsGoing (core_taken_by k target w c)
 taken_over_by-kept kind.MoveRelative None w c e t b r ws i =
     let P : BlockKind → Type 0 = λ x. AreNumbers x c.axis.limits w in
     begun_from-kept w (c.axis.setpoint +ℤ position_of w) c b r ws e (subst P e i.numbers)
@@ -160,7 +160,7 @@ taken_over_by-kept _ target w c e t b r ws i = let may = i.waits in absurd (cc)
 
 -- what settling leaves
 settled-in : (s : AxisState) (driven powered off : Bool) (p q : ℤ) (active : Option Wanted) → IsInState s driven powered off p q active → IsRunning driven powered →
-    (settled s ≡ state.Standstill → p ≡ q) → IsInState (settled s) driven powered off p q None
+    (state_after_last s ≡ state.Standstill → p ≡ q) → IsInState (state_after_last s) driven powered off p q None
 settled-in state.Disabled driven powered off p q active i r h = record { idle = refl; off = i.off }
 settled-in state.ErrorStop driven powered off p q active i r h = refl
 settled-in state.Standstill driven powered off p q active i r h = record { running = r; stands = h refl; idle = refl }
@@ -173,13 +173,13 @@ settled-in state.SynchronizedMotion driven powered off p q active i r h = r
 -- an end, and what takes over
 taken_over-kept : (ws : List Wanted) (c : Core) (active : Option Wanted) → Based c.axis → Runs c.axis → AreWaiting c.axis.limits ws →
     IsInState c.axis.state c.axis.driven (is_powered c.axis) c.axis.was_off c.axis.previous c.axis.setpoint active → c.axis.active ≡ None → c.waiting ≡ ws →
-    (ws ≡ [] → settled c.axis.state ≡ state.Standstill → c.axis.previous ≡ c.axis.setpoint) → IsGoing (taken_over ws c)
+    (ws ≡ [] → state_after_last c.axis.state ≡ state.Standstill → c.axis.previous ≡ c.axis.setpoint) → IsGoing (core_after_take_over ws c)
 taken_over-kept [] c active b r h s none e stands = record {
   runs = r;
   kept = record {
     axis = record {
       base = b;
-      state = let P : Option Wanted → Type 0 = λ o. IsInState (settled c.axis.state) c.axis.driven (is_powered c.axis) c.axis.was_off c.axis.previous c.axis.setpoint o in
+      state = let P : Option Wanted → Type 0 = λ o. IsInState (state_after_last c.axis.state) c.axis.driven (is_powered c.axis) c.axis.was_off c.axis.previous c.axis.setpoint o in
           subst P (sym none) (settled-in c.axis.state c.axis.driven (is_powered c.axis) c.axis.was_off c.axis.previous c.axis.setpoint active s r (stands refl));
       active = λ w a. absurd (cc);
     };
@@ -192,6 +192,6 @@ taken_over-kept (w ∷ ws) c active b r h s none e stands = taken_over_by-kept w
 -- the active command's end, and what takes over, keep the axis
 pub ended-kept : (f : Finish) (c : Core) → Based c.axis → Runs c.axis → AreWaiting c.axis.limits c.waiting →
     IsInState c.axis.state c.axis.driven (is_powered c.axis) c.axis.was_off c.axis.previous c.axis.setpoint c.axis.active →
-    (c.waiting ≡ [] → settled c.axis.state ≡ state.Standstill → c.axis.previous ≡ c.axis.setpoint) → IsGoing (ended f c)
-unfolding ended
+    (c.waiting ≡ [] → state_after_last c.axis.state ≡ state.Standstill → c.axis.previous ≡ c.axis.setpoint) → IsGoing (core_after_end f c)
+unfolding core_after_end
 ended-kept f c b r ws s stands = taken_over-kept c.waiting _ c.axis.active b r ws s refl refl stands

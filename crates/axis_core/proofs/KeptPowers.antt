@@ -15,13 +15,13 @@ use Rattle.kin_core.specs.declared.limits.Limits.{Limits}
 use Rattle.std.specs.Option.{option_copied}
 use Rattle.axis_core.specs.Asking.{MayAsk}
 use Rattle.axis_core.specs.AxisKept.{AreNumbers, AreRampsWithin, AreRatesWithin, AreWaiting, IsActive, IsAxisDef, IsAxisKept, IsBased, IsCoreKept, IsInState, IsQueueKept, IsReady, IsSet, MayQueue}
-use Rattle.axis_core.specs.Calls.{active_without, detached, disabled, powered_by}
+use Rattle.axis_core.specs.Calls.{active_without, axis_without_owner, core_after_disabling, core_after_power}
 use Rattle.axis_core.specs.Cores.{Core}
-use Rattle.axis_core.specs.Cycles.{opened}
+use Rattle.axis_core.specs.Cycles.{axis_at_opening}
 use Rattle.axis_core.specs.Demands.{IsMade}
 use Rattle.axis_core.specs.Kept.{AreSmallTargets, HasDrive, IsSmallTarget}
 use Rattle.axis_core.specs.States.{is_error_stop}
-use Rattle.axis_core.specs.blocks.Path.{on_path, on_path_from}
+use Rattle.axis_core.specs.blocks.Path.{axis_on_path, state_on_path}
 use Rattle.axis_core.specs.blocks.Power.{is_powered}
 use Rattle.axis_core.specs.declared.axis.Axis.{Axis}
 use Rattle.axis_core.specs.declared.refusing.Asking.{Asking}
@@ -88,8 +88,8 @@ error-in state.ErrorStop driven powered off now was p q active h i = i
 error-in _ driven powered off now was p q active h i = absurd (cc)
 
 -- a Power keeps the axis
-pub powered-kept : (enable : Bool) (c : Core) → IsCoreKept c → IsCoreKept (powered_by enable c)
-unfolding powered_by
+pub powered-kept : (enable : Bool) (c : Core) → IsCoreKept c → IsCoreKept (core_after_power enable c)
+unfolding core_after_power
 powered-kept true c k = record {
   axis = record {
     base = k.axis.base;
@@ -101,7 +101,7 @@ powered-kept true c k = record {
 }
 powered-kept false c k =
     let wished : Core = record c { axis = record c.axis { power = false; was_off = true } } in
-    elim (is_error_stop c.axis.state) as (λ b. is_error_stop c.axis.state ≡ b → IsCoreKept (if b then wished else disabled wished)) [
+    elim (is_error_stop c.axis.state) as (λ b. is_error_stop c.axis.state ≡ b → IsCoreKept (if b then wished else core_after_disabling wished)) [
       | true ↦ λ h. record {
         axis = record {
           base = k.axis.base;
@@ -168,8 +168,8 @@ in-owned owner state.ContinuousMotion driven powered off p q active i = i
 in-owned owner state.SynchronizedMotion driven powered off p q active i = i
 
 -- an axis that an owner is taken away from is kept
-pub detached-kept : (owner : ℕ) (a : Axis) → IsAxisKept a → IsAxisKept (detached owner a)
-unfolding detached
+pub detached-kept : (owner : ℕ) (a : Axis) → IsAxisKept a → IsAxisKept (axis_without_owner owner a)
+unfolding axis_without_owner
 detached-kept owner a k = record {
   base = k.base;
   state = in-owned owner a.state a.driven (is_powered a) a.was_off a.previous a.setpoint a.active k.state;
@@ -187,13 +187,13 @@ place-owned owner s active ws (inl e) = inl e
 place-owned owner s active ws (inr q) = inr (queue-owned owner s active q)
 
 -- the commands that wait for it too
-pub detached-queue : (owner : ℕ) (a : Axis) (ws : List Wanted) → IsQueueKept a ws → IsQueueKept (detached owner a) ws
-unfolding detached
+pub detached-queue : (owner : ℕ) (a : Axis) (ws : List Wanted) → IsQueueKept a ws → IsQueueKept (axis_without_owner owner a) ws
+unfolding axis_without_owner
 detached-queue owner a ws k = record { numbers = k.numbers; place = place-owned owner a.state a.active ws k.place }
 
 -- what going on a path and leaving it says of the axis
 path-in : (on : Bool) (s : AxisState) (driven powered off : Bool) (p q : ℤ) (active : Option Wanted) → active ≡ None → IsTrue on ⊎ (p ≡ q) →
-    IsInState s driven powered off p q active → IsInState (on_path_from on s) driven powered off p q active
+    IsInState s driven powered off p q active → IsInState (state_on_path on s) driven powered off p q active
 path-in true state.Standstill driven powered off p q active none r i = i.running
 path-in true state.Disabled driven powered off p q active none r i = i
 path-in true state.ErrorStop driven powered off p q active none r i = i
@@ -213,8 +213,8 @@ path-in false state.DiscreteMotion driven powered off p q active none r i = i
 path-in false state.ContinuousMotion driven powered off p q active none r i = i
 
 -- an axis that goes on its group's path, or leaves it at rest, is kept
-pub on_path-kept : (on : Bool) (a : Axis) → a.active ≡ None → IsTrue on ⊎ (a.previous ≡ a.setpoint) → IsAxisKept a → IsAxisKept (on_path on a)
-unfolding on_path
+pub on_path-kept : (on : Bool) (a : Axis) → a.active ≡ None → IsTrue on ⊎ (a.previous ≡ a.setpoint) → IsAxisKept a → IsAxisKept (axis_on_path on a)
+unfolding axis_on_path
 on_path-kept on a none r k = record {
   base = k.base;
   state = path-in on a.state a.driven (is_powered a) a.was_off a.previous a.setpoint a.active none r k.state;
@@ -222,8 +222,8 @@ on_path-kept on a none r k = record {
 }
 
 -- no command waits for it
-pub on_path-queue : (on : Bool) (a : Axis) (ws : List Wanted) → a.active ≡ None → IsQueueKept a ws → IsQueueKept (on_path on a) ws
-unfolding on_path
+pub on_path-queue : (on : Bool) (a : Axis) (ws : List Wanted) → a.active ≡ None → IsQueueKept a ws → IsQueueKept (axis_on_path on a) ws
+unfolding axis_on_path
 on_path-queue on a ws none k =
     let P : Option Wanted → Type 0 = λ o. (ws ≡ []) ⊎ MayQueue a.state o in
     record { numbers = k.numbers; place = inl (alone a.state ws (subst P none k.place)) }
@@ -257,8 +257,8 @@ start-base standing counts ready d i = record {
   set = start-set standing ready d i;
 }
 
-opened-by : StandingIsKept → SetpointsHaveCounts → (ready : Bool) (d : AxisDef) → IsAxisDef d → IsAxisKept (opened (record d { ready = ready }))
-unfolding opened
+opened-by : StandingIsKept → SetpointsHaveCounts → (ready : Bool) (d : AxisDef) → IsAxisDef d → IsAxisKept (axis_at_opening (record d { ready = ready }))
+unfolding axis_at_opening
 opened-by standing counts true d i = record {
   base = start-base standing counts true d i;
   state = record { running = record { on = refl; power = refl }; stands = refl; idle = refl };
@@ -271,7 +271,7 @@ opened-by standing counts false d i = record {
 }
 
 -- an axis at opening is kept
-pub opened-kept : StandingIsKept → SetpointsHaveCounts → (d : AxisDef) → IsAxisDef d → IsAxisKept (opened d)
+pub opened-kept : StandingIsKept → SetpointsHaveCounts → (d : AxisDef) → IsAxisDef d → IsAxisKept (axis_at_opening d)
 opened-kept standing counts d i = opened-by standing counts d.ready d i
 
 -- a kept axis with the commands that wait for it, and what that says of those

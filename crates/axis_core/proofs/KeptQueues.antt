@@ -8,7 +8,7 @@ use Rattle.kin_core.specs.declared.limits.Limits.{Limits}
 use Rattle.command_pool.specs.declared.kind.BlockKind.{BlockKind}
 use Rattle.command_pool.specs.declared.kind.BlockKind.TheVariants as kind
 use Rattle.axis_core.specs.AxisKept.{AreNumbers, AreWaiting, IsQueueKept, MayQueue}
-use Rattle.axis_core.specs.Calls.{active_without, detached}
+use Rattle.axis_core.specs.Calls.{active_without, axis_without_owner}
 use Rattle.axis_core.specs.declared.axis.Axis.{Axis}
 use Rattle.axis_core.proofs.KeptPowers.{queue-owned}
 
@@ -46,6 +46,6 @@ place-without s owner active ws (inl e) = inl (empty-without owner ws e)
 place-without s owner active ws (inr q) = inr (queue-owned owner s active q)
 
 -- the commands that wait are as they were after one owner is taken away
-pub queue-detached : (owner : ℕ) (a : Axis) (ws : List Wanted) → IsQueueKept a ws → IsQueueKept (detached owner a) (map (pool.detached owner) ws)
-unfolding detached
+pub queue-detached : (owner : ℕ) (a : Axis) (ws : List Wanted) → IsQueueKept a ws → IsQueueKept (axis_without_owner owner a) (map (pool.detached owner) ws)
+unfolding axis_without_owner
 queue-detached owner a ws k = record { numbers = waiting-without a.limits owner ws k.numbers; place = place-without a.state owner a.active ws k.place }

@@ -22,19 +22,19 @@ use Rattle.kin_core.specs.Toward.{toward_zero}
 use Rattle.kin_core.specs.declared.limits.Limits.{Limits}
 use Rattle.command_pool.specs.declared.ending.Finish.TheVariants as finish
 use Rattle.axis_core.specs.AxisKept.{IsCoreKept, IsHomeWithin, IsInState, IsLook, IsReady, fits}
-use Rattle.axis_core.specs.Cores.{Core, begun, begun_by, begun_from, ended, ended_by, failed, taken_over, taken_over_by}
-use Rattle.axis_core.specs.Cycles.{Advance, advanced, advanced_by, advanced_from, advanced_with, answered, braked, braking_step, cycled, followed, gone_on, moved, progress_with, row_of, run, word_of}
-use Rattle.axis_core.specs.Drives.{actual_of, answer_error_of, is_driven, is_enabled, is_within, standing}
+use Rattle.axis_core.specs.Cores.{Core, axis_under, axis_under_by, core_under_from, core_after_end, core_after_ending, core_after_error, core_after_take_over, core_taken_by}
+use Rattle.axis_core.specs.Cycles.{Advance, advance_in_cycle, advance_by_progress, advance_without_error, advance_by_command, core_after_answer, axis_after_braking, braking_step, core_after_cycle, axis_after_progress, core_after_going_on, core_after_advance, progress_by_step, row_shown, core_after_step, controlword_for}
+use Rattle.axis_core.specs.Drives.{actual_of, answer_error_of, is_driven, is_enabled, is_within, axis_at_drive}
 use Rattle.axis_core.specs.Kinds.{wish_by}
 use Rattle.axis_core.specs.Ranges.{IsBetween}
 use Rattle.motion_numbers.specs.Ranges.{is_outside}
 use Rattle.axis_core.specs.Rows.{KeepsSpell, spell_of}
 use Rattle.axis_core.specs.States.{is_error_stop, is_stopping}
-use Rattle.axis_core.specs.Steps.{moved_to, old_step_of, taken_by, taken_of}
-use Rattle.axis_core.specs.blocks.Halts.{is_at_rest, is_released, stop_left}
-use Rattle.axis_core.specs.blocks.Home.{homed}
+use Rattle.axis_core.specs.Steps.{axis_after_step, old_step_of, taken_by, taken_of}
+use Rattle.axis_core.specs.blocks.Halts.{is_at_rest, is_released, axis_after_stop}
+use Rattle.axis_core.specs.blocks.Home.{axis_after_home}
 use Rattle.axis_core.specs.blocks.Moves.{target_of, with_target}
-use Rattle.axis_core.specs.blocks.Path.{is_on_path, path_left, place_on_path}
+use Rattle.axis_core.specs.blocks.Path.{is_on_path, axis_after_path, place_on_path}
 use Rattle.axis_core.specs.blocks.Power.{is_powered}
 use Rattle.axis_core.specs.blocks.Reset.{after_reset, may_reset, reset_axis}
 use Rattle.axis_core.specs.declared.axis.Axis.{Axis}
@@ -62,34 +62,34 @@ abbrev pub place_of : Axis → Place
 place_of a = record { limits = a.limits; offset = a.offset; previous = a.previous; setpoint = a.setpoint; driven = a.driven }
 
 -- ends and starts of commands move no axis
-place-failed : (n : ℕ) (c : Core) → place_of (failed n c).axis ≡ place_of c.axis
-unfolding failed
+place-failed : (n : ℕ) (c : Core) → place_of (core_after_error n c).axis ≡ place_of c.axis
+unfolding core_after_error
 place-failed n c = refl
 
-pub place-begun : (w : Wanted) (a : Axis) → place_of (begun w a) ≡ place_of a
-unfolding begun_by
+pub place-begun : (w : Wanted) (a : Axis) → place_of (axis_under w a) ≡ place_of a
+unfolding axis_under_by
 place-begun w a = refl
 
-place-begun_from : (w : Wanted) (t : ℤ) (c : Core) → place_of (begun_from w t c).axis ≡ place_of c.axis
+place-begun_from : (w : Wanted) (t : ℤ) (c : Core) → place_of (core_under_from w t c).axis ≡ place_of c.axis
 place-begun_from w t c =
     elim (is_outside c.axis.limits.lo t c.axis.limits.hi) as
-    (λ o. place_of (if o then failed 106 (record c { axis = record c.axis { active = Some w } }) else record c { axis = begun (with_target (Some t) w) c.axis }).axis ≡ place_of c.axis)
+    (λ o. place_of (if o then core_after_error 106 (record c { axis = record c.axis { active = Some w } }) else record c { axis = axis_under (with_target (Some t) w) c.axis }).axis ≡ place_of c.axis)
     [ true ↦ place-failed 106 (record c { axis = record c.axis { active = Some w } }) | false ↦ place-begun (with_target (Some t) w) c.axis ]
 
-place-taken_over_by : (k : BlockKind) (t : Option ℤ) (w : Wanted) (c : Core) → place_of (taken_over_by k t w c).axis ≡ place_of c.axis
+place-taken_over_by : (k : BlockKind) (t : Option ℤ) (w : Wanted) (c : Core) → place_of (core_taken_by k t w c).axis ≡ place_of c.axis
 place-taken_over_by kind.MoveRelative None w c = place-begun_from w _ c
 place-taken_over_by kind.MoveRelative (Some t) w c = place-begun w c.axis
 place-taken_over_by _ t w c = place-begun w c.axis
 
-place-taken_over : (ws : List Wanted) (c : Core) → place_of (taken_over ws c).axis ≡ place_of c.axis
+place-taken_over : (ws : List Wanted) (c : Core) → place_of (core_after_take_over ws c).axis ≡ place_of c.axis
 place-taken_over [] c = refl
 place-taken_over (w ∷ ws) c = place-taken_over_by w.kind w.target w (record c { waiting = ws })
 
-place-ended : (f : Finish) (c : Core) → place_of (ended f c).axis ≡ place_of c.axis
-unfolding ended
+place-ended : (f : Finish) (c : Core) → place_of (core_after_end f c).axis ≡ place_of c.axis
+unfolding core_after_end
 place-ended f c = place-taken_over c.waiting _
 
-pub place-ended_by : (o : Option Finish) (c : Core) → place_of (ended_by o c).axis ≡ place_of c.axis
+pub place-ended_by : (o : Option Finish) (c : Core) → place_of (core_after_ending o c).axis ≡ place_of c.axis
 place-ended_by None c = refl
 place-ended_by (Some (finish.Error n)) c = place-failed n c
 place-ended_by (Some finish.Done) c = place-ended finish.Done c
@@ -97,8 +97,8 @@ place-ended_by (Some finish.Aborted) c = place-ended finish.Aborted c
 
 -- what a cycle makes of where a driven axis stands: it is at an admissible setpoint, or its Home moved the coordinate
 pub data Moved (a b : Axis) : Type 0 where
-  by_step : (next : ℤ) → IsAdmissible a.limits a.previous a.setpoint next → place_of b ≡ place_of (moved_to next a) → Moved a b
-  by_home : (target : ℤ) → a.previous ≡ a.setpoint → IsBetween a.limits.lo target a.limits.hi → place_of b ≡ place_of (homed target a) → Moved a b
+  by_step : (next : ℤ) → IsAdmissible a.limits a.previous a.setpoint next → place_of b ≡ place_of (axis_after_step next a) → Moved a b
+  by_home : (target : ℤ) → a.previous ≡ a.setpoint → IsBetween a.limits.lo target a.limits.hi → place_of b ≡ place_of (axis_after_home target a) → Moved a b
 
 moved-same : (a b d : Axis) → Moved a b → place_of d ≡ place_of b → Moved a d
 moved-same a b d (by_step next h e) f = by_step next h (f ∙ e)
@@ -110,7 +110,7 @@ home-facts state.Homing driven powered off p q active f i = i.stands
 home-facts _ driven powered off p q active f i = absurd (cc)
 
 followed-moved : (k : BlockKind) (c : Core) (w : Wanted) (p : Progress) → IsCoreKept c → c.axis.active ≡ Some w → w.kind ≡ k →
-    IsAdmissible c.axis.limits c.axis.previous c.axis.setpoint (c.axis.setpoint +ℤ p.step) → Moved c.axis (followed k (target_of w) p c.axis)
+    IsAdmissible c.axis.limits c.axis.previous c.axis.setpoint (c.axis.setpoint +ℤ p.step) → Moved c.axis (axis_after_progress k (target_of w) p c.axis)
 followed-moved kind.Home c w p k e h next =
     let a = c.axis in
     let i = k.axis.active w e in
@@ -131,50 +131,50 @@ concluded-moved s c m = moved-same c.axis s.axis _ m (place-ended_by s.ending (r
 step-admissible : TakenIsAdmissible → (a : Axis) (step : ℤ) → Based a → Runs a → IsAdmissible a.limits a.previous a.setpoint (a.setpoint +ℤ taken_of a step)
 step-admissible taken a step b r = taken a.limits a.previous a.setpoint step b.limits (kept-of a b r)
 
-braked-moved : TakenIsAdmissible → (c : Core) → IsCoreKept c → Runs c.axis → Moved c.axis (braked c.axis)
+braked-moved : TakenIsAdmissible → (c : Core) → IsCoreKept c → Runs c.axis → Moved c.axis (axis_after_braking c.axis)
 braked-moved taken c k r =
     by_step (c.axis.setpoint +ℤ braking_step c.axis) (step-admissible taken c.axis (toward_zero (old_step_of c.axis) c.axis.limits.dmax) k.axis.base r) refl
 
 wished-moved : TakenIsAdmissible → (wish : Result ℤ ℕ) (w : Wanted) (look : AxisLook) (c : Core) → IsCoreKept c → Runs c.axis → c.axis.active ≡ Some w →
-    Moved c.axis (advanced_by w.kind (target_of w) c.axis (progress_with c.axis w (slice_get c.waiting 0) look (taken_by c.axis wish))).axis
+    Moved c.axis (advance_by_progress w.kind (target_of w) c.axis (progress_by_step c.axis w (slice_get c.waiting 0) look (taken_by c.axis wish))).axis
 wished-moved taken (Ok step) w look c k r e =
     followed-moved w.kind c w _ k e refl (step-admissible taken c.axis step k.axis.base r)
 wished-moved taken (Err n) w look c k r e = braked-moved taken c k r
 
 commanded-moved : TakenIsAdmissible → (active : Option Wanted) (look : AxisLook) (c : Core) → IsCoreKept c → Runs c.axis → c.axis.active ≡ active →
-    Moved c.axis (advanced_with active (slice_get c.waiting 0) look c.axis).axis
+    Moved c.axis (advance_by_command active (slice_get c.waiting 0) look c.axis).axis
 commanded-moved taken None look c k r e =
     by_step (c.axis.setpoint +ℤ taken_of c.axis (pos 0)) (step-admissible taken c.axis (pos 0) k.axis.base r) refl
 commanded-moved taken (Some w) look c k r e = wished-moved taken (wish_by w.kind c.axis w (slice_get c.waiting 0) look) w look c k r e
 
-path_left-place : (ends : Bool) (a : Axis) → place_of (path_left ends a) ≡ place_of a
+path_left-place : (ends : Bool) (a : Axis) → place_of (axis_after_path ends a) ≡ place_of a
 path_left-place true a = refl
 path_left-place false a = refl
 
 placed-moved : TakenIsAdmissible → (o : Option ℤ) (look : AxisLook) (c : Core) → IsLook c.axis look → IsCoreKept c → Runs c.axis → place_on_path c.axis look ≡ o →
-    Moved c.axis (advanced_from o (slice_get c.waiting 0) look c.axis).axis
+    Moved c.axis (advance_without_error o (slice_get c.waiting 0) look c.axis).axis
 placed-moved taken None look c i k r e = commanded-moved taken c.axis.active look c k r refl
 placed-moved taken (Some place) look c i k r e =
     let p = on-place (is_on_path c.axis) look.path place e in
-    by_step place (i.place p.0 place p.1).admissible (path_left-place look.path_ends (moved_to place c.axis))
+    by_step place (i.place p.0 place p.1).admissible (path_left-place look.path_ends (axis_after_step place c.axis))
 
-advanced-moved : TakenIsAdmissible → (look : AxisLook) (c : Core) → IsLook c.axis look → IsCoreKept c → Runs c.axis → Moved c.axis (advanced (slice_get c.waiting 0) look c.axis).axis
-unfolding advanced
+advanced-moved : TakenIsAdmissible → (look : AxisLook) (c : Core) → IsLook c.axis look → IsCoreKept c → Runs c.axis → Moved c.axis (advance_in_cycle (slice_get c.waiting 0) look c.axis).axis
+unfolding advance_in_cycle
 advanced-moved taken look c i k r =
     elim (is_error_stop c.axis.state) as
-    (λ b. Moved c.axis (if b then record { axis = braked c.axis; ending = None } else advanced_from (place_on_path c.axis look) (slice_get c.waiting 0) look c.axis).axis)
+    (λ b. Moved c.axis (if b then record { axis = axis_after_braking c.axis; ending = None } else advance_without_error (place_on_path c.axis look) (slice_get c.waiting 0) look c.axis).axis)
     [ true ↦ braked-moved taken c k r | false ↦ placed-moved taken (place_on_path c.axis look) look c i k r refl ]
 
-moved-moved : TakenIsAdmissible → (look : AxisLook) (c : Core) → IsLook c.axis look → IsCoreKept c → Runs c.axis → Moved c.axis (moved look c).axis
-moved-moved taken look c i k r = concluded-moved (advanced (slice_get c.waiting 0) look c.axis) c (advanced-moved taken look c i k r)
+moved-moved : TakenIsAdmissible → (look : AxisLook) (c : Core) → IsLook c.axis look → IsCoreKept c → Runs c.axis → Moved c.axis (core_after_advance look c).axis
+moved-moved taken look c i k r = concluded-moved (advance_in_cycle (slice_get c.waiting 0) look c.axis) c (advanced-moved taken look c i k r)
 
-stop_left-place : (look : AxisLook) (a : Axis) → place_of (stop_left look a) ≡ place_of a
+stop_left-place : (look : AxisLook) (a : Axis) → place_of (axis_after_stop look a) ≡ place_of a
 stop_left-place look a =
     elim (is_stopping a.state && not (is_some a.active) && is_at_rest a && is_released a.hold look.stop_held) as
     (λ b. place_of (if b then record a { state = state.Standstill; hold = None } else a) ≡ place_of a) [ true ↦ refl | false ↦ refl ]
 
-pub gone_on-moved : TakenIsAdmissible → (look : AxisLook) (c : Core) → IsLook c.axis look → IsCoreKept c → Runs c.axis → Moved c.axis (gone_on look c).axis
-gone_on-moved taken look c i k r = moved-same c.axis (moved look c).axis _ (moved-moved taken look c i k r) (stop_left-place look (moved look c).axis)
+pub gone_on-moved : TakenIsAdmissible → (look : AxisLook) (c : Core) → IsLook c.axis look → IsCoreKept c → Runs c.axis → Moved c.axis (core_after_going_on look c).axis
+gone_on-moved taken look c i k r = moved-same c.axis (core_after_advance look c).axis _ (moved-moved taken look c i k r) (stop_left-place look (core_after_advance look c).axis)
 
 -- a Reset and a controlword move no axis
 pub reset-place : (o : Option PendingReset) (input : DriveIn) (a : Axis) → place_of (reset_axis o input a) ≡ place_of a
@@ -185,17 +185,17 @@ reset-place (Some p) input a =
 -- a cycle went on from where the axis stood, or stands where the drive does
 pub data Ran (a : Axis) (input : DriveIn) (b : Axis) : Type 0 where
   went : a.driven ≡ true → Moved a b → Ran a input b
-  stood : (is_driven a input && a.driven) ≡ false → place_of b ≡ place_of (standing (is_driven a input) input a) → Ran a input b
+  stood : (is_driven a input && a.driven) ≡ false → place_of b ≡ place_of (axis_at_drive (is_driven a input) input a) → Ran a input b
 
 ran-same : (a : Axis) (input : DriveIn) (b d : Axis) → Ran a input b → place_of d ≡ place_of b → Ran a input d
 ran-same a input b d (went on m) e = went on (moved-same a b d m e)
 ran-same a input b d (stood h f) e = stood h (e ∙ f)
 
-run-ran : TakenIsAdmissible → (look : AxisLook) (c : Core) → IsLook c.axis look → IsCoreKept c → Ran c.axis look.input (run look (is_driven c.axis look.input) c).axis
+run-ran : TakenIsAdmissible → (look : AxisLook) (c : Core) → IsLook c.axis look → IsCoreKept c → Ran c.axis look.input (core_after_step look (is_driven c.axis look.input) c).axis
 run-ran taken look c i k =
     let a = c.axis in
     let d = is_driven a look.input in
-    elim (d && a.driven) as (λ b. (d && a.driven) ≡ b → Ran a look.input (if b then gone_on look c else record c { axis = standing d look.input a }).axis) [
+    elim (d && a.driven) as (λ b. (d && a.driven) ≡ b → Ran a look.input (if b then core_after_going_on look c else record c { axis = axis_at_drive d look.input a }).axis) [
       | true ↦ λ h.
           let p = and_parts d a.driven h in
           went p.1 (gone_on-moved taken look c i k (record { on = p.1; power = (driven-says a look.input p.0).0 }))
@@ -203,23 +203,23 @@ run-ran taken look c i k =
     ] refl
 
 failed-ran : (n : ℕ) (look : AxisLook) (c : Core) → (is_driven c.axis look.input && c.axis.driven) ≡ false →
-    Ran c.axis look.input (run look (is_driven c.axis look.input) (failed n c)).axis
-unfolding failed
+    Ran c.axis look.input (core_after_step look (is_driven c.axis look.input) (core_after_error n c)).axis
+unfolding core_after_error
 failed-ran n look c h = rw h (stood h refl)
 
 answered-ran : TakenIsAdmissible → (look : AxisLook) (c : Core) → IsLook c.axis look → IsCoreKept c →
-    Ran c.axis look.input (run look (is_driven c.axis look.input) (answered look.input c)).axis
+    Ran c.axis look.input (core_after_step look (is_driven c.axis look.input) (core_after_answer look.input c)).axis
 answered-ran taken look c i k =
     elim (nat_eq (answer_error_of c.axis look.input) 0) as (λ b. nat_eq (answer_error_of c.axis look.input) 0 ≡ b →
-    Ran c.axis look.input (run look (is_driven c.axis look.input) (if b then c else failed (answer_error_of c.axis look.input) c)).axis) [
+    Ran c.axis look.input (core_after_step look (is_driven c.axis look.input) (if b then c else core_after_error (answer_error_of c.axis look.input) c)).axis) [
       | true ↦ λ h. run-ran taken look c i k
       | false ↦ λ h. failed-ran (answer_error_of c.axis look.input) look c (error-not-driven c.axis look.input h)
     ] refl
 
-cycled-ran : TakenIsAdmissible → (look : AxisLook) (c : Core) → IsLook c.axis look → IsCoreKept c → Ran c.axis look.input (cycled look c).axis
-unfolding cycled
+cycled-ran : TakenIsAdmissible → (look : AxisLook) (c : Core) → IsLook c.axis look → IsCoreKept c → Ran c.axis look.input (core_after_cycle look c).axis
+unfolding core_after_cycle
 cycled-ran taken look c i k =
-    let ran = run look (is_driven c.axis look.input) (answered look.input c) in
+    let ran = core_after_step look (is_driven c.axis look.input) (core_after_answer look.input c) in
     ran-same c.axis look.input ran.axis _ (answered-ran taken look c i k) (reset-place ran.axis.reset look.input ran.axis)
 
 -- the word of a drive in Operation enabled with power on
@@ -286,34 +286,34 @@ ran-driven a input b (stood off e) h = ap (λ (p : Place). p.driven) e ∙ h
 
 -- and gets the word by which it stays so
 pub driven-word : TakenIsAdmissible → Laws → (look : AxisLook) (c ran : Core) (b : Axis) → IsSeen c.axis look → IsCoreKept c →
-    ran ≡ run look (is_driven c.axis look.input) (answered look.input c) → b ≡ reset_axis ran.axis.reset look.input ran.axis →
-    is_driven c.axis look.input ≡ true → word_of look.input b ≡ ENABLE_OPERATION
+    ran ≡ core_after_step look (is_driven c.axis look.input) (core_after_answer look.input c) → b ≡ reset_axis ran.axis.reset look.input ran.axis →
+    is_driven c.axis look.input ≡ true → controlword_for look.input b ≡ ENABLE_OPERATION
 driven-word taken g look c ran b i k ee eb on =
     let says = driven-says c.axis look.input on in
     let enabled = (and_parts (is_enabled (state_of_word look.input.statusword)) _ says.1).0 in
-    let ran-is = run look (is_driven c.axis look.input) (answered look.input c) in
+    let ran-is = core_after_step look (is_driven c.axis look.input) (core_after_answer look.input c) in
     let stays : is_powered b ≡ is_powered ran.axis = ap is_powered eb ∙ reset-powered ran.axis.reset look.input ran.axis in
     let driven = ran-driven c.axis look.input ran-is.axis (answered-ran taken look c i.brought k) on in
     let power : is_powered ran.axis ≡ true = ap (λ (x : Core). is_powered x.axis) ee ∙ (run-of g look c i k).power driven in
     enabled-word (state_of_word look.input.statusword) (is_powered b) (is_some b.reset) b.controlword enabled (stays ∙ power)
 
 -- a row of an axis that went on
-went-kept : TakenIsAdmissible → Laws → (input : DriveIn) (a b : Axis) → Based a → a.driven ≡ true → Moved a b → KeepsSpell a (row_of input b) b
-unfolding row_of
+went-kept : TakenIsAdmissible → Laws → (input : DriveIn) (a b : Axis) → Based a → a.driven ≡ true → Moved a b → KeepsSpell a (row_shown input b) b
+unfolding row_shown
 went-kept taken g input a b k on m =
     let on2 : b.driven ≡ true = moved-driven a b m ∙ on in
     let s : Spell = record { before = a.previous -ℤ a.offset; now = a.setpoint -ℤ a.offset } in
     let before : spell_of a ≡ Some s = rw on refl in
-    let P : Option Spell → Type 0 = λ o. KeepsRow a.limits o (row_of input b) in
+    let P : Option Spell → Type 0 = λ o. KeepsRow a.limits o (row_shown input b) in
     record {
       keeps = λ h. subst P (sym before) (moved-admissible taken g a b k m);
-      leads = ap (λ o. spell_after o (row_of input b)) before ∙ (rw on2 (ap (λ z. Some (record { before = z; now = b.setpoint -ℤ b.offset })) (moved-leads a b m)));
+      leads = ap (λ o. spell_after o (row_shown input b)) before ∙ (rw on2 (ap (λ z. Some (record { before = z; now = b.setpoint -ℤ b.offset })) (moved-leads a b m)));
     }
 
 -- a row of an axis that stands where its drive does
-stood-kept : (driven : Bool) (input : DriveIn) (a b : Axis) → is_driven a input ≡ driven → (driven && a.driven) ≡ false → place_of b ≡ place_of (standing driven input a) →
-    KeepsSpell a (row_of input b) b
-unfolding row_of
+stood-kept : (driven : Bool) (input : DriveIn) (a b : Axis) → is_driven a input ≡ driven → (driven && a.driven) ≡ false → place_of b ≡ place_of (axis_at_drive driven input a) →
+    KeepsSpell a (row_shown input b) b
+unfolding row_shown
 stood-kept true input a b d h e =
     let off : a.driven ≡ false = h in
     let on : b.driven ≡ true = ap (λ (p : Place). p.driven) e in
@@ -322,10 +322,10 @@ stood-kept true input a b d h e =
     let within : is_within a input ≡ true = begins-within true a.driven (is_within a input) h refl (driven-says a input d).2 in
     let inside = not-outside a.limits.lo (actual_of a input) a.limits.hi (not-true (is_outside a.limits.lo (actual_of a input) a.limits.hi) within) in
     let before : spell_of a ≡ None = rw off refl in
-    let P : Option Spell → Type 0 = λ o. KeepsRow a.limits o (row_of input b) in
+    let P : Option Spell → Type 0 = λ o. KeepsRow a.limits o (row_shown input b) in
     record {
       keeps = λ t. subst P (sym before) (rw s (inside.above), rw s (inside.below));
-      leads = ap (λ o. spell_after o (row_of input b)) before ∙ (rw on (ap (λ z. Some (record { before = z -ℤ b.offset; now = b.setpoint -ℤ b.offset })) (s ∙ sym q)));
+      leads = ap (λ o. spell_after o (row_shown input b)) before ∙ (rw on (ap (λ z. Some (record { before = z -ℤ b.offset; now = b.setpoint -ℤ b.offset })) (s ∙ sym q)));
     }
 stood-kept false input a b d h e =
     let off : b.driven ≡ false = ap (λ (p : Place). p.driven) e in
@@ -334,10 +334,10 @@ stood-kept false input a b d h e =
       leads = rw off refl;
     }
 
-by-ran : TakenIsAdmissible → Laws → (input : DriveIn) (a b : Axis) → Based a → Ran a input b → KeepsSpell a (row_of input b) b
+by-ran : TakenIsAdmissible → Laws → (input : DriveIn) (a b : Axis) → Based a → Ran a input b → KeepsSpell a (row_shown input b) b
 by-ran taken g input a b k (went on m) = went-kept taken g input a b k on m
 by-ran taken g input a b k (stood h e) = stood-kept (is_driven a input) input a b refl h e
 
 -- each row of a cycle keeps the axis's limits
-pub row-kept : TakenIsAdmissible → Laws → (look : AxisLook) (c : Core) → IsLook c.axis look → IsCoreKept c → KeepsSpell c.axis (row_of look.input (cycled look c).axis) (cycled look c).axis
-row-kept taken g look c i k = by-ran taken g look.input c.axis (cycled look c).axis k.axis.base (cycled-ran taken look c i k)
+pub row-kept : TakenIsAdmissible → Laws → (look : AxisLook) (c : Core) → IsLook c.axis look → IsCoreKept c → KeepsSpell c.axis (row_shown look.input (core_after_cycle look c).axis) (core_after_cycle look c).axis
+row-kept taken g look c i k = by-ran taken g look.input c.axis (core_after_cycle look c).axis k.axis.base (cycled-ran taken look c i k)

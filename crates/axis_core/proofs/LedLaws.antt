@@ -1,12 +1,12 @@
 -- A moving axis has a command, and comes on its group's path by on_path alone.
-use Rattle.std.specs.Prelude.{◌≡◌, refl, ℕ, Bool, true, false, not, ◌&&◌, ◌||◌, is_none, nat_eq, ℤ, ◌+ℤ◌, Option, Some, None, is_some, List, [], ◌∷◌, ◌++◌, slice_get, if◌then◌else◌, Result, Ok, Err}
+use Rattle.std.specs.Prelude.{◌≡◌, refl, ℕ, Bool, true, false, not, ◌&&◌, nat_eq, ℤ, ◌+ℤ◌, Option, Some, None, is_some, List, [], ◌∷◌, ◌++◌, slice_get, if◌then◌else◌, Result, Ok, Err}
 use Rattle.std.proofs.Common.{◌∙◌, sym, ap}
 use Rattle.axis_state.specs.Diagram.{next_of}
 use Rattle.axis_state.specs.declared.definition.AxisDef.{AxisDef}
 use Rattle.axis_state.specs.declared.diagram.AxisEvent.TheVariants as event
 use Rattle.axis_state.specs.declared.state.AxisState.{AxisState}
 use Rattle.axis_state.specs.declared.state.AxisState.TheVariants as state
-use Rattle.buffer_modes.specs.Queue.{active_note, behind, is_aborting, is_active_at_once}
+use Rattle.buffer_modes.specs.Queue.{active_note, is_aborting, is_active_at_once}
 use Rattle.cia402_machine.specs.declared.drive.DriveIn.{DriveIn}
 use Rattle.command_pool.specs.Waiting.{last_of}
 use Rattle.command_pool.specs.declared.ending.Finish.{Finish}
@@ -15,27 +15,29 @@ use Rattle.command_pool.specs.declared.kind.BlockKind.{BlockKind}
 use Rattle.command_pool.specs.declared.kind.BlockKind.TheVariants as kind
 use Rattle.command_pool.specs.declared.wanted.Wanted.{Wanted}
 use Rattle.axis_core.specs.AxisKept.{IsCoreKept, fits}
-use Rattle.axis_core.specs.Calls.{active_without, admitted_by, commanded, commanded_by, detached, disabled, powered_by, queue_in, queued}
-use Rattle.axis_core.specs.Cores.{Core, begun, begun_by, ended, ended_by, failed, settled, taken_over, taken_over_by}
-use Rattle.axis_core.specs.Cycles.{Advance, advanced, advanced_by, advanced_from, advanced_with, answered, braked, cycled, followed, given, gone_on, moved, opened, progress_of, progress_with, run}
-use Rattle.axis_core.specs.Drives.{answer_error_of, is_driven, standing}
+use Rattle.axis_core.specs.Calls.{active_without, admitted_by, commanded, commanded_by, axis_without_owner, core_after_disabling, core_after_power, queue_in, queued}
+use Rattle.axis_core.specs.Cores.{Core, axis_under, axis_under_by, core_after_end, core_after_ending, core_after_error, state_after_last, core_after_take_over, core_taken_by}
+use Rattle.axis_core.specs.Cycles.{Advance, advance_in_cycle, advance_by_progress, advance_without_error, advance_by_command, core_after_answer, axis_after_braking, core_after_cycle, axis_after_word, core_after_going_on, core_after_advance, axis_at_opening, progress_in_cycle, progress_by_step, core_after_step}
+use Rattle.axis_core.specs.Drives.{answer_error_of, is_driven, axis_at_drive}
 use Rattle.axis_core.specs.Kinds.{ending_by, wish_by}
 use Rattle.axis_core.specs.Led.{HasCommand, StaysLed, is_of_command}
 use Rattle.axis_core.specs.Refusals.{Asked, refusal_of}
 use Rattle.axis_core.specs.States.{is_error_stop, is_synchronized}
-use Rattle.axis_core.specs.Steps.{moved_to, taken_by}
+use Rattle.axis_core.specs.Steps.{axis_after_step, taken_by}
 use Rattle.axis_core.specs.blocks.Gear.{velocity_command}
 use Rattle.axis_core.specs.blocks.Halts.{leaves_stopping}
 use Rattle.axis_core.specs.blocks.Moves.{known_target_of, position_of, target_of, with_target}
-use Rattle.axis_core.specs.blocks.Path.{is_on_path, on_path, on_path_from, path_left, place_on_path}
-use Rattle.axis_core.specs.blocks.Power.{enabled_from}
-use Rattle.axis_core.specs.blocks.Reset.{after_reset, may_reset, reset_axis, reset_from}
+use Rattle.axis_core.specs.blocks.Path.{is_on_path, axis_on_path, state_on_path, axis_after_path, place_on_path}
+use Rattle.axis_core.specs.blocks.Power.{state_when_driven}
+use Rattle.axis_core.specs.blocks.Reset.{after_reset, may_reset, reset_axis, state_after_reset}
 use Rattle.motion_numbers.specs.Ranges.{is_outside}
 use Rattle.axis_core.specs.declared.axis.Axis.{Axis}
 use Rattle.axis_core.specs.declared.axis.PendingReset.{PendingReset}
 use Rattle.axis_core.specs.declared.look.AxisLook.{AxisLook}
 use Rattle.axis_core.specs.declared.progress.Progress.{Progress}
 use Rattle.axis_core.specs.declared.reason.Reason.{Reason}
+use Rattle.axis_core.proofs.ChangeLaws.{by-made}
+use Rattle.axis_core.proofs.FateLaws.{followed-active, queued-later}
 use Rattle.axis_core.proofs.KeptCycles.{answered-kept}
 
 -- where a command of its own leads the axis, or nothing does
@@ -61,12 +63,12 @@ off false = refl
 with-active : (a : Axis) (w : Wanted) → a.active ≡ Some w → IsLed a
 with-active a w e = record { command = λ h. ap is_some e; path = ap (λ o. is_synchronized a.state && not (is_some o)) e ∙ off (is_synchronized a.state) }
 
-begins : (w : Wanted) (a : Axis) → IsLed (begun w a)
-unfolding begun_by
-begins w a = with-active (begun w a) w refl
+begins : (w : Wanted) (a : Axis) → IsLed (axis_under w a)
+unfolding axis_under_by
+begins w a = with-active (axis_under w a) w refl
 
-fails : (n : ℕ) (c : Core) → IsLed (failed n c).axis
-unfolding failed
+fails : (n : ℕ) (c : Core) → IsLed (core_after_error n c).axis
+unfolding core_after_error
 fails n c = record { command = λ h. absurd (cc); path = refl }
 
 -- a state in which an axis without a command may be left
@@ -75,21 +77,21 @@ lasts state.ContinuousMotion = true
 lasts state.SynchronizedMotion = true
 lasts s = false
 
-settles-in : (s : AxisState) → lasts s ≡ false → (is_of_command (settled s) ≡ false)
+settles-in : (s : AxisState) → lasts s ≡ false → (is_of_command (state_after_last s) ≡ false)
 settles-in state.ContinuousMotion h = absurd (cc)
 settles-in state.SynchronizedMotion h = absurd (cc)
 settles-in state.DiscreteMotion h = refl
 settles-in state.Homing h = refl
 settles-in _ h = refl
 
-settles-off : (s : AxisState) → lasts s ≡ false → (is_synchronized (settled s) ≡ false)
+settles-off : (s : AxisState) → lasts s ≡ false → (is_synchronized (state_after_last s) ≡ false)
 settles-off state.ContinuousMotion h = absurd (cc)
 settles-off state.SynchronizedMotion h = absurd (cc)
 settles-off state.DiscreteMotion h = refl
 settles-off state.Homing h = refl
 settles-off _ h = refl
 
-settles : (c : Core) → lasts c.axis.state ≡ false → IsLed (record c.axis { state = settled c.axis.state })
+settles : (c : Core) → lasts c.axis.state ≡ false → IsLed (record c.axis { state = state_after_last c.axis.state })
 settles c h = record {
   command = λ m. absurd (let e : true ≡ false = sym m ∙ settles-in c.axis.state h in cc);
   path = ap (λ b. b && not (is_some c.axis.active)) (settles-off c.axis.state h);
@@ -97,21 +99,21 @@ settles c h = record {
 
 -- the first that waits takes over
 takes-from : (b : Bool) (w : Wanted) (target : ℤ) (c : Core) →
-    IsLed (if b then failed 106 (record c { axis = record c.axis { active = Some w } }) else record c { axis = begun (with_target (Some target) w) c.axis }).axis
+    IsLed (if b then core_after_error 106 (record c { axis = record c.axis { active = Some w } }) else record c { axis = axis_under (with_target (Some target) w) c.axis }).axis
 takes-from true w target c = fails 106 (record c { axis = record c.axis { active = Some w } })
 takes-from false w target c = begins (with_target (Some target) w) c.axis
 
-takes-by : (k : BlockKind) (t : Option ℤ) (w : Wanted) (c : Core) → IsLed (taken_over_by k t w c).axis
+takes-by : (k : BlockKind) (t : Option ℤ) (w : Wanted) (c : Core) → IsLed (core_taken_by k t w c).axis
 takes-by kind.MoveRelative None w c = takes-from (is_outside c.axis.limits.lo (c.axis.setpoint +ℤ position_of w) c.axis.limits.hi) w (c.axis.setpoint +ℤ position_of w) c
 takes-by kind.MoveRelative (Some t) w c = begins w c.axis
 takes-by _ t w c = begins w c.axis
 
-takes : (ws : List Wanted) (c : Core) → (ws ≡ [] → lasts c.axis.state ≡ false) → IsLed (taken_over ws c).axis
+takes : (ws : List Wanted) (c : Core) → (ws ≡ [] → lasts c.axis.state ≡ false) → IsLed (core_after_take_over ws c).axis
 takes [] c h = settles c (h refl)
 takes (w ∷ ws) c h = takes-by w.kind w.target w (record c { waiting = ws })
 
-ends : (f : Finish) (c : Core) → (c.waiting ≡ [] → lasts c.axis.state ≡ false) → IsLed (ended f c).axis
-unfolding ended
+ends : (f : Finish) (c : Core) → (c.waiting ≡ [] → lasts c.axis.state ≡ false) → IsLed (core_after_end f c).axis
+unfolding core_after_end
 ends f c h = takes c.waiting (record c { axis = record c.axis { active = None; reached = false }; notes = c.notes ++ active_note f c.axis.active }) h
 
 -- whether a command ends by itself
@@ -121,7 +123,7 @@ is_plain (Some finish.Aborted) = true
 is_plain o = false
 
 ends-by : (o : Option Finish) (a : Axis) (c : Core) → c.axis.state ≡ a.state → c.axis.active ≡ a.active →
-    (is_plain o ≡ true → c.waiting ≡ [] → lasts c.axis.state ≡ false) → StaysLed a (ended_by o c).axis
+    (is_plain o ≡ true → c.waiting ≡ [] → lasts c.axis.state ≡ false) → StaysLed a (core_after_ending o c).axis
 ends-by None a c s t h = as-before a c.axis s (ap is_some t)
 ends-by (Some (finish.Error n)) a c s t h = from-led a _ (fails n c)
 ends-by (Some finish.Done) a c s t h = from-led a _ (ends finish.Done c (h refl))
@@ -142,51 +144,39 @@ lasts-or false h = refl
 
 -- the step of an active command
 steps : (w : Wanted) (ws : List Wanted) (look : AxisLook) (c : Core) (made : Result ℤ ℕ) → c.waiting ≡ ws → fits c.axis.state w.kind ≡ true →
-    is_plain (advanced_by w.kind (target_of w) c.axis (progress_with c.axis w (slice_get ws 0) look made)).ending ≡ true → ws ≡ [] → lasts c.axis.state ≡ false
+    is_plain (advance_by_progress w.kind (target_of w) c.axis (progress_by_step c.axis w (slice_get ws 0) look made)).ending ≡ true → ws ≡ [] → lasts c.axis.state ≡ false
 steps w (v ∷ ws) look c made e f p n = absurd (cc)
 steps w [] look c (Err x) e f p n = absurd (cc)
 steps w [] look c (Ok step) e f p n =
     lasts-or (lasts c.axis.state) (λ l. let q : is_plain (ending_by w.kind c.axis w None step look) ≡ false = ap is_plain (goes-on w.kind c.axis.state c.axis w step look f l) in cc)
 
-followed-state : (k : BlockKind) (t : ℤ) (p : Progress) (a : Axis) → (followed k t p a).state ≡ a.state
-followed-state kind.Home t p a = refl
-followed-state _ t p a = refl
-
-by-made : (k : BlockKind) (t : ℤ) (a : Axis) (made : Result Progress ℕ) → (advanced_by k t a made).axis.state ≡ a.state
-by-made k t a (Ok p) = followed-state k t p a
-by-made k t a (Err n) = refl
-
-followed-active : (k : BlockKind) (t : ℤ) (p : Progress) (a : Axis) → (followed k t p a).active ≡ a.active
-followed-active kind.Home t p a = refl
-followed-active _ t p a = refl
-
-active-made : (k : BlockKind) (t : ℤ) (a : Axis) (made : Result Progress ℕ) → (advanced_by k t a made).axis.active ≡ a.active
+active-made : (k : BlockKind) (t : ℤ) (a : Axis) (made : Result Progress ℕ) → (advance_by_progress k t a made).axis.active ≡ a.active
 active-made k t a (Ok p) = followed-active k t p a
 active-made k t a (Err n) = refl
 
 by-command : (o : Option Wanted) (look : AxisLook) (c : Core) → c.axis.active ≡ o → IsCoreKept c →
-    StaysLed c.axis (let x = advanced_with o (slice_get c.waiting 0) look c.axis in ended_by x.ending (record c { axis = x.axis })).axis
+    StaysLed c.axis (let x = advance_by_command o (slice_get c.waiting 0) look c.axis in core_after_ending x.ending (record c { axis = x.axis })).axis
 by-command None look c e k = as-before c.axis _ refl refl
 by-command (Some w) look c e k =
-    let x = advanced_by w.kind (target_of w) c.axis (progress_of c.axis w (slice_get c.waiting 0) look) in
-    let same : x.axis.state ≡ c.axis.state = by-made w.kind (target_of w) c.axis (progress_of c.axis w (slice_get c.waiting 0) look) in
+    let x = advance_by_progress w.kind (target_of w) c.axis (progress_in_cycle c.axis w (slice_get c.waiting 0) look) in
+    let same : x.axis.state ≡ c.axis.state = by-made w.kind (target_of w) c.axis (progress_in_cycle c.axis w (slice_get c.waiting 0) look) in
     ends-by x.ending c.axis (record c { axis = x.axis }) same
-    (active-made w.kind (target_of w) c.axis (progress_of c.axis w (slice_get c.waiting 0) look))
+    (active-made w.kind (target_of w) c.axis (progress_in_cycle c.axis w (slice_get c.waiting 0) look))
     (λ p n. ap lasts same ∙ steps w c.waiting look c (taken_by c.axis (wish_by w.kind c.axis w (slice_get c.waiting 0) look)) refl (k.axis.active w e).fitting p n)
 
-leaves : (b : Bool) (a c : Axis) → a.state ≡ c.state → a.active ≡ c.active → StaysLed c (path_left b a)
+leaves : (b : Bool) (a c : Axis) → a.state ≡ c.state → a.active ≡ c.active → StaysLed c (axis_after_path b a)
 leaves true a c s t = from-led c _ (record { command = λ h. absurd (cc); path = refl })
 leaves false a c s t = as-before c a s (ap is_some t)
 
 by-place : (o : Option ℤ) (look : AxisLook) (c : Core) → IsCoreKept c →
-    StaysLed c.axis (let x = advanced_from o (slice_get c.waiting 0) look c.axis in ended_by x.ending (record c { axis = x.axis })).axis
-by-place (Some place) look c k = leaves look.path_ends (moved_to place c.axis) c.axis refl refl
+    StaysLed c.axis (let x = advance_without_error o (slice_get c.waiting 0) look c.axis in core_after_ending x.ending (record c { axis = x.axis })).axis
+by-place (Some place) look c k = leaves look.path_ends (axis_after_step place c.axis) c.axis refl refl
 by-place None look c k = by-command c.axis.active look c refl k
 
-moves : (look : AxisLook) (c : Core) → IsCoreKept c → StaysLed c.axis (moved look c).axis
-unfolding advanced
+moves : (look : AxisLook) (c : Core) → IsCoreKept c → StaysLed c.axis (core_after_advance look c).axis
+unfolding advance_in_cycle
 moves look c k =
-    elim (is_error_stop c.axis.state) as (λ b. StaysLed c.axis (let x : Advance = if b then record { axis = braked c.axis; ending = None } else advanced_from (place_on_path c.axis look) (slice_get c.waiting 0) look c.axis in ended_by x.ending (record c { axis = x.axis })).axis)
+    elim (is_error_stop c.axis.state) as (λ b. StaysLed c.axis (let x : Advance = if b then record { axis = axis_after_braking c.axis; ending = None } else advance_without_error (place_on_path c.axis look) (slice_get c.waiting 0) look c.axis in core_after_ending x.ending (record c { axis = x.axis })).axis)
     [ true ↦ as-before c.axis _ refl refl | false ↦ by-place (place_on_path c.axis look) look c k ]
 
 -- one after another
@@ -197,38 +187,38 @@ stop-leaves : (b : Bool) (a : Axis) → StaysLed a (if b then record a { state =
 stop-leaves true a = from-led a _ (record { command = λ h. absurd (cc); path = refl })
 stop-leaves false a = as-before a a refl refl
 
-enabled-of : (driven : Bool) (s : AxisState) → is_of_command (enabled_from driven s) ≡ true → is_of_command s ≡ true
+enabled-of : (driven : Bool) (s : AxisState) → is_of_command (state_when_driven driven s) ≡ true → is_of_command s ≡ true
 enabled-of true state.Disabled h = absurd (cc)
 enabled-of true s h = h
 enabled-of false s h = h
 
-enabled-on : (driven : Bool) (s : AxisState) (x : Bool) → (is_synchronized (enabled_from driven s) && x) ≡ true → (is_synchronized s && x) ≡ true
+enabled-on : (driven : Bool) (s : AxisState) (x : Bool) → (is_synchronized (state_when_driven driven s) && x) ≡ true → (is_synchronized s && x) ≡ true
 enabled-on true state.Disabled x h = absurd (cc)
 enabled-on true s x h = h
 enabled-on false s x h = h
 
-stands : (driven : Bool) (input : DriveIn) (a : Axis) → StaysLed a (standing driven input a)
+stands : (driven : Bool) (input : DriveIn) (a : Axis) → StaysLed a (axis_at_drive driven input a)
 stands driven input a = record {
   command = λ h. record { active = λ m. h.active (enabled-of driven a.state m) };
   path = enabled-on driven a.state (not (is_some a.active));
 }
 
-runs : (b driven : Bool) (look : AxisLook) (c : Core) → IsCoreKept c → StaysLed c.axis (if b then gone_on look c else record c { axis = standing driven look.input c.axis }).axis
-runs true driven look c k = then-led c.axis (moved look c).axis _ (moves look c k) (stop-leaves (leaves_stopping look (moved look c).axis) (moved look c).axis)
+runs : (b driven : Bool) (look : AxisLook) (c : Core) → IsCoreKept c → StaysLed c.axis (if b then core_after_going_on look c else record c { axis = axis_at_drive driven look.input c.axis }).axis
+runs true driven look c k = then-led c.axis (core_after_advance look c).axis _ (moves look c k) (stop-leaves (leaves_stopping look (core_after_advance look c).axis) (core_after_advance look c).axis)
 runs false driven look c k = stands driven look.input c.axis
 
-answers : (input : DriveIn) (c : Core) → StaysLed c.axis (answered input c).axis
+answers : (input : DriveIn) (c : Core) → StaysLed c.axis (core_after_answer input c).axis
 answers input c =
-    elim (nat_eq (answer_error_of c.axis input) 0) as (λ b. StaysLed c.axis (if b then c else failed (answer_error_of c.axis input) c).axis)
+    elim (nat_eq (answer_error_of c.axis input) 0) as (λ b. StaysLed c.axis (if b then c else core_after_error (answer_error_of c.axis input) c).axis)
     [ true ↦ as-before c.axis c.axis refl refl | false ↦ from-led c.axis _ (fails (answer_error_of c.axis input) c) ]
 
-reset-of : (driven : Bool) (s : AxisState) → is_of_command (reset_from driven s) ≡ true → is_of_command s ≡ true
+reset-of : (driven : Bool) (s : AxisState) → is_of_command (state_after_reset driven s) ≡ true → is_of_command s ≡ true
 reset-of true state.ErrorStop h = absurd (cc)
 reset-of false state.ErrorStop h = absurd (cc)
 reset-of true s h = h
 reset-of false s h = h
 
-reset-on : (driven : Bool) (s : AxisState) (x : Bool) → (is_synchronized (reset_from driven s) && x) ≡ true → (is_synchronized s && x) ≡ true
+reset-on : (driven : Bool) (s : AxisState) (x : Bool) → (is_synchronized (state_after_reset driven s) && x) ≡ true → (is_synchronized s && x) ≡ true
 reset-on true state.ErrorStop x h = absurd (cc)
 reset-on false state.ErrorStop x h = absurd (cc)
 reset-on true s x h = h
@@ -245,31 +235,25 @@ resets : (o : Option PendingReset) (input : DriveIn) (a : Axis) → StaysLed a (
 resets None input a = as-before a a refl refl
 resets (Some p) input a = reset-by (may_reset input a) a
 
-pub cycles-led : (look : AxisLook) (c : Core) → IsCoreKept c → StaysLed c.axis (cycled look c).axis
-unfolding cycled
+pub cycles-led : (look : AxisLook) (c : Core) → IsCoreKept c → StaysLed c.axis (core_after_cycle look c).axis
+unfolding core_after_cycle
 cycles-led look c k =
-    let read = answered look.input c in
+    let read = core_after_answer look.input c in
     let driven = is_driven c.axis look.input in
-    let after = run look driven read in
+    let after = core_after_step look driven read in
     let done = reset_axis after.axis.reset look.input after.axis in
     then-led c.axis read.axis _ (answers look.input c)
     (then-led read.axis after.axis _ (runs (driven && read.axis.driven) driven look read (answered-kept look.input c k))
-    (then-led after.axis done _ (resets after.axis.reset look.input after.axis) (as-before done (given look.input done) refl refl)))
+    (then-led after.axis done _ (resets after.axis.reset look.input after.axis) (as-before done (axis_after_word look.input done) refl refl)))
 
 -- a command joins the others
-queued-later : (aborting : Bool) (active : Option Wanted) (ws : List Wanted) (w : Wanted) → (aborting || is_none active) ≡ false →
-    (if aborting then record { active = Some w; waiting = [] } else behind active ws w).active ≡ active
-queued-later true active ws w h = absurd (cc)
-queued-later false None ws w h = absurd (cc)
-queued-later false (Some a) ws w h = refl
-
 joins : (b : Bool) (w : Wanted) (c : Core) → is_active_at_once (queue_in c) w ≡ b →
-    StaysLed c.axis (if b then record (queued w c) { axis = begun w (queued w c).axis } else queued w c).axis
+    StaysLed c.axis (if b then record (queued w c) { axis = axis_under w (queued w c).axis } else queued w c).axis
 joins true w c h = from-led c.axis _ (begins w (queued w c).axis)
 joins false w c h = as-before c.axis _ refl (ap is_some (queued-later (is_aborting w.mode) c.axis.active c.waiting w h))
 
 admits : (k : BlockKind) (w : Wanted) (c : Core) → StaysLed c.axis (admitted_by k w c).axis
-unfolding begun_by
+unfolding axis_under_by
 admits kind.Reset w c = as-before c.axis _ refl refl
 admits kind.GearOut w c = from-led c.axis _ (with-active _ (velocity_command w c.axis) refl)
 admits kind.CamOut w c = from-led c.axis _ (with-active _ (velocity_command w c.axis) refl)
@@ -283,36 +267,36 @@ pub commands-led : (q : Asked) (c : Core) → StaysLed c.axis (commanded q c).ax
 unfolding commanded
 commands-led q c = asks (refusal_of q) q.wanted c
 
-pub powers-led : (enable : Bool) (c : Core) → StaysLed c.axis (powered_by enable c).axis
-unfolding powered_by
+pub powers-led : (enable : Bool) (c : Core) → StaysLed c.axis (core_after_power enable c).axis
+unfolding core_after_power
 powers-led true c = as-before c.axis _ refl refl
 powers-led false c =
     let wished : Core = record c { axis = record c.axis { power = false; was_off = true } } in
-    elim (is_error_stop c.axis.state) as (λ b. StaysLed c.axis (if b then wished else disabled wished).axis)
+    elim (is_error_stop c.axis.state) as (λ b. StaysLed c.axis (if b then wished else core_after_disabling wished).axis)
     [ true ↦ as-before c.axis _ refl refl | false ↦ from-led c.axis _ (record { command = λ h. absurd (cc); path = refl }) ]
 
 without-some : (owner : ℕ) (o : Option Wanted) → is_some (active_without owner o) ≡ is_some o
 without-some owner None = refl
 without-some owner (Some w) = refl
 
-pub detached-led : (owner : ℕ) (a : Axis) → StaysLed a (detached owner a)
-unfolding detached
+pub detached-led : (owner : ℕ) (a : Axis) → StaysLed a (axis_without_owner owner a)
+unfolding axis_without_owner
 detached-led owner a = as-before a _ refl (without-some owner a.active)
 
-path-of : (on : Bool) (s : AxisState) → is_of_command (on_path_from on s) ≡ true → is_of_command s ≡ true
+path-of : (on : Bool) (s : AxisState) → is_of_command (state_on_path on s) ≡ true → is_of_command s ≡ true
 path-of true state.Standstill h = absurd (cc)
 path-of false state.SynchronizedMotion h = absurd (cc)
 path-of true s h = h
 path-of false s h = h
 
-pub paths-led : (on : Bool) (a : Axis) → HasCommand a → HasCommand (on_path on a)
-unfolding on_path
+pub paths-led : (on : Bool) (a : Axis) → HasCommand a → HasCommand (axis_on_path on a)
+unfolding axis_on_path
 paths-led on a h = record { active = λ m. h.active (path-of on a.state m) }
 
 opened-by : (ready : Bool) → is_of_command (if ready then state.Standstill else state.Disabled) ≡ false
 opened-by true = refl
 opened-by false = refl
 
-pub opened-led : (d : AxisDef) → HasCommand (opened d)
-unfolding opened
+pub opened-led : (d : AxisDef) → HasCommand (axis_at_opening d)
+unfolding axis_at_opening
 opened-led d = record { active = λ m. absurd (let e : true ≡ false = sym m ∙ opened-by d.ready in cc) }

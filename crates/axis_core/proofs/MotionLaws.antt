@@ -9,17 +9,17 @@ use Rattle.kin_core.specs.Toward.{toward_zero}
 use Rattle.trapezoid_plan.specs.MoveRun.{halt_taken_of, move_taken_of}
 use Rattle.axis_core.specs.AxisKept.{IsCoreKept, IsRunning}
 use Rattle.axis_core.specs.Calls.{commanded, commanded_by}
-use Rattle.axis_core.specs.Cores.{Core, ended_by, failed}
-use Rattle.axis_core.specs.Cycles.{Advance, advanced_by, answered, cycled, followed, given, gone_on, moved, progress_of, progress_with, run}
-use Rattle.axis_core.specs.Drives.{answer_error_of, is_driven, standing}
+use Rattle.axis_core.specs.Cores.{Core, core_after_ending}
+use Rattle.axis_core.specs.Cycles.{Advance, advance_by_progress, core_after_answer, core_after_cycle, axis_after_progress, axis_after_word, core_after_going_on, core_after_advance, progress_in_cycle, progress_by_step, core_after_step}
+use Rattle.axis_core.specs.Drives.{answer_error_of, is_driven, axis_at_drive}
 use Rattle.axis_core.specs.Fates.{Fate, cycle_fate, ending_fate, goes_on, is_blended, moved_fate, replaced}
 use Rattle.axis_core.specs.Kinds.{ending_by}
-use Rattle.axis_core.specs.Motions.{Leads, halt_step_taken, is_done_by, is_rest, is_slowing, move_step_taken}
+use Rattle.axis_core.specs.Motions.{Leads, halt_step_taken, is_slowing, move_step_taken}
 use Rattle.axis_core.specs.Refusals.{Asked, refusal_of}
 use Rattle.axis_core.specs.States.{is_error_stop}
-use Rattle.axis_core.specs.Steps.{ends_where, moved_to, old_step_of, taken_by, taken_of}
-use Rattle.axis_core.specs.blocks.Halts.{stop_left}
-use Rattle.axis_core.specs.blocks.Moves.{blended_with, is_move, move_step_with, target_of}
+use Rattle.axis_core.specs.Steps.{ends_where, axis_after_step, old_step_of, taken_by, taken_of}
+use Rattle.axis_core.specs.blocks.Halts.{is_rest, axis_after_stop}
+use Rattle.axis_core.specs.blocks.Moves.{is_done_by, blended_with, is_move, move_step_with, target_of}
 use Rattle.axis_core.specs.blocks.Power.{is_powered}
 use Rattle.axis_core.specs.blocks.Reset.{reset_axis}
 use Rattle.axis_core.specs.declared.axis.Axis.{Axis}
@@ -33,24 +33,24 @@ use Rattle.axis_core.proofs.KeptRows.{Place, place-ended_by}
 by-advance : (R : Fate → Axis → Type 0) (look : AxisLook) (c : Core) (w : Wanted) → IsCoreKept c → c.axis.active ≡ Some w →
     nat_eq (answer_error_of c.axis look.input) 0 ≡ true →
     ((f : Fate) (a b : Axis) → AreAlike a b → R f a → R f b) →
-    R (moved_fate look c) (moved look c).axis →
-    R (cycle_fate look c) (cycled look c).axis
-unfolding cycle_fate cycled
+    R (moved_fate look c) (core_after_advance look c).axis →
+    R (cycle_fate look c) (core_after_cycle look c).axis
+unfolding cycle_fate core_after_cycle
 by-advance R look c w kept e none alike moves =
     let runs = active-runs c.axis.state c.axis.driven (is_powered c.axis) c.axis.was_off c.axis.previous c.axis.setpoint c.axis.active w e kept.axis.state in
-    let after = run look (is_driven c.axis look.input) (answered look.input c) in
-    let a = (moved look c).axis in
-    let goes : R (moved_fate look c) (gone_on look c).axis = alike (moved_fate look c) a (stop_left look a) (stop-alike look a) moves in
-    alike (cycle_fate look c) after.axis (given look.input (reset_axis after.axis.reset look.input after.axis))
+    let after = core_after_step look (is_driven c.axis look.input) (core_after_answer look.input c) in
+    let a = (core_after_advance look c).axis in
+    let goes : R (moved_fate look c) (core_after_going_on look c).axis = alike (moved_fate look c) a (axis_after_stop look a) (stop-alike look a) moves in
+    alike (cycle_fate look c) after.axis (axis_after_word look.input (reset_axis after.axis.reset look.input after.axis))
     (given-alike look.input after.axis (reset_axis after.axis.reset look.input after.axis) (reset-alike after.axis.reset look.input after.axis))
     (by (nat_eq (answer_error_of c.axis look.input) 0) refl none runs.0 runs.1 goes _)
   where
     by : (b : Bool) → nat_eq (answer_error_of c.axis look.input) 0 ≡ b → b ≡ true → is_error_stop c.axis.state ≡ false → IsRunning c.axis.driven (is_powered c.axis) →
-        R (moved_fate look c) (gone_on look c).axis → (failed : Core) →
+        R (moved_fate look c) (core_after_going_on look c).axis → (failed : Core) →
         R (if b then (if is_driven c.axis look.input && c.axis.driven then moved_fate look c else goes_on) else replaced (finish.Error (answer_error_of c.axis look.input)) c.axis.active None)
-        (run look (is_driven c.axis look.input) (if b then c else failed)).axis
+        (core_after_step look (is_driven c.axis look.input) (if b then c else failed)).axis
     by true h t s r goes failed =
-        only-true (is_driven c.axis look.input && c.axis.driven) (moved_fate look c) goes_on (gone_on look c) (record c { axis = standing (is_driven c.axis look.input) look.input c.axis })
+        only-true (is_driven c.axis look.input && c.axis.driven) (moved_fate look c) goes_on (core_after_going_on look c) (record c { axis = axis_at_drive (is_driven c.axis look.input) look.input c.axis })
         (λ (f : Fate) (d : Core). R f d.axis) (still-driven c.axis look.input s r h) goes
     by false h t s r goes failed = absurd (cc)
 
@@ -61,8 +61,8 @@ fate-ends : (done blends : Bool) (ws : List Wanted) (a : Axis) → ((ending_fate
 fate-ends true blends ws a = (λ h. refl, λ h. refl)
 fate-ends false blends ws a = (λ h. absurd (cc), λ h. absurd (cc))
 
-concludes : (done blends : Bool) (step : ℤ) (c : Core) (b : Axis) → AreAlike (moved_to (c.axis.setpoint +ℤ step) c.axis) b →
-    Leads step done c.axis (ending_fate blends (ends_where done finish.Done) c.waiting b) (ended_by (ends_where done finish.Done) (record c { axis = b })).axis
+concludes : (done blends : Bool) (step : ℤ) (c : Core) (b : Axis) → AreAlike (axis_after_step (c.axis.setpoint +ℤ step) c.axis) b →
+    Leads step done c.axis (ending_fate blends (ends_where done finish.Done) c.waiting b) (core_after_ending (ends_where done finish.Done) (record c { axis = b })).axis
 concludes done blends step c b alike =
     let place = place-ended_by (ends_where done finish.Done) (record c { axis = b }) in
     record {
@@ -82,59 +82,59 @@ halt-is a w = refl
 
 -- from the step that a command takes, and how that ends it
 by-progress : (step : ℤ) (done : Bool) (look : AxisLook) (c : Core) (w : Wanted) → c.axis.active ≡ Some w → is_error_stop c.axis.state ≡ false →
-    progress_of c.axis w (slice_get c.waiting 0) look ≡ Ok (progress_at c.axis w (slice_get c.waiting 0) look step) →
+    progress_in_cycle c.axis w (slice_get c.waiting 0) look ≡ Ok (progress_at c.axis w (slice_get c.waiting 0) look step) →
     ending_by w.kind c.axis w (slice_get c.waiting 0) step look ≡ ends_where done finish.Done →
-    AreAlike (moved_to (c.axis.setpoint +ℤ step) c.axis) (followed w.kind (target_of w) (progress_at c.axis w (slice_get c.waiting 0) look step) c.axis) →
-    Leads step done c.axis (moved_fate look c) (moved look c).axis
+    AreAlike (axis_after_step (c.axis.setpoint +ℤ step) c.axis) (axis_after_progress w.kind (target_of w) (progress_at c.axis w (slice_get c.waiting 0) look step) c.axis) →
+    Leads step done c.axis (moved_fate look c) (core_after_advance look c).axis
 by-progress step done look c w e s made ends alike =
     let a = c.axis in
     let next = slice_get c.waiting 0 in
     let p = progress_at a w next look step in
-    let b = followed w.kind (target_of w) p a in
+    let b = axis_after_progress w.kind (target_of w) p a in
     let blends = is_blended c.axis.active c in
-    let is = advances-by a w next look s e ∙ ap (advanced_by w.kind (target_of w) a) made in
-    let P : Advance → Type 0 = λ x. Leads step done a (ending_fate blends x.ending c.waiting x.axis) (ended_by x.ending (record c { axis = x.axis })).axis in
+    let is = advances-by a w next look s e ∙ ap (advance_by_progress w.kind (target_of w) a) made in
+    let P : Advance → Type 0 = λ x. Leads step done a (ending_fate blends x.ending c.waiting x.axis) (core_after_ending x.ending (record c { axis = x.axis })).axis in
     let Q : Option Finish → Type 0 = λ f. P (record { axis = b; ending = f }) in
     subst P (sym is) (subst Q (sym ends) (concludes done blends step c b alike))
 
 moved-leads : (look : AxisLook) (c : Core) (w : Wanted) → c.axis.active ≡ Some w → is_move w.kind ≡ true → is_error_stop c.axis.state ≡ false →
     Leads (taken_of c.axis (move_step_with (blended_with c.axis w (slice_get c.waiting 0)) c.axis w))
     (is_done_by (blended_with c.axis w (slice_get c.waiting 0)) c.axis w (taken_of c.axis (move_step_with (blended_with c.axis w (slice_get c.waiting 0)) c.axis w)))
-    c.axis (moved_fate look c) (moved look c).axis
+    c.axis (moved_fate look c) (core_after_advance look c).axis
 moved-leads look c w e m s =
     let a = c.axis in
     let next = slice_get c.waiting 0 in
     let step = taken_of a (move_step_with (blended_with a w next) a w) in
-    by-progress step _ look c w e s (ap (λ o. progress_with a w next look (taken_by a o)) (wish-move w.kind a w next look m))
+    by-progress step _ look c w e s (ap (λ o. progress_by_step a w next look (taken_by a o)) (wish-move w.kind a w next look m))
     (ending-move w.kind a w next step look m) (followed-move w.kind (target_of w) (progress_at a w next look step) a m)
 
 pub moves-lead : (look : AxisLook) (c : Core) (w : Wanted) → IsCoreKept c → c.axis.active ≡ Some w → is_move w.kind ≡ true → nat_eq (answer_error_of c.axis look.input) 0 ≡ true →
     Leads (move_step_taken (blended_with c.axis w (slice_get c.waiting 0)) c.axis w)
     (is_done_by (blended_with c.axis w (slice_get c.waiting 0)) c.axis w (move_step_taken (blended_with c.axis w (slice_get c.waiting 0)) c.axis w))
-    c.axis (cycle_fate look c) (cycled look c).axis
+    c.axis (cycle_fate look c) (core_after_cycle look c).axis
 moves-lead look c w kept e m none =
     let o = blended_with c.axis w (slice_get c.waiting 0) in
     let runs = (active-runs c.axis.state c.axis.driven (is_powered c.axis) c.axis.was_off c.axis.previous c.axis.setpoint c.axis.active w e kept.axis.state).0 in
-    let P : ℤ → Type 0 = λ x. Leads x (is_done_by o c.axis w x) c.axis (moved_fate look c) (moved look c).axis in
+    let P : ℤ → Type 0 = λ x. Leads x (is_done_by o c.axis w x) c.axis (moved_fate look c) (core_after_advance look c).axis in
     let step = move_step_taken o c.axis w in
     by-advance (Leads step (is_done_by o c.axis w step) c.axis) look c w kept e none (leads-alike step (is_done_by o c.axis w step) c.axis)
     (subst P (step-is o c.axis w) (moved-leads look c w e m runs))
 
 halted-leads : (look : AxisLook) (c : Core) (w : Wanted) → c.axis.active ≡ Some w → is_slowing w.kind ≡ true → is_error_stop c.axis.state ≡ false →
     Leads (taken_of c.axis (toward_zero (old_step_of c.axis) w.rates.d)) (is_rest (taken_of c.axis (toward_zero (old_step_of c.axis) w.rates.d)))
-    c.axis (moved_fate look c) (moved look c).axis
+    c.axis (moved_fate look c) (core_after_advance look c).axis
 halted-leads look c w e m s =
     let a = c.axis in
     let next = slice_get c.waiting 0 in
     let step = taken_of a (toward_zero (old_step_of a) w.rates.d) in
-    by-progress step _ look c w e s (ap (λ o. progress_with a w next look (taken_by a o)) (wish-halt w.kind a w next look m))
+    by-progress step _ look c w e s (ap (λ o. progress_by_step a w next look (taken_by a o)) (wish-halt w.kind a w next look m))
     (ending-halt w.kind a w next step look m) (followed-halt w.kind (target_of w) (progress_at a w next look step) a m)
 
 pub halts-lead : (look : AxisLook) (c : Core) (w : Wanted) → IsCoreKept c → c.axis.active ≡ Some w → is_slowing w.kind ≡ true → nat_eq (answer_error_of c.axis look.input) 0 ≡ true →
-    Leads (halt_step_taken c.axis w) (is_rest (halt_step_taken c.axis w)) c.axis (cycle_fate look c) (cycled look c).axis
+    Leads (halt_step_taken c.axis w) (is_rest (halt_step_taken c.axis w)) c.axis (cycle_fate look c) (core_after_cycle look c).axis
 halts-lead look c w kept e m none =
     let runs = (active-runs c.axis.state c.axis.driven (is_powered c.axis) c.axis.was_off c.axis.previous c.axis.setpoint c.axis.active w e kept.axis.state).0 in
-    let P : ℤ → Type 0 = λ x. Leads x (is_rest x) c.axis (moved_fate look c) (moved look c).axis in
+    let P : ℤ → Type 0 = λ x. Leads x (is_rest x) c.axis (moved_fate look c) (core_after_advance look c).axis in
     let step = halt_step_taken c.axis w in
     by-advance (Leads step (is_rest step) c.axis) look c w kept e none (leads-alike step (is_rest step) c.axis)
     (subst P (halt-is c.axis w) (halted-leads look c w e m runs))

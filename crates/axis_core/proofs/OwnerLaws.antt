@@ -5,10 +5,10 @@ use Rattle.axis_state.specs.Diagram.{next_of}
 use Rattle.axis_state.specs.declared.diagram.AxisEvent.TheVariants.{StopReleased}
 use Rattle.axis_state.specs.declared.state.AxisState.{AxisState}
 use Rattle.buffer_modes.specs.Queue.{active_note, end_notes, is_aborting, is_active_at_once, behind}
-use Rattle.axis_core.specs.Calls.{active_without, admitted_by, commanded, commanded_by, detached, disabled, powered_by, queue_in, queued, reset_without}
-use Rattle.axis_core.specs.Cores.{Core, begun, begun_by, ended, ended_by, failed, taken_over, taken_over_by}
-use Rattle.axis_core.specs.Cycles.{advanced, answered, cycled, gone_on, moved, run}
-use Rattle.axis_core.specs.Drives.{answer_error_of, is_driven, standing}
+use Rattle.axis_core.specs.Calls.{active_without, admitted_by, commanded, commanded_by, axis_without_owner, core_after_disabling, core_after_power, queue_in, queued, reset_without}
+use Rattle.axis_core.specs.Cores.{Core, axis_under, axis_under_by, core_after_end, core_after_ending, core_after_error, core_after_take_over, core_taken_by}
+use Rattle.axis_core.specs.Cycles.{advance_in_cycle, core_after_answer, core_after_cycle, core_after_going_on, core_after_advance, core_after_step}
+use Rattle.axis_core.specs.Drives.{answer_error_of, is_driven, axis_at_drive}
 use Rattle.axis_core.specs.Owners.{brought, brought_by, disowned, is_owner, one_of, owner_by, owns, reset_owner, told, waits_of}
 use Rattle.motion_numbers.specs.Ranges.{is_outside}
 use Rattle.axis_core.specs.Refusals.{Asked, refusal_of}
@@ -63,8 +63,8 @@ unfolding is_owner
 nobody k = refl
 
 -- an error tells all that have a command
-sum-failed : (k n : ℕ) (c : Core) → sum k (failed n c) ≡ sum k c
-unfolding failed
+sum-failed : (k n : ℕ) (c : Core) → sum k (core_after_error n c) ≡ sum k c
+unfolding core_after_error
 sum-failed k n c =
     let a = told-more k c.notes (active_note (finish.Error n) c.axis.active ++ notes_of finish.Aborted c.waiting) in
     let b = told-more k (active_note (finish.Error n) c.axis.active) (notes_of finish.Aborted c.waiting) in
@@ -75,9 +75,9 @@ sum-failed k n c =
 
 -- what an instance has of the others, where this one takes over
 sum-from : (k : ℕ) (b : Bool) (w : Wanted) (t : ℤ) (c : Core) → c.axis.active ≡ None →
-    sum k (if b then failed 106 (record c { axis = record c.axis { active = Some w } }) else record c { axis = begun (with_target (Some t) w) c.axis }) ≡
+    sum k (if b then core_after_error 106 (record c { axis = record c.axis { active = Some w } }) else record c { axis = axis_under (with_target (Some t) w) c.axis }) ≡
     sum k c + is_owner k w.owner
-unfolding begun_by
+unfolding axis_under_by
 sum-from k true w t c none =
     let f = sum-failed k 106 (record c { axis = record c.axis { active = Some w } }) in
     let z = nobody k in
@@ -88,15 +88,15 @@ sum-from k false w t c none =
     let e : is_owner k (owner_by c.axis.active) ≡ 0 = ap (λ o. is_owner k (owner_by o)) none ∙ z in
     omega arith
 
-sum-over : (k : ℕ) (x : BlockKind) (t : Option ℤ) (w : Wanted) (c : Core) → c.axis.active ≡ None → sum k (taken_over_by x t w c) ≡ sum k c + is_owner k w.owner
-unfolding begun_by
+sum-over : (k : ℕ) (x : BlockKind) (t : Option ℤ) (w : Wanted) (c : Core) → c.axis.active ≡ None → sum k (core_taken_by x t w c) ≡ sum k c + is_owner k w.owner
+unfolding axis_under_by
 sum-over k kind.MoveRelative None w c none = sum-from k (is_outside c.axis.limits.lo (c.axis.setpoint +ℤ position_of w) c.axis.limits.hi) w (c.axis.setpoint +ℤ position_of w) c none
 sum-over k kind.MoveRelative (Some t) w c none =
     let e : is_owner k (owner_by c.axis.active) ≡ 0 = ap (λ o. is_owner k (owner_by o)) none ∙ nobody k in omega arith
 sum-over k _ t w c none =
     let e : is_owner k (owner_by c.axis.active) ≡ 0 = ap (λ o. is_owner k (owner_by o)) none ∙ nobody k in omega arith
 
-sum-taken : (k : ℕ) (ws : List Wanted) (c : Core) → c.axis.active ≡ None → c.waiting ≡ ws → sum k (taken_over ws c) ≡ sum k c
+sum-taken : (k : ℕ) (ws : List Wanted) (c : Core) → c.axis.active ≡ None → c.waiting ≡ ws → sum k (core_after_take_over ws c) ≡ sum k c
 sum-taken k [] c none same = refl
 sum-taken k (w ∷ ws) c none same =
     let s = sum-over k w.kind w.target w (record c { waiting = ws }) none in
@@ -104,8 +104,8 @@ sum-taken k (w ∷ ws) c none same =
     omega arith
 
 -- an end tells the owner
-sum-ended : (k : ℕ) (f : Finish) (c : Core) → sum k (ended f c) ≡ sum k c
-unfolding ended
+sum-ended : (k : ℕ) (f : Finish) (c : Core) → sum k (core_after_end f c) ≡ sum k c
+unfolding core_after_end
 sum-ended k f c =
     let s = sum-taken k c.waiting (record c { axis = record c.axis { active = None; reached = false }; notes = c.notes ++ active_note f c.axis.active }) refl refl in
     let a = told-more k c.notes (active_note f c.axis.active) in
@@ -113,7 +113,7 @@ sum-ended k f c =
     let z = nobody k in
     omega arith
 
-sum-where : (k : ℕ) (e : Option Finish) (c : Core) → sum k (ended_by e c) ≡ sum k c
+sum-where : (k : ℕ) (e : Option Finish) (c : Core) → sum k (core_after_ending e c) ≡ sum k c
 sum-where k None c = refl
 sum-where k (Some (finish.Error n)) c = sum-failed k n c
 sum-where k (Some finish.Done) c = sum-ended k finish.Done c
@@ -130,9 +130,9 @@ sum-held k a c p q =
     let f : is_owner k (reset_owner a.reset) ≡ is_owner k (reset_owner c.axis.reset) = ap (λ o. is_owner k (reset_owner o)) q in
     omega arith
 
-sum-moved : (k : ℕ) (look : AxisLook) (c : Core) → sum k (moved look c) ≡ sum k c
+sum-moved : (k : ℕ) (look : AxisLook) (c : Core) → sum k (core_after_advance look c) ≡ sum k c
 sum-moved k look c =
-    let step = advanced (slice_get c.waiting 0) look c.axis in
+    let step = advance_in_cycle (slice_get c.waiting 0) look c.axis in
     sum-where k step.ending (record c { axis = step.axis })
     ∙ sum-held k step.axis c (advances (slice_get c.waiting 0) look c.axis).same (advances (slice_get c.waiting 0) look c.axis).reset
 
@@ -140,18 +140,18 @@ sum-stop : (k : ℕ) (b : Bool) (s : AxisState) (c : Core) → sum k (record c {
 sum-stop k true s c = refl
 sum-stop k false s c = refl
 
-sum-gone : (k : ℕ) (look : AxisLook) (c : Core) → sum k (gone_on look c) ≡ sum k c
+sum-gone : (k : ℕ) (look : AxisLook) (c : Core) → sum k (core_after_going_on look c) ≡ sum k c
 sum-gone k look c =
-    let d = moved look c in
+    let d = core_after_advance look c in
     sum-stop k (leaves_stopping look d.axis) (next_of StopReleased) d ∙ sum-moved k look c
 
-sum-run : (k : ℕ) (driven : Bool) (look : AxisLook) (c : Core) → sum k (run look driven c) ≡ sum k c
+sum-run : (k : ℕ) (driven : Bool) (look : AxisLook) (c : Core) → sum k (core_after_step look driven c) ≡ sum k c
 sum-run k driven look c =
-    of-both (driven && c.axis.driven) (gone_on look c) (record c { axis = standing driven look.input c.axis }) (λ (d : Core). sum k d ≡ sum k c) (sum-gone k look c) refl
+    of-both (driven && c.axis.driven) (core_after_going_on look c) (record c { axis = axis_at_drive driven look.input c.axis }) (λ (d : Core). sum k d ≡ sum k c) (sum-gone k look c) refl
 
-sum-answered : (k : ℕ) (input : DriveIn) (c : Core) → sum k (answered input c) ≡ sum k c
+sum-answered : (k : ℕ) (input : DriveIn) (c : Core) → sum k (core_after_answer input c) ≡ sum k c
 sum-answered k input c =
-    of-both (nat_eq (answer_error_of c.axis input) 0) c (failed (answer_error_of c.axis input) c) (λ (d : Core). sum k d ≡ sum k c) refl (sum-failed k (answer_error_of c.axis input) c)
+    of-both (nat_eq (answer_error_of c.axis input) 0) c (core_after_error (answer_error_of c.axis input) c) (λ (d : Core). sum k d ≡ sum k c) refl (sum-failed k (answer_error_of c.axis input) c)
 
 -- a Reset that is done is told
 sum-reset-by : (k : ℕ) (b : Bool) (p : PendingReset) (c : Core) → c.axis.reset ≡ Some p →
@@ -170,11 +170,11 @@ sum-reset k None input c e = let a = told-more k c.notes [] in omega arith
 sum-reset k (Some p) input c e = sum-reset-by k (may_reset input c.axis) p c e
 
 -- in a cycle an instance is told of each command that it has no longer, and of no other
-pub sum-cycled : (k : ℕ) (look : AxisLook) (c : Core) → sum k (cycled look c) ≡ sum k c
-unfolding cycled
+pub sum-cycled : (k : ℕ) (look : AxisLook) (c : Core) → sum k (core_after_cycle look c) ≡ sum k c
+unfolding core_after_cycle
 sum-cycled k look c =
-    let d = run look (is_driven c.axis look.input) (answered look.input c) in
-    sum-reset k d.axis.reset look.input d refl ∙ sum-run k (is_driven c.axis look.input) look (answered look.input c) ∙ sum-answered k look.input c
+    let d = core_after_step look (is_driven c.axis look.input) (core_after_answer look.input c) in
+    sum-reset k d.axis.reset look.input d refl ∙ sum-run k (is_driven c.axis look.input) look (core_after_answer look.input c) ∙ sum-answered k look.input c
 
 -- the last of those that wait
 waits-more : (k : ℕ) (ws : List Wanted) (w : Wanted) → waits_of k (ws ++ w ∷ []) ≡ waits_of k ws + is_owner k w.owner
@@ -206,8 +206,8 @@ at-once-active false None ws w h = refl
 at-once-active false (Some v) ws w h = absurd (cc)
 
 sum-joined : (k : ℕ) (b : Bool) (w : Wanted) (c : Core) → is_active_at_once (queue_in c) w ≡ b →
-    sum k (if b then record (queued w c) { axis = begun w (queued w c).axis } else queued w c) ≡ sum k c + is_owner k w.owner
-unfolding begun_by
+    sum k (if b then record (queued w c) { axis = axis_under w (queued w c).axis } else queued w c) ≡ sum k c + is_owner k w.owner
+unfolding axis_under_by
 sum-joined k true w c h =
     let q = sum-queued k w c in
     let e : is_owner k (owner_by (queued w c).axis.active) ≡ is_owner k w.owner = ap (λ o. is_owner k (owner_by o)) (at-once-active (is_aborting w.mode) c.axis.active c.waiting w h) in
@@ -235,7 +235,7 @@ sum-aborted : (k : ℕ) (c : Core) →
 sum-aborted k c = let s = sum-all k c in let z = nobody k in omega arith
 
 sum-admitted : (k : ℕ) (x : BlockKind) (w : Wanted) (c : Core) → sum k (admitted_by x w c) ≡ sum k c + is_owner k (brought_by x w)
-unfolding begun_by
+unfolding axis_under_by
 sum-admitted k kind.Reset w c =
     let a = told-more k c.notes (replaced_note c.axis.reset) in
     let b = replaced-told k c.axis.reset in
@@ -261,12 +261,12 @@ unfolding commanded
 sum-commanded k q c = sum-asked k (refusal_of q) q.wanted c
 
 -- a Power tells those whose commands it ends
-pub sum-powered : (k : ℕ) (enable : Bool) (c : Core) → sum k (powered_by enable c) ≡ sum k c
-unfolding powered_by
+pub sum-powered : (k : ℕ) (enable : Bool) (c : Core) → sum k (core_after_power enable c) ≡ sum k c
+unfolding core_after_power
 sum-powered k true c = refl
 sum-powered k false c =
     let wished : Core = record c { axis = record c.axis { power = false; was_off = true } } in
-    of-both (is_error_stop c.axis.state) wished (disabled wished) (λ (d : Core). sum k d ≡ sum k c) refl (sum-all k c)
+    of-both (is_error_stop c.axis.state) wished (core_after_disabling wished) (λ (d : Core). sum k d ≡ sum k c) refl (sum-all k c)
 
 without-own : (k : ℕ) (o : Option ℕ) → is_owner k (without k o) ≡ 0
 unfolding is_owner
@@ -312,9 +312,9 @@ reset-other j k (Some p) h = without-other j k p.owner h
 
 -- an instance whose commands are taken away has none, and the others keep theirs
 pub disowned-own : (k : ℕ) (c : Core) → owns k (disowned k c) ≡ 0
-unfolding detached
+unfolding axis_without_owner
 disowned-own k c = let a = active-own k c.axis.active in let b = waits-own k c.waiting in let d = reset-own k c.axis.reset in omega arith
 
 pub disowned-other : (j k : ℕ) (c : Core) → nat_eq k j ≡ false → owns j (disowned k c) ≡ owns j c
-unfolding detached
+unfolding axis_without_owner
 disowned-other j k c h = let a = active-other j k c.axis.active h in let b = waits-other j k c.waiting h in let d = reset-other j k c.axis.reset h in omega arith

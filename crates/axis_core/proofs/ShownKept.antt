@@ -14,24 +14,24 @@ use Rattle.command_pool.specs.declared.kind.BlockKind.TheVariants as kind
 use Rattle.command_pool.specs.declared.wanted.Wanted.{Wanted}
 use Rattle.command_pool.specs.declared.ending.Finish.TheVariants as finish
 use Rattle.axis_core.proofs.KeptMoves.{concluded}
-use Rattle.axis_core.specs.Calls.{admitted_by, commanded, commanded_by, detached, disabled, joined, left, powered_by, queue_in, queued}
-use Rattle.axis_core.specs.Cores.{Core, begun, begun_by, begun_from, ended, ended_by, failed, settled, state_with, taken_over, taken_over_by}
-use Rattle.axis_core.specs.Cycles.{advanced, advanced_by, advanced_from, advanced_with, answered, braked, cycled, followed, gone_on, moved, opened, progress_with, run}
+use Rattle.axis_core.specs.Calls.{admitted_by, commanded, commanded_by, axis_without_owner, core_after_disabling, core_after_joining, left, core_after_power, queue_in, queued}
+use Rattle.axis_core.specs.Cores.{Core, axis_under, axis_under_by, core_under_from, core_after_end, core_after_ending, core_after_error, state_after_last, state_during, core_after_take_over, core_taken_by}
+use Rattle.axis_core.specs.Cycles.{advance_in_cycle, advance_by_progress, advance_without_error, advance_by_command, core_after_answer, axis_after_braking, core_after_cycle, axis_after_progress, core_after_going_on, core_after_advance, axis_at_opening, progress_by_step, core_after_step}
 use Rattle.axis_core.specs.Demands.{IsMade, is_axis_command}
-use Rattle.axis_core.specs.Drives.{answer_error_of, has_fault, is_driven, new_error_of, standing}
+use Rattle.axis_core.specs.Drives.{answer_error_of, has_fault, is_driven, new_error_of, axis_at_drive}
 use Rattle.axis_core.specs.Kinds.{ending_by, tests_of, wish_by}
 use Rattle.motion_numbers.specs.Ranges.{is_outside}
 use Rattle.axis_core.specs.Refusals.{Asked, first_holding, holds, refusal_of}
 use Rattle.axis_core.specs.Shown.{AreShown, IsAxisError, IsShown}
 use Rattle.axis_core.specs.States.{is_error_stop, is_stopping, is_synchronized}
-use Rattle.axis_core.specs.Steps.{ends_where, guarded, is_braking, is_safe_step, moved_to, old_step_of, step_toward, taken_by, taken_of}
+use Rattle.axis_core.specs.Steps.{ends_where, guarded, is_braking, is_safe_step, axis_after_step, old_step_of, step_toward, taken_by, taken_of}
 use Rattle.axis_core.specs.blocks.Cam.{cam_wish_where}
 use Rattle.axis_core.specs.blocks.Gear.{gear_step_of}
-use Rattle.axis_core.specs.blocks.Halts.{hold_by, is_at_rest, is_released, stop_left}
+use Rattle.axis_core.specs.blocks.Halts.{hold_by, is_at_rest, is_released, axis_after_stop}
 use Rattle.axis_core.specs.blocks.Moves.{known_target_of, target_of, with_target}
-use Rattle.axis_core.specs.blocks.Path.{is_on_path, on_path, on_path_from, path_left, place_on_path}
-use Rattle.axis_core.specs.blocks.Power.{enabled_from}
-use Rattle.axis_core.specs.blocks.Reset.{after_reset, may_reset, reset_axis, reset_from}
+use Rattle.axis_core.specs.blocks.Path.{is_on_path, axis_on_path, state_on_path, axis_after_path, place_on_path}
+use Rattle.axis_core.specs.blocks.Power.{state_when_driven}
+use Rattle.axis_core.specs.blocks.Reset.{after_reset, may_reset, reset_axis, state_after_reset}
 use Rattle.axis_core.specs.blocks.Velocity.{step_to_velocity}
 use Rattle.follow_plan.specs.Gear.{gear_toward_of}
 use Rattle.axis_core.specs.declared.axis.Axis.{Axis}
@@ -45,12 +45,12 @@ number : (n : ℕ) → 101 ≤ n → n ≤ 106 → IsAxisError n
 number n l m = record { least = l; most = m }
 
 -- an axis that goes to ErrorStop with an error
-failed-shown : (n : ℕ) (c : Core) → IsAxisError n → IsShown (failed n c).axis
-unfolding failed
+failed-shown : (n : ℕ) (c : Core) → IsAxisError n → IsShown (core_after_error n c).axis
+unfolding core_after_error
 failed-shown n c h = record { stopped = λ x. h; clear = λ x. absurd (cc); held = λ x. refl }
 
 -- a command begins on an axis that has no error
-begun-in : (k : BlockKind) (s : AxisState) (e : ℕ) (h owner : Option ℕ) → is_error_stop s ≡ false → AreShown s e h → AreShown (state_with k s) e (hold_by k owner)
+begun-in : (k : BlockKind) (s : AxisState) (e : ℕ) (h owner : Option ℕ) → is_error_stop s ≡ false → AreShown s e h → AreShown (state_during k s) e (hold_by k owner)
 begun-in kind.Home s e h owner f a = record { stopped = λ x. absurd (cc); clear = λ x. a.clear f; held = λ x. refl }
 begun-in kind.Stop s e h owner f a = record { stopped = λ x. absurd (cc); clear = λ x. a.clear f; held = λ x. absurd (cc) }
 begun-in kind.Halt s e h owner f a = record { stopped = λ x. absurd (cc); clear = λ x. a.clear f; held = λ x. refl }
@@ -61,32 +61,32 @@ begun-in kind.GearIn s e h owner f a = record { stopped = λ x. absurd (cc); cle
 begun-in kind.CamIn s e h owner f a = record { stopped = λ x. absurd (cc); clear = λ x. a.clear f; held = λ x. refl }
 begun-in _ s e h owner f a = record { stopped = a.stopped; clear = a.clear; held = λ x. refl }
 
-begun-shown : (w : Wanted) (a : Axis) → is_error_stop a.state ≡ false → IsShown a → IsShown (begun w a)
-unfolding begun_by
+begun-shown : (w : Wanted) (a : Axis) → is_error_stop a.state ≡ false → IsShown a → IsShown (axis_under w a)
+unfolding axis_under_by
 begun-shown w a f h = begun-in w.kind a.state a.error a.hold w.owner f h
 
-begun_from-shown : (w : Wanted) (t : ℤ) (c : Core) → is_error_stop c.axis.state ≡ false → IsShown c.axis → IsShown (begun_from w t c).axis
+begun_from-shown : (w : Wanted) (t : ℤ) (c : Core) → is_error_stop c.axis.state ≡ false → IsShown c.axis → IsShown (core_under_from w t c).axis
 begun_from-shown w t c f h =
     elim (is_outside c.axis.limits.lo t c.axis.limits.hi) as
-    (λ o. IsShown (if o then failed 106 (record c { axis = record c.axis { active = Some w } }) else record c { axis = begun (with_target (Some t) w) c.axis }).axis)
+    (λ o. IsShown (if o then core_after_error 106 (record c { axis = record c.axis { active = Some w } }) else record c { axis = axis_under (with_target (Some t) w) c.axis }).axis)
     [ true ↦ failed-shown 106 _ (number 106 (omega arith) (omega arith)) | false ↦ begun-shown (with_target (Some t) w) c.axis f h ]
 
-taken_over_by-shown : (k : BlockKind) (t : Option ℤ) (w : Wanted) (c : Core) → is_error_stop c.axis.state ≡ false → IsShown c.axis → IsShown (taken_over_by k t w c).axis
+taken_over_by-shown : (k : BlockKind) (t : Option ℤ) (w : Wanted) (c : Core) → is_error_stop c.axis.state ≡ false → IsShown c.axis → IsShown (core_taken_by k t w c).axis
 taken_over_by-shown kind.MoveRelative None w c f h = begun_from-shown w _ c f h
 taken_over_by-shown kind.MoveRelative (Some t) w c f h = begun-shown w c.axis f h
 taken_over_by-shown _ t w c f h = begun-shown w c.axis f h
 
-settled-shown : (s : AxisState) (e : ℕ) (h : Option ℕ) → AreShown s e h → AreShown (settled s) e h
+settled-shown : (s : AxisState) (e : ℕ) (h : Option ℕ) → AreShown s e h → AreShown (state_after_last s) e h
 settled-shown state.DiscreteMotion e h a = record { stopped = a.stopped; clear = a.clear; held = a.held }
 settled-shown state.Homing e h a = record { stopped = a.stopped; clear = a.clear; held = a.held }
 settled-shown _ e h a = a
 
-taken_over-shown : (ws : List Wanted) (c : Core) → is_error_stop c.axis.state ≡ false → IsShown c.axis → IsShown (taken_over ws c).axis
+taken_over-shown : (ws : List Wanted) (c : Core) → is_error_stop c.axis.state ≡ false → IsShown c.axis → IsShown (core_after_take_over ws c).axis
 taken_over-shown [] c f h = settled-shown c.axis.state c.axis.error c.axis.hold h
 taken_over-shown (w ∷ ws) c f h = taken_over_by-shown w.kind w.target w (record c { waiting = ws }) f h
 
-ended-shown : (g : Finish) (c : Core) → is_error_stop c.axis.state ≡ false → IsShown c.axis → IsShown (ended g c).axis
-unfolding ended
+ended-shown : (g : Finish) (c : Core) → is_error_stop c.axis.state ≡ false → IsShown c.axis → IsShown (core_after_end g c).axis
+unfolding core_after_end
 ended-shown g c f h = taken_over-shown c.waiting _ f h
 
 -- how a command may end: an error has an axis error's number
@@ -94,18 +94,18 @@ abbrev IsEnding : Option Finish → Type 0
 IsEnding (Some (finish.Error n)) = IsAxisError n
 IsEnding o = Unit {0}
 
-ended_by-shown : (o : Option Finish) (c : Core) → IsEnding o → is_error_stop c.axis.state ≡ false → IsShown c.axis → IsShown (ended_by o c).axis
+ended_by-shown : (o : Option Finish) (c : Core) → IsEnding o → is_error_stop c.axis.state ≡ false → IsShown c.axis → IsShown (core_after_ending o c).axis
 ended_by-shown None c i f h = h
 ended_by-shown (Some (finish.Error n)) c i f h = failed-shown n c i
 ended_by-shown (Some finish.Done) c i f h = ended-shown finish.Done c f h
 ended_by-shown (Some finish.Aborted) c i f h = ended-shown finish.Aborted c f h
 
 -- the step of a command changes nothing of it
-state-followed : (k : BlockKind) (t : ℤ) (p : Progress) (a : Axis) → (followed k t p a).state ≡ a.state
+pub state-followed : (k : BlockKind) (t : ℤ) (p : Progress) (a : Axis) → (axis_after_progress k t p a).state ≡ a.state
 state-followed kind.Home t p a = refl
 state-followed _ t p a = refl
 
-shown-followed : (k : BlockKind) (t : ℤ) (p : Progress) (a : Axis) → IsShown a → IsShown (followed k t p a)
+shown-followed : (k : BlockKind) (t : ℤ) (p : Progress) (a : Axis) → IsShown a → IsShown (axis_after_progress k t p a)
 shown-followed kind.Home t p a h = h
 shown-followed _ t p a h = h
 
@@ -157,14 +157,14 @@ wish-by _ a w next look = tt
 
 -- the step of an axis that no error stops, and the end of its command
 wished-shown : (wish : Result ℤ ℕ) (w : Wanted) (look : AxisLook) (c : Core) → IsWish wish → is_error_stop c.axis.state ≡ false → IsShown c.axis →
-    IsShown (concluded (advanced_by w.kind (target_of w) c.axis (progress_with c.axis w (slice_get c.waiting 0) look (taken_by c.axis wish))) c).axis
+    IsShown (concluded (advance_by_progress w.kind (target_of w) c.axis (progress_by_step c.axis w (slice_get c.waiting 0) look (taken_by c.axis wish))) c).axis
 wished-shown (Ok step) w look c i f h =
     ended_by-shown _ _ (ending-by w.kind c.axis w (slice_get c.waiting 0) (taken_of c.axis step) look)
     (ap is_error_stop (state-followed w.kind (target_of w) _ c.axis) ∙ f) (shown-followed w.kind (target_of w) _ c.axis h)
-wished-shown (Err n) w look c i f h = failed-shown n (record c { axis = braked c.axis }) i
+wished-shown (Err n) w look c i f h = failed-shown n (record c { axis = axis_after_braking c.axis }) i
 
 commanded-by-shown : (active : Option Wanted) (look : AxisLook) (c : Core) → is_error_stop c.axis.state ≡ false → IsShown c.axis →
-    IsShown (concluded (advanced_with active (slice_get c.waiting 0) look c.axis) c).axis
+    IsShown (concluded (advance_by_command active (slice_get c.waiting 0) look c.axis) c).axis
 commanded-by-shown None look c f h = h
 commanded-by-shown (Some w) look c f h =
     wished-shown (wish_by w.kind c.axis w (slice_get c.waiting 0) look) w look c (wish-by w.kind c.axis w (slice_get c.waiting 0) look) f h
@@ -174,20 +174,20 @@ runs-on : (s : AxisState) → is_synchronized s ≡ true → is_stopping s ≡ f
 runs-on state.SynchronizedMotion h = refl
 runs-on _ h = absurd (cc)
 
-left-shown : (ends : Bool) (a : Axis) → is_synchronized a.state ≡ true → is_error_stop a.state ≡ false → IsShown a → IsShown (path_left ends a)
+left-shown : (ends : Bool) (a : Axis) → is_synchronized a.state ≡ true → is_error_stop a.state ≡ false → IsShown a → IsShown (axis_after_path ends a)
 left-shown true a s f h = record { stopped = λ x. absurd (cc); clear = λ x. h.clear f; held = λ x. h.held (runs-on a.state s) }
 left-shown false a s f h = h
 
 placed-shown : (o : Option ℤ) (look : AxisLook) (c : Core) → ((place : ℤ) → o ≡ Some place → is_synchronized c.axis.state ≡ true) → is_error_stop c.axis.state ≡ false → IsShown c.axis →
-    IsShown (concluded (advanced_from o (slice_get c.waiting 0) look c.axis) c).axis
+    IsShown (concluded (advance_without_error o (slice_get c.waiting 0) look c.axis) c).axis
 placed-shown None look c s f h = commanded-by-shown c.axis.active look c f h
-placed-shown (Some place) look c s f h = left-shown look.path_ends (moved_to place c.axis) (s place refl) f h
+placed-shown (Some place) look c s f h = left-shown look.path_ends (axis_after_step place c.axis) (s place refl) f h
 
-moved-shown : (look : AxisLook) (c : Core) → IsShown c.axis → IsShown (moved look c).axis
-unfolding advanced
+moved-shown : (look : AxisLook) (c : Core) → IsShown c.axis → IsShown (core_after_advance look c).axis
+unfolding advance_in_cycle
 moved-shown look c h =
     elim (is_error_stop c.axis.state) as (λ b. is_error_stop c.axis.state ≡ b →
-    IsShown (concluded (if b then record { axis = braked c.axis; ending = None } else advanced_from (place_on_path c.axis look) (slice_get c.waiting 0) look c.axis) c).axis) [
+    IsShown (concluded (if b then record { axis = axis_after_braking c.axis; ending = None } else advance_without_error (place_on_path c.axis look) (slice_get c.waiting 0) look c.axis) c).axis) [
       | true ↦ λ e. h
       | false ↦ λ e.
           placed-shown (place_on_path c.axis look) look c
@@ -198,7 +198,7 @@ stopping-clear : (s : AxisState) → is_stopping s ≡ true → is_error_stop s 
 stopping-clear state.Stopping h = refl
 stopping-clear _ h = absurd (cc)
 
-stop_left-shown : (look : AxisLook) (a : Axis) → IsShown a → IsShown (stop_left look a)
+stop_left-shown : (look : AxisLook) (a : Axis) → IsShown a → IsShown (axis_after_stop look a)
 stop_left-shown look a h =
     let stands = is_stopping a.state && not (is_some a.active) in
     let rests = stands && is_at_rest a in
@@ -211,15 +211,15 @@ stop_left-shown look a h =
     ] refl
 
 -- an axis that stands where its drive does
-enabled-shown : (driven : Bool) (s : AxisState) (e : ℕ) (h : Option ℕ) → AreShown s e h → AreShown (enabled_from driven s) e h
+enabled-shown : (driven : Bool) (s : AxisState) (e : ℕ) (h : Option ℕ) → AreShown s e h → AreShown (state_when_driven driven s) e h
 enabled-shown true state.Disabled e h a = record { stopped = a.stopped; clear = a.clear; held = a.held }
 enabled-shown true _ e h a = a
 enabled-shown false _ e h a = a
 
-run-shown : (look : AxisLook) (driven : Bool) (c : Core) → IsShown c.axis → IsShown (run look driven c).axis
+run-shown : (look : AxisLook) (driven : Bool) (c : Core) → IsShown c.axis → IsShown (core_after_step look driven c).axis
 run-shown look driven c h =
-    elim (driven && c.axis.driven) as (λ b. IsShown (if b then gone_on look c else record c { axis = standing driven look.input c.axis }).axis) [
-      | true ↦ stop_left-shown look (moved look c).axis (moved-shown look c h)
+    elim (driven && c.axis.driven) as (λ b. IsShown (if b then core_after_going_on look c else record c { axis = axis_at_drive driven look.input c.axis }).axis) [
+      | true ↦ stop_left-shown look (core_after_advance look c).axis (moved-shown look c h)
       | false ↦ enabled-shown driven c.axis.state c.axis.error c.axis.hold h
     ]
 
@@ -241,14 +241,14 @@ answer-error : (a : Axis) (input : DriveIn) → IsNone (answer_error_of a input)
 unfolding answer_error_of
 answer-error a input = skips (is_error_stop a.state) (new_error_of a input) (chosen (has_fault input) _ _)
 
-answered-shown : (input : DriveIn) (c : Core) → IsShown c.axis → IsShown (answered input c).axis
+answered-shown : (input : DriveIn) (c : Core) → IsShown c.axis → IsShown (core_after_answer input c).axis
 answered-shown input c h =
     elim (nat_eq (answer_error_of c.axis input) 0) as
-    (λ b. nat_eq (answer_error_of c.axis input) 0 ≡ b → IsShown (if b then c else failed (answer_error_of c.axis input) c).axis)
+    (λ b. nat_eq (answer_error_of c.axis input) 0 ≡ b → IsShown (if b then c else core_after_error (answer_error_of c.axis input) c).axis)
     [ true ↦ λ e. h | false ↦ λ e. failed-shown (answer_error_of c.axis input) c (answer-error c.axis input e) ] refl
 
 -- a Reset ends an error
-reset-in : (driven : Bool) (s : AxisState) (e : ℕ) (h : Option ℕ) → AreShown s e h → AreShown (reset_from driven s) 0 h
+reset-in : (driven : Bool) (s : AxisState) (e : ℕ) (h : Option ℕ) → AreShown s e h → AreShown (state_after_reset driven s) 0 h
 reset-in true state.ErrorStop e h a = record { stopped = λ x. absurd (cc); clear = λ x. refl; held = λ x. a.held refl }
 reset-in false state.ErrorStop e h a = record { stopped = λ x. absurd (cc); clear = λ x. refl; held = λ x. a.held refl }
 reset-in true _ e h a = record { stopped = λ x. absurd (cc); clear = λ x. refl; held = a.held }
@@ -259,20 +259,20 @@ reset-shown None input a h = h
 reset-shown (Some p) input a h =
     elim (may_reset input a) as (λ b. IsShown (if b then after_reset a else a)) [ true ↦ reset-in a.driven a.state a.error a.hold h | false ↦ h ]
 
-pub cycled-shown : (look : AxisLook) (c : Core) → IsShown c.axis → IsShown (cycled look c).axis
-unfolding cycled
+pub cycled-shown : (look : AxisLook) (c : Core) → IsShown c.axis → IsShown (core_after_cycle look c).axis
+unfolding core_after_cycle
 cycled-shown look c h =
-    let ran = run look (is_driven c.axis look.input) (answered look.input c) in
-    reset-shown ran.axis.reset look.input ran.axis (run-shown look (is_driven c.axis look.input) (answered look.input c) (answered-shown look.input c h))
+    let ran = core_after_step look (is_driven c.axis look.input) (core_after_answer look.input c) in
+    reset-shown ran.axis.reset look.input ran.axis (run-shown look (is_driven c.axis look.input) (core_after_answer look.input c) (answered-shown look.input c h))
 
 -- a command joins the others
-joined-shown : (w : Wanted) (c : Core) → is_error_stop c.axis.state ≡ false → IsShown c.axis → IsShown (joined w c).axis
+joined-shown : (w : Wanted) (c : Core) → is_error_stop c.axis.state ≡ false → IsShown c.axis → IsShown (core_after_joining w c).axis
 joined-shown w c f h =
-    elim (is_active_at_once (queue_in c) w) as (λ b. IsShown (if b then record (queued w c) { axis = begun w (queued w c).axis } else queued w c).axis)
+    elim (is_active_at_once (queue_in c) w) as (λ b. IsShown (if b then record (queued w c) { axis = axis_under w (queued w c).axis } else queued w c).axis)
     [ true ↦ begun-shown w (queued w c).axis f h | false ↦ h ]
 
 left-gear-shown : (w : Wanted) (c : Core) → is_error_stop c.axis.state ≡ false → IsShown c.axis → IsShown (left w c).axis
-unfolding begun_by
+unfolding axis_under_by
 left-gear-shown w c f h = record { stopped = λ x. absurd (cc); clear = λ x. h.clear f; held = λ x. refl }
 
 -- a command that is not a Reset is refused in ErrorStop
@@ -314,31 +314,31 @@ commanded-shown q c same m h =
     ] refl
 
 -- power that is off ends no error
-pub powered-shown : (enable : Bool) (c : Core) → IsShown c.axis → IsShown (powered_by enable c).axis
-unfolding powered_by
+pub powered-shown : (enable : Bool) (c : Core) → IsShown c.axis → IsShown (core_after_power enable c).axis
+unfolding core_after_power
 powered-shown true c h = h
 powered-shown false c h =
     let wished : Core = record c { axis = record c.axis { power = false; was_off = true } } in
-    elim (is_error_stop c.axis.state) as (λ b. is_error_stop c.axis.state ≡ b → IsShown (if b then wished else disabled wished).axis) [
+    elim (is_error_stop c.axis.state) as (λ b. is_error_stop c.axis.state ≡ b → IsShown (if b then wished else core_after_disabling wished).axis) [
       | true ↦ λ e. h
       | false ↦ λ e. record { stopped = λ x. absurd (cc); clear = λ x. h.clear e; held = λ x. refl }
     ] refl
 
-pub detached-shown : (owner : ℕ) (a : Axis) → IsShown a → IsShown (detached owner a)
-unfolding detached
+pub detached-shown : (owner : ℕ) (a : Axis) → IsShown a → IsShown (axis_without_owner owner a)
+unfolding axis_without_owner
 detached-shown owner a h = record { stopped = h.stopped; clear = h.clear; held = λ x. ap (without owner) (h.held x) }
 
-path-in : (on : Bool) (s : AxisState) (e : ℕ) (h : Option ℕ) → AreShown s e h → AreShown (on_path_from on s) e h
+path-in : (on : Bool) (s : AxisState) (e : ℕ) (h : Option ℕ) → AreShown s e h → AreShown (state_on_path on s) e h
 path-in true state.Standstill e h a = record { stopped = a.stopped; clear = a.clear; held = a.held }
 path-in false state.SynchronizedMotion e h a = record { stopped = a.stopped; clear = a.clear; held = a.held }
 path-in _ _ e h a = a
 
-pub on_path-shown : (on : Bool) (a : Axis) → IsShown a → IsShown (on_path on a)
-unfolding on_path
+pub on_path-shown : (on : Bool) (a : Axis) → IsShown a → IsShown (axis_on_path on a)
+unfolding axis_on_path
 on_path-shown on a h = path-in on a.state a.error a.hold h
 
-pub opened-shown : (d : AxisDef) → IsShown (opened d)
-unfolding opened
+pub opened-shown : (d : AxisDef) → IsShown (axis_at_opening d)
+unfolding axis_at_opening
 opened-shown d = record {
   stopped = elim d.ready as (λ b. is_error_stop (if b then state.Standstill else state.Disabled) ≡ true → IsAxisError 0) [ true ↦ λ x. absurd (cc) | false ↦ λ x. absurd (cc) ];
   clear = λ x. refl;

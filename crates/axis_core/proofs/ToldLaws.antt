@@ -11,10 +11,10 @@ use Rattle.command_pool.specs.declared.kind.BlockKind.{BlockKind}
 use Rattle.command_pool.specs.declared.kind.BlockKind.TheVariants as kind
 use Rattle.command_pool.specs.declared.notes.Note.{Note}
 use Rattle.command_pool.specs.declared.wanted.Wanted.{Wanted}
-use Rattle.axis_core.specs.Calls.{admitted_by, commanded, commanded_by, disabled, powered_by, queue_in, queued}
-use Rattle.axis_core.specs.Cores.{Core, begun, ended, ended_by, failed, taken_over, taken_over_by}
-use Rattle.axis_core.specs.Cycles.{advanced, answered, cycled, gone_on, moved, run}
-use Rattle.axis_core.specs.Drives.{answer_error_of, is_driven, standing}
+use Rattle.axis_core.specs.Calls.{admitted_by, commanded, commanded_by, core_after_disabling, core_after_power, queue_in, queued}
+use Rattle.axis_core.specs.Cores.{Core, axis_under, core_after_end, core_after_ending, core_after_error, core_after_take_over, core_taken_by}
+use Rattle.axis_core.specs.Cycles.{advance_in_cycle, core_after_answer, core_after_cycle, core_after_going_on, core_after_advance, core_after_step}
+use Rattle.axis_core.specs.Drives.{answer_error_of, is_driven, axis_at_drive}
 use Rattle.axis_core.specs.Fates.{Fate, admitted_fate, asked_fate, command_fate, cycle_fate, ending_fate, goes_on, is_blended, moved_fate, power_fate, replaced, taker_of}
 use Rattle.axis_core.specs.Owners.{TellsOwner, owner_by}
 use Rattle.motion_numbers.specs.Ranges.{is_outside}
@@ -60,34 +60,34 @@ tells-grow : (f : Fate) (active : Option Wanted) (before after : List Note) → 
 tells-grow f active before after grow h owner g e o = grow (record { owner = owner; finish = g }) (h owner g e o)
 
 -- what an error tells
-failed-notes : (n : ℕ) (c : Core) → Grow (active_note (finish.Error n) c.axis.active) (failed n c).notes
-unfolding failed
+failed-notes : (n : ℕ) (c : Core) → Grow (active_note (finish.Error n) c.axis.active) (core_after_error n c).notes
+unfolding core_after_error
 failed-notes n c x h =
     Contains-append_right c.notes (end_notes (finish.Error n) (record { active = c.axis.active; waiting = c.waiting })) x
     (Contains-append_left (active_note (finish.Error n) c.axis.active) (notes_of finish.Aborted c.waiting) x h)
 
-failed-grow : (n : ℕ) (c : Core) → Grow c.notes (failed n c).notes
-unfolding failed
+failed-grow : (n : ℕ) (c : Core) → Grow c.notes (core_after_error n c).notes
+unfolding core_after_error
 failed-grow n c x h = Contains-append_left c.notes _ x h
 
 from-grow : (b : Bool) (w : Wanted) (t : ℤ) (c : Core) →
-    Grow c.notes (if b then failed 106 (record c { axis = record c.axis { active = Some w } }) else record c { axis = begun (with_target (Some t) w) c.axis }).notes
+    Grow c.notes (if b then core_after_error 106 (record c { axis = record c.axis { active = Some w } }) else record c { axis = axis_under (with_target (Some t) w) c.axis }).notes
 from-grow true w t c = failed-grow 106 (record c { axis = record c.axis { active = Some w } })
 from-grow false w t c = λ x h. h
 
-over-grow : (k : BlockKind) (t : Option ℤ) (w : Wanted) (c : Core) → Grow c.notes (taken_over_by k t w c).notes
+over-grow : (k : BlockKind) (t : Option ℤ) (w : Wanted) (c : Core) → Grow c.notes (core_taken_by k t w c).notes
 over-grow kind.MoveRelative None w c = from-grow (is_outside c.axis.limits.lo (c.axis.setpoint +ℤ position_of w) c.axis.limits.hi) w (c.axis.setpoint +ℤ position_of w) c
 over-grow kind.MoveRelative (Some t) w c = λ x h. h
 over-grow _ t w c = λ x h. h
 
-taken-grow : (ws : List Wanted) (c : Core) → Grow c.notes (taken_over ws c).notes
+taken-grow : (ws : List Wanted) (c : Core) → Grow c.notes (core_after_take_over ws c).notes
 taken-grow [] c = λ x h. h
 taken-grow (w ∷ ws) c = over-grow w.kind w.target w (record c { waiting = ws })
 
 -- what an end tells
 end-tells : (blends : Bool) (f : Finish) (next active : Option Wanted) (c : Core) → c.axis.active ≡ active →
-    TellsOwner (record { ends = Some f; begins = next; blends = blends }) active (ended f c).notes
-unfolding ended
+    TellsOwner (record { ends = Some f; begins = next; blends = blends }) active (core_after_end f c).notes
+unfolding core_after_end
 end-tells blends f next active c s = tells (record { ends = Some f; begins = next; blends = blends }) active _ (λ g e x h.
     let same : g ≡ f = cc in
     let own : Contains (active_note f c.axis.active) x = (let P : Finish → Option Wanted → Type 0 = λ y o. Contains (active_note y o) x in
@@ -95,52 +95,52 @@ end-tells blends f next active c s = tells (record { ends = Some f; begins = nex
     taken-grow c.waiting _ x (Contains-append_right c.notes (active_note f c.axis.active) x own))
 
 error-tells : (n : ℕ) (active : Option Wanted) (c : Core) → c.axis.active ≡ active →
-    TellsOwner (record { ends = Some (finish.Error n); begins = None; blends = false }) active (failed n c).notes
+    TellsOwner (record { ends = Some (finish.Error n); begins = None; blends = false }) active (core_after_error n c).notes
 error-tells n active c s = tells (record { ends = Some (finish.Error n); begins = None; blends = false }) active _ (λ g e.
     let same : g ≡ finish.Error n = cc in
-    let P : Finish → Type 0 = λ y. Grow (active_note y active) (failed n c).notes in
-    let Q : Option Wanted → Type 0 = λ o. Grow (active_note (finish.Error n) o) (failed n c).notes in
+    let P : Finish → Type 0 = λ y. Grow (active_note y active) (core_after_error n c).notes in
+    let Q : Option Wanted → Type 0 = λ o. Grow (active_note (finish.Error n) o) (core_after_error n c).notes in
     subst P (sym same) (subst Q s (failed-notes n c)))
 
 ended-tells : (blends : Bool) (e : Option Finish) (active : Option Wanted) (c : Core) → c.axis.active ≡ active →
-    TellsOwner (ending_fate blends e c.waiting c.axis) active (ended_by e c).notes
+    TellsOwner (ending_fate blends e c.waiting c.axis) active (core_after_ending e c).notes
 ended-tells blends None active c s = tells-none active blends c.notes
 ended-tells blends (Some (finish.Error n)) active c s = error-tells n active c s
 ended-tells blends (Some finish.Done) active c s = end-tells blends finish.Done (taker_of c.waiting c.axis) active c s
 ended-tells blends (Some finish.Aborted) active c s = end-tells blends finish.Aborted (taker_of c.waiting c.axis) active c s
 
-moved-tells : (look : AxisLook) (c : Core) → TellsOwner (moved_fate look c) c.axis.active (moved look c).notes
+moved-tells : (look : AxisLook) (c : Core) → TellsOwner (moved_fate look c) c.axis.active (core_after_advance look c).notes
 moved-tells look c =
-    let step = advanced (slice_get c.waiting 0) look c.axis in
+    let step = advance_in_cycle (slice_get c.waiting 0) look c.axis in
     ended-tells (is_blended c.axis.active c) step.ending c.axis.active (record c { axis = step.axis }) (advances (slice_get c.waiting 0) look c.axis).same
 
 run-tells : (b driven : Bool) (look : AxisLook) (c : Core) →
-    TellsOwner (if b then moved_fate look c else goes_on) c.axis.active (if b then gone_on look c else record c { axis = standing driven look.input c.axis }).notes
+    TellsOwner (if b then moved_fate look c else goes_on) c.axis.active (if b then core_after_going_on look c else record c { axis = axis_at_drive driven look.input c.axis }).notes
 run-tells true driven look c = moved-tells look c
 run-tells false driven look c = tells-none c.axis.active false c.notes
 
-failed-moved : (n : ℕ) (look : AxisLook) (c : Core) → (moved look (failed n c)).notes ≡ (failed n c).notes
-unfolding failed advanced
+failed-moved : (n : ℕ) (look : AxisLook) (c : Core) → (core_after_advance look (core_after_error n c)).notes ≡ (core_after_error n c).notes
+unfolding core_after_error advance_in_cycle
 failed-moved n look c = refl
 
 failed-run : (b driven : Bool) (n : ℕ) (look : AxisLook) (c : Core) →
-    (if b then gone_on look (failed n c) else record (failed n c) { axis = standing driven look.input (failed n c).axis }).notes ≡ (failed n c).notes
+    (if b then core_after_going_on look (core_after_error n c) else record (core_after_error n c) { axis = axis_at_drive driven look.input (core_after_error n c).axis }).notes ≡ (core_after_error n c).notes
 failed-run true driven n look c = failed-moved n look c
 failed-run false driven n look c = refl
 
 answered-tells : (b : Bool) (n : ℕ) (driven : Bool) (look : AxisLook) (c : Core) →
     TellsOwner (if b then (if driven && c.axis.driven then moved_fate look c else goes_on) else replaced (finish.Error n) c.axis.active None)
-    c.axis.active (run look driven (if b then c else failed n c)).notes
+    c.axis.active (core_after_step look driven (if b then c else core_after_error n c)).notes
 answered-tells true n driven look c = run-tells (driven && c.axis.driven) driven look c
 answered-tells false n driven look c =
     let P : List Note → Type 0 = TellsOwner (replaced (finish.Error n) c.axis.active None) c.axis.active in
-    subst P (sym (failed-run (driven && (failed n c).axis.driven) driven n look c)) (tells-replaced (finish.Error n) c.axis.active None _ (failed-notes n c))
+    subst P (sym (failed-run (driven && (core_after_error n c).axis.driven) driven n look c)) (tells-replaced (finish.Error n) c.axis.active None _ (failed-notes n c))
 
 -- a cycle tells the owner of the active command how it ends
-pub cycled-tells : (look : AxisLook) (c : Core) → TellsOwner (cycle_fate look c) c.axis.active (cycled look c).notes
-unfolding cycle_fate cycled
+pub cycled-tells : (look : AxisLook) (c : Core) → TellsOwner (cycle_fate look c) c.axis.active (core_after_cycle look c).notes
+unfolding cycle_fate core_after_cycle
 cycled-tells look c =
-    let after = run look (is_driven c.axis look.input) (answered look.input c) in
+    let after = core_after_step look (is_driven c.axis look.input) (core_after_answer look.input c) in
     tells-grow (cycle_fate look c) c.axis.active after.notes _ (grow-more after.notes (reset_notes after.axis.reset look.input after.axis))
     (answered-tells (nat_eq (answer_error_of c.axis look.input) 0) (answer_error_of c.axis look.input) (is_driven c.axis look.input) look c)
 
@@ -159,7 +159,7 @@ joined-notes false (Some w) c s h = absurd (cc)
 
 joined-tells : (b : Bool) (w : Wanted) (c : Core) → is_active_at_once (queue_in c) w ≡ b →
     TellsOwner (if b then replaced finish.Aborted c.axis.active (Some w) else goes_on) c.axis.active
-    (if b then record (queued w c) { axis = begun w (queued w c).axis } else queued w c).notes
+    (if b then record (queued w c) { axis = axis_under w (queued w c).axis } else queued w c).notes
 joined-tells true w c h = tells-replaced finish.Aborted c.axis.active (Some w) _ (joined-notes (is_aborting w.mode) c.axis.active c refl h)
 joined-tells false w c h = tells-none c.axis.active false _
 
@@ -178,11 +178,11 @@ pub commanded-tells : (q : Asked) (c : Core) → TellsOwner (command_fate q c) c
 unfolding command_fate commanded
 commanded-tells q c = asked-tells (refusal_of q) q.wanted c
 
-pub powered-tells : (enable : Bool) (c : Core) → TellsOwner (power_fate enable c) c.axis.active (powered_by enable c).notes
-unfolding power_fate powered_by
+pub powered-tells : (enable : Bool) (c : Core) → TellsOwner (power_fate enable c) c.axis.active (core_after_power enable c).notes
+unfolding power_fate core_after_power
 powered-tells true c = tells-none c.axis.active false c.notes
 powered-tells false c =
     let wished : Core = record c { axis = record c.axis { power = false; was_off = true } } in
-    both-ways (is_error_stop c.axis.state) goes_on (replaced finish.Aborted c.axis.active None) wished (disabled wished)
+    both-ways (is_error_stop c.axis.state) goes_on (replaced finish.Aborted c.axis.active None) wished (core_after_disabling wished)
     (λ (f : Fate) (d : Core). TellsOwner f c.axis.active d.notes) (tells-none c.axis.active false c.notes)
     (tells-replaced finish.Aborted c.axis.active None _ (aborted-notes c finish.Aborted))

@@ -1,4 +1,5 @@
--- Commands that come to their end in time, and what turns them (PLCopen Motion Control Part 1, Done).
+-- Commands that come to their end in time, and what turns them (PLCopen Motion Control Part 1,
+-- Done).
 use Rattle.std.specs.Prelude.{◌≡◌, ◌⊎◌, ℕ, ◌+◌, ◌/◌, ◌≤◌, Bool, true, false, ℤ, pos, ◌-ℤ◌, ◌≤ℤ◌, unsigned_abs, Option, Some, None}
 use Rattle.command_pool.specs.declared.ending.Finish.{Finish}
 use Rattle.command_pool.specs.declared.ending.Finish.TheVariants as finish
@@ -14,7 +15,8 @@ use Rattle.axis_core.specs.blocks.Moves.{target_of}
 use Rattle.axis_core.specs.declared.axis.Axis.{Axis}
 use Rattle.axis_core.specs.declared.blocks.moves.SecondMove.{SecondMove}
 
--- where a command leads that comes to an end by itself: to a target by some rates, or to rest by a deceleration
+-- where a command leads that comes to an end by itself: to a target by some rates, or to rest by a
+-- deceleration
 pub data Course : Type 0 where
   toward : ℤ → Rates → Course
   slowing : ℤ → Course
@@ -58,7 +60,8 @@ turn_by false (Some f) = Some (ended f)
 abbrev pub turn_of : Fate → Option Turn
 turn_of f = turn_by f.blends f.ends
 
--- what a turn says of the axis: Done, that it is at the end of its course; of a command that is replaced, faulted or blended, nothing
+-- what a turn says of the axis: Done, that it is at the end of its course; of a command that is
+-- replaced, faulted or blended, nothing
 abbrev pub IsTurn : Turn → Course → Axis → Type 0
 IsTurn (ended finish.Done) course a = IsAtEnd course a
 IsTurn (ended finish.Aborted) course a = Unit {0}
@@ -83,12 +86,14 @@ abbrev pub Carried : ℕ → ℕ → Course → Option Turn → Axis → Type 0
 Carried n c course (Some t) a = (c ≤ n) × IsTurn t course a
 Carried n c course None a = GoesOn n c course a
 
--- a step crosses a place, by at most this velocity: the place lies between the two setpoints, both counted. This project's profile
+-- a step crosses a place, by at most this velocity: the place lies between the two setpoints, both
+-- counted. This project's profile
 pub record Crosses (velocity place before now : ℤ) : Type 0 where
   pub speed : pos (unsigned_abs (now -ℤ before)) ≤ℤ velocity
   pub between : ((before ≤ℤ place) × (place ≤ℤ now)) ⊎ ((now ≤ℤ place) × (place ≤ℤ before))
 
--- where a move is done: at rest at its target, or, where it is blended, by a step that crosses it by at most the blend velocity
+-- where a move is done: at rest at its target, or, where it is blended, by a step that crosses it
+-- by at most the blend velocity
 abbrev pub IsMoveDone : Option SecondMove → ℤ → ℤ → Axis → Type 0
 IsMoveDone None target before a = (a.setpoint ≡ target) × (a.previous ≡ target)
 IsMoveDone (Some s) target before a = Crosses s.velocity target before a.setpoint ⊎ ((a.setpoint ≡ target) × (a.previous ≡ target))

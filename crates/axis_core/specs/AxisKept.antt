@@ -26,7 +26,8 @@ pub record AreRampsWithin (l : Limits) (w : Wanted) : Type 0 where
   pub acceleration : IsBetween (pos 1) w.rates.a l.amax
   pub deceleration : IsBetween (pos 1) w.rates.d l.dmax
 
--- a move with rates within the limits. PLCopen Motion Control Part 1, MC_MoveAbsolute, MC_MoveRelative and MC_CamIn
+-- a move with rates within the limits. PLCopen Motion Control Part 1, MC_MoveAbsolute,
+-- MC_MoveRelative and MC_CamIn
 pub record AreRatesWithin (l : Limits) (w : Wanted) : Type 0 where
   pub velocity : IsBetween (pos 1) w.rates.v l.vmax
   pub ramps : AreRampsWithin l w
@@ -36,31 +37,36 @@ pub record IsVelocityWithin (l : Limits) (w : Wanted) : Type 0 where
   pub velocity : IsBetween (neg_ℤ l.vmax) w.rates.v l.vmax
   pub ramps : AreRampsWithin l w
 
--- a gear with rates within the limits and a ratio in its range. PLCopen Motion Control Part 1, MC_GearIn
+-- a gear with rates within the limits and a ratio in its range. PLCopen Motion Control Part 1,
+-- MC_GearIn
 pub record IsGearWithin (l : Limits) (w : Wanted) : Type 0 where
   pub ramps : AreRampsWithin l w
   pub gear : IsGear w.follow
 
--- a move with rates within the limits to a fixed target within them. PLCopen Motion Control Part 1, MC_MoveAbsolute and MC_MoveRelative
+-- a move with rates within the limits to a fixed target within them. PLCopen Motion Control Part 1,
+-- MC_MoveAbsolute and MC_MoveRelative
 pub record IsMoveWithin (l : Limits) (w : Wanted) : Type 0 where
   pub rates : AreRatesWithin l w
   pub target : ℤ
   pub fixed : w.target ≡ Some target
   pub within : IsBetween l.lo target l.hi
 
--- a move relative to where it begins, with rates within the limits; where its target is fixed, that lies within them. PLCopen Motion Control Part 1, MC_MoveRelative
+-- a move relative to where it begins, with rates within the limits; where its target is fixed, that
+-- lies within them. PLCopen Motion Control Part 1, MC_MoveRelative
 pub record IsRelativeWithin (l : Limits) (w : Wanted) : Type 0 where
   pub rates : AreRatesWithin l w
   pub within : (t : ℤ) → w.target ≡ Some t → IsBetween l.lo t l.hi
 
--- a Home to a position within the limits, where the axis has counts. PLCopen Motion Control Part 1, MC_Home
+-- a Home to a position within the limits, where the axis has counts. PLCopen Motion Control Part 1,
+-- MC_Home
 pub record IsHomeWithin (l : Limits) (inc offset setpoint : ℤ) (w : Wanted) : Type 0 where
   pub target : ℤ
   pub fixed : w.target ≡ Some target
   pub within : IsBetween l.lo target l.hi
   pub counts : HasCounts l (offset +ℤ (target -ℤ setpoint)) inc
 
--- the numbers of a command are within the limits, as its kind asks; the target of a MoveRelative may not be fixed yet. PLCopen Motion Control Part 1
+-- the numbers of a command are within the limits, as its kind asks; the target of a MoveRelative
+-- may not be fixed yet. PLCopen Motion Control Part 1
 abbrev pub AreNumbers : BlockKind → Limits → Wanted → Type 0
 AreNumbers kind.MoveAbsolute l w = IsMoveWithin l w
 AreNumbers kind.MoveRelative l w = IsRelativeWithin l w
@@ -71,7 +77,8 @@ AreNumbers kind.Halt l w = IsBetween (pos 1) w.rates.d l.dmax
 AreNumbers kind.Stop l w = IsBetween (pos 1) w.rates.d l.dmax
 AreNumbers k l w = Unit {0}
 
--- what an active command has besides: a MoveRelative a fixed target, a Home a place for it. PLCopen Motion Control Part 1, MC_MoveRelative and MC_Home
+-- what an active command has besides: a MoveRelative a fixed target, a Home a place for it. PLCopen
+-- Motion Control Part 1, MC_MoveRelative and MC_Home
 abbrev pub IsReady : BlockKind → Limits → ℤ → ℤ → ℤ → Wanted → Type 0
 IsReady kind.MoveRelative l inc offset setpoint w = IsMoveWithin l w
 IsReady kind.Home l inc offset setpoint w = IsHomeWithin l inc offset setpoint w
@@ -89,7 +96,8 @@ fits state.Stopping kind.Stop = true
 fits state.Homing kind.Home = true
 fits s k = false
 
--- an active command fits the state, and its numbers are within the limits. PLCopen Motion Control Part 1, the state diagram
+-- an active command fits the state, and its numbers are within the limits. PLCopen Motion Control
+-- Part 1, the state diagram
 pub record IsActive (s : AxisState) (l : Limits) (inc offset setpoint : ℤ) (w : Wanted) : Type 0 where
   pub fitting : fits s w.kind ≡ true
   pub numbers : AreNumbers w.kind l w
@@ -101,12 +109,14 @@ pub record IsRunning (driven powered : Bool) : Type 0 where
   pub on : driven ≡ true
   pub power : powered ≡ true
 
--- an axis that is Disabled has no command, and is still driven only until the cycle after a Power call with Enable false. PLCopen Motion Control Part 1, the state diagram
+-- an axis that is Disabled has no command, and is still driven only until the cycle after a Power
+-- call with Enable false. PLCopen Motion Control Part 1, the state diagram
 pub record IsOff (driven was_off : Bool) (active : Option Wanted) : Type 0 where
   pub idle : active ≡ None
   pub off : driven ≡ true → was_off ≡ true
 
--- an axis in Standstill is driven, has step 0 and no command. PLCopen Motion Control Part 1, the state diagram
+-- an axis in Standstill is driven, has step 0 and no command. PLCopen Motion Control Part 1, the
+-- state diagram
 pub record IsStanding (driven powered : Bool) (previous setpoint : ℤ) (active : Option Wanted) : Type 0 where
   pub running : IsRunning driven powered
   pub stands : previous ≡ setpoint
@@ -133,12 +143,14 @@ pub record IsPlaced (previous setpoint : ℤ) : Type 0 where
   pub stands : previous ≡ setpoint
   pub small : unsigned_abs setpoint ≤ MOST_SETPOINT
 
--- the setpoints can be stopped within the limits while the axis is driven, and are the drive's place while it is not. This project's profile
+-- the setpoints can be stopped within the limits while the axis is driven, and are the drive's
+-- place while it is not. This project's profile
 abbrev pub IsSet : Bool → Limits → ℤ → ℤ → Type 0
 IsSet true l previous setpoint = IsKept l previous setpoint
 IsSet false l previous setpoint = IsPlaced previous setpoint
 
--- the numbers of an axis are in their ranges, its places have counts, and its setpoints are where they may be. This project's profile
+-- the numbers of an axis are in their ranges, its places have counts, and its setpoints are where
+-- they may be. This project's profile
 pub record IsBased (l : Limits) (inc offset previous setpoint : ℤ) (driven : Bool) : Type 0 where
   pub limits : AreLimits l
   pub top : l.hi ≤ℤ pos MOST_PLACE
@@ -154,7 +166,8 @@ pub record IsAxisKept (a : Axis) : Type 0 where
   pub state : IsInState a.state a.driven (is_powered a) a.was_off a.previous a.setpoint a.active
   pub active : (w : Wanted) → a.active ≡ Some w → IsActive a.state a.limits a.inc a.offset a.setpoint w
 
--- a command that waits: its kind takes a mode, and its numbers are within the limits. PLCopen Motion Control Part 1, BufferMode
+-- a command that waits: its kind takes a mode, and its numbers are within the limits. PLCopen
+-- Motion Control Part 1, BufferMode
 pub record IsWaiting (l : Limits) (w : Wanted) : Type 0 where
   pub waits : may_wait w.kind ≡ true
   pub numbers : AreNumbers w.kind l w
@@ -166,7 +179,8 @@ abbrev pub AreWaiting : Limits → List Wanted → Type 0
 AreWaiting l [] = Unit {0}
 AreWaiting l (w ∷ ws) = IsWaiting l w × AreWaiting l ws
 
--- commands may wait in a state in which a command that moves the axis is active. PLCopen Motion Control Part 1, BufferMode
+-- commands may wait in a state in which a command that moves the axis is active. PLCopen Motion
+-- Control Part 1, BufferMode
 abbrev pub MayQueue : AxisState → Option Wanted → Type 0
 MayQueue state.DiscreteMotion (Some w) = Unit {0}
 MayQueue state.ContinuousMotion (Some w) = Unit {0}
@@ -179,7 +193,8 @@ pub record IsCoreKept (c : Core) : Type 0 where
   pub waiting : AreWaiting c.axis.limits c.waiting
   pub queue : (c.waiting ≡ []) ⊎ MayQueue c.axis.state c.axis.active
 
--- an axis may be opened: its numbers are in their ranges, and it starts within its limits. This project's profile
+-- an axis may be opened: its numbers are in their ranges, and it starts within its limits. This
+-- project's profile
 pub record IsAxisDef (d : AxisDef) : Type 0 where
   pub limits : AreLimits d.limits
   pub top : d.limits.hi ≤ℤ pos MOST_PLACE
@@ -188,14 +203,17 @@ pub record IsAxisDef (d : AxisDef) : Type 0 where
   pub counts : HasCounts d.limits (pos 0) d.inc
   pub start : IsBetween d.limits.lo d.start d.limits.hi
 
--- what a cycle brings is in its range: the cam's position is near, and an axis on its group's path is given a place that is safe after its setpoints, and is its setpoint where the path ends. This project's profile
+-- what a cycle brings is in its range: the cam's position is near, and an axis on its group's path
+-- is given a place that is safe after its setpoints, and is its setpoint where the path ends. This
+-- project's profile
 pub record IsLook (a : Axis) (look : AxisLook) : Type 0 where
   pub cam : IsNear look.cam
   pub place : is_on_path a ≡ true → (place : ℤ) → look.path ≡ Some place → IsSafe a.limits a.previous a.setpoint place
   pub given : is_on_path a ≡ true → look.path ≡ None → ⊥
   pub ends : is_on_path a ≡ true → (place : ℤ) → look.path ≡ Some place → look.path_ends ≡ true → place ≡ a.setpoint
 
--- the commands that wait for an axis: their numbers are within its limits, and they wait where commands may. PLCopen Motion Control Part 1, BufferMode
+-- the commands that wait for an axis: their numbers are within its limits, and they wait where
+-- commands may. PLCopen Motion Control Part 1, BufferMode
 pub record IsQueueKept (a : Axis) (waiting : List Wanted) : Type 0 where
   pub numbers : AreWaiting a.limits waiting
   pub place : (waiting ≡ []) ⊎ MayQueue a.state a.active

@@ -1,4 +1,5 @@
--- What a command on an axis, a Power and a detachment make of the axis (PLCopen Motion Control Part 1).
+-- What a command on an axis, a Power and a detachment make of the axis (PLCopen Motion Control Part
+-- 1).
 use Rattle.std.specs.Prelude.{ℕ, Bool, true, false, if◌then◌else◌, Option, Some, None, Result, Ok, Err, ◌++◌}
 use Rattle.buffer_modes.specs.Queue.{Commands, admitted, noted, is_active_at_once}
 use Rattle.command_pool.specs.Waiting.{last_of, without}
@@ -7,13 +8,13 @@ use Rattle.command_pool.specs.declared.ending.Refusal.{Refusal}
 use Rattle.command_pool.specs.declared.kind.BlockKind.{BlockKind}
 use Rattle.command_pool.specs.declared.kind.BlockKind.TheVariants as kind
 use Rattle.command_pool.specs.declared.wanted.Wanted.{Wanted}
-use Rattle.axis_core.specs.Cores.{Core, all_ended, begun, begun_by}
+use Rattle.axis_core.specs.Cores.{Core, core_after_all_ends, axis_under, axis_under_by}
 use Rattle.axis_core.specs.Refusals.{Asked, number_of, refusal_of}
 use Rattle.axis_core.specs.States.{is_error_stop}
 use Rattle.axis_core.specs.blocks.Gear.{out_event, velocity_command}
 use Rattle.axis_core.specs.blocks.Moves.{known_target_of, with_target}
 use Rattle.axis_core.specs.blocks.Reset.{replaced_note, reset_pending}
-use Rattle.axis_core.specs.blocks.Power.{power_wished, switched_off}
+use Rattle.axis_core.specs.blocks.Power.{axis_with_wish, axis_without_power}
 use Rattle.axis_core.specs.declared.axis.Axis.{Axis}
 use Rattle.axis_core.specs.declared.axis.PendingReset.{PendingReset}
 use Rattle.axis_core.specs.declared.reason.Reason.{Reason}
@@ -22,11 +23,12 @@ use Rattle.axis_core.specs.declared.reason.Reason.{Reason}
 abbrev pub awaited : Wanted → Core → Core
 awaited w c = record c { axis = reset_pending w c.axis; notes = c.notes ++ replaced_note c.axis.reset }
 
--- the gear or the cam is left: its commands are aborted, and a velocity command goes on. MC_GearOut and MC_CamOut
+-- the gear or the cam is left: its commands are aborted, and a velocity command goes on. MC_GearOut
+-- and MC_CamOut
 abbrev pub left : Wanted → Core → Core
 left w c =
-    let aborted = all_ended finish.Aborted c in
-    record aborted { axis = begun_by (Some out_event) (velocity_command w c.axis) aborted.axis }
+    let aborted = core_after_all_ends finish.Aborted c in
+    record aborted { axis = axis_under_by (Some out_event) (velocity_command w c.axis) aborted.axis }
 
 -- the axis's active command and those that wait
 abbrev pub queue_in : Core → Commands
@@ -41,17 +43,17 @@ queued w c = record {
 }
 
 -- a command joins the others, and may be active at once. BufferMode
-abbrev pub joined : Wanted → Core → Core
-joined w c =
+abbrev pub core_after_joining : Wanted → Core → Core
+core_after_joining w c =
     let after = queued w c in
-    if is_active_at_once (queue_in c) w then record after { axis = begun w after.axis } else after
+    if is_active_at_once (queue_in c) w then record after { axis = axis_under w after.axis } else after
 
 -- a command that is not refused, with its target as far as it is known
 abbrev pub admitted_by : BlockKind → Wanted → Core → Core
 admitted_by kind.Reset w c = awaited w c
 admitted_by kind.GearOut w c = left w c
 admitted_by kind.CamOut w c = left w c
-admitted_by k w c = joined w c
+admitted_by k w c = core_after_joining w c
 
 -- whether a command that is not refused is active after its call
 abbrev pub is_active_by : BlockKind → Wanted → Core → Bool
@@ -76,16 +78,17 @@ answer_by (Some reason) w c = Err (record { number = number_of reason })
 unfoldable pub answer_of : Asked → Core → Result Bool Refusal
 answer_of q c = answer_by (refusal_of q) q.wanted c
 
--- power is off: an axis that is not in ErrorStop is Disabled, and its commands are aborted. MC_Power
-abbrev pub disabled : Core → Core
-disabled c = let aborted = all_ended finish.Aborted c in record aborted { axis = switched_off aborted.axis }
+-- power is off: an axis that is not in ErrorStop is Disabled, and its commands are aborted.
+-- MC_Power
+abbrev pub core_after_disabling : Core → Core
+core_after_disabling c = let aborted = core_after_all_ends finish.Aborted c in record aborted { axis = axis_without_power aborted.axis }
 
 -- what a Power makes of the axis. MC_Power
-unfoldable pub powered_by : Bool → Core → Core
-powered_by true c = record c { axis = power_wished true c.axis }
-powered_by false c =
-    let wished = record c { axis = power_wished false c.axis } in
-    if is_error_stop c.axis.state then wished else disabled wished
+unfoldable pub core_after_power : Bool → Core → Core
+core_after_power true c = record c { axis = axis_with_wish true c.axis }
+core_after_power false c =
+    let wished = record c { axis = axis_with_wish false c.axis } in
+    if is_error_stop c.axis.state then wished else core_after_disabling wished
 
 -- an instance loses its active command, its pending Reset and its hold
 abbrev pub active_without : ℕ → Option Wanted → Option Wanted
@@ -96,5 +99,5 @@ abbrev pub reset_without : ℕ → Option PendingReset → Option PendingReset
 reset_without owner None = None
 reset_without owner (Some p) = Some (record { owner = without owner p.owner })
 
-unfoldable pub detached : ℕ → Axis → Axis
-detached owner a = record a { active = active_without owner a.active; reset = reset_without owner a.reset; hold = without owner a.hold }
+unfoldable pub axis_without_owner : ℕ → Axis → Axis
+axis_without_owner owner a = record a { active = active_without owner a.active; reset = reset_without owner a.reset; hold = without owner a.hold }

@@ -1,4 +1,5 @@
--- How an axis changes its state: by rows of the diagram (PLCopen Motion Control Part 1, the state diagram).
+-- How an axis changes its state: by rows of the diagram (PLCopen Motion Control Part 1, the state
+-- diagram).
 use Rattle.std.specs.Prelude.{◌≡◌, ℕ, ◌≤◌, List, [], ◌∷◌, length}
 use Rattle.axis_state.specs.Diagram.{IsFrom, next_of}
 use Rattle.axis_state.specs.declared.diagram.AxisEvent.{AxisEvent}

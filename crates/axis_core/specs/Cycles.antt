@@ -1,4 +1,5 @@
--- The order within a cycle of an axis (PLCopen Motion Control Part 1; the order is this project's profile).
+-- The order within a cycle of an axis (PLCopen Motion Control Part 1; the order is this project's
+-- profile).
 use Rattle.std.specs.Prelude.{ℕ, Bool, false, ◌&&◌, nat_eq, if◌then◌else◌, ℤ, pos, ◌+ℤ◌, Option, Some, None, is_some, ◌++◌, slice_get, Result, Ok, Err}
 use Rattle.axis_state.specs.Counts.{count_of}
 use Rattle.axis_state.specs.declared.definition.AxisDef.{AxisDef}
@@ -14,15 +15,15 @@ use Rattle.command_pool.specs.declared.kind.BlockKind.{BlockKind}
 use Rattle.command_pool.specs.declared.kind.BlockKind.TheVariants as kind
 use Rattle.command_pool.specs.declared.wanted.Wanted.{Wanted}
 use Rattle.kin_core.specs.Toward.{toward_zero}
-use Rattle.axis_core.specs.Cores.{Core, ended_by, failed}
-use Rattle.axis_core.specs.Drives.{answer_error_of, is_driven, standing}
+use Rattle.axis_core.specs.Cores.{Core, core_after_ending, core_after_error}
+use Rattle.axis_core.specs.Drives.{answer_error_of, is_driven, axis_at_drive}
 use Rattle.axis_core.specs.Kinds.{ending_by, is_reached, wish_by}
 use Rattle.axis_core.specs.States.{is_error_stop}
-use Rattle.axis_core.specs.Steps.{moved_to, old_step_of, taken_by, taken_of}
-use Rattle.axis_core.specs.blocks.Halts.{stop_left}
-use Rattle.axis_core.specs.blocks.Home.{homed}
+use Rattle.axis_core.specs.Steps.{axis_after_step, old_step_of, taken_by, taken_of}
+use Rattle.axis_core.specs.blocks.Halts.{axis_after_stop}
+use Rattle.axis_core.specs.blocks.Home.{axis_after_home}
 use Rattle.axis_core.specs.blocks.Moves.{target_of}
-use Rattle.axis_core.specs.blocks.Path.{path_left, place_on_path}
+use Rattle.axis_core.specs.blocks.Path.{axis_after_path, place_on_path}
 use Rattle.axis_core.specs.blocks.Power.{is_powered}
 use Rattle.axis_core.specs.blocks.Reset.{reset_axis, reset_notes}
 use Rattle.axis_core.specs.declared.axis.Axis.{Axis}
@@ -35,86 +36,89 @@ pub record Advance : Type 0 where
   pub ending : Option Finish
 
 -- first the drive's answer is read: an error that it brings ends the commands
-abbrev pub answered : DriveIn → Core → Core
-answered input c = if nat_eq (answer_error_of c.axis input) 0 then c else failed (answer_error_of c.axis input) c
+abbrev pub core_after_answer : DriveIn → Core → Core
+core_after_answer input c = if nat_eq (answer_error_of c.axis input) 0 then c else core_after_error (answer_error_of c.axis input) c
 
 -- the step by which an axis brakes in ErrorStop: by dmax
 abbrev pub braking_step : Axis → ℤ
 braking_step a = taken_of a (toward_zero (old_step_of a) a.limits.dmax)
 
-abbrev pub braked : Axis → Axis
-braked a = moved_to (a.setpoint +ℤ braking_step a) a
+abbrev pub axis_after_braking : Axis → Axis
+axis_after_braking a = axis_after_step (a.setpoint +ℤ braking_step a) a
 
--- what a taken step is to the active command: whether it has reached what it goes for, and how it ends
-abbrev pub progress_with : Axis → Wanted → Option Wanted → AxisLook → Result ℤ ℕ → Result Progress ℕ
-progress_with a w next look (Ok step) =
+-- what a taken step is to the active command: whether it has reached what it goes for, and how it
+-- ends
+abbrev pub progress_by_step : Axis → Wanted → Option Wanted → AxisLook → Result ℤ ℕ → Result Progress ℕ
+progress_by_step a w next look (Ok step) =
     Ok (record { step = step; reached = is_reached w.kind a w step look; ending = ending_by w.kind a w next step look })
-progress_with a w next look (Err n) = Err n
+progress_by_step a w next look (Err n) = Err n
 
--- what the active command does in a cycle: its wish is taken by the safe step nearest to it, or is an error
-abbrev pub progress_of : Axis → Wanted → Option Wanted → AxisLook → Result Progress ℕ
-progress_of a w next look = progress_with a w next look (taken_by a (wish_by w.kind a w next look))
+-- what the active command does in a cycle: its wish is taken by the safe step nearest to it, or is
+-- an error
+abbrev pub progress_in_cycle : Axis → Wanted → Option Wanted → AxisLook → Result Progress ℕ
+progress_in_cycle a w next look = progress_by_step a w next look (taken_by a (wish_by w.kind a w next look))
 
--- the axis after the progress of its active command; a Home moves the coordinate to its position in place of that
-abbrev pub followed : BlockKind → ℤ → Progress → Axis → Axis
-followed kind.Home target p a = homed target a
-followed k target p a = record (moved_to (a.setpoint +ℤ p.step) a) { reached = p.reached }
+-- the axis after the progress of its active command; a Home moves the coordinate to its position in
+-- place of that
+abbrev pub axis_after_progress : BlockKind → ℤ → Progress → Axis → Axis
+axis_after_progress kind.Home target p a = axis_after_home target a
+axis_after_progress k target p a = record (axis_after_step (a.setpoint +ℤ p.step) a) { reached = p.reached }
 
 -- the progress of the active command; where it is an error, the axis brakes in the same cycle
-abbrev pub advanced_by : BlockKind → ℤ → Axis → Result Progress ℕ → Advance
-advanced_by k target a (Ok p) = record { axis = followed k target p a; ending = p.ending }
-advanced_by k target a (Err n) = record { axis = braked a; ending = Some (finish.Error n) }
+abbrev pub advance_by_progress : BlockKind → ℤ → Axis → Result Progress ℕ → Advance
+advance_by_progress k target a (Ok p) = record { axis = axis_after_progress k target p a; ending = p.ending }
+advance_by_progress k target a (Err n) = record { axis = axis_after_braking a; ending = Some (finish.Error n) }
 
 -- an axis without an active command rests
-abbrev pub advanced_with : Option Wanted → Option Wanted → AxisLook → Axis → Advance
-advanced_with None next look a = record { axis = moved_to (a.setpoint +ℤ taken_of a (pos 0)) a; ending = None }
-advanced_with (Some w) next look a = advanced_by w.kind (target_of w) a (progress_of a w next look)
+abbrev pub advance_by_command : Option Wanted → Option Wanted → AxisLook → Axis → Advance
+advance_by_command None next look a = record { axis = axis_after_step (a.setpoint +ℤ taken_of a (pos 0)) a; ending = None }
+advance_by_command (Some w) next look a = advance_by_progress w.kind (target_of w) a (progress_in_cycle a w next look)
 
 -- an axis that no error stops: at its place on its group's path, or by its command
-abbrev pub advanced_from : Option ℤ → Option Wanted → AxisLook → Axis → Advance
-advanced_from (Some place) next look a = record { axis = path_left look.path_ends (moved_to place a); ending = None }
-advanced_from None next look a = advanced_with a.active next look a
+abbrev pub advance_without_error : Option ℤ → Option Wanted → AxisLook → Axis → Advance
+advance_without_error (Some place) next look a = record { axis = axis_after_path look.path_ends (axis_after_step place a); ending = None }
+advance_without_error None next look a = advance_by_command a.active next look a
 
 -- the step of a cycle, with the command that waits first
-unfoldable pub advanced : Option Wanted → AxisLook → Axis → Advance
-advanced next look a =
-    if is_error_stop a.state then record { axis = braked a; ending = None } else advanced_from (place_on_path a look) next look a
+unfoldable pub advance_in_cycle : Option Wanted → AxisLook → Axis → Advance
+advance_in_cycle next look a =
+    if is_error_stop a.state then record { axis = axis_after_braking a; ending = None } else advance_without_error (place_on_path a look) next look a
 
 -- then a driven spell goes on: the axis advances, its command may end and the next one take over
-abbrev pub moved : AxisLook → Core → Core
-moved look c =
-    let step = advanced (slice_get c.waiting 0) look c.axis in ended_by step.ending (record c { axis = step.axis })
+abbrev pub core_after_advance : AxisLook → Core → Core
+core_after_advance look c =
+    let step = advance_in_cycle (slice_get c.waiting 0) look c.axis in core_after_ending step.ending (record c { axis = step.axis })
 
-abbrev pub gone_on : AxisLook → Core → Core
-gone_on look c = let after = moved look c in record after { axis = stop_left look after.axis }
+abbrev pub core_after_going_on : AxisLook → Core → Core
+core_after_going_on look c = let after = core_after_advance look c in record after { axis = axis_after_stop look after.axis }
 
 -- or the axis stands where its drive does
-abbrev pub run : AxisLook → Bool → Core → Core
-run look driven c = if driven && c.axis.driven then gone_on look c else record c { axis = standing driven look.input c.axis }
+abbrev pub core_after_step : AxisLook → Bool → Core → Core
+core_after_step look driven c = if driven && c.axis.driven then core_after_going_on look c else record c { axis = axis_at_drive driven look.input c.axis }
 
 -- then a pending Reset is done where it may be
-abbrev pub reset_where : DriveIn → Core → Core
-reset_where input c = record c {
+abbrev pub core_after_reset : DriveIn → Core → Core
+core_after_reset input c = record c {
   axis = reset_axis c.axis.reset input c.axis;
   notes = c.notes ++ reset_notes c.axis.reset input c.axis;
 }
 
 -- last the drive gets its controlword. IEC 61800-7-201, object 6040h
-abbrev pub word_of : DriveIn → Axis → ℕ
-word_of input a = next_controlword_of (state_of_word input.statusword) (is_powered a) (is_some a.reset) a.controlword
+abbrev pub controlword_for : DriveIn → Axis → ℕ
+controlword_for input a = next_controlword_of (state_of_word input.statusword) (is_powered a) (is_some a.reset) a.controlword
 
-abbrev pub given : DriveIn → Axis → Axis
-given input a = record a { controlword = word_of input a; was_off = false }
+abbrev pub axis_after_word : DriveIn → Axis → Axis
+axis_after_word input a = record a { controlword = controlword_for input a; was_off = false }
 
 -- an axis after a cycle
-unfoldable pub cycled : AxisLook → Core → Core
-cycled look c =
-    let done = reset_where look.input (run look (is_driven c.axis look.input) (answered look.input c)) in
-    record done { axis = given look.input done.axis }
+unfoldable pub core_after_cycle : AxisLook → Core → Core
+core_after_cycle look c =
+    let done = core_after_reset look.input (core_after_step look (is_driven c.axis look.input) (core_after_answer look.input c)) in
+    record done { axis = axis_after_word look.input done.axis }
 
 -- what a cycle shows of the axis after it. IEC 61800-7-201, objects 6040h, 6060h and 607Ah
-unfoldable pub row_of : DriveIn → Axis → AxisRow
-row_of input a = record {
+unfoldable pub row_shown : DriveIn → Axis → AxisRow
+row_shown input a = record {
   input = input;
   state = a.state;
   error = a.error;
@@ -125,8 +129,8 @@ row_of input a = record {
 }
 
 -- an axis at opening: a ready one is driven, in Standstill, with power on; another is Disabled
-unfoldable pub opened : AxisDef → Axis
-opened d = record {
+unfoldable pub axis_at_opening : AxisDef → Axis
+axis_at_opening d = record {
   limits = d.limits;
   inc = d.inc;
   state = (if d.ready then state.Standstill else state.Disabled);

@@ -10,7 +10,7 @@ use Rattle.cia402_machine.specs.declared.drive.DriveState.{DriveState}
 use Rattle.cia402_machine.specs.declared.drive.DriveState.TheVariants.{OperationEnabled}
 use Rattle.motion_numbers.specs.Ranges.{is_outside}
 use Rattle.axis_core.specs.States.{is_error_stop}
-use Rattle.axis_core.specs.blocks.Power.{enabled_from, is_powered}
+use Rattle.axis_core.specs.blocks.Power.{state_when_driven, is_powered}
 use Rattle.axis_core.specs.declared.axis.Axis.{Axis}
 
 -- whether a drive that reads so may take setpoints
@@ -39,11 +39,14 @@ actual_of a input = place_of a.limits.lo input.actual a.offset a.inc
 abbrev pub is_within : Axis → DriveIn → Bool
 is_within a input = not (is_outside a.limits.lo (actual_of a input) a.limits.hi)
 
--- whether the axis is driven in a cycle: power is on, the answer is operational, and it was driven before or stands within its limits. This project's profile
+-- whether the axis is driven in a cycle: power is on, the answer is operational, and it was driven
+-- before or stands within its limits. This project's profile
 abbrev pub is_driven : Axis → DriveIn → Bool
 is_driven a input = is_powered a && is_operational input && (a.driven || is_within a input)
 
--- the error that an answer brings: a fault (101); a lost drive (102), which was driven and is not operational any more with power on; a drive that would be driven from outside the limits (105). This project's profile
+-- the error that an answer brings: a fault (101); a lost drive (102), which was driven and is not
+-- operational any more with power on; a drive that would be driven from outside the limits (105).
+-- This project's profile
 abbrev pub new_error_of : Axis → DriveIn → ℕ
 new_error_of a input =
     if has_fault input then 101
@@ -56,9 +59,9 @@ unfoldable pub answer_error_of : Axis → DriveIn → ℕ
 answer_error_of a input = if is_error_stop a.state then 0 else new_error_of a input
 
 -- an axis that is not driven, or begins to be, stands where its drive does. This project's profile
-abbrev pub standing : Bool → DriveIn → Axis → Axis
-standing driven input a = record a {
-  state = enabled_from driven a.state;
+abbrev pub axis_at_drive : Bool → DriveIn → Axis → Axis
+axis_at_drive driven input a = record a {
+  state = state_when_driven driven a.state;
   driven = driven;
   previous = actual_of a input;
   setpoint = actual_of a input;

@@ -1,4 +1,5 @@
--- What becomes of the commands of an axis in a call and in a cycle (PLCopen Motion Control Part 1, BufferMode).
+-- What becomes of the commands of an axis in a call and in a cycle (PLCopen Motion Control Part 1,
+-- BufferMode).
 use Rattle.std.specs.Prelude.{◌≡◌, ◌≢◌, Bool, true, false, ◌&&◌, nat_eq, if◌then◌else◌, ℤ, ◌+ℤ◌, Option, Some, None, is_some, List, [], ◌∷◌, slice_get}
 use Rattle.buffer_modes.specs.Queue.{is_active_at_once}
 use Rattle.command_pool.specs.Waiting.{last_of}
@@ -9,7 +10,7 @@ use Rattle.command_pool.specs.declared.kind.BlockKind.TheVariants as kind
 use Rattle.command_pool.specs.declared.wanted.Wanted.{Wanted}
 use Rattle.axis_core.specs.Calls.{queue_in}
 use Rattle.axis_core.specs.Cores.{Core}
-use Rattle.axis_core.specs.Cycles.{advanced}
+use Rattle.axis_core.specs.Cycles.{advance_in_cycle}
 use Rattle.axis_core.specs.Drives.{answer_error_of, is_driven}
 use Rattle.motion_numbers.specs.Ranges.{is_outside}
 use Rattle.axis_core.specs.Refusals.{Asked, refusal_of}
@@ -20,7 +21,8 @@ use Rattle.axis_core.specs.declared.axis.Axis.{Axis}
 use Rattle.axis_core.specs.declared.look.AxisLook.{AxisLook}
 use Rattle.axis_core.specs.declared.reason.Reason.{Reason}
 
--- how the active command ends, if it does, which one becomes active, if one does, and whether the active one is a move that is blended
+-- how the active command ends, if it does, which one becomes active, if one does, and whether the
+-- active one is a move that is blended
 pub record Fate : Type 0 where
   pub ends : Option Finish
   pub begins : Option Wanted
@@ -59,7 +61,8 @@ unfoldable pub power_fate : Bool → Core → Fate
 power_fate true c = goes_on
 power_fate false c = if is_error_stop c.axis.state then goes_on else replaced finish.Aborted c.axis.active None
 
--- a move whose target is fixed where it takes over: none where that lies outside the limits. MC_MoveRelative
+-- a move whose target is fixed where it takes over: none where that lies outside the limits.
+-- MC_MoveRelative
 abbrev pub begun_at : Wanted → ℤ → Axis → Option Wanted
 begun_at w target a = if is_outside a.limits.lo target a.limits.hi then None else Some (with_target (Some target) w)
 
@@ -87,9 +90,10 @@ is_blended (Some w) c = is_move w.kind && is_some (blended_with c.axis w (slice_
 -- in a cycle in which a driven spell goes on
 abbrev pub moved_fate : AxisLook → Core → Fate
 moved_fate look c =
-    let step = advanced (slice_get c.waiting 0) look c.axis in ending_fate (is_blended c.axis.active c) step.ending c.waiting step.axis
+    let step = advance_in_cycle (slice_get c.waiting 0) look c.axis in ending_fate (is_blended c.axis.active c) step.ending c.waiting step.axis
 
--- in a cycle: an error that the drive's answer brings ends the active command, else it advances while the axis is driven
+-- in a cycle: an error that the drive's answer brings ends the active command, else it advances
+-- while the axis is driven
 unfoldable pub cycle_fate : AxisLook → Core → Fate
 cycle_fate look c =
     if nat_eq (answer_error_of c.axis look.input) 0

@@ -37,7 +37,8 @@ AreSmallTargets (w ∷ ws) = IsSmallTarget (Some w) × AreSmallTargets ws
 abbrev pub IsNear : ℤ → Type 0
 IsNear place = IsPlace place
 
--- a blend of a move to the target into a second one applies to the axis, and its numbers are in their ranges. This project's profile
+-- a blend of a move to the target into a second one applies to the axis, and its numbers are in
+-- their ranges. This project's profile
 pub record IsBlend (a : Axis) (target : ℤ) (s : SecondMove) : Type 0 where
   pub applies : BlendApplies target s.target a.previous a.setpoint
   pub near : IsNear s.target
@@ -56,7 +57,8 @@ pub record IsSmall (a : Axis) : Type 0 where
   pub setpoint : IsNear a.setpoint
   pub step : IsStep (a.setpoint -ℤ a.previous)
 
--- a command that waits may be blended into: its target, if it moves to a fixed one, is near, and its rates are in their ranges. This project's profile
+-- a command that waits may be blended into: its target, if it moves to a fixed one, is near, and
+-- its rates are in their ranges. This project's profile
 pub record IsBlendable (w : Wanted) : Type 0 where
   pub target : IsSmallTarget (Some w)
   pub near : (t : ℤ) → move_target_of (Some w) ≡ Some t → IsNear t
@@ -94,14 +96,16 @@ IsCarried kind.CamIn w = AreRates w.rates
 IsCarried kind.Home w = IsNear (target_of w)
 IsCarried k w = Unit {0}
 
--- the numbers from which the drive's counts are places are in their ranges. IEC 61800-7-201, object 6064h
+-- the numbers from which the drive's counts are places are in their ranges. IEC 61800-7-201, object
+-- 6064h
 pub record HasDrive (a : Axis) : Type 0 where
   pub least : pos 1 ≤ℤ a.inc
   pub most : a.inc ≤ℤ pos MOST_INCREMENT
   pub lowest : IsNear a.limits.lo
   pub offset : unsigned_abs a.offset ≤ MOST_OFFSET
 
--- an axis whose driven spell goes on may advance, with the command that waits first: the numbers are in their ranges. This project's profile
+-- an axis whose driven spell goes on may advance, with the command that waits first: the numbers
+-- are in their ranges. This project's profile
 pub record MayAdvance (a : Axis) (first : Option Wanted) (look : AxisLook) : Type 0 where
   pub moving : IsMoving a
   pub active : IfSome a.active (λ w. IsCarried w.kind w)
@@ -109,18 +113,21 @@ pub record MayAdvance (a : Axis) (first : Option Wanted) (look : AxisLook) : Typ
   pub cam : IsNear look.cam
   pub offset : unsigned_abs a.offset ≤ MOST_OFFSET
 
--- the position of a Home is a place; that of another command is not looked at. This project's profile
+-- the position of a Home is a place; that of another command is not looked at. This project's
+-- profile
 abbrev pub IsTarget : BlockKind → ℤ → Type 0
 IsTarget kind.Home target = IsNear target
 IsTarget k target = Unit {0}
 
--- the active command may end in a state, and the first one that waits take over. This project's profile
+-- the active command may end in a state, and the first one that waits take over. This project's
+-- profile
 pub record MayEnd (a : Axis) (waiting : List Wanted) : Type 0 where
   pub state : IsFrom a.state event.Error
   pub queue : MayTakeOver a.state waiting
   pub setpoint : unsigned_abs a.setpoint ≤ MOST_REPORTED
 
--- an axis whose driven spell goes on, with the commands that wait: it may advance, its command may end, and the next one take over. This project's profile
+-- an axis whose driven spell goes on, with the commands that wait: it may advance, its command may
+-- end, and the next one take over. This project's profile
 pub record MayGoOn (a : Axis) (waiting : List Wanted) (look : AxisLook) : Type 0 where
   pub advance : MayAdvance a (slice_get waiting 0) look
   pub state : is_error_stop a.state ≡ false → IsFrom a.state event.Error
@@ -131,7 +138,8 @@ pub record MayLeave (a : Axis) : Type 0 where
   pub step : IsStep (a.setpoint -ℤ a.previous)
   pub begin : IsFrom a.state event.FollowOut
 
--- a command may join the others: there is a place for it, and it may become active in the state. PLCopen Motion Control Part 1, BufferMode
+-- a command may join the others: there is a place for it, and it may become active in the state.
+-- PLCopen Motion Control Part 1, BufferMode
 pub record MayJoin (w : Wanted) (c : Core) : Type 0 where
   pub begin : MayBegin w.kind c.axis.state
   pub place : is_full (record { active = c.axis.active; waiting = c.waiting }) w ≡ false

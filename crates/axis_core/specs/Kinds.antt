@@ -50,7 +50,8 @@ event_of kind.GearIn = Some follow_event
 event_of kind.CamIn = Some follow_event
 event_of k = None
 
--- what an active command wants in a cycle, with the command that waits first: a step, or it is an error
+-- what an active command wants in a cycle, with the command that waits first: a step, or it is an
+-- error
 abbrev pub wish_by : BlockKind → Axis → Wanted → Option Wanted → AxisLook → Result ℤ ℕ
 wish_by kind.Stop a w next look = halt_wish a w
 wish_by kind.Halt a w next look = halt_wish a w

@@ -4,7 +4,8 @@ use Rattle.command_pool.specs.declared.wanted.Wanted.{Wanted}
 use Rattle.axis_core.specs.declared.axis.Axis.{Axis}
 use Rattle.axis_core.specs.declared.look.ActiveLook.{ActiveLook}
 
--- the owner of a command, what it follows, and whether it has reached what it goes for. PLCopen Motion Control Part 1
+-- the owner of a command, what it follows, and whether it has reached what it goes for. PLCopen
+-- Motion Control Part 1
 abbrev pub look_at : Bool → Option Wanted → Option ActiveLook
 look_at reached None = None
 look_at reached (Some w) = Some (record { owner = w.owner; follow = w.follow; reached = reached })

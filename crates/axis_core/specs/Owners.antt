@@ -1,4 +1,5 @@
--- Which instance has a command of an axis, how often, and how often it is told of an end (PLCopen Motion Control Part 1, general rules).
+-- Which instance has a command of an axis, how often, and how often it is told of an end (PLCopen
+-- Motion Control Part 1, general rules).
 use Rattle.std.specs.Prelude.{◌≡◌, ℕ, ◌+◌, Bool, true, false, nat_eq, map, Option, Some, None, List, [], ◌∷◌}
 use Rattle.std.specs.List.{Contains}
 use Rattle.command_pool.specs.declared.ending.Finish.{Finish}
@@ -7,7 +8,7 @@ use Rattle.command_pool.specs.declared.kind.BlockKind.TheVariants as kind
 use Rattle.command_pool.specs.declared.notes.Note.{Note}
 use Rattle.command_pool.specs.declared.wanted.Wanted.{Wanted}
 use Rattle.command_pool.specs.Waiting as pool
-use Rattle.axis_core.specs.Calls.{detached}
+use Rattle.axis_core.specs.Calls.{axis_without_owner}
 use Rattle.axis_core.specs.Cores.{Core}
 use Rattle.axis_core.specs.Fates.{Fate}
 use Rattle.axis_core.specs.declared.axis.PendingReset.{PendingReset}
@@ -18,7 +19,8 @@ abbrev pub owner_by : Option Wanted → Option ℕ
 owner_by None = None
 owner_by (Some w) = w.owner
 
--- among some notes one tells the instance that has the active command how that ended, where this fate ends it
+-- among some notes one tells the instance that has the active command how that ended, where this
+-- fate ends it
 abbrev pub TellsOwner : Fate → Option Wanted → List Note → Type 0
 TellsOwner f active notes = (owner : ℕ) (g : Finish) → f.ends ≡ Some g → owner_by active ≡ Some owner → Contains notes (record { owner = owner; finish = g })
 
@@ -41,7 +43,8 @@ abbrev pub reset_owner : Option PendingReset → Option ℕ
 reset_owner None = None
 reset_owner (Some p) = p.owner
 
--- how many commands of the axis this instance has: the active one, those that wait and a pending Reset
+-- how many commands of the axis this instance has: the active one, those that wait and a pending
+-- Reset
 abbrev pub owns : ℕ → Core → ℕ
 owns k c = is_owner k (owner_by c.axis.active) + waits_of k c.waiting + is_owner k (reset_owner c.axis.reset)
 
@@ -63,4 +66,4 @@ brought (Some reason) w = None
 
 -- an axis whose commands this instance has no longer
 abbrev pub disowned : ℕ → Core → Core
-disowned k c = record c { axis = detached k c.axis; waiting = map (pool.detached k) c.waiting }
+disowned k c = record c { axis = axis_without_owner k c.axis; waiting = map (pool.detached k) c.waiting }

@@ -4,11 +4,13 @@ use Rattle.axis_state.specs.Spells.{Spell, KeepsRow, spell_after}
 use Rattle.axis_state.specs.declared.definition.AxisRow.{AxisRow}
 use Rattle.axis_core.specs.declared.axis.Axis.{Axis}
 
--- the spell that an axis is in, if it is driven: its last two setpoints, less the offset. This project's profile
+-- the spell that an axis is in, if it is driven: its last two setpoints, less the offset. This
+-- project's profile
 abbrev pub spell_of : Axis → Option Spell
 spell_of a = if a.driven then Some (record { before = a.previous -ℤ a.offset; now = a.setpoint -ℤ a.offset }) else None
 
--- a row keeps the limits of the axis after the spell before it, where it is driven, and leads on to the spell after it. This project's profile
+-- a row keeps the limits of the axis after the spell before it, where it is driven, and leads on to
+-- the spell after it. This project's profile
 pub record KeepsSpell (before : Axis) (row : AxisRow) (after : Axis) : Type 0 where
   pub keeps : IsTrue row.driven → KeepsRow before.limits (spell_of before) row
   pub leads : spell_after (spell_of before) row ≡ spell_of after

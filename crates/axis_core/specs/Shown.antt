@@ -9,7 +9,8 @@ pub record IsAxisError (error : ℕ) : Type 0 where
   pub least : 101 ≤ error
   pub most : error ≤ 106
 
--- an error is there exactly in ErrorStop, and an instance holds Stopping only there. PLCopen Motion Control Part 1, the state diagram
+-- an error is there exactly in ErrorStop, and an instance holds Stopping only there. PLCopen Motion
+-- Control Part 1, the state diagram
 pub record AreShown (s : AxisState) (error : ℕ) (hold : Option ℕ) : Type 0 where
   pub stopped : is_error_stop s ≡ true → IsAxisError error
   pub clear : is_error_stop s ≡ false → error ≡ 0

@@ -25,7 +25,8 @@ is_safe_step a step = int_eq (taken_of a step) step
 abbrev pub is_braking : ℤ → ℤ → Bool
 is_braking old step = nat_lt (unsigned_abs step) (unsigned_abs old) && (int_eq step (pos 0) || is_same_sign step old)
 
--- a wanted step of a command that has no target: error 103, SoftLimit, where it is not safe and brakes not
+-- a wanted step of a command that has no target: error 103, SoftLimit, where it is not safe and
+-- brakes not
 abbrev pub guarded : Axis → ℤ → Result ℤ ℕ
 guarded a step = if is_braking (old_step_of a) step || is_safe_step a step then Ok step else Err 103
 
@@ -34,18 +35,20 @@ abbrev pub taken_by : Axis → Result ℤ ℕ → Result ℤ ℕ
 taken_by a (Ok step) = Ok (taken_of a step)
 taken_by a (Err n) = Err n
 
--- the move step toward a place, by the rates of a command. PLCopen Motion Control Part 1, MC_MoveAbsolute
+-- the move step toward a place, by the rates of a command. PLCopen Motion Control Part 1,
+-- MC_MoveAbsolute
 abbrev pub step_toward : Axis → ℤ → Wanted → ℤ
 step_toward a place w = move_step_of (place -ℤ a.setpoint) (old_step_of a) w.rates
 
 -- the axis at its next setpoint
-abbrev pub moved_to : ℤ → Axis → Axis
-moved_to next a = record a { previous = a.setpoint; setpoint = next }
+abbrev pub axis_after_step : ℤ → Axis → Axis
+axis_after_step next a = record a { previous = a.setpoint; setpoint = next }
 
 -- a command ends so where this holds
 abbrev pub ends_where : Bool → Finish → Option Finish
 ends_where holds f = if holds then Some f else None
 
--- the first command that waits takes over where the active one has reached what it goes for. PLCopen Motion Control Part 1, BufferMode
+-- the first command that waits takes over where the active one has reached what it goes for.
+-- PLCopen Motion Control Part 1, BufferMode
 abbrev pub gives_way : Option Wanted → Bool → Option Finish
 gives_way next reached = ends_where (is_some next && reached) finish.Aborted

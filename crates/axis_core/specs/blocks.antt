@@ -1,4 +1,5 @@
--- The function blocks of an axis, one file each: which refusals are tested, by which event a command becomes active, the step that it wants, how it ends, and what it shows.
+-- The function blocks of an axis, one file each: which refusals are tested, by which event a
+-- command becomes active, the step that it wants, how it ends, and what it shows.
 pub mod Moves
 pub mod Velocity
 pub mod Gear

@@ -2,12 +2,11 @@
 
 ghost use Rattle.std.specs.Prelude.{◌≡◌, ◌<◌, ◌≤◌, ◌++◌, false, [], length, slice_set, unsigned_abs, Some};
 ghost use Rattle.buffer_modes.specs.Queue.{is_active_at_once, is_full, commands};
-ghost use Rattle.command_pool.specs.Waiting as waiting;
 ghost use Rattle.command_pool.specs.Waiting.{queue_of};
 ghost use Rattle.axis_core.specs.AxisKept.{IsCoreKept};
 ghost use Rattle.axis_core.specs.Calls as spec;
 ghost use Rattle.axis_core.specs.Cores.{core_at, MayBegin};
-ghost use Rattle.axis_core.specs.Demands.{IsMade, asked_by};
+ghost use Rattle.axis_core.specs.Demands.{IsMade, asked_in};
 ghost use Rattle.axis_core.specs.Kept.{MayAdmit, MayLeave};
 ghost use Rattle.axis_core.specs.States.{is_error_stop};
 ghost use Rattle.axis_core.specs.blocks.Moves.{with_target};
@@ -18,14 +17,13 @@ use crate::blocks::moves::known_target;
 use crate::blocks::power::{switch_off, wish};
 use crate::blocks::reset::await_reset;
 use crate::refusing::{Asking, refusal_of};
-use crate::states::is_error_stop;
 use crate::taking_over::{end_all, enter};
-use axis_state::{AxisEvent, axis_next, offsets_are_small};
+use axis_state::{AxisEvent, AxisState, axis_next, offsets_are_small};
 use buffer_modes::admit;
-use command_pool::{BlockKind, CommandPool, Finish, Notes, Refusal, Wanted};
+use command_pool::{BlockKind, CommandPool, Finish, Notes, Refusal, Wanted, without};
 
 // The velocity command goes on where a gear or a cam is left.
-#[tactic(auto, unfolding(crate::specs::Cores::begun_by))]
+#[tactic(auto, unfolding(crate::specs::Cores::axis_under_by))]
 fn leave(wanted: &Wanted, axis: &mut Axis, pool: &mut CommandPool, list: u8, notes: &mut Notes)
     requires list { list < length pool.old }
     requires room { length notes.old ≤ 3 }
@@ -42,7 +40,7 @@ fn leave(wanted: &Wanted, axis: &mut Axis, pool: &mut CommandPool, list: u8, not
 }
 
 // A command joins the others, and it is answered whether it is active.
-#[tactic(auto, unfolding(crate::specs::Cores::begun_by))]
+#[tactic(auto, unfolding(crate::specs::Cores::axis_under_by))]
 fn join(
     wanted: Wanted,
     axis: &mut Axis,
@@ -55,7 +53,7 @@ fn join(
     requires begin { MayBegin wanted.kind axis.old.state }
     requires place { is_full (commands axis.old.active pool.old list) wanted ≡ false }
     ensures active { result ≡ is_active_at_once (commands axis.old.active pool.old list) wanted }
-    ensures after { core_at axis.new pool.new list notes.new ≡ spec.joined wanted (core_at axis.old pool.old list notes.old) }
+    ensures after { core_at axis.new pool.new list notes.new ≡ spec.core_after_joining wanted (core_at axis.old pool.old list notes.old) }
     ensures others { pool.new ≡ slice_set pool.old list (queue_of pool.new list) }
 {
     let (kind, owner) = (wanted.kind, wanted.owner);
@@ -114,10 +112,10 @@ pub fn command(
     requires room { notes.old ≡ [] }
     requires kept { IsCoreKept (core_at axis.old pool.old list notes.old) }
     requires made { IsMade wanted.now }
-    ensures answer { result ≡ spec.answer_of (asked_by axis.old pool.old list wanted.now jerk held tables)
+    ensures answer { result ≡ spec.answer_of (asked_in (core_at axis.old pool.old list notes.old) list wanted.now jerk held tables)
         (core_at axis.old pool.old list notes.old) }
     ensures after { core_at axis.new pool.new list notes.new
-        ≡ spec.commanded (asked_by axis.old pool.old list wanted.now jerk held tables) (core_at axis.old pool.old list notes.old) }
+        ≡ spec.commanded (asked_in (core_at axis.old pool.old list notes.old) list wanted.now jerk held tables) (core_at axis.old pool.old list notes.old) }
     ensures others { pool.new ≡ slice_set pool.old list (queue_of pool.new list) }
     ensures kept { IsCoreKept (core_at axis.new pool.new list notes.new) }
 {
@@ -148,7 +146,7 @@ fn disable(axis: &mut Axis, pool: &mut CommandPool, list: u8, notes: &mut Notes)
     requires list { list < length pool.old }
     requires room { length notes.old ≤ 3 }
     requires state { is_error_stop axis.old.state ≡ false }
-    ensures after { core_at axis.new pool.new list notes.new ≡ spec.disabled (core_at axis.old pool.old list notes.old) }
+    ensures after { core_at axis.new pool.new list notes.new ≡ spec.core_after_disabling (core_at axis.old pool.old list notes.old) }
     ensures others { pool.new ≡ slice_set pool.old list (queue_of pool.new list) }
 {
     end_all(axis, pool, list, Finish::Aborted, notes);
@@ -156,26 +154,16 @@ fn disable(axis: &mut Axis, pool: &mut CommandPool, list: u8, notes: &mut Notes)
 }
 
 /// Takes the Enable of a Power.
-#[tactic(auto, unfolding(crate::specs::Calls::powered_by))]
+#[tactic(auto, unfolding(crate::specs::Calls::core_after_power))]
 pub fn power(enable: bool, axis: &mut Axis, pool: &mut CommandPool, list: u8, notes: &mut Notes)
     requires list { list < length pool.old }
     requires room { length notes.old ≤ 3 }
-    ensures after { core_at axis.new pool.new list notes.new ≡ spec.powered_by enable (core_at axis.old pool.old list notes.old) }
+    ensures after { core_at axis.new pool.new list notes.new ≡ spec.core_after_power enable (core_at axis.old pool.old list notes.old) }
     ensures others { pool.new ≡ slice_set pool.old list (queue_of pool.new list) }
 {
     wish(enable, axis);
-    if !enable && !is_error_stop(axis.state) {
+    if !enable && !matches!(axis.state, AxisState::ErrorStop) {
         disable(axis, pool, list, notes);
-    }
-}
-
-// An owner, and None where it is the one that is gone.
-fn without(owner: Option<u16>, gone: u16) -> Option<u16>
-    ensures { result ≡ waiting.without gone owner }
-{
-    match owner {
-        Some(owner) if owner == gone => None,
-        _ => owner,
     }
 }
 
@@ -198,9 +186,9 @@ fn disown_reset(owner: u16, reset: &mut Option<PendingReset>)
 }
 
 /// Takes an owner away from the active command, the pending Reset and the hold.
-#[tactic(auto, unfolding(crate::specs::Calls::detached))]
+#[tactic(auto, unfolding(crate::specs::Calls::axis_without_owner))]
 pub fn detach(owner: u16, axis: &mut Axis)
-    ensures { axis.new ≡ spec.detached owner axis.old }
+    ensures { axis.new ≡ spec.axis_without_owner owner axis.old }
 {
     disown(owner, &mut axis.active);
     disown_reset(owner, &mut axis.reset);

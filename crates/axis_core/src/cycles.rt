@@ -11,7 +11,7 @@ ghost use Rattle.axis_core.specs.Drives as drives;
 ghost use Rattle.axis_core.specs.Kept.{HasDrive, IsMoving, IsTarget, MayAdvance, MayGoOn};
 ghost use Rattle.axis_core.specs.Rows.{KeepsSpell};
 ghost use Rattle.axis_core.specs.States as states;
-ghost use Rattle.axis_core.specs.Steps.{moved_to};
+ghost use Rattle.axis_core.specs.Steps.{axis_after_step};
 ghost use Rattle.axis_core.specs.blocks.Moves.{target_of};
 ghost use Rattle.axis_core.specs.declared.axis.Axis.{Axis};
 ghost use Rattle.axis_core.specs.declared.progress.Progress.{Progress};
@@ -28,12 +28,12 @@ use crate::driving::{error_where, is_driven, stand};
 use crate::kinds;
 use crate::look::AxisLook;
 use crate::progress::Progress;
-use crate::states::is_error_stop;
 use crate::steps::{move_to, place_after, taken};
 use crate::taking_over::{end_by, fail};
 use axis_state::{
-    AxisRow, DriveIn, DriveOut, MOST_COUNTED, MOST_OFFSET, MOST_REPORTED, counts_are_read_back,
-    homing_keeps_counts, offsets_are_small, setpoints_have_counts, target_count,
+    AxisRow, AxisState, DriveIn, DriveOut, MOST_COUNTED, MOST_OFFSET, MOST_REPORTED,
+    counts_are_read_back, homing_keeps_counts, offsets_are_small, setpoints_have_counts,
+    target_count,
 };
 use cia402_machine::{CYCLIC_SYNCHRONOUS_POSITION, ENABLE_OPERATION, next_controlword, state_of};
 use command_pool::{BlockKind, CommandPool, Finish, Notes, Wanted};
@@ -44,7 +44,7 @@ use kin_core::{braking_steps_are_only_cut, standing_is_kept, taken_steps_keep};
 fn step_by(step: i64, axis: &mut Axis)
     requires moving { IsMoving axis.old }
     requires step { IsStep step }
-    ensures after { axis.new ≡ moved_to (axis.old.setpoint +ℤ step) axis.old }
+    ensures after { axis.new ≡ axis_after_step (axis.old.setpoint +ℤ step) axis.old }
     ensures small { unsigned_abs axis.new.setpoint ≤ MOST_REPORTED }
 {
     let next = place_after(axis, step);
@@ -55,7 +55,7 @@ fn step_by(step: i64, axis: &mut Axis)
 #[tactic(auto, using(crate::proofs::Moving::dmax_between))]
 fn brake(axis: &mut Axis)
     requires moving { IsMoving axis.old }
-    ensures after { axis.new ≡ spec.braked axis.old }
+    ensures after { axis.new ≡ spec.axis_after_braking axis.old }
     ensures small { unsigned_abs axis.new.setpoint ≤ MOST_REPORTED }
 {
     let step = braking_by(axis, axis.limits.dmax);
@@ -68,7 +68,7 @@ fn follow(kind: BlockKind, target: i64, progress: &Progress, axis: &mut Axis)
     requires target { IsTarget kind target }
     requires step { IsStep progress.now.step }
     requires offset { unsigned_abs axis.old.offset ≤ MOST_OFFSET }
-    ensures after { axis.new ≡ spec.followed kind target progress.now axis.old }
+    ensures after { axis.new ≡ spec.axis_after_progress kind target progress.now axis.old }
     ensures small { unsigned_abs axis.new.setpoint ≤ MOST_REPORTED }
     ensures state { axis.new.state ≡ axis.old.state }
 {
@@ -91,8 +91,8 @@ fn carry(
     requires target { IsTarget kind target }
     requires step { IfOk made (λ p. IsStep p.step) }
     requires offset { unsigned_abs axis.old.offset ≤ MOST_OFFSET }
-    ensures axis { axis.new ≡ (spec.advanced_by kind target axis.old made).axis }
-    ensures ending { result ≡ (spec.advanced_by kind target axis.old made).ending }
+    ensures axis { axis.new ≡ (spec.advance_by_progress kind target axis.old made).axis }
+    ensures ending { result ≡ (spec.advance_by_progress kind target axis.old made).ending }
     ensures small { unsigned_abs axis.new.setpoint ≤ MOST_REPORTED }
     ensures state { axis.new.state ≡ axis.old.state }
 {
@@ -113,7 +113,7 @@ fn home_target(wanted: &Wanted) -> i64
     requires target { IsTarget wanted.now.kind (target_of wanted.now) }
     ensures target { IsTarget wanted.now.kind result }
     ensures same { (made : Result Progress ℕ) (axis : Axis) →
-        spec.advanced_by wanted.now.kind result axis made ≡ spec.advanced_by wanted.now.kind (target_of wanted.now) axis made }
+        spec.advance_by_progress wanted.now.kind result axis made ≡ spec.advance_by_progress wanted.now.kind (target_of wanted.now) axis made }
 {
     if matches!(wanted.kind, BlockKind::Home) {
         target_of(wanted)
@@ -125,8 +125,8 @@ fn home_target(wanted: &Wanted) -> i64
 // A cycle of an axis that no error stops: by its command, or at rest without one.
 fn obey(axis: &mut Axis, next: Option<&Wanted>, look: &AxisLook) -> Option<Finish>
     requires { MayAdvance axis.old (option_copied next) look.now }
-    ensures axis { axis.new ≡ (spec.advanced_with axis.old.active (option_copied next.entry) look.now axis.old).axis }
-    ensures ending { result ≡ (spec.advanced_with axis.old.active (option_copied next.entry) look.now axis.old).ending }
+    ensures axis { axis.new ≡ (spec.advance_by_command axis.old.active (option_copied next.entry) look.now axis.old).axis }
+    ensures ending { result ≡ (spec.advance_by_command axis.old.active (option_copied next.entry) look.now axis.old).ending }
     ensures small { unsigned_abs axis.new.setpoint ≤ MOST_REPORTED }
     ensures state { axis.new.state ≡ axis.old.state }
 {
@@ -141,16 +141,16 @@ fn obey(axis: &mut Axis, next: Option<&Wanted>, look: &AxisLook) -> Option<Finis
 }
 
 // The step of a cycle, and how the active command ends by it.
-#[tactic(auto, unfolding(crate::specs::Cycles::advanced))]
+#[tactic(auto, unfolding(crate::specs::Cycles::advance_in_cycle))]
 fn advance(axis: &mut Axis, next: Option<&Wanted>, look: &AxisLook) -> Option<Finish>
     requires { MayAdvance axis.old (option_copied next) look.now }
-    ensures axis { axis.new ≡ (spec.advanced (option_copied next.entry) look.now axis.old).axis }
-    ensures ending { result ≡ (spec.advanced (option_copied next.entry) look.now axis.old).ending }
+    ensures axis { axis.new ≡ (spec.advance_in_cycle (option_copied next.entry) look.now axis.old).axis }
+    ensures ending { result ≡ (spec.advance_in_cycle (option_copied next.entry) look.now axis.old).ending }
     ensures small { IfSome result (λ f. unsigned_abs axis.new.setpoint ≤ MOST_REPORTED) }
     ensures state { IfSome result (λ f. axis.new.state ≡ axis.old.state) }
     ensures running { IfSome result (λ f. states.is_error_stop axis.old.state ≡ false) }
 {
-    if is_error_stop(axis.state) {
+    if matches!(axis.state, AxisState::ErrorStop) {
         brake(axis);
         return None;
     }
@@ -166,7 +166,7 @@ fn go_on(look: &AxisLook, axis: &mut Axis, pool: &mut CommandPool, list: u8, not
     requires list { list < length pool.old }
     requires room { length notes.old ≤ 2 }
     requires may { MayGoOn axis.old (queue_of pool.old list) look.now }
-    ensures after { core_at axis.new pool.new list notes.new ≡ spec.gone_on look.now (core_at axis.old pool.old list notes.old) }
+    ensures after { core_at axis.new pool.new list notes.new ≡ spec.core_after_going_on look.now (core_at axis.old pool.old list notes.old) }
     ensures others { pool.new ≡ slice_set pool.old list (queue_of pool.new list) }
 {
     let ending = advance(axis, pool.first(list), look);
@@ -187,7 +187,7 @@ fn read_answer(
     requires room { length notes.old ≤ 2 }
     requires drive { HasDrive axis.old }
     requires driven { driven ≡ drives.is_driven axis.old input.now }
-    ensures after { core_at axis.new pool.new list notes.new ≡ spec.answered input.now (core_at axis.old pool.old list notes.old) }
+    ensures after { core_at axis.new pool.new list notes.new ≡ spec.core_after_answer input.now (core_at axis.old pool.old list notes.old) }
     ensures others { pool.new ≡ slice_set pool.old list (queue_of pool.new list) }
 {
     let error = error_where(driven, axis, input);
@@ -209,7 +209,7 @@ fn run(
     requires drive { HasDrive axis.old }
     requires room { (driven && axis.old.driven) ≡ true → length notes.old ≤ 2 }
     requires may { (driven && axis.old.driven) ≡ true → MayGoOn axis.old (queue_of pool.old list) look.now }
-    ensures after { core_at axis.new pool.new list notes.new ≡ spec.run look.now driven (core_at axis.old pool.old list notes.old) }
+    ensures after { core_at axis.new pool.new list notes.new ≡ spec.core_after_step look.now driven (core_at axis.old pool.old list notes.old) }
     ensures others { pool.new ≡ slice_set pool.old list (queue_of pool.new list) }
 {
     if driven && axis.driven {
@@ -229,7 +229,7 @@ fn reported(input: &DriveIn) -> i32
 
 // The controlword by what the drive's answer tells.
 fn word(input: &DriveIn, axis: &Axis) -> u16
-    ensures { result ≡ spec.word_of input.now axis.now }
+    ensures { result ≡ spec.controlword_for input.now axis.now }
 {
     let state = state_of(input.statusword);
     let pending = axis.reset.is_some();
@@ -238,8 +238,8 @@ fn word(input: &DriveIn, axis: &Axis) -> u16
 
 // The axis after its drive got its controlword: a driven one stays so.
 fn give(driven: bool, input: &DriveIn, axis: &mut Axis)
-    requires { driven ≡ true → spec.word_of input.now axis.old ≡ ENABLE_OPERATION }
-    ensures { axis.new ≡ spec.given input.now axis.old }
+    requires { driven ≡ true → spec.controlword_for input.now axis.old ≡ ENABLE_OPERATION }
+    ensures { axis.new ≡ spec.axis_after_word input.now axis.old }
 {
     axis.controlword = if driven {
         ENABLE_OPERATION
@@ -250,12 +250,12 @@ fn give(driven: bool, input: &DriveIn, axis: &mut Axis)
 }
 
 // What a cycle shows of the axis after it.
-#[tactic(auto, unfolding(crate::specs::Cycles::row_of))]
+#[tactic(auto, unfolding(crate::specs::Cycles::row_shown))]
 fn row(input: &DriveIn, axis: &Axis) -> AxisRow
     requires least { pos 1 ≤ℤ axis.now.inc }
     requires distance { unsigned_abs (axis.now.setpoint -ℤ axis.now.offset) ≤ MOST_COUNTED }
     requires count { IsCount (count_of axis.now.setpoint axis.now.offset axis.now.inc) }
-    ensures { result ≡ spec.row_of input.now axis.now }
+    ensures { result ≡ spec.row_shown input.now axis.now }
 {
     AxisRow {
         input: *input,
@@ -278,10 +278,10 @@ fn cycle_axis(look: &AxisLook, axis: &mut Axis, pool: &mut CommandPool, list: u8
     requires room { notes.old ≡ [] }
     requires kept { IsCoreKept (core_at axis.old pool.old list notes.old) }
     requires look { IsLook axis.old look.now }
-    ensures after { core_at axis.new pool.new list notes.new ≡ spec.cycled look.now (core_at axis.old pool.old list notes.old) }
+    ensures after { core_at axis.new pool.new list notes.new ≡ spec.core_after_cycle look.now (core_at axis.old pool.old list notes.old) }
     ensures others { pool.new ≡ slice_set pool.old list (queue_of pool.new list) }
     ensures kept { IsCoreKept (core_at axis.new pool.new list notes.new) }
-    ensures limits { KeepsSpell axis.old (spec.row_of look.now.input axis.new) axis.new }
+    ensures limits { KeepsSpell axis.old (spec.row_shown look.now.input axis.new) axis.new }
 {
     taken_steps_keep();
     braking_steps_are_only_cut();
@@ -312,9 +312,9 @@ pub fn cycle(
     requires room { notes.old ≡ [] }
     requires kept { IsCoreKept (core_at axis.old pool.old list notes.old) }
     requires look { IsLook axis.old look.now }
-    ensures after { core_at axis.new pool.new list notes.new ≡ spec.cycled look.now (core_at axis.old pool.old list notes.old) }
+    ensures after { core_at axis.new pool.new list notes.new ≡ spec.core_after_cycle look.now (core_at axis.old pool.old list notes.old) }
     ensures others { pool.new ≡ slice_set pool.old list (queue_of pool.new list) }
-    ensures row { result ≡ spec.row_of look.now.input axis.new }
+    ensures row { result ≡ spec.row_shown look.now.input axis.new }
     ensures kept { IsCoreKept (core_at axis.new pool.new list notes.new) }
     ensures limits { KeepsSpell axis.old result axis.new }
 {

@@ -1,6 +1,10 @@
 // Whether an axis is driven, and the errors that its drive's answer brings.
 
-ghost use Rattle.std.specs.Prelude.{◌≡◌, ◌≤◌, ◌<◌, unsigned_abs};
+ghost use Rattle.motion_numbers.specs.Ranges as ranges;
+ghost use Rattle.cia402_machine.specs.Statusword.{state_of_word};
+ghost use Rattle.axis_state.specs.Counts.{place_of};
+ghost use Rattle.std.specs.Ordering.{int_eq};
+ghost use Rattle.std.specs.Prelude.{◌≡◌, ◌≤◌, ◌<◌, unsigned_abs, not, ◌&&◌};
 ghost use Rattle.axis_state.specs.Diagram.{IsFrom};
 ghost use Rattle.axis_state.specs.declared.diagram.AxisEvent.TheVariants as event;
 ghost use Rattle.axis_core.specs.Drives as spec;
@@ -8,8 +12,7 @@ ghost use Rattle.axis_core.specs.Kept.{HasDrive};
 
 use crate::axis::Axis;
 use crate::blocks::power::{enabled_from, is_powered};
-use crate::states::is_error_stop;
-use axis_state::{DriveIn, MOST_REPORTED, place};
+use axis_state::{AxisState, DriveIn, MOST_REPORTED, place};
 use cia402_machine::{CYCLIC_SYNCHRONOUS_POSITION, DriveState, state_of};
 use motion_numbers::is_outside;
 
@@ -22,41 +25,31 @@ const DRIVE_LOST: u16 = 102;
 /// ActualOutside: the drive would be driven from outside the limits.
 const ACTUAL_OUTSIDE: u16 = 105;
 
-// Whether a drive that reads so may take setpoints.
-fn is_enabled(state: Option<DriveState>) -> bool
-    ensures { result ≡ spec.is_enabled state }
-{
-    matches!(state, Some(DriveState::OperationEnabled))
-}
-
 // Whether a drive's answer is operational.
 fn is_operational(input: &DriveIn) -> bool
-    ensures { result ≡ spec.is_operational input.now }
-{
-    is_enabled(state_of(input.statusword)) && input.mode_display == CYCLIC_SYNCHRONOUS_POSITION
-}
-
-// Whether a drive reads a fault or its reaction.
-fn reads_fault(state: Option<DriveState>) -> bool
-    ensures { result ≡ spec.reads_fault state }
+    ensures { result ≡ (spec.is_enabled (state_of_word input.now.statusword)
+        && int_eq input.now.mode_display CYCLIC_SYNCHRONOUS_POSITION) }
 {
     matches!(
-        state,
-        Some(DriveState::FaultReactionActive | DriveState::Fault)
-    )
+        state_of(input.statusword),
+        Some(DriveState::OperationEnabled)
+    ) && input.mode_display == CYCLIC_SYNCHRONOUS_POSITION
 }
 
 /// Whether a drive's answer tells of a fault.
 pub fn has_fault(input: &DriveIn) -> bool
-    ensures { result ≡ spec.has_fault input.now }
+    ensures { result ≡ spec.reads_fault (state_of_word input.now.statusword) }
 {
-    reads_fault(state_of(input.statusword))
+    matches!(
+        state_of(input.statusword),
+        Some(DriveState::FaultReactionActive | DriveState::Fault)
+    )
 }
 
 // Where the drive stands.
 fn actual(axis: &Axis, input: &DriveIn) -> i64
     requires { HasDrive axis.now }
-    ensures value { result ≡ spec.actual_of axis.now input.now }
+    ensures value { result ≡ place_of axis.now.limits.lo input.now.actual axis.now.offset axis.now.inc }
     ensures small { unsigned_abs result ≤ MOST_REPORTED }
 {
     place(axis.limits.lo, input.actual, axis.offset, axis.inc)
@@ -65,7 +58,7 @@ fn actual(axis: &Axis, input: &DriveIn) -> i64
 // Whether the drive stands within the limits.
 fn is_within(axis: &Axis, input: &DriveIn) -> bool
     requires { HasDrive axis.now }
-    ensures { result ≡ spec.is_within axis.now input.now }
+    ensures { result ≡ not (ranges.is_outside axis.now.limits.lo (spec.actual_of axis.now input.now) axis.now.limits.hi) }
 {
     !is_outside(axis.limits.lo, actual(axis, input), axis.limits.hi)
 }
@@ -101,7 +94,7 @@ pub fn answer_error(axis: &Axis, input: &DriveIn) -> u16
     ensures value { result ≡ spec.answer_error_of axis.now input.now }
     ensures may { 0 < result → IsFrom axis.now.state event.Error }
 {
-    if is_error_stop(axis.state) {
+    if matches!(axis.state, AxisState::ErrorStop) {
         0
     } else {
         new_error(axis, input)
@@ -122,7 +115,7 @@ pub fn error_where(driven: bool, axis: &Axis, input: &DriveIn) -> u16
 /// An axis that is not driven, or begins to be, stands where its drive does.
 pub fn stand(driven: bool, input: &DriveIn, axis: &mut Axis)
     requires { HasDrive axis.old }
-    ensures { axis.new ≡ spec.standing driven input.now axis.old }
+    ensures { axis.new ≡ spec.axis_at_drive driven input.now axis.old }
 {
     let place = actual(axis, input);
     axis.state = enabled_from(driven, axis.state);

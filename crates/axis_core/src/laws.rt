@@ -2,25 +2,26 @@
 
 ghost use Rattle.std.specs.Prelude.{◌≡◌, ◌≤◌, ◌⊎◌, length, IsTrue, None, ℤ, [], ◌+◌, ℕ, Bool, Some, true, false, nat_eq, slice_get};
 ghost use Rattle.command_pool.specs.declared.ending.Finish.TheVariants as finish;
-ghost use Rattle.axis_core.specs.blocks.Moves.{blended_with, is_move, target_of};
+ghost use Rattle.axis_core.specs.blocks.Moves.{is_done_by, blended_with, is_move, target_of};
 ghost use Rattle.command_pool.specs.declared.wanted.Wanted.{Wanted};
 ghost use Rattle.axis_core.specs.Arrivals.{Course, course_of, bound_of, turn_of, IsUnderWay, Carried, IsMoveDone};
 ghost use Rattle.axis_core.specs.AxisKept.{IsAxisDef, IsCoreKept, IsLook};
 ghost use Rattle.axis_core.specs.Changes.{GoesBy};
-ghost use Rattle.axis_core.specs.Calls.{commanded, detached, powered_by};
+ghost use Rattle.axis_core.specs.Calls.{commanded, axis_without_owner, core_after_power};
 ghost use Rattle.axis_core.specs.Cores.{Core};
-ghost use Rattle.axis_core.specs.Cycles.{cycled, opened, row_of};
+ghost use Rattle.axis_core.specs.Cycles.{core_after_cycle, axis_at_opening, row_shown};
 ghost use Rattle.axis_core.specs.Demands.{IsMade, asked_in};
 ghost use Rattle.axis_core.specs.Fates.{IsFate, IsSame, command_fate, power_fate, cycle_fate};
 ghost use Rattle.axis_core.specs.Led.{HasCommand, StaysLed};
 ghost use Rattle.axis_core.specs.Drives.{answer_error_of};
-ghost use Rattle.axis_core.specs.Motions.{Leads, halt_step_taken, is_done_by, is_rest, is_slowing, move_step_taken};
+ghost use Rattle.axis_core.specs.blocks.Halts.{is_rest};
+ghost use Rattle.axis_core.specs.Motions.{Leads, halt_step_taken, is_slowing, move_step_taken};
 ghost use Rattle.axis_core.specs.declared.reason.Reason.{Reason};
 ghost use Rattle.axis_core.specs.Owners.{TellsOwner, is_owner, owns, told, brought, disowned};
 ghost use Rattle.axis_core.specs.Refusals.{Asked, refusal_of};
 ghost use Rattle.axis_core.specs.Rows.{KeepsSpell, Stays};
 ghost use Rattle.axis_core.specs.Shown.{IsShown};
-ghost use Rattle.axis_core.specs.blocks.Path.{on_path};
+ghost use Rattle.axis_core.specs.blocks.Path.{axis_on_path};
 ghost use Rattle.axis_core.specs.declared.look.AxisLook.{AxisLook};
 ghost use Rattle.axis_state.specs.Counts.{IsCount};
 ghost use Rattle.axis_state.specs.declared.definition.AxisDef.{AxisDef};
@@ -36,17 +37,17 @@ use trapezoid_plan::{halts_come_to_rest_in_time, moves_arrive_in_time};
 /// What always holds of an axis and of the commands that wait for it holds at opening, and after every call and every
 /// cycle, whose row keeps the axis's limits.
 pub fn axes_stay_kept()
-    ensures opened { (d : AxisDef) → IsAxisDef d → IsCoreKept (record { axis = opened d; waiting = []; notes = [] }) }
+    ensures opened { (d : AxisDef) → IsAxisDef d → IsCoreKept (record { axis = axis_at_opening d; waiting = []; notes = [] }) }
     ensures command { (c : Core) (number : ℕ) (w : Wanted) (jerk : ℤ) (held : Bool) (tables : ℕ) → IsCoreKept c → IsMade w →
         IsCoreKept (commanded (asked_in c number w jerk held tables) c) }
-    ensures power { (enable : Bool) (c : Core) → IsCoreKept c → IsCoreKept (powered_by enable c) }
+    ensures power { (enable : Bool) (c : Core) → IsCoreKept c → IsCoreKept (core_after_power enable c) }
     ensures detach { (owner : ℕ) (c : Core) → IsCoreKept c → IsCoreKept (disowned owner c) }
     ensures path { (on : Bool) (c : Core) → IsCoreKept c → c.axis.active ≡ None → IsTrue on ⊎ (c.axis.previous ≡ c.axis.setpoint) →
-        IsCoreKept (record c { axis = on_path on c.axis }) }
+        IsCoreKept (record c { axis = axis_on_path on c.axis }) }
     ensures cycle { (look : AxisLook) (c : Core) → IsCoreKept c → IsLook c.axis look → IsCount look.input.actual →
-        IsCoreKept (cycled look c) }
+        IsCoreKept (core_after_cycle look c) }
     ensures row { (look : AxisLook) (c : Core) → IsCoreKept c → IsLook c.axis look →
-        KeepsSpell c.axis (row_of look.input (cycled look c).axis) (cycled look c).axis }
+        KeepsSpell c.axis (row_shown look.input (core_after_cycle look c).axis) (core_after_cycle look c).axis }
 {
     taken_steps_keep();
     braking_steps_are_only_cut();
@@ -60,44 +61,44 @@ pub fn axes_stay_kept()
 /// Calls between cycles move no axis: it stays where it is, within the same limits and in its driven spell.
 pub fn calls_move_no_axis()
     ensures command { (q : Asked) (c : Core) → Stays c.axis (commanded q c).axis }
-    ensures power { (enable : Bool) (c : Core) → Stays c.axis (powered_by enable c).axis }
-    ensures detach { (owner : ℕ) (a : Axis) → Stays a (detached owner a) }
-    ensures path { (on : Bool) (a : Axis) → Stays a (on_path on a) }
+    ensures power { (enable : Bool) (c : Core) → Stays c.axis (core_after_power enable c).axis }
+    ensures detach { (owner : ℕ) (a : Axis) → Stays a (axis_without_owner owner a) }
+    ensures path { (on : Bool) (a : Axis) → Stays a (axis_on_path on a) }
 {}
 
 /// An axis shows an error, 101 to 106, exactly in ErrorStop, and an instance holds Stopping only in Stopping: so at
 /// opening, and after every call and every cycle.
 pub fn errors_stand_in_error_stop()
-    ensures opened { (d : AxisDef) → IsShown (opened d) }
+    ensures opened { (d : AxisDef) → IsShown (axis_at_opening d) }
     ensures command { (q : Asked) (c : Core) → q.axis ≡ c.axis → IsMade q.wanted → IsShown c.axis → IsShown (commanded q c).axis }
-    ensures power { (enable : Bool) (c : Core) → IsShown c.axis → IsShown (powered_by enable c).axis }
-    ensures detach { (owner : ℕ) (a : Axis) → IsShown a → IsShown (detached owner a) }
-    ensures path { (on : Bool) (a : Axis) → IsShown a → IsShown (on_path on a) }
-    ensures cycle { (look : AxisLook) (c : Core) → IsShown c.axis → IsShown (cycled look c).axis }
+    ensures power { (enable : Bool) (c : Core) → IsShown c.axis → IsShown (core_after_power enable c).axis }
+    ensures detach { (owner : ℕ) (a : Axis) → IsShown a → IsShown (axis_without_owner owner a) }
+    ensures path { (on : Bool) (a : Axis) → IsShown a → IsShown (axis_on_path on a) }
+    ensures cycle { (look : AxisLook) (c : Core) → IsShown c.axis → IsShown (core_after_cycle look c).axis }
 {}
 
 /// A fate is what becomes of the active command of an axis: by a command that is asked, a Power, an owner that is taken
 /// away, a group's path and a cycle.
 pub fn fates_are_told()
     ensures command { (q : Asked) (c : Core) → IsFate (command_fate q c) c.axis.active (commanded q c).axis.active }
-    ensures power { (enable : Bool) (c : Core) → IsFate (power_fate enable c) c.axis.active (powered_by enable c).axis.active }
-    ensures detach { (owner : ℕ) (a : Axis) → IsSame a.active (detached owner a).active }
-    ensures path { (on : Bool) (a : Axis) → (on_path on a).active ≡ a.active }
-    ensures cycle { (look : AxisLook) (c : Core) → IsFate (cycle_fate look c) c.axis.active (cycled look c).axis.active }
+    ensures power { (enable : Bool) (c : Core) → IsFate (power_fate enable c) c.axis.active (core_after_power enable c).axis.active }
+    ensures detach { (owner : ℕ) (a : Axis) → IsSame a.active (axis_without_owner owner a).active }
+    ensures path { (on : Bool) (a : Axis) → (axis_on_path on a).active ≡ a.active }
+    ensures cycle { (look : AxisLook) (c : Core) → IsFate (cycle_fate look c) c.axis.active (core_after_cycle look c).axis.active }
 {}
 
 /// The owner of the active command is told how it ends; and each instance is told of each command that it has no longer,
 /// once, and of no other: what it has and what it was told stay the same together, but for the command that it brings.
 pub fn ends_are_told_once()
     ensures told_command { (q : Asked) (c : Core) → TellsOwner (command_fate q c) c.axis.active (commanded q c).notes }
-    ensures told_power { (enable : Bool) (c : Core) → TellsOwner (power_fate enable c) c.axis.active (powered_by enable c).notes }
-    ensures told_cycle { (look : AxisLook) (c : Core) → TellsOwner (cycle_fate look c) c.axis.active (cycled look c).notes }
+    ensures told_power { (enable : Bool) (c : Core) → TellsOwner (power_fate enable c) c.axis.active (core_after_power enable c).notes }
+    ensures told_cycle { (look : AxisLook) (c : Core) → TellsOwner (cycle_fate look c) c.axis.active (core_after_cycle look c).notes }
     ensures once_command { (k : ℕ) (q : Asked) (c : Core) →
         owns k (commanded q c) + told k (commanded q c).notes ≡ owns k c + told k c.notes + is_owner k (brought (refusal_of q) q.wanted) }
     ensures once_power { (k : ℕ) (enable : Bool) (c : Core) →
-        owns k (powered_by enable c) + told k (powered_by enable c).notes ≡ owns k c + told k c.notes }
+        owns k (core_after_power enable c) + told k (core_after_power enable c).notes ≡ owns k c + told k c.notes }
     ensures once_cycle { (k : ℕ) (look : AxisLook) (c : Core) →
-        owns k (cycled look c) + told k (cycled look c).notes ≡ owns k c + told k c.notes }
+        owns k (core_after_cycle look c) + told k (core_after_cycle look c).notes ≡ owns k c + told k c.notes }
     ensures taken_away { (k : ℕ) (c : Core) → owns k (disowned k c) ≡ 0 }
     ensures left { (j k : ℕ) (c : Core) → nat_eq k j ≡ false → owns j (disowned k c) ≡ owns j c }
 {}
@@ -111,10 +112,10 @@ pub fn courses_end_in_time()
     ensures command { (n : ℕ) (course : Course) (q : Asked) (c : Core) → IsUnderWay n course c.axis →
         Carried n 0 course (turn_of (command_fate q c)) (commanded q c).axis }
     ensures power { (n : ℕ) (course : Course) (enable : Bool) (c : Core) → IsUnderWay n course c.axis →
-        Carried n 0 course (turn_of (power_fate enable c)) (powered_by enable c).axis }
-    ensures detach { (n : ℕ) (course : Course) (owner : ℕ) (a : Axis) → IsUnderWay n course a → IsUnderWay n course (detached owner a) }
+        Carried n 0 course (turn_of (power_fate enable c)) (core_after_power enable c).axis }
+    ensures detach { (n : ℕ) (course : Course) (owner : ℕ) (a : Axis) → IsUnderWay n course a → IsUnderWay n course (axis_without_owner owner a) }
     ensures cycle { (n : ℕ) (course : Course) (look : AxisLook) (c : Core) → IsCoreKept c → IsUnderWay n course c.axis →
-        Carried n 1 course (turn_of (cycle_fate look c)) (cycled look c).axis }
+        Carried n 1 course (turn_of (cycle_fate look c)) (core_after_cycle look c).axis }
 {
     moves_arrive_in_time();
     halts_come_to_rest_in_time();
@@ -125,7 +126,7 @@ pub fn courses_end_in_time()
 pub fn moves_are_done_at_their_targets()
     ensures { (look : AxisLook) (c : Core) (w : Wanted) → IsCoreKept c → c.axis.active ≡ Some w → is_move w.kind ≡ true →
         (cycle_fate look c).ends ≡ Some finish.Done →
-        IsMoveDone (blended_with c.axis w (slice_get c.waiting 0)) (target_of w) c.axis.setpoint (cycled look c).axis }
+        IsMoveDone (blended_with c.axis w (slice_get c.waiting 0)) (target_of w) c.axis.setpoint (core_after_cycle look c).axis }
 {
     blends_apply_by_test();
 }
@@ -135,10 +136,10 @@ pub fn moves_are_done_at_their_targets()
 pub fn states_change_by_the_diagram()
     ensures command { (c : Core) (number : ℕ) (w : Wanted) (jerk : ℤ) (held : Bool) (tables : ℕ) → IsCoreKept c → IsMade w →
         GoesBy 1 c.axis.state (commanded (asked_in c number w jerk held tables) c).axis.state }
-    ensures power { (enable : Bool) (c : Core) → GoesBy 1 c.axis.state (powered_by enable c).axis.state }
-    ensures path { (on : Bool) (a : Axis) → GoesBy 1 a.state (on_path on a).state }
-    ensures detach { (owner : ℕ) (a : Axis) → (detached owner a).state ≡ a.state }
-    ensures cycle { (look : AxisLook) (c : Core) → IsCoreKept c → IsLook c.axis look → GoesBy 3 c.axis.state (cycled look c).axis.state }
+    ensures power { (enable : Bool) (c : Core) → GoesBy 1 c.axis.state (core_after_power enable c).axis.state }
+    ensures path { (on : Bool) (a : Axis) → GoesBy 1 a.state (axis_on_path on a).state }
+    ensures detach { (owner : ℕ) (a : Axis) → (axis_without_owner owner a).state ≡ a.state }
+    ensures cycle { (look : AxisLook) (c : Core) → IsCoreKept c → IsLook c.axis look → GoesBy 3 c.axis.state (core_after_cycle look c).axis.state }
 {
     taken_steps_keep();
     braking_steps_are_only_cut();
@@ -152,20 +153,20 @@ pub fn states_change_by_the_diagram()
 /// An axis in a state of a command that moves it has an active command, and it comes on its group's path by `on_path`
 /// alone.
 pub fn moving_axes_have_commands()
-    ensures opened { (d : AxisDef) → HasCommand (opened d) }
+    ensures opened { (d : AxisDef) → HasCommand (axis_at_opening d) }
     ensures command { (q : Asked) (c : Core) → StaysLed c.axis (commanded q c).axis }
-    ensures power { (enable : Bool) (c : Core) → StaysLed c.axis (powered_by enable c).axis }
-    ensures detach { (owner : ℕ) (a : Axis) → StaysLed a (detached owner a) }
-    ensures path { (on : Bool) (a : Axis) → HasCommand a → HasCommand (on_path on a) }
-    ensures cycle { (look : AxisLook) (c : Core) → IsCoreKept c → StaysLed c.axis (cycled look c).axis }
+    ensures power { (enable : Bool) (c : Core) → StaysLed c.axis (core_after_power enable c).axis }
+    ensures detach { (owner : ℕ) (a : Axis) → StaysLed a (axis_without_owner owner a) }
+    ensures path { (on : Bool) (a : Axis) → HasCommand a → HasCommand (axis_on_path on a) }
+    ensures cycle { (look : AxisLook) (c : Core) → IsCoreKept c → StaysLed c.axis (core_after_cycle look c).axis }
 {}
 
 /// At most eight commands wait for an axis: a command that is asked keeps that, and a Power and a cycle add none.
 pub fn at_most_eight_wait()
     ensures command { (c : Core) (number : ℕ) (w : Wanted) (jerk : ℤ) (held : Bool) (tables : ℕ) → IsCoreKept c → IsMade w →
         length c.waiting ≤ 8 → length (commanded (asked_in c number w jerk held tables) c).waiting ≤ 8 }
-    ensures power { (enable : Bool) (c : Core) → length (powered_by enable c).waiting ≤ length c.waiting }
-    ensures cycle { (look : AxisLook) (c : Core) → length (cycled look c).waiting ≤ length c.waiting }
+    ensures power { (enable : Bool) (c : Core) → length (core_after_power enable c).waiting ≤ length c.waiting }
+    ensures cycle { (look : AxisLook) (c : Core) → length (core_after_cycle look c).waiting ≤ length c.waiting }
 {}
 
 /// While the drive's answer brings no error, a move goes on by the taken step of its plan, alone or in a blend, and is
@@ -177,9 +178,9 @@ pub fn moves_go_on_by_their_steps()
         Leads (move_step_taken (blended_with c.axis w (slice_get c.waiting 0)) c.axis w)
         (is_done_by (blended_with c.axis w (slice_get c.waiting 0)) c.axis w
         (move_step_taken (blended_with c.axis w (slice_get c.waiting 0)) c.axis w))
-        c.axis (cycle_fate look c) (cycled look c).axis }
+        c.axis (cycle_fate look c) (core_after_cycle look c).axis }
     ensures halts { (look : AxisLook) (c : Core) (w : Wanted) → IsCoreKept c → c.axis.active ≡ Some w → is_slowing w.kind ≡ true →
         nat_eq (answer_error_of c.axis look.input) 0 ≡ true →
-        Leads (halt_step_taken c.axis w) (is_rest (halt_step_taken c.axis w)) c.axis (cycle_fate look c) (cycled look c).axis }
+        Leads (halt_step_taken c.axis w) (is_rest (halt_step_taken c.axis w)) c.axis (cycle_fate look c) (core_after_cycle look c).axis }
     ensures refused { (q : Asked) (c : Core) (r : Reason) → refusal_of q ≡ Some r → commanded q c ≡ c }
 {}

@@ -15,7 +15,6 @@ mod opening;
 mod progress;
 mod reason;
 mod refusing;
-mod states;
 mod steps;
 mod taking_over;
 #[cfg(test)]

@@ -8,7 +8,7 @@ ghost use Rattle.axis_core.specs.AxisKept.{IsAxisDef, IsAxisKept, IsLook, IsQueu
 ghost use Rattle.axis_core.specs.Calls as commands;
 ghost use Rattle.axis_core.specs.Cores.{core_at};
 ghost use Rattle.axis_core.specs.Cycles as cycles;
-ghost use Rattle.axis_core.specs.Demands.{IsMade, asked_by};
+ghost use Rattle.axis_core.specs.Demands.{IsMade, asked_in};
 ghost use Rattle.axis_core.specs.Drives as drives;
 ghost use Rattle.axis_core.specs.Looks as looks;
 ghost use Rattle.axis_core.specs.blocks.Path as path;
@@ -44,7 +44,7 @@ impl AxisCore {
     /// An axis at opening: in Standstill with power on where it is ready, else Disabled.
     pub fn open(def: &AxisDef) -> AxisCore
         requires { IsAxisDef def.now }
-        ensures { result ≡ cycles.opened def.now }
+        ensures { result ≡ cycles.axis_at_opening def.now }
     {
         standing_is_kept();
         setpoints_have_counts();
@@ -69,10 +69,10 @@ impl AxisCore {
         requires room { notes.old ≡ [] }
         requires queue { IsQueueKept self.old (queue_of pool.old list) }
         requires made { IsMade wanted.now }
-        ensures answer { result ≡ commands.answer_of (asked_by self.old pool.old list wanted.now jerk held tables)
+        ensures answer { result ≡ commands.answer_of (asked_in (core_at self.old pool.old list notes.old) list wanted.now jerk held tables)
             (core_at self.old pool.old list notes.old) }
         ensures after { core_at self.new pool.new list notes.new
-            ≡ commands.commanded (asked_by self.old pool.old list wanted.now jerk held tables) (core_at self.old pool.old list notes.old) }
+            ≡ commands.commanded (asked_in (core_at self.old pool.old list notes.old) list wanted.now jerk held tables) (core_at self.old pool.old list notes.old) }
         ensures others { pool.new ≡ slice_set pool.old list (queue_of pool.new list) }
         ensures queue { IsQueueKept self.new (queue_of pool.new list) }
     {
@@ -94,7 +94,7 @@ impl AxisCore {
         requires room { notes.old ≡ [] }
         requires queue { IsQueueKept self.old (queue_of pool.old list) }
         ensures after { core_at self.new pool.new list notes.new
-            ≡ commands.powered_by enable (core_at self.old pool.old list notes.old) }
+            ≡ commands.core_after_power enable (core_at self.old pool.old list notes.old) }
         ensures others { pool.new ≡ slice_set pool.old list (queue_of pool.new list) }
         ensures queue { IsQueueKept self.new (queue_of pool.new list) }
     {
@@ -137,7 +137,7 @@ impl AxisCore {
     pub fn on_path(&mut self, on: bool)
         requires idle { self.old.active ≡ None }
         requires rest { IsTrue on ⊎ (self.old.previous ≡ self.old.setpoint) }
-        ensures after { self.new ≡ path.on_path on self.old }
+        ensures after { self.new ≡ path.axis_on_path on self.old }
         ensures queue { (waiting : List Wanted) → IsQueueKept self.old waiting → IsQueueKept self.new waiting }
     {
         crate::blocks::path::on_path(on, &mut self.axis);
@@ -145,7 +145,7 @@ impl AxisCore {
 
     /// Takes an owner away from the active command, the pending Reset and the hold on Stopping.
     pub fn detach(&mut self, owner: u16)
-        ensures after { self.new ≡ commands.detached owner self.old }
+        ensures after { self.new ≡ commands.axis_without_owner owner self.old }
         ensures queue { (waiting : List Wanted) → IsQueueKept self.old waiting
             → IsQueueKept self.new (map (waiting_lists.detached owner) waiting) }
     {
@@ -194,10 +194,10 @@ impl AxisCore {
         requires room { notes.old ≡ [] }
         requires queue { IsQueueKept self.old (queue_of pool.old list) }
         requires look { IsLook self.old look.now }
-        ensures row { result ≡ cycles.row_of look.now.input self.new }
+        ensures row { result ≡ cycles.row_shown look.now.input self.new }
         ensures limits { KeepsSpell self.old result self.new }
         ensures after { core_at self.new pool.new list notes.new
-            ≡ cycles.cycled look.now (core_at self.old pool.old list notes.old) }
+            ≡ cycles.core_after_cycle look.now (core_at self.old pool.old list notes.old) }
         ensures others { pool.new ≡ slice_set pool.old list (queue_of pool.new list) }
         ensures queue { IsQueueKept self.new (queue_of pool.new list) }
     {

@@ -8,9 +8,9 @@ use axis_state::{AxisDef, AxisState};
 use cia402_machine::{DISABLE_VOLTAGE, ENABLE_OPERATION};
 
 /// An axis at opening: a ready one is driven, in Standstill, with power on; another is Disabled.
-#[tactic(auto, unfolding(crate::specs::Cycles::opened))]
+#[tactic(auto, unfolding(crate::specs::Cycles::axis_at_opening))]
 pub fn opened(def: &AxisDef) -> Axis
-    ensures { result ≡ spec.opened def.now }
+    ensures { result ≡ spec.axis_at_opening def.now }
 {
     Axis {
         limits: def.limits,

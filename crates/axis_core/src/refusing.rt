@@ -9,13 +9,12 @@ use crate::axis::{Axis, MOST_SETPOINT};
 use crate::blocks::cam::is_no_table;
 use crate::blocks::gear::{is_bad_ratio, is_master, is_not_following};
 use crate::blocks::home::breaks_counts;
-use crate::blocks::moves::{is_aborting, known_target};
+use crate::blocks::moves::known_target;
 use crate::blocks::velocity::least_velocity;
 use crate::kinds::tests_of;
 use crate::reason::Reason;
-use crate::states::{is_disabled, is_error_stop, is_homing, is_standstill, is_stopping};
-use axis_state::MOST_OFFSET;
-use command_pool::{BlockKind, Wanted};
+use axis_state::{AxisState, MOST_OFFSET};
+use command_pool::{BlockKind, BufferMode, Wanted};
 use motion_numbers::is_outside;
 
 /// What a command is asked of.
@@ -59,7 +58,9 @@ fn is_queue_full(asking: &Asking) -> bool
     requires { MayAsk asking.now }
     ensures { result ≡ spec.holds Reason.QueueFull (asked_of asking.now) }
 {
-    !is_aborting(asking.wanted.mode) && asking.axis.active.is_some() && asking.waiting == 8
+    !matches!(asking.wanted.mode, BufferMode::Aborting)
+        && asking.axis.active.is_some()
+        && asking.waiting == 8
 }
 
 // Whether a reason to refuse a command holds.
@@ -70,10 +71,10 @@ fn holds(reason: Reason, asking: &Asking) -> bool
 {
     let Asking { axis, wanted, .. } = *asking;
     match reason {
-        Reason::NotPowered => is_disabled(axis.state),
-        Reason::InErrorStop => is_error_stop(axis.state),
-        Reason::InStopping => is_stopping(axis.state),
-        Reason::InHoming => is_homing(axis.state),
+        Reason::NotPowered => matches!(axis.state, AxisState::Disabled),
+        Reason::InErrorStop => matches!(axis.state, AxisState::ErrorStop),
+        Reason::InStopping => matches!(axis.state, AxisState::Stopping),
+        Reason::InHoming => matches!(axis.state, AxisState::Homing),
         Reason::GroupHoldsAxis => asking.held,
         Reason::BadVelocity => is_outside(
             least_velocity(wanted.kind, &axis.limits),
@@ -89,7 +90,7 @@ fn holds(reason: Reason, asking: &Asking) -> bool
             known_target(axis, asking.last, wanted),
         ),
         Reason::QueueFull => is_queue_full(asking),
-        Reason::NotAtRest => !is_standstill(axis.state),
+        Reason::NotAtRest => !matches!(axis.state, AxisState::Standstill),
         Reason::BadRatio => is_bad_ratio(&wanted.follow),
         Reason::NoTable => is_no_table(asking.tables, &wanted.follow),
         Reason::SelfMaster => is_master(asking.number, &wanted.follow),

@@ -1,6 +1,7 @@
 // The steps of an axis, and which of them its commands may want.
 
-ghost use Rattle.std.specs.Prelude.{◌≡◌, ◌≤◌, ◌*◌, ◌+ℤ◌, ◌-ℤ◌, unsigned_abs, IfOk};
+ghost use Rattle.command_pool.specs.declared.ending.Finish.TheVariants as ending;
+ghost use Rattle.std.specs.Prelude.{◌≡◌, ◌≤◌, ◌*◌, ◌+ℤ◌, ◌-ℤ◌, unsigned_abs, IfOk, if◌then◌else◌, Some, None, is_some, ◌&&◌};
 ghost use Rattle.std.specs.Option.{option_copied};
 ghost use Rattle.command_pool.specs.Rates.{AreRates};
 ghost use Rattle.axis_core.specs.Kept.{IsMoving, IsNear};
@@ -20,7 +21,7 @@ const SOFT_LIMIT: u16 = 103;
 /// The step of the last cycle.
 pub fn old_step(axis: &Axis) -> i64
     requires { IsStep (old_step_of axis.now) }
-    ensures value { result ≡ old_step_of axis.now }
+    ensures value { result ≡ axis.now.setpoint -ℤ axis.now.previous }
     ensures small { IsStep result }
 {
     axis.setpoint - axis.previous
@@ -96,7 +97,7 @@ pub fn place_after(axis: &Axis, step: i64) -> i64
 
 /// The axis at its next setpoint.
 pub fn move_to(next: i64, axis: &mut Axis)
-    ensures { axis.new ≡ spec.moved_to next axis.old }
+    ensures { axis.new ≡ spec.axis_after_step next axis.old }
 {
     axis.previous = axis.setpoint;
     axis.setpoint = next;
@@ -104,14 +105,14 @@ pub fn move_to(next: i64, axis: &mut Axis)
 
 /// How a command ends where this holds.
 pub fn ends_where(holds: bool, finish: Finish) -> Option<Finish>
-    ensures { result ≡ spec.ends_where holds finish }
+    ensures { result ≡ (if holds then Some finish else None) }
 {
     if holds { Some(finish) } else { None }
 }
 
 /// The first command that waits takes over where the active one has reached what it goes for.
 pub fn gives_way(next: Option<&Wanted>, reached: bool) -> Option<Finish>
-    ensures { result ≡ spec.gives_way (option_copied next.entry) reached }
+    ensures { result ≡ (if is_some (option_copied next.entry) && reached then Some ending.Aborted else None) }
 {
     ends_where(next.is_some() && reached, Finish::Aborted)
 }

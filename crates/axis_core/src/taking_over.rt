@@ -6,7 +6,7 @@ ghost use Rattle.axis_state.specs.declared.diagram.AxisEvent.TheVariants as even
 ghost use Rattle.buffer_modes.specs.Queue.{active_note};
 ghost use Rattle.command_pool.specs.Waiting.{queue_of};
 ghost use Rattle.axis_core.specs.Cores as spec;
-ghost use Rattle.axis_core.specs.Cores.{core_at, MayBegin, MayTakeOver, all_ended, failed, begun, begun_by, ended, taken_over, taken_over_by, begun_from};
+ghost use Rattle.axis_core.specs.Cores.{core_at, MayBegin, MayTakeOver, core_after_all_ends, core_after_error, axis_under, axis_under_by, core_after_end, core_after_take_over, core_taken_by, core_under_from};
 ghost use Rattle.axis_core.specs.Kept.{MayEnd};
 ghost use Rattle.axis_core.specs.blocks.Halts as halts;
 ghost use Rattle.axis_core.specs.blocks.Moves.{position_of};
@@ -25,7 +25,7 @@ const TARGET_OUTSIDE_AT_START: u16 = 106;
 // The state in which a command is active.
 fn state_with(kind: BlockKind, state: AxisState) -> AxisState
     requires { MayBegin kind state }
-    ensures { result ≡ spec.state_with kind state }
+    ensures { result ≡ spec.state_during kind state }
 {
     match event_of(kind) {
         Some(event) => axis_next(state, event),
@@ -34,10 +34,10 @@ fn state_with(kind: BlockKind, state: AxisState) -> AxisState
 }
 
 /// A command becomes active.
-#[tactic(auto, unfolding(crate::specs::Cores::begun_by))]
+#[tactic(auto, unfolding(crate::specs::Cores::axis_under_by))]
 pub fn begin(wanted: &Wanted, axis: &mut Axis)
     requires { MayBegin wanted.now.kind axis.old.state }
-    ensures { axis.new ≡ begun wanted.now axis.old }
+    ensures { axis.new ≡ axis_under wanted.now axis.old }
 {
     axis.state = state_with(wanted.kind, axis.state);
     axis.active = Some(*wanted);
@@ -46,11 +46,11 @@ pub fn begin(wanted: &Wanted, axis: &mut Axis)
 }
 
 /// A command that is the active one already is entered by its event.
-#[tactic(auto, unfolding(crate::specs::Cores::begun_by))]
+#[tactic(auto, unfolding(crate::specs::Cores::axis_under_by))]
 pub fn enter(kind: BlockKind, owner: Option<u16>, axis: &mut Axis)
     requires { MayBegin kind axis.old.state }
     ensures { axis.new ≡ record axis.old {
-      state = spec.state_with kind axis.old.state;
+      state = spec.state_during kind axis.old.state;
       reached = false;
       hold = halts.hold_by kind owner;
     } }
@@ -64,7 +64,7 @@ pub fn enter(kind: BlockKind, owner: Option<u16>, axis: &mut Axis)
 pub fn end_all(axis: &mut Axis, pool: &mut CommandPool, list: u8, finish: Finish, notes: &mut Notes)
     requires list { list < length pool.old }
     requires room { length notes.old ≤ 3 }
-    ensures after { core_at axis.new pool.new list notes.new ≡ all_ended finish (core_at axis.old pool.old list notes.old) }
+    ensures after { core_at axis.new pool.new list notes.new ≡ core_after_all_ends finish (core_at axis.old pool.old list notes.old) }
     ensures others { pool.new ≡ slice_set pool.old list (queue_of pool.new list) }
 {
     abort_all(pool, list, &mut axis.active, finish, notes);
@@ -73,7 +73,7 @@ pub fn end_all(axis: &mut Axis, pool: &mut CommandPool, list: u8, finish: Finish
 // The axis has an error, apart from its commands.
 fn stop(number: u16, axis: &mut Axis)
     requires { IsFrom axis.old.state event.Error }
-    ensures { axis.new ≡ spec.stopped number axis.old }
+    ensures { axis.new ≡ spec.axis_in_error_stop number axis.old }
 {
     axis.state = axis_next(axis.state, AxisEvent::Error);
     axis.error = number;
@@ -82,12 +82,12 @@ fn stop(number: u16, axis: &mut Axis)
 }
 
 /// The axis has an error: its commands are ended.
-#[tactic(auto, unfolding(crate::specs::Cores::failed))]
+#[tactic(auto, unfolding(crate::specs::Cores::core_after_error))]
 pub fn fail(number: u16, axis: &mut Axis, pool: &mut CommandPool, list: u8, notes: &mut Notes)
     requires list { list < length pool.old }
     requires room { length notes.old ≤ 3 }
     requires state { IsFrom axis.old.state event.Error }
-    ensures after { core_at axis.new pool.new list notes.new ≡ failed number (core_at axis.old pool.old list notes.old) }
+    ensures after { core_at axis.new pool.new list notes.new ≡ core_after_error number (core_at axis.old pool.old list notes.old) }
     ensures others { pool.new ≡ slice_set pool.old list (queue_of pool.new list) }
 {
     end_all(axis, pool, list, Finish::Error(number), notes);
@@ -96,7 +96,7 @@ pub fn fail(number: u16, axis: &mut Axis, pool: &mut CommandPool, list: u8, note
 
 // The state of an axis whose last command is done.
 fn settled(state: AxisState) -> AxisState
-    ensures { result ≡ spec.settled state }
+    ensures { result ≡ spec.state_after_last state }
 {
     match state {
         AxisState::DiscreteMotion => axis_next(state, AxisEvent::LastDone),
@@ -118,7 +118,7 @@ fn begin_from(
     requires room { length notes.old ≤ 3 }
     requires state { IsFrom axis.old.state event.Error }
     requires begin { MayBegin wanted.now.kind axis.old.state }
-    ensures after { core_at axis.new pool.new list notes.new ≡ begun_from wanted.now target (core_at axis.old pool.old list notes.old) }
+    ensures after { core_at axis.new pool.new list notes.new ≡ core_under_from wanted.now target (core_at axis.old pool.old list notes.old) }
     ensures others { pool.new ≡ slice_set pool.old list (queue_of pool.new list) }
 {
     if is_outside(axis.limits.lo, target, axis.limits.hi) {
@@ -160,7 +160,7 @@ fn begin_waiting(
     requires setpoint { unsigned_abs axis.old.setpoint ≤ MOST_REPORTED }
     requires position { unsigned_abs (position_of wanted.now) ≤ MOST_NUMBER }
     ensures after { core_at axis.new pool.new list notes.new
-        ≡ taken_over_by wanted.now.kind wanted.now.target wanted.now (core_at axis.old pool.old list notes.old) }
+        ≡ core_taken_by wanted.now.kind wanted.now.target wanted.now (core_at axis.old pool.old list notes.old) }
     ensures others { pool.new ≡ slice_set pool.old list (queue_of pool.new list) }
 {
     match (wanted.kind, wanted.target) {
@@ -193,7 +193,7 @@ fn take_over_next(axis: &mut Axis, pool: &mut CommandPool, list: u8, notes: &mut
     requires waiting { MayTakeOver axis.old.state (queue_of pool.old list) }
     requires setpoint { unsigned_abs axis.old.setpoint ≤ MOST_REPORTED }
     ensures after { core_at axis.new pool.new list notes.new
-        ≡ taken_over (queue_of pool.old list) (core_at axis.old pool.old list notes.old) }
+        ≡ core_after_take_over (queue_of pool.old list) (core_at axis.old pool.old list notes.old) }
     ensures others { pool.new ≡ slice_set pool.old list (queue_of pool.new list) }
 {
     match pool.pop_first(list) {
@@ -203,14 +203,14 @@ fn take_over_next(axis: &mut Axis, pool: &mut CommandPool, list: u8, notes: &mut
 }
 
 // The active command ends so, and the first one that waits takes over.
-#[tactic(auto, unfolding(crate::specs::Cores::ended))]
+#[tactic(auto, unfolding(crate::specs::Cores::core_after_end))]
 fn end(finish: Finish, axis: &mut Axis, pool: &mut CommandPool, list: u8, notes: &mut Notes)
     requires list { list < length pool.old }
     requires room { length notes.old ≤ 2 }
     requires state { IsFrom axis.old.state event.Error }
     requires waiting { MayTakeOver axis.old.state (queue_of pool.old list) }
     requires setpoint { unsigned_abs axis.old.setpoint ≤ MOST_REPORTED }
-    ensures after { core_at axis.new pool.new list notes.new ≡ ended finish (core_at axis.old pool.old list notes.old) }
+    ensures after { core_at axis.new pool.new list notes.new ≡ core_after_end finish (core_at axis.old pool.old list notes.old) }
     ensures others { pool.new ≡ slice_set pool.old list (queue_of pool.new list) }
 {
     note_end(axis, finish, notes);
@@ -228,7 +228,7 @@ pub fn end_by(
     requires list { list < length pool.old }
     requires room { length notes.old ≤ 2 }
     requires may { IfSome ending (λ f. MayEnd axis.old (queue_of pool.old list)) }
-    ensures after { core_at axis.new pool.new list notes.new ≡ spec.ended_by ending (core_at axis.old pool.old list notes.old) }
+    ensures after { core_at axis.new pool.new list notes.new ≡ spec.core_after_ending ending (core_at axis.old pool.old list notes.old) }
     ensures others { pool.new ≡ slice_set pool.old list (queue_of pool.new list) }
 {
     match ending {

@@ -18,4 +18,4 @@ pub use notes::{Note, Notes};
 pub use out_of_memory::OutOfMemory;
 pub use pool::CommandPool;
 pub use rates::Rates;
-pub use wanted::{Follow, Wanted};
+pub use wanted::{Follow, Wanted, without};

@@ -62,8 +62,8 @@ pub(crate) fn detach_from(wanted: &mut Wanted, owner: u16)
     wanted.owner = without(wanted.owner, owner);
 }
 
-// The owner, and None where it is this one.
-fn without(owner: Option<u16>, gone: u16) -> Option<u16>
+/// An owner, and None where it is the one that is gone.
+pub fn without(owner: Option<u16>, gone: u16) -> Option<u16>
     ensures { result ≡ spec.without gone owner }
 {
     match owner {

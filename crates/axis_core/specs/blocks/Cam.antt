@@ -24,7 +24,9 @@ is_no_table tables f = false
 abbrev pub is_in_sync : Axis → AxisLook → Bool
 is_in_sync a look = is_safe_step a (look.cam -ℤ a.setpoint)
 
--- what a cam wants whose position is safe or not: the step to it; error 104, FollowLost, where it was in sync and is not any more; else the move step toward it. The error is this project's profile
+-- what a cam wants whose position is safe or not: the step to it; error 104, FollowLost, where it
+-- was in sync and is not any more; else the move step toward it. The error is this project's
+-- profile
 abbrev pub cam_wish_where : Bool → Axis → Wanted → ℤ → Result ℤ ℕ
 cam_wish_where true a w cam = Ok (cam -ℤ a.setpoint)
 cam_wish_where false a w cam = if a.reached then Err 104 else guarded a (step_toward a cam w)
@@ -32,6 +34,7 @@ cam_wish_where false a w cam = if a.reached then Err 104 else guarded a (step_to
 abbrev pub cam_wish : Axis → Wanted → AxisLook → Result ℤ ℕ
 cam_wish a w look = cam_wish_where (is_in_sync a look) a w look.cam
 
--- the first command that waits takes over where the cam is InSync and its master has passed the table. PLCopen Motion Control Part 1, BufferMode
+-- the first command that waits takes over where the cam is InSync and its master has passed the
+-- table. PLCopen Motion Control Part 1, BufferMode
 abbrev pub cam_ending : Axis → Option Wanted → AxisLook → Option Finish
 cam_ending a next look = gives_way next (look.cam_ended && is_in_sync a look)

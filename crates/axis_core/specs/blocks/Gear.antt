@@ -61,7 +61,8 @@ abbrev pub gear_step_of : Follow → ℤ × ℤ → ℤ
 gear_step_of (follow.Gear master n d) m = gear_difference_of m.0 m.1 n d
 gear_step_of f m = pos 0
 
--- what a gear wants: the velocity step toward the step that it asks for, cut to the greatest velocity
+-- what a gear wants: the velocity step toward the step that it asks for, cut to the greatest
+-- velocity
 abbrev pub gear_wish : Axis → Wanted → AxisLook → Result ℤ ℕ
 gear_wish a w look = guarded a (step_to_velocity a (gear_toward_of (gear_step_of w.follow look.master) a.limits.vmax) w)
 
@@ -69,7 +70,8 @@ gear_wish a w look = guarded a (step_to_velocity a (gear_toward_of (gear_step_of
 abbrev pub is_in_gear : Wanted → ℤ → AxisLook → Bool
 is_in_gear w step look = int_eq step (gear_step_of w.follow look.master)
 
--- the first command that waits takes over where the gear is InGear. PLCopen Motion Control Part 1, BufferMode
+-- the first command that waits takes over where the gear is InGear. PLCopen Motion Control Part 1,
+-- BufferMode
 abbrev pub gear_ending : Wanted → Option Wanted → ℤ → AxisLook → Option Finish
 gear_ending w next step look = gives_way next (is_in_gear w step look)
 

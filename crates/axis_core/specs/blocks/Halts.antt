@@ -35,9 +35,13 @@ stop_event = StopAdmitted
 abbrev pub halt_wish : Axis → Wanted → Result ℤ ℕ
 halt_wish a w = Ok (toward_zero (old_step_of a) w.rates.d)
 
--- both are done where the taken step is 0
+-- both are done by a step of 0
+abbrev pub is_rest : ℤ → Bool
+is_rest step = int_eq step (pos 0)
+
+-- how they end by a taken step
 abbrev pub halt_ending : ℤ → Option Finish
-halt_ending step = ends_where (int_eq step (pos 0)) finish.Done
+halt_ending step = ends_where (is_rest step) finish.Done
 
 -- the instance that holds Stopping by a command: a Stop's
 abbrev pub hold_by : BlockKind → Option ℕ → Option ℕ
@@ -58,5 +62,5 @@ abbrev pub leaves_stopping : AxisLook → Axis → Bool
 leaves_stopping look a = is_stopping a.state && not (is_some a.active) && is_at_rest a && is_released a.hold look.stop_held
 
 -- the axis that leaves Stopping where it may
-abbrev pub stop_left : AxisLook → Axis → Axis
-stop_left look a = if leaves_stopping look a then record a { state = next_of StopReleased; hold = None } else a
+abbrev pub axis_after_stop : AxisLook → Axis → Axis
+axis_after_stop look a = if leaves_stopping look a then record a { state = next_of StopReleased; hold = None } else a

@@ -16,7 +16,8 @@ use Rattle.axis_core.specs.declared.reason.Reason.TheVariants.{NotPowered, InErr
 abbrev pub home_tests : List Reason
 home_tests = NotPowered ∷ InErrorStop ∷ InStopping ∷ InHoming ∷ GroupHoldsAxis ∷ TargetOutside ∷ NotAtRest ∷ []
 
--- whether the places within the limits have counts of 32 bits with an offset. IEC 61800-7-201, object 607Ah
+-- whether the places within the limits have counts of 32 bits with an offset. IEC 61800-7-201,
+-- object 607Ah
 abbrev pub has_counts : Limits → ℤ → ℤ → Bool
 has_counts l offset inc =
     int_le (neg_ℤ (pos (2 ^ 31))) (count_of l.lo offset inc) && int_le (count_of l.hi offset inc) (pos (2 ^ 31 - 1))
@@ -34,8 +35,8 @@ abbrev pub home_done_event : AxisEvent
 home_done_event = HomeDone
 
 -- the axis at the position of its Home: the coordinate moves, and the drive stays
-abbrev pub homed : ℤ → Axis → Axis
-homed target a = record a { previous = target; setpoint = target; offset = a.offset +ℤ (target -ℤ a.setpoint) }
+abbrev pub axis_after_home : ℤ → Axis → Axis
+axis_after_home target a = record a { previous = target; setpoint = target; offset = a.offset +ℤ (target -ℤ a.setpoint) }
 
 -- it is done in the cycle after its call
 abbrev pub home_ending : Option Finish

@@ -49,7 +49,8 @@ abbrev pub move_target_of : Option Wanted → Option ℤ
 move_target_of None = None
 move_target_of (Some w) = if is_move w.kind then w.target else None
 
--- the command before one that joins the others: the last that waits, else the active one. PLCopen Motion Control Part 1, BufferMode
+-- the command before one that joins the others: the last that waits, else the active one. PLCopen
+-- Motion Control Part 1, BufferMode
 abbrev pub command_before : Option Wanted → Option Wanted → Option Wanted
 command_before active None = active
 command_before active (Some last) = Some last
@@ -59,7 +60,9 @@ abbrev pub target_from : ℤ → Option ℤ → Option ℤ
 target_from distance None = None
 target_from distance (Some target) = Some (target +ℤ distance)
 
--- the target of a MoveRelative in its call, with the last command that waits: relative to the setpoint where it becomes active at once, else to the target of the move before it; not fixed where that has none
+-- the target of a MoveRelative in its call, with the last command that waits: relative to the
+-- setpoint where it becomes active at once, else to the target of the move before it; not fixed
+-- where that has none
 abbrev pub relative_target_of : Axis → Option Wanted → Wanted → Option ℤ
 relative_target_of a last w =
     if is_aborting w.mode || not (is_some a.active) then Some (a.setpoint +ℤ position_of w)
@@ -85,7 +88,8 @@ blend_of mode.BlendingNext = Some Next
 blend_of mode.BlendingHigh = Some High
 blend_of m = None
 
--- the move into which an active move would be blended: the first command that waits, with a blending mode and a fixed target. PLCopen Motion Control Part 1, BufferMode
+-- the move into which an active move would be blended: the first command that waits, with a
+-- blending mode and a fixed target. PLCopen Motion Control Part 1, BufferMode
 abbrev pub second_by : Wanted → Wanted → Option Blend → Option ℤ → Option SecondMove
 second_by w next (Some blend) (Some target) =
     Some (record { target = target; rates = next.rates; velocity = blend_velocity_of blend w.rates.v next.rates.v })
@@ -95,7 +99,8 @@ abbrev pub second_move_of : Wanted → Option Wanted → Option SecondMove
 second_move_of w None = None
 second_move_of w (Some next) = second_by w next (blend_of next.mode) (move_target_of (Some next))
 
--- a blend into such a move, where it applies. PLCopen Motion Control Part 1, BufferMode; elsewhere it is Buffered
+-- a blend into such a move, where it applies. PLCopen Motion Control Part 1, BufferMode; elsewhere
+-- it is Buffered
 abbrev pub where_applies : Axis → ℤ → Option SecondMove → Option SecondMove
 where_applies a target None = None
 where_applies a target (Some s) = if blend_applies target s.target a.previous a.setpoint then Some s else None
@@ -121,9 +126,15 @@ is_crossing (Some s) a w step = has_crossed (target_of w) s.target a.setpoint s.
 abbrev pub stands_at_target : Axis → Wanted → ℤ → Bool
 stands_at_target a w step = int_eq step (pos 0) && int_eq (a.setpoint +ℤ step) (target_of w)
 
--- how a move ends by a taken step, if it does: it is done where it crosses its target or stands at it
+-- whether a move is done by a taken step: it crosses its target in a blend, or stands at it with
+-- step 0
+abbrev pub is_done_by : Option SecondMove → Axis → Wanted → ℤ → Bool
+is_done_by s a w step = is_crossing s a w step || stands_at_target a w step
+
+-- how a move ends by a taken step, if it does: it is done where it crosses its target or stands at
+-- it
 abbrev pub move_ending_with : Option SecondMove → Axis → Wanted → ℤ → Option Finish
-move_ending_with s a w step = ends_where (is_crossing s a w step || stands_at_target a w step) finish.Done
+move_ending_with s a w step = ends_where (is_done_by s a w step) finish.Done
 
 abbrev pub move_ending : Axis → Wanted → Option Wanted → ℤ → Option Finish
 move_ending a w next step = move_ending_with (blended_with a w next) a w step

@@ -13,18 +13,18 @@ abbrev pub is_on_path : Axis → Bool
 is_on_path a = is_synchronized a.state && not (is_some a.active)
 
 -- the axis goes on its group's path, or leaves it
-abbrev pub on_path_from : Bool → AxisState → AxisState
-on_path_from true state.Standstill = next_of GroupActive
-on_path_from false state.SynchronizedMotion = next_of PathRest
-on_path_from on s = s
+abbrev pub state_on_path : Bool → AxisState → AxisState
+state_on_path true state.Standstill = next_of GroupActive
+state_on_path false state.SynchronizedMotion = next_of PathRest
+state_on_path on s = s
 
-unfoldable pub on_path : Bool → Axis → Axis
-on_path on a = record a { state = on_path_from on a.state }
+unfoldable pub axis_on_path : Bool → Axis → Axis
+axis_on_path on a = record a { state = state_on_path on a.state }
 
 -- the place that an axis takes on its group's path, if it is on it
 abbrev pub place_on_path : Axis → AxisLook → Option ℤ
 place_on_path a look = if is_on_path a then look.path else None
 
 -- an axis on its group's path leaves it where that ends
-abbrev pub path_left : Bool → Axis → Axis
-path_left ends a = if ends then record a { state = next_of PathRest } else a
+abbrev pub axis_after_path : Bool → Axis → Axis
+axis_after_path ends a = if ends then record a { state = next_of PathRest } else a

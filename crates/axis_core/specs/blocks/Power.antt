@@ -6,20 +6,21 @@ use Rattle.axis_state.specs.declared.state.AxisState.TheVariants as state
 use Rattle.axis_state.specs.declared.diagram.AxisEvent.TheVariants.{PowerOff, DrivenFirst}
 use Rattle.axis_core.specs.declared.axis.Axis.{Axis}
 
--- power is on in a cycle: the last Power call had Enable true, and none since the last cycle had it false. The second part is this project's profile
+-- power is on in a cycle: the last Power call had Enable true, and none since the last cycle had it
+-- false. The second part is this project's profile
 abbrev pub is_powered : Axis → Bool
 is_powered a = a.power && not a.was_off
 
 -- the wish that a Power call leaves
-abbrev pub power_wished : Bool → Axis → Axis
-power_wished true a = record a { power = true }
-power_wished false a = record a { power = false; was_off = true }
+abbrev pub axis_with_wish : Bool → Axis → Axis
+axis_with_wish true a = record a { power = true }
+axis_with_wish false a = record a { power = false; was_off = true }
 
 -- the axis whose power goes off, apart from its commands, which are aborted
-abbrev pub switched_off : Axis → Axis
-switched_off a = record a { state = next_of PowerOff; reached = false; hold = None }
+abbrev pub axis_without_power : Axis → Axis
+axis_without_power a = record a { state = next_of PowerOff; reached = false; hold = None }
 
 -- the state at the first cycle of a driven spell
-abbrev pub enabled_from : Bool → AxisState → AxisState
-enabled_from true state.Disabled = next_of DrivenFirst
-enabled_from driven s = s
+abbrev pub state_when_driven : Bool → AxisState → AxisState
+state_when_driven true state.Disabled = next_of DrivenFirst
+state_when_driven driven s = s

@@ -24,19 +24,20 @@ abbrev pub replaced_note : Option PendingReset → List Note
 replaced_note None = []
 replaced_note (Some p) = told_to p.owner finish.Aborted
 
--- whether a pending Reset is done: outside ErrorStop at once, else where the drive has no fault and the axis is not driven or at rest. The conditions are this project's profile
+-- whether a pending Reset is done: outside ErrorStop at once, else where the drive has no fault and
+-- the axis is not driven or at rest. The conditions are this project's profile
 abbrev pub may_reset : DriveIn → Axis → Bool
 may_reset input a = not (is_error_stop a.state) || (not (has_fault input) && (not a.driven || is_at_rest a))
 
 -- the state after a Reset: outside ErrorStop it stays
-abbrev pub reset_from : Bool → AxisState → AxisState
-reset_from true state.ErrorStop = next_of ResetDriven
-reset_from false state.ErrorStop = next_of ResetNotDriven
-reset_from driven s = s
+abbrev pub state_after_reset : Bool → AxisState → AxisState
+state_after_reset true state.ErrorStop = next_of ResetDriven
+state_after_reset false state.ErrorStop = next_of ResetNotDriven
+state_after_reset driven s = s
 
 -- the axis after a Reset
 abbrev pub after_reset : Axis → Axis
-after_reset a = record a { state = reset_from a.driven a.state; error = 0; reset = None }
+after_reset a = record a { state = state_after_reset a.driven a.state; error = 0; reset = None }
 
 -- the axis whose pending Reset is done where it may be, and what is told of it
 abbrev pub reset_axis : Option PendingReset → DriveIn → Axis → Axis

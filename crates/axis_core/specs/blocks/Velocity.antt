@@ -40,6 +40,7 @@ velocity_wish a w = guarded a (step_to_velocity a w.rates.v w)
 abbrev pub is_in_velocity : Wanted → ℤ → Bool
 is_in_velocity w step = int_eq step w.rates.v
 
--- the first command that waits takes over where it is InVelocity. PLCopen Motion Control Part 1, BufferMode
+-- the first command that waits takes over where it is InVelocity. PLCopen Motion Control Part 1,
+-- BufferMode
 abbrev pub velocity_ending : Wanted → Option Wanted → ℤ → Option Finish
 velocity_ending w next step = gives_way next (is_in_velocity w step)

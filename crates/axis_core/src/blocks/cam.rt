@@ -4,7 +4,7 @@ ghost use Rattle.std.specs.Prelude.{◌≡◌, ◌≤◌, ◌-ℤ◌, false, IfO
 ghost use Rattle.std.specs.Option.{option_copied};
 ghost use Rattle.command_pool.specs.Rates.{AreRates};
 ghost use Rattle.command_pool.specs.declared.kind.BlockKind.TheVariants as kind;
-ghost use Rattle.axis_core.specs.Cycles.{progress_with};
+ghost use Rattle.axis_core.specs.Cycles.{progress_by_step};
 ghost use Rattle.axis_core.specs.Kept.{IsMoving, IsNear};
 ghost use Rattle.axis_core.specs.Steps.{is_safe_step, taken_by, taken_of};
 ghost use Rattle.axis_core.specs.blocks.Cam as spec;
@@ -103,7 +103,7 @@ pub fn progress(
     requires kind { wanted.now.kind ≡ kind.CamIn }
     requires rates { AreRates wanted.now.rates }
     requires cam { IsNear look.now.cam }
-    ensures value { result ≡ progress_with axis.now wanted.now (option_copied next.entry) look.now
+    ensures value { result ≡ progress_by_step axis.now wanted.now (option_copied next.entry) look.now
         (taken_by axis.now (spec.cam_wish axis.now wanted.now look.now)) }
     ensures small { IfOk result (λ p. IsStep p.step) }
 {

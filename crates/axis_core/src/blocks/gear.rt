@@ -5,7 +5,7 @@ ghost use Rattle.std.specs.Option.{option_copied};
 ghost use Rattle.std.specs.Ordering.{int_eq};
 ghost use Rattle.follow_plan.specs.Gear.{gear_toward_of};
 ghost use Rattle.command_pool.specs.declared.kind.BlockKind.TheVariants as kind;
-ghost use Rattle.axis_core.specs.Cycles.{progress_with};
+ghost use Rattle.axis_core.specs.Cycles.{progress_by_step};
 ghost use Rattle.axis_core.specs.Kept.{IsCarriedGear, IsGear, IsMoving};
 ghost use Rattle.axis_core.specs.Steps.{guarded, old_step_of, taken_by};
 ghost use Rattle.axis_core.specs.blocks.Velocity.{step_to_velocity};
@@ -80,7 +80,7 @@ pub fn is_not_following(kind: BlockKind, active: &Option<Wanted>) -> bool
 }
 
 // The step that a gear asks for.
-fn gear_step(follow: &Follow, master: (i64, i64)) -> i128
+fn asked_step(follow: &Follow, master: (i64, i64)) -> i128
     requires { IsGear follow.now }
     ensures value { result ≡ spec.gear_step_of follow.now master }
     ensures small { unsigned_abs result ≤ 2 ^ 84 }
@@ -120,11 +120,11 @@ pub fn progress(
     requires moving { IsMoving axis.now }
     requires kind { wanted.now.kind ≡ kind.GearIn }
     requires wanted { IsCarriedGear wanted.now }
-    ensures value { result ≡ progress_with axis.now wanted.now (option_copied next.entry) look.now
+    ensures value { result ≡ progress_by_step axis.now wanted.now (option_copied next.entry) look.now
         (taken_by axis.now (spec.gear_wish axis.now wanted.now look.now)) }
     ensures small { IfOk result (λ p. IsStep p.step) }
 {
-    let asked = gear_step(&wanted.follow, look.master);
+    let asked = asked_step(&wanted.follow, look.master);
     let step = take(axis, wanted, asked)?;
     let reached = is_in_gear(step, asked);
     Ok(Progress {

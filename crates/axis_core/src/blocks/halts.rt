@@ -12,9 +12,8 @@ use crate::axis::Axis;
 use crate::look::AxisLook;
 use crate::progress::Progress;
 use crate::reason::Reason::{self, *};
-use crate::states::is_stopping;
 use crate::steps::{ends_where, old_step, taken};
-use axis_state::{AxisEvent, axis_next};
+use axis_state::{AxisEvent, AxisState, axis_next};
 use command_pool::{BlockKind, Finish, Wanted};
 use motion_numbers::MOST_STEP;
 use trapezoid_plan::halt_step;
@@ -79,19 +78,13 @@ pub fn hold_by(kind: BlockKind, owner: Option<u16>) -> Option<u16>
     }
 }
 
-/// Whether the axis is at rest.
-pub fn is_at_rest(axis: &Axis) -> bool
-    ensures { result ≡ spec.is_at_rest axis.now }
-{
-    axis.setpoint == axis.previous
-}
-
 /// An axis in Stopping whose Stop is done leaves it at rest where nobody holds it.
 pub fn leave_stopping(look: &AxisLook, axis: &mut Axis)
-    ensures { axis.new ≡ spec.stop_left look.now axis.old }
+    ensures { axis.new ≡ spec.axis_after_stop look.now axis.old }
 {
     let released = axis.hold.is_none() || !look.stop_held;
-    if is_stopping(axis.state) && axis.active.is_none() && is_at_rest(axis) && released {
+    let stopped = matches!(axis.state, AxisState::Stopping) && axis.active.is_none();
+    if stopped && axis.setpoint == axis.previous && released {
         axis.state = axis_next(axis.state, AxisEvent::StopReleased);
         axis.hold = None;
     }

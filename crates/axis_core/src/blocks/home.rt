@@ -22,9 +22,9 @@ pub const TESTS: &[Reason] = &[
     NotAtRest,
 ];
 
-// The count of a place.
+// The drive's count at a place.
 #[tactic(auto, unfolding(axis_state::specs::Counts::count_of))]
-fn count(place: i64, offset: i64, inc: i64) -> i64
+fn count_at(place: i64, offset: i64, inc: i64) -> i64
     requires increment { pos 1 ≤ℤ inc }
     requires place { IsPlace place }
     requires offset { unsigned_abs offset ≤ MOST_MOVED }
@@ -41,8 +41,8 @@ fn has_counts(limits: &Limits, offset: i64, inc: i64) -> bool
     requires offset { unsigned_abs offset ≤ MOST_MOVED }
     ensures { result ≡ spec.has_counts limits.now offset inc }
 {
-    i64::from(i32::MIN) <= count(limits.lo, offset, inc)
-        && count(limits.hi, offset, inc) <= i64::from(i32::MAX)
+    i64::from(i32::MIN) <= count_at(limits.lo, offset, inc)
+        && count_at(limits.hi, offset, inc) <= i64::from(i32::MAX)
 }
 
 // The offset of an axis whose setpoint becomes another position.
@@ -75,7 +75,7 @@ pub fn home(target: i64, axis: &mut Axis)
     requires target { IsPlace target }
     requires setpoint { IsPlace axis.old.setpoint }
     requires offset { unsigned_abs axis.old.offset ≤ MOST_OFFSET }
-    ensures { axis.new ≡ spec.homed target axis.old }
+    ensures { axis.new ≡ spec.axis_after_home target axis.old }
 {
     axis.offset = moved_offset(axis, target);
     axis.previous = target;

@@ -1,6 +1,6 @@
 // MC_MoveAbsolute and MC_MoveRelative, and moves that are blended (PLCopen Motion Control Part 1).
 
-ghost use Rattle.std.specs.Prelude.{◌≡◌, ◌≤◌, ◌≤ℤ◌, ◌<ℤ◌, ◌+ℤ◌, ◌-ℤ◌, false, true, pos, unsigned_abs, IfSome, IsTrue};
+ghost use Rattle.std.specs.Prelude.{◌≡◌, ◌≤◌, ◌≤ℤ◌, ◌<ℤ◌, ◌+ℤ◌, ◌-ℤ◌, false, true, pos, unsigned_abs, IfSome, IsTrue, int_le, int_lt, ◌&&◌};
 ghost use Rattle.std.specs.Option.{option_copied};
 ghost use Rattle.blend_plan.specs.Blends as blends;
 ghost use Rattle.blend_plan.specs.Blends.{BlendApplies, LieAhead, blend_applies};
@@ -44,13 +44,6 @@ pub struct SecondMove {
     pub rates: Rates,
     /// The blend velocity: that at which the first target is passed.
     pub velocity: i64,
-}
-
-/// Whether a command ends those before it at once.
-pub fn is_aborting(mode: BufferMode) -> bool
-    ensures { result ≡ queue.is_aborting mode }
-{
-    matches!(mode, BufferMode::Aborting)
 }
 
 /// The target of an active move.
@@ -109,7 +102,7 @@ fn relative_target(axis: &Axis, last: Option<&Wanted>, wanted: &Wanted) -> Optio
     ensures { result ≡ spec.relative_target_of axis.now (option_copied last.entry) wanted.now }
 {
     let distance = wanted.targets[0];
-    if is_aborting(wanted.mode) || axis.active.is_none() {
+    if matches!(wanted.mode, BufferMode::Aborting) || axis.active.is_none() {
         target_from(distance, Some(axis.setpoint))
     } else {
         target_from(distance, target_before(&axis.active, last))
@@ -167,7 +160,7 @@ fn second_move(wanted: &Wanted, next: &Wanted) -> Option<SecondMove>
 
 // Whether two targets lie ahead at these distances, with the old step.
 fn lie_ahead(first: i64, second: i64, old: i64) -> bool
-    ensures { result ≡ blends.lie_ahead first second old }
+    ensures { result ≡ (int_le (pos 0) first && int_lt first second && int_le (pos 0) old) }
 {
     0 <= first && first < second && 0 <= old
 }

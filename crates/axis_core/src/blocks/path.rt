@@ -2,18 +2,17 @@
 
 ghost use Rattle.std.specs.Prelude.{◌≡◌, true};
 ghost use Rattle.axis_core.specs.States.{is_synchronized};
-ghost use Rattle.axis_core.specs.Steps.{moved_to};
+ghost use Rattle.axis_core.specs.Steps.{axis_after_step};
 ghost use Rattle.axis_core.specs.blocks.Path as spec;
 
 use crate::axis::Axis;
 use crate::look::AxisLook;
-use crate::states::is_synchronized;
 use crate::steps::move_to;
 use axis_state::{AxisEvent, AxisState, axis_next};
 
 // The state of an axis that goes on its group's path, or leaves it.
 fn on_path_from(on: bool, state: AxisState) -> AxisState
-    ensures { result ≡ spec.on_path_from on state }
+    ensures { result ≡ spec.state_on_path on state }
 {
     match (on, state) {
         (true, AxisState::Standstill) => axis_next(state, AxisEvent::GroupActive),
@@ -23,9 +22,9 @@ fn on_path_from(on: bool, state: AxisState) -> AxisState
 }
 
 /// The axis goes on its group's path, or leaves it.
-#[tactic(auto, unfolding(crate::specs::blocks::Path::on_path))]
+#[tactic(auto, unfolding(crate::specs::blocks::Path::axis_on_path))]
 pub fn on_path(on: bool, axis: &mut Axis)
-    ensures { axis.new ≡ spec.on_path on axis.old }
+    ensures { axis.new ≡ spec.axis_on_path on axis.old }
 {
     axis.state = on_path_from(on, axis.state);
 }
@@ -34,7 +33,7 @@ pub fn on_path(on: bool, axis: &mut Axis)
 pub fn place_on_path(axis: &Axis, look: &AxisLook) -> Option<i64>
     ensures { result ≡ spec.place_on_path axis.now look.now }
 {
-    if is_synchronized(axis.state) && axis.active.is_none() {
+    if matches!(axis.state, AxisState::SynchronizedMotion) && axis.active.is_none() {
         look.path
     } else {
         None
@@ -44,7 +43,7 @@ pub fn place_on_path(axis: &Axis, look: &AxisLook) -> Option<i64>
 /// An axis on its group's path takes its place, and leaves the path where that ends.
 pub fn take_place(place: i64, ends: bool, axis: &mut Axis)
     requires { is_synchronized axis.old.state ≡ true }
-    ensures { axis.new ≡ spec.path_left ends (moved_to place axis.old) }
+    ensures { axis.new ≡ spec.axis_after_path ends (axis_after_step place axis.old) }
 {
     move_to(place, axis);
     if ends {

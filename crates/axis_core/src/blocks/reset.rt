@@ -5,9 +5,7 @@ ghost use Rattle.command_pool.specs.Waiting.{told_to};
 ghost use Rattle.axis_core.specs.blocks.Reset as spec;
 
 use crate::axis::{Axis, PendingReset};
-use crate::blocks::halts::is_at_rest;
 use crate::driving::has_fault;
-use crate::states::is_error_stop;
 use axis_state::{AxisEvent, AxisState, DriveIn, axis_next};
 use command_pool::{Finish, Note, Notes, Wanted};
 
@@ -39,12 +37,13 @@ pub fn await_reset(wanted: &Wanted, axis: &mut Axis, notes: &mut Notes)
 fn may_reset(input: &DriveIn, axis: &Axis) -> bool
     ensures { result ≡ spec.may_reset input.now axis.now }
 {
-    !is_error_stop(axis.state) || (!has_fault(input) && (!axis.driven || is_at_rest(axis)))
+    !matches!(axis.state, AxisState::ErrorStop)
+        || (!has_fault(input) && (!axis.driven || axis.setpoint == axis.previous))
 }
 
 // The state after a Reset.
 fn reset_from(driven: bool, state: AxisState) -> AxisState
-    ensures { result ≡ spec.reset_from driven state }
+    ensures { result ≡ spec.state_after_reset driven state }
 {
     match (driven, state) {
         (true, AxisState::ErrorStop) => axis_next(state, AxisEvent::ResetDriven),

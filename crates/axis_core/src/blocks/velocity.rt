@@ -1,10 +1,11 @@
 // MC_MoveVelocity (PLCopen Motion Control Part 1).
 
+ghost use Rattle.std.specs.Ordering.{int_eq};
 ghost use Rattle.std.specs.Prelude.{◌≡◌, ◌≤◌, pos, neg_ℤ, IfOk};
 ghost use Rattle.std.specs.Option.{option_copied};
 ghost use Rattle.command_pool.specs.Rates.{AreRamps};
 ghost use Rattle.command_pool.specs.declared.kind.BlockKind.TheVariants as kind;
-ghost use Rattle.axis_core.specs.Cycles.{progress_with};
+ghost use Rattle.axis_core.specs.Cycles.{progress_by_step};
 ghost use Rattle.axis_core.specs.Kept.{IsCarriedVelocity, IsMoving};
 ghost use Rattle.axis_core.specs.Steps.{taken_by};
 ghost use Rattle.axis_core.specs.blocks.Velocity as spec;
@@ -69,7 +70,7 @@ fn take(axis: &Axis, wanted: &Wanted) -> Result<i64, u16>
 
 // Whether it is InVelocity.
 fn is_in_velocity(wanted: &Wanted, step: i64) -> bool
-    ensures { result ≡ spec.is_in_velocity wanted.now step }
+    ensures { result ≡ int_eq step wanted.now.rates.v }
 {
     step == wanted.rates.v
 }
@@ -84,7 +85,7 @@ pub fn progress(
     requires moving { IsMoving axis.now }
     requires kind { wanted.now.kind ≡ kind.MoveVelocity }
     requires wanted { IsCarriedVelocity wanted.now }
-    ensures value { result ≡ progress_with axis.now wanted.now (option_copied next.entry) look.now
+    ensures value { result ≡ progress_by_step axis.now wanted.now (option_copied next.entry) look.now
         (taken_by axis.now (spec.velocity_wish axis.now wanted.now)) }
     ensures small { IfOk result (λ p. IsStep p.step) }
 {

@@ -4,7 +4,7 @@ use Rattle.std.proofs.Common.{◌∙◌, sym, ap, subst, arith}
 use Rattle.command_pool.specs.Waiting.{queue_of}
 use Rattle.axis_core.specs.AxisKept.{IsCoreKept}
 use Rattle.axis_core.specs.Cores.{Core, core_at}
-use Rattle.axis_core.specs.Cycles.{answered, cycled, row_of, run}
+use Rattle.axis_core.specs.Cycles.{core_after_answer, core_after_cycle, row_shown, core_after_step}
 use Rattle.axis_core.specs.Drives.{is_driven}
 use Rattle.axis_core.specs.Kept.{HasDrive, MayGoOn}
 use Rattle.axis_core.specs.Rows.{KeepsSpell}
@@ -67,9 +67,9 @@ reset-requires c =
     let few = c.waiting.ensures.few in
     let count = c.waiting.ensures.count in
     let none : length c.args.notes.now ≡ 0 = ap length c.requires.room in
-    let read : length c.read_answer.new.notes ≡ length (answered input old).notes = ap (λ (x : Core). length x.notes) c.read_answer.ensures.after in
-    let wait : length (queue_of c.read_answer.new.pool c.args.list) ≡ length (answered input old).waiting = ap (λ (x : Core). length x.waiting) c.read_answer.ensures.after in
-    let ran : length c.run.new.notes ≡ length (run c.args.look.now c.is_driven-driven.result (core_at c.read_answer.new.axis c.read_answer.new.pool c.args.list c.read_answer.new.notes)).notes =
+    let read : length c.read_answer.new.notes ≡ length (core_after_answer input old).notes = ap (λ (x : Core). length x.notes) c.read_answer.ensures.after in
+    let wait : length (queue_of c.read_answer.new.pool c.args.list) ≡ length (core_after_answer input old).waiting = ap (λ (x : Core). length x.waiting) c.read_answer.ensures.after in
+    let ran : length c.run.new.notes ≡ length (core_after_step c.args.look.now c.is_driven-driven.result (core_at c.read_answer.new.axis c.read_answer.new.pool c.args.list c.read_answer.new.notes)).notes =
     ap (λ (x : Core). length x.notes) c.run.ensures.after in
     omega (arith, n, m, few, count, none, read, wait, ran)
 
@@ -91,13 +91,13 @@ give-requires c = λ on.
     let old = core_at c.args.axis.now c.args.pool.now c.args.list c.args.notes.now in
     let ran = core_at c.run.new.axis c.run.new.pool c.args.list c.run.new.notes in
     let d = c.is_driven-driven.ensures in
-    let is : ran ≡ run look (is_driven c.args.axis.now look.input) (answered look.input old) =
-    c.run.ensures.after ∙ (λ t. run look (d t) (c.read_answer.ensures.after t)) in
+    let is : ran ≡ core_after_step look (is_driven c.args.axis.now look.input) (core_after_answer look.input old) =
+    c.run.ensures.after ∙ (λ t. core_after_step look (d t) (c.read_answer.ensures.after t)) in
     driven-word c.taken_steps_keep.ensures.admissible (laws-before c) look old ran c.reset.new.axis
     (record { brought = c.requires.look; actual = c.reported.ensures.count }) c.requires.kept is c.reset.ensures.axis (sym d ∙ on)
 
 made : (c : goal.After-give) → core_at c.give.new.axis c.run.new.pool c.args.list c.reset.new.notes
-    ≡ cycled c.args.look.now (core_at c.args.axis.now c.args.pool.now c.args.list c.args.notes.now)
+    ≡ core_after_cycle c.args.look.now (core_at c.args.axis.now c.args.pool.now c.args.list c.args.notes.now)
 made c = cycle-made c.args.look.now (core_at c.args.axis.now c.args.pool.now c.args.list c.args.notes.now) c.read_answer.new.pool c.run.new.pool c.args.list
     c.read_answer.new.axis c.run.new.axis c.reset.new.axis c.give.new.axis c.read_answer.new.notes c.run.new.notes c.reset.new.notes c.is_driven-driven.result
     c.is_driven-driven.ensures c.read_answer.ensures.after c.run.ensures.after c.reset.ensures.axis c.reset.ensures.notes c.give.ensures
@@ -135,6 +135,6 @@ returns-clause-others c =
 pub returns-clause-limits : goal.returns-clause-limits
 returns-clause-limits c =
     let input = c.args.look.now.input in
-    let P : Axis → Type 0 = λ a. KeepsSpell c.args.axis.now (row_of input a) a in
+    let P : Axis → Type 0 = λ a. KeepsSpell c.args.axis.now (row_shown input a) a in
     subst P (sym (ap (λ (x : Core). x.axis) (made c)))
     (row-kept c.taken_steps_keep.ensures.admissible (laws-at c) c.args.look.now (core_at c.args.axis.now c.args.pool.now c.args.list c.args.notes.now) c.requires.look c.requires.kept)
