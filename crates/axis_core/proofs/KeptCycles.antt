@@ -316,7 +316,7 @@ reset-in state.SynchronizedMotion true powered off p q active on rest i = i
 reset-in state.SynchronizedMotion false powered off p q active on rest i = i
 
 -- outside ErrorStop a Reset leaves the state
-reset-same : (s : AxisState) (driven : Bool) → is_error_stop s ≡ false → state_after_reset driven s ≡ s
+pub reset-same : (s : AxisState) (driven : Bool) → is_error_stop s ≡ false → state_after_reset driven s ≡ s
 reset-same state.ErrorStop driven h = absurd (cc)
 reset-same state.Disabled true h = refl
 reset-same state.Disabled false h = refl

@@ -25,3 +25,4 @@ pub mod ChangeLaws
 pub mod LedLaws
 pub mod WaitingLaws
 pub mod MotionLaws
+pub mod StandingLaws

@@ -1,6 +1,7 @@
 -- An instance is told of the end of each command that it has, once.
-use Rattle.std.specs.Prelude.{◌≡◌, refl, map, ℕ, ◌+◌, Bool, true, false, ◌&&◌, ◌||◌, is_none, nat_eq, ℤ, ◌+ℤ◌, Option, Some, None, List, [], ◌∷◌, ◌++◌, slice_get, if◌then◌else◌}
-use Rattle.std.proofs.Common.{sym, ◌∙◌, ap, arith}
+use Rattle.std.specs.Prelude.{◌≤◌, ◌≡◌, refl, map, ℕ, ◌+◌, Bool, true, false, ◌&&◌, ◌||◌, is_none, nat_eq, ℤ, ◌+ℤ◌, Option, Some, None, List, [], ◌∷◌, ◌++◌, slice_get, if◌then◌else◌}
+use Rattle.std.proofs.Common.{sym, ◌∙◌, ap, arith, inl, inr}
+use Rattle.std.proofs.lemmas.Bool.{cases_eq, ne_eqb}
 use Rattle.axis_state.specs.Diagram.{next_of}
 use Rattle.axis_state.specs.declared.diagram.AxisEvent.TheVariants.{StopReleased}
 use Rattle.axis_state.specs.declared.state.AxisState.{AxisState}
@@ -9,7 +10,7 @@ use Rattle.axis_core.specs.Calls.{active_without, admitted_by, commanded, comman
 use Rattle.axis_core.specs.Cores.{Core, axis_under, axis_under_by, core_after_end, core_after_ending, core_after_error, core_after_take_over, core_taken_by}
 use Rattle.axis_core.specs.Cycles.{advance_in_cycle, core_after_answer, core_after_cycle, core_after_going_on, core_after_advance, core_after_step}
 use Rattle.axis_core.specs.Drives.{answer_error_of, is_driven, axis_at_drive}
-use Rattle.axis_core.specs.Owners.{brought, brought_by, disowned, is_owner, one_of, owner_by, owns, reset_owner, told, waits_of}
+use Rattle.axis_core.specs.Owners.{AreApart, brought, brought_by, disowned, is_owner, one_of, owner_by, owns, reset_owner, told, waits_of}
 use Rattle.motion_numbers.specs.Ranges.{is_outside}
 use Rattle.axis_core.specs.Refusals.{Asked, refusal_of}
 use Rattle.axis_core.specs.States.{is_error_stop}
@@ -318,3 +319,47 @@ disowned-own k c = let a = active-own k c.axis.active in let b = waits-own k c.w
 pub disowned-other : (j k : ℕ) (c : Core) → nat_eq k j ≡ false → owns j (disowned k c) ≡ owns j c
 unfolding axis_without_owner
 disowned-other j k c h = let a = active-other j k c.axis.active h in let b = waits-other j k c.waiting h in let d = reset-other j k c.axis.reset h in omega arith
+
+-- nothing is told before
+none-told : (k : ℕ) (notes : List Note) → notes ≡ [] → told k notes ≡ 0
+none-told k [] e = refl
+none-told k (n ∷ ns) e = absurd (cc)
+
+brings-own : (k : ℕ) (r : Option Reason) (w : Wanted) → is_owner k (brought r w) ≤ is_owner k w.owner
+unfolding is_owner
+brings-own k None w = by w.kind
+  where
+    by : (b : BlockKind) → is_owner k (brought_by b w) ≤ is_owner k w.owner
+    by kind.GearOut = omega arith
+    by kind.CamOut = omega arith
+    by _ = omega arith
+brings-own k (Some r) w = omega arith
+
+pub apart-commanded : (q : Asked) (c : Core) → AreApart c → c.notes ≡ [] → ((k : ℕ) → owns k c + is_owner k q.wanted.owner ≤ 1) → AreApart (commanded q c)
+apart-commanded q c apart none free = λ k.
+    let s = sum-commanded k q c in
+    let n = none-told k c.notes none in
+    let b = brings-own k (refusal_of q) q.wanted in
+    let f = free k in
+    omega (arith, s, n, b, f)
+
+pub apart-powered : (enable : Bool) (c : Core) → AreApart c → c.notes ≡ [] → AreApart (core_after_power enable c)
+apart-powered enable c apart none = λ k.
+    let s = sum-powered k enable c in
+    let n = none-told k c.notes none in
+    let a = apart k in
+    omega (arith, s, n, a)
+
+pub apart-cycled : (look : AxisLook) (c : Core) → AreApart c → c.notes ≡ [] → AreApart (core_after_cycle look c)
+apart-cycled look c apart none = λ k.
+    let s = sum-cycled k look c in
+    let n = none-told k c.notes none in
+    let a = apart k in
+    omega (arith, s, n, a)
+
+pub apart-disowned : (owner : ℕ) (c : Core) → AreApart c → AreApart (disowned owner c)
+apart-disowned owner c apart = λ k.
+    elim (cases_eq owner k) [
+      | inl same ↦ rw same (omega (arith, disowned-own k c))
+      | inr ne ↦ let o = disowned-other k owner c (ne_eqb owner k ne) in let a = apart k in omega (arith, o, a)
+    ]

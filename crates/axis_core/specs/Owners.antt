@@ -1,6 +1,6 @@
 -- Which instance has a command of an axis, how often, and how often it is told of an end (PLCopen
 -- Motion Control Part 1, general rules).
-use Rattle.std.specs.Prelude.{◌≡◌, ℕ, ◌+◌, Bool, true, false, nat_eq, map, Option, Some, None, List, [], ◌∷◌}
+use Rattle.std.specs.Prelude.{◌≡◌, ℕ, ◌+◌, Bool, true, false, nat_eq, map, Option, Some, None, List, [], ◌∷◌, ◌≤◌}
 use Rattle.std.specs.List.{Contains}
 use Rattle.command_pool.specs.declared.ending.Finish.{Finish}
 use Rattle.command_pool.specs.declared.kind.BlockKind.{BlockKind}
@@ -47,6 +47,10 @@ reset_owner (Some p) = p.owner
 -- Reset
 abbrev pub owns : ℕ → Core → ℕ
 owns k c = is_owner k (owner_by c.axis.active) + waits_of k c.waiting + is_owner k (reset_owner c.axis.reset)
+
+-- no instance has two commands of the axis
+abbrev pub AreApart : Core → Type 0
+AreApart c = (k : ℕ) → owns k c ≤ 1
 
 -- how many of some notes are for this instance
 abbrev pub told : ℕ → List Note → ℕ

@@ -1,6 +1,6 @@
 // Laws of an axis: each is the contract of a function that does nothing.
 
-ghost use Rattle.std.specs.Prelude.{◌≡◌, ◌≤◌, ◌⊎◌, length, IsTrue, None, ℤ, [], ◌+◌, ℕ, Bool, Some, true, false, nat_eq, slice_get};
+ghost use Rattle.std.specs.Prelude.{◌≡◌, ◌↔◌, ◌+ℤ◌, ◌≤◌, ◌⊎◌, length, IsTrue, None, ℤ, [], ◌+◌, ℕ, Bool, Some, true, false, nat_eq, slice_get};
 ghost use Rattle.command_pool.specs.declared.ending.Finish.TheVariants as finish;
 ghost use Rattle.axis_core.specs.blocks.Moves.{is_done_by, blended_with, is_move, target_of};
 ghost use Rattle.command_pool.specs.declared.wanted.Wanted.{Wanted};
@@ -14,10 +14,13 @@ ghost use Rattle.axis_core.specs.Demands.{IsMade, asked_in};
 ghost use Rattle.axis_core.specs.Fates.{IsFate, IsSame, command_fate, power_fate, cycle_fate};
 ghost use Rattle.axis_core.specs.Led.{HasCommand, StaysLed};
 ghost use Rattle.axis_core.specs.Drives.{answer_error_of};
+ghost use Rattle.axis_core.specs.Steps.{is_safe_step, taken_of};
 ghost use Rattle.axis_core.specs.blocks.Halts.{is_rest};
+ghost use Rattle.axis_state.specs.declared.state.AxisState.TheVariants as state;
+ghost use Rattle.kin_core.specs.Admissible.{AreLimits, IsKept, IsSafe, IsTakenStep};
 ghost use Rattle.axis_core.specs.Motions.{Leads, halt_step_taken, is_slowing, move_step_taken};
 ghost use Rattle.axis_core.specs.declared.reason.Reason.{Reason};
-ghost use Rattle.axis_core.specs.Owners.{TellsOwner, is_owner, owns, told, brought, disowned};
+ghost use Rattle.axis_core.specs.Owners.{AreApart, TellsOwner, is_owner, owns, told, brought, disowned};
 ghost use Rattle.axis_core.specs.Refusals.{Asked, refusal_of};
 ghost use Rattle.axis_core.specs.Rows.{KeepsSpell, Stays};
 ghost use Rattle.axis_core.specs.Shown.{IsShown};
@@ -101,6 +104,33 @@ pub fn ends_are_told_once()
         owns k (core_after_cycle look c) + told k (core_after_cycle look c).notes ≡ owns k c + told k c.notes }
     ensures taken_away { (k : ℕ) (c : Core) → owns k (disowned k c) ≡ 0 }
     ensures left { (j k : ℕ) (c : Core) → nat_eq k j ≡ false → owns j (disowned k c) ≡ owns j c }
+{}
+
+/// Owners stay apart: where no instance has two commands of the axis, none has after a command that is asked by one that
+/// has none, after a Power, a cycle, and where an owner is taken away.
+pub fn owners_stay_apart()
+    ensures command { (q : Asked) (c : Core) → AreApart c → c.notes ≡ [] →
+        ((k : ℕ) → owns k c + is_owner k q.wanted.owner ≤ 1) → AreApart (commanded q c) }
+    ensures power { (enable : Bool) (c : Core) → AreApart c → c.notes ≡ [] → AreApart (core_after_power enable c) }
+    ensures cycle { (look : AxisLook) (c : Core) → AreApart c → c.notes ≡ [] → AreApart (core_after_cycle look c) }
+    ensures detach { (owner : ℕ) (c : Core) → AreApart c → AreApart (disowned owner c) }
+{}
+
+/// The taken step is the safe step nearest to the wanted one, and a step is safe exactly where it is taken as it is
+/// wanted: so is the place of a cam that is InSync.
+pub fn steps_are_safe()
+    ensures taken { (a : Axis) (step : ℤ) → AreLimits a.limits → IsKept a.limits a.previous a.setpoint →
+        IsTakenStep a.limits a.previous a.setpoint step (taken_of a step) }
+    ensures safe { (a : Axis) (step : ℤ) → AreLimits a.limits → IsKept a.limits a.previous a.setpoint →
+        (is_safe_step a step ≡ true) ↔ IsSafe a.limits a.previous a.setpoint (a.setpoint +ℤ step) }
+{
+    taken_steps_keep();
+}
+
+/// An axis in Standstill stays there in a cycle whose drive answer brings no error.
+pub fn standing_axes_stay()
+    ensures { (look : AxisLook) (c : Core) → IsCoreKept c → c.axis.state ≡ state.Standstill →
+        nat_eq (answer_error_of c.axis look.input) 0 ≡ true → (core_after_cycle look c).axis.state ≡ state.Standstill }
 {}
 
 /// A move, a Halt and a Stop come to their end in time: an active one is under way for as many cycles as its bound, and
