@@ -2,6 +2,7 @@
 //! Control Part 1).
 #![tactic(auto)]
 
+mod advancing;
 mod axis;
 mod blocks;
 mod calls;
@@ -12,6 +13,7 @@ mod laws;
 mod look;
 mod one_axis;
 mod opening;
+mod output;
 mod progress;
 mod reason;
 mod refusing;
