@@ -1,0 +1,4 @@
+pub mod Order
+pub mod Sides
+pub mod Beside
+pub mod Inside

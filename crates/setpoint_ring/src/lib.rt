@@ -1,0 +1,24 @@
+//! The ring between the kernel and a drive: outputs go to the drive and answers come back, each in order and each once.
+#![tactic(auto, using(crate::proofs::Items::items_length, crate::proofs::Items::items_more))]
+
+mod drive_end;
+mod kernel_end;
+mod logs;
+mod numbered;
+mod pair;
+#[cfg(test)]
+mod tests;
+
+pub use cia402_machine::{DriveIn, DriveOut};
+pub use drive_end::DriveEnd;
+pub use kernel_end::KernelEnd;
+pub use logs::{DriveLog, KernelLog, OutList};
+pub use numbered::{AnswersInOrder, Numbered, OutputsInOrder};
+pub use out_of_memory::OutOfMemory;
+pub use pair::{beside, ring};
+
+/// How many outputs go through a ring at most, one for each cycle.
+pub const MOST_OUTPUTS: u32 = 200_000;
+
+/// How many slots a ring has at most, each way.
+pub const MOST_ROOM: u32 = 4_096;
