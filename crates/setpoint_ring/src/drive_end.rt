@@ -5,7 +5,7 @@ ghost use Rattle.std.specs.List.{last_or};
 ghost use mathlib.Core.List.{IsPrefix};
 
 use crate::logs::{DriveLog, OutList};
-use crate::numbered::{AnswersInOrder, Numbered, OutputsInOrder};
+use crate::numbered::{AnswersInOrder, Numbered, OutputsInOrder, take_next};
 use crate::{DriveIn, DriveOut, KernelEnd, MOST_OUTPUTS};
 use rtrb::{Consumer, Producer, PushError};
 use std::alloc::Global;
@@ -66,18 +66,14 @@ impl DriveEnd {
         }) }
         ensures number { IfSome result (λ output. output.number ≡ length self.new.taken) }
         ensures few { IfSome result (λ output. output.number ≤ MOST_OUTPUTS) }
-        ensures waiting { IfSome result (λ output.
-            IsPrefix self.old.waiting (output.item ∷ self.new.waiting)) }
+        ensures waiting { 0 < length self.old.waiting →
+            IfSome result (λ output. self.old.waiting ≡ output.item ∷ self.new.waiting) }
         ensures none { IfNone result (self.new ≡ self.old) }
         ensures succeeds { 0 < length self.old.waiting → IsSome result }
     {
-        match self.outputs.pop() {
-            Ok(output) => {
-                push_within(&mut self.took, output.item);
-                Some(output)
-            }
-            Err(_) => None,
-        }
+        let output = take_next(&mut self.outputs)?;
+        push_within(&mut self.took, output.item);
+        Some(output)
     }
 
     /// Whether the kernel told the end and no output is there any more. That the end was told is

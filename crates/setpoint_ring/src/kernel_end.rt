@@ -1,10 +1,9 @@
 // The kernel's end of a ring: it sends outputs and takes answers.
 
 ghost use Rattle.std.specs.Prelude.{◌≡◌, ◌<◌, ◌≤◌, ◌+◌, [], ◌∷◌, ◌++◌, IfErr, IfSome, IfNone, IsOk, IsSome, OnOk, length, true, false};
-ghost use mathlib.Core.List.{IsPrefix};
 
 use crate::logs::KernelLog;
-use crate::numbered::{AnswersInOrder, Numbered, OutputsInOrder};
+use crate::numbered::{AnswersInOrder, Numbered, OutputsInOrder, take_next};
 use crate::{DriveEnd, DriveIn, DriveOut, MOST_OUTPUTS};
 use rtrb::{Consumer, Producer, PushError};
 use std::alloc::Global;
@@ -67,18 +66,14 @@ impl KernelEnd {
           waiting = self.new.waiting;
         }) }
         ensures number { IfSome result (λ answer. answer.number ≡ length self.new.taken) }
-        ensures waiting { IfSome result (λ answer.
-            IsPrefix self.old.waiting (answer.item ∷ self.new.waiting)) }
+        ensures waiting { 0 < length self.old.waiting →
+            IfSome result (λ answer. self.old.waiting ≡ answer.item ∷ self.new.waiting) }
         ensures none { IfNone result (self.new ≡ self.old) }
         ensures succeeds { 0 < length self.old.waiting → IsSome result }
     {
-        match self.answers.pop() {
-            Ok(answer) => {
-                self.taken = answer.number;
-                Some(answer)
-            }
-            Err(_) => None,
-        }
+        let answer = take_next(&mut self.answers)?;
+        self.taken = answer.number;
+        Some(answer)
     }
 
     /// Tells the drive that no output comes any more.

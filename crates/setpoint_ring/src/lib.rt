@@ -3,6 +3,7 @@
 
 mod drive_end;
 mod kernel_end;
+mod laws;
 mod logs;
 mod numbered;
 mod pair;
@@ -12,6 +13,7 @@ mod tests;
 pub use cia402_machine::{DriveIn, DriveOut};
 pub use drive_end::DriveEnd;
 pub use kernel_end::KernelEnd;
+pub use laws::taken_items_are_the_first_sent;
 pub use logs::{DriveLog, KernelLog, OutList};
 pub use numbered::{AnswersInOrder, Numbered, OutputsInOrder};
 pub use out_of_memory::OutOfMemory;
