@@ -1,1 +1,306 @@
-// Tests.
+// What no clause says: rings that fill, empty and end, and two threads that pass items both ways.
+
+ghost use Rattle.std.specs.Prelude.{◌≡◌, ◌≤◌, ◌+◌, ◌^◌, ◌<◌, [], length, false};
+
+use crate::{
+    DriveEnd, DriveIn, DriveOut, KernelEnd, KernelLog, MOST_OUTPUTS, MOST_ROOM, Numbered,
+    OutOfMemory, beside, ring,
+};
+use std::alloc::Global;
+use std::process::Abort;
+use std::sync::Wait;
+use std::test::Fail;
+use std::thread;
+
+// The output of this number, by which each is told from the others.
+fn output(number: u32) -> Numbered<DriveOut>
+    ensures { result.number ≡ number }
+{
+    Numbered {
+        number,
+        item: DriveOut {
+            controlword: (number % 65_536) as u16,
+            mode: 8,
+            target: (number % 1_000_000) as i32,
+        },
+    }
+}
+
+// The answer of this number.
+fn answer(number: u32) -> Numbered<DriveIn>
+    ensures { result.number ≡ number }
+{
+    Numbered {
+        number,
+        item: DriveIn {
+            statusword: (number % 65_536) as u16,
+            mode_display: 8,
+            actual: (number % 1_000_000) as i32,
+        },
+    }
+}
+
+// A kernel's end that numbers what it sends.
+#[derive(Drop)]
+struct Kernel {
+    end: KernelEnd,
+    sent: u32,
+    ghost counted: { sent ≡ length end.sent },
+    ghost open: { end.ended ≡ false },
+}
+
+impl Kernel {
+    // Sends the next output, where a slot is free.
+    fn send(&mut self) -> bool
+        ensures { self.new.end.ring ≡ self.old.end.ring }
+    {
+        if self.sent >= MOST_OUTPUTS {
+            return false;
+        }
+        let sent = self.end.push(output(self.sent + 1)).is_ok();
+        if sent {
+            self.sent += 1;
+        }
+        sent
+    }
+
+    fn take(&mut self) -> Option<Numbered<DriveIn>>
+        ensures { self.new.end.ring ≡ self.old.end.ring }
+    {
+        self.end.take()
+    }
+
+    fn beside(&mut self, drive: &mut Drive) -> (u32, u32)
+        requires { self.old.end.ring ≡ drive.old.end.ring }
+        ensures { (self.new.end.ring ≡ self.old.end.ring) × (drive.new.end.ring ≡ drive.old.end.ring) }
+    {
+        beside(&mut self.end, &mut drive.end)
+    }
+
+    // The next answer. Until it comes, outputs are sent, as many as that in all.
+    fn wait_for_answer<R: Wait>(&mut self, rt: &R, count: u32) -> Numbered<DriveIn>
+        ensures { self.new.end.ring ≡ self.old.end.ring }
+    {
+        for _ in rt.forever() {
+            if self.sent < count {
+                self.send();
+            }
+            if let Some(next) = self.take() {
+                return next;
+            }
+            thread::yield_now();
+        }
+        unreachable!()
+    }
+
+    // Sends so many outputs and takes as many answers, each in its order and once.
+    fn pass_all<R: Wait + Abort>(mut self, rt: &R, count: u32) -> KernelEnd
+        ensures { result.ring ≡ self.end.ring }
+    {
+        for number in 1..=count {
+            let next = self.wait_for_answer(rt, count);
+            assert_eq!(rt; next, answer(number));
+        }
+        let mut end = self.end;
+        end.end();
+        end
+    }
+}
+
+// A drive's end that numbers what it sends.
+#[derive(Drop)]
+struct Drive {
+    end: DriveEnd,
+    sent: u32,
+    ghost counted: { sent ≡ length end.sent },
+}
+
+impl Drive {
+    // Sends the next answer, where a slot is free.
+    fn send(&mut self) -> bool
+        ensures { self.new.end.ring ≡ self.old.end.ring }
+    {
+        if self.sent >= MOST_OUTPUTS {
+            return false;
+        }
+        let sent = self.end.push(answer(self.sent + 1)).is_ok();
+        if sent {
+            self.sent += 1;
+        }
+        sent
+    }
+
+    fn take(&mut self) -> Option<Numbered<DriveOut>>
+        ensures { self.new.end.ring ≡ self.old.end.ring }
+    {
+        self.end.take()
+    }
+
+    fn has_ended(&mut self) -> bool
+        ensures { self.new.end.ring ≡ self.old.end.ring }
+    {
+        self.end.ended()
+    }
+
+    // Answers each output, which come in their order and once, until the end is told.
+    fn answer_all<R: Wait + Abort>(mut self, rt: &R) -> Drive
+        ensures { result.end.ring ≡ self.end.ring }
+    {
+        let mut number = 0u32;
+        for _ in rt.forever() {
+            let Some(next) = self.take() else {
+                if self.has_ended() {
+                    return self;
+                }
+                thread::yield_now();
+                continue;
+            };
+            number = number.wrapping_add(1);
+            assert_eq!(rt; next, output(number));
+            for _ in rt.forever() {
+                if self.send() {
+                    break;
+                }
+                thread::yield_now();
+            }
+        }
+        unreachable!()
+    }
+}
+
+// The two ends of a ring, in one thread.
+#[derive(Drop)]
+struct Pair {
+    kernel: Kernel,
+    drive: Drive,
+    ghost pair: { kernel.end.ring ≡ drive.end.ring },
+}
+
+impl Pair {
+    fn new(alloc: Global, room: u32) -> Result<Pair, OutOfMemory>
+        requires { (1 ≤ room) × (room ≤ MOST_ROOM) }
+    {
+        let (kernel, drive) = ring(alloc, room)?;
+        Ok(Pair {
+            kernel: Kernel {
+                end: kernel,
+                sent: 0,
+            },
+            drive: Drive {
+                end: drive,
+                sent: 0,
+            },
+        })
+    }
+
+    // Sends so many outputs and answers, as far as slots are free, and tells how many each in all.
+    fn send(&mut self, outputs: u32, answers: u32) -> (u32, u32) {
+        for _ in 0..outputs {
+            self.kernel.send();
+        }
+        for _ in 0..answers {
+            self.drive.send();
+        }
+        (self.kernel.sent, self.drive.sent)
+    }
+
+    fn take_output(&mut self) -> Option<Numbered<DriveOut>> {
+        self.drive.take()
+    }
+
+    fn take_answer(&mut self) -> Option<Numbered<DriveIn>> {
+        self.kernel.take()
+    }
+
+    fn beside(&mut self) -> (u32, u32) {
+        self.kernel.beside(&mut self.drive)
+    }
+}
+
+#[test]
+fn has_as_many_slots_each_way_as_its_room(rt: HostRuntime) -> Result<(), Fail> {
+    for room in [1, 2, 3, 64, MOST_ROOM] {
+        assert!(rt; 0 < room && room <= MOST_ROOM);
+        let mut pair = Pair::new(rt.alloc(), room)?;
+        assert_eq!(rt; pair.send(room + 1, room + 1), (room, room));
+        assert_eq!(rt; pair.beside(), (room, room));
+        assert_eq!(rt; pair.take_output(), Some(output(1)), "room {room}");
+        assert_eq!(rt; pair.take_answer(), Some(answer(1)), "room {room}");
+        assert_eq!(rt; pair.beside(), (room - 1, room - 1));
+        assert_eq!(rt; pair.send(2, 2), (room + 1, room + 1));
+    }
+    Ok(())
+}
+
+#[test]
+fn gives_back_what_finds_no_slot(rt: HostRuntime) -> Result<(), Fail> {
+    let (mut kernel, mut drive) = ring(rt.alloc(), 1)?;
+    if kernel.push(output(1)).is_err() || drive.push(answer(1)).is_err() {
+        return Err(Fail::new("a new ring has no slot"));
+    }
+    assert_eq!(rt; kernel.push(output(2)), Err(output(2)));
+    assert_eq!(rt; drive.push(answer(2)), Err(answer(2)));
+    Ok(())
+}
+
+#[test]
+fn tells_the_end_once_all_is_taken(rt: HostRuntime) -> Result<(), Fail> {
+    let mut pair = Pair::new(rt.alloc(), 2)?;
+    assert_eq!(rt; pair.send(2, 0), (2, 0));
+    let Pair {
+        kernel,
+        mut drive,
+        ..
+    } = pair;
+    assert!(rt; !drive.has_ended());
+    let mut end = kernel.end;
+    end.end();
+    for number in [1, 2] {
+        assert!(rt; !drive.has_ended(), "before output {number}");
+        assert_eq!(rt; drive.take(), Some(output(number)));
+    }
+    assert!(rt; drive.has_ended());
+    assert_eq!(rt; drive.take(), None);
+    Ok(())
+}
+
+#[test]
+fn two_threads_pass_items_both_ways(rt: HostRuntime) -> Result<(), Fail> {
+    let count = 100_000;
+    let Pair { kernel, drive, .. } = Pair::new(rt.alloc(), 2)?;
+    let shared = &rt;
+    let (mut kernel, mut drive) = thread::join(
+        &rt,
+        move || -> KernelEnd
+            ensures { result.ring ≡ kernel.end.ring }
+        { kernel.pass_all(shared, count) },
+        move || -> Drive
+            ensures { result.end.ring ≡ drive.end.ring }
+        { drive.answer_all(shared) },
+    );
+    assert_eq!(rt; beside(&mut kernel, &mut drive.end), (0, 0));
+    let log = KernelLog {
+        sent: count,
+        taken: count,
+    };
+    assert_eq!(rt; kernel.finish(), log);
+    expect_log(&rt, drive, count)
+}
+
+// The drive took so many outputs, in their order and each once, and sent as many answers.
+fn expect_log(rt: &impl Abort, drive: Drive, count: u32) -> Result<(), Fail> {
+    if drive.sent == 0 {
+        return Err(Fail::new("the drive sent nothing"));
+    }
+    let log = drive.end.finish();
+    assert_eq!(rt;
+        (log.sent, log.taken, log.took.len()),
+        (count, count, count)
+    );
+    assert_eq!(rt; log.last, answer(count).item);
+    for place in 0..count {
+        assert_eq!(rt; log.took.get(place), Some(&output(place + 1).item));
+    }
+    assert_eq!(rt; log.took.get(count), None);
+    Ok(())
+}
