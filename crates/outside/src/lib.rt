@@ -20,7 +20,7 @@ pub use memory_files::MemoryFiles;
 pub use memory_sink::MemorySink;
 pub use out_of_memory::OutOfMemory;
 pub use sink::{Sink, SinkFailed, write_all};
-pub use spawner::{Spawner, StartFault};
+pub use spawner::{Host, Spawner, StartFault};
 pub use worker::{Due, Worker};
 pub use writer_sink::{StdSink, WriterSink};
 

@@ -1,6 +1,6 @@
 // Starting jobs in threads, and joining them.
 
-ghost use Rattle.std.specs.Prelude.{◌≡◌, ◌≢◌, ◌+◌, ◌-◌, ◌^◌, ◌<◌, ◌≤◌, ◌∷◌, ◌++◌, [], min, Some, None, Err, IfOk, IfSome, IsSome, IsTrue, ◌↔◌, OnErr, OnOk, Contains, length, slice_get, slice_set, vec_len, vec_capacity};
+ghost use Rattle.std.specs.Prelude.{◌≡◌, ◌≢◌, ℕ, ◌+◌, ◌-◌, ◌^◌, ◌<◌, ◌≤◌, ◌∷◌, ◌++◌, [], min, Some, None, Err, IfOk, IfSome, IsSome, IsTrue, ◌↔◌, OnErr, OnOk, Contains, length, slice_get, slice_set, vec_len, vec_capacity};
 ghost use Rattle.outside.specs.Started.{Started, job_of};
 
 use crate::worker::{Due, Worker};
@@ -21,17 +21,22 @@ pub enum StartFault {
     OutOfMemory,
 }
 
+/// A handle of the host that starts threads and waits, of which each thread has a copy.
+pub trait Host: Threads + Wait + Copy + Drop + Send + 'static {}
+
+impl<H: Threads + Wait + Copy + Drop + Send + 'static> Host for H {}
+
 /// Starts jobs in threads of their own, but those whose start is listed as refused.
 #[derive(Drop)]
-pub struct Spawner<R: Threads + Wait + Copy + Drop + Send + 'static, J: Worker> {
-    rt: R,
+pub struct Spawner<H: Host, J: Worker> {
+    rt: H,
     threads: Vec<Option<PromisedHandle<J::End, Due<J>>>>,
     refused: Vec<u32>,
     starts: u32,
     faults: u64,
 }
 
-impl<R: Threads + Wait + Copy + Drop + Send + 'static, J: Worker> Model for Spawner<R, J> {
+impl<H: Host, J: Worker> Model for Spawner<H, J> {
     ghost use Rattle.outside.specs.Started.{Started};
 
     ghost Value = { Started J };
@@ -43,9 +48,9 @@ impl<R: Threads + Wait + Copy + Drop + Send + 'static, J: Worker> Model for Spaw
     ghost invariant = { IsSpawner };
 }
 
-impl<R: Threads + Wait + Copy + Drop + Send + 'static, J: Worker> Spawner<R, J> {
+impl<H: Host, J: Worker> Spawner<H, J> {
     /// No job yet, and no start is refused but where the host gives no thread.
-    pub fn new(rt: R, alloc: Global) -> Spawner<R, J>
+    pub fn new(rt: H, alloc: Global) -> Spawner<H, J>
         ensures { result ≡ record { jobs = []; refused = []; starts = 0; faults = 0 } }
     {
         Spawner {
@@ -58,7 +63,7 @@ impl<R: Threads + Wait + Copy + Drop + Send + 'static, J: Worker> Spawner<R, J> 
     }
 
     /// No job yet. The starts of the listed numbers are refused, counted from 1.
-    pub fn refusing(rt: R, alloc: Global, refused: &[u32]) -> Result<Spawner<R, J>, OutOfMemory>
+    pub fn refusing(rt: H, alloc: Global, refused: &[u32]) -> Result<Spawner<H, J>, OutOfMemory>
         ensures { IfOk result (λ spawner. spawner ≡ record {
           jobs = [];
           refused = refused.now;
@@ -75,6 +80,11 @@ impl<R: Threads + Wait + Copy + Drop + Send + 'static, J: Worker> Spawner<R, J> 
         })
     }
 
+    /// The handle that each job is given.
+    pub fn host(&self) -> H {
+        self.rt
+    }
+
     /// How many jobs were started.
     pub fn started(&self) -> u32
         ensures { result ≡ length self.now.jobs }
@@ -88,6 +98,9 @@ impl<R: Threads + Wait + Copy + Drop + Send + 'static, J: Worker> Spawner<R, J> 
         requires few { length self.old.jobs < MOST_JOBS }
         ensures number { IfOk result (λ number. number ≡ length self.old.jobs) }
         ensures started { OnOk result (self.new.jobs ≡ self.old.jobs ++ Some job ∷ []) }
+        ensures job { IfOk result (λ number. job_of self.new number ≡ Some job) }
+        ensures others { (n : ℕ) → n < length self.old.jobs →
+            job_of self.new n ≡ job_of self.old n }
         ensures unchanged { OnErr result (self.new.jobs ≡ self.old.jobs) }
         ensures refused { result ≡ Err StartFault.Refused →
             self.new.faults ≡ min (self.old.faults + 1) (2 ^ 64 - 1) }
@@ -130,6 +143,7 @@ impl<R: Threads + Wait + Copy + Drop + Send + 'static, J: Worker> Spawner<R, J> 
         ensures joined { self.new ≡ record self.old {
           jobs = slice_set self.old.jobs number None;
         } }
+        ensures others { (n : ℕ) → n ≢ number → job_of self.new n ≡ job_of self.old n }
     {
         let rt = self.rt;
         take_at(&mut self.threads, number as usize).join(&rt)
@@ -137,8 +151,8 @@ impl<R: Threads + Wait + Copy + Drop + Send + 'static, J: Worker> Spawner<R, J> 
 }
 
 // A thread that does the job.
-fn start_thread<R: Threads + Wait + Copy + Drop + Send + 'static, J: Worker>(
-    rt: R,
+fn start_thread<H: Host, J: Worker>(
+    rt: H,
     job: J,
 ) -> Result<PromisedHandle<J::End, Due<J>>, AllocError>
     requires ready { J.ready job }

@@ -1,4 +1,6 @@
 // What no clause says: the calls in memory, on the host's files and on its output, one by one.
+mod threads;
+
 use crate::*;
 use std::io::{self, ErrorKind, Read, Write};
 use std::test::Fail;

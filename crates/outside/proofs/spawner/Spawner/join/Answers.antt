@@ -1,13 +1,8 @@
-use Rattle.std.proofs.Common.{◌≡◌, ℕ, List, Some, None, IfSome, IsSome, map, set, sym, ap, ◌∙◌, subst}
+use Rattle.std.proofs.Common.{None, IsSome, map, set, sym, ap, ◌∙◌, subst}
 use Rattle.std.specs.Prelude.{option_map}
-use Rattle.std.specs.declared.thread.PromisedHandle.{PromisedHandle}
-use Rattle.outside.specs.declared.worker.Due.{Due}
 use Rattle.outside.specs.Started.{Started, job_of}
-use Rattle.outside.proofs.Jobs.{thread_there, job_there, jobs_set, if_some}
+use Rattle.outside.proofs.Jobs.{job_at, done_by, thread_there, job_there, jobs_set, jobs_kept, if_some}
 use Rattle.outside.proofs.spawner.Spawner.join.Goals as goal
-
-abbrev done_by : {J E : Type 0} → PromisedHandle E (Due J E) → J
-done_by t = t.promise.job.value
 
 -- the thread of the job stands in the list
 pub take_at-requires : goal.take_at-requires
@@ -27,3 +22,9 @@ returns-clause-joined g c =
     let jobs = ap (map (option_map done_by)) c.take_at.ensures.gone ∙ jobs_set done_by c.self.inside.threads.items c.args.number in
     let others = ap (λ (s : Started _). record s { jobs = set s.jobs c.args.number None }) c.self.view_is in
     ap (λ js. record { jobs = js; refused = c.self.inside.refused.items; starts = c.self.inside.starts; faults = c.self.inside.faults }) jobs ∙ others
+
+-- and stand at their places
+pub returns-clause-others : goal.returns-clause-others
+returns-clause-others g c = λ n other.
+    ap (λ threads. job_at done_by threads n) c.take_at.ensures.gone ∙ jobs_kept done_by c.self.inside.threads.items c.args.number n other
+    ∙ ap (λ (s : Started _). job_of s n) c.self.view_is

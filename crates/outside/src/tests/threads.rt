@@ -1,0 +1,126 @@
+// Jobs in threads, and gates between them.
+
+ghost use Rattle.std.specs.Prelude.{◌≡◌, ◌+◌, ◌<◌, ⊤};
+
+use crate::*;
+use std::alloc::Global;
+use std::sync::Wait;
+use std::test::Fail;
+use std::thread;
+
+// Adds one to its number, within 32 bits.
+#[derive(Clone, Copy, Drop)]
+struct AddsOne {
+    number: u32,
+}
+
+impl Worker for AddsOne {
+    type End = u32;
+
+    ghost ready = { λ _. ⊤ };
+
+    ghost works = { λ _ _. ⊤ };
+
+    fn work<R: Wait>(self, _rt: &R) -> u32 {
+        self.number.wrapping_add(1)
+    }
+}
+
+// Starts a job and waits for its end.
+fn add_one<H: Host>(spawner: &mut Spawner<H, AddsOne>, number: u32) -> Result<u32, StartFault>
+    requires { length spawner.old.jobs < MOST_JOBS }
+{
+    let place = spawner.start(AddsOne { number })?;
+    Ok(spawner.join(place))
+}
+
+#[test]
+fn starts_all_but_the_listed(rt: HostRuntime) -> Result<(), Fail> {
+    let refused = Err(StartFault::Refused);
+    let cases: [(&[u32], [Result<u32, StartFault>; 4], u32); 4] = [
+        (&[], [Ok(11), Ok(12), Ok(13), Ok(14)], 4),
+        (&[3], [Ok(11), Ok(12), refused, Ok(14)], 3),
+        (&[1, 4, 9], [refused, Ok(12), Ok(13), refused], 2),
+        (&[4, 3, 2, 1], [refused, refused, refused, refused], 0),
+    ];
+    for (listed, results, started) in cases {
+        let mut spawner = Spawner::refusing(rt, rt.alloc(), listed)?;
+        let mut number = 10;
+        for result in results {
+            assert!(rt; spawner.started() < 4 && number < 14);
+            assert_eq!(rt;
+                add_one(&mut spawner, number),
+                result,
+                "{listed:?} at {number}"
+            );
+            number += 1;
+        }
+        assert_eq!(rt; spawner.started(), started, "{listed:?}");
+    }
+    Ok(())
+}
+
+#[test]
+fn joins_in_any_order(rt: HostRuntime) -> Result<(), StartFault> {
+    let mut spawner = Spawner::new(rt, rt.alloc());
+    let first = spawner.start(AddsOne { number: 1 })?;
+    let second = spawner.start(AddsOne { number: 2 })?;
+    assert_eq!(rt; (first, second, spawner.started()), (0, 1, 2));
+    assert_eq!(rt; spawner.join(second), 3);
+    assert_eq!(rt; spawner.join(first), 2);
+    assert_eq!(rt; spawner.started(), 2);
+    Ok(())
+}
+
+// What is called of a gate that holds task 1 until task 2.
+#[derive(Clone, Copy, Debug)]
+enum Turn {
+    Before(u8),
+    After(u8),
+}
+
+#[test]
+fn holds_for_as_many_looks_as_it_has(rt: HostRuntime) -> Result<(), Fail> {
+    let cases: [(u64, &[Turn], bool); 7] = [
+        (5, &[], false),
+        (5, &[Turn::Before(1)], true),
+        (0, &[Turn::Before(1)], true),
+        (
+            5,
+            &[Turn::Before(2), Turn::Before(3), Turn::After(3)],
+            false,
+        ),
+        (5, &[Turn::After(1), Turn::Before(1)], true),
+        (
+            5,
+            &[Turn::After(2), Turn::Before(1), Turn::Before(1)],
+            false,
+        ),
+        (0, &[Turn::Before(1), Turn::After(2)], true),
+    ];
+    for (looks, turns, gave_up) in cases {
+        let gate = HoldGate::new(rt.alloc(), 1, 2, looks)?;
+        let twin = gate.twin()?;
+        for turn in turns {
+            match *turn {
+                Turn::Before(task) => gate.before(task),
+                Turn::After(task) => twin.after(task),
+            }
+        }
+        assert_eq!(rt; gate.gave_up(), gave_up, "{looks} looks, {turns:?}");
+        assert_eq!(rt; twin.gave_up(), gave_up, "{looks} looks, {turns:?}");
+    }
+    Ok(())
+}
+
+#[test]
+fn lets_a_thread_go_once_the_other_was_answered(rt: HostRuntime) -> Result<(), Fail> {
+    let gate = HoldGate::new(rt.alloc(), 1, 2, 1_000_000)?;
+    let twin = gate.twin()?;
+    thread::join(&rt, || gate.before(1), || twin.after(2));
+    assert!(rt; !gate.gave_up());
+    let open = OpenGate.twin()?;
+    open.before(1);
+    open.after(1);
+    Ok(())
+}
