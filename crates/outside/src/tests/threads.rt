@@ -1,6 +1,6 @@
 // Jobs in threads, and gates between them.
 
-ghost use Rattle.std.specs.Prelude.{◌≡◌, ◌+◌, ◌<◌, ⊤};
+ghost use Rattle.std.specs.Prelude.{◌<◌, ⊤, length};
 
 use crate::*;
 use std::alloc::Global;
