@@ -6,7 +6,7 @@ use Rattle.std.specs.declared.thread.PromisedHandle.{PromisedHandle}
 use Rattle.outside.specs.declared.worker.Due.{Due}
 
 -- the job that a thread does
-abbrev pub done_by : {J E : Type 0} → PromisedHandle E (Due J E) → J
+abbrev pub done_by : {H J E : Type 0} → PromisedHandle E (Due H J E) → J
 done_by t = t.promise.job.value
 
 module _ {A B : Type 0} (f : A → B) where

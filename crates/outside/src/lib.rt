@@ -21,7 +21,7 @@ pub use memory_sink::MemorySink;
 pub use out_of_memory::OutOfMemory;
 pub use sink::{Sink, SinkFailed, write_all};
 pub use spawner::{Host, Spawner, StartFault};
-pub use worker::{Due, Worker};
+pub use worker::Worker;
 pub use writer_sink::{StdSink, WriterSink};
 
 /// How many jobs a spawner starts at most.

@@ -6,9 +6,8 @@ ghost use Rattle.outside.specs.Started.{Started, job_of};
 use crate::worker::{Due, Worker};
 use crate::{MOST_JOBS, OutOfMemory};
 use std::alloc::{AllocError, Global};
-use std::marker::Model;
+use std::marker::{Model, PhantomData};
 use std::snapshot::Snapshot;
-use std::sync::Wait;
 use std::thread;
 use std::thread::{PromisedHandle, Threads};
 
@@ -21,22 +20,22 @@ pub enum StartFault {
     OutOfMemory,
 }
 
-/// A handle of the host that starts threads and waits, of which each thread has a copy.
-pub trait Host: Threads + Wait + Copy + Drop + Send + 'static {}
+/// A handle of the host that starts threads, of which each thread has a copy.
+pub trait Host: Threads + Copy + Drop + Send + 'static {}
 
-impl<H: Threads + Wait + Copy + Drop + Send + 'static> Host for H {}
+impl<H: Threads + Copy + Drop + Send + 'static> Host for H {}
 
 /// Starts jobs in threads of their own, but those whose start is listed as refused.
 #[derive(Drop)]
-pub struct Spawner<H: Host, J: Worker> {
+pub struct Spawner<H: Host, J: Worker<H>> {
     rt: H,
-    threads: Vec<Option<PromisedHandle<J::End, Due<J>>>>,
+    threads: Vec<Option<PromisedHandle<J::End, Due<H, J>>>>,
     refused: Vec<u32>,
     starts: u32,
     faults: u64,
 }
 
-impl<H: Host, J: Worker> Model for Spawner<H, J> {
+impl<H: Host, J: Worker<H>> Model for Spawner<H, J> {
     ghost use Rattle.outside.specs.Started.{Started};
 
     ghost Value = { Started J };
@@ -48,7 +47,7 @@ impl<H: Host, J: Worker> Model for Spawner<H, J> {
     ghost invariant = { IsSpawner };
 }
 
-impl<H: Host, J: Worker> Spawner<H, J> {
+impl<H: Host, J: Worker<H>> Spawner<H, J> {
     /// No job yet, and no start is refused but where the host gives no thread.
     pub fn new(rt: H, alloc: Global) -> Spawner<H, J>
         ensures { result ≡ record { jobs = []; refused = []; starts = 0; faults = 0 } }
@@ -151,15 +150,16 @@ impl<H: Host, J: Worker> Spawner<H, J> {
 }
 
 // A thread that does the job.
-fn start_thread<H: Host, J: Worker>(
+fn start_thread<H: Host, J: Worker<H>>(
     rt: H,
     job: J,
-) -> Result<PromisedHandle<J::End, Due<J>>, AllocError>
+) -> Result<PromisedHandle<J::End, Due<H, J>>, AllocError>
     requires ready { J.ready job }
     ensures { IfOk result (λ thread. thread.promise.job.value ≡ job) }
 {
     let due = Due {
         job: Snapshot::of(&job),
+        host: PhantomData,
     };
     Ok(thread::spawn_with(&rt, due, move || job.work(&rt))?)
 }

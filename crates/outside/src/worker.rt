@@ -1,11 +1,12 @@
 // Jobs for threads of their own.
 
+use std::marker::PhantomData;
 use std::snapshot::Snapshot;
-use std::sync::Wait;
 use std::thread::Promise;
 
-/// A job that comes to an end. What it has to meet before, and what its end meets, is its own.
-pub trait Worker: Drop + Send + 'static {
+/// A job that comes to an end, on hosts of the type `H`. What has to hold of it before, and what
+/// holds of its end, is its own.
+pub trait Worker<H>: Drop + Send + 'static {
     type End: Drop + Send + 'static;
 
     // What is to hold of a job that begins.
@@ -14,18 +15,20 @@ pub trait Worker: Drop + Send + 'static {
     // What holds of a job and its end.
     ghost works: { Self → Self.End → Type 0 };
 
-    /// Does the job. It may wait for other threads, and then nothing says that it ends.
-    fn work<R: Wait>(self, rt: &R) -> Self::End
+    /// Does the job. On a host that can wait it may wait for other threads, and then nothing says
+    /// that it ends.
+    fn work(self, rt: &H) -> Self::End
         requires ready { ready self }
         ensures works { works self result };
 }
 
 // What a thread owes: an end that its job's `works` holds of.
 #[derive(Drop)]
-pub struct Due<J: Worker> {
+pub struct Due<H, J: Worker<H>> {
     pub(crate) job: Snapshot<J>,
+    pub(crate) host: PhantomData<H>,
 }
 
-impl<J: Worker> Promise<J::End> for Due<J> {
+impl<H, J: Worker<H>> Promise<J::End> for Due<H, J> {
     ghost kept_by = { λ due end. J.works due.job.value end };
 }

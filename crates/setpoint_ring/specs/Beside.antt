@@ -2,7 +2,8 @@
 use Rattle.std.specs.Prelude.{◌≡◌, ℕ, ◌+◌, ◌≤◌, [], ◌++◌, length, false}
 use Rattle.setpoint_ring.specs.Sides.{Ring, KernelSide, DriveSide}
 
--- the ends were looked at together: what was taken, followed by what is in the ring, is what was sent, and the other slots are known to be free
+-- two ends of one ring: what was taken, followed by what is in the ring, is what was sent, and the
+-- other slots are known to be free
 pub record AreBeside (kernel : KernelSide) (drive : DriveSide) : Type 0 where
   pub ring : kernel.ring ≡ drive.ring
   pub outputs : drive.taken ++ drive.waiting ≡ kernel.sent

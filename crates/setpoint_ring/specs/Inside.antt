@@ -1,19 +1,25 @@
 -- How the ends of a ring are kept. This project's profile.
 use Rattle.std.specs.Prelude.{◌≡◌, ◌≤◌, None, length, vec_capacity}
 use Rattle.std.specs.List.{last_or}
+use Rattle.std.specs.declared.alloc.Global.{Global}
+use Rattle.rtrb.specs.declared.end.End.{End}
 use Rattle.rtrb.specs.Ring.{sent, received, known_items, known_free}
 use Rattle.setpoint_ring.specs.declared.TheConstants.{MOST_OUTPUTS}
 use Rattle.setpoint_ring.specs.declared.kernel_end.KernelEnd.TheInside as kernel
 use Rattle.setpoint_ring.specs.declared.drive_end.DriveEnd.TheInside as drive
 use Rattle.setpoint_ring.specs.Order.{items_of}
-use Rattle.setpoint_ring.specs.Sides.{KernelSide, DriveSide}
+use Rattle.setpoint_ring.specs.Sides.{Way, KernelSide, DriveSide}
+
+-- the way that this is an end of
+abbrev pub way_of : {T P : Type 0} → End T Global P → Way
+way_of e = record { words = e.words; slots = e.slots; names = e.names; heap = e.heap }
 
 -- the kernel's end as its two ends of `rtrb` say
 abbrev pub kernel_side_of : kernel.Inside → KernelSide
 kernel_side_of k = record {
   ring = record {
-    outputs = record { words = k.outputs.end.words; slots = k.outputs.end.slots; names = k.outputs.end.names; heap = k.outputs.end.heap };
-    answers = record { words = k.answers.end.words; slots = k.answers.end.slots; names = k.answers.end.names; heap = k.answers.end.heap };
+    outputs = way_of k.outputs.end;
+    answers = way_of k.answers.end;
     room = k.outputs.capacity;
   };
   sent = items_of (sent k.outputs);
@@ -27,8 +33,8 @@ kernel_side_of k = record {
 abbrev pub drive_side_of : drive.Inside → DriveSide
 drive_side_of d = record {
   ring = record {
-    outputs = record { words = d.outputs.end.words; slots = d.outputs.end.slots; names = d.outputs.end.names; heap = d.outputs.end.heap };
-    answers = record { words = d.answers.end.words; slots = d.answers.end.slots; names = d.answers.end.names; heap = d.answers.end.heap };
+    outputs = way_of d.outputs.end;
+    answers = way_of d.answers.end;
     room = d.answers.capacity;
   };
   sent = items_of (sent d.answers);
@@ -44,7 +50,7 @@ pub record IsKernelEnd (k : kernel.Inside) : Type 0 where
   pub taken_is : k.taken ≡ length (received k.answers)
   pub same_room : k.outputs.capacity ≡ k.answers.capacity
 
--- the drive's end counts what it sent, has the last of it, and keeps what it took in room for all outputs that may come
+-- the drive's end counts what it sent, has the last of it, and keeps what it took, in room for all
 pub record IsDriveEnd (d : drive.Inside) : Type 0 where
   pub sent_is : d.sent ≡ length (sent d.answers)
   pub last_is : d.last ≡ last_or None (items_of (sent d.answers))

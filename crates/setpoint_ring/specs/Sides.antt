@@ -5,32 +5,41 @@ use denote.RawPtr.{Ptr}
 use Rattle.cia402_machine.specs.declared.drive.DriveIn.{DriveIn}
 use Rattle.cia402_machine.specs.declared.drive.DriveOut.{DriveOut}
 
--- where the items of one direction lie, by which it is told from others; no clause says what this is
-pub record Channel : Type 0 where
+-- what tells the items' way from any other: where they lie, and under which names in proofs
+pub record Way : Type 0 where
   pub words : Ptr
   pub slots : Ptr
   pub names : ℕ × (ℕ × ℕ)
   pub heap : Global
 
--- a drive's ring: outputs go one way, answers the other, each way with so many slots
+-- a drive's ring: outputs go one way and answers the other, each with so many slots
 pub record Ring : Type 0 where
-  pub outputs : Channel
-  pub answers : Channel
+  pub outputs : Way
+  pub answers : Way
   pub room : ℕ
 
--- the kernel's end: outputs sent and answers taken so far, the oldest first; the answers that it knows to be in the ring, the next first; how many slots it knows to be free; whether it told the end
+-- the kernel's end of a ring
 pub record KernelSide : Type 0 where
   pub ring : Ring
+  -- the outputs sent so far, the oldest first
   pub sent : List DriveOut
+  -- the answers taken so far, the oldest first
   pub taken : List DriveIn
+  -- the answers that it knows to be in the ring, the next first
   pub waiting : List DriveIn
+  -- how many slots it knows to be free for outputs
   pub free : ℕ
+  -- whether it told the end
   pub ended : Bool
 
--- the drive's end: answers sent and outputs taken so far, the oldest first; the outputs that it knows to be in the ring, the next first; how many slots it knows to be free
+-- the drive's end of a ring
 pub record DriveSide : Type 0 where
   pub ring : Ring
+  -- the answers sent so far, the oldest first
   pub sent : List DriveIn
+  -- the outputs taken so far, the oldest first
   pub taken : List DriveOut
+  -- the outputs that it knows to be in the ring, the next first
   pub waiting : List DriveOut
+  -- how many slots it knows to be free for answers
   pub free : ℕ

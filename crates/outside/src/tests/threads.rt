@@ -3,8 +3,8 @@
 ghost use Rattle.std.specs.Prelude.{◌<◌, ⊤, length};
 
 use crate::*;
-use std::alloc::Global;
-use std::sync::Wait;
+use std::sync::atomic::{AtomicBool, Ordering};
+use std::sync::{Arc, Wait};
 use std::test::Fail;
 use std::thread;
 
@@ -14,14 +14,14 @@ struct AddsOne {
     number: u32,
 }
 
-impl Worker for AddsOne {
+impl<H> Worker<H> for AddsOne {
     type End = u32;
 
     ghost ready = { λ _. ⊤ };
 
     ghost works = { λ _ _. ⊤ };
 
-    fn work<R: Wait>(self, _rt: &R) -> u32 {
+    fn work(self, _rt: &H) -> u32 {
         self.number.wrapping_add(1)
     }
 }
@@ -69,6 +69,53 @@ fn joins_in_any_order(rt: HostRuntime) -> Result<(), StartFault> {
     assert_eq!(rt; spawner.join(second), 3);
     assert_eq!(rt; spawner.join(first), 2);
     assert_eq!(rt; spawner.started(), 2);
+    Ok(())
+}
+
+// Tells that it runs, and waits until another job does.
+#[derive(Drop)]
+struct Meets {
+    here: Arc<AtomicBool>,
+    there: Arc<AtomicBool>,
+}
+
+impl<W: Wait> Worker<W> for Meets {
+    type End = ();
+
+    ghost ready = { λ _. ⊤ };
+
+    ghost works = { λ _ _. ⊤ };
+
+    fn work(self, rt: &W) {
+        self.here.store(true, Ordering::SeqCst);
+        for _ in rt.forever() {
+            if self.there.load(Ordering::SeqCst) {
+                return;
+            }
+            thread::yield_now();
+        }
+        unreachable!()
+    }
+}
+
+#[test]
+fn runs_jobs_side_by_side(rt: HostRuntime) -> Result<(), Fail> {
+    let one = Arc::new(rt.alloc(), AtomicBool::new(false))?;
+    let two = Arc::new(rt.alloc(), AtomicBool::new(false))?;
+    let first = Meets {
+        here: Arc::try_clone(&one)?,
+        there: Arc::try_clone(&two)?,
+    };
+    let second = Meets {
+        here: two,
+        there: one,
+    };
+    let mut spawner = Spawner::new(rt, rt.alloc());
+    let (Ok(first), Ok(second)) = (spawner.start(first), spawner.start(second)) else {
+        return Err(Fail::new("a start was refused"));
+    };
+    spawner.join(first);
+    spawner.join(second);
     Ok(())
 }
 
