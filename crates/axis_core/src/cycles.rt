@@ -1,7 +1,7 @@
 // The order within a cycle of an axis.
 
-ghost use Rattle.std.specs.Prelude.{◌≡◌, ◌<◌, ◌≤◌, ◌&&◌, true, [], length, slice_set};
-ghost use Rattle.axis_state.specs.Counts.{IsCount};
+ghost use Rattle.std.specs.Prelude.{◌≡◌, ◌<◌, ◌≤◌, ◌≤ℤ◌, ◌-ℤ◌, ◌&&◌, true, [], length, slice_set, unsigned_abs, pos};
+ghost use Rattle.axis_state.specs.Counts.{count_of, IsCount};
 ghost use Rattle.command_pool.specs.Waiting.{queue_of};
 ghost use Rattle.axis_core.specs.AxisKept.{IsCoreKept, IsLook};
 ghost use Rattle.axis_core.specs.Cores.{core_at};
@@ -13,15 +13,16 @@ ghost use Rattle.axis_core.specs.Rows.{KeepsSpell};
 use crate::advancing::advance;
 use crate::axis::Axis;
 use crate::blocks::halts::leave_stopping;
+use crate::blocks::power::is_powered;
 use crate::blocks::reset::reset;
 use crate::driving::{error_where, is_driven, stand};
 use crate::look::AxisLook;
-use crate::output::{give, row};
 use crate::taking_over::{end_by, fail};
 use axis_state::{
-    AxisRow, DriveIn, counts_are_read_back, homing_keeps_counts, offsets_are_small,
-    setpoints_have_counts,
+    AxisRow, DriveIn, DriveOut, MOST_COUNTED, counts_are_read_back, homing_keeps_counts,
+    offsets_are_small, setpoints_have_counts, target_count,
 };
+use cia402_machine::{CYCLIC_SYNCHRONOUS_POSITION, ENABLE_OPERATION, next_controlword, state_of};
 use command_pool::{CommandPool, Notes};
 use kin_core::{braking_steps_are_only_cut, standing_is_kept, taken_steps_keep};
 
@@ -89,6 +90,51 @@ fn reported(input: &DriveIn) -> i32
     ensures count { IsCount input.now.actual }
 {
     input.actual
+}
+
+// The controlword by what the drive's answer tells.
+fn word(input: &DriveIn, axis: &Axis) -> u16
+    ensures { result ≡ spec.controlword_for input.now axis.now }
+{
+    let state = state_of(input.statusword);
+    let pending = axis.reset.is_some();
+    next_controlword(state, is_powered(axis), pending, axis.controlword)
+}
+
+// The axis after its drive got its controlword: a driven one stays so.
+fn give(driven: bool, input: &DriveIn, axis: &mut Axis)
+    requires { driven ≡ true → spec.controlword_for input.now axis.old ≡ ENABLE_OPERATION }
+    ensures { axis.new ≡ spec.axis_after_word input.now axis.old }
+{
+    axis.controlword = if driven {
+        ENABLE_OPERATION
+    } else {
+        word(input, axis)
+    };
+    axis.was_off = false;
+}
+
+// What a cycle shows of the axis after it.
+#[tactic(auto, unfolding(crate::specs::Cycles::row_shown))]
+fn row(input: &DriveIn, axis: &Axis) -> AxisRow
+    requires least { pos 1 ≤ℤ axis.now.inc }
+    requires distance { unsigned_abs (axis.now.setpoint -ℤ axis.now.offset) ≤ MOST_COUNTED }
+    requires count { IsCount (count_of axis.now.setpoint axis.now.offset axis.now.inc) }
+    ensures { result ≡ spec.row_shown input.now axis.now }
+{
+    AxisRow {
+        input: *input,
+        state: axis.state,
+        error: axis.error,
+        driven: axis.driven,
+        setpoint: axis.setpoint,
+        offset: axis.offset,
+        output: DriveOut {
+            controlword: axis.controlword,
+            mode: CYCLIC_SYNCHRONOUS_POSITION,
+            target: target_count(axis.setpoint, axis.offset, axis.inc),
+        },
+    }
 }
 
 // A cycle of the axis, before it is shown.

@@ -13,7 +13,6 @@ mod laws;
 mod look;
 mod one_axis;
 mod opening;
-mod output;
 mod progress;
 mod reason;
 mod refusing;
