@@ -13,7 +13,7 @@ mod tests;
 pub use cia402_machine::{DriveIn, DriveOut};
 pub use drive_end::DriveEnd;
 pub use kernel_end::KernelEnd;
-pub use laws::taken_items_are_the_first_sent;
+pub use laws::{new_ends_are_beside, taken_items_are_the_first_sent};
 pub use logs::{DriveLog, KernelLog, OutList};
 pub use numbered::{AnswersInOrder, Numbered, OutputsInOrder};
 pub use out_of_memory::OutOfMemory;
