@@ -1,0 +1,6 @@
+pub mod Texts
+pub mod Words
+pub mod Lines
+pub mod Numbers
+pub mod Keys
+pub mod Reading

@@ -1,0 +1,18 @@
+//! Texts made of lines: their words, numbers, points and keys, and the first line that breaks a
+//! rule.
+#![tactic(auto)]
+
+mod key;
+mod line;
+mod number;
+mod reader;
+mod word;
+
+pub use key::value_at;
+pub use line::first_line;
+pub use number::{number_of, point_of};
+pub use reader::{LineFault, LineReader, LineRefused, LinesFault, read_lines};
+pub use word::{is_clean, says, words_of};
+
+#[cfg(test)]
+mod tests;
