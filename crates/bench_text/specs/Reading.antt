@@ -1,101 +1,164 @@
--- What a text means that has the form of a bench that is read so far.
-use Rattle.std.specs.Prelude.{◌≡◌, ℕ, ℤ, pos, Bool, true, not, ◌&&◌, nat_le, if◌then◌else◌, Option, Some, None, Result, List, [], ◌∷◌, slice_index_or}
-use Rattle.std.specs.List.{list_all}
-use Rattle.kin_core.specs.declared.limits.Limits.{Limits}
-use Rattle.command_pool.specs.declared.kind.BlockKind.TheVariants.{MoveAbsolute}
-use Rattle.fb_outputs.specs.declared.inputs.Inputs.{Inputs}
+-- What a bench's lines and its text mean. This project's profile.
+use Rattle.std.specs.Prelude.{◌≡◌, ℕ, Bool, true, false, not, ◌&&◌, if◌then◌else◌, nat_le, codes, Option, Some, None, Result, Ok, Err, List, [], ◌∷◌, ◌++◌, length, slice_set}
+use Rattle.std.specs.Option.{ok_or}
+use Rattle.line_text.specs.Reading.{◌>>=◌, Meaning, reading_of}
+use Rattle.line_text.specs.Texts.{says}
+use Rattle.line_text.specs.declared.reader.LineRefused.{LineRefused}
+use Rattle.motion_history.specs.Faults.{whole_fault}
 use Rattle.motion_history.specs.Setup.{Setup}
-use Rattle.motion_history.specs.Ranges.{is_axis_range, is_between}
 use Rattle.motion_history.specs.declared.refused.TextFault.{TextFault}
+use Rattle.motion_history.specs.declared.refused.TextFault.TheVariants.{Refused, OutOfMemory}
+use Rattle.motion_history.specs.declared.refused.TextRefused.{TextRefused}
+use Rattle.motion_history.specs.declared.refused.TraceVersion.{TraceVersion}
+use Rattle.motion_history.specs.declared.refused.TraceVersion.TheVariants.{One, Two}
+use Rattle.bench_text.specs.BenchState.{BenchState}
+use Rattle.bench_text.specs.Calls.{call_meaning}
+use Rattle.bench_text.specs.Drives.{drive_meaning, is_stated, plain_drive}
+use Rattle.bench_text.specs.Events.{cycle_meaning, end_meaning}
+use Rattle.bench_text.specs.Forms.{form_of, is_counted, is_part, part_of}
+use Rattle.bench_text.specs.Items.{axis_meaning, block_meaning, group_meaning, limit_meaning, table_meaning, task_meaning}
+use Rattle.bench_text.specs.Rules.{broken_by, broken_unless}
+use Rattle.bench_text.specs.SoFar.{SoFar}
 use Rattle.bench_text.specs.declared.bench.BenchLine.{BenchLine}
-use Rattle.bench_text.specs.declared.bench.BenchLine.TheVariants.{Call, Cycles, End}
-use Rattle.bench_text.specs.declared.machine.MachinePart.{MachinePart}
-use Rattle.bench_text.specs.Answers.{Gives}
-use Rattle.bench_text.specs.BenchState.{BenchState, cycles_of_lines, entries_of}
-use Rattle.bench_text.specs.Grammar.{is_version, room_of, axis_of, task_of, block_of, is_go, event_of}
-use Rattle.bench_text.specs.Numbers.{◌>>=◌}
-use Rattle.bench_text.specs.Texts.{says}
-use Rattle.bench_text.specs.Words.{AreLines, each_of, lines_of, spelling}
+use Rattle.bench_text.specs.declared.form.Form.{Form}
+use Rattle.bench_text.specs.declared.form.Form.TheVariants as form
+use Rattle.bench_text.specs.declared.form.Part.TheVariants.{Start, Machine, Events}
+use Rattle.bench_text.specs.declared.rule.TheConstants.{NO_VERSION, NOT_WHOLE, OUT_OF_PLACE, WRONG_COUNT}
 
--- the machine part: its six lines in their order. This project's profile
-unfoldable pub machine_of : List (List ℕ) → List (List ℕ) → List (List ℕ) → List (List ℕ) → List (List ℕ) → List (List ℕ) → Option MachinePart
-machine_of version limit axis task block go =
-    if is_version version && is_go go then
-    (room_of limit >>= λ r. axis_of axis >>= λ a. task_of task >>= λ t. block_of a.name t block >>= λ b.
-    Some (record { room = r; axis = a; task = t; block = b }))
-    else None
+-- a bench before its first line
+unfoldable pub opening : SoFar
+opening = record {
+  part = Start;
+  version = One;
+  limited = false;
+  setup = record {
+    axes = [];
+    groups = [];
+    tables = [];
+    tasks = [];
+    blocks = [];
+    cycles = 1;
+    entries = 1;
+  };
+  drives = [];
+  stated = [];
+  lines = [];
+}
 
--- whether no two of the axis, the task and the block have one name. This project's profile
-abbrev pub are_apart : MachinePart → Bool
-are_apart m = not (says m.axis.name m.task) && not (says m.axis.name m.block) && not (says m.task m.block)
+-- `motion-bench 1` or `motion-bench 2`
+unfoldable pub version_of : List (List ℕ) → Option TraceVersion
+version_of (word ∷ number ∷ []) =
+    if not (says word (codes "motion-bench")) then None
+    else if says number (codes "1") then Some One
+    else if says number (codes "2") then Some Two else None
+version_of _ = None
 
--- the configuration of a machine part: its axis is in its ranges, and its names differ. This
--- project's profile
-unfoldable pub setup_of : MachinePart → Option Setup
-setup_of m =
-    if is_axis_range m.axis.limits m.axis.inc m.axis.start && are_apart m then Some (record {
-      axes = record { name = m.axis.name; limits = m.axis.limits; inc = m.axis.inc; start = m.axis.start; ready = true } ∷ [];
-      groups = [];
-      tables = [];
-      tasks = m.task ∷ [];
-      blocks = record { name = m.block; task = 0; kind = MoveAbsolute; object = 0 } ∷ [];
-      cycles = m.room.cycles;
-      entries = m.room.entries;
-    }) else None
+-- the first line begins the machine part
+unfoldable pub version_meaning : SoFar → List (List ℕ) → Result SoFar ℕ
+version_meaning s words = do
+  version ← ok_or (version_of words) NO_VERSION
+  Ok (record s { part = Machine; version = version })
 
--- whether a number lies between two, both included
-unfoldable pub is_from_to : ℤ → ℤ → ℤ → Bool
-is_from_to low z high = is_between low z high
+-- whether a line that comes once comes again: the limits, and the drive of an axis
+unfoldable pub is_again : SoFar → Form → List (List ℕ) → Bool
+is_again s form.Limit words = s.limited
+is_again s form.Drive words = is_stated s.setup s.stated words
+is_again s _ words = false
 
--- whether a call has rates within an axis's limits: vel from 1 to vmax, acc and dec from 1 to amax.
--- This project's profile
-unfoldable pub are_rates_within : Limits → Inputs → Bool
-are_rates_within l i =
-    is_from_to (pos 1) i.velocity l.vmax && is_from_to (pos 1) i.acceleration l.amax && is_from_to (pos 1) i.deceleration l.amax
+-- the form of a line by its first word, in its part of the bench, and with as many words behind it
+-- as it has
+unfoldable pub form_in : SoFar → List ℕ → List (List ℕ) → Result Form ℕ
+form_in s first words = do
+  form ← ok_or (form_of first) OUT_OF_PLACE
+  _ ← broken_unless (is_part (part_of form) s.part) OUT_OF_PLACE
+  _ ← broken_unless (not (is_again s form words)) OUT_OF_PLACE
+  _ ← broken_unless (is_counted s.version form (length words)) WRONG_COUNT
+  Ok form
 
--- whether a call moves within an axis's limits: pos from lo to hi, and its rates. This project's
--- profile
-unfoldable pub is_within : Limits → Inputs → Bool
-is_within l i = is_from_to l.lo (slice_index_or i.positions 0 (pos 0)) l.hi && are_rates_within l i
+-- the machine of a bench with one more item
+abbrev pub with_setup : SoFar → Result Setup ℕ → Result SoFar ℕ
+with_setup s setup = do
+  t ← setup
+  Ok (record s { setup = t })
 
--- whether the first call, where there is one, moves within an axis's limits. This project's profile
-unfoldable pub is_first_within : Limits → List BenchLine → Bool
-is_first_within l [] = true
-is_first_within l (Call k i ∷ lines) = is_within l i
-is_first_within l (Cycles n ∷ lines) = is_first_within l lines
-is_first_within l (End t ∷ lines) = is_first_within l lines
+-- the events of a bench with one line more
+abbrev pub with_line : SoFar → Result BenchLine ℕ → Result SoFar ℕ
+with_line s line = do
+  l ← line
+  Ok (record s { lines = s.lines ++ l ∷ [] })
 
--- whether a configuration has room for every entry and every cycle of the lines. This project's
--- profile
-unfoldable pub has_room : Setup → List BenchLine → Bool
-has_room s lines = nat_le (entries_of lines) s.entries && nat_le (cycles_of_lines lines) s.cycles
+-- `limit ..` gives the history its room
+unfoldable pub limits_meaning : SoFar → List (List ℕ) → Result SoFar ℕ
+limits_meaning s words = do
+  t ← limit_meaning s.setup words
+  Ok (record s { limited = true; setup = t })
 
--- whether the lines fit a configuration: the first call moves within the axis's limits, and there
--- is room for all. This project's profile
-unfoldable pub are_fitting : Setup → List BenchLine → Bool
-are_fitting s lines = list_all (λ a. is_first_within a.limits lines) s.axes && has_room s lines
+-- `axis ..` adds an axis with a plain drive
+unfoldable pub axes_meaning : SoFar → List (List ℕ) → Result SoFar ℕ
+axes_meaning s words = do
+  t ← axis_meaning s.version s.setup words
+  Ok (record s { setup = t; drives = s.drives ++ plain_drive ∷ [] })
 
--- the bench that lines of words are: the six lines of its machine part, and then its lines of
--- events. This project's profile
-unfoldable pub reading : List (List (List ℕ)) → Option BenchState
-reading (version ∷ limit ∷ axis ∷ task ∷ block ∷ go ∷ events) =
-    machine_of version limit axis task block go >>= λ m. setup_of m >>= λ s. each_of (event_of m.task m.block) events >>= λ lines.
-    if are_fitting s lines then Some (record { config = s; lines = lines }) else None
-reading _ = None
+-- `drive ..` states the drive of an axis
+unfoldable pub drives_meaning : SoFar → List (List ℕ) → Result SoFar ℕ
+drives_meaning s words = do
+  d ← drive_meaning s.setup words
+  Ok (record s { drives = slice_set s.drives d.0 d.1; stated = s.stated ++ d.0 ∷ [] })
 
--- the bench that a text is. None where it has not the form. This project's profile
-unfoldable pub bench_of : List ℕ → Option BenchState
-bench_of text = lines_of text >>= reading
+-- `go` ends the machine part, which is whole
+unfoldable pub go_meaning : SoFar → Result SoFar ℕ
+go_meaning s = do
+  _ ← broken_unless s.limited NOT_WHOLE
+  _ ← broken_by (whole_fault s.setup)
+  Ok (record s { part = Events })
 
--- a text is this bench: it spells lines of words of which the bench is the reading. This project's
--- profile
-pub record IsBenchOf (text : List ℕ) (bench : BenchState) : Type 0 where
-  pub lines : List (List (List ℕ))
-  pub words : AreLines lines
-  pub spelled : text ≡ spelling lines
-  pub read : reading lines ≡ Some bench
+-- what the words behind the first mean in a line of each form
+unfoldable pub words_meaning : SoFar → Form → List (List ℕ) → Result SoFar ℕ
+words_meaning s form.Limit words = limits_meaning s words
+words_meaning s form.Axis words = axes_meaning s words
+words_meaning s form.Drive words = drives_meaning s words
+words_meaning s form.Group words = with_setup s (group_meaning s.setup words)
+words_meaning s form.Table words = with_setup s (table_meaning s.setup words)
+words_meaning s form.Task words = with_setup s (task_meaning s.setup words)
+words_meaning s form.Block words = with_setup s (block_meaning s.setup words)
+words_meaning s form.Go words = go_meaning s
+words_meaning s form.Call words = with_line s (call_meaning s.setup words)
+words_meaning s form.Cycle words = with_line s (cycle_meaning words)
+words_meaning s form.End words = with_line s (end_meaning s.setup words)
 
--- the answer is this bench where there is one; it is refused at place 0 by rule B0 where there is
--- none; or memory ran out
-abbrev pub ReadsBy : Option BenchState → Result BenchState TextFault → Type 0
-ReadsBy bench result = Gives (λ b. b) bench result
+-- what a line means behind the first
+unfoldable pub later_meaning : SoFar → List (List ℕ) → Result SoFar ℕ
+later_meaning s (first ∷ words) = do
+  form ← form_in s first words
+  words_meaning s form words
+later_meaning s [] = Ok s
+
+-- what a line means where a bench stands
+unfoldable pub meaning : Meaning SoFar
+meaning s words =
+    if is_part s.part Start then version_meaning s words else later_meaning s words
+
+-- the bench at the end of the text: `go` has come
+unfoldable pub ending : SoFar → Result BenchState ℕ
+ending s = do
+  _ ← broken_unless (is_part s.part Events) NOT_WHOLE
+  Ok (record { version = s.version; config = s.setup; drives = s.drives; lines = s.lines })
+
+-- a rule of a bench is told by the letter B
+abbrev pub refused_by : {A : Type 0} → Result A LineRefused → Result A TextRefused
+refused_by (Ok x) = Ok x
+refused_by (Err r) = Err (record { place = r.line; rule = record { letter = 66; number = r.rule } })
+
+-- the bench that a text is, or the first line that breaks a rule and the first rule that it breaks
+unfoldable pub bench_of : List ℕ → Result BenchState TextRefused
+bench_of text = refused_by (reading_of meaning ending opening text)
+
+-- a text is this bench
+abbrev pub IsBenchOf : List ℕ → BenchState → Type 0
+IsBenchOf text bench = bench_of text ≡ Ok bench
+
+-- the answer is this reading: the bench, or the refusal; or memory ran out
+abbrev pub ReadsBy : Result BenchState TextRefused → Result BenchState TextFault → Type 0
+ReadsBy reading (Ok bench) = reading ≡ Ok bench
+ReadsBy reading (Err (Refused r)) = reading ≡ Err r
+ReadsBy reading (Err OutOfMemory) = Unit {0}

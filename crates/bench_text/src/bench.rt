@@ -1,10 +1,10 @@
-// A bench: the configuration of a machine, and the events that it goes through.
+// A bench: a machine, and the events that it goes through.
 
 ghost use Rattle.std.specs.Prelude.{◌≡◌};
 ghost use Rattle.bench_text.specs.BenchState.{IsBench};
 
 use fb_outputs::Inputs;
-use motion_history::Config;
+use motion_history::{Config, DriveDefs, TraceVersion};
 use std::marker::Model;
 
 /// A line of events.
@@ -21,7 +21,9 @@ pub enum BenchLine {
 /// A bench that was read. Contracts see it as a `BenchState`.
 #[derive(Drop)]
 pub struct Bench {
+    pub(crate) version: TraceVersion,
     pub(crate) config: Config,
+    pub(crate) drives: DriveDefs,
     pub(crate) lines: Vec<BenchLine>,
 }
 
@@ -30,18 +32,42 @@ impl Model for Bench {
 
     ghost Value = { BenchState };
 
-    ghost view = { λ b. record { config = b.config; lines = b.lines.items } };
+    ghost view = { λ b. record {
+      version = b.version;
+      config = b.config;
+      drives = b.drives;
+      lines = b.lines.items;
+    } };
 
-    ghost invariant = { λ b. IsBench (record { config = b.config; lines = b.lines.items }) };
+    ghost invariant = { λ b. IsBench (record {
+      version = b.version;
+      config = b.config;
+      drives = b.drives;
+      lines = b.lines.items;
+    }) };
 }
 
 impl Bench {
+    /// Its version, 1 or 2.
+    pub fn version(&self) -> TraceVersion
+        ensures { result ≡ self.now.version }
+    {
+        self.version
+    }
+
     /// The configuration of its machine.
     pub fn config(&self) -> &Config
         ensures value { result.now ≡ self.now.config }
         ensures bench { IsBench self.now }
     {
         &self.config
+    }
+
+    /// The drive of each axis. One that no line states has no lag and no faults.
+    pub fn drives(&self) -> &DriveDefs
+        ensures { result.now ≡ self.now.drives }
+    {
+        &self.drives
     }
 
     /// Its lines of events, in their order.

@@ -1,17 +1,21 @@
-//! Bench files: the text of a configuration and of the events that a machine goes through.
+//! Benches: the text of a machine and of the events that it goes through.
 #![tactic(auto)]
 
+mod axis;
 mod bench;
-mod config;
+mod call;
+mod drive;
 mod event;
-mod fit;
-mod machine;
+mod form;
+mod item;
+mod key;
+mod name;
 mod number;
-mod reading;
-mod word;
+mod reader;
+mod rule;
 
 pub use bench::{Bench, BenchLine};
-pub use reading::read_bench;
+pub use reader::read_bench;
 
 #[cfg(test)]
 mod tests;

@@ -1,86 +1,75 @@
-// Numbers in a text.
+// The numbers of a bench and their ranges.
 
-ghost use Rattle.std.specs.Prelude.{◌≡◌, ◌≤◌, unsigned_abs, length, IfSome, IsTrue};
-ghost use Rattle.std.specs.List.{list_all};
-ghost use Rattle.axis_state.specs.Names as names;
-ghost use Rattle.bench_text.specs.Numbers as numbers;
-ghost use Rattle.fixed_units.specs.Numbers as fixed;
+ghost use Rattle.std.specs.Prelude.{◌≡◌, ◌≤◌, IfOk, map, unsigned_abs};
+ghost use Rattle.line_text.specs.Reading.{Gives, each_of};
+ghost use Rattle.line_text.specs.Texts.{texts};
+ghost use Rattle.bench_text.specs.Items as items;
+ghost use Rattle.bench_text.specs.Rules as spec;
 
-/// The most digits of a number.
-const MOST_DIGITS: usize = 19;
-
-/// The greatest size of a number, 10^18.
-pub const LARGEST: u64 = 1_000_000_000_000_000_000;
+use crate::rule::{NO_VALUE, OUT_OF_RANGE};
+use line_text::{LineFault, number_of, point_of};
+use std::alloc::Global;
 
 /// The number that a word is.
-#[tactic(auto, unfolding(crate::specs::Numbers::number_of))]
-pub fn number_of(word: &[u8]) -> Option<i64>
-    ensures value { result ≡ numbers.number_of word.now }
-    ensures small { IfSome result (λ z. unsigned_abs z ≤ LARGEST) }
+#[tactic(auto, unfolding(crate::specs::Rules::number))]
+pub fn number(word: &[u8]) -> Result<i64, LineFault>
+    ensures { Gives (λ z. z) (spec.number word.now) result }
 {
-    if is_negative(word) {
-        let size = size_of(&word[1..])?;
-        Some(-(size as i64))
+    match number_of(word) {
+        Some(number) => Ok(number),
+        None => Err(LineFault::Rule(NO_VALUE)),
+    }
+}
+
+/// The numbers that words are.
+pub fn numbers(alloc: Global, words: &[&[u8]]) -> Result<Vec<i64>, LineFault>
+    ensures { Gives (λ v. v.items) (each_of spec.number (texts words.now)) result }
+{
+    let mut numbers = Vec::new(alloc);
+    for word in words {
+        let number = number(word)?;
+        let Ok(()) = numbers.push(number) else {
+            return Err(LineFault::OutOfMemory);
+        };
+    }
+    Ok(numbers)
+}
+
+// The point that a word is.
+#[tactic(auto, unfolding(crate::specs::Items::point))]
+fn point(word: &[u8]) -> Result<(i64, i64), LineFault>
+    ensures { Gives (λ p. p) (items.point word.now) result }
+{
+    match point_of(word) {
+        Some(point) => Ok(point),
+        None => Err(LineFault::Rule(NO_VALUE)),
+    }
+}
+
+/// The points that words are.
+pub fn points(alloc: Global, words: &[&[u8]]) -> Result<Vec<(i64, i64)>, LineFault>
+    ensures { Gives (λ v. v.items) (each_of items.point (texts words.now)) result }
+{
+    let mut points = Vec::new(alloc);
+    for word in words {
+        let point = point(word)?;
+        let Ok(()) = points.push(point) else {
+            return Err(LineFault::OutOfMemory);
+        };
+    }
+    Ok(points)
+}
+
+/// The number where it lies between two, both included.
+#[tactic(auto, unfolding(crate::specs::Rules::in_range))]
+pub fn in_range(least: u32, most: u32, number: i64) -> Result<u32, LineFault>
+    ensures value { Gives (λ n. n) (spec.in_range least most number) result }
+    ensures least { IfOk result (λ n. least ≤ n) }
+    ensures most { IfOk result (λ n. n ≤ most) }
+{
+    if i64::from(least) <= number && number <= i64::from(most) {
+        Ok(number as u32)
     } else {
-        let size = size_of(word)?;
-        Some(size as i64)
+        Err(LineFault::Rule(OUT_OF_RANGE))
     }
-}
-
-/// The number from 1 to the most that a word is.
-#[tactic(auto, unfolding(crate::specs::Numbers::count_of))]
-pub fn count_of(most: u32, word: &[u8]) -> Option<u32>
-    ensures value { result ≡ numbers.count_of most word.now }
-    ensures within { IfSome result (λ n. (1 ≤ n) × (n ≤ most)) }
-{
-    let number = number_of(word)?;
-    if 1 <= number && number <= i64::from(most) {
-        Some(number as u32)
-    } else {
-        None
-    }
-}
-
-// Whether a word begins with a minus sign.
-fn is_negative(word: &[u8]) -> bool
-    ensures value { result ≡ fixed.is_negative word.now }
-    ensures some { IsTrue result → 1 ≤ length word.now }
-{
-    match word {
-        [first, ..] => *first == b'-',
-        [] => false,
-    }
-}
-
-// The size of a number.
-#[tactic(auto, unfolding(crate::specs::Numbers::size_of))]
-fn size_of(digits: &[u8]) -> Option<u64>
-    ensures value { result ≡ numbers.size_of digits.now }
-    ensures small { IfSome result (λ n. n ≤ LARGEST) }
-{
-    if digits.is_empty() || digits.len() > MOST_DIGITS || !are_digits(digits) {
-        return None;
-    }
-    let size = value_of(digits);
-    if size <= LARGEST { Some(size) } else { None }
-}
-
-// Whether each byte is a decimal digit.
-fn are_digits(bytes: &[u8]) -> bool
-    ensures { result ≡ list_all names.is_digit bytes.now }
-{
-    bytes.iter().all(|b| b'0' <= *b && *b <= b'9')
-}
-
-// The number that decimal digits spell.
-fn value_of(digits: &[u8]) -> u64
-    requires digits { IsTrue (list_all names.is_digit digits.now) }
-    requires few { length digits.now ≤ MOST_DIGITS }
-    ensures { result ≡ numbers.value_of digits.now }
-{
-    let mut value = 0;
-    for digit in digits {
-        value = value * 10 + u64::from(*digit - b'0');
-    }
-    value
 }

@@ -1,5 +1,5 @@
 -- What the points of a cam table keep.
-use Rattle.std.specs.Prelude.{ℕ, ◌-◌, ◌<◌, ◌≤◌, max, ℤ, pos, ◌<ℤ◌, unsigned_abs, List, length, slice_index_or}
+use Rattle.std.specs.Prelude.{ℕ, zero, suc, Bool, true, ◌&&◌, ◌||◌, nat_le, int_lt, ◌-◌, ◌<◌, ◌≤◌, max, ℤ, pos, ◌<ℤ◌, unsigned_abs, List, length, slice_index_or}
 use Rattle.cam_table.specs.declared.table.TheConstants.{MOST_POINTS}
 use Rattle.motion_numbers.specs.declared.TheConstants.{MOST_PLACE}
 
@@ -21,3 +21,20 @@ pub record IsCamTable (points : List (ℤ × ℤ)) : Type 0 where
   pub enough : 2 ≤ length points
   pub few : length points ≤ MOST_POINTS
   pub rows : (row : ℕ) → 1 ≤ row → row ≤ length points → IsGoodRow points row
+
+-- whether a row is good
+abbrev pub is_good_row : List (ℤ × ℤ) → ℕ → Bool
+is_good_row points row =
+    nat_le (size_of (point_of points row)) MOST_PLACE &&
+    (nat_le row 1 || int_lt (point_of points (row - 1)).0 (point_of points row).0)
+
+-- whether the first rows are good, so many of them
+abbrev pub are_good_rows : List (ℤ × ℤ) → ℕ → Bool
+are_good_rows points zero = true
+are_good_rows points (suc row) = are_good_rows points row && is_good_row points (suc row)
+
+-- whether points make a cam table. This project's profile
+unfoldable pub is_cam_table : List (ℤ × ℤ) → Bool
+is_cam_table points =
+    nat_le 2 (length points) && nat_le (length points) MOST_POINTS &&
+    are_good_rows points (length points)

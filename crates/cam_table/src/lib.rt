@@ -8,5 +8,5 @@ mod table;
 mod tests;
 
 pub use fault::CamFault;
-pub use laws::points_have_one_fault;
+pub use laws::{cam_tables_are_told, points_have_one_fault};
 pub use table::{CamTable, MOST_POINTS};

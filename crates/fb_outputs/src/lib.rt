@@ -5,6 +5,7 @@
 mod inputs;
 mod instance;
 mod laws;
+mod names;
 mod outputs;
 #[cfg(test)]
 mod tests;
@@ -12,5 +13,6 @@ mod tests;
 pub use command_pool::{BlockKind, BufferMode, Finish, Rates, Refusal};
 pub use inputs::{Input, Inputs, takes};
 pub use instance::{Edge, Instance, Progress};
-pub use laws::replies_tell_one_result;
+pub use laws::{names_are_read_back, replies_tell_one_result};
+pub use names::{KINDS, MODES, kind_name, kind_named, mode_name, mode_named};
 pub use outputs::Outputs;

@@ -15,6 +15,11 @@ abbrev pub ◌>>=◌ : {A B E : Type 0} → Result A E → (A → Result B E) �
 (Ok x) >>= next = next x
 (Err e) >>= next = Err e
 
+-- each item as it is read, in order
+abbrev pub each_of : {A B E : Type 0} → (A → Result B E) → List A → Result (List B) E
+each_of read [] = Ok []
+each_of read (x ∷ xs) = read x >>= λ y. each_of read xs >>= λ ys. Ok (y ∷ ys)
+
 -- what words mean where a reader stands: where it stands behind them, or the rule that they break
 abbrev pub Meaning : Type 0 → Type 0
 Meaning S = S → List (List ℕ) → Result S ℕ
@@ -46,6 +51,12 @@ text_meaning meaning s text = lines_meaning meaning 0 s (lines_of text)
 unfoldable pub reading_of : {S T : Type 0} → Meaning S → (S → Result T ℕ) → S → List ℕ → Result T LineRefused
 reading_of meaning ending s text =
     text_meaning meaning s text >>= λ t. at_line (last_line_of text) (ending t)
+
+-- what a function answered, seen by a view, is what words mean; or memory ran out
+abbrev pub Gives : {X Y : Type 0} → (X → Y) → Result Y ℕ → Result X LineFault → Type 0
+Gives view meaning (Ok x) = meaning ≡ Ok (view x)
+Gives view meaning (Err (line.Rule number)) = meaning ≡ Err number
+Gives view meaning (Err line.OutOfMemory) = Unit {0}
 
 -- words are taken: by what they mean the reader stands now there, or the rule is told; or memory
 -- ran out

@@ -1,6 +1,7 @@
 // Making a configuration item by item.
 
-ghost use Rattle.std.specs.Prelude.{◌≡◌, ◌↔◌, ◌≢◌, if◌then◌else◌, Some, Err, ◌+◌, ◌++◌, ◌∷◌, [], IfOk, IfErr, OnErr, OnOk, None, length};
+ghost use Rattle.std.specs.Prelude.{◌≡◌, ◌↔◌, ◌≢◌, ◌<◌, if◌then◌else◌, Some, Err, ◌+◌, ◌++◌, ◌∷◌, [], IfOk, IfErr, OnErr, OnOk, None, length};
+ghost use Rattle.cam_table.specs.CamTable.{IsCamTable};
 ghost use Rattle.motion_history.specs.Setup.{Setup, IsWithin};
 ghost use Rattle.motion_history.specs.Items.{setup_of};
 ghost use Rattle.motion_history.specs.Faults as faults;
@@ -12,7 +13,8 @@ use crate::blocks::{block_fault, task_fault};
 use crate::config::{BlockDef, Config, GroupDef, Items};
 use crate::fault::ConfigFault;
 use crate::groups::{group_fault, group_of};
-use crate::sizes::{MOST_CYCLES, MOST_ENTRIES};
+use crate::names::name_fault;
+use crate::sizes::{MOST_CYCLES, MOST_ENTRIES, MOST_TABLES};
 use crate::tables::new_table;
 use axis_state::{AxisDef, Limits, Name};
 use cam_table::CamTable;
@@ -66,6 +68,30 @@ impl Builder {
                 entries,
             },
         })
+    }
+
+    /// Gives the history this room in place of the one before.
+    pub fn room(&mut self, cycles: u32, entries: u32) -> Result<(), ConfigFault>
+        ensures ok { OnOk result (self.new ≡ record self.old {
+          cycles = cycles;
+          entries = entries;
+        }) }
+        ensures faults { FaultsBy (faults.room_fault cycles entries) result }
+        ensures unchanged { OnErr result (self.new ≡ self.old) }
+    {
+        if !is_room(cycles, entries) {
+            return Err(ConfigFault::OutOfRange);
+        }
+        self.items.cycles = cycles;
+        self.items.entries = entries;
+        Ok(())
+    }
+
+    /// Why no item may have this name, if there is a reason.
+    pub fn name_fault(&self, name: &[u8]) -> Option<ConfigFault>
+        ensures { result ≡ faults.name_fault self.now name.now }
+    {
+        name_fault(&self.items, name)
     }
 
     /// Adds an axis and answers its number.
@@ -127,6 +153,8 @@ impl Builder {
         ensures ok { OnOk result (self.new ≡ record self.old {
           tables = self.old.tables ++ points.now ∷ [];
         }) }
+        ensures table { OnOk result (IsCamTable points.now) }
+        ensures room { OnOk result (length self.old.tables < MOST_TABLES) }
         ensures faults { (fault : ConfigFault) → fault ≢ ConfigFault.OutOfMemory →
             (result ≡ Err fault) ↔ IsTableFault self.old points.now fault }
         ensures unchanged { OnErr result (self.new ≡ self.old) }
@@ -206,35 +234,40 @@ impl Builder {
 
     /// The axes so far.
     pub fn axes(&self) -> &[AxisDef]
-        ensures { result.now ≡ self.now.axes }
+        ensures axes { result.now ≡ self.now.axes }
+        ensures within { IsWithin self.now }
     {
         self.items.axes.as_slice()
     }
 
     /// The groups so far.
     pub fn groups(&self) -> &[GroupDef]
-        ensures { result.now ≡ self.now.groups }
+        ensures groups { result.now ≡ self.now.groups }
+        ensures within { IsWithin self.now }
     {
         self.items.groups.as_slice()
     }
 
     /// The cam tables so far.
     pub fn tables(&self) -> &[CamTable]
-        ensures { result.now ≡ self.now.tables }
+        ensures tables { result.now ≡ self.now.tables }
+        ensures within { IsWithin self.now }
     {
         self.items.tables.as_slice()
     }
 
     /// The names of the tasks so far.
     pub fn tasks(&self) -> &[Name]
-        ensures { result.now ≡ self.now.tasks }
+        ensures tasks { result.now ≡ self.now.tasks }
+        ensures within { IsWithin self.now }
     {
         self.items.tasks.as_slice()
     }
 
     /// The blocks so far.
     pub fn blocks(&self) -> &[BlockDef]
-        ensures { result.now ≡ self.now.blocks }
+        ensures blocks { result.now ≡ self.now.blocks }
+        ensures within { IsWithin self.now }
     {
         self.items.blocks.as_slice()
     }

@@ -1,6 +1,6 @@
 // The drives of a machine, as a text defines them.
 
-ghost use Rattle.std.specs.Prelude.{◌≡◌, ◌<◌, ◌+◌, ◌^◌, ◌++◌, ◌∷◌, [], OnErr, OnOk, length, slice_get};
+ghost use Rattle.std.specs.Prelude.{◌≡◌, ◌<◌, ◌+◌, ◌^◌, ◌++◌, ◌∷◌, [], OnErr, OnOk, length, slice_get, vec_len};
 ghost use Rattle.std.specs.Option.{option_copied};
 
 use out_of_memory::OutOfMemory;
@@ -99,6 +99,14 @@ impl DriveDefs {
         DriveDefs {
             defs: Vec::new(alloc),
         }
+    }
+
+    /// The list of these drives.
+    pub fn of(defs: Vec<DriveDef>) -> DriveDefs
+        requires { vec_len defs < 2 ^ 32 }
+        ensures { result ≡ defs.items }
+    {
+        DriveDefs { defs }
     }
 
     /// Adds a drive behind the others.

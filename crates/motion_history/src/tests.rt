@@ -20,7 +20,7 @@ const FAR: i64 = 1_000_000_000_000_000;
 const FAST: i64 = 10_000_000_000;
 
 /// The limits of a short axis.
-pub const NEAR: Limits = Limits {
+pub(crate) const NEAR: Limits = Limits {
     lo: 0,
     hi: 50,
     vmax: 10,
@@ -29,7 +29,7 @@ pub const NEAR: Limits = Limits {
 };
 
 /// A name of three letters that no other number of the kind has.
-pub fn name_of(kind: u8, number: usize) -> [u8; 3] {
+pub(crate) fn name_of(kind: u8, number: usize) -> [u8; 3] {
     [
         kind,
         b'a' + (number / 16 % 26) as u8,
@@ -138,7 +138,7 @@ fn refuses_an_axis_by_its_first_fault(rt: HostRuntime) -> Result<(), Fail> {
 
 /// An item that a machine is given.
 #[derive(Clone, Copy)]
-pub enum Item {
+pub(crate) enum Item {
     Group(&'static [u8], &'static [u8]),
     Table(&'static [(i64, i64)]),
     Task(&'static [u8]),
@@ -146,7 +146,7 @@ pub enum Item {
 }
 
 /// Why a machine refuses an item, if it does.
-pub fn fault_of(alloc: Global, builder: &mut Builder, item: Item) -> Option<ConfigFault> {
+pub(crate) fn fault_of(alloc: Global, builder: &mut Builder, item: Item) -> Option<ConfigFault> {
     match item {
         Item::Group(name, axes) => builder.group(name, axes).err(),
         Item::Table(points) => builder.table(alloc, points).err(),

@@ -4,10 +4,6 @@ use Rattle.axis_state.specs.declared.state.AxisState.{AxisState}
 use Rattle.axis_state.specs.declared.state.AxisState.TheVariants as axis
 use Rattle.cia402_machine.specs.declared.drive.DriveState.{DriveState}
 use Rattle.cia402_machine.specs.declared.drive.DriveState.TheVariants as drive
-use Rattle.command_pool.specs.declared.kind.BlockKind.{BlockKind}
-use Rattle.command_pool.specs.declared.kind.BlockKind.TheVariants as kind
-use Rattle.command_pool.specs.declared.kind.BufferMode.{BufferMode}
-use Rattle.command_pool.specs.declared.kind.BufferMode.TheVariants as mode
 use Rattle.fb_outputs.specs.declared.outputs.Outputs.{Outputs}
 
 -- a truth value is 0 or 1. This project's profile
@@ -54,34 +50,3 @@ drive_state_text drive.OperationEnabled = codes "OperationEnabled"
 drive_state_text drive.QuickStopActive = codes "QuickStopActive"
 drive_state_text drive.FaultReactionActive = codes "FaultReactionActive"
 drive_state_text drive.Fault = codes "Fault"
-
--- the names of the kinds of function block. PLCopen Motion Control Part 1 and Part 4
-unfoldable pub kind_text : BlockKind → List ℕ
-kind_text kind.Power = codes "Power"
-kind_text kind.Reset = codes "Reset"
-kind_text kind.Home = codes "Home"
-kind_text kind.Stop = codes "Stop"
-kind_text kind.Halt = codes "Halt"
-kind_text kind.MoveAbsolute = codes "MoveAbsolute"
-kind_text kind.MoveRelative = codes "MoveRelative"
-kind_text kind.MoveVelocity = codes "MoveVelocity"
-kind_text kind.GearIn = codes "GearIn"
-kind_text kind.GearOut = codes "GearOut"
-kind_text kind.CamIn = codes "CamIn"
-kind_text kind.CamOut = codes "CamOut"
-kind_text kind.GroupEnable = codes "GroupEnable"
-kind_text kind.GroupDisable = codes "GroupDisable"
-kind_text kind.GroupReset = codes "GroupReset"
-kind_text kind.GroupStop = codes "GroupStop"
-kind_text kind.GroupHalt = codes "GroupHalt"
-kind_text kind.MoveLinearAbsolute = codes "MoveLinearAbsolute"
-kind_text kind.MoveCircularAbsolute = codes "MoveCircularAbsolute"
-
--- the names of the buffer modes. PLCopen Motion Control Part 1, the input BufferMode
-unfoldable pub mode_text : BufferMode → List ℕ
-mode_text mode.Aborting = codes "aborting"
-mode_text mode.Buffered = codes "buffered"
-mode_text mode.BlendingLow = codes "blendingLow"
-mode_text mode.BlendingPrevious = codes "blendingPrevious"
-mode_text mode.BlendingNext = codes "blendingNext"
-mode_text mode.BlendingHigh = codes "blendingHigh"

@@ -16,7 +16,8 @@ use Rattle.trace_text.specs.declared.write.Command.TheVariants as command
 use Rattle.trace_text.specs.declared.write.DriveEndRow.{DriveEndRow}
 use Rattle.trace_text.specs.declared.taken.TakenInputs.{TakenInputs}
 use Rattle.trace_text.specs.Taken.{taken_in, taken_text}
-use Rattle.trace_text.specs.Fields.{flag_text, hex_text, outputs_text, axis_state_text, drive_state_text, kind_text, mode_text}
+use Rattle.trace_text.specs.Fields.{flag_text, hex_text, outputs_text, axis_state_text, drive_state_text}
+use Rattle.fb_outputs.specs.Names.{kind_name, mode_name}
 
 -- the text of a record: its fields with commas between them, and a line feed. RFC 4180, with line
 -- feeds
@@ -73,14 +74,14 @@ task_fields name = codes "task" ∷ name ∷ [] ∷ [] ∷ [] ∷ [] ∷ [] ∷ 
 -- a block: its name, its task, its kind, and what it acts on
 abbrev pub block_fields : Setup → BlockDef → List (List ℕ)
 block_fields s d =
-    codes "block" ∷ d.name ∷ task_name s d.task ∷ kind_text d.kind ∷ object_name s d ∷ [] ∷ [] ∷ [] ∷ [] ∷ [] ∷ [] ∷ [] ∷ []
+    codes "block" ∷ d.name ∷ task_name s d.task ∷ kind_name d.kind ∷ object_name s d ∷ [] ∷ [] ∷ [] ∷ [] ∷ [] ∷ [] ∷ [] ∷ []
 
 -- a call: the name of the block, its inputs that are taken, its outputs and the ErrorID
 abbrev pub call_fields_of : List ℕ → TakenInputs → ℤ → Inputs → List ℕ → ℕ → List (List ℕ)
 call_fields_of name taken first i outputs error_id =
     codes "call" ∷ name ∷ flag_text i.execute ∷ taken_text taken.positions (signed_decimal first) ∷ taken_text taken.velocity (signed_decimal i.velocity) ∷
     taken_text taken.acceleration (signed_decimal i.acceleration) ∷ taken_text taken.deceleration (signed_decimal i.deceleration) ∷
-    taken_text taken.deceleration (signed_decimal i.jerk) ∷ taken_text taken.acceleration (mode_text i.mode) ∷ [] ∷ outputs ∷ decimal error_id ∷ []
+    taken_text taken.deceleration (signed_decimal i.jerk) ∷ taken_text taken.acceleration (mode_name i.mode) ∷ [] ∷ outputs ∷ decimal error_id ∷ []
 
 -- a call of the block of a number. So far its position is that of one axis
 abbrev pub call_fields : Setup → ℕ → Inputs → Outputs → List (List ℕ)

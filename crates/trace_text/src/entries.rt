@@ -10,15 +10,13 @@ ghost use Rattle.trace_text.specs.Records.{record_text, call_fields, cycle_field
 ghost use Rattle.trace_text.specs.Records as spec;
 ghost use Rattle.trace_text.specs.Trace.{entry_text, numbered, drives_text};
 
-use crate::fields::{
-    axis_state_text, drive_state_text, flag_text, hex_text, mode_text, outputs_text,
-};
+use crate::fields::{axis_state_text, drive_state_text, flag_text, hex_text, outputs_text};
 use crate::records::{axis_name, block_name, name_text, task_name, write_record};
 use crate::taken::{TakenInputs, number_text, taken_in, taken_text};
 use crate::write::DriveEndRow;
 use axis_state::{AxisRow, Name};
 use csv::Writer;
-use fb_outputs::{Inputs, Outputs};
+use fb_outputs::{Inputs, Outputs, mode_name};
 use itoa::Buffer;
 use motion_history::{Config, EntryLook, OutOfMemory};
 use std::alloc::Global;
@@ -63,7 +61,7 @@ fn put_call<W: Write + Drop>(
             number_text(taken.acceleration, &mut acceleration, inputs.acceleration),
             number_text(taken.deceleration, &mut deceleration, inputs.deceleration),
             number_text(taken.deceleration, &mut jerk, inputs.jerk),
-            taken_text(taken.acceleration, mode_text(inputs.mode).as_bytes()),
+            taken_text(taken.acceleration, mode_name(inputs.mode).as_bytes()),
             b"",
             outputs.as_slice(),
             error.format(error_id).as_bytes(),

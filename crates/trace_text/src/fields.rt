@@ -5,7 +5,6 @@ ghost use Rattle.trace_text.specs.Fields as spec;
 
 use axis_state::AxisState;
 use cia402_machine::DriveState;
-use command_pool::{BlockKind, BufferMode};
 use fb_outputs::Outputs;
 use std::alloc::{AllocError, Global};
 
@@ -94,48 +93,5 @@ pub fn drive_state_text(state: DriveState) -> &'static str
         DriveState::QuickStopActive => "QuickStopActive",
         DriveState::FaultReactionActive => "FaultReactionActive",
         DriveState::Fault => "Fault",
-    }
-}
-
-/// The name of a kind of function block.
-#[tactic(auto, unfolding(crate::specs::Fields::kind_text))]
-pub fn kind_text(kind: BlockKind) -> &'static str
-    ensures { result.now ≡ spec.kind_text kind }
-{
-    match kind {
-        BlockKind::Power => "Power",
-        BlockKind::Reset => "Reset",
-        BlockKind::Home => "Home",
-        BlockKind::Stop => "Stop",
-        BlockKind::Halt => "Halt",
-        BlockKind::MoveAbsolute => "MoveAbsolute",
-        BlockKind::MoveRelative => "MoveRelative",
-        BlockKind::MoveVelocity => "MoveVelocity",
-        BlockKind::GearIn => "GearIn",
-        BlockKind::GearOut => "GearOut",
-        BlockKind::CamIn => "CamIn",
-        BlockKind::CamOut => "CamOut",
-        BlockKind::GroupEnable => "GroupEnable",
-        BlockKind::GroupDisable => "GroupDisable",
-        BlockKind::GroupReset => "GroupReset",
-        BlockKind::GroupStop => "GroupStop",
-        BlockKind::GroupHalt => "GroupHalt",
-        BlockKind::MoveLinearAbsolute => "MoveLinearAbsolute",
-        BlockKind::MoveCircularAbsolute => "MoveCircularAbsolute",
-    }
-}
-
-/// The name of a buffer mode.
-#[tactic(auto, unfolding(crate::specs::Fields::mode_text))]
-pub fn mode_text(mode: BufferMode) -> &'static str
-    ensures { result.now ≡ spec.mode_text mode }
-{
-    match mode {
-        BufferMode::Aborting => "aborting",
-        BufferMode::Buffered => "buffered",
-        BufferMode::BlendingLow => "blendingLow",
-        BufferMode::BlendingPrevious => "blendingPrevious",
-        BufferMode::BlendingNext => "blendingNext",
-        BufferMode::BlendingHigh => "blendingHigh",
     }
 }

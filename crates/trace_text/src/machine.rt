@@ -9,11 +9,12 @@ ghost use Rattle.trace_text.specs.Records.{record_text, header_fields, trace_fie
 ghost use Rattle.trace_text.specs.Records as spec;
 ghost use Rattle.trace_text.specs.Trace.{machine_text};
 
-use crate::fields::{flag_text, kind_text};
+use crate::fields::flag_text;
 use crate::records::{name_text, object_name, task_name, write_record};
 use crate::write::Command;
 use axis_state::{AxisDef, Name};
 use csv::Writer;
+use fb_outputs::kind_name;
 use itoa::Buffer;
 use motion_history::{BlockDef, Config, OutOfMemory};
 use std::io::Write;
@@ -150,7 +151,7 @@ fn write_block<W: Write + Drop>(
             b"block",
             name.bytes(),
             name_text(&task),
-            kind_text(block.kind).as_bytes(),
+            kind_name(block.kind).as_bytes(),
             name_text(&object),
             b"",
             b"",

@@ -20,7 +20,7 @@ returns-clause-text g c =
       c.number_text-5.ensures,
       c.taken_text.ensures,
       c.as_bytes-2.ensures.value,
-      c.mode_text.ensures,
+      c.mode_name.ensures,
       c.as_slice.ensures.value,
       c.as_bytes-3.ensures.value,
       c.format.ensures.text,

@@ -1,0 +1,127 @@
+-- The items of a bench's machine: its limits, axes, groups, cam tables, tasks and blocks. This
+-- project's profile.
+use Rattle.std.specs.Prelude.{ℕ, ℤ, Bool, true, false, not, nat_le, if◌then◌else◌, codes, Option, Some, None, Result, Ok, Err, List, [], ◌∷◌, ◌++◌, length}
+use Rattle.std.specs.Option.{ok_or}
+use Rattle.axis_state.specs.declared.definition.AxisDef.{AxisDef}
+use Rattle.cam_table.specs.CamTable.{is_cam_table}
+use Rattle.kin_core.specs.declared.limits.Limits.{Limits}
+use Rattle.line_text.specs.Numbers.{point_of}
+use Rattle.line_text.specs.Reading.{◌>>=◌, each_of}
+use Rattle.line_text.specs.Texts.{says}
+use Rattle.motion_history.specs.Faults.{axis_fault, block_fault, group_fault, name_fault, task_fault}
+use Rattle.motion_history.specs.Members.{group_of}
+use Rattle.motion_history.specs.Setup.{Setup}
+use Rattle.motion_history.specs.declared.refused.TraceVersion.{TraceVersion}
+use Rattle.motion_history.specs.declared.refused.TraceVersion.TheVariants.{One, Two}
+use Rattle.motion_history.specs.declared.sizes.TheConstants.{MOST_CYCLES, MOST_ENTRIES, MOST_TABLES}
+use Rattle.bench_text.specs.Named.{axis_named, kind_of, object_named, task_named}
+use Rattle.bench_text.specs.Rules.{broken_by, broken_unless, in_range, number}
+use Rattle.bench_text.specs.declared.axis.Placed.{Placed}
+use Rattle.bench_text.specs.declared.rule.TheConstants.{NO_VALUE, OUT_OF_RANGE, TOO_MANY, WRONG_COUNT}
+
+-- `limit CYCLES ENTRIES`: the room of the history
+unfoldable pub limit_meaning : Setup → List (List ℕ) → Result Setup ℕ
+limit_meaning s (cycles ∷ entries ∷ []) = do
+  c ← number cycles
+  e ← number entries
+  few_cycles ← in_range 1 MOST_CYCLES c
+  few_entries ← in_range 1 MOST_ENTRIES e
+  Ok (record s { cycles = few_cycles; entries = few_entries })
+limit_meaning s _ = Err WRONG_COUNT
+
+-- LO HI VMAX AMAX DMAX of an axis, in internal units, per cycle and per cycle per cycle
+unfoldable pub limits_of : List ℕ → List ℕ → List ℕ → List ℕ → List ℕ → Result Limits ℕ
+limits_of lo hi vmax amax dmax = do
+  l ← number lo
+  h ← number hi
+  v ← number vmax
+  a ← number amax
+  d ← number dmax
+  Ok (record { lo = l; hi = h; vmax = v; amax = a; dmax = d })
+
+-- `ready`, where it stands
+unfoldable pub ready_of : List (List ℕ) → Result Bool ℕ
+ready_of [] = Ok false
+ready_of (word ∷ []) = if says word (codes "ready") then Ok true else Err NO_VALUE
+ready_of _ = Err WRONG_COUNT
+
+-- INC START of an axis, in internal units, and `ready` where it stands
+unfoldable pub placed_of : List (List ℕ) → Result Placed ℕ
+placed_of (inc ∷ start ∷ behind) = do
+  i ← number inc
+  place ← number start
+  ready ← ready_of behind
+  Ok (record { inc = i; start = place; ready = ready })
+placed_of _ = Err WRONG_COUNT
+
+-- an axis of this name is added
+unfoldable pub axis_added : Setup → List ℕ → Result Limits ℕ → List (List ℕ) → Result Setup ℕ
+axis_added s name limits behind = do
+  _ ← broken_by (name_fault s name)
+  l ← limits
+  p ← placed_of behind
+  _ ← broken_by (axis_fault s name l p.inc p.start)
+  Ok (record s {
+    axes = s.axes ++ record {
+      name = name;
+      limits = l;
+      inc = p.inc;
+      start = p.start;
+      ready = p.ready;
+    } ∷ [];
+  })
+
+-- `axis NAME LO HI VMAX AMAX INC START` in version 1, where the axis brakes as hard as it speeds up,
+-- `axis NAME LO HI VMAX AMAX DMAX INC START` in version 2, or the same with `ready`
+unfoldable pub axis_meaning : TraceVersion → Setup → List (List ℕ) → Result Setup ℕ
+axis_meaning One s (name ∷ lo ∷ hi ∷ vmax ∷ amax ∷ behind) =
+    axis_added s name (limits_of lo hi vmax amax amax) behind
+axis_meaning Two s (name ∷ lo ∷ hi ∷ vmax ∷ amax ∷ dmax ∷ behind) =
+    axis_added s name (limits_of lo hi vmax amax dmax) behind
+axis_meaning version s _ = Err WRONG_COUNT
+
+-- `group NAME AXIS AXIS ..`
+unfoldable pub group_meaning : Setup → List (List ℕ) → Result Setup ℕ
+group_meaning s (name ∷ names) = do
+  _ ← broken_by (name_fault s name)
+  axes ← each_of (axis_named s) names
+  _ ← broken_by (group_fault s name axes)
+  Ok (record s { groups = s.groups ++ group_of name axes ∷ [] })
+group_meaning s [] = Err WRONG_COUNT
+
+-- a word that is no point breaks its rule
+unfoldable pub point : List ℕ → Result (ℤ × ℤ) ℕ
+point word = ok_or (point_of word) NO_VALUE
+
+-- `table X:Y X:Y ..`
+unfoldable pub table_meaning : Setup → List (List ℕ) → Result Setup ℕ
+table_meaning s words = do
+  points ← each_of point words
+  _ ← broken_unless (is_cam_table points) OUT_OF_RANGE
+  _ ← broken_unless (not (nat_le MOST_TABLES (length s.tables))) TOO_MANY
+  Ok (record s { tables = s.tables ++ points ∷ [] })
+
+-- `task NAME`
+unfoldable pub task_meaning : Setup → List (List ℕ) → Result Setup ℕ
+task_meaning s (name ∷ []) = do
+  _ ← broken_by (task_fault s name)
+  Ok (record s { tasks = s.tasks ++ name ∷ [] })
+task_meaning s _ = Err WRONG_COUNT
+
+-- `block NAME TASK KIND AXIS-OR-GROUP`
+unfoldable pub block_meaning : Setup → List (List ℕ) → Result Setup ℕ
+block_meaning s (name ∷ of_task ∷ of_kind ∷ of_object ∷ []) = do
+  _ ← broken_by (name_fault s name)
+  task ← task_named s of_task
+  kind ← kind_of of_kind
+  object ← object_named s kind of_object
+  _ ← broken_by (block_fault s name task kind object)
+  Ok (record s {
+    blocks = s.blocks ++ record {
+      name = name;
+      task = task;
+      kind = kind;
+      object = object;
+    } ∷ [];
+  })
+block_meaning s _ = Err WRONG_COUNT

@@ -1,0 +1,41 @@
+-- The rules of a bench, and when one is broken. This project's profile.
+use Rattle.std.specs.Prelude.{ℕ, ℤ, pos, unsigned_abs, int_le, Bool, ◌&&◌, if◌then◌else◌, Option, Some, None, Result, Ok, Err, List}
+use Rattle.std.specs.Option.{ok_or}
+use Rattle.motion_history.specs.Setup.{Setup}
+use Rattle.motion_history.specs.declared.fault.ConfigFault.{ConfigFault}
+use Rattle.motion_history.specs.declared.fault.ConfigFault.TheVariants.{BadName, NameUsed, NameUnknown, OutOfRange, Table, TooMany, TooFew, OutOfMemory}
+use Rattle.bench_text.specs.declared.rule.TheConstants.{NO_NAME, WRONG_NAME, NO_VALUE, OUT_OF_RANGE, TOO_MANY, NOT_WHOLE}
+use Rattle.line_text.specs.Numbers.{number_of}
+
+-- the rule is broken unless this holds
+abbrev pub broken_unless : Bool → ℕ → Result (Unit {0}) ℕ
+broken_unless holds rule = if holds then Ok tt else Err rule
+
+-- a word that is no number breaks its rule
+unfoldable pub number : List ℕ → Result ℤ ℕ
+number word = ok_or (number_of word) NO_VALUE
+
+-- whether a number lies between two, both included
+abbrev pub is_from_to : ℕ → ℕ → ℤ → Bool
+is_from_to least most z = int_le (pos least) z && int_le z (pos most)
+
+-- a number outside its range breaks its rule
+unfoldable pub in_range : ℕ → ℕ → ℤ → Result ℕ ℕ
+in_range least most z =
+    if is_from_to least most z then Ok (unsigned_abs z) else Err OUT_OF_RANGE
+
+-- the rule that a faulty item breaks
+abbrev pub rule_of : ConfigFault → ℕ
+rule_of BadName = NO_NAME
+rule_of NameUsed = WRONG_NAME
+rule_of NameUnknown = WRONG_NAME
+rule_of OutOfRange = OUT_OF_RANGE
+rule_of (Table fault) = OUT_OF_RANGE
+rule_of TooMany = TOO_MANY
+rule_of TooFew = NOT_WHOLE
+rule_of OutOfMemory = NOT_WHOLE
+
+-- a fault breaks its rule
+abbrev pub broken_by : Option ConfigFault → Result (Unit {0}) ℕ
+broken_by None = Ok tt
+broken_by (Some fault) = Err (rule_of fault)

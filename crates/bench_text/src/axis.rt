@@ -1,0 +1,125 @@
+// The axes of a bench.
+
+ghost use Rattle.std.specs.Prelude.{◌≡◌, Result, ℕ};
+ghost use Rattle.kin_core.specs.declared.limits.Limits.{Limits};
+ghost use Rattle.line_text.specs.Reading.{Gives, Takes};
+ghost use Rattle.line_text.specs.Texts.{texts};
+ghost use Rattle.bench_text.specs.Items as spec;
+ghost use Rattle.bench_text.specs.Rules as rules;
+
+use crate::item::free_name;
+use crate::number::number;
+use crate::rule::{NO_VALUE, WRONG_COUNT, refusal_of};
+use axis_state::Limits;
+use line_text::{LineFault, says};
+use motion_history::{Builder, TraceVersion};
+
+/// Where an axis stands, in internal units, and whether it is ready.
+#[derive(Clone, Copy)]
+pub struct Placed {
+    pub inc: i64,
+    pub start: i64,
+    pub ready: bool,
+}
+
+/// Adds the axis of a line.
+#[tactic(auto, unfolding(crate::specs::Items::axis_meaning))]
+pub fn add_axis(
+    machine: &mut Builder,
+    version: TraceVersion,
+    words: &[&[u8]],
+) -> Result<(), LineFault>
+    ensures { Takes (spec.axis_meaning version machine.old (texts words.now)) machine.new result }
+{
+    match version {
+        TraceVersion::One => {
+            let [name, lo, hi, vmax, amax, behind @ ..] = words else {
+                return Err(LineFault::Rule(WRONG_COUNT));
+            };
+            place_axis(machine, name, limits_of(lo, hi, vmax, amax, amax), behind)
+        }
+        TraceVersion::Two => {
+            let [name, lo, hi, vmax, amax, dmax, behind @ ..] = words else {
+                return Err(LineFault::Rule(WRONG_COUNT));
+            };
+            place_axis(machine, name, limits_of(lo, hi, vmax, amax, dmax), behind)
+        }
+    }
+}
+
+// Adds an axis of this name.
+#[tactic(auto, unfolding(crate::specs::Items::axis_added))]
+fn place_axis(
+    machine: &mut Builder,
+    name: &[u8],
+    limits: Result<Limits, LineFault>,
+    behind: &[&[u8]],
+) -> Result<(), LineFault>
+    ensures { (read : Result Limits ℕ) → Gives (λ l. l) read limits →
+        Takes (spec.axis_added machine.old name.now read (texts behind.now)) machine.new result }
+{
+    free_name(machine, name)?;
+    let limits = limits?;
+    let placed = placed_of(behind)?;
+    match machine.axis(name, &limits, placed.inc, placed.start, placed.ready) {
+        Ok(_) => Ok(()),
+        Err(fault) => Err(refusal_of(fault)),
+    }
+}
+
+// The limits of an axis.
+#[tactic(auto, unfolding(crate::specs::Items::limits_of))]
+fn limits_of(
+    lo: &[u8],
+    hi: &[u8],
+    vmax: &[u8],
+    amax: &[u8],
+    dmax: &[u8],
+) -> Result<Limits, LineFault>
+    ensures { Gives (λ l. l) (spec.limits_of lo.now hi.now vmax.now amax.now dmax.now) result }
+{
+    let lo = number(lo)?;
+    let hi = number(hi)?;
+    let vmax = number(vmax)?;
+    let amax = number(amax)?;
+    let dmax = number(dmax)?;
+    Ok(Limits {
+        lo,
+        hi,
+        vmax,
+        amax,
+        dmax,
+    })
+}
+
+// Where an axis stands.
+#[tactic(auto, unfolding(crate::specs::Items::placed_of))]
+fn placed_of(words: &[&[u8]]) -> Result<Placed, LineFault>
+    ensures { Gives (λ p. p) (spec.placed_of (texts words.now)) result }
+{
+    let [inc, start, behind @ ..] = words else {
+        return Err(LineFault::Rule(WRONG_COUNT));
+    };
+    let inc = number(inc)?;
+    let start = number(start)?;
+    let ready = ready_of(behind)?;
+    Ok(Placed { inc, start, ready })
+}
+
+// Whether an axis is ready.
+#[tactic(auto, unfolding(crate::specs::Items::ready_of))]
+fn ready_of(words: &[&[u8]]) -> Result<bool, LineFault>
+    ensures { Gives (λ b. b) (spec.ready_of (texts words.now)) result }
+{
+    match words {
+        [] => Ok(false),
+        [word] => {
+            if says(word, b"ready") {
+                Ok(true)
+            } else {
+                Err(LineFault::Rule(NO_VALUE))
+            }
+        }
+        _ => Err(LineFault::Rule(WRONG_COUNT)),
+    }
+}

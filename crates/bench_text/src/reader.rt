@@ -1,0 +1,319 @@
+// Reading a bench, a line after another.
+
+ghost use Rattle.std.specs.Prelude.{◌≡◌, ℕ, if◌then◌else◌, None, Some, Result, IfOk, Ok, slice_set};
+ghost use Rattle.line_text.specs.Reading.{Gives, Takes};
+ghost use Rattle.line_text.specs.Texts.{texts};
+ghost use Rattle.motion_history.specs.Faults.{whole_fault};
+ghost use Rattle.motion_history.specs.declared.fault.ConfigFault.{ConfigFault};
+ghost use Rattle.bench_text.specs.BenchState.{BenchState};
+ghost use Rattle.bench_text.specs.Reading as spec;
+ghost use Rattle.bench_text.specs.Reading.{IsBenchOf, ReadsBy};
+
+use crate::axis::add_axis;
+use crate::bench::{Bench, BenchLine};
+use crate::call::call_of;
+use crate::drive::{drive_of, is_stated, plain_drive};
+use crate::event::{cycles_of, end_of};
+use crate::form::{Form, Part, form_of, is_counted, is_part, part_of};
+use crate::item::{add_block, add_group, add_table, add_task, set_room};
+use crate::rule::{NO_VERSION, NOT_WHOLE, OUT_OF_PLACE, WRONG_COUNT, broken_unless};
+use line_text::{LineFault, LineReader, LineRefused, LinesFault, read_lines, says};
+use motion_history::{
+    Builder, ConfigFault, DriveDef, DriveDefs, Rule, TextFault, TextRefused, TraceVersion,
+};
+use std::alloc::Global;
+use std::marker::Model;
+
+/// A bench as far as it was read. Contracts see it as a `SoFar`.
+#[derive(Drop)]
+pub struct BenchReader {
+    alloc: Global,
+    part: Part,
+    version: TraceVersion,
+    limited: bool,
+    machine: Builder,
+    drives: Vec<DriveDef>,
+    stated: Vec<u8>,
+    lines: Vec<BenchLine>,
+}
+
+impl Model for BenchReader {
+    ghost use Rattle.bench_text.specs.SoFar.{SoFar};
+
+    ghost Value = { SoFar };
+
+    ghost view = { λ r. record {
+      part = r.part;
+      version = r.version;
+      limited = r.limited;
+      setup = r.machine;
+      drives = r.drives.items;
+      stated = r.stated.items;
+      lines = r.lines.items;
+    } };
+}
+
+/// The bench that a text is. A text that is none is refused at its first line that breaks a rule, by
+/// the first rule that it breaks: B1 to B10. It takes memory for the words of one line at a time,
+/// besides the bench.
+pub fn read_bench(alloc: Global, text: &[u8]) -> Result<Bench, TextFault>
+    // What is read is a bench of the text.
+    ensures found { IfOk result (IsBenchOf text.now) }
+    // A bench of the text is read, unless memory runs out.
+    ensures only { (bench : BenchState) → IsBenchOf text.now bench → ReadsBy (Ok bench) result }
+    // A text that has none is refused so.
+    ensures exact { ReadsBy (spec.bench_of text.now) result }
+{
+    read(alloc, text)
+}
+
+// The bench that a text is.
+fn read(alloc: Global, text: &[u8]) -> Result<Bench, TextFault>
+    ensures { ReadsBy (spec.bench_of text.now) result }
+{
+    let mut reader = opened(alloc)?;
+    match read_lines(alloc, text, &mut reader) {
+        Ok(last) => bench_of(reader, last),
+        Err(LinesFault::Refused(refused)) => Err(refused_by(refused)),
+        Err(LinesFault::OutOfMemory) => Err(TextFault::OutOfMemory),
+    }
+}
+
+// How a text is refused at this place.
+fn refused_by(refused: LineRefused) -> TextFault {
+    TextFault::Refused(TextRefused {
+        place: refused.line,
+        rule: Rule {
+            letter: b'B',
+            number: refused.rule,
+        },
+    })
+}
+
+// A bench before its first line.
+#[tactic(auto, unfolding(crate::specs::Reading::opening))]
+fn opened(alloc: Global) -> Result<BenchReader, TextFault>
+    ensures { IfOk result (λ r. r ≡ spec.opening) }
+{
+    let Ok(machine) = Builder::open(alloc, 1, 1) else {
+        return Err(TextFault::OutOfMemory);
+    };
+    Ok(BenchReader {
+        alloc,
+        part: Part::Start,
+        version: TraceVersion::One,
+        limited: false,
+        machine,
+        drives: Vec::new(alloc),
+        stated: Vec::new(alloc),
+        lines: Vec::new(alloc),
+    })
+}
+
+// The bench at the end of the text.
+fn bench_of(reader: BenchReader, last: u64) -> Result<Bench, TextFault> {
+    let BenchReader {
+        part,
+        version,
+        machine,
+        drives,
+        lines,
+        ..
+    } = reader;
+    if !is_part(part, Part::Events) {
+        return Err(refused_by(LineRefused {
+            line: last,
+            rule: NOT_WHOLE,
+        }));
+    }
+    let Ok(config) = machine.finish() else {
+        return Err(TextFault::OutOfMemory);
+    };
+    Ok(Bench {
+        version,
+        config,
+        drives: DriveDefs::of(drives),
+        lines,
+    })
+}
+
+// The version that a line tells.
+#[tactic(auto, unfolding(crate::specs::Reading::version_of))]
+fn version_of(words: &[&[u8]]) -> Option<TraceVersion>
+    ensures { result ≡ spec.version_of (texts words.now) }
+{
+    let [word, number] = words else {
+        return None;
+    };
+    if !says(word, b"motion-bench") {
+        None
+    } else if says(number, b"1") {
+        Some(TraceVersion::One)
+    } else if says(number, b"2") {
+        Some(TraceVersion::Two)
+    } else {
+        None
+    }
+}
+
+// Whether the machine part has an axis, a task and a block.
+fn is_whole(machine: &Builder) -> bool
+    ensures { whole_fault machine.now ≡ (if result then None else Some ConfigFault.TooFew) }
+{
+    1 <= machine.axes().len() && 1 <= machine.tasks().len() && 1 <= machine.blocks().len()
+}
+
+// Puts a drive in place of the plain one of its axis.
+fn set_drive(drives: &mut [DriveDef], axis: u8, drive: DriveDef)
+    ensures { drives.new ≡ slice_set drives.old axis drive }
+{
+    if let Some(slot) = drives.get_mut(axis as usize) {
+        *slot = drive;
+    }
+}
+
+impl LineReader for BenchReader {
+    ghost use Rattle.bench_text.specs.Reading.{meaning};
+
+    ghost meaning = { meaning };
+
+    #[tactic(auto, unfolding(crate::specs::Reading::meaning))]
+    fn read_line(&mut self, words: &[&[u8]]) -> Result<(), LineFault> {
+        if is_part(self.part, Part::Start) {
+            self.read_version(words)
+        } else {
+            self.read_later(words)
+        }
+    }
+}
+
+impl BenchReader {
+    // Takes the first line.
+    #[tactic(auto, unfolding(crate::specs::Reading::version_meaning))]
+    fn read_version(&mut self, words: &[&[u8]]) -> Result<(), LineFault>
+        ensures { Takes (spec.version_meaning self.old (texts words.now)) self.new result }
+    {
+        let Some(version) = version_of(words) else {
+            return Err(LineFault::Rule(NO_VERSION));
+        };
+        self.part = Part::Machine;
+        self.version = version;
+        Ok(())
+    }
+
+    // Takes a line behind the first.
+    #[tactic(auto, unfolding(crate::specs::Reading::later_meaning))]
+    fn read_later(&mut self, words: &[&[u8]]) -> Result<(), LineFault>
+        ensures { Takes (spec.later_meaning self.old (texts words.now)) self.new result }
+    {
+        let [first, words @ ..] = words else {
+            return Ok(());
+        };
+        let form = self.form_in(first, words)?;
+        self.read_words(form, words)
+    }
+
+    // The form of a line in its part of the bench.
+    #[tactic(auto, unfolding(crate::specs::Reading::form_in))]
+    fn form_in(&self, first: &[u8], words: &[&[u8]]) -> Result<Form, LineFault>
+        ensures { Gives (λ f. f) (spec.form_in self.now first.now (texts words.now)) result }
+    {
+        let Some(form) = form_of(first) else {
+            return Err(LineFault::Rule(OUT_OF_PLACE));
+        };
+        broken_unless(is_part(part_of(form), self.part), OUT_OF_PLACE)?;
+        broken_unless(!self.is_again(form, words), OUT_OF_PLACE)?;
+        broken_unless(is_counted(self.version, form, words.len()), WRONG_COUNT)?;
+        Ok(form)
+    }
+
+    // Whether a line that comes once comes again.
+    #[tactic(auto, unfolding(crate::specs::Reading::is_again))]
+    fn is_again(&self, form: Form, words: &[&[u8]]) -> bool
+        ensures { result ≡ spec.is_again self.now form (texts words.now) }
+    {
+        match form {
+            Form::Limit => self.limited,
+            Form::Drive => is_stated(&self.machine, self.stated.as_slice(), words),
+            _ => false,
+        }
+    }
+
+    // Takes the words behind the first.
+    #[tactic(auto, unfolding(crate::specs::Reading::words_meaning))]
+    fn read_words(&mut self, form: Form, words: &[&[u8]]) -> Result<(), LineFault>
+        ensures { Takes (spec.words_meaning self.old form (texts words.now)) self.new result }
+    {
+        match form {
+            Form::Limit => self.read_limits(words),
+            Form::Axis => self.read_axis(words),
+            Form::Drive => self.read_drive(words),
+            Form::Group => add_group(self.alloc, &mut self.machine, words),
+            Form::Table => add_table(self.alloc, &mut self.machine, words),
+            Form::Task => add_task(&mut self.machine, words),
+            Form::Block => add_block(&mut self.machine, words),
+            Form::Go => self.go(),
+            Form::Call => self.push(call_of(self.alloc, &self.machine, words)),
+            Form::Cycle => self.push(cycles_of(words)),
+            Form::End => self.push(end_of(&self.machine, words)),
+        }
+    }
+
+    // Takes a line of limits.
+    #[tactic(auto, unfolding(crate::specs::Reading::limits_meaning))]
+    fn read_limits(&mut self, words: &[&[u8]]) -> Result<(), LineFault>
+        ensures { Takes (spec.limits_meaning self.old (texts words.now)) self.new result }
+    {
+        set_room(&mut self.machine, words)?;
+        self.limited = true;
+        Ok(())
+    }
+
+    // Takes a line of an axis.
+    #[tactic(auto, unfolding(crate::specs::Reading::axes_meaning))]
+    fn read_axis(&mut self, words: &[&[u8]]) -> Result<(), LineFault>
+        ensures { Takes (spec.axes_meaning self.old (texts words.now)) self.new result }
+    {
+        add_axis(&mut self.machine, self.version, words)?;
+        let Ok(()) = self.drives.push(plain_drive(self.alloc)) else {
+            return Err(LineFault::OutOfMemory);
+        };
+        Ok(())
+    }
+
+    // Takes a line of a drive.
+    #[tactic(auto, unfolding(crate::specs::Reading::drives_meaning))]
+    fn read_drive(&mut self, words: &[&[u8]]) -> Result<(), LineFault>
+        ensures { Takes (spec.drives_meaning self.old (texts words.now)) self.new result }
+    {
+        let (axis, drive) = drive_of(self.alloc, &self.machine, words)?;
+        set_drive(self.drives.as_mut_slice(), axis, drive);
+        let Ok(()) = self.stated.push(axis) else {
+            return Err(LineFault::OutOfMemory);
+        };
+        Ok(())
+    }
+
+    // Takes the end of the machine part.
+    #[tactic(auto, unfolding(crate::specs::Reading::go_meaning))]
+    fn go(&mut self) -> Result<(), LineFault>
+        ensures { Takes (spec.go_meaning self.old) self.new result }
+    {
+        broken_unless(self.limited, NOT_WHOLE)?;
+        broken_unless(is_whole(&self.machine), NOT_WHOLE)?;
+        self.part = Part::Events;
+        Ok(())
+    }
+
+    // Takes a line of events.
+    fn push(&mut self, line: Result<BenchLine, LineFault>) -> Result<(), LineFault>
+        ensures { (read : Result BenchLine ℕ) → Gives (λ l. l) read line →
+            Takes (spec.with_line self.old read) self.new result }
+    {
+        let line = line?;
+        let Ok(()) = self.lines.push(line) else {
+            return Err(LineFault::OutOfMemory);
+        };
+        Ok(())
+    }
+}
