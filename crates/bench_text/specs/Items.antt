@@ -30,14 +30,15 @@ limit_meaning s (cycles ∷ entries ∷ []) = do
 limit_meaning s _ = Err WRONG_COUNT
 
 -- LO HI VMAX AMAX DMAX of an axis, in internal units, per cycle and per cycle per cycle
-unfoldable pub limits_of : List ℕ → List ℕ → List ℕ → List ℕ → List ℕ → Result Limits ℕ
-limits_of lo hi vmax amax dmax = do
+unfoldable pub limits_of : List (List ℕ) → Result Limits ℕ
+limits_of (lo ∷ hi ∷ vmax ∷ amax ∷ dmax ∷ []) = do
   l ← number lo
   h ← number hi
   v ← number vmax
   a ← number amax
   d ← number dmax
   Ok (record { lo = l; hi = h; vmax = v; amax = a; dmax = d })
+limits_of _ = Err WRONG_COUNT
 
 -- `ready`, where it stands
 unfoldable pub ready_of : List (List ℕ) → Result Bool ℕ
@@ -55,10 +56,10 @@ placed_of (inc ∷ start ∷ behind) = do
 placed_of _ = Err WRONG_COUNT
 
 -- an axis of this name is added
-unfoldable pub axis_added : Setup → List ℕ → Result Limits ℕ → List (List ℕ) → Result Setup ℕ
+unfoldable pub axis_added : Setup → List ℕ → List (List ℕ) → List (List ℕ) → Result Setup ℕ
 axis_added s name limits behind = do
   _ ← broken_by (name_fault s name)
-  l ← limits
+  l ← limits_of limits
   p ← placed_of behind
   _ ← broken_by (axis_fault s name l p.inc p.start)
   Ok (record s {
@@ -75,9 +76,9 @@ axis_added s name limits behind = do
 -- `axis NAME LO HI VMAX AMAX DMAX INC START` in version 2, or the same with `ready`
 unfoldable pub axis_meaning : TraceVersion → Setup → List (List ℕ) → Result Setup ℕ
 axis_meaning One s (name ∷ lo ∷ hi ∷ vmax ∷ amax ∷ behind) =
-    axis_added s name (limits_of lo hi vmax amax amax) behind
+    axis_added s name (lo ∷ hi ∷ vmax ∷ amax ∷ amax ∷ []) behind
 axis_meaning Two s (name ∷ lo ∷ hi ∷ vmax ∷ amax ∷ dmax ∷ behind) =
-    axis_added s name (limits_of lo hi vmax amax dmax) behind
+    axis_added s name (lo ∷ hi ∷ vmax ∷ amax ∷ dmax ∷ []) behind
 axis_meaning version s _ = Err WRONG_COUNT
 
 -- `group NAME AXIS AXIS ..`

@@ -9,4 +9,5 @@ pub mod Given
 pub mod Calls
 pub mod Events
 pub mod BenchState
+pub mod UnderWay
 pub mod Reading

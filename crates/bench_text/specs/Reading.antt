@@ -45,18 +45,27 @@ opening = record {
   lines = [];
 }
 
--- `motion-bench 1` or `motion-bench 2`
-unfoldable pub version_of : List (List ℕ) → Option TraceVersion
-version_of (word ∷ number ∷ []) =
-    if not (says word (codes "motion-bench")) then None
-    else if says number (codes "1") then Some One
+-- the versions are 1 and 2
+abbrev pub version_numbered : List ℕ → Option TraceVersion
+version_numbered number =
+    if says number (codes "1") then Some One
     else if says number (codes "2") then Some Two else None
-version_of _ = None
+
+-- a bench begins with the word `motion-bench`
+unfoldable pub is_bench : List ℕ → Bool
+is_bench word = says word (codes "motion-bench")
+
+-- `motion-bench 1` or `motion-bench 2`
+unfoldable pub version_of : List (List ℕ) → Result TraceVersion ℕ
+version_of (word ∷ number ∷ []) = do
+  _ ← broken_unless (is_bench word) NO_VERSION
+  ok_or (version_numbered number) NO_VERSION
+version_of _ = Err NO_VERSION
 
 -- the first line begins the machine part
 unfoldable pub version_meaning : SoFar → List (List ℕ) → Result SoFar ℕ
 version_meaning s words = do
-  version ← ok_or (version_of words) NO_VERSION
+  version ← version_of words
   Ok (record s { part = Machine; version = version })
 
 -- whether a line that comes once comes again: the limits, and the drive of an axis
@@ -145,9 +154,13 @@ ending s = do
   Ok (record { version = s.version; config = s.setup; drives = s.drives; lines = s.lines })
 
 -- a rule of a bench is told by the letter B
+abbrev pub told_as : LineRefused → TextRefused
+told_as r = record { place = r.line; rule = record { letter = 66; number = r.rule } }
+
+-- a reading whose refusal is told so
 abbrev pub refused_by : {A : Type 0} → Result A LineRefused → Result A TextRefused
 refused_by (Ok x) = Ok x
-refused_by (Err r) = Err (record { place = r.line; rule = record { letter = 66; number = r.rule } })
+refused_by (Err r) = Err (told_as r)
 
 -- the bench that a text is, or the first line that breaks a rule and the first rule that it breaks
 unfoldable pub bench_of : List ℕ → Result BenchState TextRefused

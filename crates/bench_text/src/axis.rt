@@ -1,7 +1,6 @@
 // The axes of a bench.
 
-ghost use Rattle.std.specs.Prelude.{◌≡◌, Result, ℕ};
-ghost use Rattle.kin_core.specs.declared.limits.Limits.{Limits};
+ghost use Rattle.std.specs.Prelude.{◌≡◌};
 ghost use Rattle.line_text.specs.Reading.{Gives, Takes};
 ghost use Rattle.line_text.specs.Texts.{texts};
 ghost use Rattle.bench_text.specs.Items as spec;
@@ -36,13 +35,13 @@ pub fn add_axis(
             let [name, lo, hi, vmax, amax, behind @ ..] = words else {
                 return Err(LineFault::Rule(WRONG_COUNT));
             };
-            place_axis(machine, name, limits_of(lo, hi, vmax, amax, amax), behind)
+            place_axis(machine, name, &[lo, hi, vmax, amax, amax], behind)
         }
         TraceVersion::Two => {
             let [name, lo, hi, vmax, amax, dmax, behind @ ..] = words else {
                 return Err(LineFault::Rule(WRONG_COUNT));
             };
-            place_axis(machine, name, limits_of(lo, hi, vmax, amax, dmax), behind)
+            place_axis(machine, name, &[lo, hi, vmax, amax, dmax], behind)
         }
     }
 }
@@ -52,14 +51,14 @@ pub fn add_axis(
 fn place_axis(
     machine: &mut Builder,
     name: &[u8],
-    limits: Result<Limits, LineFault>,
+    limits: &[&[u8]],
     behind: &[&[u8]],
 ) -> Result<(), LineFault>
-    ensures { (read : Result Limits ℕ) → Gives (λ l. l) read limits →
-        Takes (spec.axis_added machine.old name.now read (texts behind.now)) machine.new result }
+    ensures { Takes (spec.axis_added machine.old name.now (texts limits.now) (texts behind.now))
+        machine.new result }
 {
     free_name(machine, name)?;
-    let limits = limits?;
+    let limits = limits_of(limits)?;
     let placed = placed_of(behind)?;
     match machine.axis(name, &limits, placed.inc, placed.start, placed.ready) {
         Ok(_) => Ok(()),
@@ -69,15 +68,12 @@ fn place_axis(
 
 // The limits of an axis.
 #[tactic(auto, unfolding(crate::specs::Items::limits_of))]
-fn limits_of(
-    lo: &[u8],
-    hi: &[u8],
-    vmax: &[u8],
-    amax: &[u8],
-    dmax: &[u8],
-) -> Result<Limits, LineFault>
-    ensures { Gives (λ l. l) (spec.limits_of lo.now hi.now vmax.now amax.now dmax.now) result }
+fn limits_of(words: &[&[u8]]) -> Result<Limits, LineFault>
+    ensures { Gives (λ l. l) (spec.limits_of (texts words.now)) result }
 {
+    let [lo, hi, vmax, amax, dmax] = words else {
+        return Err(LineFault::Rule(WRONG_COUNT));
+    };
     let lo = number(lo)?;
     let hi = number(hi)?;
     let vmax = number(vmax)?;

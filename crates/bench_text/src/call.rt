@@ -15,7 +15,7 @@ use crate::key::{Given, key_of, texts_given};
 use crate::name::{axis_at, axis_named, block_named};
 use crate::number::{in_range, number, numbers};
 use crate::rule::{NO_VALUE, WRONG_COUNT, WRONG_NAME, broken_unless};
-use command_pool::BufferMode;
+use command_pool::{BlockKind, BufferMode};
 use fb_outputs::{Input, Inputs, mode_named, takes};
 use line_text::{LineFault, says};
 use motion_history::{BlockDef, Builder, MOST_MEMBERS};
@@ -91,10 +91,7 @@ fn inputs_on(
 ) -> Result<Inputs, LineFault>
     ensures { Gives (λ i. i) (spec.inputs_on machine.now block.now state.now (texts words.now)) result }
 {
-    broken_unless(
-        !takes(block.kind, Input::Master) || are_masters_there(machine, words),
-        WRONG_NAME,
-    )?;
+    broken_unless(are_masters_there(machine, block.kind, words), WRONG_NAME)?;
     broken_unless(says(state, b"on"), NO_VALUE)?;
     let Some(given) = texts_given(block.kind, words) else {
         return Err(LineFault::Rule(NO_VALUE));
@@ -116,8 +113,16 @@ fn axes_of(machine: &Builder, block: &BlockDef) -> usize
     }
 }
 
-// Whether each master that is given is an axis.
-fn are_masters_there(machine: &Builder, words: &[&[u8]]) -> bool
+// Whether each master that is given is an axis, where the kind takes one.
+#[tactic(auto, unfolding(crate::specs::Calls::are_masters_there))]
+fn are_masters_there(machine: &Builder, kind: BlockKind, words: &[&[u8]]) -> bool
+    ensures { result ≡ spec.are_masters_there machine.now kind (texts words.now) }
+{
+    !takes(kind, Input::Master) || give_masters_there(machine, words)
+}
+
+// Whether each master that words give is an axis.
+fn give_masters_there(machine: &Builder, words: &[&[u8]]) -> bool
     ensures { result ≡ list_all (spec.is_master_there machine.now) (texts words.now) }
 {
     words.iter().all(|word| is_master_there(machine, word))

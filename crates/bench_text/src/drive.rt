@@ -1,6 +1,6 @@
 // The drives of a bench.
 
-ghost use Rattle.std.specs.Prelude.{◌≡◌, ◌≤◌, length, IfOk};
+ghost use Rattle.std.specs.Prelude.{◌≡◌, ◌≤◌, length, IfErr, IfOk};
 ghost use Rattle.line_text.specs.Reading.{Gives, each_of};
 ghost use Rattle.line_text.specs.Texts.{texts};
 ghost use Rattle.bench_text.specs.Drives as spec;
@@ -84,7 +84,8 @@ fn are_rising(steps: &[u32]) -> bool
 // The faults in these steps.
 fn faults_of(alloc: Global, steps: &[u32]) -> Result<FaultList, LineFault>
     requires { length steps.now ≤ MOST_FAULTS }
-    ensures { IfOk result (λ faults. faults ≡ steps.now) }
+    ensures ok { IfOk result (λ faults. faults ≡ steps.now) }
+    ensures only { IfErr result (λ fault. fault ≡ LineFault.OutOfMemory) }
 {
     let mut faults = FaultList::new(alloc);
     for step in steps {

@@ -8,12 +8,14 @@ ghost use Rattle.bench_text.specs.Rules as spec;
 
 use crate::rule::{NO_VALUE, OUT_OF_RANGE};
 use line_text::{LineFault, number_of, point_of};
+use motion_numbers::MOST_NUMBER;
 use std::alloc::Global;
 
 /// The number that a word is.
 #[tactic(auto, unfolding(crate::specs::Rules::number))]
 pub fn number(word: &[u8]) -> Result<i64, LineFault>
-    ensures { Gives (λ z. z) (spec.number word.now) result }
+    ensures value { Gives (λ z. z) (spec.number word.now) result }
+    ensures small { IfOk result (λ z. unsigned_abs z ≤ MOST_NUMBER) }
 {
     match number_of(word) {
         Some(number) => Ok(number),

@@ -1,11 +1,15 @@
 // Reading a bench, a line after another.
 
 ghost use Rattle.std.specs.Prelude.{◌≡◌, ℕ, if◌then◌else◌, None, Some, Result, IfOk, Ok, slice_set};
-ghost use Rattle.line_text.specs.Reading.{Gives, Takes};
+ghost use Rattle.line_text.specs.Reading.{Gives, Takes, at_line};
 ghost use Rattle.line_text.specs.Texts.{texts};
 ghost use Rattle.motion_history.specs.Faults.{whole_fault};
 ghost use Rattle.motion_history.specs.declared.fault.ConfigFault.{ConfigFault};
 ghost use Rattle.bench_text.specs.BenchState.{BenchState};
+ghost use Rattle.bench_text.specs.UnderWay.{IsSoFar};
+ghost use Rattle.bench_text.specs.Calls as calls;
+ghost use Rattle.bench_text.specs.Events as events;
+ghost use Rattle.bench_text.specs.Items as items;
 ghost use Rattle.bench_text.specs.Reading as spec;
 ghost use Rattle.bench_text.specs.Reading.{IsBenchOf, ReadsBy};
 
@@ -68,6 +72,7 @@ pub fn read_bench(alloc: Global, text: &[u8]) -> Result<Bench, TextFault>
 }
 
 // The bench that a text is.
+#[tactic(auto, unfolding(crate::specs::Reading::bench_of, line_text::specs::Reading::reading_of))]
 fn read(alloc: Global, text: &[u8]) -> Result<Bench, TextFault>
     ensures { ReadsBy (spec.bench_of text.now) result }
 {
@@ -80,7 +85,9 @@ fn read(alloc: Global, text: &[u8]) -> Result<Bench, TextFault>
 }
 
 // How a text is refused at this place.
-fn refused_by(refused: LineRefused) -> TextFault {
+fn refused_by(refused: LineRefused) -> TextFault
+    ensures { result ≡ TextFault.Refused (spec.told_as refused) }
+{
     TextFault::Refused(TextRefused {
         place: refused.line,
         rule: Rule {
@@ -111,7 +118,11 @@ fn opened(alloc: Global) -> Result<BenchReader, TextFault>
 }
 
 // The bench at the end of the text.
-fn bench_of(reader: BenchReader, last: u64) -> Result<Bench, TextFault> {
+#[tactic(auto, unfolding(crate::specs::Reading::ending))]
+fn bench_of(reader: BenchReader, last: u64) -> Result<Bench, TextFault>
+    requires { IsSoFar reader }
+    ensures { ReadsBy (spec.refused_by (at_line last (spec.ending reader))) result }
+{
     let BenchReader {
         part,
         version,
@@ -126,6 +137,7 @@ fn bench_of(reader: BenchReader, last: u64) -> Result<Bench, TextFault> {
             rule: NOT_WHOLE,
         }));
     }
+    // It has been whole since `go`.
     let Ok(config) = machine.finish() else {
         return Err(TextFault::OutOfMemory);
     };
@@ -137,17 +149,34 @@ fn bench_of(reader: BenchReader, last: u64) -> Result<Bench, TextFault> {
     })
 }
 
-// The version that a line tells.
+// The version that the first line tells.
 #[tactic(auto, unfolding(crate::specs::Reading::version_of))]
-fn version_of(words: &[&[u8]]) -> Option<TraceVersion>
-    ensures { result ≡ spec.version_of (texts words.now) }
+fn version_of(words: &[&[u8]]) -> Result<TraceVersion, LineFault>
+    ensures { Gives (λ v. v) (spec.version_of (texts words.now)) result }
 {
     let [word, number] = words else {
-        return None;
+        return Err(LineFault::Rule(NO_VERSION));
     };
-    if !says(word, b"motion-bench") {
-        None
-    } else if says(number, b"1") {
+    broken_unless(is_bench(word), NO_VERSION)?;
+    match version_numbered(number) {
+        Some(version) => Ok(version),
+        None => Err(LineFault::Rule(NO_VERSION)),
+    }
+}
+
+// Whether a bench begins with this word.
+#[tactic(auto, unfolding(crate::specs::Reading::is_bench))]
+fn is_bench(word: &[u8]) -> bool
+    ensures { result ≡ spec.is_bench word.now }
+{
+    says(word, b"motion-bench")
+}
+
+// The version of this number.
+fn version_numbered(number: &[u8]) -> Option<TraceVersion>
+    ensures { result ≡ spec.version_numbered number.now }
+{
+    if says(number, b"1") {
         Some(TraceVersion::One)
     } else if says(number, b"2") {
         Some(TraceVersion::Two)
@@ -167,8 +196,8 @@ fn is_whole(machine: &Builder) -> bool
 fn set_drive(drives: &mut [DriveDef], axis: u8, drive: DriveDef)
     ensures { drives.new ≡ slice_set drives.old axis drive }
 {
-    if let Some(slot) = drives.get_mut(axis as usize) {
-        *slot = drive;
+    if (axis as usize) < drives.len() {
+        drives[axis as usize] = drive;
     }
 }
 
@@ -193,9 +222,7 @@ impl BenchReader {
     fn read_version(&mut self, words: &[&[u8]]) -> Result<(), LineFault>
         ensures { Takes (spec.version_meaning self.old (texts words.now)) self.new result }
     {
-        let Some(version) = version_of(words) else {
-            return Err(LineFault::Rule(NO_VERSION));
-        };
+        let version = version_of(words)?;
         self.part = Part::Machine;
         self.version = version;
         Ok(())
@@ -248,14 +275,14 @@ impl BenchReader {
             Form::Limit => self.read_limits(words),
             Form::Axis => self.read_axis(words),
             Form::Drive => self.read_drive(words),
-            Form::Group => add_group(self.alloc, &mut self.machine, words),
-            Form::Table => add_table(self.alloc, &mut self.machine, words),
+            Form::Group => self.read_group(words),
+            Form::Table => self.read_table(words),
             Form::Task => add_task(&mut self.machine, words),
             Form::Block => add_block(&mut self.machine, words),
             Form::Go => self.go(),
-            Form::Call => self.push(call_of(self.alloc, &self.machine, words)),
-            Form::Cycle => self.push(cycles_of(words)),
-            Form::End => self.push(end_of(&self.machine, words)),
+            Form::Call => self.read_call(words),
+            Form::Cycle => self.read_cycles(words),
+            Form::End => self.read_end(words),
         }
     }
 
@@ -294,6 +321,24 @@ impl BenchReader {
         Ok(())
     }
 
+    // Takes a line of a group.
+    fn read_group(&mut self, words: &[&[u8]]) -> Result<(), LineFault>
+        ensures { Takes (spec.with_setup self.old (items.group_meaning self.old.setup (texts words.now)))
+            self.new result }
+    {
+        let alloc = self.alloc;
+        add_group(alloc, &mut self.machine, words)
+    }
+
+    // Takes a line of a cam table.
+    fn read_table(&mut self, words: &[&[u8]]) -> Result<(), LineFault>
+        ensures { Takes (spec.with_setup self.old (items.table_meaning self.old.setup (texts words.now)))
+            self.new result }
+    {
+        let alloc = self.alloc;
+        add_table(alloc, &mut self.machine, words)
+    }
+
     // Takes the end of the machine part.
     #[tactic(auto, unfolding(crate::specs::Reading::go_meaning))]
     fn go(&mut self) -> Result<(), LineFault>
@@ -303,6 +348,33 @@ impl BenchReader {
         broken_unless(is_whole(&self.machine), NOT_WHOLE)?;
         self.part = Part::Events;
         Ok(())
+    }
+
+    // Takes a line of a call.
+    fn read_call(&mut self, words: &[&[u8]]) -> Result<(), LineFault>
+        ensures { Takes (spec.with_line self.old (calls.call_meaning self.old.setup (texts words.now)))
+            self.new result }
+    {
+        let line = call_of(self.alloc, &self.machine, words);
+        self.push(line)
+    }
+
+    // Takes a line of cycles.
+    fn read_cycles(&mut self, words: &[&[u8]]) -> Result<(), LineFault>
+        ensures { Takes (spec.with_line self.old (events.cycle_meaning (texts words.now)))
+            self.new result }
+    {
+        let line = cycles_of(words);
+        self.push(line)
+    }
+
+    // Takes a line of a task's end.
+    fn read_end(&mut self, words: &[&[u8]]) -> Result<(), LineFault>
+        ensures { Takes (spec.with_line self.old (events.end_meaning self.old.setup (texts words.now)))
+            self.new result }
+    {
+        let line = end_of(&self.machine, words);
+        self.push(line)
     }
 
     // Takes a line of events.
