@@ -10,6 +10,7 @@ ghost use Rattle.bench_text.specs.Rules as rules;
 use crate::name::{axes_named, kind_of, object_named, task_named};
 use crate::number::{in_range, number, points};
 use crate::rule::{WRONG_COUNT, refusal_of};
+use cam_table::{cam_tables_are_told, points_have_one_fault};
 use line_text::LineFault;
 use motion_history::{Builder, MOST_CYCLES, MOST_ENTRIES};
 use std::alloc::Global;
@@ -63,6 +64,8 @@ pub fn add_group(alloc: Global, machine: &mut Builder, words: &[&[u8]]) -> Resul
 pub fn add_table(alloc: Global, machine: &mut Builder, words: &[&[u8]]) -> Result<(), LineFault>
     ensures { Takes (spec.table_meaning machine.old (texts words.now)) machine.new result }
 {
+    points_have_one_fault();
+    cam_tables_are_told();
     let points = points(alloc, words)?;
     match machine.table(alloc, points.as_slice()) {
         Ok(_) => Ok(()),

@@ -1,6 +1,6 @@
 // Reading a bench, a line after another.
 
-ghost use Rattle.std.specs.Prelude.{◌≡◌, ℕ, if◌then◌else◌, None, Some, Result, IfOk, Ok, slice_set};
+ghost use Rattle.std.specs.Prelude.{◌≡◌, ℕ, if◌then◌else◌, None, Some, Result, IfErr, IfOk, Ok, slice_set};
 ghost use Rattle.line_text.specs.Reading.{Gives, Takes, at_line};
 ghost use Rattle.line_text.specs.Texts.{texts};
 ghost use Rattle.motion_history.specs.Faults.{whole_fault};
@@ -100,7 +100,8 @@ fn refused_by(refused: LineRefused) -> TextFault
 // A bench before its first line.
 #[tactic(auto, unfolding(crate::specs::Reading::opening))]
 fn opened(alloc: Global) -> Result<BenchReader, TextFault>
-    ensures { IfOk result (λ r. r ≡ spec.opening) }
+    ensures ok { IfOk result (λ r. r ≡ spec.opening) }
+    ensures only { IfErr result (λ fault. fault ≡ TextFault.OutOfMemory) }
 {
     let Ok(machine) = Builder::open(alloc, 1, 1) else {
         return Err(TextFault::OutOfMemory);

@@ -3,12 +3,14 @@
 #![tactic(auto)]
 
 mod key;
+mod laws;
 mod line;
 mod number;
 mod reader;
 mod word;
 
 pub use key::value_at;
+pub use laws::numbers_are_small;
 pub use line::first_line;
 pub use number::{number_of, point_of};
 pub use reader::{LineFault, LineReader, LineRefused, LinesFault, read_lines};

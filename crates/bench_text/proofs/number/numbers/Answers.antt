@@ -1,4 +1,6 @@
 -- Each step reads one more.
+use Rattle.std.proofs.Common.{◌≡◌, arith, of_z, to_z, w64}
+use Rattle.std.proofs.lemmas.Int.{ints}
 use Rattle.std.proofs.lemmas.Result.{err_from_is_err_and}
 use Rattle.bench_text.specs.Rules.{number}
 use Rattle.line_text.specs.Texts.{texts}
@@ -14,4 +16,6 @@ returns-in_err-number c =
 pub loop-word-preserved : goal.loop-word-preserved
 loop-word-preserved c =
     let cut = word_at c.args.words.now c.loop-word.word-index c.loop-word-test.true in
-    rw c.in-Ok.ensures.items (read-more number (texts c.args.words.now) c.loop-word.word-index _ _ _ cut c.in_ok-number.ensures.value c.loop-word.invariant)
+    let small = c.in_ok-number.ensures.small in
+    let same : to_z w64 (of_z w64 c.in_ok-number.number) ≡ c.in_ok-number.number = omega (arith, ints, small) in
+    rw (c.in-Ok.ensures.items, same) (read-more number (texts c.args.words.now) c.loop-word.word-index _ _ _ cut c.in_ok-number.ensures.value c.loop-word.invariant)

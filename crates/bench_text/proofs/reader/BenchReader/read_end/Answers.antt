@@ -1,5 +1,14 @@
 -- The line is read, and then its event is added.
+use Rattle.std.proofs.Common.{ap, subst}
+use Rattle.line_text.specs.Reading.{Takes}
+use Rattle.line_text.specs.Texts.{texts}
+use Rattle.motion_history.specs.Setup.{Setup}
+use Rattle.bench_text.specs.Events.{end_meaning}
+use Rattle.bench_text.specs.Reading.{with_line}
+use Rattle.bench_text.specs.SoFar.{SoFar}
 use Rattle.bench_text.proofs.reader.BenchReader.read_end.Goals as goal
 
 pub returns : goal.returns
-returns c = c.push.ensures _ c.end_of-line.ensures
+returns c =
+    let P : Setup → Type 0 = λ m. Takes (with_line c.args.self.now (end_meaning m (texts c.args.words.now))) c.push.new.self c.push.result in
+    subst P (ap (λ (s : SoFar). s.setup) c.self.view_is) (c.push.ensures _ c.end_of-line.ensures)
