@@ -21,7 +21,7 @@ use Rattle.bench_text.specs.declared.bench.BenchLine.{BenchLine}
 use Rattle.bench_text.specs.declared.bench.BenchLine.TheVariants.{Call}
 use Rattle.bench_text.specs.declared.call.TheConstants.{MOST_TABLE_NUMBER}
 use Rattle.bench_text.specs.declared.rule.TheConstants.{NO_VALUE, WRONG_COUNT, WRONG_NAME}
-use Rattle.bench_text.proofs.Given.{AreGivenOf, AreSmall, ArePositions, given-of, left-out, no_positions-are, number-taken, position-within, positions-are}
+use Rattle.bench_text.proofs.Given.{AreGivenOf, AreSmall, ArePositions, given-of, left-out, no_positions-are, number-taken, position-within, positions-are, positions-left}
 use Rattle.bench_text.proofs.Results.{bind_ok, found, ok_is}
 
 -- the inputs of a block's call, with a master that is there
@@ -76,7 +76,7 @@ inputs_of-fit small s b g i some of h =
     let positions : ArePositions (axes_of s b) ps.0 = positions-are small (axes_of s b) g.position ps.0 ps.1 in
     subst (λ q. AreFit s b q) is (record {
       inputs = record {
-        positions = λ k. record { left_out = λ none. ?; size = positions.small k };
+        positions = λ k. record { left_out = λ none. positions-left (axes_of s b) g.position ps.0 ps.1 (of.position none) k; size = positions.small k };
         few_positions = positions.few;
         velocity = number-taken small (takes b.kind Velocity) (pos 0) g.velocity v.0 (lit≤ tt) of.velocity v.1;
         acceleration = number-taken small (takes b.kind Acceleration) (pos 0) g.acceleration a.0 (lit≤ tt) of.acceleration a.1;

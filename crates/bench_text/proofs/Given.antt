@@ -172,3 +172,8 @@ positions_of-are small axes text ps h =
 pub positions-are : AreSmall → (axes : ℕ) (o : Option (List ℕ)) (ps : List ℤ) → value_or no_positions (positions_of axes) o ≡ Ok ps → ArePositions axes ps
 positions-are small axes None ps h = subst (λ qs. ArePositions axes qs) (ok_is (Ok no_positions) no_positions ps refl h) (no_positions-are axes)
 positions-are small axes (Some text) ps h = positions_of-are small axes text ps h
+
+pub positions-left : (axes : ℕ) (o : Option (List ℕ)) (ps : List ℤ) → value_or no_positions (positions_of axes) o ≡ Ok ps → o ≡ None →
+    (n : ℕ) → slice_index_or ps n (pos 0) ≡ pos 0
+positions-left axes None ps h e n = subst (λ qs. slice_index_or qs n (pos 0) ≡ pos 0) (ok_is (Ok no_positions) no_positions ps refl h) (zeros-at MOST_MEMBERS n)
+positions-left axes (Some text) ps h e n = absurd (cc)

@@ -5,3 +5,5 @@ pub mod Positions
 pub mod Tables
 pub mod Given
 pub mod Calls
+pub mod Items
+pub mod Kept

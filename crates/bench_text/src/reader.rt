@@ -21,7 +21,9 @@ use crate::event::{cycles_of, end_of};
 use crate::form::{Form, Part, form_of, is_counted, is_part, part_of};
 use crate::item::{add_block, add_group, add_table, add_task, set_room};
 use crate::rule::{NO_VERSION, NOT_WHOLE, OUT_OF_PLACE, WRONG_COUNT, broken_unless};
-use line_text::{LineFault, LineReader, LineRefused, LinesFault, read_lines, says};
+use line_text::{
+    LineFault, LineReader, LineRefused, LinesFault, numbers_are_small, read_lines, says,
+};
 use motion_history::{
     Builder, ConfigFault, DriveDef, DriveDefs, Rule, TextFault, TextRefused, TraceVersion,
 };
@@ -76,6 +78,7 @@ pub fn read_bench(alloc: Global, text: &[u8]) -> Result<Bench, TextFault>
 fn read(alloc: Global, text: &[u8]) -> Result<Bench, TextFault>
     ensures { ReadsBy (spec.bench_of text.now) result }
 {
+    numbers_are_small();
     let mut reader = opened(alloc)?;
     match read_lines(alloc, text, &mut reader) {
         Ok(last) => bench_of(reader, last),

@@ -2,7 +2,7 @@
 
 ghost use Rattle.std.specs.Prelude.{◌≡◌, ◌↔◌, ◌≢◌, ◌<◌, if◌then◌else◌, Some, Err, ◌+◌, ◌++◌, ◌∷◌, [], IfOk, IfErr, OnErr, OnOk, None, length};
 ghost use Rattle.cam_table.specs.CamTable.{IsCamTable};
-ghost use Rattle.motion_history.specs.Setup.{Setup, IsWithin};
+ghost use Rattle.motion_history.specs.Setup.{Setup, IsSetup, IsWithin};
 ghost use Rattle.motion_history.specs.Items.{setup_of};
 ghost use Rattle.motion_history.specs.Faults as faults;
 ghost use Rattle.motion_history.specs.Faults.{FaultsBy, IsTableFault};
@@ -220,6 +220,7 @@ impl Builder {
     /// The whole configuration. Where it is refused, the Builder is given up.
     pub fn finish(self) -> Result<Config, ConfigFault>
         ensures ok { IfOk result (λ c. c ≡ self) }
+        ensures setup { IfOk result (λ c. IsSetup c) }
         ensures faults { (result ≡ Err ConfigFault.TooFew) ↔
             (faults.whole_fault self ≡ Some ConfigFault.TooFew) }
         ensures only { IfErr result (λ e. e ≡ ConfigFault.TooFew) }

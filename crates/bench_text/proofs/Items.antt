@@ -1,0 +1,214 @@
+-- What the lines of the machine part leave.
+use Rattle.std.proofs.Common.{◌≡◌, ℕ, ◌≤◌, ℤ, Bool, true, false, Option, Some, None, Result, Ok, Err, List, [], ◌∷◌, ◌++◌, length, refl, sym, ◌∙◌, ap, subst, arith, inl, inr, lit≤, ◌<◌}
+use Rattle.std.specs.Prelude.{◌&&◌, cond, int_le, nat_le, not, pos, unsigned_abs}
+use Rattle.std.specs.List.{AllByRecursion}
+use Rattle.std.proofs.lemmas.Bool.{and_parts, cases_Bool, leb-true}
+use Rattle.std.proofs.lemmas.Int.{ints}
+use Rattle.axis_state.specs.declared.definition.AxisDef.{AxisDef}
+use Rattle.cam_table.specs.CamTable.{is_cam_table}
+use Rattle.command_pool.specs.declared.kind.BlockKind.{BlockKind}
+use Rattle.kin_core.specs.declared.limits.Limits.{Limits}
+use Rattle.line_text.specs.Reading.{◌>>=◌, each_of}
+use Rattle.motion_history.specs.Faults.{axis_fault, block_fault, group_fault, name_fault, task_fault}
+use Rattle.motion_history.specs.Setup.{Setup}
+use Rattle.motion_history.specs.declared.drives.DriveDef.{DriveDef}
+use Rattle.motion_history.specs.declared.refused.TraceVersion.{TraceVersion}
+use Rattle.motion_history.specs.declared.refused.TraceVersion.TheVariants.{One, Two}
+use Rattle.motion_history.specs.declared.sizes.TheConstants.{MOST_CYCLES, MOST_ENTRIES, MOST_FAULTS, MOST_LAG, MOST_TABLES}
+use Rattle.bench_text.specs.BenchState.{BrakesAsItSpeedsUp, IsDrive, IsLineOf}
+use Rattle.bench_text.specs.Drives.{drive_meaning, rise_above}
+use Rattle.bench_text.specs.Events.{cycle_meaning, end_meaning}
+use Rattle.bench_text.specs.Items.{axis_added, axis_meaning, block_meaning, group_meaning, limit_meaning, limits_of, placed_of, point, table_meaning, task_meaning}
+use Rattle.bench_text.specs.Named.{axis_named, kind_of, object_named, task_at, task_named}
+use Rattle.bench_text.specs.Rules.{broken_by, broken_unless, in_range, is_from_to, number}
+use Rattle.bench_text.specs.declared.axis.Placed.{Placed}
+use Rattle.bench_text.specs.declared.bench.BenchLine.{BenchLine}
+use Rattle.bench_text.specs.declared.bench.BenchLine.TheVariants.{Cycles, End}
+use Rattle.bench_text.specs.declared.drive.TheConstants.{MOST_STEPS}
+use Rattle.bench_text.specs.declared.rule.TheConstants.{OUT_OF_RANGE, TOO_MANY, WRONG_NAME}
+use Rattle.bench_text.proofs.Given.{position-within}
+use Rattle.bench_text.proofs.Results.{bind_ok, found, holds, ok_is}
+
+-- ---- numbers in their ranges
+
+-- a number lies in its range
+pub record IsWithinRange (least most n : ℕ) : Type 0 where
+  pub above : least ≤ n
+  pub below : n ≤ most
+
+range_of : (b : Bool) (least most : ℕ) (z : ℤ) (n : ℕ) → is_from_to least most z ≡ b → cond b (Ok (unsigned_abs z)) (Err OUT_OF_RANGE) ≡ Ok n → IsWithinRange least most n
+range_of true least most z n is h =
+    let e : unsigned_abs z ≡ n = ok_is (Ok (unsigned_abs z)) (unsigned_abs z) n refl h in
+    let parts = and_parts (int_le (pos least) z) (int_le z (pos most)) is in
+    record { above = omega (arith, ints, parts.0, e); below = omega (arith, ints, parts.0, parts.1, e) }
+range_of false least most z n is h = absurd (cc)
+
+pub in_range-within : (least most : ℕ) (z : ℤ) (n : ℕ) → in_range least most z ≡ Ok n → IsWithinRange least most n
+unfolding in_range
+in_range-within least most z n h = range_of (is_from_to least most z) least most z n refl h
+
+-- ---- the machine's items but axes: the axes stay
+
+pub limit-axes : (s : Setup) (words : List (List ℕ)) (u : Setup) → limit_meaning s words ≡ Ok u → u.axes ≡ s.axes
+unfolding limit_meaning
+limit-axes s [] u h = absurd (cc)
+limit-axes s (cycles ∷ []) u h = absurd (cc)
+limit-axes s (cycles ∷ entries ∷ []) u h =
+    let c = bind_ok (number cycles) _ u h in
+    let e = bind_ok (number entries) _ u c.2 in
+    let few = bind_ok (in_range 1 MOST_CYCLES c.0) _ u e.2 in
+    let less = bind_ok (in_range 1 MOST_ENTRIES e.0) _ u few.2 in
+    let t : Setup = record s { cycles = few.0; entries = less.0 } in
+    ap (λ (v : Setup). v.axes) (sym (ok_is (Ok t) t u refl less.2))
+limit-axes s (cycles ∷ entries ∷ other ∷ more) u h = absurd (cc)
+
+pub group-axes : (s : Setup) (words : List (List ℕ)) (u : Setup) → group_meaning s words ≡ Ok u → u.axes ≡ s.axes
+unfolding group_meaning
+group-axes s [] u h = absurd (cc)
+group-axes s (name ∷ names) u h =
+    let free = bind_ok (broken_by (name_fault s name)) _ u h in
+    let axes = bind_ok (each_of (axis_named s) names) _ u free.2 in
+    let fit = bind_ok (broken_by (group_fault s name axes.0)) _ u axes.2 in
+    let is = ok_is _ _ u refl fit.2 in
+    ap (λ (v : Setup). v.axes) (sym is)
+
+pub table-axes : (s : Setup) (words : List (List ℕ)) (u : Setup) → table_meaning s words ≡ Ok u → u.axes ≡ s.axes
+unfolding table_meaning
+table-axes s words u h =
+    let points = bind_ok (each_of point words) _ u h in
+    let good = bind_ok (broken_unless (is_cam_table points.0) OUT_OF_RANGE) _ u points.2 in
+    let room = bind_ok (broken_unless (not (nat_le MOST_TABLES (length s.tables))) TOO_MANY) _ u good.2 in
+    let is = ok_is _ _ u refl room.2 in
+    ap (λ (v : Setup). v.axes) (sym is)
+
+pub task-axes : (s : Setup) (words : List (List ℕ)) (u : Setup) → task_meaning s words ≡ Ok u → u.axes ≡ s.axes
+unfolding task_meaning
+task-axes s [] u h = absurd (cc)
+task-axes s (name ∷ []) u h =
+    let fit = bind_ok (broken_by (task_fault s name)) _ u h in
+    let is = ok_is _ _ u refl fit.2 in
+    ap (λ (v : Setup). v.axes) (sym is)
+task-axes s (name ∷ other ∷ more) u h = absurd (cc)
+
+pub block-axes : (s : Setup) (words : List (List ℕ)) (u : Setup) → block_meaning s words ≡ Ok u → u.axes ≡ s.axes
+unfolding block_meaning
+block-axes s [] u h = absurd (cc)
+block-axes s (name ∷ []) u h = absurd (cc)
+block-axes s (name ∷ task ∷ []) u h = absurd (cc)
+block-axes s (name ∷ task ∷ kind ∷ []) u h = absurd (cc)
+block-axes s (name ∷ of_task ∷ of_kind ∷ of_object ∷ []) u h =
+    let free = bind_ok (broken_by (name_fault s name)) _ u h in
+    let task = bind_ok (task_named s of_task) _ u free.2 in
+    let kind = bind_ok (kind_of of_kind) _ u task.2 in
+    let object = bind_ok (object_named s kind.0 of_object) _ u kind.2 in
+    let fit = bind_ok (broken_by (block_fault s name task.0 kind.0 object.0)) _ u object.2 in
+    let is = ok_is _ _ u refl fit.2 in
+    ap (λ (v : Setup). v.axes) (sym is)
+block-axes s (name ∷ of_task ∷ of_kind ∷ of_object ∷ other ∷ more) u h = absurd (cc)
+
+-- ---- axes
+
+-- an axis more, which in version 1 brakes as hard as it speeds up
+pub record AddsAxis (version : TraceVersion) (s u : Setup) : Type 0 where
+  pub added : AxisDef
+  pub axes : u.axes ≡ s.axes ++ added ∷ []
+  pub braking : version ≡ One → BrakesAsItSpeedsUp added
+
+-- an axis of these limits more
+record AddsWithin (s u : Setup) (l : Limits) : Type 0 where
+  added : AxisDef
+  axes : u.axes ≡ s.axes ++ added ∷ []
+  limits : added.limits ≡ l
+
+axis_added-is : (s : Setup) (name : List ℕ) (limits behind : List (List ℕ)) (u : Setup) → axis_added s name limits behind ≡ Ok u →
+    (l : Limits) × (limits_of limits ≡ Ok l) × AddsWithin s u l
+unfolding axis_added
+axis_added-is s name limits behind u h =
+    let free = bind_ok (broken_by (name_fault s name)) _ u h in
+    let l = bind_ok (limits_of limits) _ u free.2 in
+    let p = bind_ok (placed_of behind) _ u l.2 in
+    let fit = bind_ok (broken_by (axis_fault s name l.0 p.0.inc p.0.start)) _ u p.2 in
+    let d : AxisDef = record { name = name; limits = l.0; inc = p.0.inc; start = p.0.start; ready = p.0.ready } in
+    let t : Setup = record s { axes = s.axes ++ d ∷ [] } in
+    (l.0, l.1, record { added = d; axes = ap (λ (v : Setup). v.axes) (sym (ok_is (Ok t) t u refl fit.2)); limits = refl })
+
+limits-even : (lo hi vmax amax : List ℕ) (l : Limits) → limits_of (lo ∷ hi ∷ vmax ∷ amax ∷ amax ∷ []) ≡ Ok l → l.dmax ≡ l.amax
+unfolding limits_of
+limits-even lo hi vmax amax l h =
+    let low = bind_ok (number lo) _ l h in
+    let high = bind_ok (number hi) _ l low.2 in
+    let v = bind_ok (number vmax) _ l high.2 in
+    let a = bind_ok (number amax) _ l v.2 in
+    let d = bind_ok (number amax) _ l a.2 in
+    let t : Limits = record { lo = low.0; hi = high.0; vmax = v.0; amax = a.0; dmax = d.0 } in
+    let is : t ≡ l = ok_is (Ok t) t l refl d.2 in
+    let P : Limits → Type 0 = λ k. k.dmax ≡ k.amax in
+    subst P is (ok_is (number amax) d.0 a.0 d.1 a.1)
+
+even-axis : (s : Setup) (name lo hi vmax amax : List ℕ) (behind : List (List ℕ)) (u : Setup) →
+    axis_added s name (lo ∷ hi ∷ vmax ∷ amax ∷ amax ∷ []) behind ≡ Ok u → AddsAxis One s u
+even-axis s name lo hi vmax amax behind u h =
+    let is = axis_added-is s name (lo ∷ hi ∷ vmax ∷ amax ∷ amax ∷ []) behind u h in
+    let even : is.0.dmax ≡ is.0.amax = limits-even lo hi vmax amax is.0 is.1 in
+    let P : Limits → Type 0 = λ k. k.dmax ≡ k.amax in
+    record { added = is.2.added; axes = is.2.axes; braking = λ one. subst P (sym is.2.limits) even }
+
+other-axis : (s : Setup) (name : List ℕ) (limits behind : List (List ℕ)) (u : Setup) → axis_added s name limits behind ≡ Ok u → AddsAxis Two s u
+other-axis s name limits behind u h =
+    let is = axis_added-is s name limits behind u h in
+    record { added = is.2.added; axes = is.2.axes; braking = λ one. absurd (cc) }
+
+pub axis-adds : (version : TraceVersion) (s : Setup) (words : List (List ℕ)) (u : Setup) → axis_meaning version s words ≡ Ok u → AddsAxis version s u
+unfolding axis_meaning
+axis-adds One s (name ∷ lo ∷ hi ∷ vmax ∷ amax ∷ behind) u h = even-axis s name lo hi vmax amax behind u h
+axis-adds Two s (name ∷ lo ∷ hi ∷ vmax ∷ amax ∷ dmax ∷ behind) u h = other-axis s name (lo ∷ hi ∷ vmax ∷ amax ∷ dmax ∷ []) behind u h
+axis-adds version s _ u h = absurd (cc)
+
+-- ---- drives
+
+pub drive-is : (s : Setup) (words : List (List ℕ)) (d : ℕ × DriveDef) → drive_meaning s words ≡ Ok d → IsDrive d.1
+unfolding drive_meaning
+drive-is s [] d h = absurd (cc)
+drive-is s (name ∷ []) d h = absurd (cc)
+drive-is s (name ∷ lag ∷ faults) d h =
+    let axis = bind_ok (axis_named s name) _ d h in
+    let z = bind_ok (number lag) _ d axis.2 in
+    let zs = bind_ok (each_of number faults) _ d z.2 in
+    let few = bind_ok (in_range 0 MOST_LAG z.0) _ d zs.2 in
+    let steps = bind_ok (each_of (in_range 1 MOST_STEPS) zs.0) _ d few.2 in
+    let rising = bind_ok (broken_unless (rise_above 0 steps.0) OUT_OF_RANGE) _ d steps.2 in
+    let room = bind_ok (broken_unless (nat_le (length steps.0) MOST_FAULTS) TOO_MANY) _ d rising.2 in
+    let t : ℕ × DriveDef = (axis.0, record { lag = few.0; faults = steps.0 }) in
+    let is : t ≡ d = ok_is (Ok t) t d refl room.2 in
+    let P : ℕ × DriveDef → Type 0 = λ q. IsDrive q.1 in
+    subst P is (record {
+      lag = (in_range-within 0 MOST_LAG z.0 few.0 few.1).below;
+      few = leb-true _ _ (holds (nat_le (length steps.0) MOST_FAULTS) TOO_MANY room.0 room.1);
+      rising = holds (rise_above 0 steps.0) OUT_OF_RANGE rising.0 rising.1;
+    })
+
+-- ---- events
+
+pub cycle-line : (s : Setup) (words : List (List ℕ)) (l : BenchLine) → cycle_meaning words ≡ Ok l → IsLineOf s l
+unfolding cycle_meaning
+cycle-line s [] l h =
+    let is : Cycles 1 ≡ l = ok_is (Ok (Cycles 1)) (Cycles 1) l refl h in
+    subst (λ q. IsLineOf s q) is (lit≤ tt, lit≤ tt)
+cycle-line s (count ∷ []) l h =
+    let z = bind_ok (number count) _ l h in
+    let n = bind_ok (in_range 1 MOST_CYCLES z.0) _ l z.2 in
+    let within = in_range-within 1 MOST_CYCLES z.0 n.0 n.1 in
+    subst (λ q. IsLineOf s q) (ok_is (Ok (Cycles n.0)) (Cycles n.0) l refl n.2) (within.above, within.below)
+cycle-line s (count ∷ other ∷ more) l h = absurd (cc)
+
+task-within : (s : Setup) (name : List ℕ) (n : ℕ) → task_at s name ≡ Some n → n < length s.tasks
+unfolding task_at
+task-within s name n h = position-within _ s.tasks n h
+
+pub end-line : (s : Setup) (words : List (List ℕ)) (l : BenchLine) → end_meaning s words ≡ Ok l → IsLineOf s l
+unfolding end_meaning
+end-line s [] l h = absurd (cc)
+end-line s (name ∷ []) l h =
+    let t = bind_ok (task_named s name) _ l h in
+    subst (λ q. IsLineOf s q) (ok_is (Ok (End t.0)) (End t.0) l refl t.2) (task-within s name t.0 (found (task_at s name) WRONG_NAME t.0 t.1))
+end-line s (name ∷ other ∷ more) l h = absurd (cc)
