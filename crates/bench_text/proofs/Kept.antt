@@ -3,18 +3,20 @@ use Rattle.std.proofs.Common.{◌≡◌, ℕ, ◌+◌, ◌≤◌, zero, suc, Boo
 use Rattle.std.specs.Prelude.{◌&&◌, ◌==◌, cond, nat_le, not, slice_set}
 use Rattle.std.specs.List.{AllByRecursion}
 use Rattle.std.specs.Option.{ok_or}
-use Rattle.std.proofs.lemmas.Bool.{and_parts, cases_Bool, leb-true}
+use Rattle.std.proofs.lemmas.Bool.{cases_Bool, leb-true}
+use Rattle.std.proofs.lemmas.List.{length-set}
+use Rattle.std.proofs.lemmas.List.Elements.{All-from_recursion}
 use Rattle.axis_state.specs.declared.definition.AxisDef.{AxisDef}
 use Rattle.line_text.specs.Lines.{lines_of}
 use Rattle.line_text.specs.Reading.{◌>>=◌, Meaning, at_line, line_meaning, lines_meaning, text_meaning}
 use Rattle.line_text.specs.Words.{is_clean, words_of}
 use Rattle.line_text.specs.declared.reader.LineRefused.{LineRefused}
 use Rattle.motion_history.specs.Faults.{whole_fault}
-use Rattle.motion_history.specs.Setup.{Setup}
+use Rattle.motion_history.specs.Setup.{IsSetup, Setup}
 use Rattle.motion_history.specs.declared.drives.DriveDef.{DriveDef}
 use Rattle.motion_history.specs.declared.refused.TraceVersion.{TraceVersion}
 use Rattle.motion_history.specs.declared.refused.TraceVersion.TheVariants.{One, Two}
-use Rattle.bench_text.specs.BenchState.{BrakesAsItSpeedsUp, IsDrive, IsLineOf}
+use Rattle.bench_text.specs.BenchState.{BrakesAsItSpeedsUp, IsBench, IsDrive, IsLineOf}
 use Rattle.bench_text.specs.Calls.{call_meaning}
 use Rattle.bench_text.specs.Drives.{drive_meaning, plain_drive}
 use Rattle.bench_text.specs.Events.{cycle_meaning, end_meaning}
@@ -45,11 +47,6 @@ all-set : {A : Type 0} (P : A → Type 0) (xs : List A) (i : ℕ) (x : A) → Al
 all-set P [] i x h p = h
 all-set P (y ∷ ys) zero x h p = (p, h.1)
 all-set P (y ∷ ys) (suc i) x h p = (h.0, all-set P ys i x h.1 p)
-
-length-set : {A : Type 0} (xs : List A) (i : ℕ) (x : A) → length (slice_set xs i x) ≡ length xs
-length-set [] i x = refl
-length-set (y ∷ ys) zero x = refl
-length-set (y ∷ ys) (suc i) x = ap suc (length-set ys i x)
 
 length-push : {A : Type 0} (xs : List A) (x : A) → length (xs ++ x ∷ []) ≡ length xs + 1
 length-push [] x = refl
@@ -287,3 +284,14 @@ opening-kept = record {
 pub text-kept : AreSmall → (s t : SoFar) (text : List ℕ) → s ≡ opening → text_meaning meaning s text ≡ Ok t → IsSoFar t
 unfolding text_meaning
 text-kept small s t text is h = lines-kept small 0 s t (lines_of text) (rw is opening-kept) h
+
+-- a bench at its end is whole
+pub bench-whole : (s : SoFar) (config : Setup) (drives : List DriveDef) → IsSoFar s → config ≡ s.setup → IsSetup config → drives ≡ s.drives →
+    IsBench (record { version = s.version; config = config; drives = drives; lines = s.lines })
+bench-whole s config drives k is setup same = record {
+  setup = setup;
+  each = ap length same ∙ k.each ∙ ap (λ (u : Setup). length u.axes) (sym is);
+  drives = rw same (All-from_recursion IsDrive s.drives k.drives);
+  lines = All-from_recursion (IsLineOf config) s.lines (rw is k.lines);
+  braking = λ one. All-from_recursion BrakesAsItSpeedsUp config.axes (rw is (k.braking one));
+}
