@@ -2,7 +2,6 @@
 use Rattle.std.specs.Prelude.{◌≡◌, refl, ℕ, Option, Some, None, Result, Ok, Err, List, map, IfOk}
 use Rattle.std.specs.declared.alloc.AllocError.{AllocError}
 use Rattle.std.proofs.Common.{Vec, Global, ◌∙◌, sym, ap, subst}
-use Rattle.bench_text.specs.Answers.{not_the_form}
 use Rattle.bench_text.specs.BenchState.{BenchState}
 use Rattle.cia402_machine.specs.declared.drive.DriveIn.{DriveIn}
 use Rattle.cia402_machine.specs.declared.drive.DriveState.TheVariants.{OperationEnabled}
@@ -53,16 +52,14 @@ same-plan old new p q s e w = let P : Plan → Type 0 = λ x. EndsBy old new x s
 pub same-text : (old new : Output) (x y : List ℕ) (r : Result (Unit {0}) TraceFault) → x ≡ y → Writes old new x r → Writes old new y r
 same-text old new x y r e w = let P : List ℕ → Type 0 = λ t. Writes old new t r in subst P e w
 
--- why a text is refused
-pub refused-why : (reading : Option BenchState) (f : TextFault) (r : TextRefused) → f ≡ Refused r → ReadsBy reading (Err f) → (reading ≡ None) × (r ≡ not_the_form)
-refused-why reading f r e why = let P : TextFault → Type 0 = λ x. ReadsBy reading (Err x) in subst P e why
+-- a text that is refused has this plan
+pub refused-plan : (name text : List ℕ) (reading : Result BenchState TextRefused) (r : TextRefused) → reading ≡ Err r →
+    record { status = status.TextRefused 1 r.place r.rule; text = refused_line name r } ≡ plan_of_reading name text reading
+refused-plan name text reading r e = sym (ap (plan_of_reading name text) e)
 
--- a text that is refused has no reading
-pub refused-plan : (name : List ℕ) (reading : Option BenchState) (r : TextRefused) → reading ≡ None → r ≡ not_the_form →
-    record { status = status.TextRefused 1 r.place r.rule; text = refused_line name r } ≡ plan_of_reading name reading
-refused-plan name reading r e n =
-    let plan : TextRefused → Plan = λ x. record { status = status.TextRefused 1 x.place x.rule; text = refused_line name x } in
-    ap plan n ∙ sym (ap (plan_of_reading name) e)
+-- why a text is refused
+pub refused-why : (reading : Result BenchState TextRefused) (f : TextFault) (r : TextRefused) → f ≡ Refused r → ReadsBy reading (Err f) → reading ≡ Err r
+refused-why reading f r e why = let P : TextFault → Type 0 = λ x. ReadsBy reading (Err x) in subst P e why
 
 -- what the drives took at the end
 pub drives-are : (b : BenchState) (k : KernelState) (shown answers : List DriveIn) (drives : List DriveEndRow) (cycles : ℕ) →
@@ -82,19 +79,23 @@ trace-is b s k es answers drives config e r d =
     λ t. trace_text Bench (config t) (history t) (d t)
 
 -- a run whose trace was written is legal
-pub runs-written : (reading : Option BenchState) (bench : BenchState) (written : Result (Unit {0}) TraceFault) (s : Status) → reading ≡ Some bench →
-    s ≡ status_by status.Ok written → IfOk written (λ u. IsLegalRun bench) → RunsBy reading s
-runs-written reading bench (Ok u) s r e legal = λ b h ok. let same : bench ≡ b = cc in subst IsLegalRun same legal
-runs-written reading bench (Err fault.WriteFault) s r e legal = λ b h ok. absurd (cc)
-runs-written reading bench (Err fault.OutOfMemory) s r e legal = λ b h ok. absurd (cc)
+pub runs-written : (bench : BenchState) (written : Result (Unit {0}) TraceFault) (s : Status) →
+    s ≡ status_by status.Ok written → IfOk written (λ u. IsLegalRun bench) → RunsBy (λ b. b ≡ bench) s
+runs-written bench (Ok u) s e legal = λ b h ok. subst IsLegalRun (sym h) legal
+runs-written bench (Err fault.WriteFault) s e legal = λ b h ok. absurd (cc)
+runs-written bench (Err fault.OutOfMemory) s e legal = λ b h ok. absurd (cc)
 
--- what is no bench has no run
-pub runs-none : (reading : Option BenchState) (s : Status) → reading ≡ None → RunsBy reading s
-runs-none reading s r = λ b h ok. absurd (cc)
+-- what is read is the one bench
+pub runs-read : (reading : Result BenchState TextRefused) (bench : BenchState) (s : Status) → reading ≡ Ok bench → RunsBy (λ b. b ≡ bench) s → RunsBy (λ b. reading ≡ Ok b) s
+runs-read reading bench s r runs = λ b h ok. let same : b ≡ bench = let e : Ok b ≡ Ok bench = sym h ∙ r in cc in runs b same ok
 
--- where memory ran out nothing is said of the run
-pub runs-early : (reading : Option BenchState) (s : Status) → s ≡ status.OutOfMemory → RunsBy reading s
-runs-early reading s e = λ b h ok. absurd (cc)
+-- a text that is refused has no run
+pub runs-none : (reading : Result BenchState TextRefused) (r : TextRefused) (s : Status) → reading ≡ Err r → RunsBy (λ b. reading ≡ Ok b) s
+runs-none reading r s e = λ b h ok. let bad : Ok b ≡ Err r = sym h ∙ e in absurd (cc)
+
+-- where the status is another nothing is said of the run
+pub runs-other : (IsRead : BenchState → Type 0) (s : Status) → (s ≡ status.Ok → ⊥) → RunsBy IsRead s
+runs-other IsRead s e = λ b h ok. absurd (e ok)
 
 whatever : (written : Result (Unit {0}) TraceFault) (P : Type 0) → P → IfOk written (λ u. P)
 whatever (Ok u) P p = p

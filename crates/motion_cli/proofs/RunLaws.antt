@@ -8,8 +8,8 @@ use Rattle.std.proofs.lemmas.List.Sums.{sum_by-cons}
 use Rattle.std.proofs.lemmas.Simd.{map-map}
 use Rattle.axis_state.specs.declared.definition.AxisDef.{AxisDef}
 use Rattle.axis_state.specs.declared.definition.AxisRow.{AxisRow}
-use Rattle.bench_text.specs.BenchState as bench
-use Rattle.bench_text.specs.BenchState.{entries_of, cycles_of_lines}
+use Rattle.motion_cli.specs.Ready as bench
+use Rattle.motion_cli.specs.Ready.{entries_of, cycles_of_lines}
 use Rattle.bench_text.specs.declared.bench.BenchLine.{BenchLine}
 use Rattle.bench_text.specs.declared.bench.BenchLine.TheVariants.{Call, Cycles, End}
 use Rattle.cia402_machine.specs.declared.drive.DriveIn.{DriveIn}

@@ -1,10 +1,10 @@
 -- What the program writes, and the status that it ends with.
-use Rattle.std.specs.Prelude.{◌≡◌, ℕ, ◌^◌, ◌≤◌, ◌⊎◌, codes, decimal, Option, Some, None, Result, Ok, Err, List, [], ◌∷◌, ◌++◌, length}
+use Rattle.std.specs.Prelude.{◌≡◌, ℕ, ◌^◌, ◌≤◌, ◌⊎◌, codes, decimal, if◌then◌else◌, Option, Some, None, Result, Ok, Err, List, [], ◌∷◌, ◌++◌, length}
 use Rattle.std.proofs.Common.{Vec, Global}
 use Rattle.std.specs.declared.alloc.AllocError.{AllocError}
-use Rattle.bench_text.specs.Answers.{not_the_form}
 use Rattle.bench_text.specs.BenchState.{BenchState}
 use Rattle.bench_text.specs.Reading.{bench_of}
+use Rattle.line_text.specs.Lines.{lines_of}
 use Rattle.motion_history.specs.Columns.{KeepTheirLimits}
 use Rattle.motion_history.specs.declared.refused.TextRefused.{TextRefused}
 use Rattle.motion_kernel.specs.Machine.{IsLegal}
@@ -14,6 +14,7 @@ use Rattle.trace_text.specs.Writes.{Output, Writes}
 use Rattle.trace_text.specs.declared.write.Command.TheVariants.{Bench}
 use Rattle.trace_text.specs.declared.write.TraceFault.{TraceFault}
 use Rattle.trace_text.specs.declared.write.TraceFault.TheVariants as fault
+use Rattle.motion_cli.specs.Ready.{is_ready, more_line}
 use Rattle.motion_cli.specs.Run.{run_of, drives_of}
 use Rattle.motion_cli.specs.declared.status.Status.{Status}
 use Rattle.motion_cli.specs.declared.status.Status.TheVariants as status
@@ -47,12 +48,28 @@ refused_line name r = codes "refused " ++ name ++ codes " " ++ decimal r.place +
 abbrev pub bench_trace : BenchState → List ℕ
 bench_trace b = trace_text Bench b.config (run_of b).history (drives_of (run_of b))
 
--- what a reading of the file leads to. This project's profile
-abbrev pub plan_of_reading : List ℕ → Option BenchState → Plan
-plan_of_reading name (Some b) = record { status = status.Ok; text = bench_trace b }
-plan_of_reading name None = record {
-  status = status.TextRefused 1 not_the_form.place not_the_form.rule;
-  text = refused_line name not_the_form;
+-- the line that tells which line of a bench asks for more than the program does so far. This
+-- project's profile
+abbrev pub not_yet_line : List ℕ → ℕ → List ℕ
+not_yet_line name line = codes "not yet " ++ name ++ codes " " ++ decimal line ++ codes "\n"
+
+-- what a bench that the program doesn't run yet leads to. Interim
+abbrev pub not_yet_plan : List ℕ → List ℕ → Plan
+not_yet_plan name text =
+    let line = more_line 0 (lines_of text) in
+    record { status = status.NotYet line; text = not_yet_line name line }
+
+-- what a bench leads to: its trace, where the program runs it so far
+abbrev pub plan_of_bench : List ℕ → List ℕ → BenchState → Plan
+plan_of_bench name text b =
+    if is_ready b then record { status = status.Ok; text = bench_trace b } else not_yet_plan name text
+
+-- what a reading of the file's text leads to. This project's profile
+abbrev pub plan_of_reading : List ℕ → List ℕ → Result BenchState TextRefused → Plan
+plan_of_reading name text (Ok b) = plan_of_bench name text b
+plan_of_reading name text (Err r) = record {
+  status = status.TextRefused 1 r.place r.rule;
+  text = refused_line name r;
 }
 
 -- what a read of the file found
@@ -75,7 +92,7 @@ IsFound told rose name (Content bytes) = HasFile told name bytes × (length byte
 abbrev pub plan_of : List ℕ → Found → Plan
 plan_of name Unread = record { status = status.ReadFault 1; text = unread_line name }
 plan_of name Longer = record { status = status.TooLong 1; text = too_long_line name }
-plan_of name (Content bytes) = plan_of_reading name (bench_of bytes)
+plan_of name (Content bytes) = plan_of_reading name bytes (bench_of bytes)
 
 -- the run of a bench has a legal history, in which each axis keeps its limits in every row. This
 -- project's profile
@@ -83,15 +100,15 @@ pub record IsLegalRun (b : BenchState) : Type 0 where
   pub legal : IsLegal b.config (run_of b).history
   pub limits : KeepTheirLimits b.config (run_of b).history
 
--- the bench that was read, where there is one
-abbrev pub bench_in : Found → Option BenchState
-bench_in Unread = None
-bench_in Longer = None
-bench_in (Content bytes) = bench_of bytes
+-- the file's content has a bench as its reading
+abbrev pub IsBenchIn : Found → BenchState → Type 0
+IsBenchIn Unread b = ⊥
+IsBenchIn Longer b = ⊥
+IsBenchIn (Content bytes) b = bench_of bytes ≡ Ok b
 
 -- where the status is Ok, the run of the bench that was read is legal. This project's profile
-abbrev pub RunsBy : Option BenchState → Status → Type 0
-RunsBy reading s = (b : BenchState) → reading ≡ Some b → s ≡ status.Ok → IsLegalRun b
+abbrev pub RunsBy : (BenchState → Type 0) → Status → Type 0
+RunsBy IsRead s = (b : BenchState) → IsRead b → s ≡ status.Ok → IsLegalRun b
 
 -- the status by what became of the writing. This project's profile
 abbrev pub status_by : Status → Result (Unit {0}) TraceFault → Status
@@ -117,7 +134,7 @@ pub record EndsByFile (told : Option FileMap) (rose : Type 0) (name : List ℕ) 
   pub found : Found
   pub is_found : IsFound told rose name found
   pub ends : EndsBy old new (plan_of name found) s
-  pub runs : RunsBy (bench_in found) s
+  pub runs : RunsBy (IsBenchIn found) s
 
 -- how the program ends: words that are not `bench FILE` are told what is; else it is as the file
 -- leads to; or memory ran out. This project's profile

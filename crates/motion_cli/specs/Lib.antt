@@ -1,3 +1,4 @@
+pub mod Ready
 pub mod Drives
 pub mod Run
 pub mod Going

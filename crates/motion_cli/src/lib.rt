@@ -5,6 +5,7 @@
 mod drives;
 mod lines;
 mod program;
+mod ready;
 mod run;
 mod status;
 mod words;

@@ -4,13 +4,15 @@ ghost use Rattle.std.specs.Prelude.{◌≡◌, ◌≢◌, ◌⊎◌, Some, IfErr
 ghost use Rattle.std.specs.IoError.{error_kind};
 ghost use Rattle.motion_cli.specs.Args.{words_of};
 ghost use Rattle.motion_cli.specs.Asked as asked;
-ghost use Rattle.motion_cli.specs.Ends.{Ends, EndsBy, EndsEarly, RunsBy, IsLegalRun, Says, plan_of_reading, bench_trace, status_by, usage_plan};
+ghost use Rattle.motion_cli.specs.Ends.{Ends, EndsBy, EndsEarly, RunsBy, IsLegalRun, Says, plan_of_reading, bench_trace, not_yet_plan, plan_of_bench, status_by, usage_plan};
+ghost use Rattle.motion_cli.specs.Ready.{IsReady};
 ghost use Rattle.bench_text.specs.Reading.{bench_of};
 ghost use Rattle.outside.specs.Faults.{Rose};
 ghost use Rattle.trace_text.specs.Writes.{Writes};
 
 use crate::drives::end_rows;
-use crate::lines::{USAGE, named_line, refused_line};
+use crate::lines::{USAGE, named_line, not_yet_line, refused_line};
+use crate::ready::{is_ready, more_line};
 use crate::run::run;
 use crate::status::Status;
 use crate::words::{Words, bench_file, words_from};
@@ -134,13 +136,14 @@ fn bench<F: Files, K: Sink>(alloc: Global, name: &str, files: &mut F, out: &mut 
 
 // Runs the bench that a text is, and writes its trace.
 fn run_text<K: Sink>(alloc: Global, name: &str, text: &[u8], out: &mut K) -> Status
-    ensures runs { RunsBy (bench_of text.now) result }
+    ensures runs { RunsBy (λ b. bench_of text.now ≡ Ok b) result }
     ensures ends { EndsBy (record { count = K.count out.old; told = K.told out.old })
-        (record { count = K.count out.new; told = K.told out.new }) (plan_of_reading name.now (bench_of text.now)) result }
+        (record { count = K.count out.new; told = K.told out.new })
+        (plan_of_reading name.now text.now (bench_of text.now)) result }
 {
     parts_are_beginnings();
     match read_bench(alloc, text) {
-        Ok(bench) => status_of(write_run(alloc, &bench, out)),
+        Ok(bench) => run_bench(alloc, name, text, &bench, out),
         Err(TextFault::Refused(refused)) => say(
             refused_line(alloc, name, &refused),
             Status::TextRefused {
@@ -152,6 +155,38 @@ fn run_text<K: Sink>(alloc: Global, name: &str, text: &[u8], out: &mut K) -> Sta
         ),
         Err(TextFault::OutOfMemory) => Status::OutOfMemory,
     }
+}
+
+// Runs a bench and writes its trace, where the program runs it so far.
+fn run_bench<K: Sink>(alloc: Global, name: &str, text: &[u8], bench: &Bench, out: &mut K) -> Status
+    ensures runs { RunsBy (λ b. b ≡ bench.now) result }
+    ensures ends { EndsBy (record { count = K.count out.old; told = K.told out.old })
+        (record { count = K.count out.new; told = K.told out.new })
+        (plan_of_bench name.now text.now bench.now) result }
+{
+    if is_ready(bench) {
+        status_of(write_run(alloc, bench, out))
+    } else {
+        say_not_yet(alloc, name, text, out)
+    }
+}
+
+// Says which line of a bench asks for more than the program does so far.
+fn say_not_yet<K: Sink>(alloc: Global, name: &str, text: &[u8], out: &mut K) -> Status
+    ensures ends { EndsBy (record { count = K.count out.old; told = K.told out.old })
+        (record { count = K.count out.new; told = K.told out.new })
+        (not_yet_plan name.now text.now) result }
+    ensures other { result ≢ Status.Ok }
+{
+    parts_are_beginnings();
+    let Ok(line) = more_line(alloc, text) else {
+        return Status::OutOfMemory;
+    };
+    say(
+        not_yet_line(alloc, name, line),
+        Status::NotYet { line },
+        out,
+    )
 }
 
 // The status by what became of the writing of a trace.
@@ -167,6 +202,7 @@ fn status_of(written: Result<(), TraceFault>) -> Status
 
 // Runs a bench, and writes its trace.
 fn write_run<K: Sink>(alloc: Global, bench: &Bench, out: &mut K) -> Result<(), TraceFault>
+    requires { IsReady bench.now }
     ensures legal { IfOk result (λ u. IsLegalRun bench.now) }
     ensures writes { Writes (record { count = K.count out.old; told = K.told out.old })
         (record { count = K.count out.new; told = K.told out.new }) (bench_trace bench.now) result }

@@ -1,7 +1,7 @@
 // The run of a bench: its lines one after another on a kernel, with the drives in step.
 
 ghost use Rattle.std.specs.Prelude.{◌≡◌, ◌+◌, ◌<◌, ◌≤◌, ◌++◌, ◌∷◌, [], IfOk, length, All};
-ghost use Rattle.bench_text.specs.BenchState.{IsLineOf, entry_count, cycle_count, entries_of, cycles_of_lines};
+ghost use Rattle.motion_cli.specs.Ready.{IsReady, IsReadyLine, entry_count, cycle_count, entries_of, cycles_of_lines};
 ghost use Rattle.motion_history.specs.Entries.{call, cycles_of};
 ghost use Rattle.motion_history.specs.Ready.{IsReadyCall};
 ghost use Rattle.motion_kernel.specs.KernelState.{state_of};
@@ -73,7 +73,7 @@ fn make_call(kernel: &mut Kernel, instance: u16, inputs: &Inputs)
 // A line of a bench.
 #[tactic(auto, unfolding(crate::specs::Run::made))]
 fn make_line(kernel: &mut Kernel, answers: &mut [DriveIn], line: &BenchLine)
-    requires line { IsLineOf kernel.old.config line.now }
+    requires line { IsReadyLine kernel.old.config line.now }
     requires room { length kernel.old.history + entry_count line.now ≤ kernel.old.config.entries }
     requires cycles { cycles_of kernel.old.history + cycle_count line.now ≤ kernel.old.config.cycles }
     requires going { IsGoing kernel.old answers.old }
@@ -91,7 +91,7 @@ fn make_line(kernel: &mut Kernel, answers: &mut [DriveIn], line: &BenchLine)
 
 // The lines of a bench, one after another.
 fn make_all(kernel: &mut Kernel, answers: &mut [DriveIn], lines: &[BenchLine])
-    requires lines { All (IsLineOf kernel.old.config) lines.now }
+    requires lines { All (IsReadyLine kernel.old.config) lines.now }
     requires room { length kernel.old.history + entries_of lines.now ≤ kernel.old.config.entries }
     requires cycles { cycles_of kernel.old.history + cycles_of_lines lines.now ≤ kernel.old.config.cycles }
     requires going { IsGoing kernel.old answers.old }
@@ -109,6 +109,7 @@ fn make_all(kernel: &mut Kernel, answers: &mut [DriveIn], lines: &[BenchLine])
 /// The run of a bench: the kernel after all its lines, and what the drives answer then.
 #[tactic(auto, unfolding(crate::specs::Run::run_of))]
 pub fn run(alloc: Global, bench: &Bench) -> Result<(Kernel, Vec<DriveIn>), OutOfMemory>
+    requires { IsReady bench.now }
     ensures made { IfOk result (λ r. record { history = r.0.history; answers = r.1.items } ≡ spec.run_of bench.now) }
     ensures config { IfOk result (λ r. r.0.config ≡ bench.now.config) }
     ensures going { IfOk result (λ r. IsGoing r.0 r.1.items) }

@@ -121,6 +121,13 @@ impl DriveDefs {
         }
     }
 
+    /// The drives, in the order of their axes.
+    pub fn as_slice(&self) -> &[DriveDef]
+        ensures { result.now ≡ self.now }
+    {
+        self.defs.as_slice()
+    }
+
     /// How many drives there are.
     pub fn len(&self) -> u32
         ensures { result ≡ length self.now }

@@ -1,5 +1,5 @@
 use Rattle.std.proofs.Common.{◌≡◌, drop}
-use Rattle.bench_text.specs.BenchState.{entries_of, cycles_of_lines}
+use Rattle.motion_cli.specs.Ready.{entries_of, cycles_of_lines}
 use Rattle.motion_cli.specs.Run as spec
 use Rattle.motion_cli.proofs.RunLaws.{IsUnderWay, run_at}
 use Rattle.motion_cli.proofs.run.make_all.Given as goal
