@@ -65,7 +65,7 @@ call,M,1,0,0,0,0,0,aborting,,D,0
 drive,A,1,OperationEnabled,0,,,,,,,
 ";
 
-// The call accelerates by more than the axis may.
+// The change of step is less than an axis's may be.
 const AMAX_ONE: &[u8] = b"motion-bench 1
 limit 20 40
 axis X 0 50 10 1 1 0 ready
@@ -185,14 +185,14 @@ fn takes_the_arguments_of_the_process(rt: HostRuntime) -> Result<(), Fail> {
 fn tells_why_a_file_gives_no_trace(rt: HostRuntime) -> Result<(), Fail> {
     let refused = Status::TextRefused {
         word: 1,
-        place: 0,
+        place: 3,
         rule: Rule {
             letter: b'B',
-            number: 0,
+            number: 8,
         },
     };
     let cases: [(&str, &[u32], Status, &[u8]); 3] = [
-        ("r.bench", &[], refused, b"refused r.bench 0 B0\n"),
+        ("r.bench", &[], refused, b"refused r.bench 3 B8\n"),
         (
             "one_move",
             &[1],
@@ -213,6 +213,64 @@ fn tells_why_a_file_gives_no_trace(rt: HostRuntime) -> Result<(), Fail> {
             wanted
         );
         assert_eq!(rt; out.bytes(), line);
+    }
+    Ok(())
+}
+
+// What stands behind the name of a bench that the program doesn't run yet, and the line that is told.
+#[test]
+fn names_the_line_that_asks_for_more(rt: HostRuntime) -> Result<(), Fail> {
+    let cases: [(&[u8], u64, &[u8]); 8] = [
+        (
+            b"motion-bench 2\nlimit 9 9\naxis X 0 50 10 4 4 1 0 ready\ntask t\nblock M t MoveAbsolute X\ngo",
+            1,
+            b"not yet b 1\n",
+        ),
+        (
+            b"motion-bench 1\nlimit 9 9\naxis X 0 50 10 4 1 0\ntask t\nblock M t MoveAbsolute X\ngo",
+            3,
+            b"not yet b 3\n",
+        ),
+        (
+            b"motion-bench 1\nlimit 9 9\naxis X 0 50 10 4 1 0 ready\ndrive X 1\ntask t\nblock M t MoveAbsolute X\ngo",
+            4,
+            b"not yet b 4\n",
+        ),
+        (
+            b"motion-bench 1\nlimit 9 9\naxis X 0 50 10 4 1 0 ready\ntable 0:0 1:1\ntask t\nblock M t MoveAbsolute X\ngo",
+            4,
+            b"not yet b 4\n",
+        ),
+        (
+            b"motion-bench 1\nlimit 9 9\naxis X 0 50 10 4 1 0 ready\naxis Y 0 50 10 4 1 0 ready\ngroup G X Y\ntask t\nblock M t MoveAbsolute X\ngo",
+            5,
+            b"not yet b 5\n",
+        ),
+        (
+            b"motion-bench 1\nlimit 9 9\naxis X 0 50 10 4 1 0 ready\ntask t\nblock M t Halt X\ngo",
+            5,
+            b"not yet b 5\n",
+        ),
+        (
+            b"motion-bench 1\nlimit 9 9\naxis X 0 50 10 4 1 0 ready\ntask t\nblock M t MoveAbsolute X\ngo\ncall M on mode=aborting\ncall M on mode=buffered\ncycle",
+            8,
+            b"not yet b 8\n",
+        ),
+        (
+            b"motion-bench 1\nlimit 9 9\naxis X 0 50 10 4 1 0 ready\ntask t\nblock M t MoveAbsolute X\ngo\ncycle 10\n# no room\n",
+            8,
+            b"not yet b 8\n",
+        ),
+    ];
+    for (text, line, told) in cases {
+        let mut files = files(&rt, &[])?;
+        files.put("b", text)?;
+        let mut out = MemorySink::new(rt.alloc(), &[], u32::MAX)?;
+        assert_eq!(rt;
+            status(&rt, &["bench", "b"], &mut files, &mut out)?,
+            Status::NotYet { line }
+        );
+        assert_eq!(rt; out.bytes(), told);
     }
     Ok(())
 }

@@ -1,0 +1,221 @@
+// Benches that are read: their machines, drives and events.
+
+use super::{TOP, joined};
+use crate::{BenchLine, read_bench};
+use fb_outputs::{BlockKind, BufferMode, Inputs};
+use motion_history::TraceVersion;
+use std::test::Fail;
+
+// The inputs of a call with Execute true of which all are left out.
+const LEFT_OUT: Inputs = Inputs {
+    execute: true,
+    positions: [0; 6],
+    velocity: 0,
+    acceleration: 0,
+    deceleration: 0,
+    jerk: 0,
+    mode: BufferMode::Aborting,
+    master: 0,
+    numerator: 1,
+    denominator: 1,
+    table: 0,
+};
+
+// Lines of events behind the machine of eleven lines, and what they say.
+#[test]
+fn reads_events(rt: HostRuntime) -> Result<(), Fail> {
+    let call = |instance, inputs| BenchLine::Call { instance, inputs };
+    let cases: [(&[u8], BenchLine); 16] = [
+        (b"call M on", call(0, LEFT_OUT)),
+        (
+            b"call M off",
+            call(
+                0,
+                Inputs {
+                    execute: false,
+                    ..LEFT_OUT
+                },
+            ),
+        ),
+        (
+            b"call M on pos=20 vel=6 acc=2 dec=3 jerk=4 mode=buffered",
+            call(
+                0,
+                Inputs {
+                    positions: [20, 0, 0, 0, 0, 0],
+                    velocity: 6,
+                    acceleration: 2,
+                    deceleration: 3,
+                    jerk: 4,
+                    mode: BufferMode::Buffered,
+                    ..LEFT_OUT
+                },
+            ),
+        ),
+        (
+            b"\tcall  M\ron pos=-0005 # now\r",
+            call(
+                0,
+                Inputs {
+                    positions: [-5, 0, 0, 0, 0, 0],
+                    ..LEFT_OUT
+                },
+            ),
+        ),
+        (
+            b"call M on vel=1#acc=2",
+            call(
+                0,
+                Inputs {
+                    velocity: 1,
+                    ..LEFT_OUT
+                },
+            ),
+        ),
+        (
+            b"call M on dec=-1000000000000000000 mode=blendingHigh",
+            call(
+                0,
+                Inputs {
+                    deceleration: -1_000_000_000_000_000_000,
+                    mode: BufferMode::BlendingHigh,
+                    ..LEFT_OUT
+                },
+            ),
+        ),
+        (
+            b"call L on pos=30;-10 mode=blendingLow",
+            call(
+                1,
+                Inputs {
+                    positions: [30, -10, 0, 0, 0, 0],
+                    mode: BufferMode::BlendingLow,
+                    ..LEFT_OUT
+                },
+            ),
+        ),
+        (
+            b"call E on acc=1 dec=2 master=Y num=-3 den=0",
+            call(
+                2,
+                Inputs {
+                    acceleration: 1,
+                    deceleration: 2,
+                    master: 1,
+                    numerator: -3,
+                    denominator: 0,
+                    ..LEFT_OUT
+                },
+            ),
+        ),
+        (
+            b"call C on vel=1 mode=blendingPrevious master=X table=65535",
+            call(
+                3,
+                Inputs {
+                    velocity: 1,
+                    mode: BufferMode::BlendingPrevious,
+                    table: 65_535,
+                    ..LEFT_OUT
+                },
+            ),
+        ),
+        (
+            b"call C on mode=blendingNext",
+            call(
+                3,
+                Inputs {
+                    mode: BufferMode::BlendingNext,
+                    ..LEFT_OUT
+                },
+            ),
+        ),
+        (b"call C on mode=aborting table=-0", call(3, LEFT_OUT)),
+        (b"call P on", call(4, LEFT_OUT)),
+        (b"cycle", BenchLine::Cycles { count: 1 }),
+        (b"cycle 007", BenchLine::Cycles { count: 7 }),
+        (b"cycle 200000", BenchLine::Cycles { count: 200_000 }),
+        (b"end main", BenchLine::End { task: 0 }),
+    ];
+    for (line, wanted) in cases {
+        let text = joined(rt.alloc(), &[TOP, b"\r\n go # now\n", line])?;
+        let bench = read_bench(rt.alloc(), text.as_slice())
+            .ok()
+            .ok_or("a bench")?;
+        assert_eq!(rt; bench.lines(), [wanted].as_slice(), "{line:?}");
+    }
+    Ok(())
+}
+
+// The machine of eleven lines, with a drive and a cam table more.
+#[test]
+fn reads_a_machine(rt: HostRuntime) -> Result<(), Fail> {
+    let text = joined(
+        rt.alloc(),
+        &[TOP, b"drive Y 64 1 2 4294967295\ntable 0:0 10:-5\ngo"],
+    )?;
+    let bench = read_bench(rt.alloc(), text.as_slice())
+        .ok()
+        .ok_or("a bench")?;
+    let config = bench.config();
+    assert_eq!(rt; bench.version(), TraceVersion::One);
+    assert_eq!(rt; config.cycles(), 20);
+    assert_eq!(rt; config.entries(), 40);
+    let [x, y] = config.axes() else {
+        assert!(rt; false, "two axes");
+        return Ok(());
+    };
+    assert_eq!(rt; x.name.bytes(), b"X".as_slice());
+    assert!(rt; x.ready);
+    assert!(rt; !y.ready);
+    assert_eq!(rt; y.limits.dmax, 4);
+    let [group] = config.groups() else {
+        assert!(rt; false, "one group");
+        return Ok(());
+    };
+    assert_eq!(rt; group.members(), [0u8, 1].as_slice());
+    let [table] = config.tables() else {
+        assert!(rt; false, "one table");
+        return Ok(());
+    };
+    assert_eq!(rt; table.points(), [(0i64, 0i64), (10, -5)].as_slice());
+    assert_eq!(rt; config.tasks().len(), 1);
+    let [_, line, gear, ..] = config.blocks() else {
+        assert!(rt; false, "five blocks");
+        return Ok(());
+    };
+    assert_eq!(rt; line.kind, BlockKind::MoveLinearAbsolute);
+    assert_eq!(rt; line.object, 0);
+    assert_eq!(rt; gear.object, 1);
+    let [plain, stated] = bench.drives().as_slice() else {
+        assert!(rt; false, "two drives");
+        return Ok(());
+    };
+    assert_eq!(rt; plain.lag, 0);
+    assert_eq!(rt; plain.faults.len(), 0);
+    assert_eq!(rt; stated.lag, 64);
+    assert_eq!(rt;
+        stated.faults.as_slice(),
+        [1u32, 2, 4_294_967_295].as_slice()
+    );
+    assert!(rt; bench.lines().is_empty());
+    Ok(())
+}
+
+// Version 2 has a braking limit; the limits may stand behind the blocks.
+#[test]
+fn reads_the_braking_limit(rt: HostRuntime) -> Result<(), Fail> {
+    let text: &[u8] =
+        b"motion-bench 2\naxis X 0 50 10 4 8 1 0 ready\naxis Y 0 50 10 4 4 1 0\ntask t\nblock M t Halt X\nlimit 1 1\ngo\n";
+    let bench = read_bench(rt.alloc(), text).ok().ok_or("a bench")?;
+    assert_eq!(rt; bench.version(), TraceVersion::Two);
+    let [x, y] = bench.config().axes() else {
+        assert!(rt; false, "two axes");
+        return Ok(());
+    };
+    assert_eq!(rt; x.limits.dmax, 8);
+    assert!(rt; x.ready);
+    assert_eq!(rt; y.limits.dmax, 4);
+    assert!(rt; !y.ready);
+    Ok(())
+}
