@@ -17,6 +17,18 @@ GroupTransition state MemberError next = ((state ≡ GroupStandby) ⊎ (state �
 GroupTransition state ResetAllStandstill next = (state ≡ GroupErrorStop) × (next ≡ GroupStandby)
 GroupTransition state ResetElse next = (state ≡ GroupErrorStop) × (next ≡ GroupDisabled)
 
+-- the state to which an event leads, from each state in which it may come. PLCopen Motion Control Part 4, the state diagram
+abbrev pub next_of : GroupEvent → GroupState
+next_of Enable = GroupStandby
+next_of Disable = GroupDisabled
+next_of MoveAdmitted = GroupMoving
+next_of LastDone = GroupStandby
+next_of StopAdmitted = GroupStopping
+next_of StopReleased = GroupStandby
+next_of MemberError = GroupErrorStop
+next_of ResetAllStandstill = GroupStandby
+next_of ResetElse = GroupDisabled
+
 -- an event may come in a state: it leads somewhere. PLCopen Motion Control Part 4, the state diagram
 abbrev pub IsFrom : GroupState → GroupEvent → Type 0
 IsFrom state event = (next : GroupState) × GroupTransition state event next

@@ -1,7 +1,7 @@
 // The group state diagram: what changes the state of a group, and to which state.
 
 ghost use Rattle.std.specs.Prelude.{◌≡◌};
-ghost use Rattle.group_state.specs.Diagram.{GroupTransition, IsFrom};
+ghost use Rattle.group_state.specs.Diagram.{GroupTransition, IsFrom, next_of};
 ghost use Rattle.group_state.specs.declared.state.GroupState.{GroupState};
 
 use crate::state::GroupState;
@@ -32,6 +32,7 @@ pub enum GroupEvent {
 /// The state of a group after an event that may come in its state.
 pub fn group_next(state: GroupState, event: GroupEvent) -> GroupState
     requires { IsFrom state event }
+    ensures value { result ≡ next_of event }
     ensures transition { GroupTransition state event result }
     ensures only { (next : GroupState) → GroupTransition state event next → next ≡ result }
 {

@@ -1,0 +1,15 @@
+pub mod Admitting
+pub mod Asking
+pub mod Calls
+pub mod Cores
+pub mod Cycles
+pub mod GroupKept
+pub mod Kinds
+pub mod Lines
+pub mod Looks
+pub mod Refusals
+pub mod Seen
+pub mod States
+pub mod Stepping
+pub mod Tracks
+pub mod blocks

@@ -1,0 +1,49 @@
+-- In which state a group and its axes are (PLCopen Motion Control Part 4 and Part 1, the state diagrams).
+use Rattle.std.specs.Prelude.{Bool, true, false, ◌||◌, List, [], ◌∷◌}
+use Rattle.axis_state.specs.declared.state.AxisState.{AxisState}
+use Rattle.axis_state.specs.declared.state.AxisState.TheVariants as axis
+use Rattle.group_state.specs.declared.state.GroupState.{GroupState}
+use Rattle.group_state.specs.declared.state.GroupState.TheVariants as state
+
+-- whether a group is in GroupStopping
+abbrev pub is_stopping : GroupState → Bool
+is_stopping state.GroupStopping = true
+is_stopping s = false
+
+-- whether it is in GroupErrorStop
+abbrev pub is_error_stop : GroupState → Bool
+is_error_stop state.GroupErrorStop = true
+is_error_stop s = false
+
+-- whether an error of a member, or its Power with Enable false, stops the group
+abbrev pub may_fail : GroupState → Bool
+may_fail state.GroupStandby = true
+may_fail state.GroupMoving = true
+may_fail state.GroupStopping = true
+may_fail s = false
+
+-- whether an axis is in the state named
+abbrev pub is_disabled : AxisState → Bool
+is_disabled axis.Disabled = true
+is_disabled s = false
+
+abbrev pub is_in_error_stop : AxisState → Bool
+is_in_error_stop axis.ErrorStop = true
+is_in_error_stop s = false
+
+abbrev pub is_in_stopping : AxisState → Bool
+is_in_stopping axis.Stopping = true
+is_in_stopping s = false
+
+abbrev pub is_homing : AxisState → Bool
+is_homing axis.Homing = true
+is_homing s = false
+
+abbrev pub is_moved : AxisState → Bool
+is_moved axis.Standstill = false
+is_moved s = true
+
+-- whether any axis is so
+abbrev pub any_axis : (AxisState → Bool) → List AxisState → Bool
+any_axis test [] = false
+any_axis test (s ∷ ss) = test s || any_axis test ss

@@ -1,0 +1,4 @@
+pub mod Enable
+pub mod Halts
+pub mod Line
+pub mod Reset

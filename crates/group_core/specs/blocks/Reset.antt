@@ -1,0 +1,47 @@
+-- MC_GroupReset: it is pending until a cycle in which it may be done (PLCopen Motion Control Part 4).
+use Rattle.std.specs.Prelude.{Bool, true, false, ◌&&◌, not, if◌then◌else◌, Option, Some, None, is_some, List, []}
+use Rattle.std.specs.List.{list_any}
+use Rattle.axis_state.specs.declared.state.AxisState.{AxisState}
+use Rattle.command_pool.specs.Waiting.{told_to}
+use Rattle.command_pool.specs.declared.ending.Finish.TheVariants as finish
+use Rattle.command_pool.specs.declared.notes.Note.{Note}
+use Rattle.command_pool.specs.declared.wanted.Wanted.{Wanted}
+use Rattle.group_state.specs.Diagram.{next_of}
+use Rattle.group_state.specs.declared.diagram.GroupEvent.TheVariants.{ResetAllStandstill, ResetElse}
+use Rattle.group_state.specs.declared.state.GroupState.{GroupState}
+use Rattle.group_state.specs.declared.state.GroupState.TheVariants as state
+use Rattle.group_core.specs.States.{is_error_stop, is_moved}
+use Rattle.group_core.specs.declared.group.Group.{Group}
+use Rattle.group_core.specs.declared.group.PendingReset.{PendingReset}
+
+-- a GroupReset is pending
+abbrev pub reset_pending : Wanted → Group → Group
+reset_pending w g = record g { reset = Some (record { owner = w.owner }) }
+
+-- what is told of a pending GroupReset that another one replaces
+abbrev pub replaced_note : Option PendingReset → List Note
+replaced_note None = []
+replaced_note (Some p) = told_to p.owner finish.Aborted
+
+-- whether a pending GroupReset is done: in GroupErrorStop once the group is on no path, else at once. This project's profile
+abbrev pub may_reset : Bool → Group → Bool
+may_reset on_path g = not (is_error_stop g.state && on_path)
+
+-- the state after a GroupReset: from GroupErrorStop to GroupStandby where every axis is in Standstill, else to GroupDisabled
+abbrev pub reset_from : Bool → GroupState → GroupState
+reset_from false state.GroupErrorStop = next_of ResetAllStandstill
+reset_from true state.GroupErrorStop = next_of ResetElse
+reset_from moved s = s
+
+-- the group after a GroupReset, with its axes in these states
+abbrev pub after_reset : List AxisState → Group → Group
+after_reset axes g = record g { state = reset_from (list_any is_moved axes) g.state; error = 0; reset = None }
+
+-- the group whose pending GroupReset is done where it may be, and what is told of it
+abbrev pub reset_by : Option PendingReset → List AxisState → Bool → Group → Group
+reset_by None axes on_path g = g
+reset_by (Some r) axes on_path g = if may_reset on_path g then after_reset axes g else g
+
+abbrev pub reset_notes : Option PendingReset → Bool → Group → List Note
+reset_notes None on_path g = []
+reset_notes (Some r) on_path g = if may_reset on_path g then told_to r.owner finish.Done else []

@@ -1,0 +1,84 @@
+// MC_GroupReset: it is pending until a cycle in which it may be done (PLCopen Motion Control Part 4).
+
+ghost use Rattle.std.specs.Prelude.{◌≡◌, ◌<◌, ◌≤◌, ◌++◌, length, take};
+ghost use Rattle.command_pool.specs.Waiting.{told_to};
+ghost use Rattle.group_core.specs.Cycles.{reset_where};
+ghost use Rattle.group_core.specs.blocks.Reset as spec;
+
+use crate::group::{Group, PendingReset};
+use crate::look::GroupLook;
+use crate::states::{is_error_stop, is_moved};
+use command_pool::{Finish, Note, Notes, Wanted};
+use group_state::{GroupEvent, GroupState, group_next};
+
+// Tells an owner, if there is one, how its GroupReset ended.
+fn tell(pending: &PendingReset, finish: Finish, notes: &mut Notes)
+    requires { length notes.old < 12 }
+    ensures { notes.new ≡ notes.old ++ told_to pending.now.owner finish }
+{
+    if let Some(owner) = pending.owner {
+        notes.add(Note { owner, finish });
+    }
+}
+
+/// A GroupReset is pending; one that it replaces is aborted.
+pub fn await_reset(wanted: &Wanted, group: &mut Group, notes: &mut Notes)
+    requires { length notes.old < 12 }
+    ensures group { group.new ≡ spec.reset_pending wanted.now group.old }
+    ensures notes { notes.new ≡ notes.old ++ spec.replaced_note group.old.reset }
+{
+    if let Some(pending) = &group.reset {
+        tell(pending, Finish::Aborted, notes);
+    }
+    group.reset = Some(PendingReset {
+        owner: wanted.owner,
+    });
+}
+
+// Whether a pending GroupReset is done, with the group on a path or not.
+fn may_reset(on_path: bool, group: &Group) -> bool
+    ensures { result ≡ spec.may_reset on_path group.now }
+{
+    !(is_error_stop(group.state) && on_path)
+}
+
+// The state after a GroupReset, where an axis is not in Standstill or none is.
+fn reset_from(moved: bool, state: GroupState) -> GroupState
+    ensures { result ≡ spec.reset_from moved state }
+{
+    match (moved, state) {
+        (false, GroupState::GroupErrorStop) => group_next(state, GroupEvent::ResetAllStandstill),
+        (true, GroupState::GroupErrorStop) => group_next(state, GroupEvent::ResetElse),
+        _ => state,
+    }
+}
+
+// The group after a GroupReset.
+fn finish_reset(members: &GroupLook, group: &mut Group)
+    requires { members.now.count ≤ 6 }
+    ensures { group.new ≡ spec.after_reset (take members.now.count members.now.states) group.old }
+{
+    let moved = members.states[..members.count as usize]
+        .iter()
+        .any(|state| is_moved(*state));
+    group.state = reset_from(moved, group.state);
+    group.error = 0;
+    group.reset = None;
+}
+
+/// A pending GroupReset is done where it may be.
+#[tactic(auto, unfolding(crate::specs::Cycles::reset_where))]
+pub fn reset(members: &GroupLook, on_path: bool, group: &mut Group, notes: &mut Notes)
+    requires count { members.now.count ≤ 6 }
+    requires room { length notes.old < 12 }
+    ensures group { group.new ≡ reset_where members.now on_path group.old }
+    ensures notes { notes.new ≡ notes.old ++ spec.reset_notes group.old.reset on_path group.old }
+{
+    let Some(pending) = group.reset else {
+        return;
+    };
+    if may_reset(on_path, group) {
+        finish_reset(members, group);
+        tell(&pending, Finish::Done, notes);
+    }
+}

@@ -1,0 +1,31 @@
+//! One group of the kernel: what its commands, a Power off of a member and each cycle make of it
+//! (PLCopen Motion Control Part 4).
+#![tactic(auto)]
+
+mod blocks;
+mod calls;
+mod cycles;
+mod group;
+mod kinds;
+mod look;
+mod moving;
+mod one_group;
+mod reason;
+mod refusing;
+mod states;
+mod taking_over;
+#[cfg(test)]
+mod tests;
+
+pub use axis_state::AxisState;
+pub use command_pool::{
+    BlockKind, BufferMode, CommandPool, Finish, Follow, Note, Notes, OutOfMemory, Rates, Refusal,
+    Wanted,
+};
+pub use group::{Group, GroupOnPath, Motion, PendingReset, Track};
+pub use group_state::{GroupRow, GroupState};
+pub use kin_core::Limits;
+pub use linear_path::{LinePath, Path};
+pub use look::{ActiveLook, GroupLook, GroupStep};
+pub use one_group::GroupCore;
+pub use reason::Reason;

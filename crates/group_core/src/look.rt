@@ -1,0 +1,39 @@
+// What a call, a cycle and the kernel look at.
+
+use axis_state::AxisState;
+use command_pool::Follow;
+use kin_core::Limits;
+
+/// What the members of a group are in a call or a cycle. Of each array the first `count` are of
+/// account, in the group's order; a setpoint behind them is 0.
+#[derive(Clone, Copy)]
+pub struct GroupLook {
+    /// How many axes the group has.
+    pub count: u8,
+    pub limits: [Limits; 6],
+    /// The current setpoints, in internal units.
+    pub setpoints: [i64; 6],
+    pub states: [AxisState; 6],
+    /// The number of the first member's error in this cycle, in the group's order, or 0.
+    pub error: u16,
+    /// The Execute of the instance that holds GroupStopping.
+    pub stop_held: bool,
+}
+
+/// What a cycle of a group asks of its axes.
+#[derive(Clone, Copy, Debug, PartialEq, Eq)]
+pub struct GroupStep {
+    /// Where each axis stands on the path in this cycle; its setpoint where there is no path.
+    pub places: [i64; 6],
+    /// Whether the axes on the path go to Standstill in this cycle.
+    pub ends: bool,
+}
+
+/// What is told of the active command.
+#[derive(Clone, Copy, Debug, PartialEq, Eq)]
+pub struct ActiveLook {
+    pub owner: Option<u16>,
+    pub follow: Follow,
+    /// Always false: no command of a group reaches a velocity, a gear or a cam.
+    pub reached: bool,
+}
