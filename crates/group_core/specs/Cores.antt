@@ -60,14 +60,14 @@ abbrev pub settled : GroupState → GroupState
 settled state.GroupMoving = next_of event.LastDone
 settled s = s
 
--- a group in this state leaves its path
-abbrev pub path_in : GroupState → Option OnPath → Option OnPath
-path_in state.GroupStandby p = None
-path_in s p = p
+-- and it leaves its path
+abbrev pub path_settled : GroupState → Option OnPath → Option OnPath
+path_settled state.GroupMoving p = None
+path_settled s p = p
 
 -- the group settles where no command waits
 abbrev pub settled_on : Core → Core
-settled_on c = record c { group = record c.group { state = settled c.group.state }; path = path_in (settled c.group.state) c.path }
+settled_on c = record c { group = record c.group { state = settled c.group.state }; path = path_settled c.group.state c.path }
 
 -- the first command that waits takes over, where the axes stand; without one the group settles
 abbrev pub taken_over : GroupLook → List ℤ → List Wanted → Core → Core

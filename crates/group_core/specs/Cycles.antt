@@ -8,7 +8,7 @@ use Rattle.group_state.specs.declared.state.GroupRow.{GroupRow}
 use Rattle.group_state.specs.declared.state.GroupState.{GroupState}
 use Rattle.group_state.specs.declared.state.GroupState.TheVariants as state
 use Rattle.kin_core.specs.Taken.{taken_step_of}
-use Rattle.group_core.specs.Cores.{Core, ended_by, failed, path_in, settled}
+use Rattle.group_core.specs.Cores.{Core, ended_by, failed}
 use Rattle.group_core.specs.Kinds.{ending_by, step_by}
 use Rattle.group_core.specs.Refusals.{states_in}
 use Rattle.group_core.specs.States.{is_error_stop, may_fail}

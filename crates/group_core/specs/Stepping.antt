@@ -1,14 +1,15 @@
 -- What a group asks before it takes a step along its path.
-use Rattle.std.specs.Prelude.{◌≡◌, ◌≤◌, ℕ, ℤ, pos, Option, Some, IfSome}
-use Rattle.linear_path.specs.Line.{longest_way_of}
-use Rattle.linear_path.specs.declared.line.LinePath.{LinePath}
+use Rattle.std.specs.Prelude.{◌≡◌, pos, Option, Some, None, IfSome}
 use Rattle.group_core.specs.GroupKept.{AreNumbers}
-use Rattle.group_core.specs.Tracks.{IsMotionKept}
-use Rattle.group_core.specs.declared.group.GroupOnPath.{GroupOnPath}
-use Rattle.group_core.specs.declared.group.Track.{Track}
+use Rattle.group_core.specs.Tracks.{IsMotionKept, OnPath, length_of}
+use Rattle.group_core.specs.declared.group.Group.{Group}
 
--- the path can be stopped and reaches to the end of the line, and the rates of the active command are in their ranges
-pub record MayStep (g : GroupOnPath LinePath) : Type 0 where
-  pub length : (t : Track LinePath) → g.track ≡ Some t → t.motion.limits.hi ≡ pos (longest_way_of t.path.count t.path.starts t.path.targets)
-  pub motion : (t : Track LinePath) → g.track ≡ Some t → IsMotionKept t.motion
-  pub active : IfSome g.group.active (λ w. AreNumbers w.kind w)
+-- the path, if there is one, can be stopped, and ends where its way does
+pub record IsStepping (p : OnPath) : Type 0 where
+  pub length : p.motion.limits.hi ≡ pos (length_of p.way)
+  pub motion : IsMotionKept p.motion
+
+-- a group may take a step along its path: that can be stopped, and the rates of the active command are in their ranges
+pub record MayStep (g : Group) (p : Option OnPath) : Type 0 where
+  pub path : IfSome p IsStepping
+  pub active : IfSome g.active (λ w. AreNumbers w.kind w)

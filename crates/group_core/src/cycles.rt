@@ -1,6 +1,6 @@
 // The order within a cycle of a group.
 
-ghost use Rattle.std.specs.Prelude.{◌≡◌, ◌<◌, ◌≤◌, [], length, slice_set, Option};
+ghost use Rattle.std.specs.Prelude.{◌≡◌, ◌<◌, ◌≤◌, [], length, slice_set, IfSome, Option};
 ghost use Rattle.command_pool.specs.Waiting.{queue_of};
 ghost use Rattle.group_core.specs.Cores.{core_in};
 ghost use Rattle.group_core.specs.Cycles as spec;
@@ -39,7 +39,8 @@ fn answer(error: u16, group: &mut Group, pool: &mut CommandPool, list: u8, notes
 // The step of a cycle along the path, if there is one: the axes take their places, and it is
 // answered how the active command ends by it.
 fn advance(on: &mut GroupOnPath<LinePath>, setpoints: &mut [i64; 6]) -> Option<Finish>
-    requires { MayStep on.old }
+    requires axes { IfSome (on_path on.old.track) (λ p. p.way.count ≤ 6) }
+    requires step { MayStep on.old.group (on_path on.old.track) }
     ensures group { on.new.group ≡ on.old.group }
     ensures path { on_path on.new.track ≡ spec.path_after on.old.group (on_path on.old.track) }
     ensures ending { result ≡ spec.ending_of on.old.group (on_path on.old.track) }

@@ -1,5 +1,8 @@
 // What a call, a cycle and the kernel look at.
 
+ghost use Rattle.std.specs.Prelude.{◌≡◌, ◌≤◌};
+ghost use Rattle.group_core.specs.Refusals as spec;
+
 use axis_state::AxisState;
 use command_pool::Follow;
 use kin_core::Limits;
@@ -36,4 +39,20 @@ pub struct ActiveLook {
     pub follow: Follow,
     /// Always false: no command of a group reaches a velocity, a gear or a cam.
     pub reached: bool,
+}
+
+/// The states of the axes.
+pub fn states_in(members: &GroupLook) -> &[AxisState]
+    requires { members.now.count ≤ 6 }
+    ensures { result.now ≡ spec.states_in members.now }
+{
+    &members.states[..members.count as usize]
+}
+
+/// The limits of the axes.
+pub fn limits_in(members: &GroupLook) -> &[Limits]
+    requires { members.now.count ≤ 6 }
+    ensures { result.now ≡ spec.limits_in members.now }
+{
+    &members.limits[..members.count as usize]
 }

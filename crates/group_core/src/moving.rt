@@ -8,7 +8,7 @@ ghost use Rattle.group_core.specs.GroupKept.{AreNumbers, IsDeceleration};
 ghost use Rattle.group_core.specs.Kinds as kinds;
 ghost use Rattle.group_core.specs.Tracks as spec;
 ghost use Rattle.group_core.specs.Tracks.{IsMotionKept, old_step_of, places_of};
-ghost use Rattle.kin_core.specs.Admissible.{AreLimits};
+ghost use Rattle.kin_core.specs.Admissible.{AreLimits, IsKept};
 ghost use Rattle.kin_core.specs.Taken.{taken_step_of};
 ghost use Rattle.motion_numbers.specs.Ranges.{IsStep, IsWay};
 
@@ -19,7 +19,7 @@ use crate::states::is_error_stop;
 use command_pool::{BlockKind, Finish, Rates, Wanted};
 use kin_core::{Limits, nearest_safe};
 use linear_path::Path;
-use motion_numbers::MOST_WAY;
+use motion_numbers::{MOST_STEP, MOST_WAY};
 use trapezoid_plan::{halt_step, move_step};
 
 // The step of the last cycle.
@@ -45,9 +45,22 @@ fn taken(motion: &Motion, step: i64) -> i64
     requires motion { IsMotionKept motion.now }
     requires step { unsigned_abs step ≤ 2 * MOST_WAY }
     ensures value { result ≡ taken_step_of motion.now.limits motion.now.previous motion.now.place step }
+    ensures kept { IsKept motion.now.limits motion.now.place (motion.now.place +ℤ result) }
     ensures small { IsStep result }
 {
     nearest_safe(&motion.limits, motion.previous, motion.place, step)
+}
+
+// A rate, cut to the greatest one.
+fn lesser(rate: i64, most: i64) -> i64
+    requires least { pos 1 ≤ℤ rate }
+    requires some { pos 1 ≤ℤ most }
+    requires in_range { most ≤ℤ pos MOST_STEP }
+    ensures value { result ≡ int_min rate most }
+    ensures least { pos 1 ≤ℤ result }
+    ensures most { result ≤ℤ pos MOST_STEP }
+{
+    rate.min(most)
 }
 
 // The rates of a command, cut to the limits of the path.
@@ -58,9 +71,9 @@ fn cut(limits: &Limits, rates: &Rates) -> Rates
     ensures rates { AreRates result }
 {
     Rates {
-        v: rates.v.min(limits.vmax),
-        a: rates.a.min(limits.amax),
-        d: rates.d.min(limits.dmax),
+        v: lesser(rates.v, limits.vmax),
+        a: lesser(rates.a, limits.amax),
+        d: lesser(rates.d, limits.dmax),
     }
 }
 
@@ -70,6 +83,7 @@ fn line_step(rates: &Rates, motion: &Motion) -> i64
     requires motion { IsMotionKept motion.now }
     requires rates { AreRates rates.now }
     ensures value { result ≡ spec.line_step_of rates.now motion.now }
+    ensures kept { IsKept motion.now.limits motion.now.place (motion.now.place +ℤ result) }
     ensures small { IsStep result }
 {
     let rates = cut(&motion.limits, rates);
@@ -85,9 +99,10 @@ fn braking_step(d: i64, motion: &Motion) -> i64
     requires motion { IsMotionKept motion.now }
     requires d { IsDeceleration d }
     ensures value { result ≡ spec.braking_step_of d motion.now }
+    ensures kept { IsKept motion.now.limits motion.now.place (motion.now.place +ℤ result) }
     ensures small { IsStep result }
 {
-    let d = d.min(motion.limits.dmax);
+    let d = lesser(d, motion.limits.dmax);
     taken(motion, halt_step(old_step(motion), d))
 }
 
@@ -96,6 +111,7 @@ fn step_by(wanted: &Wanted, motion: &Motion) -> i64
     requires motion { IsMotionKept motion.now }
     requires numbers { AreNumbers wanted.now.kind wanted.now }
     ensures value { result ≡ kinds.step_by wanted.now.kind wanted.now motion.now }
+    ensures kept { IsKept motion.now.limits motion.now.place (motion.now.place +ℤ result) }
     ensures small { IsStep result }
 {
     match wanted.kind {
@@ -118,7 +134,9 @@ fn ending_by(kind: BlockKind, motion: &Motion, step: i64) -> Option<Finish>
 fn move_by(step: i64, motion: &mut Motion)
     requires motion { IsMotionKept motion.old }
     requires step { IsStep step }
-    ensures { motion.new ≡ spec.moved_by step motion.old }
+    requires kept { IsKept motion.old.limits motion.old.place (motion.old.place +ℤ step) }
+    ensures after { motion.new ≡ spec.moved_by step motion.old }
+    ensures kept { IsMotionKept motion.new }
 {
     let place = motion.place + step;
     motion.previous = motion.place;
@@ -131,6 +149,8 @@ fn advance(group: &Group, motion: &mut Motion) -> Option<Finish>
     requires motion { IsMotionKept motion.old }
     requires active { IfSome group.now.active (λ w. AreNumbers w.kind w) }
     ensures motion { motion.new ≡ (cycles.advanced group.now motion.old).motion }
+    ensures limits { motion.new.limits ≡ motion.old.limits }
+    ensures kept { IsMotionKept motion.new }
     ensures ending { result ≡ (cycles.advanced group.now motion.old).ending }
 {
     if is_error_stop(group.state) {
@@ -150,6 +170,7 @@ fn advance(group: &Group, motion: &mut Motion) -> Option<Finish>
 }
 
 // Each axis of a path at its place on it, in the setpoints given.
+#[tactic(auto, unfolding(crate::specs::Tracks::places_of))]
 fn stand_on<P: Path>(path: &P, place: i64, setpoints: &mut [i64; 6])
     requires axes { P.count_of path.now ≤ 6 }
     requires from_the_start { pos 0 ≤ℤ place }

@@ -1,16 +1,14 @@
 // Why a command on a group is refused.
 
-ghost use Rattle.std.specs.Prelude.{◌≡◌, ◌≤◌, take, ◌<◌};
-ghost use Rattle.std.specs.List.{list_any};
+ghost use Rattle.std.specs.Prelude.{◌≡◌, ◌≤◌};
 ghost use Rattle.group_core.specs.Asking.{asked_of};
 ghost use Rattle.group_core.specs.Refusals as spec;
 
 use crate::group::Group;
 use crate::kinds::{may_come, tests_of};
-use crate::look::GroupLook;
+use crate::look::{GroupLook, states_in};
 use crate::reason::Reason;
-use crate::states::{is_disabled, is_homing, is_in_error_stop, is_in_stopping, is_moved};
-use axis_state::AxisState;
+use crate::states::{any_disabled, any_homing, any_in_error_stop, any_in_stopping, any_moved};
 use command_pool::{BufferMode, Wanted};
 use motion_numbers::{MOST_STEP, is_outside};
 
@@ -27,14 +25,6 @@ pub struct Asking<'a> {
     pub members: &'a GroupLook,
 }
 
-// The states of the axes of a group.
-fn states_in(members: &GroupLook) -> &[AxisState]
-    requires { members.now.count ≤ 6 }
-    ensures { result.now ≡ spec.states_in members.now }
-{
-    &members.states[..members.count as usize]
-}
-
 // Whether a rate of a command is outside its range.
 fn is_no_rate(rate: i64) -> bool
     ensures { result ≡ spec.is_no_rate rate }
@@ -43,6 +33,7 @@ fn is_no_rate(rate: i64) -> bool
 }
 
 // Whether a target of an axis of the group is outside its limits.
+#[tactic(auto, unfolding(crate::specs::Refusals::any_outside))]
 fn any_outside(members: &GroupLook, targets: &[i64; 6]) -> bool
     requires { members.now.count ≤ 6 }
     ensures { result ≡ spec.any_outside members.now.count members.now.limits targets.now }
@@ -84,21 +75,17 @@ fn holds(reason: Reason, asking: &Asking) -> bool
         ..
     } = *asking;
     match reason {
-        Reason::NotPowered => states_in(members).iter().any(|state| is_disabled(*state)),
-        Reason::InErrorStop => states_in(members)
-            .iter()
-            .any(|state| is_in_error_stop(*state)),
-        Reason::InStopping => states_in(members)
-            .iter()
-            .any(|state| is_in_stopping(*state)),
-        Reason::InHoming => states_in(members).iter().any(|state| is_homing(*state)),
+        Reason::NotPowered => any_disabled(states_in(members)),
+        Reason::InErrorStop => any_in_error_stop(states_in(members)),
+        Reason::InStopping => any_in_stopping(states_in(members)),
+        Reason::InHoming => any_homing(states_in(members)),
         Reason::BadVelocity => is_no_rate(wanted.rates.v),
         Reason::BadAcceleration => is_no_rate(wanted.rates.a),
         Reason::BadDeceleration => is_no_rate(wanted.rates.d),
         Reason::JerkRefused => asking.jerk != 0,
         Reason::TargetOutside => any_outside(members, &wanted.targets),
         Reason::QueueFull => is_queue_full(asking),
-        Reason::NotAtRest => states_in(members).iter().any(|state| is_moved(*state)),
+        Reason::NotAtRest => any_moved(states_in(members)),
         Reason::GroupStateRefuses => !may_come(wanted.kind, asking.group.state, asking.moves),
         Reason::BlendRefused => is_blending(wanted.mode),
         Reason::CircularRefused => true,

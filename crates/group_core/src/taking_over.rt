@@ -8,22 +8,20 @@ ghost use Rattle.group_core.specs.Cores as spec;
 ghost use Rattle.group_core.specs.Cores.{core_in, failed};
 ghost use Rattle.group_core.specs.Kinds as kinds;
 ghost use Rattle.group_core.specs.Lines.{MayBeginLine, MayTakeOver};
-ghost use Rattle.group_core.specs.Refusals.{limits_in};
+ghost use Rattle.group_core.specs.Refusals as refusals;
 ghost use Rattle.group_core.specs.Seen.{core_at, on_path};
 ghost use Rattle.group_core.specs.Tracks.{OnPath, beginning};
 ghost use Rattle.group_core.specs.blocks.Line.{way_to};
 ghost use Rattle.group_state.specs.Diagram.{IsFrom};
 ghost use Rattle.group_state.specs.declared.diagram.GroupEvent.TheVariants as event;
-ghost use Rattle.linear_path.specs.Path.{AreAxesLimits};
 
 use crate::blocks::halts::hold_by;
 use crate::group::{Group, GroupOnPath, Motion, Track};
 use crate::kinds::event_of;
-use crate::look::GroupLook;
+use crate::look::{GroupLook, limits_in};
 use buffer_modes::abort_all;
 use command_pool::{CommandPool, Finish, Notes, Wanted};
 use group_state::{GroupEvent, GroupState, group_next};
-use kin_core::Limits;
 use linear_path::{LinePath, path_limits};
 
 /// The active command ends so, and those that wait are aborted.
@@ -36,8 +34,9 @@ pub fn end_all(
 )
     requires list { list < length pool.old }
     requires room { length notes.old ≤ 3 }
-    ensures after { (p : Option OnPath) → core_in group.new p pool.new list notes.new
-        ≡ spec.all_ended finish (core_in group.old p pool.old list notes.old) }
+    ensures group { group.new ≡ record group.old { active = None } }
+    ensures waiting { queue_of pool.new list ≡ [] }
+    ensures notes { notes.new ≡ notes.old ++ end_notes finish (commands group.old.active pool.old list) }
     ensures others { pool.new ≡ slice_set pool.old list (queue_of pool.new list) }
 {
     abort_all(pool, list, &mut group.active, finish, notes);
@@ -69,26 +68,18 @@ pub fn begin(wanted: &Wanted, group: &mut Group)
     group.hold = hold_by(wanted.kind, wanted.owner);
 }
 
-// The limits of the axes.
-fn limits_of(members: &GroupLook) -> &[Limits]
-    requires { members.now.count ≤ 6 }
-    ensures { result.now ≡ limits_in members.now }
-{
-    &members.limits[..members.count as usize]
-}
-
 /// The start of a straight line, whose axes go from these setpoints to those.
 pub fn beginning(members: &GroupLook, starts: &[i64; 6], targets: &[i64; 6]) -> Track<LinePath>
     requires { MayBeginLine members.now starts.now targets.now }
     ensures { on_path (Some result) ≡ Some (beginning
-        (record { count = members.now.count; starts = starts.now; targets = targets.now }) (limits_in members.now)) }
+        (record { count = members.now.count; starts = starts.now; targets = targets.now }) (refusals.limits_in members.now)) }
 {
     let path = LinePath {
         count: members.count,
         starts: *starts,
         targets: *targets,
     };
-    let limits = path_limits(&path, limits_of(members));
+    let limits = path_limits(&path, limits_in(members));
     Track {
         path,
         motion: Motion {
@@ -109,7 +100,7 @@ pub fn begin_line(
     requires state { IsFrom on.old.group.state (kinds.event_of wanted.now.kind) }
     requires line { MayBeginLine members.now setpoints.now wanted.now.targets }
     ensures group { on.new.group ≡ spec.begun wanted.now on.old.group }
-    ensures path { on_path on.new.track ≡ Some (beginning (way_to members.now.count setpoints.now wanted.now) (limits_in members.now)) }
+    ensures path { on_path on.new.track ≡ Some (beginning (way_to members.now.count setpoints.now wanted.now) (refusals.limits_in members.now)) }
 {
     begin(wanted, &mut on.group);
     on.track = Some(beginning(members, setpoints, &wanted.targets));
@@ -118,7 +109,7 @@ pub fn begin_line(
 // The group settles where no command waits.
 fn settle(on: &mut GroupOnPath<LinePath>)
     ensures group { on.new.group ≡ record on.old.group { state = spec.settled on.old.group.state } }
-    ensures path { on_path on.new.track ≡ spec.path_in (spec.settled on.old.group.state) (on_path on.old.track) }
+    ensures path { on_path on.new.track ≡ spec.path_settled on.old.group.state (on_path on.old.track) }
 {
     if matches!(on.group.state, GroupState::GroupMoving) {
         on.group.state = group_next(on.group.state, GroupEvent::LastDone);

@@ -1,13 +1,14 @@
 // MC_GroupReset: it is pending until a cycle in which it may be done (PLCopen Motion Control Part 4).
 
-ghost use Rattle.std.specs.Prelude.{◌≡◌, ◌<◌, ◌≤◌, ◌++◌, length, take};
+ghost use Rattle.std.specs.Prelude.{◌≡◌, ◌<◌, ◌≤◌, ◌++◌, length};
 ghost use Rattle.command_pool.specs.Waiting.{told_to};
 ghost use Rattle.group_core.specs.Cycles.{reset_where};
+ghost use Rattle.group_core.specs.Refusals as refusals;
 ghost use Rattle.group_core.specs.blocks.Reset as spec;
 
 use crate::group::{Group, PendingReset};
-use crate::look::GroupLook;
-use crate::states::{is_error_stop, is_moved};
+use crate::look::{GroupLook, states_in};
+use crate::states::{any_moved, is_error_stop};
 use command_pool::{Finish, Note, Notes, Wanted};
 use group_state::{GroupEvent, GroupState, group_next};
 
@@ -56,12 +57,9 @@ fn reset_from(moved: bool, state: GroupState) -> GroupState
 // The group after a GroupReset.
 fn finish_reset(members: &GroupLook, group: &mut Group)
     requires { members.now.count ≤ 6 }
-    ensures { group.new ≡ spec.after_reset (take members.now.count members.now.states) group.old }
+    ensures { group.new ≡ spec.after_reset (refusals.states_in members.now) group.old }
 {
-    let moved = members.states[..members.count as usize]
-        .iter()
-        .any(|state| is_moved(*state));
-    group.state = reset_from(moved, group.state);
+    group.state = reset_from(any_moved(states_in(members)), group.state);
     group.error = 0;
     group.reset = None;
 }
