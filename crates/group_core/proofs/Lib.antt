@@ -1,2 +1,6 @@
-pub mod Queues
+pub mod KeptCalls
+pub mod KeptParts
+pub mod NoneHolds
+pub mod Places
 pub mod Pools
+pub mod Queues

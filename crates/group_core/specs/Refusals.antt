@@ -78,7 +78,7 @@ holds BadVelocity q = is_no_rate q.wanted.rates.v
 holds BadAcceleration q = is_no_rate q.wanted.rates.a
 holds BadDeceleration q = is_no_rate q.wanted.rates.d
 holds JerkRefused q = not (int_eq q.jerk (pos 0))
-holds TargetOutside q = any_outside q.members.count q.members.limits q.wanted.targets
+holds TargetOutside q = any_outside q.members.count (limits_in q.members) q.wanted.targets
 holds QueueFull q = not (is_aborting q.wanted.mode) && is_some q.group.active && (q.waiting == 8)
 holds NotAtRest q = list_any is_moved (states_in q.members)
 holds GroupStateRefuses q = not (may_come q.wanted.kind q.group.state q.moves)

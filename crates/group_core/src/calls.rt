@@ -22,6 +22,7 @@ use crate::states::may_fail;
 use crate::taking_over::{begin, begin_line, beginning, end_all, fail};
 use buffer_modes::admit;
 use command_pool::{BlockKind, BufferMode, CommandPool, Finish, Notes, Refusal, Wanted};
+use kin_core::standing_is_kept;
 use linear_path::LinePath;
 
 /// POWER_OFF: Power is called with Enable false on a member.
@@ -174,6 +175,7 @@ pub fn command(
     ensures others { pool.new ≡ slice_set pool.old list (queue_of pool.new list) }
     ensures kept { IsCoreKept (limits_in members.now) (core_at on.new pool.new list notes.new) }
 {
+    standing_is_kept();
     let asking = Asking {
         group: &on.group,
         moves: is_moving(&on.track),

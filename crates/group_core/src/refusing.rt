@@ -6,7 +6,7 @@ ghost use Rattle.group_core.specs.Refusals as spec;
 
 use crate::group::Group;
 use crate::kinds::{may_come, tests_of};
-use crate::look::{GroupLook, states_in};
+use crate::look::{GroupLook, limits_in, states_in};
 use crate::reason::Reason;
 use crate::states::{any_disabled, any_homing, any_in_error_stop, any_in_stopping, any_moved};
 use command_pool::{BufferMode, Wanted};
@@ -36,12 +36,12 @@ fn is_no_rate(rate: i64) -> bool
 #[tactic(auto, unfolding(crate::specs::Refusals::any_outside))]
 fn any_outside(members: &GroupLook, targets: &[i64; 6]) -> bool
     requires { members.now.count ≤ 6 }
-    ensures { result ≡ spec.any_outside members.now.count members.now.limits targets.now }
+    ensures { result ≡ spec.any_outside members.now.count (spec.limits_in members.now) targets.now }
 {
+    let limits = limits_in(members);
     let mut outside = false;
     for axis in 0..members.count as usize {
-        let limits = &members.limits[axis];
-        outside = outside || is_outside(limits.lo, targets[axis], limits.hi);
+        outside = outside || is_outside(limits[axis].lo, targets[axis], limits[axis].hi);
     }
     outside
 }

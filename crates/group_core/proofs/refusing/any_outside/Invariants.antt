@@ -4,4 +4,4 @@ use Rattle.group_core.specs.Refusals.{any_outside}
 use Rattle.group_core.proofs.refusing.any_outside.Given as goal
 
 abbrev pub invariant-loop-axis : goal.invariant-loop-axis
-invariant-loop-axis l = l.outside ≡ any_outside l.axis l.fn.members.limits l.fn.targets
+invariant-loop-axis l = l.outside ≡ any_outside l.axis l.limits l.fn.targets
