@@ -16,7 +16,7 @@ use Rattle.kin_core.specs.declared.limits.Limits.{Limits}
 use Rattle.group_core.specs.Admitting.{MayAdmit, MayHalt, MayJoin}
 use Rattle.group_core.specs.Calls.{admitted_by, asked_in, braked_for, commanded, commanded_by, halted, line_joined, powered_off, queue_in, queued, waits_for_rest}
 use Rattle.group_core.specs.Cores.{Core, all_ended, begun, failed, line_begun}
-use Rattle.group_core.specs.GroupKept.{AreGroupLimits, AreNumbers, AreTargets, AreWaiting, IsActive, IsCoreKept, IsDeceleration, IsIdle, IsInState, IsLed, IsLook, IsMade, IsPathOf, IsStopped, IsWaiting, fits, is_within}
+use Rattle.group_core.specs.GroupKept.{AreGroupLimits, AreNumbers, AreTargets, AreWaiting, IsActive, IsCoreKept, IsCount, IsDeceleration, IsIdle, IsInState, IsLed, IsLook, IsMade, IsPathOf, IsStopped, IsWaiting, fits, is_within}
 use Rattle.group_core.specs.Kinds.{event_of, may_come, tests_of}
 use Rattle.group_core.specs.Refusals.{Asked, any_outside, holds, is_blending, limits_in, refusal_of}
 use Rattle.group_core.specs.States.{may_fail}
@@ -152,11 +152,11 @@ disable-idle state.GroupErrorStop moves p active h i = i
 disable-idle _ moves p active h i = absurd (cc)
 
 -- no active command is active in any state
-no-active : (s : GroupState) (active : Option Wanted) → active ≡ None → (w : Wanted) → active ≡ Some w → IsActive s w
+pub no-active : (s : GroupState) (active : Option Wanted) → active ≡ None → (w : Wanted) → active ≡ Some w → IsActive s w
 no-active s active e w h = absurd (let f : None ≡ Some w = sym e ∙ h in cc)
 
 -- one that is active in a state
-the-active : (s : GroupState) (v : Wanted) → IsActive s v → (w : Wanted) → Some v ≡ Some w → IsActive s w
+pub the-active : (s : GroupState) (v : Wanted) → IsActive s v → (w : Wanted) → Some v ≡ Some w → IsActive s w
 the-active s v i w h = let same : v ≡ w = cc in subst (IsActive s) same i
 
 -- the path is there where it moves
@@ -209,21 +209,21 @@ record IsLine (members : GroupLook) (c : Core) (w : Wanted) : Type 0 where
   come : may_come kind.MoveLinearAbsolute c.group.state (is_moving c.path) ≡ true
 
 -- a line begins
-pub line-begun-kept : Standing → (members : GroupLook) (setpoints : List ℤ) (w : Wanted) (c : Core) → IsLook c.group members →
-    IsCoreKept (limits_in members) (record c { group = record c.group { state = state.GroupErrorStop; active = None }; waiting = [] }) → AreWaiting c.group.axes (limits_in members) c.waiting →
+pub line-begun-kept : Standing → (members : GroupLook) (setpoints : List ℤ) (w : Wanted) (c : Core) → IsCount c.group.axes → members.count ≡ c.group.axes →
+    AreGroupLimits c.group.axes (limits_in members) → AreWaiting c.group.axes (limits_in members) c.waiting →
     AreTargets c.group.axes (limits_in members) setpoints → IsWaiting c.group.axes (limits_in members) w → IsCoreKept (limits_in members) (line_begun members setpoints w c)
-line-begun-kept laws members setpoints w c look k ws t i =
+line-begun-kept laws members setpoints w c axes count limits ws t i =
     let P : BlockKind → Type 0 = λ l. IsCoreKept (limits_in members) (record c {
       group = begun (of_kind l w) c.group;
       path = Some (beginning (way_to members.count setpoints w) (limits_in members));
     }) in
     subst P (sym i.line) (record {
-      axes = k.axes;
+      axes = axes;
       state = record { on = refl; led = refl };
       active = the-active state.GroupMoving (of_kind kind.MoveLinearAbsolute w) (record { fitting = refl; numbers = i.rates });
       path = λ p e. let same : beginning (way_to members.count setpoints w) (limits_in members) ≡ p = cc in
           subst (IsPathOf c.group.axes (limits_in members)) same
-          (beginning-kept laws c.group.axes members.count (limits_in members) setpoints w.targets look.count look.limits t i.targets);
+          (beginning-kept laws c.group.axes members.count (limits_in members) setpoints w.targets count limits t i.targets);
       waiting = ws;
       queue = inr refl;
     })
@@ -342,9 +342,7 @@ later-kept members false (Some v) w c e h a l =
 now-kept : Standing → (members : GroupLook) (w : Wanted) (c : Core) → IsAsked members c → IsLine members c w → (is_aborting w.mode || is_none c.group.active) ≡ true →
     IsCoreKept (limits_in members) (line_begun members members.setpoints w (queued w c))
 now-kept laws members w c a l h =
-    line-begun-kept laws members members.setpoints w (queued w c)
-    (record { count = a.look.count; limits = a.look.limits; six = a.look.six; setpoints = a.look.setpoints })
-    (record { axes = a.kept.axes; state = refl; active = λ u e. absurd (cc); path = a.kept.path; waiting = tt; queue = inl refl })
+    line-begun-kept laws members members.setpoints w (queued w c) a.kept.axes a.look.count a.look.limits
     (at-once c.group.axes (limits_in members) (is_aborting w.mode) c.group.active c.waiting w h a.kept.waiting)
     (a.look.setpoints (takes-within c.group.state (is_moving c.path) l.come)) l.waits
 

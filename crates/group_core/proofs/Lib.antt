@@ -1,3 +1,5 @@
+pub mod CycleMade
+pub mod KeptCycles
 pub mod KeptCalls
 pub mod KeptParts
 pub mod NoneHolds

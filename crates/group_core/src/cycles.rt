@@ -1,6 +1,6 @@
 // The order within a cycle of a group.
 
-ghost use Rattle.std.specs.Prelude.{◌≡◌, ◌<◌, ◌≤◌, [], length, slice_set, IfSome, Option};
+ghost use Rattle.std.specs.Prelude.{◌≡◌, ◌<◌, ◌≤◌, [], length, slice_set, IfSome, Option, is_some, not, ◌&&◌};
 ghost use Rattle.command_pool.specs.Waiting.{queue_of};
 ghost use Rattle.group_core.specs.Cores.{core_in};
 ghost use Rattle.group_core.specs.Cycles as spec;
@@ -14,13 +14,14 @@ ghost use Rattle.group_state.specs.Diagram.{IsFrom};
 
 use crate::blocks::halts::is_released;
 use crate::calls::is_moving;
-use crate::group::{Group, GroupOnPath};
+use crate::group::{Group, GroupOnPath, Track};
 use crate::look::{GroupLook, GroupStep};
 use crate::moving::step_along;
 use crate::states::{is_error_stop, is_stopping, may_fail};
 use crate::taking_over::{end_by, fail};
 use command_pool::{CommandPool, Finish, Notes};
 use group_state::{GroupEvent, group_next};
+use kin_core::{braking_steps_are_only_cut, standing_is_kept, taken_steps_keep};
 use linear_path::LinePath;
 
 // An error of a member stops the group, where it may have one.
@@ -75,7 +76,53 @@ fn leave_path(on: &mut GroupOnPath<LinePath>)
     }
 }
 
+// A cycle of the group, and where its axes stand on the path.
+fn run(
+    members: &GroupLook,
+    on: &mut GroupOnPath<LinePath>,
+    pool: &mut CommandPool,
+    list: u8,
+    notes: &mut Notes,
+) -> [i64; 6]
+    requires list { list < length pool.old }
+    requires room { notes.old ≡ [] }
+    requires look { IsLook on.old.group members.now }
+    requires kept { IsCoreKept (limits_in members.now) (core_at on.old pool.old list notes.old) }
+    ensures places { result ≡ places_at (spec.path_taken members.now (core_at on.old pool.old list notes.old)) members.now.setpoints }
+    ensures after { core_at on.new pool.new list notes.new ≡ spec.cycled members.now (core_at on.old pool.old list notes.old) }
+    ensures others { pool.new ≡ slice_set pool.old list (queue_of pool.new list) }
+    ensures kept { IsCoreKept (limits_in members.now) (core_at on.new pool.new list notes.new) }
+{
+    standing_is_kept();
+    taken_steps_keep();
+    braking_steps_are_only_cut();
+    // At most eight wait, so that the notes have room for all.
+    let _ = pool.waiting(list);
+    answer(members.error, &mut on.group, pool, list, notes);
+    let mut places = members.setpoints;
+    let ending = advance(on, &mut places);
+    end_by(ending, &places, members, on, pool, list, notes);
+    leave_stopping(members.stop_held, on);
+    leave_path(on);
+    places
+}
+
+// Whether the group is on a path.
+fn is_on_path(track: &Option<Track<LinePath>>) -> bool
+    ensures { result ≡ is_some (on_path track.now) }
+{
+    track.is_some()
+}
+
+// Whether a path that there was is over.
+fn is_over(was_on_path: bool, track: &Option<Track<LinePath>>) -> bool
+    ensures { result ≡ (was_on_path && not (is_some (on_path track.now))) }
+{
+    was_on_path && track.is_none()
+}
+
 /// A cycle of the group, and what it asks of the axes.
+#[tactic(auto, unfolding(crate::specs::Cycles::step_of))]
 pub fn cycle(
     members: &GroupLook,
     on: &mut GroupOnPath<LinePath>,
@@ -92,17 +139,10 @@ pub fn cycle(
     ensures others { pool.new ≡ slice_set pool.old list (queue_of pool.new list) }
     ensures kept { IsCoreKept (limits_in members.now) (core_at on.new pool.new list notes.new) }
 {
-    // At most eight wait, so that the notes have room for all.
-    let _ = pool.waiting(list);
-    let was_on_path = on.track.is_some();
-    answer(members.error, &mut on.group, pool, list, notes);
-    let mut places = members.setpoints;
-    let ending = advance(on, &mut places);
-    end_by(ending, &places, members, on, pool, list, notes);
-    leave_stopping(members.stop_held, on);
-    leave_path(on);
+    let was_on_path = is_on_path(&on.track);
+    let places = run(members, on, pool, list, notes);
     GroupStep {
         places,
-        ends: was_on_path && on.track.is_none(),
+        ends: is_over(was_on_path, &on.track),
     }
 }
