@@ -1,3 +1,4 @@
+pub mod KeptOthers
 pub mod CycleMade
 pub mod KeptCycles
 pub mod KeptCalls

@@ -1,6 +1,7 @@
 -- What a command on a group, a Power off of a member and a detachment make of the group (PLCopen Motion Control Part 4).
-use Rattle.std.specs.Prelude.{ℕ, Bool, true, false, not, ◌&&◌, if◌then◌else◌, ℤ, Option, Some, None, Result, Ok, Err, List, [], ◌∷◌, ◌++◌, replicate, length}
+use Rattle.std.specs.Prelude.{ℕ, Bool, true, false, not, ◌&&◌, if◌then◌else◌, ℤ, Option, Some, None, Result, Ok, Err, List, [], ◌∷◌, ◌++◌, length, map}
 use Rattle.buffer_modes.specs.Queue.{Commands, admitted, is_aborting, is_active_at_once, noted, end_notes}
+use Rattle.command_pool.specs.Waiting as waiting
 use Rattle.command_pool.specs.Waiting.{without}
 use Rattle.command_pool.specs.declared.ending.Finish.TheVariants as finish
 use Rattle.command_pool.specs.declared.ending.Refusal.{Refusal}
@@ -123,3 +124,7 @@ reset_without owner (Some p) = Some (record { owner = without owner p.owner })
 
 unfoldable pub group_without : ℕ → Group → Group
 group_without owner g = record g { active = active_without owner g.active; reset = reset_without owner g.reset; hold = without owner g.hold }
+
+-- a group whose commands this instance has no longer
+abbrev pub disowned : ℕ → Core → Core
+disowned owner c = record c { group = group_without owner c.group; waiting = map (waiting.detached owner) c.waiting }

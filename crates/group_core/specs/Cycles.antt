@@ -14,7 +14,7 @@ use Rattle.group_core.specs.Refusals.{states_in}
 use Rattle.group_core.specs.States.{is_error_stop, may_fail}
 use Rattle.group_core.specs.Tracks.{OnPath, braking_step_of, is_moving, moved_by, places_at}
 use Rattle.group_core.specs.blocks.Halts.{leaves_stopping}
-use Rattle.group_core.specs.blocks.Reset.{reset_by}
+use Rattle.group_core.specs.blocks.Reset.{reset_by, reset_notes}
 use Rattle.group_core.specs.declared.group.Group.{Group}
 use Rattle.group_core.specs.declared.group.Motion.{Motion}
 use Rattle.group_core.specs.declared.look.GroupLook.{GroupLook}
@@ -92,6 +92,12 @@ step_of members c = record {
 unfoldable pub reset_where : GroupLook → Bool → Group → Group
 reset_where members on_path g = reset_by g.reset (states_in members) on_path g
 
+abbrev pub reset_cycled : GroupLook → Core → Core
+reset_cycled members c = record c {
+  group = reset_where members (is_some c.path) c.group;
+  notes = c.notes ++ reset_notes c.group.reset (is_some c.path) c.group;
+}
+
 -- what a cycle shows of the group after it
 abbrev pub row_of : Group → GroupRow
 row_of g = record { state = g.state; error = g.error }
@@ -99,3 +105,6 @@ row_of g = record { state = g.state; error = g.error }
 -- a group of so many axes at opening
 abbrev pub opened : ℕ → Group
 opened axes = record { axes = axes; state = state.GroupDisabled; error = 0; active = None; reset = None; hold = None }
+
+abbrev pub opening : ℕ → Core
+opening axes = record { group = opened axes; path = None; waiting = []; notes = [] }

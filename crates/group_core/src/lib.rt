@@ -7,6 +7,7 @@ mod calls;
 mod cycles;
 mod group;
 mod kinds;
+mod laws;
 mod look;
 mod moving;
 mod one_group;
@@ -25,6 +26,7 @@ pub use command_pool::{
 pub use group::{Group, GroupOnPath, Motion, PendingReset, Track};
 pub use group_state::{GroupRow, GroupState};
 pub use kin_core::Limits;
+pub use laws::groups_stay_kept;
 pub use linear_path::{LinePath, Path};
 pub use look::{ActiveLook, GroupLook, GroupStep};
 pub use one_group::GroupCore;
