@@ -58,9 +58,9 @@ numbers-where : (s : GroupState) (o : Option Wanted) → ((w : Wanted) → o ≡
 numbers-where s None f = tt
 numbers-where s (Some w) f = (f w refl).numbers
 
-pub may-step : (limits : List Limits) (c : Core) → AreGroupLimits c.group.axes limits → IsCoreKept limits c → MayStep c.group c.path
-may-step limits c are k = record {
-  path = steps-where c.group.axes limits c.path are k.path;
+pub may-step : (limits : List Limits) (c : Core) → IsCoreKept limits c → MayStep c.group c.path
+may-step limits c k = record {
+  path = steps-where c.group.axes limits c.path k.limits_are k.path;
   active = numbers-where c.group.state c.group.active k.active;
 }
 

@@ -38,7 +38,7 @@ of_kind k w = record w { kind = k }
 pub failed-kept : (n : ℕ) (limits : List Limits) (c : Core) → IsCoreKept limits c → IsCoreKept limits (failed n c)
 unfolding failed
 failed-kept n limits c k = record {
-  axes = k.axes;
+  axes = k.axes; limits_are = k.limits_are;
   state = refl;
   active = λ w h. absurd (cc);
   path = k.path;
@@ -95,7 +95,7 @@ may-halt : (members : GroupLook) (w : Wanted) (c : Core) → IsAsked members c �
     MayHalt members w c.group
 may-halt members w c a from within = record {
   begin = from;
-  line = line-may-begin c.group.axes members members.setpoints members.setpoints a.look.count a.kept.axes a.look.limits (a.look.setpoints within) (a.look.setpoints within);
+  line = line-may-begin c.group.axes members members.setpoints members.setpoints a.look.count a.kept.axes a.kept.limits_are (a.look.setpoints within) (a.look.setpoints within);
 }
 
 -- a command that is not refused may be admitted, by its kind
@@ -115,7 +115,7 @@ may-by kind.MoveLinearAbsolute members w jerk c a m n =
     let come = not-false _ n.1.1.1.1.1.1.0 in
     record {
       begin = line-from c.group.state (is_moving c.path) come;
-      line = line-may-begin c.group.axes members members.setpoints w.targets a.look.count a.kept.axes a.look.limits
+      line = line-may-begin c.group.axes members members.setpoints w.targets a.look.count a.kept.axes a.kept.limits_are
           (a.look.setpoints (takes-within c.group.state (is_moving c.path) come)) (targets-of members c (of_kind kind.MoveLinearAbsolute w) a m n.1.1.1.1.0);
       place = and-right (not (is_aborting w.mode)) (is_some c.group.active) (nat_eq (length c.waiting) 8) n.1.1.1.1.1.0;
     }
@@ -178,13 +178,13 @@ halted-path-kept laws members c a within =
     (λ h. a.kept.path)
     (λ h p e. let same : beginning here (limits_in members) ≡ p = cc in
     subst (IsPathOf c.group.axes (limits_in members)) same
-    (beginning-kept laws c.group.axes members.count (limits_in members) members.setpoints members.setpoints a.look.count a.look.limits t t))
+    (beginning-kept laws c.group.axes members.count (limits_in members) members.setpoints members.setpoints a.look.count a.kept.limits_are t t))
 
 -- a GroupHalt and a GroupStop keep the group
 halt-kept : Standing → (members : GroupLook) (w : Wanted) (c : Core) → IsAsked members c → is_within c.group.state ≡ true → IsDeceleration w.rates.d →
     IsCoreKept (limits_in members) (halted members (of_kind kind.GroupHalt w) c)
 halt-kept laws members w c a within d = record {
-  axes = a.kept.axes;
+  axes = a.kept.axes; limits_are = a.kept.limits_are;
   state = record { on = halted-some _ _ c.path; led = refl };
   active = the-active state.GroupMoving (of_kind kind.GroupHalt w) (record { fitting = refl; numbers = d });
   path = halted-path-kept laws members c a within;
@@ -195,7 +195,7 @@ halt-kept laws members w c a within d = record {
 stop-kept : Standing → (members : GroupLook) (w : Wanted) (c : Core) → IsAsked members c → is_within c.group.state ≡ true → IsDeceleration w.rates.d →
     IsCoreKept (limits_in members) (halted members (of_kind kind.GroupStop w) c)
 stop-kept laws members w c a within d = record {
-  axes = a.kept.axes;
+  axes = a.kept.axes; limits_are = a.kept.limits_are;
   state = record { on = halted-some _ _ c.path; rests = λ e. absurd (cc) };
   active = the-active state.GroupStopping (of_kind kind.GroupStop w) (record { fitting = refl; numbers = d });
   path = halted-path-kept laws members c a within;
@@ -219,6 +219,7 @@ line-begun-kept laws members setpoints w c axes count limits ws t i =
     }) in
     subst P (sym i.line) (record {
       axes = axes;
+      limits_are = limits;
       state = record { on = refl; led = refl };
       active = the-active state.GroupMoving (of_kind kind.MoveLinearAbsolute w) (record { fitting = refl; numbers = i.rates });
       path = λ p e. let same : beginning (way_to members.count setpoints w) (limits_in members) ≡ p = cc in
@@ -291,7 +292,7 @@ braked-kept members w c a l m =
     let moving = moves-in c.group.state (is_moving c.path) c.path c.group.active l.come m a.kept.state in
     let led = moving-in c.group.state c.path c.group.active moving a.kept.state in
     record {
-      axes = a.kept.axes;
+      axes = a.kept.axes; limits_are = a.kept.limits_are;
       state = in-moving c.group.state c.path (braking_for c.group.active) moving (record { on = led.on; led = braking-some c.group.active led.led });
       active = braking-active c.group.state c.group.active moving a.kept.active;
       path = a.kept.path;
@@ -330,7 +331,7 @@ later-kept members false (Some v) w c e h a l =
     let P : Option Wanted → Type 0 = λ o. IsInState c.group.state c.path o in
     let moving = led-in c.group.state (is_moving c.path) c.path c.group.active l.come (ap is_some e) a.kept.state in
     record {
-      axes = a.kept.axes;
+      axes = a.kept.axes; limits_are = a.kept.limits_are;
       state = subst P e a.kept.state;
       active = λ u h. a.kept.active u (e ∙ h);
       path = a.kept.path;
@@ -342,7 +343,7 @@ later-kept members false (Some v) w c e h a l =
 now-kept : Standing → (members : GroupLook) (w : Wanted) (c : Core) → IsAsked members c → IsLine members c w → (is_aborting w.mode || is_none c.group.active) ≡ true →
     IsCoreKept (limits_in members) (line_begun members members.setpoints w (queued w c))
 now-kept laws members w c a l h =
-    line-begun-kept laws members members.setpoints w (queued w c) a.kept.axes a.look.count a.look.limits
+    line-begun-kept laws members members.setpoints w (queued w c) a.kept.axes a.look.count a.kept.limits_are
     (at-once c.group.axes (limits_in members) (is_aborting w.mode) c.group.active c.waiting w h a.kept.waiting)
     (a.look.setpoints (takes-within c.group.state (is_moving c.path) l.come)) l.waits
 
@@ -362,7 +363,7 @@ kept-by laws kind.GroupEnable members w jerk c a m n =
     let come = not-false _ n.1.1.1.1.1.0 in
     let idle = enable-idle c.group.state (is_moving c.path) c.path c.group.active come a.kept.state in
     record {
-      axes = a.kept.axes;
+      axes = a.kept.axes; limits_are = a.kept.limits_are;
       state = idle;
       active = no-active state.GroupStandby c.group.active idle.idle;
       path = a.kept.path;
@@ -373,7 +374,7 @@ kept-by laws kind.GroupDisable members w jerk c a m n =
     let come = not-false _ n.0 in
     let idle = disable-idle c.group.state (is_moving c.path) c.path c.group.active come a.kept.state in
     record {
-      axes = a.kept.axes;
+      axes = a.kept.axes; limits_are = a.kept.limits_are;
       state = record { off = refl; idle = idle };
       active = no-active state.GroupDisabled c.group.active idle;
       path = λ p e. absurd (cc);
@@ -381,7 +382,7 @@ kept-by laws kind.GroupDisable members w jerk c a m n =
       queue = inl (none-waits c.group.state c.waiting a.kept.queue (disable-alone c.group.state (is_moving c.path) come));
     }
 kept-by laws kind.GroupReset members w jerk c a m n = record {
-  axes = a.kept.axes;
+  axes = a.kept.axes; limits_are = a.kept.limits_are;
   state = a.kept.state;
   active = a.kept.active;
   path = a.kept.path;

@@ -49,7 +49,7 @@ answered-kept error limits c k =
 
 failed-look : (error : ℕ) (members : GroupLook) (c : Core) → IsLook c.group members → IsLook (failed error c).group members
 unfolding failed
-failed-look error members c l = record { count = l.count; limits = l.limits; six = l.six; setpoints = λ h. absurd (cc) }
+failed-look error members c l = record { count = l.count; six = l.six; setpoints = λ h. absurd (cc) }
 
 pub answered-look : (error : ℕ) (members : GroupLook) (c : Core) → IsLook c.group members → IsLook (answered error c).group members
 answered-look error members c l =
@@ -137,7 +137,7 @@ after-state laws axes limits state.GroupHoming g o are f e i = absurd i
 pub stepped-kept : Laws → (limits : List Limits) (c : Core) → AreGroupLimits c.group.axes limits → IsCoreKept limits c →
     IsCoreKept limits (record c { path = path_after c.group c.path })
 stepped-kept laws limits c are k = record {
-  axes = k.axes;
+  axes = k.axes; limits_are = k.limits_are;
   state = after-state laws c.group.axes limits c.group.state c.group c.path are k.path refl k.state;
   active = k.active;
   path = after-path laws c.group.axes limits c.group c.path are k.path;
@@ -238,7 +238,7 @@ may-take members setpoints axes s (w ∷ ws) e count are k q t =
 
 pub may-take-over : (members : GroupLook) (setpoints : List ℤ) (c : Core) → IsStepped members setpoints c → MayTakeOver members setpoints c.group.state c.waiting
 may-take-over members setpoints c a =
-    may-take members setpoints c.group.axes c.group.state c.waiting a.look.count a.kept.axes a.look.limits a.kept.waiting a.kept.queue a.setpoints_are
+    may-take members setpoints c.group.axes c.group.state c.waiting a.look.count a.kept.axes a.kept.limits_are a.kept.waiting a.kept.queue a.setpoints_are
 
 -- the next command takes over, or the group settles
 taken-kept : Laws → (members : GroupLook) (setpoints : List ℤ) (ws : List Wanted) (f : Finish) (c : Core) → IsStepped members setpoints c → c.waiting ≡ ws →
@@ -248,7 +248,7 @@ taken-kept : Laws → (members : GroupLook) (setpoints : List ℤ) (ws : List Wa
       notes = c.notes ++ active_note f c.group.active;
     }))
 taken-kept laws members setpoints [] f c a e r = record {
-  axes = a.kept.axes;
+  axes = a.kept.axes; limits_are = a.kept.limits_are;
   state = settled-state c.group.state c.path c.group.active a.kept.state r;
   active = λ w h. absurd (cc);
   path = settled-path c.group.axes (limits_in members) c.group.state c.path a.kept.path;
@@ -263,7 +263,7 @@ taken-kept laws members setpoints (w ∷ ws) f c a e r =
       group = record c.group { active = None };
       waiting = ws;
       notes = c.notes ++ active_note f c.group.active;
-    }) a.kept.axes a.look.count a.look.limits waits.1 (a.setpoints_are moving) waits.0
+    }) a.kept.axes a.look.count a.kept.limits_are waits.1 (a.setpoints_are moving) waits.0
 
 ended-by-kept : Laws → (members : GroupLook) (setpoints : List ℤ) (o : Option Finish) (c : Core) → IsStepped members setpoints c →
     ((f : Finish) → o ≡ Some f → c.group.state ≡ state.GroupStopping → is_moving c.path ≡ false) → IsCoreKept (limits_in members) (ended_by members setpoints o c)
@@ -281,12 +281,12 @@ stepped-places members c l k o e m = by o e
 
     by : (o : Option OnPath) → path_after c.group c.path ≡ o → AreTargets c.group.axes (limits_in members) (places_at o members.setpoints)
     by None e = standing
-    by (Some p) e = places-within c.group.axes (limits_in members) p members.setpoints k.axes l.limits (k.path p e) l.six standing
+    by (Some p) e = places-within c.group.axes (limits_in members) p members.setpoints k.axes k.limits_are (k.path p e) l.six standing
 
 pub stepped : Laws → (members : GroupLook) (c : Core) → IsLook c.group members → IsCoreKept (limits_in members) c →
     IsStepped members (places_at (path_after c.group c.path) members.setpoints) (record c { path = path_after c.group c.path })
 stepped laws members c l k =
-    let after = stepped-kept laws (limits_in members) c l.limits k in
+    let after = stepped-kept laws (limits_in members) c k.limits_are k in
     record {
       look = l;
       kept = after;
@@ -319,7 +319,7 @@ released-where : (b : Bool) (limits : List Limits) (c : Core) → IsCoreKept lim
       path = (if b then None else c.path);
     })
 released-where true limits c k f = record {
-  axes = k.axes;
+  axes = k.axes; limits_are = k.limits_are;
   state = record { off = refl; idle = (f refl).1 };
   active = no-active state.GroupStandby c.group.active (f refl).1;
   path = λ p e. absurd (cc);
@@ -327,7 +327,7 @@ released-where true limits c k f = record {
   queue = inl (none-waits c.group.state c.waiting k.queue (not-moving c.group.state (f refl).0));
 }
 released-where false limits c k f = record {
-  axes = k.axes;
+  axes = k.axes; limits_are = k.limits_are;
   state = k.state;
   active = k.active;
   path = k.path;
@@ -346,7 +346,7 @@ error-state _ o active h i = absurd (cc)
 over-where : (b : Bool) (limits : List Limits) (c : Core) → IsCoreKept limits c → (b ≡ true → is_error_stop c.group.state ≡ true) →
     IsCoreKept limits (record c { path = (if b then None else c.path) })
 over-where true limits c k f = record {
-  axes = k.axes;
+  axes = k.axes; limits_are = k.limits_are;
   state = error-state c.group.state c.path c.group.active (f refl) k.state;
   active = k.active;
   path = λ p e. absurd (cc);
@@ -354,7 +354,7 @@ over-where true limits c k f = record {
   queue = k.queue;
 }
 over-where false limits c k f = record {
-  axes = k.axes;
+  axes = k.axes; limits_are = k.limits_are;
   state = k.state;
   active = k.active;
   path = k.path;
@@ -369,5 +369,7 @@ over-kept limits c k =
 pub cycled-kept : Laws → (members : GroupLook) (c : Core) → IsLook c.group members → IsCoreKept (limits_in members) c → IsCoreKept (limits_in members) (cycled members c)
 unfolding cycled
 cycled-kept laws members c l k =
-    over-kept (limits_in members) _ (released-kept members.stop_held (limits_in members) _
-    (moved-kept laws members (answered members.error c) (answered-look members.error members c l) (answered-kept members.error (limits_in members) c k)))
+    let read : Core = answered members.error c in
+    let moves : Core = moved members read in
+    over-kept (limits_in members) (released members.stop_held moves) (released-kept members.stop_held (limits_in members) moves
+    (moved-kept laws members read (answered-look members.error members c l) (answered-kept members.error (limits_in members) c k)))

@@ -13,7 +13,7 @@ use Rattle.kin_core.specs.declared.limits.Limits.{Limits}
 use Rattle.group_core.specs.Calls.{active_without, disowned, group_without}
 use Rattle.group_core.specs.Cores.{Core}
 use Rattle.group_core.specs.Cycles.{opening, reset_cycled, reset_where}
-use Rattle.group_core.specs.GroupKept.{AreNumbers, AreWaiting, IsActive, IsCoreKept, IsCount, IsInState, IsWaiting}
+use Rattle.group_core.specs.GroupKept.{AreGroupLimits, AreNumbers, AreWaiting, IsActive, IsCoreKept, IsCount, IsInState, IsWaiting}
 use Rattle.group_core.specs.Refusals.{states_in}
 use Rattle.group_core.specs.States.{is_error_stop, is_moved}
 use Rattle.group_core.specs.Tracks.{OnPath}
@@ -23,9 +23,10 @@ use Rattle.group_core.specs.declared.group.PendingReset.{PendingReset}
 use Rattle.group_core.specs.declared.look.GroupLook.{GroupLook}
 use Rattle.group_core.proofs.KeptCalls.{by-if, the-active}
 
-pub opened-kept : (axes : ℕ) (limits : List Limits) → IsCount axes → IsCoreKept limits (opening axes)
-opened-kept axes limits count = record {
+pub opened-kept : (axes : ℕ) (limits : List Limits) → IsCount axes → AreGroupLimits axes limits → IsCoreKept limits (opening axes)
+opened-kept axes limits count are = record {
   axes = count;
+  limits_are = are;
   state = record { off = refl; idle = refl };
   active = λ w h. absurd (cc);
   path = λ p h. absurd (cc);
@@ -92,7 +93,7 @@ owned-queue owner s ws (inr e) = inr e
 pub disowned-kept : (owner : ℕ) (limits : List Limits) (c : Core) → IsCoreKept limits c → IsCoreKept limits (disowned owner c)
 unfolding group_without
 disowned-kept owner limits c k = record {
-  axes = k.axes;
+  axes = k.axes; limits_are = k.limits_are;
   state = owned-state owner c.group.state c.path c.group.active k.state;
   active = owned-active owner c.group.state c.group.active k.active;
   path = k.path;
@@ -140,19 +141,19 @@ WithGroup limits c g = IsCoreKept limits (record c { group = g })
 
 reset-by-kept : (o : Option PendingReset) (members : GroupLook) (limits : List Limits) (c : Core) → IsCoreKept limits c →
     WithGroup limits c (reset_by o (states_in members) (is_some c.path) c.group)
-reset-by-kept None members limits c k = record { axes = k.axes; state = k.state; active = k.active; path = k.path; waiting = k.waiting; queue = k.queue }
+reset-by-kept None members limits c k = record { axes = k.axes; limits_are = k.limits_are; state = k.state; active = k.active; path = k.path; waiting = k.waiting; queue = k.queue }
 reset-by-kept (Some r) members limits c k =
     let m : Bool = list_any is_moved (states_in members) in
     by-if (WithGroup limits c) (may_reset (is_some c.path) c.group) (after_reset (states_in members) c.group) c.group
     (λ h. record {
-      axes = k.axes;
+      axes = k.axes; limits_are = k.limits_are;
       state = reset-state m c.group.state c.path c.group.active (not-true _ h) k.state;
       active = reset-active m c.group.state c.path c.group.active k.state k.active;
       path = k.path;
       waiting = k.waiting;
       queue = reset-queue m c.group.state c.waiting k.queue;
     })
-    (λ h. record { axes = k.axes; state = k.state; active = k.active; path = k.path; waiting = k.waiting; queue = k.queue })
+    (λ h. record { axes = k.axes; limits_are = k.limits_are; state = k.state; active = k.active; path = k.path; waiting = k.waiting; queue = k.queue })
   where
     not-true : (b : Bool) → not b ≡ true → b ≡ false
     not-true true h = absurd (cc)
@@ -162,4 +163,4 @@ pub reset-kept : (members : GroupLook) (limits : List Limits) (c : Core) → IsC
 unfolding reset_where
 reset-kept members limits c k =
     let r = reset-by-kept c.group.reset members limits c k in
-    record { axes = r.axes; state = r.state; active = r.active; path = r.path; waiting = r.waiting; queue = r.queue }
+    record { axes = r.axes; limits_are = r.limits_are; state = r.state; active = r.active; path = r.path; waiting = r.waiting; queue = r.queue }

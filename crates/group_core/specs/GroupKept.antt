@@ -108,13 +108,17 @@ AreWaiting axes limits [] = Unit {0}
 AreWaiting axes limits (w ∷ ws) = IsWaiting axes limits w × AreWaiting axes limits ws
 
 -- what always holds of a group on its path, whose axes have these limits, and of the commands that wait for it. This project's profile
-pub record IsCoreKept (limits : List Limits) (c : Core) : Type 0 where
-  pub axes : IsCount c.group.axes
-  pub state : IsInState c.group.state c.path c.group.active
-  pub active : (w : Wanted) → c.group.active ≡ Some w → IsActive c.group.state w
-  pub path : (p : OnPath) → c.path ≡ Some p → IsPathOf c.group.axes limits p
-  pub waiting : AreWaiting c.group.axes limits c.waiting
-  pub queue : (c.waiting ≡ []) ⊎ (c.group.state ≡ GroupMoving)
+pub record IsGroupKept (limits : List Limits) (g : Group) (p : Option OnPath) (ws : List Wanted) : Type 0 where
+  pub axes : IsCount g.axes
+  pub limits_are : AreGroupLimits g.axes limits
+  pub state : IsInState g.state p g.active
+  pub active : (w : Wanted) → g.active ≡ Some w → IsActive g.state w
+  pub path : (on : OnPath) → p ≡ Some on → IsPathOf g.axes limits on
+  pub waiting : AreWaiting g.axes limits ws
+  pub queue : (ws ≡ []) ⊎ (g.state ≡ GroupMoving)
+
+abbrev pub IsCoreKept : List Limits → Core → Type 0
+IsCoreKept limits c = IsGroupKept limits c.group c.path c.waiting
 
 -- whether the axes of a group in this state stand within their limits. This project's profile
 abbrev pub is_within : GroupState → Bool
@@ -122,10 +126,9 @@ is_within GroupDisabled = false
 is_within GroupErrorStop = false
 is_within s = true
 
--- what is told of the axes: their number and limits are those of the group, and they stand within these outside GroupDisabled and GroupErrorStop. This project's profile
+-- what is told of the axes: they are as many as the group has, and they stand within their limits outside GroupDisabled and GroupErrorStop. This project's profile
 pub record IsLook (g : Group) (members : GroupLook) : Type 0 where
   pub count : members.count ≡ g.axes
-  pub limits : AreGroupLimits g.axes (limits_in members)
   pub six : length members.setpoints ≡ 6
   pub setpoints : is_within g.state ≡ true → AreTargets g.axes (limits_in members) members.setpoints
 

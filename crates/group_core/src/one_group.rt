@@ -1,15 +1,18 @@
 // One group, as the kernel has it.
 
-ghost use Rattle.std.specs.Prelude.{◌≡◌, ◌<◌, ◌≤◌, ◌++◌, [], length, slice_set, is_some, None, Option};
+ghost use Rattle.std.specs.Prelude.{◌≡◌, ◌<◌, ◌≤◌, ◌++◌, [], length, slice_set, map, is_some, None, List, Option};
+ghost use Rattle.command_pool.specs.Waiting as waiting;
 ghost use Rattle.command_pool.specs.Waiting.{queue_of};
+ghost use Rattle.command_pool.specs.declared.wanted.Wanted.{Wanted};
 ghost use Rattle.group_core.specs.Calls as commands;
 ghost use Rattle.group_core.specs.Cores.{core_in};
 ghost use Rattle.group_core.specs.Cycles as cycles;
-ghost use Rattle.group_core.specs.GroupKept.{IsCoreKept, IsCount, IsLook, IsMade};
+ghost use Rattle.group_core.specs.GroupKept.{AreGroupLimits, IsCoreKept, IsCount, IsGroupKept, IsLook, IsMade};
 ghost use Rattle.group_core.specs.Looks as looks;
 ghost use Rattle.group_core.specs.Refusals.{limits_in};
 ghost use Rattle.group_core.specs.Tracks.{OnPath};
 ghost use Rattle.group_core.specs.blocks.Reset.{reset_notes};
+ghost use Rattle.kin_core.specs.declared.limits.Limits.{Limits};
 
 use crate::group::{Group, GroupOnPath};
 use crate::look::{ActiveLook, GroupLook, GroupStep};
@@ -50,6 +53,8 @@ impl<P: Path + Drop> GroupCore<P> {
             ≡ commands.powered_off (core_in self.old.group p pool.old list notes.old) }
         ensures path { self.new.track ≡ self.old.track }
         ensures others { pool.new ≡ slice_set pool.old list (queue_of pool.new list) }
+        ensures kept { (limits : List Limits) (p : Option OnPath) → IsGroupKept limits self.old.group p (queue_of pool.old list)
+            → IsGroupKept limits self.new.group p (queue_of pool.new list) }
     {
         crate::calls::power_off(&mut self.on.group, pool, list, notes);
     }
@@ -63,6 +68,8 @@ impl<P: Path + Drop> GroupCore<P> {
         ensures group { self.new.group ≡ cycles.reset_where members.now (is_some self.old.track) self.old.group }
         ensures path { self.new.track ≡ self.old.track }
         ensures notes { notes.new ≡ reset_notes self.old.group.reset (is_some self.old.track) self.old.group }
+        ensures kept { (limits : List Limits) (p : Option OnPath) (ws : List Wanted) → is_some p ≡ is_some self.old.track
+            → IsGroupKept limits self.old.group p ws → IsGroupKept limits self.new.group p ws }
     {
         let on_path = self.on.track.is_some();
         crate::blocks::reset::reset(members, on_path, &mut self.on.group, notes);
@@ -75,7 +82,9 @@ impl<P: Path + Drop> GroupCore<P> {
     /// Takes an owner away from the active command, the pending GroupReset and the hold on
     /// GroupStopping.
     pub fn detach(&mut self, owner: u16)
-        ensures { self.new ≡ record self.old { group = commands.group_without owner self.old.group } }
+        ensures after { self.new ≡ record self.old { group = commands.group_without owner self.old.group } }
+        ensures kept { (limits : List Limits) (p : Option OnPath) (ws : List Wanted) → IsGroupKept limits self.old.group p ws
+            → IsGroupKept limits self.new.group p (map (waiting.detached owner) ws) }
     {
         crate::calls::detach(owner, &mut self.on.group);
     }
@@ -110,6 +119,7 @@ impl GroupCore<LinePath> {
         requires { IsCount axes }
         ensures group { result.group ≡ cycles.opened axes }
         ensures path { result.track ≡ None }
+        ensures kept { (limits : List Limits) → AreGroupLimits axes limits → IsGroupKept limits result.group None [] }
     {
         GroupCore {
             on: GroupOnPath {

@@ -1,10 +1,20 @@
 // A group for the tests, whose axes take the places that they are given.
 
+ghost use Rattle.std.specs.Prelude.{◌≡◌, ◌<◌, ◌≤◌, ◌≤ℤ◌, ℕ, pos, length, true, false};
+ghost use Rattle.command_pool.specs.declared.kind.BufferMode.TheVariants.{Aborting};
+ghost use Rattle.group_core.specs.GroupKept.{AreGroupLimits, AreTargets, IsCount, IsLook, IsMade, IsWithin};
+ghost use Rattle.group_core.specs.Kinds as kinds;
+ghost use Rattle.group_core.specs.Refusals as refusals;
+ghost use Rattle.linear_path.specs.Line.{coordinate_of};
+ghost use Rattle.linear_path.specs.Path.{AreAxisLimits, limits_at};
+
+use crate::look::limits_in;
 use crate::{
     AxisState, BlockKind, BufferMode, CommandPool, Finish, Follow, GroupCore, GroupLook, GroupRow,
     GroupState, Limits, LinePath, Note, Notes, OutOfMemory, Rates, Wanted,
 };
 use std::alloc::Global;
+use std::marker::Model;
 use std::process::Abort;
 
 // The axis of the worked rows.
@@ -91,6 +101,81 @@ pub(crate) fn stopped(error: u16, ends: bool) -> Seen {
     }
 }
 
+// Stops the test where the limits of an axis are out of range.
+fn expect_axis(rt: &impl Abort, limits: &Limits)
+    ensures ranges { AreAxisLimits limits.now }
+    ensures top { limits.now.hi ≤ℤ pos 1000000000000000 }
+{
+    assert!(rt; -1_000_000_000_000_000 <= limits.lo);
+    assert!(rt; limits.lo <= limits.hi);
+    assert!(rt; limits.hi <= 1_000_000_000_000_000);
+    assert!(rt; 1 <= limits.vmax);
+    assert!(rt; limits.vmax <= 10_000_000_000);
+    assert!(rt; 2 <= limits.amax);
+    assert!(rt; limits.amax <= limits.dmax);
+    assert!(rt; limits.dmax <= 10_000_000_000);
+}
+
+// Stops the test where the limits of some axes are out of range.
+fn expect_limits(rt: &impl Abort, limits: &[Limits])
+    ensures { AreGroupLimits (length limits.now) limits.now }
+{
+    for axis in limits {
+        expect_axis(rt, axis);
+    }
+}
+
+// Stops the test where a place is outside the limits of its axis.
+fn expect_within(rt: &impl Abort, limits: &[Limits], places: &[i64; 6])
+    requires { length limits.now ≤ 6 }
+    ensures { (axis : ℕ) → axis < length limits.now → IsWithin (limits_at limits.now axis) (coordinate_of places.now axis) }
+{
+    for axis in 0..limits.len() {
+        assert!(rt; limits[axis].lo <= places[axis]);
+        assert!(rt; places[axis] <= limits[axis].hi);
+    }
+}
+
+// Stops the test where a place behind so many is not 0.
+fn expect_none_behind(rt: &impl Abort, count: u8, places: &[i64; 6])
+    requires { count ≤ 6 }
+    ensures { (axis : ℕ) → count ≤ axis → coordinate_of places.now axis ≡ pos 0 }
+{
+    for axis in count..6 {
+        assert!(rt; places[axis as usize] == 0);
+    }
+}
+
+// Stops the test where an axis stands outside its limits.
+fn expect_standing(rt: &impl Abort, members: &GroupLook)
+    requires { members.now.count ≤ 6 }
+    ensures { AreTargets members.now.count (refusals.limits_in members.now) members.now.setpoints }
+{
+    let setpoints = members.setpoints;
+    expect_within(rt, limits_in(members), &setpoints);
+    expect_none_behind(rt, members.count, &setpoints);
+}
+
+// Whether a kind takes a mode.
+fn may_wait(kind: BlockKind) -> bool
+    ensures { result ≡ kinds.may_wait kind }
+{
+    matches!(
+        kind,
+        BlockKind::MoveLinearAbsolute | BlockKind::MoveCircularAbsolute
+    )
+}
+
+// Stops the test where a command is not made of a call's inputs.
+fn expect_made(rt: &impl Abort, count: u8, wanted: &Wanted)
+    requires { count ≤ 6 }
+    ensures { IsMade count wanted.now }
+{
+    assert!(rt; wanted.kind.acts_on_group());
+    assert!(rt; may_wait(wanted.kind) || wanted.mode == BufferMode::Aborting);
+    expect_none_behind(rt, count, &wanted.targets);
+}
+
 // A group with its list of two, and its axes.
 #[derive(Drop)]
 pub(crate) struct Bench {
@@ -99,29 +184,67 @@ pub(crate) struct Bench {
     pub(crate) members: GroupLook,
 }
 
+impl Model for Bench {
+    ghost use Rattle.group_core.specs.declared.look.GroupLook.{GroupLook};
+
+    ghost Value = { GroupLook };
+
+    ghost use Rattle.std.specs.Prelude.{◌≡◌, [], length};
+    ghost use Rattle.group_core.specs.GroupKept.{IsCoreKept};
+    ghost use Rattle.group_core.specs.Refusals.{limits_in};
+    ghost use Rattle.group_core.specs.Seen.{core_at};
+
+    ghost view = { λ b. b.members };
+
+    ghost invariant = { λ b. (length b.pool ≡ 2) × (b.members.count ≡ b.group.group.axes)
+        × IsCoreKept (limits_in b.members) (core_at b.group b.pool 0 []) };
+}
+
 impl Bench {
     // A group of so many axes with these limits, which stand at 0.
-    pub(crate) fn open(alloc: Global, count: u8, limits: Limits) -> Result<Bench, OutOfMemory> {
+    pub(crate) fn open(
+        rt: &impl Abort,
+        alloc: Global,
+        count: u8,
+        limits: [Limits; 6],
+    ) -> Result<Bench, OutOfMemory> {
+        assert!(rt; 2 <= count);
+        assert!(rt; count <= 6);
+        let members = GroupLook {
+            count,
+            limits,
+            setpoints: [0; 6],
+            states: [AxisState::Standstill; 6],
+            error: 0,
+            stop_held: false,
+        };
+        expect_limits(rt, limits_in(&members));
         Ok(Bench {
             group: GroupCore::open(count),
             pool: CommandPool::open(alloc, 2)?,
-            members: GroupLook {
-                count,
-                limits: [limits; 6],
-                setpoints: [0; 6],
-                states: [AxisState::Standstill; 6],
-                error: 0,
-                stop_held: false,
-            },
+            members,
         })
+    }
+
+    // The group of two axes with these limits, enabled by the instance 0.
+    pub(crate) fn enabled_with(
+        rt: &impl Abort,
+        alloc: Global,
+        limits: [Limits; 6],
+    ) -> Result<Bench, OutOfMemory> {
+        let mut bench = Bench::open(rt, alloc, 2, limits)?;
+        bench.ask(rt, &plain(0, BlockKind::GroupEnable, 0), Ok(false), &[]);
+        assert_eq!(rt; bench.state(), GroupState::GroupStandby);
+        Ok(bench)
     }
 
     // The group of the worked rows, enabled by the instance 0.
     pub(crate) fn enabled(rt: &impl Abort, alloc: Global) -> Result<Bench, OutOfMemory> {
-        let mut bench = Bench::open(alloc, 2, AXIS)?;
-        bench.ask(rt, &plain(0, BlockKind::GroupEnable, 0), Ok(false), &[]);
-        assert_eq!(rt; bench.group.state(), GroupState::GroupStandby);
-        Ok(bench)
+        Bench::enabled_with(rt, alloc, [AXIS; 6])
+    }
+
+    pub(crate) fn state(&self) -> GroupState {
+        self.group.state()
     }
 
     // Asks a command, and compares the answer and what is told.
@@ -144,10 +267,13 @@ impl Bench {
         answer: Result<bool, u16>,
         told: &[Note],
     ) {
+        let members = self.members;
+        expect_made(rt, members.count, wanted);
+        expect_standing(rt, &members);
         let mut notes = Notes::new();
         let given = self
             .group
-            .command(&mut self.pool, 0, wanted, jerk, &self.members, &mut notes);
+            .command(&mut self.pool, 0, wanted, jerk, &members, &mut notes);
         let given = match given {
             Ok(active) => Ok(active),
             Err(refusal) => Err(refusal.number),
@@ -159,36 +285,33 @@ impl Bench {
         }
     }
 
-    // A cycle, and what it gives the axes and tells.
-    pub(crate) fn cycle(&mut self, rt: &impl Abort, places: &[i64], seen: Seen, told: &[Note]) {
+    // A step of the group in a cycle, and what it gives the axes and tells.
+    pub(crate) fn step(&mut self, rt: &impl Abort, places: &[i64], ends: bool, told: &[Note]) {
+        let members = self.members;
+        expect_standing(rt, &members);
         let mut notes = Notes::new();
-        let step = self
-            .group
-            .cycle(&mut self.pool, 0, &self.members, &mut notes);
-        let count = self.members.count as usize;
+        let step = self.group.cycle(&mut self.pool, 0, &members, &mut notes);
+        let count = members.count as usize;
         assert_eq!(rt; &step.places[..count], places);
-        assert_eq!(rt; step.ends, seen.ends, "at {places:?}");
+        assert_eq!(rt; step.ends, ends, "at {places:?}");
         assert_eq!(rt; notes.as_slice(), told, "at {places:?}");
         self.members.setpoints = step.places;
-        if step.ends {
-            self.rest();
+        if ends {
+            self.members.states = rested(&self.members.states);
         }
-        self.finish_cycle(rt, seen, &[]);
     }
 
-    // The axes on the path go to Standstill.
-    fn rest(&mut self) {
-        for state in self.members.states.iter_mut() {
-            if *state == AxisState::SynchronizedMotion {
-                *state = AxisState::Standstill;
-            }
-        }
+    // A cycle, and what it gives the axes, shows and tells.
+    pub(crate) fn cycle(&mut self, rt: &impl Abort, places: &[i64], seen: Seen, told: &[Note]) {
+        self.step(rt, places, seen.ends, told);
+        self.finish_cycle(rt, seen, &[]);
     }
 
     // The end of a cycle, and what it shows and tells.
     pub(crate) fn finish_cycle(&mut self, rt: &impl Abort, seen: Seen, told: &[Note]) {
         let mut notes = Notes::new();
-        let row = self.group.reset_cycle(&self.members, &mut notes);
+        let members = self.members;
+        let row = self.group.reset_cycle(&members, &mut notes);
         let want = GroupRow {
             state: seen.state,
             error: seen.error,
@@ -204,4 +327,45 @@ impl Bench {
             self.cycle(rt, &[*x, *y], in_state(state), &[]);
         }
     }
+
+    // Power with Enable false on a member, and what is told.
+    pub(crate) fn power_off(&mut self, rt: &impl Abort, told: &[Note]) {
+        let mut notes = Notes::new();
+        self.group.power_off(&mut self.pool, 0, &mut notes);
+        assert_eq!(rt; notes.as_slice(), told);
+    }
+
+    // An instance is gone.
+    pub(crate) fn detach(&mut self, owner: u16) {
+        self.group.detach(owner);
+        self.pool.detach(owner);
+    }
+
+    // A member is in a state.
+    pub(crate) fn set_state(&mut self, axis: u8, state: AxisState) {
+        if axis < 6 {
+            self.members.states[axis as usize] = state;
+        }
+    }
+
+    // A member has an error in the next cycle.
+    pub(crate) fn set_error(&mut self, error: u16) {
+        self.members.error = error;
+    }
+
+    // The Execute of the instance that holds GroupStopping.
+    pub(crate) fn hold(&mut self, held: bool) {
+        self.members.stop_held = held;
+    }
+}
+
+// The states of axes that leave a path at rest.
+fn rested(states: &[AxisState; 6]) -> [AxisState; 6] {
+    let mut rested = *states;
+    for axis in 0..6 {
+        if states[axis] == AxisState::SynchronizedMotion {
+            rested[axis] = AxisState::Standstill;
+        }
+    }
+    rested
 }

@@ -1,7 +1,7 @@
 // Lines.
 
 use crate::tests::bench::{
-    Bench, command, ended, in_state, leaves_for, line, line_to, plain, rates, stopped,
+    AXIS, Bench, command, ended, in_state, leaves_for, line, line_to, plain, rates, stopped,
 };
 use crate::{AxisState, BlockKind, BufferMode, Finish, GroupState, Limits, OutOfMemory};
 
@@ -39,7 +39,7 @@ fn a_line_to_where_the_axes_stand_is_done_in_the_next_cycle(
 
 #[test]
 fn commands_are_refused_by_their_first_reason(rt: HostRuntime) -> Result<(), OutOfMemory> {
-    let mut bench = Bench::open(rt.alloc(), 2, crate::tests::bench::AXIS)?;
+    let mut bench = Bench::open(&rt, rt.alloc(), 2, [AXIS; 6])?;
     let circle = command(
         2,
         BlockKind::MoveCircularAbsolute,
@@ -48,17 +48,17 @@ fn commands_are_refused_by_their_first_reason(rt: HostRuntime) -> Result<(), Out
         BufferMode::Aborting,
     );
     bench.ask(&rt, &circle, Err(16), &[]);
-    bench.members.states[1] = AxisState::Disabled;
+    bench.set_state(1, AxisState::Disabled);
     bench.ask(&rt, &plain(0, BlockKind::GroupEnable, 0), Err(1), &[]);
-    bench.members.states[1] = AxisState::ErrorStop;
+    bench.set_state(1, AxisState::ErrorStop);
     bench.ask(&rt, &plain(0, BlockKind::GroupEnable, 0), Err(2), &[]);
-    bench.members.states[1] = AxisState::Stopping;
+    bench.set_state(1, AxisState::Stopping);
     bench.ask(&rt, &plain(0, BlockKind::GroupEnable, 0), Err(3), &[]);
-    bench.members.states[1] = AxisState::Homing;
+    bench.set_state(1, AxisState::Homing);
     bench.ask(&rt, &plain(0, BlockKind::GroupEnable, 0), Err(4), &[]);
-    bench.members.states[1] = AxisState::DiscreteMotion;
+    bench.set_state(1, AxisState::DiscreteMotion);
     bench.ask(&rt, &plain(0, BlockKind::GroupEnable, 0), Err(12), &[]);
-    bench.members.states[1] = AxisState::Standstill;
+    bench.set_state(1, AxisState::Standstill);
     bench.ask(&rt, &plain(0, BlockKind::GroupEnable, 0), Ok(false), &[]);
     bench.ask(&rt, &plain(0, BlockKind::GroupEnable, 0), Err(16), &[]);
     bench.ask(&rt, &circle, Err(18), &[]);
@@ -82,7 +82,7 @@ fn commands_are_refused_by_their_first_reason(rt: HostRuntime) -> Result<(), Out
         bench.ask(&rt, &wanted, Err(number), &[]);
     }
     bench.ask_with(&rt, &line_to(1, 30, 10), 1, Err(9), &[]);
-    assert_eq!(rt; bench.group.state(), GroupState::GroupStandby);
+    assert_eq!(rt; bench.state(), GroupState::GroupStandby);
     Ok(())
 }
 
@@ -98,7 +98,7 @@ fn six_axes_go_as_far_as_they_may(rt: HostRuntime) -> Result<(), OutOfMemory> {
         amax: most,
         dmax: most,
     };
-    let mut bench = Bench::open(rt.alloc(), 6, limits)?;
+    let mut bench = Bench::open(&rt, rt.alloc(), 6, [limits; 6])?;
     bench.ask(&rt, &plain(0, BlockKind::GroupEnable, 0), Ok(false), &[]);
     let wanted = command(
         1,
@@ -126,9 +126,13 @@ fn six_axes_go_as_far_as_they_may(rt: HostRuntime) -> Result<(), OutOfMemory> {
 // The second axis is slower: the path takes at most 3 units a cycle.
 #[test]
 fn a_line_keeps_the_limits_of_its_slowest_axis(rt: HostRuntime) -> Result<(), OutOfMemory> {
-    let mut bench = Bench::enabled(&rt, rt.alloc())?;
-    bench.members.limits[1].vmax = 2;
-    bench.members.limits[1].dmax = 6;
+    let slow = Limits {
+        vmax: 2,
+        dmax: 6,
+        ..AXIS
+    };
+    let limits = [AXIS, slow, AXIS, AXIS, AXIS, AXIS];
+    let mut bench = Bench::enabled_with(&rt, rt.alloc(), limits)?;
     bench.ask(&rt, &line_to(1, 30, 20), Ok(true), &[]);
     let places = [(2, 1), (5, 3), (8, 5), (11, 7), (14, 9), (17, 11)];
     bench.run(&rt, &places, GroupState::GroupMoving);
@@ -150,8 +154,8 @@ fn an_error_of_a_member_brakes_the_path(rt: HostRuntime) -> Result<(), OutOfMemo
     bench.ask(&rt, &line_to(1, 30, 10), Ok(true), &[]);
     let places = [(2, 0), (6, 2), (12, 4), (18, 6)];
     bench.run(&rt, &places, GroupState::GroupMoving);
-    bench.members.error = 101;
-    bench.members.states[1] = AxisState::ErrorStop;
+    bench.set_error(101);
+    bench.set_state(1, AxisState::ErrorStop);
     bench.cycle(
         &rt,
         &[20, 6],
@@ -160,7 +164,7 @@ fn an_error_of_a_member_brakes_the_path(rt: HostRuntime) -> Result<(), OutOfMemo
     );
     bench.ask(&rt, &plain(2, BlockKind::GroupDisable, 0), Err(16), &[]);
     bench.ask(&rt, &line_to(1, 30, 10), Err(16), &[]);
-    bench.members.error = 103;
+    bench.set_error(103);
     bench.cycle(&rt, &[20, 6], stopped(101, true), &[]);
     assert_eq!(rt; bench.members.states[0], AxisState::Standstill);
     assert_eq!(rt; bench.members.states[1], AxisState::ErrorStop);

@@ -1,7 +1,7 @@
 // GroupStop, errors of members and GroupReset.
 
 use crate::tests::bench::{Bench, ended, in_state, leaves_for, line_to, plain, stopped};
-use crate::{AxisState, BlockKind, Finish, GroupState, Notes, OutOfMemory};
+use crate::{AxisState, BlockKind, Finish, GroupState, OutOfMemory};
 
 #[test]
 fn a_stop_holds_the_group_while_its_execute_is_true(rt: HostRuntime) -> Result<(), OutOfMemory> {
@@ -12,7 +12,7 @@ fn a_stop_holds_the_group_while_its_execute_is_true(rt: HostRuntime) -> Result<(
     let told = [ended(1, Finish::Aborted)];
     bench.ask(&rt, &plain(2, BlockKind::GroupStop, 2), Ok(true), &told);
     assert_eq!(rt; bench.group.stop_owner(), Some(2));
-    bench.members.stop_held = true;
+    bench.hold(true);
     bench.run(&rt, &[(16, 5), (18, 6)], GroupStopping);
     let told = [ended(2, Finish::Done)];
     bench.cycle(&rt, &[18, 6], in_state(GroupStopping), &told);
@@ -20,7 +20,7 @@ fn a_stop_holds_the_group_while_its_execute_is_true(rt: HostRuntime) -> Result<(
         bench.ask(&rt, &wanted, Err(16), &[]);
     }
     bench.run(&rt, &[(18, 6)], GroupStopping);
-    bench.members.stop_held = false;
+    bench.hold(false);
     bench.cycle(&rt, &[18, 6], leaves_for(GroupStandby), &[]);
     assert_eq!(rt; bench.group.stop_owner(), None);
     Ok(())
@@ -30,8 +30,8 @@ fn a_stop_holds_the_group_while_its_execute_is_true(rt: HostRuntime) -> Result<(
 fn a_stop_that_nobody_has_holds_nothing(rt: HostRuntime) -> Result<(), OutOfMemory> {
     let mut bench = Bench::enabled(&rt, rt.alloc())?;
     bench.ask(&rt, &plain(2, BlockKind::GroupStop, 2), Ok(true), &[]);
-    bench.group.detach(2);
-    bench.members.stop_held = true;
+    bench.detach(2);
+    bench.hold(true);
     assert_eq!(rt; bench.group.stop_owner(), None);
     let active = bench.group.active();
     assert!(rt; active.is_some_and(|look| look.owner.is_none() && !look.reached));
@@ -49,14 +49,12 @@ fn a_member_without_power_stops_the_group(rt: HostRuntime) -> Result<(), OutOfMe
         if cycles == 1 {
             bench.run(&rt, &[place], GroupState::GroupMoving);
         }
-        let mut notes = Notes::new();
-        bench.group.power_off(&mut bench.pool, 0, &mut notes);
-        assert_eq!(rt; notes.as_slice(), [ended(1, Finish::Error(102))].as_slice());
-        bench.members.states[1] = AxisState::Disabled;
+        bench.power_off(&rt, &[ended(1, Finish::Error(102))]);
+        bench.set_state(1, AxisState::Disabled);
         let disable = plain(2, BlockKind::GroupDisable, 0);
         let answer = if cycles == 0 { Ok(false) } else { Err(16) };
         bench.ask(&rt, &disable, answer, &[]);
-        let state = bench.group.state();
+        let state = bench.state();
         if cycles == 1 {
             bench.cycle(&rt, &[2, 0], stopped(102, true), &[]);
         } else {
@@ -81,8 +79,8 @@ fn a_reset_is_done_once_the_path_is_at_rest(rt: HostRuntime) -> Result<(), OutOf
             &[(2, 0), (6, 2), (12, 4), (18, 6)],
             GroupState::GroupMoving,
         );
-        bench.members.error = 101;
-        bench.members.states[1] = AxisState::ErrorStop;
+        bench.set_error(101);
+        bench.set_state(1, AxisState::ErrorStop);
         let reset = plain(3, BlockKind::GroupReset, 0);
         bench.ask(&rt, &reset, Ok(false), &[]);
         let told = [ended(1, Finish::Error(101))];
@@ -93,13 +91,8 @@ fn a_reset_is_done_once_the_path_is_at_rest(rt: HostRuntime) -> Result<(), OutOf
             Ok(false),
             &[ended(3, Finish::Aborted)],
         );
-        bench.members.states[1] = member;
-        let mut notes = Notes::new();
-        let step = bench
-            .group
-            .cycle(&mut bench.pool, 0, &bench.members, &mut notes);
-        assert!(rt; step.ends && notes.as_slice().is_empty());
-        bench.members.states[0] = AxisState::Standstill;
+        bench.set_state(1, member);
+        bench.step(&rt, &[20, 6], true, &[]);
         bench.finish_cycle(&rt, in_state(state), &[ended(4, Finish::Done)]);
     }
     Ok(())

@@ -19,7 +19,7 @@ advance-ending-requires-clause-step c =
     let before : Core = core_at c.args.on.now c.args.pool.now c.args.list c.args.notes.now in
     let read : Core = core_in c.answer.new.group (on_path c.args.on.now.track) c.answer.new.pool c.args.list c.answer.new.notes in
     let same = c.answer.ensures.after (on_path c.args.on.now.track) in
-    may-step (limits_in members) read (read-look members before read same c.requires.look).limits (read-kept members.error (limits_in members) before read same c.requires.kept)
+    may-step (limits_in members) read (read-kept members.error (limits_in members) before read same c.requires.kept)
 
 pub end_by-requires-clause-room : goal.end_by-requires-clause-room
 end_by-requires-clause-room c =

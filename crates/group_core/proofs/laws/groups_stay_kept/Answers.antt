@@ -5,7 +5,7 @@ use Rattle.group_core.proofs.KeptOthers.{disowned-kept, opened-kept, reset-kept}
 use Rattle.group_core.proofs.laws.groups_stay_kept.Goals as goal
 
 pub returns-clause-opened : goal.returns-clause-opened
-returns-clause-opened c = λ axes limits count. opened-kept axes limits count
+returns-clause-opened c = λ axes limits count are. opened-kept axes limits count are
 
 pub returns-clause-command : goal.returns-clause-command
 returns-clause-command c = λ members w jerk core look made kept.
