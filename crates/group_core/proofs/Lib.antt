@@ -1,3 +1,4 @@
+pub mod Benches
 pub mod KeptOthers
 pub mod CycleMade
 pub mod KeptCycles
