@@ -104,6 +104,8 @@ beginning-kept standing axes count limits starts targets e are s t =
         target_below = (t.within axis within).below;
       };
       limits_are = refl;
+      from = omega (arith, ints);
+      to = omega (arith, ints, from, ordered);
       kept = standing (limits_on (record { count = count; starts = starts; targets = targets }) limits) (pos 0) l (omega (arith, ints, from)) (omega (arith, ints, from, ordered));
     }
 
@@ -151,15 +153,32 @@ motion-kept : Laws → (m after : Motion) → AreLimits m.limits → IsKept m.li
 motion-kept laws m after are k t =
     subst (λ (n : Motion). IsKept n.limits n.previous n.place) (sym t.is) (laws.taken m.limits m.previous m.place t.wanted are k)
 
+-- the place before a taken step was one of the path
+before-from : (m after : Motion) → m.limits.lo ≡ pos 0 → IsKept m.limits m.previous m.place → IsTaken m after → pos 0 ≤ℤ after.previous
+before-from m after lo k t =
+    let e : after.previous ≡ m.place = ap (λ (n : Motion). n.previous) t.is in
+    let above = k.above in
+    omega (arith, ints, e, above, lo)
+
+before-to : (m after : Motion) → IsKept m.limits m.previous m.place → IsTaken m after → after.previous ≤ℤ after.limits.hi
+before-to m after k t =
+    let e : after.previous ≡ m.place = ap (λ (n : Motion). n.previous) t.is in
+    let l : after.limits.hi ≡ m.limits.hi = ap (λ (n : Motion). n.limits.hi) t.is in
+    let below = k.below in
+    omega (arith, ints, e, l, below)
+
 pub path-kept : Laws → (axes : ℕ) (limits : List Limits) (g : Group) (p : OnPath) → AreGroupLimits axes limits → IsPathOf axes limits p →
     IsPathOf axes limits (record p { motion = (advanced g p.motion).motion })
 path-kept laws axes limits g p are k =
     let t = is-taken g p.motion in
+    let s = stepping-of axes limits p are k in
     record {
       count = k.count;
       starts = k.starts;
       targets = k.targets;
       within = k.within;
       limits_are = ap (λ (m : Motion). m.limits) t.is ∙ k.limits_are;
+      from = before-from p.motion (advanced g p.motion).motion s.motion.from k.kept t;
+      to = before-to p.motion (advanced g p.motion).motion k.kept t;
       kept = motion-kept laws p.motion (advanced g p.motion).motion (limits-of-path axes limits p are k) k.kept t;
     }

@@ -1,3 +1,5 @@
+pub mod PathEnds
+pub mod MemberLaws
 pub mod Benches
 pub mod KeptOthers
 pub mod CycleMade

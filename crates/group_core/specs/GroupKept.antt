@@ -93,6 +93,8 @@ pub record IsPathOf (axes : ℕ) (limits : List Limits) (p : OnPath) : Type 0 wh
   pub targets : AreInRange p.way.targets
   pub within : (axis : ℕ) → axis < axes → AreWithin (limits_at limits axis) (coordinate_of p.way.starts axis) (coordinate_of p.way.targets axis)
   pub limits_are : p.motion.limits ≡ limits_on p.way limits
+  pub from : pos 0 ≤ℤ p.motion.previous
+  pub to : p.motion.previous ≤ℤ p.motion.limits.hi
   pub kept : IsKept p.motion.limits p.motion.previous p.motion.place
 
 -- a command that waits: a line, with rates in their ranges, to targets within the limits. BufferMode

@@ -7,6 +7,7 @@ pub mod GroupKept
 pub mod Kinds
 pub mod Lines
 pub mod Looks
+pub mod Members
 pub mod Refusals
 pub mod Seen
 pub mod States
