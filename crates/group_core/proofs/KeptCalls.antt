@@ -38,7 +38,8 @@ of_kind k w = record w { kind = k }
 pub failed-kept : (n : ℕ) (limits : List Limits) (c : Core) → IsCoreKept limits c → IsCoreKept limits (failed n c)
 unfolding failed
 failed-kept n limits c k = record {
-  axes = k.axes; limits_are = k.limits_are;
+  axes = k.axes;
+  limits_are = k.limits_are;
   state = refl;
   active = λ w h. absurd (cc);
   path = k.path;
@@ -184,7 +185,8 @@ halted-path-kept laws members c a within =
 halt-kept : Standing → (members : GroupLook) (w : Wanted) (c : Core) → IsAsked members c → is_within c.group.state ≡ true → IsDeceleration w.rates.d →
     IsCoreKept (limits_in members) (halted members (of_kind kind.GroupHalt w) c)
 halt-kept laws members w c a within d = record {
-  axes = a.kept.axes; limits_are = a.kept.limits_are;
+  axes = a.kept.axes;
+  limits_are = a.kept.limits_are;
   state = record { on = halted-some _ _ c.path; led = refl };
   active = the-active state.GroupMoving (of_kind kind.GroupHalt w) (record { fitting = refl; numbers = d });
   path = halted-path-kept laws members c a within;
@@ -195,7 +197,8 @@ halt-kept laws members w c a within d = record {
 stop-kept : Standing → (members : GroupLook) (w : Wanted) (c : Core) → IsAsked members c → is_within c.group.state ≡ true → IsDeceleration w.rates.d →
     IsCoreKept (limits_in members) (halted members (of_kind kind.GroupStop w) c)
 stop-kept laws members w c a within d = record {
-  axes = a.kept.axes; limits_are = a.kept.limits_are;
+  axes = a.kept.axes;
+  limits_are = a.kept.limits_are;
   state = record { on = halted-some _ _ c.path; rests = λ e. absurd (cc) };
   active = the-active state.GroupStopping (of_kind kind.GroupStop w) (record { fitting = refl; numbers = d });
   path = halted-path-kept laws members c a within;
@@ -292,7 +295,8 @@ braked-kept members w c a l m =
     let moving = moves-in c.group.state (is_moving c.path) c.path c.group.active l.come m a.kept.state in
     let led = moving-in c.group.state c.path c.group.active moving a.kept.state in
     record {
-      axes = a.kept.axes; limits_are = a.kept.limits_are;
+      axes = a.kept.axes;
+      limits_are = a.kept.limits_are;
       state = in-moving c.group.state c.path (braking_for c.group.active) moving (record { on = led.on; led = braking-some c.group.active led.led });
       active = braking-active c.group.state c.group.active moving a.kept.active;
       path = a.kept.path;
@@ -331,7 +335,8 @@ later-kept members false (Some v) w c e h a l =
     let P : Option Wanted → Type 0 = λ o. IsInState c.group.state c.path o in
     let moving = led-in c.group.state (is_moving c.path) c.path c.group.active l.come (ap is_some e) a.kept.state in
     record {
-      axes = a.kept.axes; limits_are = a.kept.limits_are;
+      axes = a.kept.axes;
+      limits_are = a.kept.limits_are;
       state = subst P e a.kept.state;
       active = λ u h. a.kept.active u (e ∙ h);
       path = a.kept.path;
@@ -363,7 +368,8 @@ kept-by laws kind.GroupEnable members w jerk c a m n =
     let come = not-false _ n.1.1.1.1.1.0 in
     let idle = enable-idle c.group.state (is_moving c.path) c.path c.group.active come a.kept.state in
     record {
-      axes = a.kept.axes; limits_are = a.kept.limits_are;
+      axes = a.kept.axes;
+      limits_are = a.kept.limits_are;
       state = idle;
       active = no-active state.GroupStandby c.group.active idle.idle;
       path = a.kept.path;
@@ -374,7 +380,8 @@ kept-by laws kind.GroupDisable members w jerk c a m n =
     let come = not-false _ n.0 in
     let idle = disable-idle c.group.state (is_moving c.path) c.path c.group.active come a.kept.state in
     record {
-      axes = a.kept.axes; limits_are = a.kept.limits_are;
+      axes = a.kept.axes;
+      limits_are = a.kept.limits_are;
       state = record { off = refl; idle = idle };
       active = no-active state.GroupDisabled c.group.active idle;
       path = λ p e. absurd (cc);
@@ -382,7 +389,8 @@ kept-by laws kind.GroupDisable members w jerk c a m n =
       queue = inl (none-waits c.group.state c.waiting a.kept.queue (disable-alone c.group.state (is_moving c.path) come));
     }
 kept-by laws kind.GroupReset members w jerk c a m n = record {
-  axes = a.kept.axes; limits_are = a.kept.limits_are;
+  axes = a.kept.axes;
+  limits_are = a.kept.limits_are;
   state = a.kept.state;
   active = a.kept.active;
   path = a.kept.path;

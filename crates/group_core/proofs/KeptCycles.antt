@@ -137,7 +137,8 @@ after-state laws axes limits state.GroupHoming g o are f e i = absurd i
 pub stepped-kept : Laws → (limits : List Limits) (c : Core) → AreGroupLimits c.group.axes limits → IsCoreKept limits c →
     IsCoreKept limits (record c { path = path_after c.group c.path })
 stepped-kept laws limits c are k = record {
-  axes = k.axes; limits_are = k.limits_are;
+  axes = k.axes;
+  limits_are = k.limits_are;
   state = after-state laws c.group.axes limits c.group.state c.group c.path are k.path refl k.state;
   active = k.active;
   path = after-path laws c.group.axes limits c.group c.path are k.path;
@@ -248,7 +249,8 @@ taken-kept : Laws → (members : GroupLook) (setpoints : List ℤ) (ws : List Wa
       notes = c.notes ++ active_note f c.group.active;
     }))
 taken-kept laws members setpoints [] f c a e r = record {
-  axes = a.kept.axes; limits_are = a.kept.limits_are;
+  axes = a.kept.axes;
+  limits_are = a.kept.limits_are;
   state = settled-state c.group.state c.path c.group.active a.kept.state r;
   active = λ w h. absurd (cc);
   path = settled-path c.group.axes (limits_in members) c.group.state c.path a.kept.path;
@@ -319,7 +321,8 @@ released-where : (b : Bool) (limits : List Limits) (c : Core) → IsCoreKept lim
       path = (if b then None else c.path);
     })
 released-where true limits c k f = record {
-  axes = k.axes; limits_are = k.limits_are;
+  axes = k.axes;
+  limits_are = k.limits_are;
   state = record { off = refl; idle = (f refl).1 };
   active = no-active state.GroupStandby c.group.active (f refl).1;
   path = λ p e. absurd (cc);
@@ -327,7 +330,8 @@ released-where true limits c k f = record {
   queue = inl (none-waits c.group.state c.waiting k.queue (not-moving c.group.state (f refl).0));
 }
 released-where false limits c k f = record {
-  axes = k.axes; limits_are = k.limits_are;
+  axes = k.axes;
+  limits_are = k.limits_are;
   state = k.state;
   active = k.active;
   path = k.path;
@@ -346,7 +350,8 @@ error-state _ o active h i = absurd (cc)
 over-where : (b : Bool) (limits : List Limits) (c : Core) → IsCoreKept limits c → (b ≡ true → is_error_stop c.group.state ≡ true) →
     IsCoreKept limits (record c { path = (if b then None else c.path) })
 over-where true limits c k f = record {
-  axes = k.axes; limits_are = k.limits_are;
+  axes = k.axes;
+  limits_are = k.limits_are;
   state = error-state c.group.state c.path c.group.active (f refl) k.state;
   active = k.active;
   path = λ p e. absurd (cc);
@@ -354,7 +359,8 @@ over-where true limits c k f = record {
   queue = k.queue;
 }
 over-where false limits c k f = record {
-  axes = k.axes; limits_are = k.limits_are;
+  axes = k.axes;
+  limits_are = k.limits_are;
   state = k.state;
   active = k.active;
   path = k.path;

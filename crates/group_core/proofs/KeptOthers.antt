@@ -93,7 +93,8 @@ owned-queue owner s ws (inr e) = inr e
 pub disowned-kept : (owner : ℕ) (limits : List Limits) (c : Core) → IsCoreKept limits c → IsCoreKept limits (disowned owner c)
 unfolding group_without
 disowned-kept owner limits c k = record {
-  axes = k.axes; limits_are = k.limits_are;
+  axes = k.axes;
+  limits_are = k.limits_are;
   state = owned-state owner c.group.state c.path c.group.active k.state;
   active = owned-active owner c.group.state c.group.active k.active;
   path = k.path;
@@ -146,7 +147,8 @@ reset-by-kept (Some r) members limits c k =
     let m : Bool = list_any is_moved (states_in members) in
     by-if (WithGroup limits c) (may_reset (is_some c.path) c.group) (after_reset (states_in members) c.group) c.group
     (λ h. record {
-      axes = k.axes; limits_are = k.limits_are;
+      axes = k.axes;
+      limits_are = k.limits_are;
       state = reset-state m c.group.state c.path c.group.active (not-true _ h) k.state;
       active = reset-active m c.group.state c.path c.group.active k.state k.active;
       path = k.path;

@@ -1,3 +1,4 @@
+pub mod PathBegins
 pub mod PathEnds
 pub mod MemberLaws
 pub mod Benches

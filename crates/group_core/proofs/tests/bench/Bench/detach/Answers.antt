@@ -21,8 +21,9 @@ invariant_of-self c =
     let kept = c.detach.ensures.kept (limits_in members) (on_path c.self.inside.group.track) (queue_of c.self.inside.pool 0) old in
     let queue : queue_of c.detach-2.new.self 0 ≡ map (waiting.detached c.args.owner) (queue_of c.self.inside.pool 0) =
     ap (λ (p : List (List Wanted)). queue_of p 0) c.detach-2.ensures ∙ queue-without (waiting.detached c.args.owner) c.self.inside.pool in
-    let path = ap (λ (v : GroupOnPath LinePath). on_path v.track) c.detach.ensures.after in
-    (ap length c.detach-2.ensures ∙ as-many (map (waiting.detached c.args.owner)) c.self.inside.pool ∙ c.self.invariant.0,
-    c.self.invariant.1 ∙ same-axes (limits_in members) _ _ _ _ _ _ old kept,
-    subst (λ (p : Option OnPath). IsGroupKept (limits_in members) c.detach.new.self.group p (queue_of c.detach-2.new.self 0)) (sym path)
-    (subst (λ (ws : List Wanted). IsGroupKept (limits_in members) c.detach.new.self.group (on_path c.self.inside.group.track) ws) (sym queue) kept))
+    let path = ap (λ (v : GroupOnPath LinePath). on_path v.track) c.detach.ensures.after in (
+      ap length c.detach-2.ensures ∙ as-many (map (waiting.detached c.args.owner)) c.self.inside.pool ∙ c.self.invariant.0,
+      c.self.invariant.1 ∙ same-axes (limits_in members) _ _ _ _ _ _ old kept,
+      subst (λ (p : Option OnPath). IsGroupKept (limits_in members) c.detach.new.self.group p (queue_of c.detach-2.new.self 0)) (sym path)
+          (subst (λ (ws : List Wanted). IsGroupKept (limits_in members) c.detach.new.self.group (on_path c.self.inside.group.track) ws) (sym queue) kept),
+    )

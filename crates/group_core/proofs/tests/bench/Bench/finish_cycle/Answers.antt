@@ -19,8 +19,9 @@ pub invariant_of-self : goal.invariant_of-self
 invariant_of-self g c =
     let members = c.self.inside.members in
     let old = c.self.invariant.2 in
-    let kept = c.reset_cycle-row.ensures.kept (limits_in members) (on_path c.self.inside.group.track) (queue_of c.self.inside.pool 0) (on-some c.self.inside.group.track) old in
-    (c.self.invariant.0,
-    c.self.invariant.1 ∙ same-axes (limits_in members) _ _ _ _ _ _ old kept,
-    subst (λ (p : Option OnPath). IsGroupKept (limits_in members) c.reset_cycle-row.new.self.group p (queue_of c.self.inside.pool 0))
-    (ap on_path (sym c.reset_cycle-row.ensures.path)) kept)
+    let kept = c.reset_cycle-row.ensures.kept (limits_in members) (on_path c.self.inside.group.track) (queue_of c.self.inside.pool 0) (on-some c.self.inside.group.track) old in (
+      c.self.invariant.0,
+      c.self.invariant.1 ∙ same-axes (limits_in members) _ _ _ _ _ _ old kept,
+      subst (λ (p : Option OnPath). IsGroupKept (limits_in members) c.reset_cycle-row.new.self.group p (queue_of c.self.inside.pool 0))
+          (ap on_path (sym c.reset_cycle-row.ensures.path)) kept,
+    )
