@@ -1,3 +1,4 @@
+pub mod FateLaws
 pub mod PathBegins
 pub mod PathEnds
 pub mod MemberLaws

@@ -2,7 +2,9 @@ pub mod Admitting
 pub mod Asking
 pub mod Calls
 pub mod Cores
+pub mod Courses
 pub mod Cycles
+pub mod Fates
 pub mod GroupKept
 pub mod Kinds
 pub mod Lines

@@ -1,14 +1,17 @@
 // Laws of a group: each is the contract of a function that does nothing.
 
-ghost use Rattle.std.specs.Prelude.{◌≡◌, ◌⊎◌, ◌<◌, ℕ, ℤ, true, false, Some, List};
+ghost use Rattle.std.specs.Prelude.{◌≡◌, ◌⊎◌, ◌<◌, ℕ, ℤ, Bool, true, false, Some, List};
+ghost use Rattle.buffer_modes.specs.Owners.{IsSame};
 ghost use Rattle.command_pool.specs.declared.wanted.Wanted.{Wanted};
-ghost use Rattle.group_core.specs.Calls.{commanded, disowned, powered_off};
+ghost use Rattle.group_core.specs.Calls.{commanded, disowned, group_without, powered_off};
 ghost use Rattle.group_core.specs.Cores.{Core};
-ghost use Rattle.group_core.specs.Cycles.{cycled, opening, reset_cycled, step_of};
+ghost use Rattle.group_core.specs.Cycles.{cycled, opening, reset_cycled, reset_where, step_of};
+ghost use Rattle.group_core.specs.Fates.{IsFate, command_fate, cycle_fate, power_off_fate};
 ghost use Rattle.group_core.specs.GroupKept.{AreGroupLimits, IsCoreKept, IsCount, IsLook, IsMade};
 ghost use Rattle.group_core.specs.Members.{StandsOn, TakesSafely};
 ghost use Rattle.group_core.specs.Refusals.{limits_in};
 ghost use Rattle.group_core.specs.Tracks.{OnPath, is_moving};
+ghost use Rattle.group_core.specs.declared.group.Group.{Group};
 ghost use Rattle.group_core.specs.declared.look.GroupLook.{GroupLook};
 ghost use Rattle.kin_core.specs.declared.limits.Limits.{Limits};
 ghost use Rattle.linear_path.specs.Line.{coordinate_of};
@@ -57,3 +60,14 @@ pub fn members_keep_their_limits()
     steps_along_a_path_are_safe::<LinePath>();
     taken_steps_keep();
 }
+
+/// A fate is what becomes of the active command of a group: by a command that is asked, a Power off of
+/// a member, an owner that is taken away and a cycle; a GroupReset leaves it as it is.
+pub fn fates_are_told()
+    ensures command { (w : Wanted) (jerk : ℤ) (members : GroupLook) (c : Core) →
+        IsFate (command_fate w jerk members c) c.group.active (commanded w jerk members c).group.active }
+    ensures power_off { (c : Core) → IsFate (power_off_fate c) c.group.active (powered_off c).group.active }
+    ensures detach { (owner : ℕ) (g : Group) → IsSame g.active (group_without owner g).active }
+    ensures cycle { (members : GroupLook) (c : Core) → IsFate (cycle_fate members c) c.group.active (cycled members c).group.active }
+    ensures reset { (members : GroupLook) (on_path : Bool) (g : Group) → (reset_where members on_path g).active ≡ g.active }
+{}

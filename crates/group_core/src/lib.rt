@@ -26,7 +26,7 @@ pub use command_pool::{
 pub use group::{Group, GroupOnPath, Motion, PendingReset, Track};
 pub use group_state::{GroupRow, GroupState};
 pub use kin_core::Limits;
-pub use laws::{groups_stay_kept, members_keep_their_limits};
+pub use laws::{fates_are_told, groups_stay_kept, members_keep_their_limits};
 pub use linear_path::{LinePath, Path};
 pub use look::{ActiveLook, GroupLook, GroupStep};
 pub use one_group::GroupCore;

@@ -1,0 +1,35 @@
+-- Which instance has a command, how often, and how often it is told of an end (PLCopen Motion Control Part 1, general rules).
+use Rattle.std.specs.Prelude.{◌≡◌, ℕ, ◌+◌, Bool, true, false, nat_eq, Option, Some, None, List, [], ◌∷◌}
+use Rattle.command_pool.specs.declared.notes.Note.{Note}
+use Rattle.command_pool.specs.declared.wanted.Wanted.{Wanted}
+
+-- the instance that has a command
+abbrev pub owner_by : Option Wanted → Option ℕ
+owner_by None = None
+owner_by (Some w) = w.owner
+
+-- 1 where an owner is this instance, else 0
+abbrev pub one_of : Bool → ℕ
+one_of true = 1
+one_of false = 0
+
+unfoldable pub is_owner : ℕ → Option ℕ → ℕ
+is_owner k None = 0
+is_owner k (Some owner) = one_of (nat_eq owner k)
+
+-- how many of the commands that wait this instance has
+abbrev pub waits_of : ℕ → List Wanted → ℕ
+waits_of k [] = 0
+waits_of k (w ∷ ws) = is_owner k w.owner + waits_of k ws
+
+-- how many of some notes are for this instance
+abbrev pub told : ℕ → List Note → ℕ
+told k [] = 0
+told k (n ∷ ns) = is_owner k (Some n.owner) + told k ns
+
+-- commands that are the same but for the instance that has them
+abbrev pub IsSame : Option Wanted → Option Wanted → Type 0
+IsSame None None = Unit {0}
+IsSame None (Some v) = ⊥
+IsSame (Some w) None = ⊥
+IsSame (Some w) (Some v) = record v { owner = None } ≡ record w { owner = None }
