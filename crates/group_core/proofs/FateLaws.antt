@@ -67,7 +67,7 @@ goes-on-fate before now e = record {
 }
 
 -- the active command where another one waits behind it
-later-active : (aborts : Bool) (active : Option Wanted) (ws : List Wanted) (w : Wanted) → (aborts || is_none active) ≡ false →
+pub later-active : (aborts : Bool) (active : Option Wanted) (ws : List Wanted) (w : Wanted) → (aborts || is_none active) ≡ false →
     (let after : Commands = if aborts then record { active = Some w; waiting = [] } else behind active ws w in after).active ≡ active
 later-active true active ws w h = absurd (cc)
 later-active false None ws w h = absurd (cc)
@@ -191,7 +191,7 @@ moved-fated members c =
     (λ f h. ending-active c.group c.path f h)
 
 -- nothing ends by the step of a group that has failed
-none-ends : (members : GroupLook) (s : List ℤ) (o : Option Finish) (c : Core) → o ≡ None → ended_by members s o c ≡ c
+pub none-ends : (members : GroupLook) (s : List ℤ) (o : Option Finish) (c : Core) → o ≡ None → ended_by members s o c ≡ c
 none-ends members s None c e = refl
 none-ends members s (Some f) c e = absurd (cc)
 

@@ -152,6 +152,9 @@ disable-idle state.GroupStandby moves p active h i = i.idle
 disable-idle state.GroupErrorStop moves p active h i = i
 disable-idle _ moves p active h i = absurd (cc)
 
+pub disable-none : (members : GroupLook) (c : Core) → IsAsked members c → not (may_come kind.GroupDisable c.group.state (is_moving c.path)) ≡ false → c.group.active ≡ None
+disable-none members c a h = disable-idle c.group.state (is_moving c.path) c.path c.group.active (not-false _ h) a.kept.state
+
 -- no active command is active in any state
 pub no-active : (s : GroupState) (active : Option Wanted) → active ≡ None → (w : Wanted) → active ≡ Some w → IsActive s w
 no-active s active e w h = absurd (let f : None ≡ Some w = sym e ∙ h in cc)

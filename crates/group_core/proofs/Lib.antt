@@ -1,3 +1,5 @@
+pub mod CourseLaws
+pub mod StepLaws
 pub mod FateLaws
 pub mod PathBegins
 pub mod PathEnds

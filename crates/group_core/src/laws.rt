@@ -1,23 +1,29 @@
 // Laws of a group: each is the contract of a function that does nothing.
 
-ghost use Rattle.std.specs.Prelude.{◌≡◌, ◌⊎◌, ◌<◌, ℕ, ℤ, Bool, true, false, Some, List};
+ghost use Rattle.std.specs.Prelude.{◌≡◌, ◌⊎◌, ◌<◌, ℕ, ℤ, pos, Bool, true, false, Some, List};
+ghost use Rattle.std.specs.Ordering.{int_eq};
 ghost use Rattle.buffer_modes.specs.Owners.{IsSame};
 ghost use Rattle.command_pool.specs.declared.wanted.Wanted.{Wanted};
-ghost use Rattle.group_core.specs.Calls.{commanded, disowned, group_without, powered_off};
+ghost use Rattle.group_core.specs.Calls.{asked_in, commanded, disowned, group_without, powered_off};
 ghost use Rattle.group_core.specs.Cores.{Core};
-ghost use Rattle.group_core.specs.Cycles.{cycled, opening, reset_cycled, reset_where, step_of};
-ghost use Rattle.group_core.specs.Fates.{IsFate, command_fate, cycle_fate, power_off_fate};
+ghost use Rattle.group_core.specs.Courses.{Carried, Course, IsUnderWay, Leads, bound_of, course_of, is_line_done, is_slowing};
+ghost use Rattle.group_core.specs.Cycles.{answered, cycled, opening, path_taken, reset_cycled, reset_where, step_of};
+ghost use Rattle.group_core.specs.Fates.{IsFate, command_fate, cycle_fate, is_failing, power_off_fate};
 ghost use Rattle.group_core.specs.GroupKept.{AreGroupLimits, IsCoreKept, IsCount, IsLook, IsMade};
 ghost use Rattle.group_core.specs.Members.{StandsOn, TakesSafely};
-ghost use Rattle.group_core.specs.Refusals.{limits_in};
-ghost use Rattle.group_core.specs.Tracks.{OnPath, is_moving};
+ghost use Rattle.group_core.specs.Refusals.{limits_in, refusal_of};
+ghost use Rattle.group_core.specs.States.{is_error_stop};
+ghost use Rattle.group_core.specs.Tracks.{OnPath, braking_step_of, is_moving, line_step_of, moved_by};
 ghost use Rattle.group_core.specs.declared.group.Group.{Group};
 ghost use Rattle.group_core.specs.declared.look.GroupLook.{GroupLook};
+ghost use Rattle.group_core.specs.declared.reason.Reason.{Reason};
 ghost use Rattle.kin_core.specs.declared.limits.Limits.{Limits};
 ghost use Rattle.linear_path.specs.Line.{coordinate_of};
 
+use command_pool::BlockKind;
 use kin_core::{braking_steps_are_only_cut, standing_is_kept, taken_steps_keep};
 use linear_path::{LinePath, steps_along_a_path_are_safe};
+use trapezoid_plan::{halts_come_to_rest_in_time, moves_arrive_in_time};
 
 /// What always holds of a group, of its path and of the commands that wait for it holds at opening,
 /// and after every call, every cycle and every GroupReset.
@@ -71,3 +77,43 @@ pub fn fates_are_told()
     ensures cycle { (members : GroupLook) (c : Core) → IsFate (cycle_fate members c) c.group.active (cycled members c).group.active }
     ensures reset { (members : GroupLook) (on_path : Bool) (g : Group) → (reset_where members on_path g).active ≡ g.active }
 {}
+
+/// While no error of a member stops the group, a line goes on by the taken move step of its path, by its
+/// rates cut to those of the path, and is Done exactly where it stands at the end with step 0; a
+/// GroupHalt and a GroupStop, and what brakes a path before an aborting line, brake it by their
+/// Deceleration, and are Done exactly where the step is 0. In GroupErrorStop a path brakes by its dmax,
+/// from the cycle of the error on. A refused command changes nothing.
+pub fn paths_go_on_by_their_steps()
+    ensures lines { (members : GroupLook) (c : Core) (p : OnPath) (w : Wanted) → IsCoreKept (limits_in members) c → c.group.active ≡ Some w →
+        w.kind ≡ BlockKind.MoveLinearAbsolute → c.path ≡ Some p → is_failing members c ≡ false →
+        Leads (line_step_of w.rates p.motion) (is_line_done p.motion (line_step_of w.rates p.motion)) p.motion
+        (cycle_fate members c) (path_taken members c) }
+    ensures halts { (members : GroupLook) (c : Core) (p : OnPath) (w : Wanted) → IsCoreKept (limits_in members) c → c.group.active ≡ Some w →
+        is_slowing w.kind ≡ true → c.path ≡ Some p → is_failing members c ≡ false →
+        Leads (braking_step_of w.rates.d p.motion) (int_eq (braking_step_of w.rates.d p.motion) (pos 0)) p.motion
+        (cycle_fate members c) (path_taken members c) }
+    ensures errors { (members : GroupLook) (c : Core) (p : OnPath) → c.path ≡ Some p → is_error_stop (answered members.error c).group.state ≡ true →
+        path_taken members c ≡ Some (record p { motion = moved_by (braking_step_of p.motion.limits.dmax p.motion) p.motion }) }
+    ensures refused { (w : Wanted) (jerk : ℤ) (members : GroupLook) (c : Core) (r : Reason) → refusal_of (asked_in c w jerk members) ≡ Some r →
+        commanded w jerk members c ≡ c }
+{}
+
+/// A line, a GroupHalt and a GroupStop, and what brakes a path before an aborting line, come to their
+/// end in time: an active one is under way for as many cycles as its bound, and every event carries it
+/// on, with fewer cycles to go, or ends it: it is Done at the end of its course, replaced or faulted.
+pub fn courses_end_in_time()
+    ensures begins { (course : Course) (limits : List Limits) (c : Core) (w : Wanted) (p : OnPath) → IsCoreKept limits c → c.group.active ≡ Some w →
+        c.path ≡ Some p → course_of w ≡ Some course → IsUnderWay (bound_of course p.motion) course c }
+    ensures command { (n : ℕ) (course : Course) (w : Wanted) (jerk : ℤ) (members : GroupLook) (c : Core) → IsLook c.group members →
+        IsMade c.group.axes w → IsCoreKept (limits_in members) c → IsUnderWay n course c →
+        Carried n 0 course (command_fate w jerk members c).ends (commanded w jerk members c).path (commanded w jerk members c) }
+    ensures power_off { (n : ℕ) (course : Course) (c : Core) → IsUnderWay n course c →
+        Carried n 0 course (power_off_fate c).ends (powered_off c).path (powered_off c) }
+    ensures detach { (n : ℕ) (course : Course) (owner : ℕ) (c : Core) → IsUnderWay n course c → IsUnderWay n course (disowned owner c) }
+    ensures cycle { (n : ℕ) (course : Course) (members : GroupLook) (c : Core) → IsCoreKept (limits_in members) c → IsUnderWay n course c →
+        Carried n 1 course (cycle_fate members c).ends (path_taken members c) (cycled members c) }
+    ensures reset { (n : ℕ) (course : Course) (members : GroupLook) (c : Core) → IsUnderWay n course c → IsUnderWay n course (reset_cycled members c) }
+{
+    moves_arrive_in_time();
+    halts_come_to_rest_in_time();
+}

@@ -26,7 +26,10 @@ pub use command_pool::{
 pub use group::{Group, GroupOnPath, Motion, PendingReset, Track};
 pub use group_state::{GroupRow, GroupState};
 pub use kin_core::Limits;
-pub use laws::{fates_are_told, groups_stay_kept, members_keep_their_limits};
+pub use laws::{
+    courses_end_in_time, fates_are_told, groups_stay_kept, members_keep_their_limits,
+    paths_go_on_by_their_steps,
+};
 pub use linear_path::{LinePath, Path};
 pub use look::{ActiveLook, GroupLook, GroupStep};
 pub use one_group::GroupCore;
