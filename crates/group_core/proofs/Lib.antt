@@ -1,3 +1,6 @@
+pub mod ChangeLaws
+pub mod OwnerLaws
+pub mod ToldLaws
 pub mod CourseLaws
 pub mod StepLaws
 pub mod FateLaws

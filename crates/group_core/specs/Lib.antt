@@ -1,6 +1,7 @@
 pub mod Admitting
 pub mod Asking
 pub mod Calls
+pub mod Changes
 pub mod Cores
 pub mod Courses
 pub mod Cycles
@@ -10,8 +11,10 @@ pub mod Kinds
 pub mod Lines
 pub mod Looks
 pub mod Members
+pub mod Owners
 pub mod Refusals
 pub mod Seen
+pub mod Shown
 pub mod States
 pub mod Stepping
 pub mod Tracks

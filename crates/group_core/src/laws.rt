@@ -1,8 +1,8 @@
 // Laws of a group: each is the contract of a function that does nothing.
 
-ghost use Rattle.std.specs.Prelude.{◌≡◌, ◌⊎◌, ◌<◌, ℕ, ℤ, pos, Bool, true, false, Some, List};
+ghost use Rattle.std.specs.Prelude.{◌≡◌, ◌⊎◌, ◌+◌, ◌<◌, ◌≤◌, nat_eq, length, ℕ, ℤ, pos, Bool, true, false, Some, List};
 ghost use Rattle.std.specs.Ordering.{int_eq};
-ghost use Rattle.buffer_modes.specs.Owners.{IsSame};
+ghost use Rattle.buffer_modes.specs.Owners.{IsSame, is_owner, told};
 ghost use Rattle.command_pool.specs.declared.wanted.Wanted.{Wanted};
 ghost use Rattle.group_core.specs.Calls.{asked_in, commanded, disowned, group_without, powered_off};
 ghost use Rattle.group_core.specs.Cores.{Core};
@@ -11,6 +11,9 @@ ghost use Rattle.group_core.specs.Cycles.{answered, cycled, opening, path_taken,
 ghost use Rattle.group_core.specs.Fates.{IsFate, command_fate, cycle_fate, is_failing, power_off_fate};
 ghost use Rattle.group_core.specs.GroupKept.{AreGroupLimits, IsCoreKept, IsCount, IsLook, IsMade};
 ghost use Rattle.group_core.specs.Members.{StandsOn, TakesSafely};
+ghost use Rattle.group_core.specs.Changes.{IsNext};
+ghost use Rattle.group_core.specs.Owners.{TellsOwner, brought, owns};
+ghost use Rattle.group_core.specs.Shown.{IsShown};
 ghost use Rattle.group_core.specs.Refusals.{limits_in, refusal_of};
 ghost use Rattle.group_core.specs.States.{is_error_stop};
 ghost use Rattle.group_core.specs.Tracks.{OnPath, braking_step_of, is_moving, line_step_of, moved_by};
@@ -117,3 +120,55 @@ pub fn courses_end_in_time()
     moves_arrive_in_time();
     halts_come_to_rest_in_time();
 }
+
+/// The owner of the active command is told how it ends; and each instance is told of each command that
+/// it has no longer, once, and of no other: what it has and what it was told stay the same together,
+/// but for the command that it brings.
+pub fn ends_are_told_once()
+    ensures told_command { (w : Wanted) (jerk : ℤ) (members : GroupLook) (c : Core) →
+        TellsOwner (command_fate w jerk members c) c.group.active (commanded w jerk members c).notes }
+    ensures told_power_off { (c : Core) → TellsOwner (power_off_fate c) c.group.active (powered_off c).notes }
+    ensures told_cycle { (members : GroupLook) (c : Core) → TellsOwner (cycle_fate members c) c.group.active (cycled members c).notes }
+    ensures once_command { (k : ℕ) (w : Wanted) (jerk : ℤ) (members : GroupLook) (c : Core) →
+        owns k (commanded w jerk members c) + told k (commanded w jerk members c).notes
+        ≡ owns k c + told k c.notes + is_owner k (brought (refusal_of (asked_in c w jerk members)) w) }
+    ensures once_power_off { (k : ℕ) (c : Core) → owns k (powered_off c) + told k (powered_off c).notes ≡ owns k c + told k c.notes }
+    ensures once_cycle { (k : ℕ) (members : GroupLook) (c : Core) →
+        owns k (cycled members c) + told k (cycled members c).notes ≡ owns k c + told k c.notes }
+    ensures once_reset { (k : ℕ) (members : GroupLook) (c : Core) →
+        owns k (reset_cycled members c) + told k (reset_cycled members c).notes ≡ owns k c + told k c.notes }
+    ensures taken_away { (k : ℕ) (c : Core) → owns k (disowned k c) ≡ 0 }
+    ensures left { (j k : ℕ) (c : Core) → nat_eq k j ≡ false → owns j (disowned k c) ≡ owns j c }
+{}
+
+/// A group changes its state by the diagram alone: each call, each cycle and each GroupReset takes at
+/// most one of its rows, from a state of that row; an owner that is taken away changes none.
+pub fn states_change_by_the_diagram()
+    ensures command { (w : Wanted) (jerk : ℤ) (members : GroupLook) (c : Core) → IsMade c.group.axes w →
+        IsNext c.group.state (commanded w jerk members c).group.state }
+    ensures power_off { (c : Core) → IsNext c.group.state (powered_off c).group.state }
+    ensures detach { (owner : ℕ) (g : Group) → (group_without owner g).state ≡ g.state }
+    ensures cycle { (members : GroupLook) (c : Core) → IsCoreKept (limits_in members) c → IsNext c.group.state (cycled members c).group.state }
+    ensures reset { (members : GroupLook) (on_path : Bool) (g : Group) → IsNext g.state (reset_where members on_path g).state }
+{}
+
+/// A group shows an error exactly in GroupErrorStop, and an instance holds GroupStopping only in
+/// GroupStopping: so at opening, and after every call, every cycle and every GroupReset.
+pub fn errors_stand_in_error_stop()
+    ensures opened { (axes : ℕ) → IsShown (opening axes).group }
+    ensures command { (w : Wanted) (jerk : ℤ) (members : GroupLook) (c : Core) → IsCoreKept (limits_in members) c → IsMade c.group.axes w →
+        IsShown c.group → IsShown (commanded w jerk members c).group }
+    ensures power_off { (c : Core) → IsShown c.group → IsShown (powered_off c).group }
+    ensures detach { (owner : ℕ) (g : Group) → IsShown g → IsShown (group_without owner g) }
+    ensures cycle { (members : GroupLook) (c : Core) → IsCoreKept (limits_in members) c → IsShown c.group → IsShown (cycled members c).group }
+    ensures reset { (members : GroupLook) (on_path : Bool) (g : Group) → IsShown g → IsShown (reset_where members on_path g) }
+{}
+
+/// At most eight commands wait for a group: a command that is asked keeps that, and a Power off of a
+/// member and a cycle add none.
+pub fn at_most_eight_wait()
+    ensures command { (w : Wanted) (jerk : ℤ) (members : GroupLook) (c : Core) → IsMade c.group.axes w → length c.waiting ≤ 8 →
+        length (commanded w jerk members c).waiting ≤ 8 }
+    ensures power_off { (c : Core) → length (powered_off c).waiting ≤ length c.waiting }
+    ensures cycle { (members : GroupLook) (c : Core) → length (cycled members c).waiting ≤ length c.waiting }
+{}
