@@ -1,3 +1,5 @@
+pub mod ShownLaws
+pub mod WaitingLaws
 pub mod ChangeLaws
 pub mod OwnerLaws
 pub mod ToldLaws

@@ -222,19 +222,21 @@ sum-reset : (k : ℕ) (o : Option PendingReset) (members : GroupLook) (c : Core)
 sum-reset k None members c e = let a = told-more k c.notes [] in omega arith
 sum-reset k (Some p) members c e = by (may_reset (is_some c.path) c.group)
   where
-  z : is_owner k None ≡ 0
-  z = nobody k
-  owner : is_owner k (reset_owner c.group.reset) ≡ is_owner k p.owner
-  owner = ap (λ o. is_owner k (reset_owner o)) e
-  by : (b : Bool) → sum k (record c {
-    group = (if b then after_reset (states_in members) c.group else c.group);
-    notes = c.notes ++ (if b then told_to p.owner finish.Done else []);
-  }) ≡ sum k c
-  by true =
-      let a = told-more k c.notes (told_to p.owner finish.Done) in
-      let d = told-to k p.owner finish.Done in
-      omega (arith, a, d, z, owner)
-  by false = let a = told-more k c.notes [] in omega arith
+    z : is_owner k None ≡ 0
+    z = nobody k
+
+    owner : is_owner k (reset_owner c.group.reset) ≡ is_owner k p.owner
+    owner = ap (λ o. is_owner k (reset_owner o)) e
+
+    by : (b : Bool) → sum k (record c {
+      group = (if b then after_reset (states_in members) c.group else c.group);
+      notes = c.notes ++ (if b then told_to p.owner finish.Done else []);
+    }) ≡ sum k c
+    by true =
+        let a = told-more k c.notes (told_to p.owner finish.Done) in
+        let d = told-to k p.owner finish.Done in
+        omega (arith, a, d, z, owner)
+    by false = let a = told-more k c.notes [] in omega arith
 
 pub once-reset : (k : ℕ) (members : GroupLook) (c : Core) → owns k (reset_cycled members c) + told k (reset_cycled members c).notes ≡ owns k c + told k c.notes
 unfolding reset_where
@@ -246,9 +248,9 @@ unfolding is_owner
 gone k None = refl
 gone k (Some n) = by (nat_eq n k) refl
   where
-  by : (b : Bool) → nat_eq n k ≡ b → is_owner k (if b then None else Some n) ≡ 0
-  by true e = refl
-  by false e = rw e refl
+    by : (b : Bool) → nat_eq n k ≡ b → is_owner k (if b then None else Some n) ≡ 0
+    by true e = refl
+    by false e = rw e refl
 
 gone-active : (k : ℕ) (o : Option Wanted) → is_owner k (owner_by (active_without k o)) ≡ 0
 gone-active k None = nobody k
@@ -275,12 +277,12 @@ unfolding is_owner
 other j k None h = refl
 other j k (Some n) h = by (nat_eq n k) refl
   where
-  by : (b : Bool) → nat_eq n k ≡ b → is_owner j (if b then None else Some n) ≡ is_owner j (Some n)
-  by true e =
-      let same : n ≡ k = eqb-true n k e in
-      let no : nat_eq n j ≡ false = ap (λ x. nat_eq x j) same ∙ h in
-      rw no refl
-  by false e = refl
+    by : (b : Bool) → nat_eq n k ≡ b → is_owner j (if b then None else Some n) ≡ is_owner j (Some n)
+    by true e =
+        let same : n ≡ k = eqb-true n k e in
+        let no : nat_eq n j ≡ false = ap (λ x. nat_eq x j) same ∙ h in
+        rw no refl
+    by false e = refl
 
 other-active : (j k : ℕ) (o : Option Wanted) → nat_eq k j ≡ false → is_owner j (owner_by (active_without k o)) ≡ is_owner j (owner_by o)
 other-active j k None h = refl

@@ -156,7 +156,7 @@ pub fn states_change_by_the_diagram()
 /// GroupStopping: so at opening, and after every call, every cycle and every GroupReset.
 pub fn errors_stand_in_error_stop()
     ensures opened { (axes : ℕ) → IsShown (opening axes).group }
-    ensures command { (w : Wanted) (jerk : ℤ) (members : GroupLook) (c : Core) → IsCoreKept (limits_in members) c → IsMade c.group.axes w →
+    ensures command { (w : Wanted) (jerk : ℤ) (members : GroupLook) (c : Core) → IsMade c.group.axes w →
         IsShown c.group → IsShown (commanded w jerk members c).group }
     ensures power_off { (c : Core) → IsShown c.group → IsShown (powered_off c).group }
     ensures detach { (owner : ℕ) (g : Group) → IsShown g → IsShown (group_without owner g) }

@@ -26,7 +26,11 @@ pub use command_pool::{
 pub use group::{Group, GroupOnPath, Motion, PendingReset, Track};
 pub use group_state::{GroupRow, GroupState};
 pub use kin_core::Limits;
-pub use laws::{at_most_eight_wait, courses_end_in_time, ends_are_told_once, errors_stand_in_error_stop, fates_are_told, groups_stay_kept, members_keep_their_limits, paths_go_on_by_their_steps, states_change_by_the_diagram};
+pub use laws::{
+    at_most_eight_wait, courses_end_in_time, ends_are_told_once, errors_stand_in_error_stop,
+    fates_are_told, groups_stay_kept, members_keep_their_limits, paths_go_on_by_their_steps,
+    states_change_by_the_diagram,
+};
 pub use linear_path::{LinePath, Path};
 pub use look::{ActiveLook, GroupLook, GroupStep};
 pub use one_group::GroupCore;
