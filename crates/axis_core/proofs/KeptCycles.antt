@@ -249,6 +249,18 @@ all-three false y z a b c = absurd (cc)
 all-three true false z a b c = absurd (cc)
 all-three true true false a b c = absurd (cc)
 
+-- an axis without an error that doesn't go on is still
+pub still-cycle : (look : AxisLook) (c : Core) → IsCoreKept c → nat_eq (answer_error_of c.axis look.input) 0 ≡ true →
+    (is_driven c.axis look.input && c.axis.driven) ≡ false → IsStill c.axis.state × (c.axis.active ≡ None)
+still-cycle look c k none h =
+    let a = c.axis in
+    let d = is_driven a look.input in
+    still-of a.state a.driven (is_powered a) a.was_off a.previous a.setpoint a.active k.axis.state (λ s r.
+    let op = driven-without-error a look.input s r.power r.on none in
+    let on : d ≡ true = all-three (is_powered a) (is_operational look.input) (a.driven || is_within a look.input) r.power op (or_left a.driven (is_within a look.input) r.on) in
+    let whole : (d && a.driven) ≡ true = rw (on, r.on) refl in
+    let bad : true ≡ false = sym whole ∙ h in absurd (cc))
+
 -- an axis without an error runs, or stands
 run-without-error : Laws → (look : AxisLook) (c : Core) → IsSeen c.axis look → IsCoreKept c → nat_eq (answer_error_of c.axis look.input) 0 ≡ true →
     IsRun (core_after_step look (is_driven c.axis look.input) c)
@@ -261,12 +273,7 @@ run-without-error g look c i k none =
           let going = gone_on-going g look c i.brought k (record { on = p.1; power = (driven-says a look.input p.0).0 }) in
           record { kept = going.kept; power = λ on. going.runs.power }
       | false ↦ λ h.
-          let never : is_error_stop a.state ≡ false → IsRunning a.driven (is_powered a) → ⊥ = λ s r.
-          (let op = driven-without-error a look.input s r.power r.on none in
-          let on : d ≡ true = all-three (is_powered a) (is_operational look.input) (a.driven || is_within a look.input) r.power op (or_left a.driven (is_within a look.input) r.on) in
-          let whole : (d && a.driven) ≡ true = rw (on, r.on) refl in
-          let bad : true ≡ false = sym whole ∙ h in cc) in
-          let still = still-of a.state a.driven (is_powered a) a.was_off a.previous a.setpoint a.active k.axis.state never in
+          let still = still-cycle look c k none h in
           standing-run g d look.input c k.axis.base i.actual (λ on. begins-within d a.driven (is_within a look.input) h on (driven-says a look.input on).2)
           (λ on. (driven-says a look.input on).0) still.1 (still-empty a.state a.active c.waiting still.0 k.queue) a.state refl still.0
     ] refl
@@ -468,35 +475,14 @@ distance-by offsets a b =
     let o = offsets a.limits a.offset a.inc b.least b.most (omega (arith, ints, lo)) b.limits.ordered b.top b.counts in
     omega (arith, ints, s, o)
 
--- a kept axis that is driven in this cycle may go on after its drive's answer
-pub may-go-on : Laws → (look : AxisLook) (c : Core) → IsLook c.axis look → IsCoreKept c → (is_driven c.axis look.input && (core_after_answer look.input c).axis.driven) ≡ true →
-    MayGoOn (core_after_answer look.input c).axis (core_after_answer look.input c).waiting look
-may-go-on g look c i k h =
-    let input = look.input in
-    let after = answered-kept input c k in
-    let p = and_parts (is_driven c.axis input) (core_after_answer input c).axis.driven h in
-    go-on-of look (core_after_answer input c) i.cam after p.1 (drive-of g (core_after_answer input c).axis after.axis.base).offset
-
--- a cycle in which the axis is driven on brings no error, and so no note before its step
-pub quiet : (input : DriveIn) (c : Core) → (is_driven c.axis input && (core_after_answer input c).axis.driven) ≡ true → (core_after_answer input c).notes ≡ c.notes
-unfolding core_after_error
-quiet input c =
-    elim (nat_eq (answer_error_of c.axis input) 0) as (λ b. nat_eq (answer_error_of c.axis input) 0 ≡ b →
-    (is_driven c.axis input && (if b then c else core_after_error (answer_error_of c.axis input) c).axis.driven) ≡ true →
-    (if b then c else core_after_error (answer_error_of c.axis input) c).notes ≡ c.notes) [
-      | true ↦ λ e h. refl
-      | false ↦ λ e h. absurd (let f = error-not-driven c.axis input e in let bad : true ≡ false = sym h ∙ f in cc)
-    ] refl
-
 -- a cycle, from what its parts made
-pub cycle-made : (look : AxisLook) (c : Core) (lists1 lists2 : List (List Wanted)) (list : ℕ) (a1 a2 a3 a4 : Axis) (n1 n2 n3 : List Note) (d : Bool) →
-    d ≡ is_driven c.axis look.input → core_at a1 lists1 list n1 ≡ core_after_answer look.input c → core_at a2 lists2 list n2 ≡ core_after_step look d (core_at a1 lists1 list n1) →
+pub cycle-made : (look : AxisLook) (c : Core) (lists : List (List Wanted)) (list : ℕ) (a2 a3 a4 : Axis) (n2 n3 : List Note) →
+    core_at a2 lists list n2 ≡ core_after_step look (is_driven c.axis look.input) (core_after_answer look.input c) →
     a3 ≡ reset_axis a2.reset look.input a2 → n3 ≡ n2 ++ reset_notes a2.reset look.input a2 → a4 ≡ axis_after_word look.input a3 →
-    core_at a4 lists2 list n3 ≡ core_after_cycle look c
+    core_at a4 lists list n3 ≡ core_after_cycle look c
 unfolding core_after_cycle
-cycle-made look c lists1 lists2 list a1 a2 a3 a4 n1 n2 n3 d ed e1 e2 e3 en e4 =
+cycle-made look c lists list a2 a3 a4 n2 n3 ran e3 en e4 =
     let F : Core → Core = λ x. record (core_after_reset look.input x) { axis = axis_after_word look.input (core_after_reset look.input x).axis } in
-    let ran : core_at a2 lists2 list n2 ≡ core_after_step look (is_driven c.axis look.input) (core_after_answer look.input c) = e2 ∙ (λ t. core_after_step look (ed t) (e1 t)) in
-    let made : core_at a4 lists2 list n3 ≡ F (core_at a2 lists2 list n2) =
-    (λ t. record { axis = (e4 ∙ ap (axis_after_word look.input) e3) t; waiting = queue_of lists2 list; notes = en t }) in
+    let made : core_at a4 lists list n3 ≡ F (core_at a2 lists list n2) =
+    (λ t. record { axis = (e4 ∙ ap (axis_after_word look.input) e3) t; waiting = queue_of lists list; notes = en t }) in
     made ∙ ap F ran

@@ -26,3 +26,4 @@ pub mod LedLaws
 pub mod WaitingLaws
 pub mod MotionLaws
 pub mod StandingLaws
+pub mod OneStep

@@ -84,6 +84,17 @@ unfoldable pub advance_in_cycle : Option Wanted → AxisLook → Axis → Advanc
 advance_in_cycle next look a =
     if is_error_stop a.state then record { axis = axis_after_braking a; ending = None } else advance_without_error (place_on_path a look) next look a
 
+-- an error of the drive's answer ends the commands by its number
+abbrev pub ending_of_error : ℕ → Option Finish
+ending_of_error n = if nat_eq n 0 then None else Some (finish.Error n)
+
+-- what a cycle makes of the axis alone: a driven spell goes on, or the axis stands where its drive
+-- does, with the error that the answer brings
+abbrev pub advance_or_stand : Bool → Option Wanted → AxisLook → Axis → Advance
+advance_or_stand driven next look a =
+    if driven && a.driven then advance_in_cycle next look a
+    else record { axis = axis_at_drive driven look.input a; ending = ending_of_error (answer_error_of a look.input) }
+
 -- then a driven spell goes on: the axis advances, its command may end and the next one take over
 abbrev pub core_after_advance : AxisLook → Core → Core
 core_after_advance look c =

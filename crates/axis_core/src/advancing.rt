@@ -1,9 +1,12 @@
 // The step of an axis in a cycle: by its command, along its group's path, or to brake after an error.
 
-ghost use Rattle.std.specs.Prelude.{◌≡◌, ℕ, Result, ◌≤◌, ◌+ℤ◌, false, unsigned_abs, IfOk, IfSome};
+ghost use Rattle.std.specs.Prelude.{◌≡◌, ℕ, Result, ◌≤◌, ◌+ℤ◌, ◌&&◌, true, false, unsigned_abs, IfOk, IfSome};
 ghost use Rattle.std.specs.Option.{option_copied};
 ghost use Rattle.axis_core.specs.Cycles as spec;
-ghost use Rattle.axis_core.specs.Kept.{IsMoving, IsTarget, MayAdvance};
+ghost use Rattle.axis_state.specs.Diagram.{IsFrom};
+ghost use Rattle.axis_state.specs.declared.diagram.AxisEvent.TheVariants as event;
+ghost use Rattle.axis_core.specs.Drives as drives;
+ghost use Rattle.axis_core.specs.Kept.{HasDrive, IsMoving, IsTarget, MayAdvance};
 ghost use Rattle.axis_core.specs.States as states;
 ghost use Rattle.axis_core.specs.Steps.{axis_after_step};
 ghost use Rattle.axis_core.specs.blocks.Moves.{target_of};
@@ -16,6 +19,7 @@ use crate::blocks::halts::braking_by;
 use crate::blocks::home::home;
 use crate::blocks::moves::target_of;
 use crate::blocks::path::{place_on_path, take_place};
+use crate::driving::{answer_error, stand};
 use crate::kinds;
 use crate::look::AxisLook;
 use crate::progress::Progress;
@@ -124,9 +128,9 @@ fn obey(axis: &mut Axis, next: Option<&Wanted>, look: &AxisLook) -> Option<Finis
     carry(made, kind, target, axis)
 }
 
-/// The step of a cycle, and how the active command ends by it.
+// The step of a cycle, and how the active command ends by it.
 #[tactic(auto, unfolding(crate::specs::Cycles::advance_in_cycle))]
-pub fn advance(axis: &mut Axis, next: Option<&Wanted>, look: &AxisLook) -> Option<Finish>
+fn advance(axis: &mut Axis, next: Option<&Wanted>, look: &AxisLook) -> Option<Finish>
     requires { MayAdvance axis.old (option_copied next) look.now }
     ensures axis { axis.new ≡ (spec.advance_in_cycle (option_copied next.entry) look.now axis.old).axis }
     ensures ending { result ≡ (spec.advance_in_cycle (option_copied next.entry) look.now axis.old).ending }
@@ -143,4 +147,40 @@ pub fn advance(axis: &mut Axis, next: Option<&Wanted>, look: &AxisLook) -> Optio
         return None;
     }
     obey(axis, next, look)
+}
+
+// How an error of the drive's answer ends the commands, if there is one.
+fn ending_by_error(error: u16) -> Option<Finish>
+    ensures { result ≡ spec.ending_of_error error }
+{
+    if error == 0 {
+        None
+    } else {
+        Some(Finish::Error(error))
+    }
+}
+
+/// What a cycle makes of the axis alone, and how its active command ends by it: a driven spell goes on,
+/// or the axis stands where its drive does, with the error that the answer brings.
+#[tactic(auto, using(crate::proofs::DriveAnswers::no_error_where_driven, crate::proofs::Events::error_from))]
+pub fn pass(driven: bool, axis: &mut Axis, next: Option<&Wanted>, look: &AxisLook) -> Option<Finish>
+    requires drive { HasDrive axis.old }
+    requires driven { driven ≡ drives.is_driven axis.old look.now.input }
+    requires may { (driven && axis.old.driven) ≡ true → MayAdvance axis.old (option_copied next) look.now }
+    ensures axis { axis.new ≡ (spec.advance_or_stand driven (option_copied next.entry) look.now axis.old).axis }
+    ensures ending { result ≡ (spec.advance_or_stand driven (option_copied next.entry) look.now axis.old).ending }
+    ensures small { IfSome result (λ f. unsigned_abs axis.new.setpoint ≤ MOST_REPORTED) }
+    ensures state { IfSome result (λ f. axis.new.state ≡ axis.old.state) }
+    ensures running { IfSome result (λ f. IsFrom axis.old.state event.Error) }
+{
+    if !driven {
+        let error = answer_error(axis, &look.input);
+        stand(false, &look.input, axis);
+        return ending_by_error(error);
+    }
+    if axis.driven {
+        return advance(axis, next, look);
+    }
+    stand(true, &look.input, axis);
+    None
 }

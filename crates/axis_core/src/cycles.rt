@@ -6,18 +6,16 @@ ghost use Rattle.command_pool.specs.Waiting.{queue_of};
 ghost use Rattle.axis_core.specs.AxisKept.{IsCoreKept, IsLook};
 ghost use Rattle.axis_core.specs.Cores.{core_at};
 ghost use Rattle.axis_core.specs.Cycles as spec;
-ghost use Rattle.axis_core.specs.Drives as drives;
-ghost use Rattle.axis_core.specs.Kept.{HasDrive, MayGoOn};
 ghost use Rattle.axis_core.specs.Rows.{KeepsSpell};
 
-use crate::advancing::advance;
+use crate::advancing::pass;
 use crate::axis::Axis;
 use crate::blocks::halts::leave_stopping;
 use crate::blocks::power::is_powered;
 use crate::blocks::reset::reset;
-use crate::driving::{error_where, is_driven, stand};
+use crate::driving::is_driven;
 use crate::look::AxisLook;
-use crate::taking_over::{end_by, fail};
+use crate::taking_over::end_by;
 use axis_state::{
     AxisRow, DriveIn, DriveOut, MOST_COUNTED, counts_are_read_back, homing_keeps_counts,
     offsets_are_small, setpoints_have_counts, target_count,
@@ -25,64 +23,6 @@ use axis_state::{
 use cia402_machine::{CYCLIC_SYNCHRONOUS_POSITION, ENABLE_OPERATION, next_controlword, state_of};
 use command_pool::{CommandPool, Notes};
 use kin_core::{braking_steps_are_only_cut, standing_is_kept, taken_steps_keep};
-
-// A cycle in which a driven spell goes on.
-fn go_on(look: &AxisLook, axis: &mut Axis, pool: &mut CommandPool, list: u8, notes: &mut Notes)
-    requires list { list < length pool.old }
-    requires room { length notes.old ≤ 2 }
-    requires may { MayGoOn axis.old (queue_of pool.old list) look.now }
-    ensures after { core_at axis.new pool.new list notes.new ≡ spec.core_after_going_on look.now (core_at axis.old pool.old list notes.old) }
-    ensures others { pool.new ≡ slice_set pool.old list (queue_of pool.new list) }
-{
-    let ending = advance(axis, pool.first(list), look);
-    end_by(ending, axis, pool, list, notes);
-    leave_stopping(look, axis);
-}
-
-// The drive's answer is read, with its error.
-fn read_answer(
-    driven: bool,
-    input: &DriveIn,
-    axis: &mut Axis,
-    pool: &mut CommandPool,
-    list: u8,
-    notes: &mut Notes,
-)
-    requires list { list < length pool.old }
-    requires room { length notes.old ≤ 2 }
-    requires drive { HasDrive axis.old }
-    requires driven { driven ≡ drives.is_driven axis.old input.now }
-    ensures after { core_at axis.new pool.new list notes.new ≡ spec.core_after_answer input.now (core_at axis.old pool.old list notes.old) }
-    ensures others { pool.new ≡ slice_set pool.old list (queue_of pool.new list) }
-{
-    let error = error_where(driven, axis, input);
-    if error != 0 {
-        fail(error, axis, pool, list, notes);
-    }
-}
-
-// The axis goes on, or stands where its drive does.
-fn run(
-    driven: bool,
-    look: &AxisLook,
-    axis: &mut Axis,
-    pool: &mut CommandPool,
-    list: u8,
-    notes: &mut Notes,
-)
-    requires list { list < length pool.old }
-    requires drive { HasDrive axis.old }
-    requires room { (driven && axis.old.driven) ≡ true → length notes.old ≤ 2 }
-    requires may { (driven && axis.old.driven) ≡ true → MayGoOn axis.old (queue_of pool.old list) look.now }
-    ensures after { core_at axis.new pool.new list notes.new ≡ spec.core_after_step look.now driven (core_at axis.old pool.old list notes.old) }
-    ensures others { pool.new ≡ slice_set pool.old list (queue_of pool.new list) }
-{
-    if driven && axis.driven {
-        go_on(look, axis, pool, list, notes);
-    } else {
-        stand(driven, &look.input, axis);
-    }
-}
 
 // The drive's count, which has 32 bits.
 fn reported(input: &DriveIn) -> i32
@@ -159,8 +99,9 @@ fn cycle_axis(look: &AxisLook, axis: &mut Axis, pool: &mut CommandPool, list: u8
     let _ = pool.waiting(list);
     let _ = reported(&look.input);
     let driven = is_driven(axis, &look.input);
-    read_answer(driven, &look.input, axis, pool, list, notes);
-    run(driven, look, axis, pool, list, notes);
+    let ending = pass(driven, axis, pool.first(list), look);
+    end_by(ending, axis, pool, list, notes);
+    leave_stopping(look, axis);
     reset(&look.input, axis, notes);
     give(driven, &look.input, axis);
 }

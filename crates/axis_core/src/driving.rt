@@ -101,21 +101,11 @@ pub fn answer_error(axis: &Axis, input: &DriveIn) -> u16
     }
 }
 
-/// The error that a drive's answer brings to the axis: one by which it is driven brings none.
-#[tactic(auto, using(crate::proofs::DriveAnswers::no_error_where_driven))]
-pub fn error_where(driven: bool, axis: &Axis, input: &DriveIn) -> u16
-    requires drive { HasDrive axis.now }
-    requires driven { driven ≡ spec.is_driven axis.now input.now }
-    ensures value { result ≡ spec.answer_error_of axis.now input.now }
-    ensures may { 0 < result → IsFrom axis.now.state event.Error }
-{
-    if driven { 0 } else { answer_error(axis, input) }
-}
-
 /// An axis that is not driven, or begins to be, stands where its drive does.
 pub fn stand(driven: bool, input: &DriveIn, axis: &mut Axis)
     requires { HasDrive axis.old }
-    ensures { axis.new ≡ spec.axis_at_drive driven input.now axis.old }
+    ensures after { axis.new ≡ spec.axis_at_drive driven input.now axis.old }
+    ensures small { unsigned_abs axis.new.setpoint ≤ MOST_REPORTED }
 {
     let place = actual(axis, input);
     axis.state = enabled_from(driven, axis.state);
