@@ -475,6 +475,15 @@ distance-by offsets a b =
     let o = offsets a.limits a.offset a.inc b.least b.most (omega (arith, ints, lo)) b.limits.ordered b.top b.counts in
     omega (arith, ints, s, o)
 
+-- a kept axis that is driven in this cycle may go on after its drive's answer
+pub may-go-on : Laws → (look : AxisLook) (c : Core) → IsLook c.axis look → IsCoreKept c → (is_driven c.axis look.input && (core_after_answer look.input c).axis.driven) ≡ true →
+    MayGoOn (core_after_answer look.input c).axis (core_after_answer look.input c).waiting look
+may-go-on g look c i k h =
+    let input = look.input in
+    let after = answered-kept input c k in
+    let p = and_parts (is_driven c.axis input) (core_after_answer input c).axis.driven h in
+    go-on-of look (core_after_answer input c) i.cam after p.1 (drive-of g (core_after_answer input c).axis after.axis.base).offset
+
 -- a cycle, from what its parts made
 pub cycle-made : (look : AxisLook) (c : Core) (lists : List (List Wanted)) (list : ℕ) (a2 a3 a4 : Axis) (n2 n3 : List Note) →
     core_at a2 lists list n2 ≡ core_after_step look (is_driven c.axis look.input) (core_after_answer look.input c) →

@@ -1,6 +1,6 @@
 -- A cycle's answer and its step as one: what the axis makes of them alone, and how its commands end by that.
 use Rattle.std.proofs.Common.{◌≡◌, ◌∙◌, refl, sym, ap, subst}
-use Rattle.std.specs.Prelude.{◌≤◌, Bool, true, false, None, Option, Some, IfSome, List, unsigned_abs, nat_eq, if◌then◌else◌, ◌&&◌, slice_get}
+use Rattle.std.specs.Prelude.{◌≤◌, Bool, true, false, None, Option, Some, IfSome, List, unsigned_abs, nat_eq, ◌&&◌, slice_get}
 use Rattle.axis_state.specs.Diagram.{IsFrom}
 use Rattle.axis_state.specs.declared.count.TheConstants.{MOST_REPORTED}
 use Rattle.axis_state.specs.declared.diagram.AxisEvent.TheVariants as event
@@ -10,7 +10,7 @@ use Rattle.command_pool.specs.declared.ending.Finish.{Finish}
 use Rattle.command_pool.specs.declared.wanted.Wanted.{Wanted}
 use Rattle.axis_core.specs.AxisKept.{IsCoreKept}
 use Rattle.axis_core.specs.Cores.{Core, MayTakeOver, core_after_ending, core_after_error}
-use Rattle.axis_core.specs.Cycles.{advance_or_stand, core_after_answer, core_after_going_on, core_after_step}
+use Rattle.axis_core.specs.Cycles.{advance_or_stand, core_after_answer, core_after_step}
 use Rattle.axis_core.specs.Kept.{MayEnd}
 use Rattle.axis_core.specs.Drives.{answer_error_of, axis_at_drive, is_driven}
 use Rattle.axis_core.specs.States.{is_stopping}

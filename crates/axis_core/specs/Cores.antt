@@ -99,6 +99,16 @@ abbrev pub core_after_take_over : List Wanted → Core → Core
 core_after_take_over [] c = record c { axis = record c.axis { state = state_after_last c.axis.state } }
 core_after_take_over (w ∷ ws) c = core_taken_by w.kind w.target w (record c { waiting = ws })
 
+-- the same of the one command that waits first, if there is one
+abbrev pub core_with_next : Option Wanted → Core → Core
+core_with_next None c = record c { axis = record c.axis { state = state_after_last c.axis.state } }
+core_with_next (Some w) c = core_taken_by w.kind w.target w c
+
+-- the axis with an error, if there is one
+abbrev pub core_with_error : Option ℕ → Core → Core
+core_with_error None c = c
+core_with_error (Some n) c = core_after_error n c
+
 -- the active command ends so, and the next one takes over
 unfoldable pub core_after_end : Finish → Core → Core
 core_after_end f c = core_after_take_over c.waiting (record c {

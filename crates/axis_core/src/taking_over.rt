@@ -1,10 +1,12 @@
 // How commands become active, end, and take over.
 
-ghost use Rattle.std.specs.Prelude.{◌≡◌, ◌<◌, ◌≤◌, ◌+ℤ◌, ◌++◌, false, length, None, Some, slice_set, unsigned_abs, IfSome};
+ghost use Rattle.std.specs.Prelude.{◌≡◌, List, ◌<◌, ◌≤◌, ◌+ℤ◌, ◌++◌, false, length, None, Some, slice_set, unsigned_abs, IfSome};
 ghost use Rattle.axis_state.specs.Diagram.{IsFrom};
 ghost use Rattle.axis_state.specs.declared.diagram.AxisEvent.TheVariants as event;
 ghost use Rattle.buffer_modes.specs.Queue.{active_note};
 ghost use Rattle.command_pool.specs.Waiting.{queue_of};
+ghost use Rattle.command_pool.specs.declared.notes.Note.{Note};
+ghost use Rattle.command_pool.specs.declared.wanted.Wanted.{Wanted};
 ghost use Rattle.axis_core.specs.Cores as spec;
 ghost use Rattle.axis_core.specs.Cores.{core_at, MayBegin, MayTakeOver, core_after_all_ends, core_after_error, axis_under, axis_under_by, core_after_end, core_after_take_over, core_taken_by, core_under_from};
 ghost use Rattle.axis_core.specs.Kept.{MayEnd};
@@ -105,34 +107,26 @@ fn settled(state: AxisState) -> AxisState
     }
 }
 
-// A command without a fixed target takes over.
-fn begin_from(
-    wanted: &Wanted,
-    target: i64,
-    axis: &mut Axis,
-    pool: &mut CommandPool,
-    list: u8,
-    notes: &mut Notes,
-)
-    requires list { list < length pool.old }
-    requires room { length notes.old ≤ 3 }
-    requires state { IsFrom axis.old.state event.Error }
-    requires begin { MayBegin wanted.now.kind axis.old.state }
-    ensures after { core_at axis.new pool.new list notes.new ≡ core_under_from wanted.now target (core_at axis.old pool.old list notes.old) }
-    ensures others { pool.new ≡ slice_set pool.old list (queue_of pool.new list) }
+// A command without a fixed target takes over, or has an error where its target lies outside the limits.
+fn begin_from(wanted: &Wanted, target: i64, axis: &mut Axis) -> Option<u16>
+    requires { MayBegin wanted.now.kind axis.old.state }
+    ensures after { (waiting : List Wanted) (notes : List Note) →
+        spec.core_with_error result (record { axis = axis.new; waiting = waiting; notes = notes })
+        ≡ core_under_from wanted.now target (record { axis = axis.old; waiting = waiting; notes = notes }) }
+    ensures state { IfSome result (λ n. axis.new.state ≡ axis.old.state) }
 {
     if is_outside(axis.limits.lo, target, axis.limits.hi) {
         axis.active = Some(*wanted);
-        fail(TARGET_OUTSIDE_AT_START, axis, pool, list, notes);
-    } else {
-        begin(
-            &Wanted {
-                target: Some(target),
-                ..*wanted
-            },
-            axis,
-        );
+        return Some(TARGET_OUTSIDE_AT_START);
     }
+    begin(
+        &Wanted {
+            target: Some(target),
+            ..*wanted
+        },
+        axis,
+    );
+    None
 }
 
 // The target of a move that begins where the axis stands.
@@ -145,30 +139,40 @@ fn target_here(axis: &Axis, wanted: &Wanted) -> i64
     axis.setpoint + wanted.targets[0]
 }
 
-// A command that waited takes over.
-fn begin_waiting(
-    wanted: &Wanted,
-    axis: &mut Axis,
-    pool: &mut CommandPool,
-    list: u8,
-    notes: &mut Notes,
-)
-    requires list { list < length pool.old }
-    requires room { length notes.old ≤ 3 }
-    requires state { IsFrom axis.old.state event.Error }
+// A command that waited takes over, or has an error.
+fn begin_waiting(wanted: &Wanted, axis: &mut Axis) -> Option<u16>
     requires begin { MayBegin wanted.now.kind axis.old.state }
     requires setpoint { unsigned_abs axis.old.setpoint ≤ MOST_REPORTED }
     requires position { unsigned_abs (position_of wanted.now) ≤ MOST_NUMBER }
-    ensures after { core_at axis.new pool.new list notes.new
-        ≡ core_taken_by wanted.now.kind wanted.now.target wanted.now (core_at axis.old pool.old list notes.old) }
-    ensures others { pool.new ≡ slice_set pool.old list (queue_of pool.new list) }
+    ensures after { (waiting : List Wanted) (notes : List Note) →
+        spec.core_with_error result (record { axis = axis.new; waiting = waiting; notes = notes })
+        ≡ core_taken_by wanted.now.kind wanted.now.target wanted.now (record { axis = axis.old; waiting = waiting; notes = notes }) }
+    ensures state { IfSome result (λ n. axis.new.state ≡ axis.old.state) }
 {
     match (wanted.kind, wanted.target) {
-        (BlockKind::MoveRelative, None) => {
-            let target = target_here(axis, wanted);
-            begin_from(wanted, target, axis, pool, list, notes)
+        (BlockKind::MoveRelative, None) => begin_from(wanted, target_here(axis, wanted), axis),
+        _ => {
+            begin(wanted, axis);
+            None
         }
-        _ => begin(wanted, axis),
+    }
+}
+
+// The first command that waits takes over, or has an error; without one the axis settles.
+fn take_over(next: &Option<Wanted>, axis: &mut Axis) -> Option<u16>
+    requires begin { IfSome next.now (λ w. MayBegin w.kind axis.old.state × (unsigned_abs (position_of w) ≤ MOST_NUMBER)) }
+    requires setpoint { unsigned_abs axis.old.setpoint ≤ MOST_REPORTED }
+    ensures after { (waiting : List Wanted) (notes : List Note) →
+        spec.core_with_error result (record { axis = axis.new; waiting = waiting; notes = notes })
+        ≡ spec.core_with_next next.now (record { axis = axis.old; waiting = waiting; notes = notes }) }
+    ensures state { IfSome result (λ n. axis.new.state ≡ axis.old.state) }
+{
+    match next {
+        Some(wanted) => begin_waiting(wanted, axis),
+        None => {
+            axis.state = settled(axis.state);
+            None
+        }
     }
 }
 
@@ -185,23 +189,6 @@ fn note_end(axis: &mut Axis, finish: Finish, notes: &mut Notes)
     axis.reached = false;
 }
 
-// The first command that waits takes over; without one the axis settles.
-fn take_over_next(axis: &mut Axis, pool: &mut CommandPool, list: u8, notes: &mut Notes)
-    requires list { list < length pool.old }
-    requires room { length notes.old ≤ 3 }
-    requires state { IsFrom axis.old.state event.Error }
-    requires waiting { MayTakeOver axis.old.state (queue_of pool.old list) }
-    requires setpoint { unsigned_abs axis.old.setpoint ≤ MOST_REPORTED }
-    ensures after { core_at axis.new pool.new list notes.new
-        ≡ core_after_take_over (queue_of pool.old list) (core_at axis.old pool.old list notes.old) }
-    ensures others { pool.new ≡ slice_set pool.old list (queue_of pool.new list) }
-{
-    match pool.pop_first(list) {
-        Some(wanted) => begin_waiting(&wanted, axis, pool, list, notes),
-        None => axis.state = settled(axis.state),
-    }
-}
-
 // The active command ends so, and the first one that waits takes over.
 #[tactic(auto, unfolding(crate::specs::Cores::core_after_end))]
 fn end(finish: Finish, axis: &mut Axis, pool: &mut CommandPool, list: u8, notes: &mut Notes)
@@ -214,7 +201,10 @@ fn end(finish: Finish, axis: &mut Axis, pool: &mut CommandPool, list: u8, notes:
     ensures others { pool.new ≡ slice_set pool.old list (queue_of pool.new list) }
 {
     note_end(axis, finish, notes);
-    take_over_next(axis, pool, list, notes);
+    let next = pool.pop_first(list);
+    if let Some(number) = take_over(&next, axis) {
+        fail(number, axis, pool, list, notes);
+    }
 }
 
 /// The active command goes on, ends so, or is ended by an error.

@@ -1,8 +1,7 @@
 -- A cycle, from what its parts made.
-use Rattle.std.specs.Prelude.{◌≡◌, ◌&&◌, true, length, refl, Option, Some, None, IfSome}
+use Rattle.std.specs.Prelude.{◌≡◌, length, Option}
 use Rattle.std.proofs.Common.{◌∙◌, sym, ap, subst, arith}
 use Rattle.std.proofs.lemmas.Bool.{and_parts}
-use Rattle.command_pool.specs.Waiting.{queue_of}
 use Rattle.command_pool.specs.declared.wanted.Wanted.{Wanted}
 use Rattle.axis_core.specs.AxisKept.{IsCoreKept}
 use Rattle.axis_core.specs.Cores.{Core, core_at}
