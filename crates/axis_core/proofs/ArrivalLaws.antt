@@ -29,7 +29,7 @@ use Rattle.kin_core.specs.Toward.{toward_zero}
 use Rattle.axis_core.specs.Arrivals as turn
 use Rattle.axis_core.specs.Arrivals.{toward, slowing, Carried, Course, GoesOn, IsAtEnd, IsTurn, IsUnderWay, RunsWithin, Turn, bound_of, course_by, course_of, turn_by, turn_of}
 use Rattle.axis_core.specs.AxisKept.{AreNumbers, IsCoreKept, IsInState, IsMoveWithin, IsReady, IsRunning}
-use Rattle.axis_core.specs.Calls.{active_without, admitted_by, commanded, commanded_by, axis_without_owner, core_after_disabling, core_after_power, queue_in, queued}
+use Rattle.axis_core.specs.Calls.{active_without, core_after_admission, core_after_command, core_after_verdict, axis_without_owner, core_after_disabling, core_after_power, queue_in, core_with_queued}
 use Rattle.axis_core.specs.Cores.{Core, axis_under, core_after_ending}
 use Rattle.axis_core.specs.Cycles.{Advance, advance_in_cycle, advance_by_progress, advance_without_error, advance_by_command, core_after_answer, axis_after_braking, core_after_cycle, axis_after_progress, axis_after_word, core_after_going_on, core_after_advance, progress_in_cycle, progress_by_step, core_after_step}
 use Rattle.axis_core.specs.Drives.{answer_error_of, is_driven, is_operational, is_within, axis_at_drive}
@@ -39,7 +39,7 @@ use Rattle.axis_core.specs.Motions.{is_slowing}
 use Rattle.axis_core.specs.Ranges.{IsBetween}
 use Rattle.axis_core.specs.Refusals.{Asked, refusal_of}
 use Rattle.axis_core.specs.States.{is_error_stop, is_synchronized}
-use Rattle.axis_core.specs.Steps.{ends_where, axis_after_step, old_step_of, taken_by, taken_of}
+use Rattle.axis_core.specs.Steps.{ends_where, axis_after_step, old_step_of, step_for_wish, taken_step_in}
 use Rattle.axis_core.specs.blocks.Halts.{halt_ending, halt_wish, leaves_stopping, axis_after_stop}
 use Rattle.axis_core.specs.blocks.Moves.{blended_with, is_crossing, is_move, known_target_of, move_ending, move_ending_with, move_step_with, move_wish, stands_at_target, target_of, with_target}
 use Rattle.axis_core.specs.blocks.Path.{place_on_path}
@@ -120,9 +120,9 @@ second false y h e = absurd (cc)
 
 -- the step of a move that is not blended
 alone-step : (a : Axis) (w : Wanted) (next : Option Wanted) → blended_with a w next ≡ None →
-    taken_of a (move_step_with (blended_with a w next) a w) ≡ move_taken_of a.limits w.rates (target_of w) a.previous a.setpoint
+    taken_step_in a (move_step_with (blended_with a w next) a w) ≡ move_taken_of a.limits w.rates (target_of w) a.previous a.setpoint
 unfolding move_taken_of
-alone-step a w next e = ap (λ b. taken_of a (move_step_with b a w)) e
+alone-step a w next e = ap (λ b. taken_step_in a (move_step_with b a w)) e
 
 pub both-true : (x y : Bool) → (x && y) ≡ true → (x ≡ true) × (y ≡ true)
 both-true true y h = (refl, h)
@@ -222,7 +222,7 @@ carries-done n course c blends done a h =
 -- a move takes its step: where it is blended it is turned
 move-by : (n : ℕ) (target : ℤ) (rates : Rates) (c : Core) (w : Wanted) (look : AxisLook) (blends : Bool) → is_blended (Some w) c ≡ blends → c.axis.active ≡ Some w →
     course_of w ≡ Some (toward target rates) → IsDoneWithin n c.axis.limits rates target c.axis.previous c.axis.setpoint →
-    (p : Progress) → p.step ≡ taken_of c.axis (move_step_with (blended_with c.axis w (slice_get c.waiting 0)) c.axis w) →
+    (p : Progress) → p.step ≡ taken_step_in c.axis (move_step_with (blended_with c.axis w (slice_get c.waiting 0)) c.axis w) →
     p.ending ≡ ending_by w.kind c.axis w (slice_get c.waiting 0) p.step look →
     Carries n (toward target rates) c blends (record { axis = axis_after_progress w.kind (target_of w) p c.axis; ending = p.ending })
 move-by n target rates c w look true b e course run p is ends =
@@ -264,7 +264,7 @@ unblended kind.Stop b h = refl
 unblended _ b h = absurd (cc)
 
 -- the taken step of a halt
-halt-step : (a : Axis) (d : ℤ) → taken_of a (toward_zero (old_step_of a) d) ≡ halt_taken_of a.limits d a.previous a.setpoint
+halt-step : (a : Axis) (d : ℤ) → taken_step_in a (toward_zero (old_step_of a) d) ≡ halt_taken_of a.limits d a.previous a.setpoint
 unfolding halt_taken_of
 halt-step a d = refl
 
@@ -296,13 +296,13 @@ slows (suc n) d c w p false e kind course run is h =
 
 halt-by : (n : ℕ) (d : ℤ) (c : Core) (w : Wanted) (look : AxisLook) → c.axis.active ≡ Some w →
     course_of w ≡ Some (slowing d) → IsAtRestWithin n c.axis.limits d c.axis.previous c.axis.setpoint →
-    (p : Progress) → p.step ≡ taken_of c.axis (toward_zero (old_step_of c.axis) w.rates.d) →
+    (p : Progress) → p.step ≡ taken_step_in c.axis (toward_zero (old_step_of c.axis) w.rates.d) →
     p.ending ≡ ending_by w.kind c.axis w (slice_get c.waiting 0) p.step look →
     Carries n (slowing d) c (is_blended (Some w) c) (record { axis = axis_after_progress w.kind (target_of w) p c.axis; ending = p.ending })
 halt-by n d c w look e course run p is ends =
     let next = slice_get c.waiting 0 in
     let f = slowing-of w.kind w d course in
-    let taken : p.step ≡ halt_taken_of c.axis.limits d c.axis.previous c.axis.setpoint = is ∙ ap (λ z. taken_of c.axis (toward_zero (old_step_of c.axis) z)) f.1 ∙ halt-step c.axis d in
+    let taken : p.step ≡ halt_taken_of c.axis.limits d c.axis.previous c.axis.setpoint = is ∙ ap (λ z. taken_step_in c.axis (toward_zero (old_step_of c.axis) z)) f.1 ∙ halt-step c.axis d in
     let ending = ends ∙ ending-halt w.kind c.axis w next p.step look f.0 in
     let alone = unblended w.kind (is_some (blended_with c.axis w next)) f.0 in
     let P : Bool → Option Finish → Type 0 = λ b o. Carries n (slowing d) c b (record { axis = axis_after_progress w.kind (target_of w) p c.axis; ending = o }) in
@@ -327,12 +327,12 @@ progress_at a w next look step = record { step = step; reached = is_reached w.ki
 
 -- a command that has a course takes its step
 pub progress-by : (course : Course) (a : Axis) (w : Wanted) (next : Option Wanted) (look : AxisLook) → course_of w ≡ Some course →
-    progress_in_cycle a w next look ≡ Ok (progress_at a w next look (taken_of a (step_by course a w next)))
-progress-by course a w next look h = ap (λ o. progress_by_step a w next look (taken_by a o)) (wish-by course a w next look h)
+    progress_in_cycle a w next look ≡ Ok (progress_at a w next look (taken_step_in a (step_by course a w next)))
+progress-by course a w next look h = ap (λ o. progress_by_step a w next look (step_for_wish a o)) (wish-by course a w next look h)
 
 carries-course : (n : ℕ) (course : Course) (c : Core) (w : Wanted) (look : AxisLook) → c.axis.active ≡ Some w → course_of w ≡ Some course →
     RunsWithin n course c.axis.limits c.axis.previous c.axis.setpoint →
-    (p : Progress) → p.step ≡ taken_of c.axis (step_by course c.axis w (slice_get c.waiting 0)) →
+    (p : Progress) → p.step ≡ taken_step_in c.axis (step_by course c.axis w (slice_get c.waiting 0)) →
     p.ending ≡ ending_by w.kind c.axis w (slice_get c.waiting 0) p.step look →
     Carries n course c (is_blended (Some w) c) (record { axis = axis_after_progress w.kind (target_of w) p c.axis; ending = p.ending })
 carries-course n (toward target rates) c w look e course run p is ends = move-by n target rates c w look (is_blended (Some w) c) refl e course run p is ends
@@ -356,7 +356,7 @@ carried-moved : (n : ℕ) (course : Course) (c : Core) (look : AxisLook) → is_
 carried-moved n course c look s u =
     let w = u.command in
     let next = slice_get c.waiting 0 in
-    let p = progress_at c.axis w next look (taken_of c.axis (step_by course c.axis w next)) in
+    let p = progress_at c.axis w next look (taken_step_in c.axis (step_by course c.axis w next)) in
     let is = advances-by c.axis w next look s u.active ∙ ap (advance_by_progress w.kind (target_of w) c.axis) (progress-by course c.axis w next look u.leads) in
     let P : Option Wanted → Advance → Type 0 = λ o x. Carries n course c (is_blended o c) x in
     let Q : Option Wanted → Type 0 = λ o. P o (advance_in_cycle next look c.axis) in
@@ -458,27 +458,27 @@ aborted-turn n course (Some v) next w a h = (omega arith, tt)
 
 carried-joined : (n : ℕ) (course : Course) (b : Bool) (w : Wanted) (c : Core) → is_active_at_once (queue_in c) w ≡ b → IsUnderWay n course c.axis →
     Carried n 0 course (turn_of (if b then replaced finish.Aborted c.axis.active (Some w) else goes_on))
-    (if b then record (queued w c) { axis = axis_under w (queued w c).axis } else queued w c).axis
+    (if b then record (core_with_queued w c) { axis = axis_under w (core_with_queued w c).axis } else core_with_queued w c).axis
 carried-joined n course true w c h u = aborted-turn n course c.axis.active (Some w) u.command _ u.active
 carried-joined n course false w c h u =
-    still n course c.axis (queued w c).axis (record { limits = refl; previous = refl; setpoint = refl; active = queued-later (is_aborting w.mode) c.axis.active c.waiting w h }) u
+    still n course c.axis (core_with_queued w c).axis (record { limits = refl; previous = refl; setpoint = refl; active = queued-later (is_aborting w.mode) c.axis.active c.waiting w h }) u
 
 carried-admitted : (n : ℕ) (course : Course) (k : BlockKind) (w : Wanted) (c : Core) → IsUnderWay n course c.axis →
-    Carried n 0 course (turn_of (admitted_fate k w c)) (admitted_by k w c).axis
+    Carried n 0 course (turn_of (admitted_fate k w c)) (core_after_admission k w c).axis
 carried-admitted n course kind.Reset w c u = still n course c.axis _ (record { limits = refl; previous = refl; setpoint = refl; active = refl }) u
 carried-admitted n course kind.GearOut w c u = aborted-turn n course c.axis.active _ u.command _ u.active
 carried-admitted n course kind.CamOut w c u = aborted-turn n course c.axis.active _ u.command _ u.active
 carried-admitted n course _ w c u = carried-joined n course (is_active_at_once (queue_in c) w) w c refl u
 
 carried-asked : (n : ℕ) (course : Course) (r : Option Reason) (w : Wanted) (c : Core) → IsUnderWay n course c.axis →
-    Carried n 0 course (turn_of (asked_fate r w c)) (commanded_by r w c).axis
+    Carried n 0 course (turn_of (asked_fate r w c)) (core_after_verdict r w c).axis
 carried-asked n course None w c u = carried-admitted n course w.kind (with_target (known_target_of c.axis (last_of c.waiting) w) w) c u
 carried-asked n course (Some reason) w c u = still n course c.axis c.axis (record { limits = refl; previous = refl; setpoint = refl; active = refl }) u
 
 -- a command carries a move on, or aborts it
 pub carried-commanded : (n : ℕ) (course : Course) (q : Asked) (c : Core) → IsUnderWay n course c.axis →
-    Carried n 0 course (turn_of (command_fate q c)) (commanded q c).axis
-unfolding command_fate commanded
+    Carried n 0 course (turn_of (command_fate q c)) (core_after_command q c).axis
+unfolding command_fate core_after_command
 carried-commanded n course q c u = carried-asked n course (refusal_of q) q.wanted c u
 
 -- so does a Power

@@ -16,7 +16,7 @@ use Rattle.command_pool.specs.declared.kind.BlockKind.{BlockKind}
 use Rattle.command_pool.specs.declared.kind.BlockKind.TheVariants as kind
 use Rattle.command_pool.specs.declared.wanted.Wanted.{Wanted}
 use Rattle.axis_core.specs.AxisKept.{IsCoreKept, IsLook}
-use Rattle.axis_core.specs.Calls.{admitted_by, commanded, commanded_by, axis_without_owner, core_after_disabling, core_after_power, queue_in, queued}
+use Rattle.axis_core.specs.Calls.{core_after_admission, core_after_command, core_after_verdict, axis_without_owner, core_after_disabling, core_after_power, queue_in, core_with_queued}
 use Rattle.axis_core.specs.Changes.{GoesBy, Lead}
 use Rattle.axis_core.specs.Cores.{Core, MayBegin, MayTakeOver, axis_under, axis_under_by, core_after_end, core_after_ending, core_after_error, next_by, state_after_last, core_after_take_over, core_taken_by}
 use Rattle.axis_core.specs.Cycles.{Advance, advance_in_cycle, advance_by_progress, advance_without_error, advance_by_command, core_after_answer, axis_after_braking, core_after_cycle, core_after_going_on, core_after_advance, progress_in_cycle, core_after_step}
@@ -24,7 +24,7 @@ use Rattle.axis_core.specs.Demands.{IsMade, asked_in}
 use Rattle.axis_core.specs.Drives.{answer_error_of, is_driven, new_error_of, axis_at_drive}
 use Rattle.axis_core.specs.Kept.{MayAdmit, MayGoOn}
 use Rattle.axis_core.specs.Kinds.{event_of}
-use Rattle.axis_core.specs.Owners.{brought}
+use Rattle.axis_core.specs.Owners.{owner_brought}
 use Rattle.motion_numbers.specs.Ranges.{is_outside}
 use Rattle.axis_core.specs.Refusals.{refusal_of}
 use Rattle.axis_core.specs.States.{is_error_stop, is_stopping, is_synchronized}
@@ -189,12 +189,12 @@ resets-by (Some p) input a = either-by 1 (may_reset input a) a.state (after_rese
 
 -- a command joins the others
 joined-by : (b : Bool) (w : Wanted) (c : Core) → MayBegin w.kind c.axis.state →
-    GoesBy 1 c.axis.state (if b then record (queued w c) { axis = axis_under w (queued w c).axis } else queued w c).axis.state
+    GoesBy 1 c.axis.state (if b then record (core_with_queued w c) { axis = axis_under w (core_with_queued w c).axis } else core_with_queued w c).axis.state
 unfolding axis_under_by
 joined-by true w c h = begun-by (event_of w.kind) c.axis.state h
 joined-by false w c h = stays 1 c.axis.state
 
-admits : (k : BlockKind) (w : Wanted) (c : Core) → MayAdmit k w c → GoesBy 1 c.axis.state (admitted_by k w c).axis.state
+admits : (k : BlockKind) (w : Wanted) (c : Core) → MayAdmit k w c → GoesBy 1 c.axis.state (core_after_admission k w c).axis.state
 unfolding axis_under_by
 admits kind.Reset w c h = stays 1 c.axis.state
 admits kind.GearOut w c h = by-row c.axis.state event.FollowOut h.begin
@@ -202,11 +202,11 @@ admits kind.CamOut w c h = by-row c.axis.state event.FollowOut h.begin
 admits _ w c h = joined-by (is_active_at_once (queue_in c) w) w c h.begin
 
 pub commands-change : (c : Core) (number : ℕ) (w : Wanted) (jerk : ℤ) (held : Bool) (tables : ℕ) → IsCoreKept c → IsMade w →
-    GoesBy 1 c.axis.state (commanded (asked_in c number w jerk held tables) c).axis.state
-unfolding commanded
+    GoesBy 1 c.axis.state (core_after_command (asked_in c number w jerk held tables) c).axis.state
+unfolding core_after_command
 commands-change c number w jerk held tables k m =
     elim (refusal_of (asked_in c number w jerk held tables)) as
-    (λ r. refusal_of (asked_in c number w jerk held tables) ≡ r → GoesBy 1 c.axis.state (commanded_by r w c).axis.state) [
+    (λ r. refusal_of (asked_in c number w jerk held tables) ≡ r → GoesBy 1 c.axis.state (core_after_verdict r w c).axis.state) [
       | None ↦ λ h. admits w.kind (with_target (known_target_of c.axis (last_of c.waiting) w) w) c (may-admit c number w jerk held tables k m h)
       | Some r ↦ λ h. stays 1 c.axis.state
     ] refl
@@ -296,7 +296,7 @@ answered-by false look c h may =
 
 runs-change : Laws → (look : AxisLook) (c : Core) → IsLook c.axis look → IsCoreKept c →
     GoesBy 2 c.axis.state (core_after_step look (is_driven c.axis look.input) (core_after_answer look.input c)).axis.state
-runs-change g look c brought k = by (nat_eq (answer_error_of c.axis look.input) 0) refl (may-go-on g look c brought k)
+runs-change g look c owner_brought k = by (nat_eq (answer_error_of c.axis look.input) 0) refl (may-go-on g look c owner_brought k)
   where
     by : (b : Bool) → nat_eq (answer_error_of c.axis look.input) 0 ≡ b →
         ((is_driven c.axis look.input && (if b then c else core_after_error (answer_error_of c.axis look.input) c).axis.driven) ≡ true →
@@ -307,6 +307,6 @@ runs-change g look c brought k = by (nat_eq (answer_error_of c.axis look.input) 
 
 pub cycles-change : Laws → (look : AxisLook) (c : Core) → IsLook c.axis look → IsCoreKept c → GoesBy 3 c.axis.state (core_after_cycle look c).axis.state
 unfolding core_after_cycle
-cycles-change g look c brought k =
+cycles-change g look c owner_brought k =
     let after = core_after_step look (is_driven c.axis look.input) (core_after_answer look.input c) in
-    then-by 2 1 c.axis.state after.axis.state _ (runs-change g look c brought k) (resets-by after.axis.reset look.input after.axis)
+    then-by 2 1 c.axis.state after.axis.state _ (runs-change g look c owner_brought k) (resets-by after.axis.reset look.input after.axis)

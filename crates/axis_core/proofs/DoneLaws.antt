@@ -17,7 +17,7 @@ use Rattle.axis_core.specs.Cycles.{Advance, advance_by_progress, core_after_answ
 use Rattle.axis_core.specs.Drives.{answer_error_of, is_driven, axis_at_drive}
 use Rattle.axis_core.specs.Fates.{Fate, cycle_fate, ending_fate, goes_on, is_blended, moved_fate, replaced}
 use Rattle.axis_core.specs.States.{is_error_stop}
-use Rattle.axis_core.specs.Steps.{ends_where, taken_by, taken_of}
+use Rattle.axis_core.specs.Steps.{ends_where, step_for_wish, taken_step_in}
 use Rattle.axis_core.specs.blocks.Halts.{axis_after_stop}
 use Rattle.axis_core.specs.blocks.Moves.{blended_with, is_crossing, is_move, move_step_with, second_move_of, stands_at_target, target_of, where_applies}
 use Rattle.axis_core.specs.blocks.Power.{is_powered}
@@ -155,8 +155,8 @@ ending-done false blends o target before ws c h g = absurd (cc)
 
 -- a move takes the step that it wants
 takes-step : (a : Axis) (w : Wanted) (next : Option Wanted) (look : AxisLook) → is_move w.kind ≡ true →
-    progress_in_cycle a w next look ≡ Ok (progress_at a w next look (taken_of a (move_step_with (blended_with a w next) a w)))
-takes-step a w next look h = ap (λ o. progress_by_step a w next look (taken_by a o)) (wish-move w.kind a w next look h)
+    progress_in_cycle a w next look ≡ Ok (progress_at a w next look (taken_step_in a (move_step_with (blended_with a w next) a w)))
+takes-step a w next look h = ap (λ o. progress_by_step a w next look (step_for_wish a o)) (wish-move w.kind a w next look h)
 
 moved-done : IsTested → (look : AxisLook) (c : Core) (w : Wanted) → c.axis.active ≡ Some w → is_move w.kind ≡ true → is_error_stop c.axis.state ≡ false →
     EndsDone (blended_with c.axis w (slice_get c.waiting 0)) (target_of w) c.axis.setpoint (moved_fate look c) (core_after_advance look c).axis
@@ -164,7 +164,7 @@ moved-done tested look c w e kind runs =
     let a = c.axis in
     let next = slice_get c.waiting 0 in
     let o = blended_with a w next in
-    let step = taken_of a (move_step_with o a w) in
+    let step = taken_step_in a (move_step_with o a w) in
     let p = progress_at a w next look step in
     let b = axis_after_progress w.kind (target_of w) p a in
     let alike = followed-move w.kind (target_of w) p a kind in

@@ -12,7 +12,7 @@ use Rattle.command_pool.specs.declared.ending.Finish.TheVariants as finish
 use Rattle.command_pool.specs.declared.kind.BlockKind.{BlockKind}
 use Rattle.command_pool.specs.declared.kind.BlockKind.TheVariants as kind
 use Rattle.command_pool.specs.declared.wanted.Wanted.{Wanted}
-use Rattle.axis_core.specs.Calls.{queue_in, queued, core_after_joining, admitted_by, commanded_by, commanded, core_after_power, core_after_disabling, active_without, axis_without_owner}
+use Rattle.axis_core.specs.Calls.{queue_in, core_with_queued, core_after_joining, core_after_admission, core_after_verdict, core_after_command, core_after_power, core_after_disabling, active_without, axis_without_owner}
 use Rattle.axis_core.specs.Cores.{Core, axis_under, axis_under_by, core_after_error, core_after_end, core_after_ending, core_after_take_over, core_taken_by}
 use Rattle.axis_core.specs.Cycles.{Advance, advance_in_cycle, advance_by_progress, advance_without_error, advance_by_command, core_after_answer, axis_after_braking, core_after_cycle, axis_after_progress, core_after_going_on, core_after_advance, progress_in_cycle, core_after_step}
 use Rattle.axis_core.specs.Drives.{answer_error_of, is_driven, axis_at_drive}
@@ -216,7 +216,7 @@ queued-later false (Some a) ws w h = refl
 
 joined-by : (b : Bool) (w : Wanted) (c : Core) → is_active_at_once (queue_in c) w ≡ b →
     IsFate (if b then replaced finish.Aborted c.axis.active (Some w) else goes_on) c.axis.active
-    (if b then record (queued w c) { axis = axis_under w (queued w c).axis } else queued w c).axis.active
+    (if b then record (core_with_queued w c) { axis = axis_under w (core_with_queued w c).axis } else core_with_queued w c).axis.active
 unfolding axis_under_by
 joined-by true w c h = replaced-some finish.Aborted c.axis.active w
 joined-by false w c h = same-fate c.axis.active _ (queued-later (is_aborting w.mode) c.axis.active c.waiting w h)
@@ -224,20 +224,20 @@ joined-by false w c h = same-fate c.axis.active _ (queued-later (is_aborting w.m
 fate-joined : (w : Wanted) (c : Core) → IsFate (joined_fate w c) c.axis.active (core_after_joining w c).axis.active
 fate-joined w c = joined-by (is_active_at_once (queue_in c) w) w c refl
 
-fate-admitted : (k : BlockKind) (w : Wanted) (c : Core) → IsFate (admitted_fate k w c) c.axis.active (admitted_by k w c).axis.active
+fate-admitted : (k : BlockKind) (w : Wanted) (c : Core) → IsFate (admitted_fate k w c) c.axis.active (core_after_admission k w c).axis.active
 unfolding axis_under_by
 fate-admitted kind.Reset w c = going-by false c.axis.active
 fate-admitted kind.GearOut w c = replaced-some finish.Aborted c.axis.active (velocity_command w c.axis)
 fate-admitted kind.CamOut w c = replaced-some finish.Aborted c.axis.active (velocity_command w c.axis)
 fate-admitted _ w c = fate-joined w c
 
-fate-asked : (r : Option Reason) (w : Wanted) (c : Core) → IsFate (asked_fate r w c) c.axis.active (commanded_by r w c).axis.active
+fate-asked : (r : Option Reason) (w : Wanted) (c : Core) → IsFate (asked_fate r w c) c.axis.active (core_after_verdict r w c).axis.active
 fate-asked None w c = fate-admitted w.kind (with_target (known_target_of c.axis (last_of c.waiting) w) w) c
 fate-asked (Some reason) w c = going-by false c.axis.active
 
 -- the fate of a command
-pub fate-commanded : (q : Asked) (c : Core) → IsFate (command_fate q c) c.axis.active (commanded q c).axis.active
-unfolding command_fate commanded
+pub fate-commanded : (q : Asked) (c : Core) → IsFate (command_fate q c) c.axis.active (core_after_command q c).axis.active
+unfolding command_fate core_after_command
 fate-commanded q c = fate-asked (refusal_of q) q.wanted c
 
 -- the fate of a Power

@@ -6,7 +6,7 @@ use Rattle.command_pool.specs.declared.kind.BlockKind.{BlockKind}
 use Rattle.command_pool.specs.declared.kind.BlockKind.TheVariants as kind
 use Rattle.command_pool.specs.declared.wanted.Wanted.{Wanted}
 use Rattle.command_pool.specs.Waiting.{last_of}
-use Rattle.axis_core.specs.Calls.{admitted_by, commanded, commanded_by, axis_without_owner, core_after_disabling, core_after_joining, left, core_after_power, queue_in, queued}
+use Rattle.axis_core.specs.Calls.{core_after_admission, core_after_command, core_after_verdict, axis_without_owner, core_after_disabling, core_after_joining, core_after_leaving, core_after_power, queue_in, core_with_queued}
 use Rattle.axis_core.specs.Cores.{Core, axis_under, axis_under_by}
 use Rattle.axis_core.specs.Refusals.{Asked, refusal_of}
 use Rattle.axis_core.specs.Rows.{Stays}
@@ -26,25 +26,25 @@ stays-at a b e = record {
 
 place-joined : (w : Wanted) (c : Core) → place_of (core_after_joining w c).axis ≡ place_of c.axis
 place-joined w c =
-    elim (is_active_at_once (queue_in c) w) as (λ b. place_of (if b then record (queued w c) { axis = axis_under w (queued w c).axis } else queued w c).axis ≡ place_of c.axis)
-    [ true ↦ place-begun w (queued w c).axis | false ↦ refl ]
+    elim (is_active_at_once (queue_in c) w) as (λ b. place_of (if b then record (core_with_queued w c) { axis = axis_under w (core_with_queued w c).axis } else core_with_queued w c).axis ≡ place_of c.axis)
+    [ true ↦ place-begun w (core_with_queued w c).axis | false ↦ refl ]
 
-place-left : (w : Wanted) (c : Core) → place_of (left w c).axis ≡ place_of c.axis
+place-left : (w : Wanted) (c : Core) → place_of (core_after_leaving w c).axis ≡ place_of c.axis
 unfolding axis_under_by
 place-left w c = refl
 
-place-admitted : (k : BlockKind) (w : Wanted) (c : Core) → place_of (admitted_by k w c).axis ≡ place_of c.axis
+place-admitted : (k : BlockKind) (w : Wanted) (c : Core) → place_of (core_after_admission k w c).axis ≡ place_of c.axis
 place-admitted kind.Reset w c = refl
 place-admitted kind.GearOut w c = place-left w c
 place-admitted kind.CamOut w c = place-left w c
 place-admitted _ w c = place-joined w c
 
-place-commanded : (o : Option Reason) (w : Wanted) (c : Core) → place_of (commanded_by o w c).axis ≡ place_of c.axis
+place-commanded : (o : Option Reason) (w : Wanted) (c : Core) → place_of (core_after_verdict o w c).axis ≡ place_of c.axis
 place-commanded None w c = place-admitted w.kind (with_target (known_target_of c.axis (last_of c.waiting) w) w) c
 place-commanded (Some r) w c = refl
 
-pub stays-commanded : (q : Asked) (c : Core) → Stays c.axis (commanded q c).axis
-unfolding commanded
+pub stays-commanded : (q : Asked) (c : Core) → Stays c.axis (core_after_command q c).axis
+unfolding core_after_command
 stays-commanded q c = stays-at c.axis _ (place-commanded (refusal_of q) q.wanted c)
 
 place-powered : (enable : Bool) (c : Core) → place_of (core_after_power enable c).axis ≡ place_of c.axis

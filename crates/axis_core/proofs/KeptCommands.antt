@@ -18,7 +18,7 @@ use Rattle.command_pool.specs.declared.wanted.Wanted.{Wanted}
 use Rattle.kin_core.specs.Admissible.{IsKept}
 use Rattle.kin_core.specs.declared.limits.Limits.{Limits}
 use Rattle.axis_core.specs.AxisKept.{AreNumbers, AreRampsWithin, AreRatesWithin, AreWaiting, IsActive, IsCoreKept, IsGearWithin, IsInState, IsMoveWithin, IsReady, IsRelativeWithin, IsRunning, IsVelocityWithin, IsWaiting, MayQueue, fits}
-use Rattle.axis_core.specs.Calls.{admitted_by, commanded, commanded_by, core_after_joining, left, queue_in}
+use Rattle.axis_core.specs.Calls.{core_after_admission, core_after_command, core_after_verdict, core_after_joining, core_after_leaving, queue_in}
 use Rattle.axis_core.specs.Cores.{Core, core_after_all_ends, axis_under, axis_under_by, state_during}
 use Rattle.axis_core.specs.Demands.{IsMade, asked_in}
 use Rattle.axis_core.specs.Kept.{IsGear, IsSmallTarget}
@@ -384,7 +384,7 @@ unfolding axis_under_by
 left-begun w a b = refl
 
 -- leaving a gear or a cam keeps the axis
-left-kept : (w : Wanted) (c : Core) → IsCoreKept c → IsRunning c.axis.driven (is_powered c.axis) → IsCoreKept (left w c)
+left-kept : (w : Wanted) (c : Core) → IsCoreKept c → IsRunning c.axis.driven (is_powered c.axis) → IsCoreKept (core_after_leaving w c)
 left-kept w c k r =
     let l = c.axis.limits in
     let b = k.axis.base in
@@ -402,7 +402,7 @@ left-kept w c k r =
 
 -- a command that is not refused keeps the axis, by its kind
 admitted-by : (k : BlockKind) (c : Core) (number : ℕ) (w : Wanted) (jerk : ℤ) (held : Bool) (tables : ℕ) → IsCoreKept c → IsMade (of_kind k w) →
-    NoneHolds (asked_in c number (of_kind k w) jerk held tables) (tests_of k) → IsCoreKept (admitted_by k (known k c w) c)
+    NoneHolds (asked_in c number (of_kind k w) jerk held tables) (tests_of k) → IsCoreKept (core_after_admission k (known k c w) c)
 unfolding holds
 admitted-by kind.Reset c number w jerk held tables k m n = record {
   axis = record { base = k.axis.base; state = k.axis.state; active = k.axis.active };
@@ -425,16 +425,16 @@ admitted-by _ c number w jerk held tables k m n = absurd (let made = m.kind in c
 
 -- a command that is not refused keeps the axis
 pub admitted-kept : (c : Core) (number : ℕ) (w : Wanted) (jerk : ℤ) (held : Bool) (tables : ℕ) → IsCoreKept c → IsMade w →
-    refusal_of (asked_in c number w jerk held tables) ≡ None → IsCoreKept (admitted_by w.kind (with_target (known_target_of c.axis (last_of c.waiting) w) w) c)
+    refusal_of (asked_in c number w jerk held tables) ≡ None → IsCoreKept (core_after_admission w.kind (with_target (known_target_of c.axis (last_of c.waiting) w) w) c)
 unfolding refusal_of
 admitted-kept c number w jerk held tables k m h =
     admitted-by w.kind c number w jerk held tables k m (none-holds (asked_in c number w jerk held tables) (tests_of w.kind) h)
 
 -- a command that is asked keeps the axis, refused or not
 pub commanded-kept : (c : Core) (number : ℕ) (w : Wanted) (jerk : ℤ) (held : Bool) (tables : ℕ) → IsCoreKept c → IsMade w →
-    IsCoreKept (commanded (asked_in c number w jerk held tables) c)
-unfolding commanded
+    IsCoreKept (core_after_command (asked_in c number w jerk held tables) c)
+unfolding core_after_command
 commanded-kept c number w jerk held tables k m =
     elim (refusal_of (asked_in c number w jerk held tables)) as
-    (λ r. refusal_of (asked_in c number w jerk held tables) ≡ r → IsCoreKept (commanded_by r w c))
+    (λ r. refusal_of (asked_in c number w jerk held tables) ≡ r → IsCoreKept (core_after_verdict r w c))
     [ None ↦ λ h. admitted-kept c number w jerk held tables k m h | Some r ↦ λ h. k ] refl

@@ -23,7 +23,7 @@ use Rattle.axis_core.specs.Cycles.{Advance, advance_by_progress, advance_without
 use Rattle.axis_core.specs.Kinds.{ending_by, is_reached, wish_by}
 use Rattle.axis_core.specs.Ranges.{IsBetween}
 use Rattle.axis_core.specs.States.{is_error_stop, is_synchronized}
-use Rattle.axis_core.specs.Steps.{ends_where, axis_after_step, old_step_of, taken_by, taken_of}
+use Rattle.axis_core.specs.Steps.{ends_where, axis_after_step, old_step_of, step_for_wish, taken_step_in}
 use Rattle.axis_core.specs.blocks.Home.{axis_after_home}
 use Rattle.axis_core.specs.blocks.Moves.{blended_with, is_crossing, stands_at_target, target_of}
 use Rattle.axis_core.specs.blocks.Path.{is_on_path, axis_after_path}
@@ -68,7 +68,7 @@ based-at g a next b r k = record {
 }
 
 -- the step that is taken leads to a kept pair
-pub step-kept : Laws → (a : Axis) (step : ℤ) → Based a → Runs a → IsKept a.limits a.setpoint (a.setpoint +ℤ taken_of a step)
+pub step-kept : Laws → (a : Axis) (step : ℤ) → Based a → Runs a → IsKept a.limits a.setpoint (a.setpoint +ℤ taken_step_in a step)
 step-kept g a step b r = g.taken a.limits a.previous a.setpoint step b.limits (kept-of a b r)
 
 -- what an axis's step and the end of its command make of it
@@ -288,16 +288,16 @@ pub toward-rest : (v : ℤ) → v ≡ pos 0 → toward_zero v (pos 0) ≡ pos 0
 unfolding toward_zero
 toward-rest v h = rw h refl
 
-rest-taken : Laws → (a : Axis) → Based a → Runs a → a.previous ≡ a.setpoint → taken_of a (pos 0) ≡ pos 0
+rest-taken : Laws → (a : Axis) → Based a → Runs a → a.previous ≡ a.setpoint → taken_step_in a (pos 0) ≡ pos 0
 rest-taken g a b r h =
     let k = kept-of a b r in
     let zero : a.setpoint -ℤ a.previous ≡ pos 0 = omega (arith, ints, h) in
     let most = b.limits.amax_within_dmax in
     let least = b.limits.amax_positive in
     let s = g.slower a.limits a.previous a.setpoint (pos 0) b.limits k (omega (arith, ints)) (omega (arith, ints)) in
-    let t : taken_step_of a.limits a.previous a.setpoint (toward_zero (a.setpoint -ℤ a.previous) (pos 0)) ≡ taken_of a (pos 0) =
+    let t : taken_step_of a.limits a.previous a.setpoint (toward_zero (a.setpoint -ℤ a.previous) (pos 0)) ≡ taken_step_in a (pos 0) =
     ap (taken_step_of a.limits a.previous a.setpoint) (toward-rest (a.setpoint -ℤ a.previous) zero) in
-    let n : unsigned_abs (taken_of a (pos 0)) ≤ unsigned_abs (a.setpoint -ℤ a.previous) - 0 =
+    let n : unsigned_abs (taken_step_in a (pos 0)) ≤ unsigned_abs (a.setpoint -ℤ a.previous) - 0 =
     (let P : ℤ → Type 0 = λ z. unsigned_abs z ≤ unsigned_abs (a.setpoint -ℤ a.previous) - 0 in subst P t s) in
     omega (arith, ints, n, zero)
 
@@ -316,10 +316,10 @@ rest-in state.ContinuousMotion driven powered off p q step active h i = i
 rest-in state.SynchronizedMotion driven powered off p q step active h i = i
 
 rests : Laws → (c : Core) → IsCoreKept c → Runs c.axis → c.axis.active ≡ None →
-    IsGoing (record c { axis = axis_after_step (c.axis.setpoint +ℤ taken_of c.axis (pos 0)) c.axis })
+    IsGoing (record c { axis = axis_after_step (c.axis.setpoint +ℤ taken_step_in c.axis (pos 0)) c.axis })
 rests g c k r none =
     let a = c.axis in
-    let step = taken_of a (pos 0) in
+    let step = taken_step_in a (pos 0) in
     record {
       runs = r;
       kept = record {
@@ -335,9 +335,9 @@ rests g c k r none =
 
 -- what the active command wants is taken, or is an error
 wished-going : Laws → (wish : Result ℤ ℕ) (w : Wanted) (look : AxisLook) (c : Core) → IsCoreKept c → Runs c.axis → c.axis.active ≡ Some w →
-    IsGoing (concluded (advance_by_progress w.kind (target_of w) c.axis (progress_by_step c.axis w (slice_get c.waiting 0) look (taken_by c.axis wish))) c)
+    IsGoing (concluded (advance_by_progress w.kind (target_of w) c.axis (progress_by_step c.axis w (slice_get c.waiting 0) look (step_for_wish c.axis wish))) c)
 wished-going g (Ok step) w look c k r e =
-    carried-by-going g w.kind c w (taken_of c.axis step) look k r e refl (step-kept g c.axis step k.axis.base r)
+    carried-by-going g w.kind c w (taken_step_in c.axis step) look k r e refl (step-kept g c.axis step k.axis.base r)
 wished-going g (Err n) w look c k r e = broken-going g n c k.axis.base r
 
 -- a cycle by the active command, or without one

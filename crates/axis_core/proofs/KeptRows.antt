@@ -30,7 +30,7 @@ use Rattle.axis_core.specs.Ranges.{IsBetween}
 use Rattle.motion_numbers.specs.Ranges.{is_outside}
 use Rattle.axis_core.specs.Rows.{KeepsSpell, spell_of}
 use Rattle.axis_core.specs.States.{is_error_stop, is_stopping}
-use Rattle.axis_core.specs.Steps.{axis_after_step, old_step_of, taken_by, taken_of}
+use Rattle.axis_core.specs.Steps.{axis_after_step, old_step_of, step_for_wish, taken_step_in}
 use Rattle.axis_core.specs.blocks.Halts.{is_at_rest, is_released, axis_after_stop}
 use Rattle.axis_core.specs.blocks.Home.{axis_after_home}
 use Rattle.axis_core.specs.blocks.Moves.{target_of, with_target}
@@ -128,7 +128,7 @@ concluded-moved : (s : Advance) (c : Core) → Moved c.axis s.axis → Moved c.a
 concluded-moved s c m = moved-same c.axis s.axis _ m (place-ended_by s.ending (record c { axis = s.axis }))
 
 -- the taken step
-step-admissible : TakenIsAdmissible → (a : Axis) (step : ℤ) → Based a → Runs a → IsAdmissible a.limits a.previous a.setpoint (a.setpoint +ℤ taken_of a step)
+step-admissible : TakenIsAdmissible → (a : Axis) (step : ℤ) → Based a → Runs a → IsAdmissible a.limits a.previous a.setpoint (a.setpoint +ℤ taken_step_in a step)
 step-admissible taken a step b r = taken a.limits a.previous a.setpoint step b.limits (kept-of a b r)
 
 braked-moved : TakenIsAdmissible → (c : Core) → IsCoreKept c → Runs c.axis → Moved c.axis (axis_after_braking c.axis)
@@ -136,7 +136,7 @@ braked-moved taken c k r =
     by_step (c.axis.setpoint +ℤ braking_step c.axis) (step-admissible taken c.axis (toward_zero (old_step_of c.axis) c.axis.limits.dmax) k.axis.base r) refl
 
 wished-moved : TakenIsAdmissible → (wish : Result ℤ ℕ) (w : Wanted) (look : AxisLook) (c : Core) → IsCoreKept c → Runs c.axis → c.axis.active ≡ Some w →
-    Moved c.axis (advance_by_progress w.kind (target_of w) c.axis (progress_by_step c.axis w (slice_get c.waiting 0) look (taken_by c.axis wish))).axis
+    Moved c.axis (advance_by_progress w.kind (target_of w) c.axis (progress_by_step c.axis w (slice_get c.waiting 0) look (step_for_wish c.axis wish))).axis
 wished-moved taken (Ok step) w look c k r e =
     followed-moved w.kind c w _ k e refl (step-admissible taken c.axis step k.axis.base r)
 wished-moved taken (Err n) w look c k r e = braked-moved taken c k r
@@ -144,7 +144,7 @@ wished-moved taken (Err n) w look c k r e = braked-moved taken c k r
 commanded-moved : TakenIsAdmissible → (active : Option Wanted) (look : AxisLook) (c : Core) → IsCoreKept c → Runs c.axis → c.axis.active ≡ active →
     Moved c.axis (advance_by_command active (slice_get c.waiting 0) look c.axis).axis
 commanded-moved taken None look c k r e =
-    by_step (c.axis.setpoint +ℤ taken_of c.axis (pos 0)) (step-admissible taken c.axis (pos 0) k.axis.base r) refl
+    by_step (c.axis.setpoint +ℤ taken_step_in c.axis (pos 0)) (step-admissible taken c.axis (pos 0) k.axis.base r) refl
 commanded-moved taken (Some w) look c k r e = wished-moved taken (wish_by w.kind c.axis w (slice_get c.waiting 0) look) w look c k r e
 
 path_left-place : (ends : Bool) (a : Axis) → place_of (axis_after_path ends a) ≡ place_of a

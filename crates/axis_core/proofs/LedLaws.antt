@@ -15,7 +15,7 @@ use Rattle.command_pool.specs.declared.kind.BlockKind.{BlockKind}
 use Rattle.command_pool.specs.declared.kind.BlockKind.TheVariants as kind
 use Rattle.command_pool.specs.declared.wanted.Wanted.{Wanted}
 use Rattle.axis_core.specs.AxisKept.{IsCoreKept, fits}
-use Rattle.axis_core.specs.Calls.{active_without, admitted_by, commanded, commanded_by, axis_without_owner, core_after_disabling, core_after_power, queue_in, queued}
+use Rattle.axis_core.specs.Calls.{active_without, core_after_admission, core_after_command, core_after_verdict, axis_without_owner, core_after_disabling, core_after_power, queue_in, core_with_queued}
 use Rattle.axis_core.specs.Cores.{Core, axis_under, axis_under_by, core_after_end, core_after_ending, core_after_error, state_after_last, core_after_take_over, core_taken_by}
 use Rattle.axis_core.specs.Cycles.{Advance, advance_in_cycle, advance_by_progress, advance_without_error, advance_by_command, core_after_answer, axis_after_braking, core_after_cycle, axis_after_word, core_after_going_on, core_after_advance, axis_at_opening, progress_in_cycle, progress_by_step, core_after_step}
 use Rattle.axis_core.specs.Drives.{answer_error_of, is_driven, axis_at_drive}
@@ -23,7 +23,7 @@ use Rattle.axis_core.specs.Kinds.{ending_by, wish_by}
 use Rattle.axis_core.specs.Led.{HasCommand, StaysLed, is_of_command}
 use Rattle.axis_core.specs.Refusals.{Asked, refusal_of}
 use Rattle.axis_core.specs.States.{is_error_stop, is_synchronized}
-use Rattle.axis_core.specs.Steps.{axis_after_step, taken_by}
+use Rattle.axis_core.specs.Steps.{axis_after_step, step_for_wish}
 use Rattle.axis_core.specs.blocks.Gear.{velocity_command}
 use Rattle.axis_core.specs.blocks.Halts.{leaves_stopping}
 use Rattle.axis_core.specs.blocks.Moves.{known_target_of, position_of, target_of, with_target}
@@ -162,7 +162,7 @@ by-command (Some w) look c e k =
     let same : x.axis.state ≡ c.axis.state = by-made w.kind (target_of w) c.axis (progress_in_cycle c.axis w (slice_get c.waiting 0) look) in
     ends-by x.ending c.axis (record c { axis = x.axis }) same
     (active-made w.kind (target_of w) c.axis (progress_in_cycle c.axis w (slice_get c.waiting 0) look))
-    (λ p n. ap lasts same ∙ steps w c.waiting look c (taken_by c.axis (wish_by w.kind c.axis w (slice_get c.waiting 0) look)) refl (k.axis.active w e).fitting p n)
+    (λ p n. ap lasts same ∙ steps w c.waiting look c (step_for_wish c.axis (wish_by w.kind c.axis w (slice_get c.waiting 0) look)) refl (k.axis.active w e).fitting p n)
 
 leaves : (b : Bool) (a c : Axis) → a.state ≡ c.state → a.active ≡ c.active → StaysLed c (axis_after_path b a)
 leaves true a c s t = from-led c _ (record { command = λ h. absurd (cc); path = refl })
@@ -248,23 +248,23 @@ cycles-led look c k =
 
 -- a command joins the others
 joins : (b : Bool) (w : Wanted) (c : Core) → is_active_at_once (queue_in c) w ≡ b →
-    StaysLed c.axis (if b then record (queued w c) { axis = axis_under w (queued w c).axis } else queued w c).axis
-joins true w c h = from-led c.axis _ (begins w (queued w c).axis)
+    StaysLed c.axis (if b then record (core_with_queued w c) { axis = axis_under w (core_with_queued w c).axis } else core_with_queued w c).axis
+joins true w c h = from-led c.axis _ (begins w (core_with_queued w c).axis)
 joins false w c h = as-before c.axis _ refl (ap is_some (queued-later (is_aborting w.mode) c.axis.active c.waiting w h))
 
-admits : (k : BlockKind) (w : Wanted) (c : Core) → StaysLed c.axis (admitted_by k w c).axis
+admits : (k : BlockKind) (w : Wanted) (c : Core) → StaysLed c.axis (core_after_admission k w c).axis
 unfolding axis_under_by
 admits kind.Reset w c = as-before c.axis _ refl refl
 admits kind.GearOut w c = from-led c.axis _ (with-active _ (velocity_command w c.axis) refl)
 admits kind.CamOut w c = from-led c.axis _ (with-active _ (velocity_command w c.axis) refl)
 admits _ w c = joins (is_active_at_once (queue_in c) w) w c refl
 
-asks : (r : Option Reason) (w : Wanted) (c : Core) → StaysLed c.axis (commanded_by r w c).axis
+asks : (r : Option Reason) (w : Wanted) (c : Core) → StaysLed c.axis (core_after_verdict r w c).axis
 asks None w c = admits w.kind (with_target (known_target_of c.axis (last_of c.waiting) w) w) c
 asks (Some reason) w c = as-before c.axis c.axis refl refl
 
-pub commands-led : (q : Asked) (c : Core) → StaysLed c.axis (commanded q c).axis
-unfolding commanded
+pub commands-led : (q : Asked) (c : Core) → StaysLed c.axis (core_after_command q c).axis
+unfolding core_after_command
 commands-led q c = asks (refusal_of q) q.wanted c
 
 pub powers-led : (enable : Bool) (c : Core) → StaysLed c.axis (core_after_power enable c).axis

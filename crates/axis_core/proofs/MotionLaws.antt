@@ -8,7 +8,7 @@ use Rattle.command_pool.specs.declared.wanted.Wanted.{Wanted}
 use Rattle.kin_core.specs.Toward.{toward_zero}
 use Rattle.trapezoid_plan.specs.MoveRun.{halt_taken_of, move_taken_of}
 use Rattle.axis_core.specs.AxisKept.{IsCoreKept, IsRunning}
-use Rattle.axis_core.specs.Calls.{commanded, commanded_by}
+use Rattle.axis_core.specs.Calls.{core_after_command, core_after_verdict}
 use Rattle.axis_core.specs.Cores.{Core, core_after_ending}
 use Rattle.axis_core.specs.Cycles.{Advance, advance_by_progress, core_after_answer, core_after_cycle, axis_after_progress, axis_after_word, core_after_going_on, core_after_advance, progress_in_cycle, progress_by_step, core_after_step}
 use Rattle.axis_core.specs.Drives.{answer_error_of, is_driven, axis_at_drive}
@@ -17,7 +17,7 @@ use Rattle.axis_core.specs.Kinds.{ending_by}
 use Rattle.axis_core.specs.Motions.{Leads, halt_step_taken, is_slowing, move_step_taken}
 use Rattle.axis_core.specs.Refusals.{Asked, refusal_of}
 use Rattle.axis_core.specs.States.{is_error_stop}
-use Rattle.axis_core.specs.Steps.{ends_where, axis_after_step, old_step_of, taken_by, taken_of}
+use Rattle.axis_core.specs.Steps.{ends_where, axis_after_step, old_step_of, step_for_wish, taken_step_in}
 use Rattle.axis_core.specs.blocks.Halts.{is_rest, axis_after_stop}
 use Rattle.axis_core.specs.blocks.Moves.{is_done_by, blended_with, is_move, move_step_with, target_of}
 use Rattle.axis_core.specs.blocks.Power.{is_powered}
@@ -71,12 +71,12 @@ concludes done blends step c b alike =
     }
 
 -- the taken step of a move in its plan's words
-step-is : (o : Option SecondMove) (a : Axis) (w : Wanted) → taken_of a (move_step_with o a w) ≡ move_step_taken o a w
+step-is : (o : Option SecondMove) (a : Axis) (w : Wanted) → taken_step_in a (move_step_with o a w) ≡ move_step_taken o a w
 unfolding move_taken_of blend_taken_of
 step-is None a w = refl
 step-is (Some s) a w = refl
 
-halt-is : (a : Axis) (w : Wanted) → taken_of a (toward_zero (old_step_of a) w.rates.d) ≡ halt_step_taken a w
+halt-is : (a : Axis) (w : Wanted) → taken_step_in a (toward_zero (old_step_of a) w.rates.d) ≡ halt_step_taken a w
 unfolding halt_taken_of
 halt-is a w = refl
 
@@ -98,14 +98,14 @@ by-progress step done look c w e s made ends alike =
     subst P (sym is) (subst Q (sym ends) (concludes done blends step c b alike))
 
 moved-leads : (look : AxisLook) (c : Core) (w : Wanted) → c.axis.active ≡ Some w → is_move w.kind ≡ true → is_error_stop c.axis.state ≡ false →
-    Leads (taken_of c.axis (move_step_with (blended_with c.axis w (slice_get c.waiting 0)) c.axis w))
-    (is_done_by (blended_with c.axis w (slice_get c.waiting 0)) c.axis w (taken_of c.axis (move_step_with (blended_with c.axis w (slice_get c.waiting 0)) c.axis w)))
+    Leads (taken_step_in c.axis (move_step_with (blended_with c.axis w (slice_get c.waiting 0)) c.axis w))
+    (is_done_by (blended_with c.axis w (slice_get c.waiting 0)) c.axis w (taken_step_in c.axis (move_step_with (blended_with c.axis w (slice_get c.waiting 0)) c.axis w)))
     c.axis (moved_fate look c) (core_after_advance look c).axis
 moved-leads look c w e m s =
     let a = c.axis in
     let next = slice_get c.waiting 0 in
-    let step = taken_of a (move_step_with (blended_with a w next) a w) in
-    by-progress step _ look c w e s (ap (λ o. progress_by_step a w next look (taken_by a o)) (wish-move w.kind a w next look m))
+    let step = taken_step_in a (move_step_with (blended_with a w next) a w) in
+    by-progress step _ look c w e s (ap (λ o. progress_by_step a w next look (step_for_wish a o)) (wish-move w.kind a w next look m))
     (ending-move w.kind a w next step look m) (followed-move w.kind (target_of w) (progress_at a w next look step) a m)
 
 pub moves-lead : (look : AxisLook) (c : Core) (w : Wanted) → IsCoreKept c → c.axis.active ≡ Some w → is_move w.kind ≡ true → nat_eq (answer_error_of c.axis look.input) 0 ≡ true →
@@ -121,13 +121,13 @@ moves-lead look c w kept e m none =
     (subst P (step-is o c.axis w) (moved-leads look c w e m runs))
 
 halted-leads : (look : AxisLook) (c : Core) (w : Wanted) → c.axis.active ≡ Some w → is_slowing w.kind ≡ true → is_error_stop c.axis.state ≡ false →
-    Leads (taken_of c.axis (toward_zero (old_step_of c.axis) w.rates.d)) (is_rest (taken_of c.axis (toward_zero (old_step_of c.axis) w.rates.d)))
+    Leads (taken_step_in c.axis (toward_zero (old_step_of c.axis) w.rates.d)) (is_rest (taken_step_in c.axis (toward_zero (old_step_of c.axis) w.rates.d)))
     c.axis (moved_fate look c) (core_after_advance look c).axis
 halted-leads look c w e m s =
     let a = c.axis in
     let next = slice_get c.waiting 0 in
-    let step = taken_of a (toward_zero (old_step_of a) w.rates.d) in
-    by-progress step _ look c w e s (ap (λ o. progress_by_step a w next look (taken_by a o)) (wish-halt w.kind a w next look m))
+    let step = taken_step_in a (toward_zero (old_step_of a) w.rates.d) in
+    by-progress step _ look c w e s (ap (λ o. progress_by_step a w next look (step_for_wish a o)) (wish-halt w.kind a w next look m))
     (ending-halt w.kind a w next step look m) (followed-halt w.kind (target_of w) (progress_at a w next look step) a m)
 
 pub halts-lead : (look : AxisLook) (c : Core) (w : Wanted) → IsCoreKept c → c.axis.active ≡ Some w → is_slowing w.kind ≡ true → nat_eq (answer_error_of c.axis look.input) 0 ≡ true →
@@ -139,6 +139,6 @@ halts-lead look c w kept e m none =
     by-advance (Leads step (is_rest step) c.axis) look c w kept e none (leads-alike step (is_rest step) c.axis)
     (subst P (halt-is c.axis w) (halted-leads look c w e m runs))
 
-pub refused-stays : (q : Asked) (c : Core) (r : Reason) → refusal_of q ≡ Some r → commanded q c ≡ c
-unfolding commanded
-refused-stays q c r h = ap (λ o. commanded_by o q.wanted c) h
+pub refused-stays : (q : Asked) (c : Core) (r : Reason) → refusal_of q ≡ Some r → core_after_command q c ≡ c
+unfolding core_after_command
+refused-stays q c r h = ap (λ o. core_after_verdict o q.wanted c) h

@@ -6,11 +6,11 @@ use Rattle.axis_state.specs.Diagram.{next_of}
 use Rattle.axis_state.specs.declared.diagram.AxisEvent.TheVariants.{StopReleased}
 use Rattle.axis_state.specs.declared.state.AxisState.{AxisState}
 use Rattle.buffer_modes.specs.Queue.{active_note, end_notes, is_aborting, is_active_at_once, behind}
-use Rattle.axis_core.specs.Calls.{active_without, admitted_by, commanded, commanded_by, axis_without_owner, core_after_disabling, core_after_power, queue_in, queued, reset_without}
+use Rattle.axis_core.specs.Calls.{active_without, core_after_admission, core_after_command, core_after_verdict, axis_without_owner, core_after_disabling, core_after_power, queue_in, core_with_queued, reset_without}
 use Rattle.axis_core.specs.Cores.{Core, axis_under, axis_under_by, core_after_end, core_after_ending, core_after_error, core_after_take_over, core_taken_by}
 use Rattle.axis_core.specs.Cycles.{advance_in_cycle, core_after_answer, core_after_cycle, core_after_going_on, core_after_advance, core_after_step}
 use Rattle.axis_core.specs.Drives.{answer_error_of, is_driven, axis_at_drive}
-use Rattle.axis_core.specs.Owners.{AreApart, brought, brought_by, disowned, is_owner, one_of, owner_by, owns, reset_owner, told, waits_of}
+use Rattle.axis_core.specs.Owners.{AreApart, owner_brought, owner_brought_by, core_without_owner, is_owner, one_of, owner_by, owns, reset_owner, notes_for, waits_of}
 use Rattle.motion_numbers.specs.Ranges.{is_outside}
 use Rattle.axis_core.specs.Refusals.{Asked, refusal_of}
 use Rattle.axis_core.specs.States.{is_error_stop}
@@ -35,23 +35,23 @@ use Rattle.axis_core.proofs.FateLaws.{advances}
 
 -- what an instance has and what it was told, together
 abbrev pub sum : ℕ → Core → ℕ
-sum k c = owns k c + told k c.notes
+sum k c = owns k c + notes_for k c.notes
 
-told-more : (k : ℕ) (xs ys : List Note) → told k (xs ++ ys) ≡ told k xs + told k ys
+told-more : (k : ℕ) (xs ys : List Note) → notes_for k (xs ++ ys) ≡ notes_for k xs + notes_for k ys
 told-more k [] ys = omega arith
 told-more k (x ∷ xs) ys = let t = told-more k xs ys in omega arith
 
-told-to : (k : ℕ) (o : Option ℕ) (f : Finish) → told k (told_to o f) ≡ is_owner k o
+told-to : (k : ℕ) (o : Option ℕ) (f : Finish) → notes_for k (told_to o f) ≡ is_owner k o
 unfolding is_owner
 told-to k None f = refl
 told-to k (Some n) f = omega arith
 
-told-active : (k : ℕ) (f : Finish) (o : Option Wanted) → told k (active_note f o) ≡ is_owner k (owner_by o)
+told-active : (k : ℕ) (f : Finish) (o : Option Wanted) → notes_for k (active_note f o) ≡ is_owner k (owner_by o)
 unfolding is_owner
 told-active k f None = refl
 told-active k f (Some w) = told-to k w.owner f
 
-told-waiting : (k : ℕ) (f : Finish) (ws : List Wanted) → told k (notes_of f ws) ≡ waits_of k ws
+told-waiting : (k : ℕ) (f : Finish) (ws : List Wanted) → notes_for k (notes_of f ws) ≡ waits_of k ws
 told-waiting k f [] = refl
 told-waiting k f (w ∷ ws) =
     let a = told-more k (told_to w.owner f) (notes_of f ws) in
@@ -186,8 +186,8 @@ waits-more k (v ∷ ws) w = let t = waits-more k ws w in omega arith
 queue-owns : (k : ℕ) (aborting : Bool) (active : Option Wanted) (ws : List Wanted) (notes : List Note) (w : Wanted) →
     is_owner k (owner_by (if aborting then record { active = Some w; waiting = [] } else behind active ws w).active) +
     waits_of k (if aborting then record { active = Some w; waiting = [] } else behind active ws w).waiting +
-    told k (notes ++ (if aborting then end_notes finish.Aborted (record { active = active; waiting = ws }) else [])) ≡
-    is_owner k (owner_by active) + waits_of k ws + told k notes + is_owner k w.owner
+    notes_for k (notes ++ (if aborting then end_notes finish.Aborted (record { active = active; waiting = ws }) else [])) ≡
+    is_owner k (owner_by active) + waits_of k ws + notes_for k notes + is_owner k w.owner
 queue-owns k true active ws notes w =
     let a = told-more k notes (active_note finish.Aborted active ++ notes_of finish.Aborted ws) in
     let b = told-more k (active_note finish.Aborted active) (notes_of finish.Aborted ws) in
@@ -197,7 +197,7 @@ queue-owns k true active ws notes w =
 queue-owns k false None ws notes w = let a = told-more k notes [] in let z = nobody k in omega arith
 queue-owns k false (Some v) ws notes w = let a = told-more k notes [] in let b = waits-more k ws w in omega arith
 
-sum-queued : (k : ℕ) (w : Wanted) (c : Core) → sum k (queued w c) ≡ sum k c + is_owner k w.owner
+sum-queued : (k : ℕ) (w : Wanted) (c : Core) → sum k (core_with_queued w c) ≡ sum k c + is_owner k w.owner
 sum-queued k w c = let q = queue-owns k (is_aborting w.mode) c.axis.active c.waiting c.notes w in omega arith
 
 at-once-active : (aborting : Bool) (active : Option Wanted) (ws : List Wanted) (w : Wanted) → (aborting || is_none active) ≡ true →
@@ -207,22 +207,22 @@ at-once-active false None ws w h = refl
 at-once-active false (Some v) ws w h = absurd (cc)
 
 sum-joined : (k : ℕ) (b : Bool) (w : Wanted) (c : Core) → is_active_at_once (queue_in c) w ≡ b →
-    sum k (if b then record (queued w c) { axis = axis_under w (queued w c).axis } else queued w c) ≡ sum k c + is_owner k w.owner
+    sum k (if b then record (core_with_queued w c) { axis = axis_under w (core_with_queued w c).axis } else core_with_queued w c) ≡ sum k c + is_owner k w.owner
 unfolding axis_under_by
 sum-joined k true w c h =
     let q = sum-queued k w c in
-    let e : is_owner k (owner_by (queued w c).axis.active) ≡ is_owner k w.owner = ap (λ o. is_owner k (owner_by o)) (at-once-active (is_aborting w.mode) c.axis.active c.waiting w h) in
+    let e : is_owner k (owner_by (core_with_queued w c).axis.active) ≡ is_owner k w.owner = ap (λ o. is_owner k (owner_by o)) (at-once-active (is_aborting w.mode) c.axis.active c.waiting w h) in
     omega arith
 sum-joined k false w c h = sum-queued k w c
 
-replaced-told : (k : ℕ) (o : Option PendingReset) → told k (replaced_note o) ≡ is_owner k (reset_owner o)
+replaced-told : (k : ℕ) (o : Option PendingReset) → notes_for k (replaced_note o) ≡ is_owner k (reset_owner o)
 unfolding is_owner
 replaced-told k None = refl
 replaced-told k (Some p) = told-to k p.owner finish.Aborted
 
 -- all commands are aborted and told
 sum-all : (k : ℕ) (c : Core) →
-    is_owner k None + 0 + is_owner k (reset_owner c.axis.reset) + told k (c.notes ++ end_notes finish.Aborted (record { active = c.axis.active; waiting = c.waiting })) ≡ sum k c
+    is_owner k None + 0 + is_owner k (reset_owner c.axis.reset) + notes_for k (c.notes ++ end_notes finish.Aborted (record { active = c.axis.active; waiting = c.waiting })) ≡ sum k c
 sum-all k c =
     let a = told-more k c.notes (active_note finish.Aborted c.axis.active ++ notes_of finish.Aborted c.waiting) in
     let b = told-more k (active_note finish.Aborted c.axis.active) (notes_of finish.Aborted c.waiting) in
@@ -232,10 +232,10 @@ sum-all k c =
     omega arith
 
 sum-aborted : (k : ℕ) (c : Core) →
-    is_owner k None + 0 + is_owner k (reset_owner c.axis.reset) + told k (c.notes ++ end_notes finish.Aborted (record { active = c.axis.active; waiting = c.waiting })) ≡ sum k c + is_owner k None
+    is_owner k None + 0 + is_owner k (reset_owner c.axis.reset) + notes_for k (c.notes ++ end_notes finish.Aborted (record { active = c.axis.active; waiting = c.waiting })) ≡ sum k c + is_owner k None
 sum-aborted k c = let s = sum-all k c in let z = nobody k in omega arith
 
-sum-admitted : (k : ℕ) (x : BlockKind) (w : Wanted) (c : Core) → sum k (admitted_by x w c) ≡ sum k c + is_owner k (brought_by x w)
+sum-admitted : (k : ℕ) (x : BlockKind) (w : Wanted) (c : Core) → sum k (core_after_admission x w c) ≡ sum k c + is_owner k (owner_brought_by x w)
 unfolding axis_under_by
 sum-admitted k kind.Reset w c =
     let a = told-more k c.notes (replaced_note c.axis.reset) in
@@ -245,20 +245,20 @@ sum-admitted k kind.GearOut w c = sum-aborted k c
 sum-admitted k kind.CamOut w c = sum-aborted k c
 sum-admitted k _ w c = sum-joined k (is_active_at_once (queue_in c) w) w c refl
 
-brought-with : (x : BlockKind) (t : Option ℤ) (w : Wanted) → brought_by x (with_target t w) ≡ brought_by x w
+brought-with : (x : BlockKind) (t : Option ℤ) (w : Wanted) → owner_brought_by x (with_target t w) ≡ owner_brought_by x w
 brought-with kind.GearOut t w = refl
 brought-with kind.CamOut t w = refl
 brought-with _ t w = refl
 
-sum-asked : (k : ℕ) (r : Option Reason) (w : Wanted) (c : Core) → sum k (commanded_by r w c) ≡ sum k c + is_owner k (brought r w)
+sum-asked : (k : ℕ) (r : Option Reason) (w : Wanted) (c : Core) → sum k (core_after_verdict r w c) ≡ sum k c + is_owner k (owner_brought r w)
 sum-asked k None w c =
     let v = with_target (known_target_of c.axis (last_of c.waiting) w) w in
     sum-admitted k w.kind v c ∙ ap (λ o. sum k c + is_owner k o) (brought-with w.kind (known_target_of c.axis (last_of c.waiting) w) w)
 sum-asked k (Some reason) w c = let z = nobody k in omega arith
 
 -- a command that is asked brings its owner, and tells those whose commands it ends
-pub sum-commanded : (k : ℕ) (q : Asked) (c : Core) → sum k (commanded q c) ≡ sum k c + is_owner k (brought (refusal_of q) q.wanted)
-unfolding commanded
+pub sum-commanded : (k : ℕ) (q : Asked) (c : Core) → sum k (core_after_command q c) ≡ sum k c + is_owner k (owner_brought (refusal_of q) q.wanted)
+unfolding core_after_command
 sum-commanded k q c = sum-asked k (refusal_of q) q.wanted c
 
 -- a Power tells those whose commands it ends
@@ -312,30 +312,30 @@ reset-other j k None h = refl
 reset-other j k (Some p) h = without-other j k p.owner h
 
 -- an instance whose commands are taken away has none, and the others keep theirs
-pub disowned-own : (k : ℕ) (c : Core) → owns k (disowned k c) ≡ 0
+pub disowned-own : (k : ℕ) (c : Core) → owns k (core_without_owner k c) ≡ 0
 unfolding axis_without_owner
 disowned-own k c = let a = active-own k c.axis.active in let b = waits-own k c.waiting in let d = reset-own k c.axis.reset in omega arith
 
-pub disowned-other : (j k : ℕ) (c : Core) → nat_eq k j ≡ false → owns j (disowned k c) ≡ owns j c
+pub disowned-other : (j k : ℕ) (c : Core) → nat_eq k j ≡ false → owns j (core_without_owner k c) ≡ owns j c
 unfolding axis_without_owner
 disowned-other j k c h = let a = active-other j k c.axis.active h in let b = waits-other j k c.waiting h in let d = reset-other j k c.axis.reset h in omega arith
 
 -- nothing is told before
-none-told : (k : ℕ) (notes : List Note) → notes ≡ [] → told k notes ≡ 0
+none-told : (k : ℕ) (notes : List Note) → notes ≡ [] → notes_for k notes ≡ 0
 none-told k [] e = refl
 none-told k (n ∷ ns) e = absurd (cc)
 
-brings-own : (k : ℕ) (r : Option Reason) (w : Wanted) → is_owner k (brought r w) ≤ is_owner k w.owner
+brings-own : (k : ℕ) (r : Option Reason) (w : Wanted) → is_owner k (owner_brought r w) ≤ is_owner k w.owner
 unfolding is_owner
 brings-own k None w = by w.kind
   where
-    by : (b : BlockKind) → is_owner k (brought_by b w) ≤ is_owner k w.owner
+    by : (b : BlockKind) → is_owner k (owner_brought_by b w) ≤ is_owner k w.owner
     by kind.GearOut = omega arith
     by kind.CamOut = omega arith
     by _ = omega arith
 brings-own k (Some r) w = omega arith
 
-pub apart-commanded : (q : Asked) (c : Core) → AreApart c → c.notes ≡ [] → ((k : ℕ) → owns k c + is_owner k q.wanted.owner ≤ 1) → AreApart (commanded q c)
+pub apart-commanded : (q : Asked) (c : Core) → AreApart c → c.notes ≡ [] → ((k : ℕ) → owns k c + is_owner k q.wanted.owner ≤ 1) → AreApart (core_after_command q c)
 apart-commanded q c apart none free = λ k.
     let s = sum-commanded k q c in
     let n = none-told k c.notes none in
@@ -357,7 +357,7 @@ apart-cycled look c apart none = λ k.
     let a = apart k in
     omega (arith, s, n, a)
 
-pub apart-disowned : (owner : ℕ) (c : Core) → AreApart c → AreApart (disowned owner c)
+pub apart-disowned : (owner : ℕ) (c : Core) → AreApart c → AreApart (core_without_owner owner c)
 apart-disowned owner c apart = λ k.
     elim (cases_eq owner k) [
       | inl same ↦ rw same (omega (arith, disowned-own k c))

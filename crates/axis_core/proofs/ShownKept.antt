@@ -14,7 +14,7 @@ use Rattle.command_pool.specs.declared.kind.BlockKind.TheVariants as kind
 use Rattle.command_pool.specs.declared.wanted.Wanted.{Wanted}
 use Rattle.command_pool.specs.declared.ending.Finish.TheVariants as finish
 use Rattle.axis_core.proofs.KeptMoves.{concluded}
-use Rattle.axis_core.specs.Calls.{admitted_by, commanded, commanded_by, axis_without_owner, core_after_disabling, core_after_joining, left, core_after_power, queue_in, queued}
+use Rattle.axis_core.specs.Calls.{core_after_admission, core_after_command, core_after_verdict, axis_without_owner, core_after_disabling, core_after_joining, core_after_leaving, core_after_power, queue_in, core_with_queued}
 use Rattle.axis_core.specs.Cores.{Core, axis_under, axis_under_by, core_under_from, core_after_end, core_after_ending, core_after_error, state_after_last, state_during, core_after_take_over, core_taken_by}
 use Rattle.axis_core.specs.Cycles.{advance_in_cycle, advance_by_progress, advance_without_error, advance_by_command, core_after_answer, axis_after_braking, core_after_cycle, axis_after_progress, core_after_going_on, core_after_advance, axis_at_opening, progress_by_step, core_after_step}
 use Rattle.axis_core.specs.Demands.{IsMade, is_axis_command}
@@ -24,7 +24,7 @@ use Rattle.motion_numbers.specs.Ranges.{is_outside}
 use Rattle.axis_core.specs.Refusals.{Asked, first_holding, holds, refusal_of}
 use Rattle.axis_core.specs.Shown.{AreShown, IsAxisError, IsShown}
 use Rattle.axis_core.specs.States.{is_error_stop, is_stopping, is_synchronized}
-use Rattle.axis_core.specs.Steps.{ends_where, guarded, is_braking, is_safe_step, axis_after_step, old_step_of, step_toward, taken_by, taken_of}
+use Rattle.axis_core.specs.Steps.{ends_where, wish_within_limits, is_braking, is_safe_step, axis_after_step, old_step_of, step_toward, step_for_wish, taken_step_in}
 use Rattle.axis_core.specs.blocks.Cam.{cam_wish_where}
 use Rattle.axis_core.specs.blocks.Gear.{gear_step_of}
 use Rattle.axis_core.specs.blocks.Halts.{hold_by, is_at_rest, is_released, axis_after_stop}
@@ -134,7 +134,7 @@ abbrev IsWish : Result ℤ ℕ → Type 0
 IsWish (Ok step) = Unit {0}
 IsWish (Err n) = IsAxisError n
 
-guarded-wish : (a : Axis) (step : ℤ) → IsWish (guarded a step)
+guarded-wish : (a : Axis) (step : ℤ) → IsWish (wish_within_limits a step)
 guarded-wish a step =
     elim (is_braking (old_step_of a) step || is_safe_step a step) as (λ b. IsWish (if b then Ok step else Err 103))
     [ true ↦ tt | false ↦ number 103 (omega arith) (omega arith) ]
@@ -142,7 +142,7 @@ guarded-wish a step =
 cam-wish : (safe : Bool) (a : Axis) (w : Wanted) (cam : ℤ) → IsWish (cam_wish_where safe a w cam)
 cam-wish true a w cam = tt
 cam-wish false a w cam =
-    elim a.reached as (λ b. IsWish (if b then Err 104 else guarded a (step_toward a cam w)))
+    elim a.reached as (λ b. IsWish (if b then Err 104 else wish_within_limits a (step_toward a cam w)))
     [ true ↦ number 104 (omega arith) (omega arith) | false ↦ guarded-wish a (step_toward a cam w) ]
 
 wish-by : (k : BlockKind) (a : Axis) (w : Wanted) (next : Option Wanted) (look : AxisLook) → IsWish (wish_by k a w next look)
@@ -157,9 +157,9 @@ wish-by _ a w next look = tt
 
 -- the step of an axis that no error stops, and the end of its command
 wished-shown : (wish : Result ℤ ℕ) (w : Wanted) (look : AxisLook) (c : Core) → IsWish wish → is_error_stop c.axis.state ≡ false → IsShown c.axis →
-    IsShown (concluded (advance_by_progress w.kind (target_of w) c.axis (progress_by_step c.axis w (slice_get c.waiting 0) look (taken_by c.axis wish))) c).axis
+    IsShown (concluded (advance_by_progress w.kind (target_of w) c.axis (progress_by_step c.axis w (slice_get c.waiting 0) look (step_for_wish c.axis wish))) c).axis
 wished-shown (Ok step) w look c i f h =
-    ended_by-shown _ _ (ending-by w.kind c.axis w (slice_get c.waiting 0) (taken_of c.axis step) look)
+    ended_by-shown _ _ (ending-by w.kind c.axis w (slice_get c.waiting 0) (taken_step_in c.axis step) look)
     (ap is_error_stop (state-followed w.kind (target_of w) _ c.axis) ∙ f) (shown-followed w.kind (target_of w) _ c.axis h)
 wished-shown (Err n) w look c i f h = failed-shown n (record c { axis = axis_after_braking c.axis }) i
 
@@ -268,10 +268,10 @@ cycled-shown look c h =
 -- a command joins the others
 joined-shown : (w : Wanted) (c : Core) → is_error_stop c.axis.state ≡ false → IsShown c.axis → IsShown (core_after_joining w c).axis
 joined-shown w c f h =
-    elim (is_active_at_once (queue_in c) w) as (λ b. IsShown (if b then record (queued w c) { axis = axis_under w (queued w c).axis } else queued w c).axis)
-    [ true ↦ begun-shown w (queued w c).axis f h | false ↦ h ]
+    elim (is_active_at_once (queue_in c) w) as (λ b. IsShown (if b then record (core_with_queued w c) { axis = axis_under w (core_with_queued w c).axis } else core_with_queued w c).axis)
+    [ true ↦ begun-shown w (core_with_queued w c).axis f h | false ↦ h ]
 
-left-gear-shown : (w : Wanted) (c : Core) → is_error_stop c.axis.state ≡ false → IsShown c.axis → IsShown (left w c).axis
+left-gear-shown : (w : Wanted) (c : Core) → is_error_stop c.axis.state ≡ false → IsShown c.axis → IsShown (core_after_leaving w c).axis
 unfolding axis_under_by
 left-gear-shown w c f h = record { stopped = λ x. absurd (cc); clear = λ x. h.clear f; held = λ x. refl }
 
@@ -291,21 +291,21 @@ not-stopped kind.CamIn q m n = inr n.1.0
 not-stopped kind.CamOut q m n = inr n.1.0
 not-stopped _ q m n = absurd (cc)
 
-admitted-free : (k : BlockKind) (w : Wanted) (c : Core) → is_error_stop c.axis.state ≡ false → IsShown c.axis → IsShown (admitted_by k w c).axis
+admitted-free : (k : BlockKind) (w : Wanted) (c : Core) → is_error_stop c.axis.state ≡ false → IsShown c.axis → IsShown (core_after_admission k w c).axis
 admitted-free kind.Reset w c f h = h
 admitted-free kind.GearOut w c f h = left-gear-shown w c f h
 admitted-free kind.CamOut w c f h = left-gear-shown w c f h
 admitted-free _ w c f h = joined-shown w c f h
 
-admitted-shown : (k : BlockKind) (w : Wanted) (c : Core) → (k ≡ kind.Reset) ⊎ (is_error_stop c.axis.state ≡ false) → IsShown c.axis → IsShown (admitted_by k w c).axis
-admitted-shown k w c (inl e) h = let P : BlockKind → Type 0 = λ x. IsShown (admitted_by x w c).axis in subst P (sym e) h
+admitted-shown : (k : BlockKind) (w : Wanted) (c : Core) → (k ≡ kind.Reset) ⊎ (is_error_stop c.axis.state ≡ false) → IsShown c.axis → IsShown (core_after_admission k w c).axis
+admitted-shown k w c (inl e) h = let P : BlockKind → Type 0 = λ x. IsShown (core_after_admission x w c).axis in subst P (sym e) h
 admitted-shown k w c (inr f) h = admitted-free k w c f h
 
-pub commanded-shown : (q : Asked) (c : Core) → q.axis ≡ c.axis → IsMade q.wanted → IsShown c.axis → IsShown (commanded q c).axis
-unfolding commanded refusal_of
+pub commanded-shown : (q : Asked) (c : Core) → q.axis ≡ c.axis → IsMade q.wanted → IsShown c.axis → IsShown (core_after_command q c).axis
+unfolding core_after_command refusal_of
 commanded-shown q c same m h =
     elim (first_holding q (tests_of q.wanted.kind)) as
-    (λ o. first_holding q (tests_of q.wanted.kind) ≡ o → IsShown (commanded_by o q.wanted c).axis) [
+    (λ o. first_holding q (tests_of q.wanted.kind) ≡ o → IsShown (core_after_verdict o q.wanted c).axis) [
       | None ↦ λ e.
           let P : Axis → Type 0 = λ a. (q.wanted.kind ≡ kind.Reset) ⊎ (is_error_stop a.state ≡ false) in
           admitted-shown q.wanted.kind (with_target (known_target_of c.axis (last_of c.waiting) q.wanted) q.wanted) c

@@ -11,7 +11,7 @@ use Rattle.command_pool.specs.declared.kind.BlockKind.{BlockKind}
 use Rattle.command_pool.specs.declared.kind.BlockKind.TheVariants as kind
 use Rattle.command_pool.specs.declared.notes.Note.{Note}
 use Rattle.command_pool.specs.declared.wanted.Wanted.{Wanted}
-use Rattle.axis_core.specs.Calls.{admitted_by, commanded, commanded_by, core_after_disabling, core_after_power, queue_in, queued}
+use Rattle.axis_core.specs.Calls.{core_after_admission, core_after_command, core_after_verdict, core_after_disabling, core_after_power, queue_in, core_with_queued}
 use Rattle.axis_core.specs.Cores.{Core, axis_under, core_after_end, core_after_ending, core_after_error, core_after_take_over, core_taken_by}
 use Rattle.axis_core.specs.Cycles.{advance_in_cycle, core_after_answer, core_after_cycle, core_after_going_on, core_after_advance, core_after_step}
 use Rattle.axis_core.specs.Drives.{answer_error_of, is_driven, axis_at_drive}
@@ -159,23 +159,23 @@ joined-notes false (Some w) c s h = absurd (cc)
 
 joined-tells : (b : Bool) (w : Wanted) (c : Core) → is_active_at_once (queue_in c) w ≡ b →
     TellsOwner (if b then replaced finish.Aborted c.axis.active (Some w) else goes_on) c.axis.active
-    (if b then record (queued w c) { axis = axis_under w (queued w c).axis } else queued w c).notes
+    (if b then record (core_with_queued w c) { axis = axis_under w (core_with_queued w c).axis } else core_with_queued w c).notes
 joined-tells true w c h = tells-replaced finish.Aborted c.axis.active (Some w) _ (joined-notes (is_aborting w.mode) c.axis.active c refl h)
 joined-tells false w c h = tells-none c.axis.active false _
 
-admitted-tells : (k : BlockKind) (w : Wanted) (c : Core) → TellsOwner (admitted_fate k w c) c.axis.active (admitted_by k w c).notes
+admitted-tells : (k : BlockKind) (w : Wanted) (c : Core) → TellsOwner (admitted_fate k w c) c.axis.active (core_after_admission k w c).notes
 admitted-tells kind.Reset w c = tells-none c.axis.active false _
 admitted-tells kind.GearOut w c = tells-replaced finish.Aborted c.axis.active _ _ (aborted-notes c finish.Aborted)
 admitted-tells kind.CamOut w c = tells-replaced finish.Aborted c.axis.active _ _ (aborted-notes c finish.Aborted)
 admitted-tells _ w c = joined-tells (is_active_at_once (queue_in c) w) w c refl
 
-asked-tells : (r : Option Reason) (w : Wanted) (c : Core) → TellsOwner (asked_fate r w c) c.axis.active (commanded_by r w c).notes
+asked-tells : (r : Option Reason) (w : Wanted) (c : Core) → TellsOwner (asked_fate r w c) c.axis.active (core_after_verdict r w c).notes
 asked-tells None w c = admitted-tells w.kind (with_target (known_target_of c.axis (last_of c.waiting) w) w) c
 asked-tells (Some reason) w c = tells-none c.axis.active false c.notes
 
 -- so does a command, and a Power
-pub commanded-tells : (q : Asked) (c : Core) → TellsOwner (command_fate q c) c.axis.active (commanded q c).notes
-unfolding command_fate commanded
+pub commanded-tells : (q : Asked) (c : Core) → TellsOwner (command_fate q c) c.axis.active (core_after_command q c).notes
+unfolding command_fate core_after_command
 commanded-tells q c = asked-tells (refusal_of q) q.wanted c
 
 pub powered-tells : (enable : Bool) (c : Core) → TellsOwner (power_fate enable c) c.axis.active (core_after_power enable c).notes

@@ -11,7 +11,7 @@ use Rattle.command_pool.specs.declared.kind.BlockKind.{BlockKind}
 use Rattle.command_pool.specs.declared.kind.BlockKind.TheVariants as kind
 use Rattle.command_pool.specs.declared.wanted.Wanted.{Wanted}
 use Rattle.axis_core.specs.AxisKept.{IsCoreKept}
-use Rattle.axis_core.specs.Calls.{admitted_by, commanded, commanded_by, core_after_disabling, core_after_power, queue_in, queued}
+use Rattle.axis_core.specs.Calls.{core_after_admission, core_after_command, core_after_verdict, core_after_disabling, core_after_power, queue_in, core_with_queued}
 use Rattle.axis_core.specs.Cores.{Core, axis_under, core_after_end, core_after_ending, core_after_error, core_after_take_over, core_taken_by}
 use Rattle.axis_core.specs.Cycles.{advance_in_cycle, core_after_answer, core_after_cycle, core_after_going_on, core_after_advance}
 use Rattle.axis_core.specs.Demands.{IsMade, asked_in}
@@ -40,22 +40,22 @@ queued-few false (Some v) ws w few full =
     omega (arith, l, eqb-false (length ws) 8 other)
 
 joined-few : (b : Bool) (w : Wanted) (c : Core) → length c.waiting ≤ 8 → is_full (queue_in c) w ≡ false →
-    length (if b then record (queued w c) { axis = axis_under w (queued w c).axis } else queued w c).waiting ≤ 8
+    length (if b then record (core_with_queued w c) { axis = axis_under w (core_with_queued w c).axis } else core_with_queued w c).waiting ≤ 8
 joined-few true w c few full = queued-few (is_aborting w.mode) c.axis.active c.waiting w few full
 joined-few false w c few full = queued-few (is_aborting w.mode) c.axis.active c.waiting w few full
 
-admitted-few : (k : BlockKind) (w : Wanted) (c : Core) → length c.waiting ≤ 8 → MayAdmit k w c → length (admitted_by k w c).waiting ≤ 8
+admitted-few : (k : BlockKind) (w : Wanted) (c : Core) → length c.waiting ≤ 8 → MayAdmit k w c → length (core_after_admission k w c).waiting ≤ 8
 admitted-few kind.Reset w c few m = few
 admitted-few kind.GearOut w c few m = omega arith
 admitted-few kind.CamOut w c few m = omega arith
 admitted-few _ w c few m = joined-few (is_active_at_once (queue_in c) w) w c few m.place
 
 pub commands-few : (c : Core) (number : ℕ) (w : Wanted) (jerk : ℤ) (held : Bool) (tables : ℕ) → IsCoreKept c → IsMade w → length c.waiting ≤ 8 →
-    length (commanded (asked_in c number w jerk held tables) c).waiting ≤ 8
-unfolding commanded
+    length (core_after_command (asked_in c number w jerk held tables) c).waiting ≤ 8
+unfolding core_after_command
 commands-few c number w jerk held tables k m few =
     elim (refusal_of (asked_in c number w jerk held tables)) as
-    (λ r. refusal_of (asked_in c number w jerk held tables) ≡ r → length (commanded_by r w c).waiting ≤ 8) [
+    (λ r. refusal_of (asked_in c number w jerk held tables) ≡ r → length (core_after_verdict r w c).waiting ≤ 8) [
       | None ↦ λ h. admitted-few w.kind (with_target (known_target_of c.axis (last_of c.waiting) w) w) c few (may-admit c number w jerk held tables k m h)
       | Some r ↦ λ h. few
     ] refl

@@ -20,13 +20,13 @@ use Rattle.axis_core.specs.declared.axis.PendingReset.{PendingReset}
 use Rattle.axis_core.specs.declared.reason.Reason.{Reason}
 
 -- a Reset is pending, in the place of another one. MC_Reset
-abbrev pub awaited : Wanted → Core → Core
-awaited w c = record c { axis = reset_pending w c.axis; notes = c.notes ++ replaced_note c.axis.reset }
+abbrev pub core_with_reset : Wanted → Core → Core
+core_with_reset w c = record c { axis = reset_pending w c.axis; notes = c.notes ++ replaced_note c.axis.reset }
 
 -- the gear or the cam is left: its commands are aborted, and a velocity command goes on. MC_GearOut
 -- and MC_CamOut
-abbrev pub left : Wanted → Core → Core
-left w c =
+abbrev pub core_after_leaving : Wanted → Core → Core
+core_after_leaving w c =
     let aborted = core_after_all_ends finish.Aborted c in
     record aborted { axis = axis_under_by (Some out_event) (velocity_command w c.axis) aborted.axis }
 
@@ -35,8 +35,8 @@ abbrev pub queue_in : Core → Commands
 queue_in c = record { active = c.axis.active; waiting = c.waiting }
 
 -- the queue with a command that joined it, and what is told of those that it ends. BufferMode
-abbrev pub queued : Wanted → Core → Core
-queued w c = record {
+abbrev pub core_with_queued : Wanted → Core → Core
+core_with_queued w c = record {
   axis = record c.axis { active = (admitted (queue_in c) w).active };
   waiting = (admitted (queue_in c) w).waiting;
   notes = c.notes ++ noted (queue_in c) w;
@@ -45,15 +45,15 @@ queued w c = record {
 -- a command joins the others, and may be active at once. BufferMode
 abbrev pub core_after_joining : Wanted → Core → Core
 core_after_joining w c =
-    let after = queued w c in
+    let after = core_with_queued w c in
     if is_active_at_once (queue_in c) w then record after { axis = axis_under w after.axis } else after
 
 -- a command that is not refused, with its target as far as it is known
-abbrev pub admitted_by : BlockKind → Wanted → Core → Core
-admitted_by kind.Reset w c = awaited w c
-admitted_by kind.GearOut w c = left w c
-admitted_by kind.CamOut w c = left w c
-admitted_by k w c = core_after_joining w c
+abbrev pub core_after_admission : BlockKind → Wanted → Core → Core
+core_after_admission kind.Reset w c = core_with_reset w c
+core_after_admission kind.GearOut w c = core_after_leaving w c
+core_after_admission kind.CamOut w c = core_after_leaving w c
+core_after_admission k w c = core_after_joining w c
 
 -- whether a command that is not refused is active after its call
 abbrev pub is_active_by : BlockKind → Wanted → Core → Bool
@@ -63,12 +63,12 @@ is_active_by kind.CamOut w c = false
 is_active_by k w c = is_active_at_once (queue_in c) w
 
 -- what a command makes of the axis: nothing where it is refused
-abbrev pub commanded_by : Option Reason → Wanted → Core → Core
-commanded_by None w c = admitted_by w.kind (with_target (known_target_of c.axis (last_of c.waiting) w) w) c
-commanded_by (Some reason) w c = c
+abbrev pub core_after_verdict : Option Reason → Wanted → Core → Core
+core_after_verdict None w c = core_after_admission w.kind (with_target (known_target_of c.axis (last_of c.waiting) w) w) c
+core_after_verdict (Some reason) w c = c
 
-unfoldable pub commanded : Asked → Core → Core
-commanded q c = commanded_by (refusal_of q) q.wanted c
+unfoldable pub core_after_command : Asked → Core → Core
+core_after_command q c = core_after_verdict (refusal_of q) q.wanted c
 
 -- what a command is answered: the ErrorID where it is refused, else whether it is active
 abbrev pub answer_by : Option Reason → Wanted → Core → Result Bool Refusal

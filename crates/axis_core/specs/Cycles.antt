@@ -19,7 +19,7 @@ use Rattle.axis_core.specs.Cores.{Core, core_after_ending, core_after_error}
 use Rattle.axis_core.specs.Drives.{answer_error_of, is_driven, axis_at_drive}
 use Rattle.axis_core.specs.Kinds.{ending_by, is_reached, wish_by}
 use Rattle.axis_core.specs.States.{is_error_stop}
-use Rattle.axis_core.specs.Steps.{axis_after_step, old_step_of, taken_by, taken_of}
+use Rattle.axis_core.specs.Steps.{axis_after_step, old_step_of, step_for_wish, taken_step_in}
 use Rattle.axis_core.specs.blocks.Halts.{axis_after_stop}
 use Rattle.axis_core.specs.blocks.Home.{axis_after_home}
 use Rattle.axis_core.specs.blocks.Moves.{target_of}
@@ -41,7 +41,7 @@ core_after_answer input c = if nat_eq (answer_error_of c.axis input) 0 then c el
 
 -- the step by which an axis brakes in ErrorStop: by dmax
 abbrev pub braking_step : Axis → ℤ
-braking_step a = taken_of a (toward_zero (old_step_of a) a.limits.dmax)
+braking_step a = taken_step_in a (toward_zero (old_step_of a) a.limits.dmax)
 
 abbrev pub axis_after_braking : Axis → Axis
 axis_after_braking a = axis_after_step (a.setpoint +ℤ braking_step a) a
@@ -56,7 +56,7 @@ progress_by_step a w next look (Err n) = Err n
 -- what the active command does in a cycle: its wish is taken by the safe step nearest to it, or is
 -- an error
 abbrev pub progress_in_cycle : Axis → Wanted → Option Wanted → AxisLook → Result Progress ℕ
-progress_in_cycle a w next look = progress_by_step a w next look (taken_by a (wish_by w.kind a w next look))
+progress_in_cycle a w next look = progress_by_step a w next look (step_for_wish a (wish_by w.kind a w next look))
 
 -- the axis after the progress of its active command; a Home moves the coordinate to its position in
 -- place of that
@@ -71,7 +71,7 @@ advance_by_progress k target a (Err n) = record { axis = axis_after_braking a; e
 
 -- an axis without an active command rests
 abbrev pub advance_by_command : Option Wanted → Option Wanted → AxisLook → Axis → Advance
-advance_by_command None next look a = record { axis = axis_after_step (a.setpoint +ℤ taken_of a (pos 0)) a; ending = None }
+advance_by_command None next look a = record { axis = axis_after_step (a.setpoint +ℤ taken_step_in a (pos 0)) a; ending = None }
 advance_by_command (Some w) next look a = advance_by_progress w.kind (target_of w) a (progress_in_cycle a w next look)
 
 -- an axis that no error stops: at its place on its group's path, or by its command

@@ -53,21 +53,21 @@ abbrev pub AreApart : Core → Type 0
 AreApart c = (k : ℕ) → owns k c ≤ 1
 
 -- how many of some notes are for this instance
-abbrev pub told : ℕ → List Note → ℕ
-told k [] = 0
-told k (n ∷ ns) = is_owner k (Some n.owner) + told k ns
+abbrev pub notes_for : ℕ → List Note → ℕ
+notes_for k [] = 0
+notes_for k (n ∷ ns) = is_owner k (Some n.owner) + notes_for k ns
 
 -- the owner that a command brings which is not refused; a GearOut and a CamOut are done at once
-abbrev pub brought_by : BlockKind → Wanted → Option ℕ
-brought_by kind.GearOut w = None
-brought_by kind.CamOut w = None
-brought_by k w = w.owner
+abbrev pub owner_brought_by : BlockKind → Wanted → Option ℕ
+owner_brought_by kind.GearOut w = None
+owner_brought_by kind.CamOut w = None
+owner_brought_by k w = w.owner
 
 -- a refused command brings none
-abbrev pub brought : Option Reason → Wanted → Option ℕ
-brought None w = brought_by w.kind w
-brought (Some reason) w = None
+abbrev pub owner_brought : Option Reason → Wanted → Option ℕ
+owner_brought None w = owner_brought_by w.kind w
+owner_brought (Some reason) w = None
 
 -- an axis whose commands this instance has no longer
-abbrev pub disowned : ℕ → Core → Core
-disowned k c = record c { axis = axis_without_owner k c.axis; waiting = map (pool.detached k) c.waiting }
+abbrev pub core_without_owner : ℕ → Core → Core
+core_without_owner k c = record c { axis = axis_without_owner k c.axis; waiting = map (pool.detached k) c.waiting }

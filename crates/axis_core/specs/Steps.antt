@@ -14,12 +14,12 @@ abbrev pub old_step_of : Axis → ℤ
 old_step_of a = a.setpoint -ℤ a.previous
 
 -- the step that is taken where this one is wanted: the safe one nearest to it
-abbrev pub taken_of : Axis → ℤ → ℤ
-taken_of a step = taken_step_of a.limits a.previous a.setpoint step
+abbrev pub taken_step_in : Axis → ℤ → ℤ
+taken_step_in a step = taken_step_of a.limits a.previous a.setpoint step
 
 -- whether a step is safe: it is the one that is taken where it is wanted
 abbrev pub is_safe_step : Axis → ℤ → Bool
-is_safe_step a step = int_eq (taken_of a step) step
+is_safe_step a step = int_eq (taken_step_in a step) step
 
 -- whether a wanted step brakes: it is smaller than the old one, in its direction or 0
 abbrev pub is_braking : ℤ → ℤ → Bool
@@ -27,13 +27,13 @@ is_braking old step = nat_lt (unsigned_abs step) (unsigned_abs old) && (int_eq s
 
 -- a wanted step of a command that has no target: error 103, SoftLimit, where it is not safe and
 -- brakes not
-abbrev pub guarded : Axis → ℤ → Result ℤ ℕ
-guarded a step = if is_braking (old_step_of a) step || is_safe_step a step then Ok step else Err 103
+abbrev pub wish_within_limits : Axis → ℤ → Result ℤ ℕ
+wish_within_limits a step = if is_braking (old_step_of a) step || is_safe_step a step then Ok step else Err 103
 
 -- a wanted step is taken by the safe one nearest to it; an error stays
-abbrev pub taken_by : Axis → Result ℤ ℕ → Result ℤ ℕ
-taken_by a (Ok step) = Ok (taken_of a step)
-taken_by a (Err n) = Err n
+abbrev pub step_for_wish : Axis → Result ℤ ℕ → Result ℤ ℕ
+step_for_wish a (Ok step) = Ok (taken_step_in a step)
+step_for_wish a (Err n) = Err n
 
 -- the move step toward a place, by the rates of a command. PLCopen Motion Control Part 1,
 -- MC_MoveAbsolute

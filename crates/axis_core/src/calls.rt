@@ -28,7 +28,7 @@ fn leave(wanted: &Wanted, axis: &mut Axis, pool: &mut CommandPool, list: u8, not
     requires list { list < length pool.old }
     requires room { length notes.old ≤ 3 }
     requires may { MayLeave axis.old }
-    ensures after { core_at axis.new pool.new list notes.new ≡ spec.left wanted.now (core_at axis.old pool.old list notes.old) }
+    ensures after { core_at axis.new pool.new list notes.new ≡ spec.core_after_leaving wanted.now (core_at axis.old pool.old list notes.old) }
     ensures others { pool.new ≡ slice_set pool.old list (queue_of pool.new list) }
 {
     let velocity = velocity_command(wanted, axis);
@@ -79,7 +79,7 @@ fn admit_command(
     requires may { MayAdmit wanted.kind wanted (core_at axis.old pool.old list notes.old) }
     ensures active { result ≡ spec.is_active_by wanted.kind wanted (core_at axis.old pool.old list notes.old) }
     ensures after { core_at axis.new pool.new list notes.new
-        ≡ spec.admitted_by wanted.kind wanted (core_at axis.old pool.old list notes.old) }
+        ≡ spec.core_after_admission wanted.kind wanted (core_at axis.old pool.old list notes.old) }
     ensures others { pool.new ≡ slice_set pool.old list (queue_of pool.new list) }
 {
     match wanted.kind {
@@ -97,7 +97,7 @@ fn admit_command(
 
 /// Asks a command of the axis: it is refused by the first reason of its kind that holds, else it is
 /// admitted, and answered whether it is active.
-#[tactic(auto, unfolding(crate::specs::Calls::commanded, crate::specs::Calls::answer_of))]
+#[tactic(auto, unfolding(crate::specs::Calls::core_after_command, crate::specs::Calls::answer_of))]
 pub fn command(
     axis: &mut Axis,
     pool: &mut CommandPool,
@@ -115,7 +115,7 @@ pub fn command(
     ensures answer { result ≡ spec.answer_of (asked_in (core_at axis.old pool.old list notes.old) list wanted.now jerk held tables)
         (core_at axis.old pool.old list notes.old) }
     ensures after { core_at axis.new pool.new list notes.new
-        ≡ spec.commanded (asked_in (core_at axis.old pool.old list notes.old) list wanted.now jerk held tables) (core_at axis.old pool.old list notes.old) }
+        ≡ spec.core_after_command (asked_in (core_at axis.old pool.old list notes.old) list wanted.now jerk held tables) (core_at axis.old pool.old list notes.old) }
     ensures others { pool.new ≡ slice_set pool.old list (queue_of pool.new list) }
     ensures kept { IsCoreKept (core_at axis.new pool.new list notes.new) }
 {

@@ -5,7 +5,7 @@ ghost use Rattle.std.specs.Option.{option_copied};
 ghost use Rattle.axis_core.specs.Cycles as cycles;
 ghost use Rattle.axis_core.specs.Kept.{IsBlendable, IsCarried, IsMoving, IsNear};
 ghost use Rattle.axis_core.specs.Kinds as spec;
-ghost use Rattle.axis_core.specs.Steps.{taken_of};
+ghost use Rattle.axis_core.specs.Steps.{taken_step_in};
 ghost use Rattle.motion_numbers.specs.Ranges.{IsStep};
 
 use crate::axis::Axis;
@@ -53,7 +53,7 @@ pub fn event_of(kind: BlockKind) -> Option<AxisEvent>
 // No step is wanted, and the command ends so.
 fn resting(axis: &Axis, ending: Option<Finish>) -> Progress
     requires { IsMoving axis.now }
-    ensures step { result.step ≡ taken_of axis.now (pos 0) }
+    ensures step { result.step ≡ taken_step_in axis.now (pos 0) }
     ensures reached { result.reached ≡ false }
     ensures ending { result.ending ≡ ending }
     ensures small { IsStep result.step }

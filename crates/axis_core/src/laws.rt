@@ -7,20 +7,20 @@ ghost use Rattle.command_pool.specs.declared.wanted.Wanted.{Wanted};
 ghost use Rattle.axis_core.specs.Arrivals.{Course, course_of, bound_of, turn_of, IsUnderWay, Carried, IsMoveDone};
 ghost use Rattle.axis_core.specs.AxisKept.{IsAxisDef, IsCoreKept, IsLook};
 ghost use Rattle.axis_core.specs.Changes.{GoesBy};
-ghost use Rattle.axis_core.specs.Calls.{commanded, axis_without_owner, core_after_power};
+ghost use Rattle.axis_core.specs.Calls.{core_after_command, axis_without_owner, core_after_power};
 ghost use Rattle.axis_core.specs.Cores.{Core};
 ghost use Rattle.axis_core.specs.Cycles.{core_after_cycle, axis_at_opening, row_shown};
 ghost use Rattle.axis_core.specs.Demands.{IsMade, asked_in};
 ghost use Rattle.axis_core.specs.Fates.{IsFate, IsSame, command_fate, power_fate, cycle_fate};
 ghost use Rattle.axis_core.specs.Led.{HasCommand, StaysLed};
 ghost use Rattle.axis_core.specs.Drives.{answer_error_of};
-ghost use Rattle.axis_core.specs.Steps.{is_safe_step, taken_of};
+ghost use Rattle.axis_core.specs.Steps.{is_safe_step, taken_step_in};
 ghost use Rattle.axis_core.specs.blocks.Halts.{is_rest};
 ghost use Rattle.axis_state.specs.declared.state.AxisState.TheVariants as state;
 ghost use Rattle.kin_core.specs.Admissible.{AreLimits, IsKept, IsSafe, IsTakenStep};
 ghost use Rattle.axis_core.specs.Motions.{Leads, halt_step_taken, is_slowing, move_step_taken};
 ghost use Rattle.axis_core.specs.declared.reason.Reason.{Reason};
-ghost use Rattle.axis_core.specs.Owners.{AreApart, TellsOwner, is_owner, owns, told, brought, disowned};
+ghost use Rattle.axis_core.specs.Owners.{AreApart, TellsOwner, is_owner, owns, notes_for, owner_brought, core_without_owner};
 ghost use Rattle.axis_core.specs.Refusals.{Asked, refusal_of};
 ghost use Rattle.axis_core.specs.Rows.{KeepsSpell, Stays};
 ghost use Rattle.axis_core.specs.Shown.{IsShown};
@@ -42,9 +42,9 @@ use trapezoid_plan::{halts_come_to_rest_in_time, moves_arrive_in_time};
 pub fn axes_stay_kept()
     ensures opened { (d : AxisDef) → IsAxisDef d → IsCoreKept (record { axis = axis_at_opening d; waiting = []; notes = [] }) }
     ensures command { (c : Core) (number : ℕ) (w : Wanted) (jerk : ℤ) (held : Bool) (tables : ℕ) → IsCoreKept c → IsMade w →
-        IsCoreKept (commanded (asked_in c number w jerk held tables) c) }
+        IsCoreKept (core_after_command (asked_in c number w jerk held tables) c) }
     ensures power { (enable : Bool) (c : Core) → IsCoreKept c → IsCoreKept (core_after_power enable c) }
-    ensures detach { (owner : ℕ) (c : Core) → IsCoreKept c → IsCoreKept (disowned owner c) }
+    ensures detach { (owner : ℕ) (c : Core) → IsCoreKept c → IsCoreKept (core_without_owner owner c) }
     ensures path { (on : Bool) (c : Core) → IsCoreKept c → c.axis.active ≡ None → IsTrue on ⊎ (c.axis.previous ≡ c.axis.setpoint) →
         IsCoreKept (record c { axis = axis_on_path on c.axis }) }
     ensures cycle { (look : AxisLook) (c : Core) → IsCoreKept c → IsLook c.axis look → IsCount look.input.actual →
@@ -63,7 +63,7 @@ pub fn axes_stay_kept()
 
 /// Calls between cycles move no axis: it stays where it is, within the same limits and in its driven spell.
 pub fn calls_move_no_axis()
-    ensures command { (q : Asked) (c : Core) → Stays c.axis (commanded q c).axis }
+    ensures command { (q : Asked) (c : Core) → Stays c.axis (core_after_command q c).axis }
     ensures power { (enable : Bool) (c : Core) → Stays c.axis (core_after_power enable c).axis }
     ensures detach { (owner : ℕ) (a : Axis) → Stays a (axis_without_owner owner a) }
     ensures path { (on : Bool) (a : Axis) → Stays a (axis_on_path on a) }
@@ -73,7 +73,7 @@ pub fn calls_move_no_axis()
 /// opening, and after every call and every cycle.
 pub fn errors_stand_in_error_stop()
     ensures opened { (d : AxisDef) → IsShown (axis_at_opening d) }
-    ensures command { (q : Asked) (c : Core) → q.axis ≡ c.axis → IsMade q.wanted → IsShown c.axis → IsShown (commanded q c).axis }
+    ensures command { (q : Asked) (c : Core) → q.axis ≡ c.axis → IsMade q.wanted → IsShown c.axis → IsShown (core_after_command q c).axis }
     ensures power { (enable : Bool) (c : Core) → IsShown c.axis → IsShown (core_after_power enable c).axis }
     ensures detach { (owner : ℕ) (a : Axis) → IsShown a → IsShown (axis_without_owner owner a) }
     ensures path { (on : Bool) (a : Axis) → IsShown a → IsShown (axis_on_path on a) }
@@ -83,7 +83,7 @@ pub fn errors_stand_in_error_stop()
 /// A fate is what becomes of the active command of an axis: by a command that is asked, a Power, an owner that is taken
 /// away, a group's path and a cycle.
 pub fn fates_are_told()
-    ensures command { (q : Asked) (c : Core) → IsFate (command_fate q c) c.axis.active (commanded q c).axis.active }
+    ensures command { (q : Asked) (c : Core) → IsFate (command_fate q c) c.axis.active (core_after_command q c).axis.active }
     ensures power { (enable : Bool) (c : Core) → IsFate (power_fate enable c) c.axis.active (core_after_power enable c).axis.active }
     ensures detach { (owner : ℕ) (a : Axis) → IsSame a.active (axis_without_owner owner a).active }
     ensures path { (on : Bool) (a : Axis) → (axis_on_path on a).active ≡ a.active }
@@ -93,34 +93,34 @@ pub fn fates_are_told()
 /// The owner of the active command is told how it ends; and each instance is told of each command that it has no longer,
 /// once, and of no other: what it has and what it was told stay the same together, but for the command that it brings.
 pub fn ends_are_told_once()
-    ensures told_command { (q : Asked) (c : Core) → TellsOwner (command_fate q c) c.axis.active (commanded q c).notes }
+    ensures told_command { (q : Asked) (c : Core) → TellsOwner (command_fate q c) c.axis.active (core_after_command q c).notes }
     ensures told_power { (enable : Bool) (c : Core) → TellsOwner (power_fate enable c) c.axis.active (core_after_power enable c).notes }
     ensures told_cycle { (look : AxisLook) (c : Core) → TellsOwner (cycle_fate look c) c.axis.active (core_after_cycle look c).notes }
     ensures once_command { (k : ℕ) (q : Asked) (c : Core) →
-        owns k (commanded q c) + told k (commanded q c).notes ≡ owns k c + told k c.notes + is_owner k (brought (refusal_of q) q.wanted) }
+        owns k (core_after_command q c) + notes_for k (core_after_command q c).notes ≡ owns k c + notes_for k c.notes + is_owner k (owner_brought (refusal_of q) q.wanted) }
     ensures once_power { (k : ℕ) (enable : Bool) (c : Core) →
-        owns k (core_after_power enable c) + told k (core_after_power enable c).notes ≡ owns k c + told k c.notes }
+        owns k (core_after_power enable c) + notes_for k (core_after_power enable c).notes ≡ owns k c + notes_for k c.notes }
     ensures once_cycle { (k : ℕ) (look : AxisLook) (c : Core) →
-        owns k (core_after_cycle look c) + told k (core_after_cycle look c).notes ≡ owns k c + told k c.notes }
-    ensures taken_away { (k : ℕ) (c : Core) → owns k (disowned k c) ≡ 0 }
-    ensures left { (j k : ℕ) (c : Core) → nat_eq k j ≡ false → owns j (disowned k c) ≡ owns j c }
+        owns k (core_after_cycle look c) + notes_for k (core_after_cycle look c).notes ≡ owns k c + notes_for k c.notes }
+    ensures taken_away { (k : ℕ) (c : Core) → owns k (core_without_owner k c) ≡ 0 }
+    ensures left { (j k : ℕ) (c : Core) → nat_eq k j ≡ false → owns j (core_without_owner k c) ≡ owns j c }
 {}
 
 /// Owners stay apart: where no instance has two commands of the axis, none has after a command that is asked by one that
 /// has none, after a Power, a cycle, and where an owner is taken away.
 pub fn owners_stay_apart()
     ensures command { (q : Asked) (c : Core) → AreApart c → c.notes ≡ [] →
-        ((k : ℕ) → owns k c + is_owner k q.wanted.owner ≤ 1) → AreApart (commanded q c) }
+        ((k : ℕ) → owns k c + is_owner k q.wanted.owner ≤ 1) → AreApart (core_after_command q c) }
     ensures power { (enable : Bool) (c : Core) → AreApart c → c.notes ≡ [] → AreApart (core_after_power enable c) }
     ensures cycle { (look : AxisLook) (c : Core) → AreApart c → c.notes ≡ [] → AreApart (core_after_cycle look c) }
-    ensures detach { (owner : ℕ) (c : Core) → AreApart c → AreApart (disowned owner c) }
+    ensures detach { (owner : ℕ) (c : Core) → AreApart c → AreApart (core_without_owner owner c) }
 {}
 
 /// The taken step is the safe step nearest to the wanted one, and a step is safe exactly where it is taken as it is
 /// wanted: so is the place of a cam that is InSync.
 pub fn steps_are_safe()
     ensures taken { (a : Axis) (step : ℤ) → AreLimits a.limits → IsKept a.limits a.previous a.setpoint →
-        IsTakenStep a.limits a.previous a.setpoint step (taken_of a step) }
+        IsTakenStep a.limits a.previous a.setpoint step (taken_step_in a step) }
     ensures safe { (a : Axis) (step : ℤ) → AreLimits a.limits → IsKept a.limits a.previous a.setpoint →
         (is_safe_step a step ≡ true) ↔ IsSafe a.limits a.previous a.setpoint (a.setpoint +ℤ step) }
 {
@@ -140,7 +140,7 @@ pub fn courses_end_in_time()
     ensures begins { (course : Course) (c : Core) (w : Wanted) → IsCoreKept c → c.axis.active ≡ Some w → course_of w ≡ Some course →
         IsUnderWay (bound_of course c.axis) course c.axis }
     ensures command { (n : ℕ) (course : Course) (q : Asked) (c : Core) → IsUnderWay n course c.axis →
-        Carried n 0 course (turn_of (command_fate q c)) (commanded q c).axis }
+        Carried n 0 course (turn_of (command_fate q c)) (core_after_command q c).axis }
     ensures power { (n : ℕ) (course : Course) (enable : Bool) (c : Core) → IsUnderWay n course c.axis →
         Carried n 0 course (turn_of (power_fate enable c)) (core_after_power enable c).axis }
     ensures detach { (n : ℕ) (course : Course) (owner : ℕ) (a : Axis) → IsUnderWay n course a → IsUnderWay n course (axis_without_owner owner a) }
@@ -165,7 +165,7 @@ pub fn moves_are_done_at_their_targets()
 /// another, each from a state of its row; an owner that is taken away changes none.
 pub fn states_change_by_the_diagram()
     ensures command { (c : Core) (number : ℕ) (w : Wanted) (jerk : ℤ) (held : Bool) (tables : ℕ) → IsCoreKept c → IsMade w →
-        GoesBy 1 c.axis.state (commanded (asked_in c number w jerk held tables) c).axis.state }
+        GoesBy 1 c.axis.state (core_after_command (asked_in c number w jerk held tables) c).axis.state }
     ensures power { (enable : Bool) (c : Core) → GoesBy 1 c.axis.state (core_after_power enable c).axis.state }
     ensures path { (on : Bool) (a : Axis) → GoesBy 1 a.state (axis_on_path on a).state }
     ensures detach { (owner : ℕ) (a : Axis) → (axis_without_owner owner a).state ≡ a.state }
@@ -184,7 +184,7 @@ pub fn states_change_by_the_diagram()
 /// alone.
 pub fn moving_axes_have_commands()
     ensures opened { (d : AxisDef) → HasCommand (axis_at_opening d) }
-    ensures command { (q : Asked) (c : Core) → StaysLed c.axis (commanded q c).axis }
+    ensures command { (q : Asked) (c : Core) → StaysLed c.axis (core_after_command q c).axis }
     ensures power { (enable : Bool) (c : Core) → StaysLed c.axis (core_after_power enable c).axis }
     ensures detach { (owner : ℕ) (a : Axis) → StaysLed a (axis_without_owner owner a) }
     ensures path { (on : Bool) (a : Axis) → HasCommand a → HasCommand (axis_on_path on a) }
@@ -194,7 +194,7 @@ pub fn moving_axes_have_commands()
 /// At most eight commands wait for an axis: a command that is asked keeps that, and a Power and a cycle add none.
 pub fn at_most_eight_wait()
     ensures command { (c : Core) (number : ℕ) (w : Wanted) (jerk : ℤ) (held : Bool) (tables : ℕ) → IsCoreKept c → IsMade w →
-        length c.waiting ≤ 8 → length (commanded (asked_in c number w jerk held tables) c).waiting ≤ 8 }
+        length c.waiting ≤ 8 → length (core_after_command (asked_in c number w jerk held tables) c).waiting ≤ 8 }
     ensures power { (enable : Bool) (c : Core) → length (core_after_power enable c).waiting ≤ length c.waiting }
     ensures cycle { (look : AxisLook) (c : Core) → length (core_after_cycle look c).waiting ≤ length c.waiting }
 {}
@@ -212,5 +212,5 @@ pub fn moves_go_on_by_their_steps()
     ensures halts { (look : AxisLook) (c : Core) (w : Wanted) → IsCoreKept c → c.axis.active ≡ Some w → is_slowing w.kind ≡ true →
         nat_eq (answer_error_of c.axis look.input) 0 ≡ true →
         Leads (halt_step_taken c.axis w) (is_rest (halt_step_taken c.axis w)) c.axis (cycle_fate look c) (core_after_cycle look c).axis }
-    ensures refused { (q : Asked) (c : Core) (r : Reason) → refusal_of q ≡ Some r → commanded q c ≡ c }
+    ensures refused { (q : Asked) (c : Core) (r : Reason) → refusal_of q ≡ Some r → core_after_command q c ≡ c }
 {}

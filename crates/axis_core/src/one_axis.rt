@@ -72,7 +72,7 @@ impl AxisCore {
         ensures answer { result ≡ commands.answer_of (asked_in (core_at self.old pool.old list notes.old) list wanted.now jerk held tables)
             (core_at self.old pool.old list notes.old) }
         ensures after { core_at self.new pool.new list notes.new
-            ≡ commands.commanded (asked_in (core_at self.old pool.old list notes.old) list wanted.now jerk held tables) (core_at self.old pool.old list notes.old) }
+            ≡ commands.core_after_command (asked_in (core_at self.old pool.old list notes.old) list wanted.now jerk held tables) (core_at self.old pool.old list notes.old) }
         ensures others { pool.new ≡ slice_set pool.old list (queue_of pool.new list) }
         ensures queue { IsQueueKept self.new (queue_of pool.new list) }
     {

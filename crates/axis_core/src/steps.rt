@@ -6,7 +6,7 @@ ghost use Rattle.std.specs.Option.{option_copied};
 ghost use Rattle.command_pool.specs.Rates.{AreRates};
 ghost use Rattle.axis_core.specs.Kept.{IsMoving, IsNear};
 ghost use Rattle.axis_core.specs.Steps as spec;
-ghost use Rattle.axis_core.specs.Steps.{guarded, old_step_of, taken_by, taken_of};
+ghost use Rattle.axis_core.specs.Steps.{wish_within_limits, old_step_of, step_for_wish, taken_step_in};
 ghost use Rattle.motion_numbers.specs.Ranges.{IsPlace, IsStep, IsWay};
 
 use crate::axis::Axis;
@@ -31,7 +31,7 @@ pub fn old_step(axis: &Axis) -> i64
 pub fn taken(axis: &Axis, step: i64) -> i64
     requires moving { IsMoving axis.now }
     requires step { unsigned_abs step ≤ 2 * MOST_WAY }
-    ensures value { result ≡ taken_of axis.now step }
+    ensures value { result ≡ taken_step_in axis.now step }
     ensures small { IsStep result }
 {
     nearest_safe(&axis.limits, axis.previous, axis.setpoint, step)
@@ -52,7 +52,7 @@ fn is_braking(old: i64, step: i64) -> bool
 pub fn take_guarded(axis: &Axis, step: i64) -> Result<i64, u16>
     requires moving { IsMoving axis.now }
     requires step { unsigned_abs step ≤ 2 * MOST_WAY }
-    ensures value { result ≡ taken_by axis.now (guarded axis.now step) }
+    ensures value { result ≡ step_for_wish axis.now (wish_within_limits axis.now step) }
     ensures small { IfOk result IsStep }
 {
     let safe = taken(axis, step);

@@ -4,7 +4,7 @@ use Rattle.command_pool.specs.declared.ending.Finish.{Finish}
 use Rattle.command_pool.specs.declared.wanted.Follow.{Follow}
 use Rattle.command_pool.specs.declared.wanted.Follow.TheVariants as follow
 use Rattle.command_pool.specs.declared.wanted.Wanted.{Wanted}
-use Rattle.axis_core.specs.Steps.{gives_way, guarded, is_safe_step, step_toward}
+use Rattle.axis_core.specs.Steps.{gives_way, wish_within_limits, is_safe_step, step_toward}
 use Rattle.axis_core.specs.declared.axis.Axis.{Axis}
 use Rattle.axis_core.specs.declared.look.AxisLook.{AxisLook}
 use Rattle.axis_core.specs.declared.reason.Reason.{Reason}
@@ -29,7 +29,7 @@ is_in_sync a look = is_safe_step a (look.cam -ℤ a.setpoint)
 -- profile
 abbrev pub cam_wish_where : Bool → Axis → Wanted → ℤ → Result ℤ ℕ
 cam_wish_where true a w cam = Ok (cam -ℤ a.setpoint)
-cam_wish_where false a w cam = if a.reached then Err 104 else guarded a (step_toward a cam w)
+cam_wish_where false a w cam = if a.reached then Err 104 else wish_within_limits a (step_toward a cam w)
 
 abbrev pub cam_wish : Axis → Wanted → AxisLook → Result ℤ ℕ
 cam_wish a w look = cam_wish_where (is_in_sync a look) a w look.cam

@@ -13,7 +13,7 @@ use Rattle.command_pool.specs.declared.wanted.Wanted.{Wanted}
 use Rattle.follow_plan.specs.Gear.{gear_difference_of, gear_toward_of}
 use Rattle.motion_numbers.specs.declared.TheConstants.{MOST_RATIO}
 use Rattle.motion_numbers.specs.Ranges.{is_outside}
-use Rattle.axis_core.specs.Steps.{gives_way, guarded, old_step_of}
+use Rattle.axis_core.specs.Steps.{gives_way, wish_within_limits, old_step_of}
 use Rattle.axis_core.specs.blocks.Velocity.{step_to_velocity}
 use Rattle.axis_core.specs.declared.axis.Axis.{Axis}
 use Rattle.axis_core.specs.declared.look.AxisLook.{AxisLook}
@@ -64,7 +64,7 @@ gear_step_of f m = pos 0
 -- what a gear wants: the velocity step toward the step that it asks for, cut to the greatest
 -- velocity
 abbrev pub gear_wish : Axis → Wanted → AxisLook → Result ℤ ℕ
-gear_wish a w look = guarded a (step_to_velocity a (gear_toward_of (gear_step_of w.follow look.master) a.limits.vmax) w)
+gear_wish a w look = wish_within_limits a (step_to_velocity a (gear_toward_of (gear_step_of w.follow look.master) a.limits.vmax) w)
 
 -- InGear: the taken step is the one that the gear asks for
 abbrev pub is_in_gear : Wanted → ℤ → AxisLook → Bool

@@ -9,7 +9,7 @@ use Rattle.command_pool.specs.declared.kind.BlockKind.TheVariants as kind
 use Rattle.command_pool.specs.declared.wanted.Wanted.{Wanted}
 use Rattle.kin_core.specs.declared.limits.Limits.{Limits}
 use Rattle.trapezoid_plan.specs.VelocityStep.{velocity_step_of}
-use Rattle.axis_core.specs.Steps.{gives_way, guarded, old_step_of}
+use Rattle.axis_core.specs.Steps.{gives_way, wish_within_limits, old_step_of}
 use Rattle.axis_core.specs.declared.axis.Axis.{Axis}
 use Rattle.axis_core.specs.declared.reason.Reason.{Reason}
 use Rattle.axis_core.specs.declared.reason.Reason.TheVariants.{NotPowered, InErrorStop, InStopping, InHoming, GroupHoldsAxis, BadVelocity, BadAcceleration, BadDeceleration, JerkRefused, QueueFull}
@@ -34,7 +34,7 @@ step_to_velocity a toward w = velocity_step_of toward (old_step_of a) w.rates
 
 -- what it wants: the velocity step toward its Velocity
 abbrev pub velocity_wish : Axis → Wanted → Result ℤ ℕ
-velocity_wish a w = guarded a (step_to_velocity a w.rates.v w)
+velocity_wish a w = wish_within_limits a (step_to_velocity a w.rates.v w)
 
 -- InVelocity: the taken step is its Velocity
 abbrev pub is_in_velocity : Wanted → ℤ → Bool

@@ -7,7 +7,7 @@ ghost use Rattle.follow_plan.specs.Gear.{gear_toward_of};
 ghost use Rattle.command_pool.specs.declared.kind.BlockKind.TheVariants as kind;
 ghost use Rattle.axis_core.specs.Cycles.{progress_by_step};
 ghost use Rattle.axis_core.specs.Kept.{IsCarriedGear, IsGear, IsMoving};
-ghost use Rattle.axis_core.specs.Steps.{guarded, old_step_of, taken_by};
+ghost use Rattle.axis_core.specs.Steps.{wish_within_limits, old_step_of, step_for_wish};
 ghost use Rattle.axis_core.specs.blocks.Velocity.{step_to_velocity};
 ghost use Rattle.axis_core.specs.blocks.Gear as spec;
 ghost use Rattle.motion_numbers.specs.Ranges.{IsStep};
@@ -95,7 +95,7 @@ fn asked_step(follow: &Follow, master: (i64, i64)) -> i128
 fn take(axis: &Axis, wanted: &Wanted, asked: i128) -> Result<i64, u16>
     requires moving { IsMoving axis.now }
     requires wanted { IsCarriedGear wanted.now }
-    ensures value { result ≡ taken_by axis.now (guarded axis.now
+    ensures value { result ≡ step_for_wish axis.now (wish_within_limits axis.now
         (step_to_velocity axis.now (gear_toward_of asked axis.now.limits.vmax) wanted.now)) }
     ensures small { IfOk result IsStep }
 {
@@ -121,7 +121,7 @@ pub fn progress(
     requires kind { wanted.now.kind ≡ kind.GearIn }
     requires wanted { IsCarriedGear wanted.now }
     ensures value { result ≡ progress_by_step axis.now wanted.now (option_copied next.entry) look.now
-        (taken_by axis.now (spec.gear_wish axis.now wanted.now look.now)) }
+        (step_for_wish axis.now (spec.gear_wish axis.now wanted.now look.now)) }
     ensures small { IfOk result (λ p. IsStep p.step) }
 {
     let asked = asked_step(&wanted.follow, look.master);

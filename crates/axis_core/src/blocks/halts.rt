@@ -4,7 +4,7 @@ ghost use Rattle.std.specs.Prelude.{◌≡◌, ◌≤◌, ◌≤ℤ◌, false, p
 ghost use Rattle.kin_core.specs.Toward.{toward_zero};
 ghost use Rattle.axis_core.specs.Kept.{IsMoving};
 ghost use Rattle.axis_core.specs.Ranges.{IsBetween};
-ghost use Rattle.axis_core.specs.Steps.{old_step_of, taken_of};
+ghost use Rattle.axis_core.specs.Steps.{old_step_of, taken_step_in};
 ghost use Rattle.axis_core.specs.blocks.Halts as spec;
 ghost use Rattle.motion_numbers.specs.Ranges.{IsStep};
 
@@ -44,7 +44,7 @@ pub const STOP_TESTS: &[Reason] = &[
 pub fn braking_by(axis: &Axis, d: i64) -> i64
     requires moving { IsMoving axis.now }
     requires d { IsBetween (pos 1) d (pos MOST_STEP) }
-    ensures value { result ≡ taken_of axis.now (toward_zero (old_step_of axis.now) d) }
+    ensures value { result ≡ taken_step_in axis.now (toward_zero (old_step_of axis.now) d) }
     ensures small { IsStep result }
 {
     taken(axis, halt_step(old_step(axis), d))
@@ -54,7 +54,7 @@ pub fn braking_by(axis: &Axis, d: i64) -> i64
 pub fn progress(axis: &Axis, wanted: &Wanted) -> Progress
     requires moving { IsMoving axis.now }
     requires wanted { IsBetween (pos 1) wanted.now.rates.d (pos MOST_STEP) }
-    ensures step { result.step ≡ taken_of axis.now (toward_zero (old_step_of axis.now) wanted.now.rates.d) }
+    ensures step { result.step ≡ taken_step_in axis.now (toward_zero (old_step_of axis.now) wanted.now.rates.d) }
     ensures reached { result.reached ≡ false }
     ensures ending { result.ending ≡ spec.halt_ending result.step }
     ensures small { IsStep result.step }

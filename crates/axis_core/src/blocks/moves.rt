@@ -9,7 +9,7 @@ ghost use Rattle.blend_plan.specs.BlendRun.{blend_wanted_of, has_crossed};
 ghost use Rattle.buffer_modes.specs.Queue as queue;
 ghost use Rattle.command_pool.specs.Rates.{AreRates};
 ghost use Rattle.axis_core.specs.Kept.{IsBlend, IsBlendable, IsCarriedMove, IsMoving, IsNear, IsSmall, IsSmallTarget};
-ghost use Rattle.axis_core.specs.Steps.{taken_of};
+ghost use Rattle.axis_core.specs.Steps.{taken_step_in};
 ghost use Rattle.axis_core.specs.blocks.Moves as spec;
 ghost use Rattle.motion_numbers.specs.Ranges.{IsStep};
 
@@ -366,7 +366,7 @@ pub fn progress(axis: &Axis, wanted: &Wanted, next: Option<&Wanted>) -> Progress
     requires moving { IsMoving axis.now }
     requires wanted { IsCarriedMove wanted.now }
     requires next { IfSome (option_copied next) IsBlendable }
-    ensures step { result.step ≡ taken_of axis.now
+    ensures step { result.step ≡ taken_step_in axis.now
         (spec.move_step_with (spec.blended_with axis.now wanted.now (option_copied next.entry)) axis.now wanted.now) }
     ensures reached { result.reached ≡ false }
     ensures ending { result.ending

@@ -7,7 +7,7 @@ ghost use Rattle.command_pool.specs.Rates.{AreRamps};
 ghost use Rattle.command_pool.specs.declared.kind.BlockKind.TheVariants as kind;
 ghost use Rattle.axis_core.specs.Cycles.{progress_by_step};
 ghost use Rattle.axis_core.specs.Kept.{IsCarriedVelocity, IsMoving};
-ghost use Rattle.axis_core.specs.Steps.{taken_by};
+ghost use Rattle.axis_core.specs.Steps.{step_for_wish};
 ghost use Rattle.axis_core.specs.blocks.Velocity as spec;
 ghost use Rattle.motion_numbers.specs.Ranges.{IsStep};
 
@@ -62,7 +62,7 @@ pub fn step_to_velocity(axis: &Axis, toward: i64, wanted: &Wanted) -> i64
 fn take(axis: &Axis, wanted: &Wanted) -> Result<i64, u16>
     requires moving { IsMoving axis.now }
     requires wanted { IsCarriedVelocity wanted.now }
-    ensures value { result ≡ taken_by axis.now (spec.velocity_wish axis.now wanted.now) }
+    ensures value { result ≡ step_for_wish axis.now (spec.velocity_wish axis.now wanted.now) }
     ensures small { IfOk result IsStep }
 {
     take_guarded(axis, step_to_velocity(axis, wanted.rates.v, wanted))
@@ -86,7 +86,7 @@ pub fn progress(
     requires kind { wanted.now.kind ≡ kind.MoveVelocity }
     requires wanted { IsCarriedVelocity wanted.now }
     ensures value { result ≡ progress_by_step axis.now wanted.now (option_copied next.entry) look.now
-        (taken_by axis.now (spec.velocity_wish axis.now wanted.now)) }
+        (step_for_wish axis.now (spec.velocity_wish axis.now wanted.now)) }
     ensures small { IfOk result (λ p. IsStep p.step) }
 {
     let step = take(axis, wanted)?;

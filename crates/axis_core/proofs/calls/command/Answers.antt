@@ -2,7 +2,7 @@
 use Rattle.std.proofs.Common.{◌∙◌, sym, subst}
 use Rattle.axis_core.specs.AxisKept.{IsCoreKept}
 use Rattle.axis_core.specs.Cores.{Core, core_at}
-use Rattle.axis_core.specs.Calls.{admitted_by}
+use Rattle.axis_core.specs.Calls.{core_after_admission}
 use Rattle.axis_core.specs.Kept.{IsSmallTarget, MayAdmit}
 use Rattle.axis_core.specs.blocks.Moves.{with_target}
 use Rattle.axis_core.proofs.KeptCommands.{admitted-kept}
@@ -38,6 +38,6 @@ returns-clause-kept c =
     let free = asked-as before _ c.args.wanted.now _ _ _ _ _ c.waiting.ensures.count c.last-last.ensures
     (sym c.refusal_of.ensures ∙ c.in_default.is) in
     subst IsCoreKept (sym c.admit_command.ensures.after)
-    (subst (λ t. IsCoreKept (admitted_by c.args.wanted.now.kind (with_target t c.args.wanted.now) before))
+    (subst (λ t. IsCoreKept (core_after_admission c.args.wanted.now.kind (with_target t c.args.wanted.now) before))
     (target-as before c.args.wanted.now _ _ c.last-last.ensures c.known_target-target.ensures)
     (admitted-kept before _ c.args.wanted.now _ _ _ c.requires.kept c.requires.made free))
