@@ -2,11 +2,15 @@
 use Rattle.std.specs.Prelude.{ℕ, List, Option, slice_get}
 use Rattle.std.specs.Option.{option_flatten}
 
--- the jobs started so far by their numbers, each until it is joined; the numbers of the starts that are refused; how many starts were asked for, and how many were refused, up to the ends of 32 and 64 bits
+-- what a spawner has started and refused
 pub record Started (J : Type 0) : Type 0 where
+  -- the jobs started by their numbers, each until it is joined
   pub jobs : List (Option J)
+  -- the numbers of the starts that are refused, counted from 1
   pub refused : List ℕ
+  -- how many starts were asked for, up to the end of 32 bits
   pub starts : ℕ
+  -- how many threads were refused, up to the end of 64 bits
   pub faults : ℕ
 
 -- the job of a number that was started and not joined yet

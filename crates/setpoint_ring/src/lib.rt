@@ -1,4 +1,5 @@
-//! The ring between the kernel and a drive: outputs go to the drive and answers come back, each in order and each once.
+//! The ring between the kernel and a drive: outputs go to the drive and answers come back, each
+//! in its order and once.
 #![tactic(auto, using(crate::proofs::Items::items_length, crate::proofs::Items::items_more))]
 
 mod drive_end;
