@@ -1,15 +1,14 @@
 -- A call that is read is one of its configuration.
-use Rattle.std.proofs.Common.{◌≡◌, ℕ, ◌<◌, ◌≤◌, ℤ, Bool, true, false, Option, Some, None, Result, Ok, Err, List, [], ◌∷◌, length, refl, sym, ◌∙◌, ap, subst, arith, inl, inr, lit≤}
-use Rattle.std.specs.Prelude.{pos, ◌||◌, ◌==◌, cond, not, slice_get, codes}
+use Rattle.std.proofs.Common.{◌≡◌, ℕ, ◌<◌, ◌≤◌, ℤ, true, Option, Some, None, Ok, List, [], ◌∷◌, length, refl, sym, ◌∙◌, subst, arith, inl, inr, lit≤}
+use Rattle.std.specs.Prelude.{pos, ◌||◌, ◌==◌, not, slice_get, codes}
 use Rattle.std.proofs.lemmas.Bool.{cases_Bool}
-use Rattle.command_pool.specs.declared.kind.BlockKind.{BlockKind}
 use Rattle.command_pool.specs.declared.kind.BufferMode.TheVariants.{Aborting}
 use Rattle.fb_outputs.specs.Inputs.{AreInputs, takes}
-use Rattle.fb_outputs.specs.declared.inputs.Input.TheVariants.{Position, Velocity, Acceleration, Deceleration, Jerk, Mode, Master, Numerator, Denominator, Table}
+use Rattle.fb_outputs.specs.declared.inputs.Input.TheVariants.{Velocity, Acceleration, Deceleration, Jerk, Numerator, Denominator}
 use Rattle.fb_outputs.specs.declared.inputs.Inputs.{Inputs}
 use Rattle.line_text.specs.Reading.{◌>>=◌}
 use Rattle.line_text.specs.Texts.{says}
-use Rattle.motion_history.specs.Calls.{IsCall, axes_of}
+use Rattle.motion_history.specs.Calls.{axes_of}
 use Rattle.motion_history.specs.Setup.{Setup}
 use Rattle.motion_history.specs.declared.config.BlockDef.{BlockDef}
 use Rattle.bench_text.specs.BenchState.{IsLineOf}

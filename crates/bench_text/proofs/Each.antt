@@ -1,8 +1,8 @@
 -- Items that are read one behind the other, as a loop does.
-use Rattle.std.proofs.Common.{◌≡◌, ℕ, suc, ◌+◌, ◌<◌, List, [], ◌∷◌, ◌++◌, length, get_or, drop, map, Result, Ok, Err, Bor, refl, sym, ap, subst, ◌∙◌, append_assoc, add-one}
+use Rattle.std.proofs.Common.{◌≡◌, ℕ, suc, ◌+◌, ◌<◌, List, [], ◌∷◌, ◌++◌, length, get_or, drop, Result, Ok, Err, Bor, refl, sym, ap, subst, ◌∙◌, append_assoc, add-one}
 use Rattle.std.proofs.Math.Seq.{drop-cons}
 use Rattle.std.proofs.lemmas.List.{get_or-map, length-map}
-use Rattle.line_text.specs.Reading.{◌>>=◌, Gives, each_of}
+use Rattle.line_text.specs.Reading.{◌>>=◌, each_of}
 use Rattle.line_text.specs.Texts.{texts}
 use Rattle.bench_text.proofs.Texts.{nowhere}
 use Rattle.line_text.specs.declared.reader.LineFault.{LineFault}

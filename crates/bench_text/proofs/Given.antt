@@ -1,5 +1,5 @@
 -- What is given to the inputs of a call.
-use Rattle.std.proofs.Common.{◌≡◌, ℕ, ◌+◌, ◌-◌, ◌<◌, ◌≤◌, zero, suc, ℤ, Bool, true, false, Option, Some, None, Result, Ok, Err, List, [], ◌∷◌, ◌++◌, length, refl, sym, ◌∙◌, ap, subst, arith, inl, inr, lit≤}
+use Rattle.std.proofs.Common.{◌≡◌, ℕ, ◌-◌, ◌<◌, ◌≤◌, zero, suc, ℤ, Bool, true, false, Option, Some, None, Result, Ok, List, [], ◌∷◌, ◌++◌, length, refl, sym, subst, arith, inl, inr, lit≤}
 use Rattle.std.specs.Prelude.{pos, ◌==◌, cond, nat_lt, replicate, slice_index_or, unsigned_abs}
 use Rattle.std.specs.List.{AllByRecursion, position, position_or_len, slice_split}
 use Rattle.std.proofs.lemmas.Bool.{cases_Bool, eqb-true, ltb-true}

@@ -1,14 +1,12 @@
 -- What the lines of the machine part leave.
-use Rattle.std.proofs.Common.{◌≡◌, ℕ, ◌≤◌, ℤ, Bool, true, false, Option, Some, None, Result, Ok, Err, List, [], ◌∷◌, ◌++◌, length, refl, sym, ◌∙◌, ap, subst, arith, inl, inr, lit≤, ◌<◌}
-use Rattle.std.specs.Prelude.{◌&&◌, cond, int_le, nat_le, not, pos, unsigned_abs}
-use Rattle.std.specs.List.{AllByRecursion}
-use Rattle.std.proofs.lemmas.Bool.{and_parts, cases_Bool, leb-true}
+use Rattle.std.proofs.Common.{◌≡◌, ℕ, ◌≤◌, ℤ, Bool, true, false, Some, Ok, Err, List, [], ◌∷◌, ◌++◌, length, refl, sym, ap, subst, arith, lit≤, ◌<◌}
+use Rattle.std.specs.Prelude.{cond, int_le, nat_le, not, pos, unsigned_abs}
+use Rattle.std.proofs.lemmas.Bool.{and_parts, leb-true}
 use Rattle.std.proofs.lemmas.Int.{ints}
 use Rattle.axis_state.specs.declared.definition.AxisDef.{AxisDef}
 use Rattle.cam_table.specs.CamTable.{is_cam_table}
-use Rattle.command_pool.specs.declared.kind.BlockKind.{BlockKind}
 use Rattle.kin_core.specs.declared.limits.Limits.{Limits}
-use Rattle.line_text.specs.Reading.{◌>>=◌, each_of}
+use Rattle.line_text.specs.Reading.{each_of}
 use Rattle.motion_history.specs.Faults.{axis_fault, block_fault, group_fault, name_fault, task_fault}
 use Rattle.motion_history.specs.Setup.{Setup}
 use Rattle.motion_history.specs.declared.drives.DriveDef.{DriveDef}
@@ -21,7 +19,6 @@ use Rattle.bench_text.specs.Events.{cycle_meaning, end_meaning}
 use Rattle.bench_text.specs.Items.{axis_added, axis_meaning, block_meaning, group_meaning, limit_meaning, limits_of, placed_of, point, table_meaning, task_meaning}
 use Rattle.bench_text.specs.Named.{axis_named, kind_of, object_named, task_at, task_named}
 use Rattle.bench_text.specs.Rules.{broken_by, broken_unless, in_range, is_from_to, number}
-use Rattle.bench_text.specs.declared.axis.Placed.{Placed}
 use Rattle.bench_text.specs.declared.bench.BenchLine.{BenchLine}
 use Rattle.bench_text.specs.declared.bench.BenchLine.TheVariants.{Cycles, End}
 use Rattle.bench_text.specs.declared.drive.TheConstants.{MOST_STEPS}

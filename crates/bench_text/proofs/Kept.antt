@@ -1,21 +1,17 @@
 -- What always holds of a bench as far as it was read is kept by each line.
-use Rattle.std.proofs.Common.{◌≡◌, ℕ, ◌+◌, ◌≤◌, zero, suc, Bool, true, false, Option, Some, None, Result, Ok, Err, List, [], ◌∷◌, ◌++◌, length, refl, sym, ◌∙◌, ap, subst, arith, inl, inr, lit≤}
-use Rattle.std.specs.Prelude.{◌&&◌, ◌==◌, cond, nat_le, not, slice_set}
+use Rattle.std.proofs.Common.{◌≡◌, ℕ, ◌+◌, ◌≤◌, zero, suc, Bool, true, false, None, Result, Ok, Err, List, [], ◌∷◌, ◌++◌, length, refl, sym, ◌∙◌, ap, subst, arith, inl, inr, lit≤}
+use Rattle.std.specs.Prelude.{◌==◌, nat_le, not, slice_set}
 use Rattle.std.specs.List.{AllByRecursion}
 use Rattle.std.specs.Option.{ok_or}
 use Rattle.std.proofs.lemmas.Bool.{cases_Bool, leb-true}
 use Rattle.std.proofs.lemmas.List.{length-set}
 use Rattle.std.proofs.lemmas.List.Elements.{All-from_recursion}
-use Rattle.axis_state.specs.declared.definition.AxisDef.{AxisDef}
 use Rattle.line_text.specs.Lines.{lines_of}
-use Rattle.line_text.specs.Reading.{◌>>=◌, Meaning, at_line, line_meaning, lines_meaning, text_meaning}
+use Rattle.line_text.specs.Reading.{at_line, line_meaning, lines_meaning, text_meaning}
 use Rattle.line_text.specs.Words.{is_clean, words_of}
-use Rattle.line_text.specs.declared.reader.LineRefused.{LineRefused}
 use Rattle.motion_history.specs.Faults.{whole_fault}
 use Rattle.motion_history.specs.Setup.{IsSetup, Setup}
 use Rattle.motion_history.specs.declared.drives.DriveDef.{DriveDef}
-use Rattle.motion_history.specs.declared.refused.TraceVersion.{TraceVersion}
-use Rattle.motion_history.specs.declared.refused.TraceVersion.TheVariants.{One, Two}
 use Rattle.bench_text.specs.BenchState.{BrakesAsItSpeedsUp, IsBench, IsDrive, IsLineOf}
 use Rattle.bench_text.specs.Calls.{call_meaning}
 use Rattle.bench_text.specs.Drives.{drive_meaning, plain_drive}
@@ -35,7 +31,7 @@ use Rattle.bench_text.specs.declared.rule.TheConstants.{NOT_WHOLE, OUT_OF_PLACE,
 use Rattle.bench_text.proofs.Calls.{call-line}
 use Rattle.bench_text.proofs.Given.{AreSmall}
 use Rattle.bench_text.proofs.Items.{AddsAxis, axis-adds, block-axes, cycle-line, drive-is, end-line, group-axes, limit-axes, table-axes, task-axes}
-use Rattle.bench_text.proofs.Results.{bind_ok, faultless, found, holds, ok_is}
+use Rattle.bench_text.proofs.Results.{bind_ok, faultless, holds, ok_is}
 
 -- ---- lists
 

@@ -7,3 +7,4 @@ pub mod Given
 pub mod Calls
 pub mod Items
 pub mod Kept
+pub mod SpelledBenches

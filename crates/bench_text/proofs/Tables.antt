@@ -1,6 +1,6 @@
 -- Cam tables that are refused.
-use Rattle.std.proofs.Common.{◌≡◌, ℕ, ◌<◌, ◌≤◌, ℤ, Bool, true, false, List, [], ◌∷◌, ◌++◌, length, Result, Ok, Err, refl, sym, ◌∙◌, ap, inl, inr, arith}
-use Rattle.std.specs.Prelude.{◌↔◌, ◌≢◌, nat_le, not}
+use Rattle.std.proofs.Common.{◌≡◌, ℕ, ◌<◌, ℤ, true, false, List, [], ◌∷◌, ◌++◌, length, Ok, Err, refl, sym, ap, inl, inr, arith}
+use Rattle.std.specs.Prelude.{◌↔◌, ◌≢◌, nat_le}
 use Rattle.std.proofs.lemmas.Bool.{cases_Bool, le-leb, leb-true}
 use Rattle.cam_table.specs.CamFault.{IsFault}
 use Rattle.cam_table.specs.CamTable.{IsCamTable, is_cam_table}
@@ -15,7 +15,6 @@ use Rattle.motion_history.specs.declared.fault.ConfigFault.TheVariants.{BadName,
 use Rattle.motion_history.specs.declared.sizes.TheConstants.{MOST_TABLES}
 use Rattle.bench_text.specs.Items.{point, table_meaning}
 use Rattle.bench_text.specs.Rules.{rule_of}
-use Rattle.bench_text.specs.declared.rule.TheConstants.{OUT_OF_RANGE, TOO_MANY}
 
 -- the test tells cam tables
 abbrev pub AreTold : Type 0

@@ -1,5 +1,5 @@
 -- The calls of a bench. This project's profile.
-use Rattle.std.specs.Prelude.{ℕ, ℤ, pos, ◌-◌, ◌==◌, Bool, true, false, not, ◌&&◌, ◌||◌, if◌then◌else◌, codes, Option, Some, None, Result, Ok, Err, List, [], ◌∷◌, ◌++◌, drop, is_some, length, nat_eq, replicate, slice_get}
+use Rattle.std.specs.Prelude.{ℕ, ℤ, pos, ◌-◌, ◌==◌, Bool, true, false, not, ◌||◌, if◌then◌else◌, codes, Option, Some, None, Result, Ok, Err, List, ◌∷◌, ◌++◌, drop, is_some, length, nat_eq, replicate, slice_get}
 use Rattle.std.specs.List.{list_all, slice_split, starts_with}
 use Rattle.std.specs.Option.{ok_or}
 use Rattle.command_pool.specs.declared.kind.BlockKind.{BlockKind}

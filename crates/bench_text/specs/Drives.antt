@@ -1,12 +1,12 @@
 -- The drives of a bench. This project's profile.
-use Rattle.std.specs.Prelude.{ℕ, ℤ, pos, ◌^◌, ◌-◌, Bool, true, false, not, ◌&&◌, int_lt, nat_eq, nat_le, nat_lt, Option, Some, None, Result, Ok, Err, List, [], ◌∷◌, length}
-use Rattle.std.specs.List.{list_all, list_any}
+use Rattle.std.specs.Prelude.{ℕ, Bool, true, false, ◌&&◌, nat_eq, nat_le, nat_lt, Option, Some, None, Result, Ok, Err, List, [], ◌∷◌, length}
+use Rattle.std.specs.List.{list_any}
 use Rattle.line_text.specs.Reading.{◌>>=◌, each_of}
 use Rattle.motion_history.specs.Setup.{Setup}
 use Rattle.motion_history.specs.declared.drives.DriveDef.{DriveDef}
 use Rattle.motion_history.specs.declared.sizes.TheConstants.{MOST_FAULTS, MOST_LAG}
 use Rattle.bench_text.specs.Named.{axis_at, axis_named}
-use Rattle.bench_text.specs.Rules.{broken_unless, in_range, is_from_to, number}
+use Rattle.bench_text.specs.Rules.{broken_unless, in_range, number}
 use Rattle.bench_text.specs.declared.drive.TheConstants.{MOST_STEPS}
 use Rattle.bench_text.specs.declared.rule.TheConstants.{OUT_OF_RANGE, TOO_MANY, WRONG_COUNT}
 

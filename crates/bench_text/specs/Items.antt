@@ -1,8 +1,7 @@
 -- The items of a bench's machine: its limits, axes, groups, cam tables, tasks and blocks. This
 -- project's profile.
-use Rattle.std.specs.Prelude.{ℕ, ℤ, Bool, true, false, not, nat_le, if◌then◌else◌, codes, Option, Some, None, Result, Ok, Err, List, [], ◌∷◌, ◌++◌, length}
+use Rattle.std.specs.Prelude.{ℕ, ℤ, Bool, true, false, not, nat_le, if◌then◌else◌, codes, Result, Ok, Err, List, [], ◌∷◌, ◌++◌, length}
 use Rattle.std.specs.Option.{ok_or}
-use Rattle.axis_state.specs.declared.definition.AxisDef.{AxisDef}
 use Rattle.cam_table.specs.CamTable.{is_cam_table}
 use Rattle.kin_core.specs.declared.limits.Limits.{Limits}
 use Rattle.line_text.specs.Numbers.{point_of}

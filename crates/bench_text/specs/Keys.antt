@@ -1,5 +1,5 @@
 -- The keys of a call, a row each. This project's profile.
-use Rattle.std.specs.Prelude.{ℕ, ◌==◌, if◌then◌else◌, codes, Option, Some, None, List, [], ◌∷◌, length}
+use Rattle.std.specs.Prelude.{ℕ, ◌==◌, if◌then◌else◌, codes, Option, Some, None, List, length}
 use Rattle.command_pool.specs.declared.kind.BlockKind.{BlockKind}
 use Rattle.fb_outputs.specs.Inputs.{takes}
 use Rattle.fb_outputs.specs.declared.inputs.Input.{Input}

@@ -11,3 +11,4 @@ pub mod Events
 pub mod BenchState
 pub mod UnderWay
 pub mod Reading
+pub mod Spelled

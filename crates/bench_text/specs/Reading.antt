@@ -1,5 +1,5 @@
 -- What a bench's lines and its text mean. This project's profile.
-use Rattle.std.specs.Prelude.{◌≡◌, ℕ, Bool, true, false, not, ◌&&◌, if◌then◌else◌, nat_le, codes, Option, Some, None, Result, Ok, Err, List, [], ◌∷◌, ◌++◌, length, slice_set}
+use Rattle.std.specs.Prelude.{◌≡◌, ℕ, Bool, true, false, not, if◌then◌else◌, codes, Option, Some, None, Result, Ok, Err, List, [], ◌∷◌, ◌++◌, length, slice_set}
 use Rattle.std.specs.Option.{ok_or}
 use Rattle.line_text.specs.Reading.{◌>>=◌, Meaning, reading_of}
 use Rattle.line_text.specs.Texts.{says}
@@ -165,10 +165,6 @@ refused_by (Err r) = Err (told_as r)
 -- the bench that a text is, or the first line that breaks a rule and the first rule that it breaks
 unfoldable pub bench_of : List ℕ → Result BenchState TextRefused
 bench_of text = refused_by (reading_of meaning ending opening text)
-
--- a text is this bench
-abbrev pub IsBenchOf : List ℕ → BenchState → Type 0
-IsBenchOf text bench = bench_of text ≡ Ok bench
 
 -- the answer is this reading: the bench, or the refusal; or memory ran out
 abbrev pub ReadsBy : Result BenchState TextRefused → Result BenchState TextFault → Type 0

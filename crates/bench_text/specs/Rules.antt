@@ -1,7 +1,6 @@
 -- The rules of a bench, and when one is broken. This project's profile.
 use Rattle.std.specs.Prelude.{ℕ, ℤ, pos, unsigned_abs, int_le, Bool, ◌&&◌, if◌then◌else◌, Option, Some, None, Result, Ok, Err, List}
 use Rattle.std.specs.Option.{ok_or}
-use Rattle.motion_history.specs.Setup.{Setup}
 use Rattle.motion_history.specs.declared.fault.ConfigFault.{ConfigFault}
 use Rattle.motion_history.specs.declared.fault.ConfigFault.TheVariants.{BadName, NameUsed, NameUnknown, OutOfRange, Table, TooMany, TooFew, OutOfMemory}
 use Rattle.bench_text.specs.declared.rule.TheConstants.{NO_NAME, WRONG_NAME, NO_VALUE, OUT_OF_RANGE, TOO_MANY, NOT_WHOLE}

@@ -1,5 +1,5 @@
 -- What always holds of a bench as far as it was read. This project's profile.
-use Rattle.std.specs.Prelude.{◌≡◌, ◌≤◌, true, false, List, [], length}
+use Rattle.std.specs.Prelude.{◌≡◌, ◌≤◌, true, false, [], length}
 use Rattle.std.specs.List.{AllByRecursion}
 use Rattle.motion_history.specs.declared.refused.TraceVersion.TheVariants.{One}
 use Rattle.bench_text.specs.BenchState.{BrakesAsItSpeedsUp, IsDrive, IsLineOf}

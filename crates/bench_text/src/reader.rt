@@ -11,7 +11,8 @@ ghost use Rattle.bench_text.specs.Calls as calls;
 ghost use Rattle.bench_text.specs.Events as events;
 ghost use Rattle.bench_text.specs.Items as items;
 ghost use Rattle.bench_text.specs.Reading as spec;
-ghost use Rattle.bench_text.specs.Reading.{IsBenchOf, ReadsBy};
+ghost use Rattle.bench_text.specs.Reading.{ReadsBy};
+ghost use Rattle.bench_text.specs.Spelled.{IsBenchOf};
 
 use crate::axis::add_axis;
 use crate::bench::{Bench, BenchLine};
@@ -22,7 +23,8 @@ use crate::form::{Form, Part, form_of, is_counted, is_part, part_of};
 use crate::item::{add_block, add_group, add_table, add_task, set_room};
 use crate::rule::{NO_VERSION, NOT_WHOLE, OUT_OF_PLACE, WRONG_COUNT, broken_unless};
 use line_text::{
-    LineFault, LineReader, LineRefused, LinesFault, numbers_are_small, read_lines, says,
+    LineFault, LineReader, LineRefused, LinesFault, lines_are_spelled, numbers_are_small,
+    read_lines, says,
 };
 use motion_history::{
     Builder, ConfigFault, DriveDef, DriveDefs, Rule, TextFault, TextRefused, TraceVersion,
@@ -70,6 +72,7 @@ pub fn read_bench(alloc: Global, text: &[u8]) -> Result<Bench, TextFault>
     // A text that has none is refused so.
     ensures exact { ReadsBy (spec.bench_of text.now) result }
 {
+    lines_are_spelled();
     read(alloc, text)
 }
 

@@ -32,7 +32,7 @@ eqb_suc : (n : ℕ) → eqb (suc n) 0 ≡ false
 eqb_suc n = ne_eqb (suc n) 0 (omega arith)
 
 -- a part before others is kept
-without_empty_end-cons : (part : List ℕ) (parts : List (List ℕ)) → 1 ≤ length parts → without_empty_end (part ∷ parts) ≡ part ∷ without_empty_end parts
+pub without_empty_end-cons : (part : List ℕ) (parts : List (List ℕ)) → 1 ≤ length parts → without_empty_end (part ∷ parts) ≡ part ∷ without_empty_end parts
 without_empty_end-cons part [] h = absurd (omega arith)
 without_empty_end-cons part (next ∷ parts) h = refl
 
@@ -57,7 +57,7 @@ split_whole p (x ∷ xs) h =
           rw (fails, more) refl
     ]
 
-one_part : (text : List ℕ) → 1 ≤ length text → without_empty_end (text ∷ []) ≡ text ∷ []
+pub one_part : (text : List ℕ) → 1 ≤ length text → without_empty_end (text ∷ []) ≡ text ∷ []
 one_part [] h = absurd (omega arith)
 one_part (b ∷ bs) h = rw (eqb_suc (length bs)) refl
 

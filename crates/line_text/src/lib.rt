@@ -10,7 +10,7 @@ mod reader;
 mod word;
 
 pub use key::value_at;
-pub use laws::numbers_are_small;
+pub use laws::{lines_are_spelled, numbers_are_small};
 pub use line::first_line;
 pub use number::{number_of, point_of};
 pub use reader::{LineFault, LineReader, LineRefused, LinesFault, read_lines};
