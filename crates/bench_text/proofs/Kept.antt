@@ -31,7 +31,7 @@ use Rattle.bench_text.specs.declared.rule.TheConstants.{NOT_WHOLE, OUT_OF_PLACE,
 use Rattle.bench_text.proofs.Calls.{call-line}
 use Rattle.bench_text.proofs.Given.{AreSmall}
 use Rattle.bench_text.proofs.Items.{AddsAxis, axis-adds, block-axes, cycle-line, drive-is, end-line, group-axes, limit-axes, table-axes, task-axes}
-use Rattle.bench_text.proofs.Results.{bind_ok, faultless, holds, ok_is}
+use Rattle.bench_text.proofs.Results.{bind_ok, line-ok, faultless, holds, ok_is}
 
 -- ---- lists
 
@@ -243,10 +243,6 @@ meaning-kept small s t words k h =
 
 -- ---- texts
 
-line-is : (r : Result SoFar ℕ) (n : ℕ) (t : SoFar) → at_line n r ≡ Ok t → r ≡ Ok t
-line-is (Ok s) n t h = let e : s ≡ t = cc in cc
-line-is (Err rule) n t h = absurd (cc)
-
 line_meaning-kept : AreSmall → (s t : SoFar) (text : List ℕ) → IsSoFar s → line_meaning meaning s text ≡ Ok t → IsSoFar t
 unfolding line_meaning
 line_meaning-kept small s t text k h =
@@ -262,7 +258,7 @@ lines-kept : AreSmall → (n : ℕ) (s t : SoFar) (lines : List (List ℕ)) → 
 lines-kept small n s t [] k h = let e : s ≡ t = cc in subst (λ q. IsSoFar q) e k
 lines-kept small n s t (text ∷ more) k h =
     let u = bind_ok (at_line (n + 1) (line_meaning meaning s text)) (λ u. lines_meaning meaning (n + 1) u more) t h in
-    lines-kept small (n + 1) u.0 t more (line_meaning-kept small s u.0 text k (line-is (line_meaning meaning s text) (n + 1) u.0 u.1)) u.2
+    lines-kept small (n + 1) u.0 t more (line_meaning-kept small s u.0 text k (line-ok (line_meaning meaning s text) (n + 1) u.0 u.1)) u.2
 
 opening-kept : IsSoFar opening
 unfolding opening

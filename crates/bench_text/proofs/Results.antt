@@ -2,7 +2,7 @@
 use Rattle.std.proofs.Common.{◌≡◌, ℕ, Bool, true, false, Option, Some, None, Result, Ok, Err, refl, sym, ◌∙◌}
 use Rattle.std.specs.Option.{ok_or}
 use Rattle.motion_history.specs.declared.fault.ConfigFault.{ConfigFault}
-use Rattle.line_text.specs.Reading.{◌>>=◌}
+use Rattle.line_text.specs.Reading.{◌>>=◌, at_line}
 use Rattle.bench_text.specs.Rules.{broken_by, broken_unless}
 
 -- a reading in two steps
@@ -28,3 +28,8 @@ faultless (Some f) u h = absurd (cc)
 pub found : {A : Type 0} (o : Option A) (rule : ℕ) (x : A) → ok_or o rule ≡ Ok x → o ≡ Some x
 found (Some y) rule x h = let e : y ≡ x = ok_is (Ok y) y x refl h in cc
 found None rule x h = absurd (cc)
+
+-- a line that breaks no rule
+pub line-ok : {T : Type 0} (r : Result T ℕ) (n : ℕ) (t : T) → at_line n r ≡ Ok t → r ≡ Ok t
+line-ok (Ok s) n t h = let e : s ≡ t = cc in cc
+line-ok (Err rule) n t h = absurd (cc)

@@ -15,13 +15,9 @@ use Rattle.bench_text.specs.BenchState.{BenchState}
 use Rattle.bench_text.specs.Reading.{ReadsBy, bench_of, ending, meaning, opening, refused_by}
 use Rattle.bench_text.specs.SoFar.{SoFar}
 use Rattle.bench_text.specs.Spelled.{IsBenchOf, LineLeads, LinesLead, WordsLead}
-use Rattle.bench_text.proofs.Results.{bind_ok, ok_is}
+use Rattle.bench_text.proofs.Results.{bind_ok, line-ok, ok_is}
 
 -- ---- what is read leads on
-
-line-ok : {T : Type 0} (r : Result T ℕ) (n : ℕ) (t : T) → at_line n r ≡ Ok t → r ≡ Ok t
-line-ok (Ok s) n t h = let e : s ≡ t = cc in cc
-line-ok (Err rule) n t h = absurd (cc)
 
 words-lead : (s t : SoFar) (words : List (List ℕ)) → (length words == 0) ≡ false → meaning s words ≡ Ok t → WordsLead s words t
 words-lead s t [] some h = absurd (cc)

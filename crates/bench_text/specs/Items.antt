@@ -71,8 +71,8 @@ axis_added s name limits behind = do
     } ∷ [];
   })
 
--- `axis NAME LO HI VMAX AMAX INC START` in version 1, where the axis brakes as hard as it speeds up,
--- `axis NAME LO HI VMAX AMAX DMAX INC START` in version 2, or the same with `ready`
+-- `axis NAME LO HI VMAX AMAX INC START` in version 1, where the axis brakes as hard as it speeds
+-- up, `axis NAME LO HI VMAX AMAX DMAX INC START` in version 2, or the same with `ready`
 unfoldable pub axis_meaning : TraceVersion → Setup → List (List ℕ) → Result Setup ℕ
 axis_meaning One s (name ∷ lo ∷ hi ∷ vmax ∷ amax ∷ behind) =
     axis_added s name (lo ∷ hi ∷ vmax ∷ amax ∷ amax ∷ []) behind

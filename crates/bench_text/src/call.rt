@@ -71,7 +71,8 @@ fn inputs_by(
     state: &[u8],
     words: &[&[u8]],
 ) -> Result<Inputs, LineFault>
-    ensures { Gives (λ i. i) (spec.inputs_by machine.now block.now state.now (texts words.now)) result }
+    ensures { Gives (λ i. i)
+        (spec.inputs_by machine.now block.now state.now (texts words.now)) result }
 {
     if is_off(state) {
         Ok(INPUTS_OFF)
@@ -89,7 +90,8 @@ fn inputs_on(
     state: &[u8],
     words: &[&[u8]],
 ) -> Result<Inputs, LineFault>
-    ensures { Gives (λ i. i) (spec.inputs_on machine.now block.now state.now (texts words.now)) result }
+    ensures { Gives (λ i. i)
+        (spec.inputs_on machine.now block.now state.now (texts words.now)) result }
 {
     broken_unless(are_masters_there(machine, block.kind, words), WRONG_NAME)?;
     broken_unless(says(state, b"on"), NO_VALUE)?;
@@ -186,7 +188,8 @@ fn number_or(default: i64, text: Option<&[u8]>) -> Result<i64, LineFault>
 
 // The mode of a text, or Aborting.
 fn mode_or_aborting(text: Option<&[u8]>) -> Result<BufferMode, LineFault>
-    ensures { Gives (λ m. m) (spec.value_or BufferMode.Aborting spec.mode_of (text_of text.entry)) result }
+    ensures { Gives (λ m. m)
+        (spec.value_or BufferMode.Aborting spec.mode_of (text_of text.entry)) result }
 {
     match text {
         Some(text) => match mode_named(text) {
@@ -199,7 +202,8 @@ fn mode_or_aborting(text: Option<&[u8]>) -> Result<BufferMode, LineFault>
 
 // The master of a text, or the first axis.
 fn master_or_first(machine: &Builder, text: Option<&[u8]>) -> Result<u8, LineFault>
-    ensures { Gives (λ n. n) (spec.value_or 0 (named.axis_named machine.now) (text_of text.entry)) result }
+    ensures { Gives (λ n. n)
+        (spec.value_or 0 (named.axis_named machine.now) (text_of text.entry)) result }
 {
     match text {
         Some(text) => axis_named(machine, text),

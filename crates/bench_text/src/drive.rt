@@ -1,6 +1,6 @@
 // The drives of a bench.
 
-ghost use Rattle.std.specs.Prelude.{◌≡◌, ◌≤◌, length, IfErr, IfOk};
+ghost use Rattle.std.specs.Prelude.{◌≡◌, ◌≤◌, length, slice_set, IfErr, IfOk};
 ghost use Rattle.line_text.specs.Reading.{Gives, each_of};
 ghost use Rattle.line_text.specs.Texts.{texts};
 ghost use Rattle.bench_text.specs.Drives as spec;
@@ -115,4 +115,13 @@ fn has_number(numbers: &[u8], number: u8) -> bool
     ensures { result ≡ spec.has_number numbers.now number }
 {
     numbers.iter().any(|other| number == *other)
+}
+
+/// Puts a drive in place of the plain one of its axis.
+pub fn set_drive(drives: &mut [DriveDef], axis: u8, drive: DriveDef)
+    ensures { drives.new ≡ slice_set drives.old axis drive }
+{
+    if (axis as usize) < drives.len() {
+        drives[axis as usize] = drive;
+    }
 }

@@ -1,9 +1,10 @@
 // The limits, groups, cam tables, tasks and blocks of a bench.
 
-ghost use Rattle.std.specs.Prelude.{◌≡◌};
+ghost use Rattle.std.specs.Prelude.{◌≡◌, if◌then◌else◌, None, Some};
 ghost use Rattle.line_text.specs.Reading.{Gives, Takes};
 ghost use Rattle.line_text.specs.Texts.{texts};
 ghost use Rattle.motion_history.specs.Faults as faults;
+ghost use Rattle.motion_history.specs.declared.fault.ConfigFault.{ConfigFault};
 ghost use Rattle.bench_text.specs.Items as spec;
 ghost use Rattle.bench_text.specs.Rules as rules;
 
@@ -103,4 +104,11 @@ pub fn add_block(machine: &mut Builder, words: &[&[u8]]) -> Result<(), LineFault
         Ok(_) => Ok(()),
         Err(fault) => Err(refusal_of(fault)),
     }
+}
+
+/// Whether the machine part has an axis, a task and a block.
+pub fn is_whole(machine: &Builder) -> bool
+    ensures { faults.whole_fault machine.now ≡ (if result then None else Some ConfigFault.TooFew) }
+{
+    1 <= machine.axes().len() && 1 <= machine.tasks().len() && 1 <= machine.blocks().len()
 }

@@ -12,10 +12,12 @@ mod key;
 mod name;
 mod number;
 mod reader;
+mod reading;
 mod rule;
+mod version;
 
 pub use bench::{Bench, BenchLine};
-pub use reader::read_bench;
+pub use reading::read_bench;
 
 #[cfg(test)]
 mod tests;

@@ -79,7 +79,8 @@ pub fn axis_named(machine: &Builder, name: &[u8]) -> Result<u8, LineFault>
 
 /// The numbers of the axes of these names.
 pub fn axes_named(alloc: Global, machine: &Builder, names: &[&[u8]]) -> Result<Vec<u8>, LineFault>
-    ensures { Gives (λ v. v.items) (each_of (spec.axis_named machine.now) (texts names.now)) result }
+    ensures { Gives (λ v. v.items)
+        (each_of (spec.axis_named machine.now) (texts names.now)) result }
 {
     let mut axes = Vec::new(alloc);
     for name in names {

@@ -1,48 +1,38 @@
-// Reading a bench, a line after another.
+// A bench as far as it was read, and how its lines lead it on.
 
-ghost use Rattle.std.specs.Prelude.{◌≡◌, ℕ, if◌then◌else◌, None, Some, Result, IfErr, IfOk, Ok, slice_set};
-ghost use Rattle.line_text.specs.Reading.{Gives, Takes, at_line};
+ghost use Rattle.std.specs.Prelude.{◌≡◌, ℕ, Result};
+ghost use Rattle.line_text.specs.Reading.{Gives, Takes};
 ghost use Rattle.line_text.specs.Texts.{texts};
-ghost use Rattle.motion_history.specs.Faults.{whole_fault};
-ghost use Rattle.motion_history.specs.declared.fault.ConfigFault.{ConfigFault};
-ghost use Rattle.bench_text.specs.BenchState.{BenchState};
-ghost use Rattle.bench_text.specs.UnderWay.{IsSoFar};
 ghost use Rattle.bench_text.specs.Calls as calls;
 ghost use Rattle.bench_text.specs.Events as events;
 ghost use Rattle.bench_text.specs.Items as items;
 ghost use Rattle.bench_text.specs.Reading as spec;
-ghost use Rattle.bench_text.specs.Reading.{ReadsBy};
-ghost use Rattle.bench_text.specs.Spelled.{IsBenchOf};
 
 use crate::axis::add_axis;
-use crate::bench::{Bench, BenchLine};
+use crate::bench::BenchLine;
 use crate::call::call_of;
-use crate::drive::{drive_of, is_stated, plain_drive};
+use crate::drive::{drive_of, is_stated, plain_drive, set_drive};
 use crate::event::{cycles_of, end_of};
 use crate::form::{Form, Part, form_of, is_counted, is_part, part_of};
-use crate::item::{add_block, add_group, add_table, add_task, set_room};
-use crate::rule::{NO_VERSION, NOT_WHOLE, OUT_OF_PLACE, WRONG_COUNT, broken_unless};
-use line_text::{
-    LineFault, LineReader, LineRefused, LinesFault, lines_are_spelled, numbers_are_small,
-    read_lines, says,
-};
-use motion_history::{
-    Builder, ConfigFault, DriveDef, DriveDefs, Rule, TextFault, TextRefused, TraceVersion,
-};
+use crate::item::{add_block, add_group, add_table, add_task, is_whole, set_room};
+use crate::rule::{NOT_WHOLE, OUT_OF_PLACE, WRONG_COUNT, broken_unless};
+use crate::version::version_of;
+use line_text::{LineFault, LineReader};
+use motion_history::{Builder, DriveDef, TraceVersion};
 use std::alloc::Global;
 use std::marker::Model;
 
 /// A bench as far as it was read. Contracts see it as a `SoFar`.
 #[derive(Drop)]
 pub struct BenchReader {
-    alloc: Global,
-    part: Part,
-    version: TraceVersion,
-    limited: bool,
-    machine: Builder,
-    drives: Vec<DriveDef>,
-    stated: Vec<u8>,
-    lines: Vec<BenchLine>,
+    pub(crate) alloc: Global,
+    pub(crate) part: Part,
+    pub(crate) version: TraceVersion,
+    pub(crate) limited: bool,
+    pub(crate) machine: Builder,
+    pub(crate) drives: Vec<DriveDef>,
+    pub(crate) stated: Vec<u8>,
+    pub(crate) lines: Vec<BenchLine>,
 }
 
 impl Model for BenchReader {
@@ -59,153 +49,6 @@ impl Model for BenchReader {
       stated = r.stated.items;
       lines = r.lines.items;
     } };
-}
-
-/// The bench that a text is. A text that is none is refused at its first line that breaks a rule, by
-/// the first rule that it breaks: B1 to B10. It takes memory for the words of one line at a time,
-/// besides the bench.
-pub fn read_bench(alloc: Global, text: &[u8]) -> Result<Bench, TextFault>
-    // What is read is a bench of the text.
-    ensures found { IfOk result (IsBenchOf text.now) }
-    // A bench of the text is read, unless memory runs out.
-    ensures only { (bench : BenchState) → IsBenchOf text.now bench → ReadsBy (Ok bench) result }
-    // A text that has none is refused so.
-    ensures exact { ReadsBy (spec.bench_of text.now) result }
-{
-    lines_are_spelled();
-    read(alloc, text)
-}
-
-// The bench that a text is.
-#[tactic(auto, unfolding(crate::specs::Reading::bench_of, line_text::specs::Reading::reading_of))]
-fn read(alloc: Global, text: &[u8]) -> Result<Bench, TextFault>
-    ensures { ReadsBy (spec.bench_of text.now) result }
-{
-    numbers_are_small();
-    let mut reader = opened(alloc)?;
-    match read_lines(alloc, text, &mut reader) {
-        Ok(last) => bench_of(reader, last),
-        Err(LinesFault::Refused(refused)) => Err(refused_by(refused)),
-        Err(LinesFault::OutOfMemory) => Err(TextFault::OutOfMemory),
-    }
-}
-
-// How a text is refused at this place.
-fn refused_by(refused: LineRefused) -> TextFault
-    ensures { result ≡ TextFault.Refused (spec.told_as refused) }
-{
-    TextFault::Refused(TextRefused {
-        place: refused.line,
-        rule: Rule {
-            letter: b'B',
-            number: refused.rule,
-        },
-    })
-}
-
-// A bench before its first line.
-#[tactic(auto, unfolding(crate::specs::Reading::opening))]
-fn opened(alloc: Global) -> Result<BenchReader, TextFault>
-    ensures ok { IfOk result (λ r. r ≡ spec.opening) }
-    ensures only { IfErr result (λ fault. fault ≡ TextFault.OutOfMemory) }
-{
-    let Ok(machine) = Builder::open(alloc, 1, 1) else {
-        return Err(TextFault::OutOfMemory);
-    };
-    Ok(BenchReader {
-        alloc,
-        part: Part::Start,
-        version: TraceVersion::One,
-        limited: false,
-        machine,
-        drives: Vec::new(alloc),
-        stated: Vec::new(alloc),
-        lines: Vec::new(alloc),
-    })
-}
-
-// The bench at the end of the text.
-#[tactic(auto, unfolding(crate::specs::Reading::ending))]
-fn bench_of(reader: BenchReader, last: u64) -> Result<Bench, TextFault>
-    requires { IsSoFar reader }
-    ensures { ReadsBy (spec.refused_by (at_line last (spec.ending reader))) result }
-{
-    let BenchReader {
-        part,
-        version,
-        machine,
-        drives,
-        lines,
-        ..
-    } = reader;
-    if !is_part(part, Part::Events) {
-        return Err(refused_by(LineRefused {
-            line: last,
-            rule: NOT_WHOLE,
-        }));
-    }
-    // It has been whole since `go`.
-    let Ok(config) = machine.finish() else {
-        return Err(TextFault::OutOfMemory);
-    };
-    Ok(Bench {
-        version,
-        config,
-        drives: DriveDefs::of(drives),
-        lines,
-    })
-}
-
-// The version that the first line tells.
-#[tactic(auto, unfolding(crate::specs::Reading::version_of))]
-fn version_of(words: &[&[u8]]) -> Result<TraceVersion, LineFault>
-    ensures { Gives (λ v. v) (spec.version_of (texts words.now)) result }
-{
-    let [word, number] = words else {
-        return Err(LineFault::Rule(NO_VERSION));
-    };
-    broken_unless(is_bench(word), NO_VERSION)?;
-    match version_numbered(number) {
-        Some(version) => Ok(version),
-        None => Err(LineFault::Rule(NO_VERSION)),
-    }
-}
-
-// Whether a bench begins with this word.
-#[tactic(auto, unfolding(crate::specs::Reading::is_bench))]
-fn is_bench(word: &[u8]) -> bool
-    ensures { result ≡ spec.is_bench word.now }
-{
-    says(word, b"motion-bench")
-}
-
-// The version of this number.
-fn version_numbered(number: &[u8]) -> Option<TraceVersion>
-    ensures { result ≡ spec.version_numbered number.now }
-{
-    if says(number, b"1") {
-        Some(TraceVersion::One)
-    } else if says(number, b"2") {
-        Some(TraceVersion::Two)
-    } else {
-        None
-    }
-}
-
-// Whether the machine part has an axis, a task and a block.
-fn is_whole(machine: &Builder) -> bool
-    ensures { whole_fault machine.now ≡ (if result then None else Some ConfigFault.TooFew) }
-{
-    1 <= machine.axes().len() && 1 <= machine.tasks().len() && 1 <= machine.blocks().len()
-}
-
-// Puts a drive in place of the plain one of its axis.
-fn set_drive(drives: &mut [DriveDef], axis: u8, drive: DriveDef)
-    ensures { drives.new ≡ slice_set drives.old axis drive }
-{
-    if (axis as usize) < drives.len() {
-        drives[axis as usize] = drive;
-    }
 }
 
 impl LineReader for BenchReader {
@@ -330,8 +173,8 @@ impl BenchReader {
 
     // Takes a line of a group.
     fn read_group(&mut self, words: &[&[u8]]) -> Result<(), LineFault>
-        ensures { Takes (spec.with_setup self.old (items.group_meaning self.old.setup (texts words.now)))
-            self.new result }
+        ensures { Takes
+            (spec.with_setup self.old (items.group_meaning self.old.setup (texts words.now))) self.new result }
     {
         let alloc = self.alloc;
         add_group(alloc, &mut self.machine, words)
@@ -339,8 +182,8 @@ impl BenchReader {
 
     // Takes a line of a cam table.
     fn read_table(&mut self, words: &[&[u8]]) -> Result<(), LineFault>
-        ensures { Takes (spec.with_setup self.old (items.table_meaning self.old.setup (texts words.now)))
-            self.new result }
+        ensures { Takes
+            (spec.with_setup self.old (items.table_meaning self.old.setup (texts words.now))) self.new result }
     {
         let alloc = self.alloc;
         add_table(alloc, &mut self.machine, words)
@@ -359,8 +202,8 @@ impl BenchReader {
 
     // Takes a line of a call.
     fn read_call(&mut self, words: &[&[u8]]) -> Result<(), LineFault>
-        ensures { Takes (spec.with_line self.old (calls.call_meaning self.old.setup (texts words.now)))
-            self.new result }
+        ensures { Takes
+            (spec.with_line self.old (calls.call_meaning self.old.setup (texts words.now))) self.new result }
     {
         let line = call_of(self.alloc, &self.machine, words);
         self.push(line)
@@ -377,8 +220,8 @@ impl BenchReader {
 
     // Takes a line of a task's end.
     fn read_end(&mut self, words: &[&[u8]]) -> Result<(), LineFault>
-        ensures { Takes (spec.with_line self.old (events.end_meaning self.old.setup (texts words.now)))
-            self.new result }
+        ensures { Takes
+            (spec.with_line self.old (events.end_meaning self.old.setup (texts words.now))) self.new result }
     {
         let line = end_of(&self.machine, words);
         self.push(line)

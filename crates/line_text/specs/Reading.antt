@@ -48,7 +48,8 @@ text_meaning meaning s text = lines_meaning meaning 0 s (lines_of text)
 
 -- what a text is read as: what its lines mean, and then its end where they lead to, which may break
 -- a rule in the last line
-unfoldable pub reading_of : {S T : Type 0} → Meaning S → (S → Result T ℕ) → S → List ℕ → Result T LineRefused
+unfoldable pub reading_of : {S T : Type 0} → Meaning S → (S → Result T ℕ) → S → List ℕ →
+    Result T LineRefused
 reading_of meaning ending s text =
     text_meaning meaning s text >>= λ t. at_line (last_line_of text) (ending t)
 
@@ -65,8 +66,8 @@ Takes meaning new (Ok u) = meaning ≡ Ok new
 Takes meaning new (Err (line.Rule number)) = meaning ≡ Err number
 Takes meaning new (Err line.OutOfMemory) = Unit {0}
 
--- the lines of a text are taken: by what it means the reader stands now there, and the number of the
--- last line is told; or the place is told; or memory ran out
+-- the lines of a text are taken: by what it means the reader stands now there, and the number of
+-- the last line is told; or the place is told; or memory ran out
 abbrev pub TakesText : {S : Type 0} → Result S LineRefused → ℕ → S → Result ℕ LinesFault → Type 0
 TakesText meaning last new (Ok told) = (meaning ≡ Ok new) × (told ≡ last)
 TakesText meaning last new (Err (lines.Refused place)) = meaning ≡ Err place

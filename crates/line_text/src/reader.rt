@@ -44,8 +44,8 @@ pub trait LineReader {
 }
 
 /// Reads the lines of a text, up to the first that breaks a rule, and answers the number of the
-/// last, which is 1 in an empty text. A line with a byte besides tab, CR and those from space to `~`
-/// breaks rule 1. It takes memory for the words of one line at a time.
+/// last, which is 1 in an empty text. A line with a byte besides tab, CR and those from space to
+/// `~` breaks rule 1. It takes memory for the words of one line at a time.
 #[tactic(auto, unfolding(crate::specs::Reading::text_meaning))]
 pub fn read_lines<R: LineReader>(
     alloc: Global,

@@ -58,12 +58,12 @@ is_ready_line (End t) = true
 abbrev pub is_plain : DriveDef → Bool
 is_plain d = (d.lag == 0) && (length d.faults == 0)
 
--- whether a machine is one that the kernel runs so far, and the trace tells: its axes are ready, its
--- blocks are of kind MoveAbsolute, and it has no groups and no cam tables
+-- whether a machine is one that the kernel runs so far, and the trace tells: its axes are ready,
+-- its blocks are of kind MoveAbsolute, and it has no groups and no cam tables
 unfoldable pub is_ready_machine : Setup → Bool
 is_ready_machine s =
-    list_all (λ (d : AxisDef). d.ready) s.axes && list_all (λ b. is_move_absolute b.kind) s.blocks &&
-    (length s.groups == 0) && (length s.tables == 0)
+    list_all (λ (d : AxisDef). d.ready) s.axes &&
+    list_all (λ b. is_move_absolute b.kind) s.blocks && (length s.groups == 0) && (length s.tables == 0)
 
 -- whether the history has room for the lines
 unfoldable pub has_room : Setup → List BenchLine → Bool
@@ -92,7 +92,8 @@ pub record IsReady (b : BenchState) : Type 0 where
 
 -- whether a word gives another mode than Aborting
 abbrev pub is_other_mode : List ℕ → Bool
-is_other_mode word = starts_with nat_eq word (codes "mode=") && not (says word (codes "mode=aborting"))
+is_other_mode word =
+    starts_with nat_eq word (codes "mode=") && not (says word (codes "mode=aborting"))
 
 -- whether the kind of a block is another than MoveAbsolute
 abbrev pub is_kind_other : Option (List ℕ) → Bool

@@ -3,7 +3,7 @@ use Rattle.std.proofs.Common.{subst, sym}
 use Rattle.bench_text.specs.SoFar.{SoFar}
 use Rattle.bench_text.specs.UnderWay.{IsSoFar}
 use Rattle.bench_text.proofs.Kept.{bench-whole}
-use Rattle.bench_text.proofs.reader.bench_of.Goals as goal
+use Rattle.bench_text.proofs.reading.bench_of.Goals as goal
 
 pub invariant_of-result : goal.invariant_of-result
 invariant_of-result c =
