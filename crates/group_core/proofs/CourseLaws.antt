@@ -99,7 +99,7 @@ pub begins-under-way : Plans → (course : Course) (limits : List Limits) (c : C
     course_of w ≡ Some course → IsUnderWay (bound_of course p.motion) course c
 begins-under-way plans course limits c w p k e on h =
     let q = k.path p on in
-    let s = stepping-of c.group.axes limits p k.limits_are q in
+    let s = stepping-of c.group.axes limits p k.axes k.limits_are q in
     record {
       command = w;
       active = e;

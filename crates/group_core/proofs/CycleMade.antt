@@ -12,7 +12,7 @@ use Rattle.group_state.specs.declared.state.GroupState.{GroupState}
 use Rattle.kin_core.specs.declared.limits.Limits.{Limits}
 use Rattle.group_core.specs.Cores.{Core, core_in, ended_by, failed}
 use Rattle.group_core.specs.Cycles.{answered, cycled, ending_of, group_released, moved, over_at_rest, path_after, path_over, path_released, released}
-use Rattle.group_core.specs.GroupKept.{AreGroupLimits, AreNumbers, IsActive, IsCoreKept, IsLook, IsPathOf}
+use Rattle.group_core.specs.GroupKept.{AreGroupLimits, AreNumbers, IsActive, IsCoreKept, IsCount, IsLook, IsPathOf}
 use Rattle.group_core.specs.Lines.{MayTakeOver}
 use Rattle.group_core.specs.Refusals.{limits_in}
 use Rattle.group_core.specs.States.{may_fail}
@@ -50,9 +50,9 @@ cycle-made members before list lists1 lists3 notes1 notes3 g1 g2 g3 g4 g5 p2 p3 
     (moved-made members before.path list lists1 lists3 notes1 notes3 g1 g2 g3 p2 p3 o s e f g h made ∙ ap (moved members) first)
 
 -- a kept group may take its step
-steps-where : (axes : ℕ) (limits : List Limits) (o : Option OnPath) → AreGroupLimits axes limits → ((p : OnPath) → o ≡ Some p → IsPathOf axes limits p) → IfSome o IsStepping
-steps-where axes limits None are f = tt
-steps-where axes limits (Some p) are f = stepping-of axes limits p are (f p refl)
+steps-where : (axes : ℕ) (limits : List Limits) (o : Option OnPath) → IsCount axes → AreGroupLimits axes limits → ((p : OnPath) → o ≡ Some p → IsPathOf axes limits p) → IfSome o IsStepping
+steps-where axes limits None count are f = tt
+steps-where axes limits (Some p) count are f = stepping-of axes limits p count are (f p refl)
 
 numbers-where : (s : GroupState) (o : Option Wanted) → ((w : Wanted) → o ≡ Some w → IsActive s w) → IfSome o (λ w. AreNumbers w.kind w)
 numbers-where s None f = tt
@@ -60,7 +60,7 @@ numbers-where s (Some w) f = (f w refl).numbers
 
 pub may-step : (limits : List Limits) (c : Core) → IsCoreKept limits c → MayStep c.group c.path
 may-step limits c k = record {
-  path = steps-where c.group.axes limits c.path k.limits_are k.path;
+  path = steps-where c.group.axes limits c.path k.axes k.limits_are k.path;
   active = numbers-where c.group.state c.group.active k.active;
 }
 

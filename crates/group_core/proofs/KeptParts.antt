@@ -72,8 +72,9 @@ limits-of-path axes limits p are k =
     let counted : AreAxesLimits p.way.count limits = subst (λ n. AreAxesLimits n limits) (sym k.count) are.each in
     subst AreLimits (sym k.limits_are) (line_limits_in_range p.way.count p.way.starts p.way.targets k.starts k.targets limits counted)
 
-pub stepping-of : (axes : ℕ) (limits : List Limits) (p : OnPath) → AreGroupLimits axes limits → IsPathOf axes limits p → IsStepping p
-stepping-of axes limits p are k = record {
+pub stepping-of : (axes : ℕ) (limits : List Limits) (p : OnPath) → IsCount axes → AreGroupLimits axes limits → IsPathOf axes limits p → IsStepping p
+stepping-of axes limits p count are k = record {
+  axes = subst (λ n. n ≤ 6) (sym k.count) count.most;
   length = ap (λ (l : Limits). l.hi) k.limits_are ∙ line_limits_to p.way.count p.way.starts p.way.targets limits;
   motion = record {
     limits = limits-of-path axes limits p are k;
@@ -171,14 +172,14 @@ pub path-kept : Laws → (axes : ℕ) (limits : List Limits) (g : Group) (p : On
     IsPathOf axes limits (record p { motion = (advanced g p.motion).motion })
 path-kept laws axes limits g p are k =
     let t = is-taken g p.motion in
-    let s = stepping-of axes limits p are k in
+    let lo : p.motion.limits.lo ≡ pos 0 = ap (λ (l : Limits). l.lo) k.limits_are ∙ line_limits_from p.way.count p.way.starts p.way.targets limits in
     record {
       count = k.count;
       starts = k.starts;
       targets = k.targets;
       within = k.within;
       limits_are = ap (λ (m : Motion). m.limits) t.is ∙ k.limits_are;
-      from = before-from p.motion (advanced g p.motion).motion s.motion.from k.kept t;
+      from = before-from p.motion (advanced g p.motion).motion lo k.kept t;
       to = before-to p.motion (advanced g p.motion).motion k.kept t;
       kept = motion-kept laws p.motion (advanced g p.motion).motion (limits-of-path axes limits p are k) k.kept t;
     }

@@ -1,11 +1,12 @@
 -- What a group asks before it takes a step along its path.
-use Rattle.std.specs.Prelude.{◌≡◌, pos, Option, Some, None, IfSome}
+use Rattle.std.specs.Prelude.{◌≡◌, ◌≤◌, pos, Option, Some, None, IfSome}
 use Rattle.group_core.specs.GroupKept.{AreNumbers}
 use Rattle.group_core.specs.Tracks.{IsMotionKept, OnPath, length_of}
 use Rattle.group_core.specs.declared.group.Group.{Group}
 
--- the path, if there is one, can be stopped, and ends where its way does
+-- a path of at most six axes that can be stopped, and ends where its way does
 pub record IsStepping (p : OnPath) : Type 0 where
+  pub axes : p.way.count ≤ 6
   pub length : p.motion.limits.hi ≡ pos (length_of p.way)
   pub motion : IsMotionKept p.motion
 

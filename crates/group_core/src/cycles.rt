@@ -40,8 +40,7 @@ fn answer(error: u16, group: &mut Group, pool: &mut CommandPool, list: u8, notes
 // The step of a cycle along the path, if there is one: the axes take their places, and it is
 // answered how the active command ends by it.
 fn advance(on: &mut GroupOnPath<LinePath>, setpoints: &mut [i64; 6]) -> Option<Finish>
-    requires axes { IfSome (on_path on.old.track) (λ p. p.way.count ≤ 6) }
-    requires step { MayStep on.old.group (on_path on.old.track) }
+    requires { MayStep on.old.group (on_path on.old.track) }
     ensures group { on.new.group ≡ on.old.group }
     ensures path { on_path on.new.track ≡ spec.path_after on.old.group (on_path on.old.track) }
     ensures ending { result ≡ spec.ending_of on.old.group (on_path on.old.track) }

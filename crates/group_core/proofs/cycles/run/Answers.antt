@@ -13,8 +13,8 @@ use Rattle.group_core.proofs.KeptCycles.{cycled-kept}
 use Rattle.group_core.proofs.Queues.{set_twice}
 use Rattle.group_core.proofs.cycles.run.Goals as goal
 
-pub advance-ending-requires-clause-step : goal.advance-ending-requires-clause-step
-advance-ending-requires-clause-step c =
+pub advance-ending-requires : goal.advance-ending-requires
+advance-ending-requires c =
     let members = c.args.members.now in
     let before : Core = core_at c.args.on.now c.args.pool.now c.args.list c.args.notes.now in
     let read : Core = core_in c.answer.new.group (on_path c.args.on.now.track) c.answer.new.pool c.args.list c.answer.new.notes in
