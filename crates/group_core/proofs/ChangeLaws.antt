@@ -31,7 +31,7 @@ use Rattle.group_core.specs.declared.look.GroupLook.{GroupLook}
 use Rattle.group_core.specs.declared.reason.Reason.{Reason}
 use Rattle.group_core.proofs.FateLaws.{none-ends, stopped-ending}
 use Rattle.group_core.proofs.KeptCalls.{by-if, of_kind}
-use Rattle.group_core.proofs.KeptCycles.{left-idle}
+use Rattle.group_core.proofs.KeptCycles.{left-idle, waits-in}
 use Rattle.group_core.proofs.NoneHolds.{NoneHolds, disable-from, enable-from, halt-from, line-from, none-holds, stop-from}
 
 by-event : (s : GroupState) (e : GroupEvent) → IsFrom s e → IsNext s (next_of e)
@@ -123,10 +123,6 @@ settles state.GroupHoming = inl refl
 taker-stays : (k : BlockKind) (s : GroupState) → k ≡ kind.MoveLinearAbsolute → s ≡ state.GroupMoving → next_of (event_of k) ≡ s
 taker-stays k s e f = ap (λ l. next_of (event_of l)) e ∙ sym f
 
-waits-moving : (s : GroupState) (w : Wanted) (ws : List Wanted) → (w ∷ ws ≡ []) ⊎ (s ≡ state.GroupMoving) → s ≡ state.GroupMoving
-waits-moving s w ws (inl e) = absurd (cc)
-waits-moving s w ws (inr e) = e
-
 -- what becomes of the state where commands end: it stays, or settles from GroupMoving
 abbrev Settles : GroupState → GroupState → Type 0
 Settles s t = (t ≡ s) ⊎ ((s ≡ state.GroupMoving) × (t ≡ state.GroupStandby))
@@ -142,7 +138,7 @@ settled-as state.GroupHoming = inl refl
 taken-as : (limits : List Limits) (members : GroupLook) (s : List ℤ) (ws : List Wanted) (c : Core) → AreWaiting c.group.axes limits ws → (ws ≡ []) ⊎ (c.group.state ≡ state.GroupMoving) →
     Settles c.group.state (taken_over members s ws c).group.state
 taken-as limits members s [] c k q = settled-as c.group.state
-taken-as limits members s (w ∷ ws) c k q = inl (taker-stays w.kind c.group.state k.0.line (waits-moving c.group.state w ws q))
+taken-as limits members s (w ∷ ws) c k q = inl (taker-stays w.kind c.group.state k.0.line (waits-in c.group.state w ws q))
 
 ended-as : (limits : List Limits) (members : GroupLook) (s : List ℤ) (o : Option Finish) (c : Core) → AreWaiting c.group.axes limits c.waiting →
     (c.waiting ≡ []) ⊎ (c.group.state ≡ state.GroupMoving) → Settles c.group.state (ended_by members s o c).group.state

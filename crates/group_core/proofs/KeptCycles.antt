@@ -147,7 +147,7 @@ stepped-kept laws limits c are k = record {
 }
 
 -- a GroupStop that is done leaves the path at rest
-done-step : (step : ℤ) (f : Finish) → halt_ending step ≡ Some f → step ≡ pos 0
+pub done-step : (step : ℤ) (f : Finish) → halt_ending step ≡ Some f → step ≡ pos 0
 done-step step f h = by-test (int_eq step (pos 0)) refl h
   where
     by-test : (b : Bool) → int_eq step (pos 0) ≡ b → (if b then Some finish.Done else None) ≡ Some f → step ≡ pos 0
@@ -216,7 +216,7 @@ places-within axes limits p setpoints count are k six t =
     }
 
 -- a command that waits may take over, where the group moves
-waits-in : (s : GroupState) (w : Wanted) (ws : List Wanted) → (w ∷ ws ≡ []) ⊎ (s ≡ state.GroupMoving) → s ≡ state.GroupMoving
+pub waits-in : (s : GroupState) (w : Wanted) (ws : List Wanted) → (w ∷ ws ≡ []) ⊎ (s ≡ state.GroupMoving) → s ≡ state.GroupMoving
 waits-in s w ws (inl e) = absurd (cc)
 waits-in s w ws (inr e) = e
 

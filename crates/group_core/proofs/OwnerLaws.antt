@@ -29,7 +29,7 @@ use Rattle.group_core.specs.declared.group.Group.{Group}
 use Rattle.group_core.specs.declared.group.PendingReset.{PendingReset}
 use Rattle.group_core.specs.declared.look.GroupLook.{GroupLook}
 use Rattle.group_core.specs.declared.reason.Reason.{Reason}
-use Rattle.group_core.proofs.KeptCalls.{by-if}
+use Rattle.group_core.proofs.KeptCalls.{by-if, joining}
 
 -- what an instance has and what it was told, together
 abbrev pub sum : ℕ → Core → ℕ
@@ -97,15 +97,6 @@ waits-more k [] w = omega arith
 waits-more k (v ∷ ws) w = let t = waits-more k ws w in omega arith
 
 -- a line that joins the queue
-abbrev joining : Bool → Option Wanted → Wanted → Core → Core
-joining aborts active w c =
-    let after : Commands = if aborts then record { active = Some w; waiting = [] } else behind active c.waiting w in
-    record c {
-      group = record c.group { active = after.active };
-      waiting = after.waiting;
-      notes = c.notes ++ (if aborts then end_notes finish.Aborted (queue_in c) else []);
-    }
-
 sum-joining : (k : ℕ) (aborts : Bool) (active : Option Wanted) (w : Wanted) (c : Core) → c.group.active ≡ active → sum k (joining aborts active w c) ≡ sum k c + is_owner k w.owner
 sum-joining k true active w c e =
     let a = told-all k finish.Aborted c in

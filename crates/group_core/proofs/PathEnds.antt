@@ -27,7 +27,7 @@ use Rattle.group_core.specs.blocks.Line.{line_ending, way_to}
 use Rattle.group_core.specs.declared.group.Group.{Group}
 use Rattle.group_core.specs.declared.group.Motion.{Motion}
 use Rattle.group_core.specs.declared.look.GroupLook.{GroupLook}
-use Rattle.group_core.proofs.KeptCycles.{at-rest, int-same}
+use Rattle.group_core.proofs.KeptCycles.{at-rest, done-step, int-same}
 use Rattle.group_core.proofs.KeptParts.{IsTaken, is-taken}
 use Rattle.group_core.proofs.MemberLaws.{place-given, same-path, taken-path}
 
@@ -36,9 +36,6 @@ if-some : (b : Bool) (f : Finish) → (if b then Some finish.Done else None) ≡
 if-some true f h = refl
 if-some false f h = absurd (cc)
 
-pub halt-done : (step : ℤ) (f : Finish) → halt_ending step ≡ Some f → step ≡ pos 0
-halt-done step f h = int-same step (pos 0) (if-some (int_eq step (pos 0)) f h)
-
 pub line-done : (m : Motion) (step : ℤ) (f : Finish) → line_ending m step ≡ Some f → (m.place ≡ m.limits.hi) × (step ≡ pos 0)
 line-done m step f h =
     let parts = and_parts (int_eq m.place m.limits.hi) (int_eq step (pos 0)) (if-some (int_eq m.place m.limits.hi && int_eq step (pos 0)) f h) in
@@ -46,24 +43,24 @@ line-done m step f h =
 
 ending-rests : (k : BlockKind) (m : Motion) (step : ℤ) (f : Finish) → ending_by k m step ≡ Some f → step ≡ pos 0
 ending-rests kind.MoveLinearAbsolute m step f h = (line-done m step f h).1
-ending-rests kind.Power m step f h = halt-done step f h
-ending-rests kind.Reset m step f h = halt-done step f h
-ending-rests kind.Home m step f h = halt-done step f h
-ending-rests kind.Stop m step f h = halt-done step f h
-ending-rests kind.Halt m step f h = halt-done step f h
-ending-rests kind.MoveAbsolute m step f h = halt-done step f h
-ending-rests kind.MoveRelative m step f h = halt-done step f h
-ending-rests kind.MoveVelocity m step f h = halt-done step f h
-ending-rests kind.GearIn m step f h = halt-done step f h
-ending-rests kind.GearOut m step f h = halt-done step f h
-ending-rests kind.CamIn m step f h = halt-done step f h
-ending-rests kind.CamOut m step f h = halt-done step f h
-ending-rests kind.GroupEnable m step f h = halt-done step f h
-ending-rests kind.GroupDisable m step f h = halt-done step f h
-ending-rests kind.GroupReset m step f h = halt-done step f h
-ending-rests kind.GroupStop m step f h = halt-done step f h
-ending-rests kind.GroupHalt m step f h = halt-done step f h
-ending-rests kind.MoveCircularAbsolute m step f h = halt-done step f h
+ending-rests kind.Power m step f h = done-step step f h
+ending-rests kind.Reset m step f h = done-step step f h
+ending-rests kind.Home m step f h = done-step step f h
+ending-rests kind.Stop m step f h = done-step step f h
+ending-rests kind.Halt m step f h = done-step step f h
+ending-rests kind.MoveAbsolute m step f h = done-step step f h
+ending-rests kind.MoveRelative m step f h = done-step step f h
+ending-rests kind.MoveVelocity m step f h = done-step step f h
+ending-rests kind.GearIn m step f h = done-step step f h
+ending-rests kind.GearOut m step f h = done-step step f h
+ending-rests kind.CamIn m step f h = done-step step f h
+ending-rests kind.CamOut m step f h = done-step step f h
+ending-rests kind.GroupEnable m step f h = done-step step f h
+ending-rests kind.GroupDisable m step f h = done-step step f h
+ending-rests kind.GroupReset m step f h = done-step step f h
+ending-rests kind.GroupStop m step f h = done-step step f h
+ending-rests kind.GroupHalt m step f h = done-step step f h
+ending-rests kind.MoveCircularAbsolute m step f h = done-step step f h
 
 -- the path stands after this step
 abbrev pub Rests : Motion → Type 0

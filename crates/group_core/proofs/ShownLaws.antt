@@ -30,7 +30,7 @@ use Rattle.group_core.specs.declared.group.PendingReset.{PendingReset}
 use Rattle.group_core.specs.declared.look.GroupLook.{GroupLook}
 use Rattle.group_core.specs.declared.reason.Reason.{Reason}
 use Rattle.group_core.proofs.KeptCalls.{by-if, of_kind}
-use Rattle.group_core.proofs.KeptCycles.{answered-kept, left-idle}
+use Rattle.group_core.proofs.KeptCycles.{answered-kept, left-idle, waits-in}
 use Rattle.group_core.proofs.NoneHolds.{NoneHolds, none-holds}
 
 -- a group that shows what another one does
@@ -163,16 +163,12 @@ settled-shown state.GroupStopping g e k = same-shown g _ (sym e) refl refl k
 settled-shown state.GroupErrorStop g e k = same-shown g _ (sym e) refl refl k
 settled-shown state.GroupHoming g e k = same-shown g _ (sym e) refl refl k
 
-waits-moving : (s : GroupState) (w : Wanted) (ws : List Wanted) → (w ∷ ws ≡ []) ⊎ (s ≡ state.GroupMoving) → s ≡ state.GroupMoving
-waits-moving s w ws (inl e) = absurd (cc)
-waits-moving s w ws (inr e) = e
-
 taken-shown : (limits : List Limits) (members : GroupLook) (s : List ℤ) (ws : List Wanted) (f : Finish) (c : Core) → AreWaiting c.group.axes limits ws →
     (ws ≡ []) ⊎ (c.group.state ≡ state.GroupMoving) → IsShown c.group →
     IsShown (taken_over members s ws (record c { group = record c.group { active = None }; notes = c.notes ++ active_note f c.group.active })).group
 taken-shown limits members s [] f c a q k = settled-shown c.group.state c.group refl k
 taken-shown limits members s (w ∷ ws) f c a q k =
-    let moving = waits-moving c.group.state w ws q in
+    let moving = waits-in c.group.state w ws q in
     let P : BlockKind → Type 0 = λ l. IsShown (record c.group { state = next_of (event_of l); active = Some w; hold = hold_by l w.owner }) in
     subst P (sym a.0.line)
     (clear-shown (record c.group { state = state.GroupMoving; active = Some w; hold = None }) (record { sound = refl; free = refl }) (k.clear (ap is_error_stop moving)) refl)

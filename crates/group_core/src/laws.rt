@@ -1,6 +1,6 @@
 // Laws of a group: each is the contract of a function that does nothing.
 
-ghost use Rattle.std.specs.Prelude.{◌≡◌, ◌⊎◌, ◌+◌, ◌<◌, ◌≤◌, nat_eq, length, ℕ, ℤ, pos, Bool, true, false, Some, List};
+ghost use Rattle.std.specs.Prelude.{◌≡◌, ◌⊎◌, ◌+◌, ◌<◌, ◌≤◌, nat_eq, length, ℕ, ℤ, pos, Bool, true, false, Some, None, List};
 ghost use Rattle.std.specs.Ordering.{int_eq};
 ghost use Rattle.buffer_modes.specs.Owners.{IsSame, is_owner, told};
 ghost use Rattle.command_pool.specs.declared.wanted.Wanted.{Wanted};
@@ -49,7 +49,7 @@ pub fn groups_stay_kept()
 /// stopped, and the place that a cycle gives it is a safe step after its setpoints; where the cycle
 /// ends the path, that place is its setpoint. After the cycle it stands on the path that goes on, or on
 /// the next one, which begins there; in a call a path begins only where nothing moves and the axes
-/// stand.
+/// stand, and is left only where the axis rests; in a cycle without a path none begins.
 pub fn members_keep_their_limits()
     ensures safe { (members : GroupLook) (c : Core) (p : OnPath) (axis : ℕ) (before now : ℤ) → IsLook c.group members → IsCoreKept (limits_in members) c →
         c.path ≡ Some p → axis < c.group.axes → StandsOn p axis before now →
@@ -64,7 +64,11 @@ pub fn members_keep_their_limits()
         IsCoreKept (limits_in members) c → axis < c.group.axes → (q : OnPath) → (commanded w jerk members c).path ≡ Some q →
         (c.path ≡ Some q) ⊎ ((is_moving c.path ≡ false)
         × StandsOn q axis (coordinate_of members.setpoints axis) (coordinate_of members.setpoints axis)) }
+    ensures leaves { (members : GroupLook) (axis : ℕ) (w : Wanted) (jerk : ℤ) (c : Core) (p : OnPath) (before now : ℤ) → IsLook c.group members →
+        IsMade c.group.axes w → IsCoreKept (limits_in members) c → c.path ≡ Some p → StandsOn p axis before now →
+        (commanded w jerk members c).path ≡ None → before ≡ now }
     ensures power_off { (c : Core) → (powered_off c).path ≡ c.path }
+    ensures stays_off { (members : GroupLook) (c : Core) → c.path ≡ None → (cycled members c).path ≡ None }
 {
     steps_along_a_path_are_safe::<LinePath>();
     taken_steps_keep();

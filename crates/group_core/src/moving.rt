@@ -194,6 +194,8 @@ pub fn step_along<P: Path>(
     requires motion { IsMotionKept track.old.motion }
     requires active { IfSome group.now.active (λ w. AreNumbers w.kind w) }
     ensures motion { track.new ≡ record track.old { motion = (cycles.advanced group.now track.old.motion).motion } }
+    ensures limits { track.new.motion.limits ≡ track.old.motion.limits }
+    ensures kept { IsMotionKept track.new.motion }
     ensures ending { result ≡ (cycles.advanced group.now track.old.motion).ending }
     ensures places { setpoints.new ≡ places_of (P.count_of track.old.path) (P.place_of track.old.path)
         (cycles.advanced group.now track.old.motion).motion.place setpoints.old }

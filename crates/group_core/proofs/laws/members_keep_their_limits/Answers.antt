@@ -9,7 +9,7 @@ use Rattle.group_core.specs.Members.{StandsOn, TakesSafely}
 use Rattle.group_core.specs.Refusals.{limits_in}
 use Rattle.group_core.specs.Tracks.{place_on}
 use Rattle.group_core.proofs.MemberLaws.{MemberLaws, places-safe}
-use Rattle.group_core.proofs.PathBegins.{off-path, path-begins}
+use Rattle.group_core.proofs.PathBegins.{off-path, path-begins, path-leaves, stays-off}
 use Rattle.group_core.proofs.PathEnds.{ends-at-rest, stands-on}
 use Rattle.group_core.proofs.laws.members_keep_their_limits.Goals as goal
 
@@ -60,3 +60,10 @@ returns-clause-begins c = λ members axis w jerk core look made kept inside q ne
 
 pub returns-clause-power_off : goal.returns-clause-power_off
 returns-clause-power_off c = λ core. off-path core
+
+pub returns-clause-leaves : goal.returns-clause-leaves
+returns-clause-leaves c = λ members axis w jerk core p before now look made kept on stands none.
+    path-leaves members axis w jerk core p before now look made kept on stands none
+
+pub returns-clause-stays_off : goal.returns-clause-stays_off
+returns-clause-stays_off c = λ members core off. stays-off members core off
