@@ -18,7 +18,7 @@ pub record MayHalt (members : GroupLook) (w : Wanted) (g : Group) : Type 0 where
   pub begin : IsFrom g.state (event_of w.kind)
   pub line : MayBeginLine members members.setpoints members.setpoints
 
--- a line may join the others: there is a place for it, and it may become active in the state, where the axes stand. BufferMode
+-- a line may join the others: there is a place for it, and it may begin where the axes stand
 pub record MayJoin (members : GroupLook) (w : Wanted) (c : Core) : Type 0 where
   pub begin : IsFrom c.group.state (event_of w.kind)
   pub line : MayBeginLine members members.setpoints w.targets

@@ -1,4 +1,4 @@
--- What a command on a group, a Power off of a member and a detachment make of the group (PLCopen Motion Control Part 4).
+-- What commands, a Power off of a member and a detachment make of a group (PLCopen Part 4).
 use Rattle.std.specs.Prelude.{ℕ, Bool, true, false, not, ◌&&◌, if◌then◌else◌, ℤ, Option, Some, None, Result, Ok, Err, List, [], ◌∷◌, ◌++◌, length, map}
 use Rattle.buffer_modes.specs.Queue.{Commands, admitted, is_aborting, is_active_at_once, noted, end_notes}
 use Rattle.command_pool.specs.Waiting as waiting
@@ -12,9 +12,9 @@ use Rattle.kin_core.specs.declared.limits.Limits.{Limits}
 use Rattle.group_core.specs.Cores.{Core, all_ended, begun, failed, line_begun}
 use Rattle.group_core.specs.Refusals.{Asked, limits_in, number_of, refusal_of}
 use Rattle.group_core.specs.States.{may_fail}
-use Rattle.group_core.specs.Tracks.{OnPath, Way, is_moving}
+use Rattle.group_core.specs.Tracks.{OnPath, is_moving}
 use Rattle.group_core.specs.blocks.Enable.{disabled, enabled}
-use Rattle.group_core.specs.blocks.Halts.{halted_path}
+use Rattle.group_core.specs.blocks.Halts.{halted_path, way_here}
 use Rattle.group_core.specs.blocks.Line.{braking_for}
 use Rattle.group_core.specs.blocks.Reset.{replaced_note, reset_pending}
 use Rattle.group_core.specs.declared.group.Group.{Group}
@@ -38,11 +38,14 @@ queued w c = record c {
 abbrev pub waits_for_rest : Wanted → Option OnPath → Bool
 waits_for_rest w p = is_aborting w.mode && is_moving p
 
--- a line that aborts a path that moves: the others are ended, the path brakes, and the line waits alone. This project's profile
+-- a line aborts a path that moves: that brakes, and the line waits alone. This project's profile
 abbrev pub braked_for : Wanted → Core → Core
 braked_for w c =
     let ended = all_ended finish.Aborted c in
-    record ended { group = record ended.group { active = braking_for c.group.active }; waiting = w ∷ [] }
+    record ended {
+      group = record ended.group { active = braking_for c.group.active };
+      waiting = w ∷ [];
+    }
 
 -- a line joins the others, and may be active at once. MC_MoveLinearAbsolute, BufferMode
 abbrev pub line_joined : GroupLook → Wanted → Core → Core
@@ -62,14 +65,21 @@ halted members w c =
     let ended = all_ended finish.Aborted c in
     record ended {
       group = begun w ended.group;
-      path = halted_path (record { count = members.count; starts = members.setpoints; targets = members.setpoints }) (limits_in members) c.path;
+      path = halted_path (way_here members.count members.setpoints) (limits_in members) c.path;
     }
+
+-- a GroupReset is pending, in the place of another one. MC_GroupReset
+abbrev pub awaited : Wanted → Core → Core
+awaited w c = record c {
+  group = reset_pending w c.group;
+  notes = c.notes ++ replaced_note c.group.reset;
+}
 
 -- a command that is not refused
 abbrev pub admitted_by : BlockKind → GroupLook → Wanted → Core → Core
 admitted_by kind.GroupEnable members w c = record c { group = enabled c.group }
 admitted_by kind.GroupDisable members w c = record c { group = disabled c.group; path = None }
-admitted_by kind.GroupReset members w c = record c { group = reset_pending w c.group; notes = c.notes ++ replaced_note c.group.reset }
+admitted_by kind.GroupReset members w c = awaited w c
 admitted_by kind.GroupStop members w c = halted members w c
 admitted_by kind.GroupHalt members w c = halted members w c
 admitted_by kind.MoveLinearAbsolute members w c = line_joined members w c
@@ -109,7 +119,7 @@ answer_by (Some reason) w c = Err (record { number = number_of reason })
 unfoldable pub answer_of : Wanted → ℤ → GroupLook → Core → Result Bool Refusal
 answer_of w jerk members c = answer_by (refusal_of (asked_in c w jerk members)) w c
 
--- what a Power with Enable false on a member makes of the group: error 102 where it may have one. MC_Power
+-- a Power with Enable false on a member: the group has error 102 where it may have one. MC_Power
 unfoldable pub powered_off : Core → Core
 powered_off c = if may_fail c.group.state then failed 102 c else c
 
@@ -123,8 +133,15 @@ reset_without owner None = None
 reset_without owner (Some p) = Some (record { owner = without owner p.owner })
 
 unfoldable pub group_without : ℕ → Group → Group
-group_without owner g = record g { active = active_without owner g.active; reset = reset_without owner g.reset; hold = without owner g.hold }
+group_without owner g = record g {
+  active = active_without owner g.active;
+  reset = reset_without owner g.reset;
+  hold = without owner g.hold;
+}
 
 -- a group whose commands this instance has no longer
 abbrev pub disowned : ℕ → Core → Core
-disowned owner c = record c { group = group_without owner c.group; waiting = map (waiting.detached owner) c.waiting }
+disowned owner c = record c {
+  group = group_without owner c.group;
+  waiting = map (waiting.detached owner) c.waiting;
+}

@@ -1,4 +1,4 @@
--- How a group changes its state: by rows of the diagram (PLCopen Motion Control Part 4, the state diagram).
+-- How a group changes its state: by rows of the diagram (PLCopen Motion Control Part 4).
 use Rattle.std.specs.Prelude.{◌≡◌, ◌⊎◌}
 use Rattle.group_state.specs.Diagram.{IsFrom, next_of}
 use Rattle.group_state.specs.declared.diagram.GroupEvent.{GroupEvent}

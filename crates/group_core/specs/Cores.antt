@@ -1,4 +1,5 @@
--- A group on its path with the commands that wait behind its active one, and how these become active and end (PLCopen Motion Control Part 4; BufferMode of Part 1).
+-- A group with the commands that wait behind its active one, and how these become active and end
+-- (PLCopen Motion Control Part 4; BufferMode of Part 1).
 use Rattle.std.specs.Prelude.{ℕ, ℤ, Option, Some, None, is_some, List, [], ◌∷◌, ◌++◌}
 use Rattle.buffer_modes.specs.Queue.{active_note, end_notes}
 use Rattle.command_pool.specs.Waiting.{queue_of}
@@ -19,7 +20,7 @@ use Rattle.group_core.specs.blocks.Line.{way_to}
 use Rattle.group_core.specs.declared.group.Group.{Group}
 use Rattle.group_core.specs.declared.look.GroupLook.{GroupLook}
 
--- a group on its path, the commands that wait behind its active one, and whose commands ended so far and how
+-- a group on its path, the commands that wait, and whose commands ended so far and how
 pub record Core : Type 0 where
   pub group : Group
   pub path : Option OnPath
@@ -28,7 +29,8 @@ pub record Core : Type 0 where
 
 -- a group on a path, with the commands that wait in its list of the pool
 abbrev pub core_in : Group → Option OnPath → List (List Wanted) → ℕ → List Note → Core
-core_in g p lists list notes = record { group = g; path = p; waiting = queue_of lists list; notes = notes }
+core_in g p lists list notes =
+    record { group = g; path = p; waiting = queue_of lists list; notes = notes }
 
 -- the active command ends so, and those that wait are aborted
 abbrev pub all_ended : Finish → Core → Core
@@ -40,13 +42,19 @@ all_ended f c = record c {
 
 -- a command becomes active
 abbrev pub begun : Wanted → Group → Group
-begun w g = record g { state = next_of (event_of w.kind); active = Some w; hold = hold_by w.kind w.owner }
+begun w g = record g {
+  state = next_of (event_of w.kind);
+  active = Some w;
+  hold = hold_by w.kind w.owner;
+}
 
--- a member has an error, or its Power is called with Enable false: the group is in GroupErrorStop, its commands are ended, and it stays on its path
+-- a group with an error: it is in GroupErrorStop, its commands are ended, it stays on its path
 unfoldable pub failed : ℕ → Core → Core
 failed n c =
     let ended = all_ended (finish.Error n) c in
-    record ended { group = record ended.group { state = next_of event.MemberError; error = n; hold = None } }
+    record ended {
+      group = record ended.group { state = next_of event.MemberError; error = n; hold = None };
+    }
 
 -- a line begins where the axes stand
 abbrev pub line_begun : GroupLook → List ℤ → Wanted → Core → Core
@@ -67,7 +75,10 @@ path_settled s p = p
 
 -- the group settles where no command waits
 abbrev pub settled_on : Core → Core
-settled_on c = record c { group = record c.group { state = settled c.group.state }; path = path_settled c.group.state c.path }
+settled_on c = record c {
+  group = record c.group { state = settled c.group.state };
+  path = path_settled c.group.state c.path;
+}
 
 -- the first command that waits takes over, where the axes stand; without one the group settles
 abbrev pub taken_over : GroupLook → List ℤ → List Wanted → Core → Core

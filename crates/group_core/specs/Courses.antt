@@ -30,22 +30,26 @@ course_by k w = None
 abbrev pub course_of : Wanted → Option Course
 course_of w = course_by w.kind w
 
--- how many cycles a course takes at most, from where the group is on its path. This project's profile
+-- how many cycles a course takes at most, from a place on the path. This project's profile
 abbrev pub bound_of : Course → Motion → ℕ
-bound_of (along rates) m = cycles_bound_of (m.limits.hi -ℤ m.place) (m.place -ℤ m.previous) (cut m.limits rates)
-bound_of (slowing d) m = unsigned_abs (m.place -ℤ m.previous) / unsigned_abs (int_min d m.limits.dmax) + 1
+bound_of (along rates) m =
+    cycles_bound_of (m.limits.hi -ℤ m.place) (m.place -ℤ m.previous) (cut m.limits rates)
+bound_of (slowing d) m =
+    unsigned_abs (m.place -ℤ m.previous) / unsigned_abs (int_min d m.limits.dmax) + 1
 
 -- a course comes to its end within n cycles
 abbrev pub RunsWithin : ℕ → Course → Motion → Type 0
-RunsWithin n (along rates) m = IsDoneWithin n m.limits (cut m.limits rates) m.limits.hi m.previous m.place
-RunsWithin n (slowing d) m = IsAtRestWithin n m.limits (int_min d m.limits.dmax) m.previous m.place
+RunsWithin n (along rates) m =
+    IsDoneWithin n m.limits (cut m.limits rates) m.limits.hi m.previous m.place
+RunsWithin n (slowing d) m =
+    IsAtRestWithin n m.limits (int_min d m.limits.dmax) m.previous m.place
 
 -- the group is at the end of a course: at rest, and at the end of the path if it leads there
 abbrev pub IsAtEnd : Course → Motion → Type 0
 IsAtEnd (along rates) m = (m.place ≡ m.limits.hi) × (m.previous ≡ m.limits.hi)
 IsAtEnd (slowing d) m = m.place ≡ m.previous
 
--- what an end says of where the group is: Done, that it is at the end of its course; of a command that is replaced or faulted, nothing
+-- what an end says: Done, that the group is at the end of the course; replaced or faulted, nothing
 abbrev pub IsEnd : Finish → Course → Option OnPath → Type 0
 IsEnd finish.Done course None = ⊥
 IsEnd finish.Done course (Some p) = IsAtEnd course p.motion
@@ -67,12 +71,12 @@ pub record GoesOn (n cycles : ℕ) (course : Course) (c : Core) : Type 0 where
   pub sum : cycles + left ≡ n
   pub under_way : IsUnderWay left course c
 
--- after an event of so many cycles, in which the group took this path, the command ended so or goes on
+-- after so many cycles, in which the group took this path, the command ended so or goes on
 abbrev pub Carried : ℕ → ℕ → Course → Option Finish → Option OnPath → Core → Type 0
 Carried n cycles course (Some f) p c = (cycles ≤ n) × IsEnd f course p
 Carried n cycles course None p c = GoesOn n cycles course c
 
--- what a cycle says of the active command: the path takes this step, and the command is done exactly where this holds
+-- in a cycle the path takes this step, and the command is done exactly where this holds
 pub record Leads (step : ℤ) (done : Bool) (m : Motion) (f : Fate) (p : Option OnPath) : Type 0 where
   pub on : OnPath
   pub path : p ≡ Some on

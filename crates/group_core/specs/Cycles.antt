@@ -1,4 +1,4 @@
--- The order within a cycle of a group (PLCopen Motion Control Part 4; the order is this project's profile).
+-- The order within a cycle of a group (PLCopen Part 4; the order is this project's profile).
 use Rattle.std.specs.Prelude.{ℕ, Bool, true, false, not, ◌&&◌, nat_eq, if◌then◌else◌, ℤ, pos, Option, Some, None, is_some, List, [], ◌++◌}
 use Rattle.command_pool.specs.declared.ending.Finish.{Finish}
 use Rattle.command_pool.specs.declared.wanted.Wanted.{Wanted}
@@ -31,13 +31,17 @@ pub record Advance : Type 0 where
 
 -- the step of the active command; without one the path stands
 abbrev pub advanced_with : Option Wanted → Motion → Advance
-advanced_with None m = record { motion = moved_by (taken_step_of m.limits m.previous m.place (pos 0)) m; ending = None }
-advanced_with (Some w) m = let step = step_by w.kind w m in record { motion = moved_by step m; ending = ending_by w.kind m step }
+advanced_with None m =
+    record { motion = moved_by (taken_step_of m.limits m.previous m.place (pos 0)) m; ending = None }
+advanced_with (Some w) m =
+    let step = step_by w.kind w m in
+    record { motion = moved_by step m; ending = ending_by w.kind m step }
 
 -- the step of a cycle; in GroupErrorStop the path brakes by its dmax
 unfoldable pub advanced : Group → Motion → Advance
 advanced g m =
-    if is_error_stop g.state then record { motion = moved_by (braking_step_of m.limits.dmax m) m; ending = None }
+    if is_error_stop g.state
+    then record { motion = moved_by (braking_step_of m.limits.dmax m) m; ending = None }
     else advanced_with g.active m
 
 -- then the path takes its step
@@ -54,17 +58,22 @@ ending_of g (Some p) = (advanced g p.motion).ending
 abbrev pub moved : GroupLook → Core → Core
 moved members c =
     let path = path_after c.group c.path in
-    ended_by members (places_at path members.setpoints) (ending_of c.group c.path) (record c { path = path })
+    ended_by members (places_at path members.setpoints) (ending_of c.group c.path)
+    (record c { path = path })
 
 -- then a group whose GroupStop is done may leave GroupStopping, and its path
 abbrev pub group_released : Bool → Group → Option OnPath → Group
-group_released held g p = if leaves_stopping held g p then record g { state = next_of StopReleased; hold = None } else g
+group_released held g p =
+    if leaves_stopping held g p then record g { state = next_of StopReleased; hold = None } else g
 
 abbrev pub path_released : Bool → Group → Option OnPath → Option OnPath
 path_released held g p = if leaves_stopping held g p then None else p
 
 abbrev pub released : Bool → Core → Core
-released held c = record c { group = group_released held c.group c.path; path = path_released held c.group c.path }
+released held c = record c {
+  group = group_released held c.group c.path;
+  path = path_released held c.group c.path;
+}
 
 -- and in GroupErrorStop a path at rest is over
 abbrev pub path_over : Group → Option OnPath → Option OnPath
@@ -75,11 +84,13 @@ over_at_rest c = record c { path = path_over c.group c.path }
 
 -- a group after a cycle
 unfoldable pub cycled : GroupLook → Core → Core
-cycled members c = over_at_rest (released members.stop_held (moved members (answered members.error c)))
+cycled members c =
+    over_at_rest (released members.stop_held (moved members (answered members.error c)))
 
 -- the path on which the axes take their places in a cycle
 abbrev pub path_taken : GroupLook → Core → Option OnPath
-path_taken members c = let stopped = answered members.error c in path_after stopped.group stopped.path
+path_taken members c =
+    let stopped = answered members.error c in path_after stopped.group stopped.path
 
 -- what a cycle asks of the axes: their places, and to leave the path where there is none any more
 unfoldable pub step_of : GroupLook → Core → GroupStep
@@ -104,7 +115,14 @@ row_of g = record { state = g.state; error = g.error }
 
 -- a group of so many axes at opening
 abbrev pub opened : ℕ → Group
-opened axes = record { axes = axes; state = state.GroupDisabled; error = 0; active = None; reset = None; hold = None }
+opened axes = record {
+  axes = axes;
+  state = state.GroupDisabled;
+  error = 0;
+  active = None;
+  reset = None;
+  hold = None;
+}
 
 abbrev pub opening : ℕ → Core
 opening axes = record { group = opened axes; path = None; waiting = []; notes = [] }

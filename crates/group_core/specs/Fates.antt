@@ -1,4 +1,5 @@
--- What becomes of the active command of a group in a call and in a cycle (PLCopen Motion Control Part 4; BufferMode of Part 1).
+-- What becomes of the active command of a group in a call and in a cycle (PLCopen Motion Control
+-- Part 4; BufferMode of Part 1).
 use Rattle.std.specs.Prelude.{◌≡◌, ◌≢◌, Bool, true, false, not, ◌&&◌, nat_eq, if◌then◌else◌, ℤ, Option, Some, None, List, slice_get}
 use Rattle.buffer_modes.specs.Owners.{IsSame}
 use Rattle.buffer_modes.specs.Queue.{is_active_at_once}
@@ -33,8 +34,11 @@ replaced f (Some w) next = record { ends = Some f; begins = next }
 -- a line brakes a path that moves, is active at once, or waits
 abbrev pub line_fate : Wanted → Core → Fate
 line_fate w c =
-    if waits_for_rest w c.path then replaced finish.Aborted c.group.active (braking_for c.group.active)
-    else (if is_active_at_once (queue_in c) w then replaced finish.Aborted c.group.active (Some w) else goes_on)
+    if waits_for_rest w c.path
+    then replaced finish.Aborted c.group.active (braking_for c.group.active)
+    else (if is_active_at_once (queue_in c) w
+    then replaced finish.Aborted c.group.active (Some w)
+    else goes_on)
 
 -- a command that is not refused
 abbrev pub admitted_fate : BlockKind → Wanted → Core → Fate
@@ -53,7 +57,8 @@ command_fate w jerk members c = asked_fate (refusal_of (asked_in c w jerk member
 
 -- a Power with Enable false on a member. MC_Power
 unfoldable pub power_off_fate : Core → Fate
-power_off_fate c = if may_fail c.group.state then replaced (finish.Error 102) c.group.active None else goes_on
+power_off_fate c =
+    if may_fail c.group.state then replaced (finish.Error 102) c.group.active None else goes_on
 
 -- the active command goes on, or ends so and the first that waits begins
 abbrev pub ending_fate : Option Finish → List Wanted → Fate

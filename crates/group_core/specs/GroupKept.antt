@@ -32,7 +32,8 @@ pub record IsWithin (limits : Limits) (place : ℤ) : Type 0 where
 
 -- each of so many axes is within its limits, and those behind are at 0
 pub record AreTargets (axes : ℕ) (limits : List Limits) (targets : List ℤ) : Type 0 where
-  pub within : (axis : ℕ) → axis < axes → IsWithin (limits_at limits axis) (coordinate_of targets axis)
+  pub within : (axis : ℕ) → axis < axes →
+      IsWithin (limits_at limits axis) (coordinate_of targets axis)
   pub others : (axis : ℕ) → axes ≤ axis → coordinate_of targets axis ≡ pos 0
 
 -- the limits of the axes of a group are in their ranges. This project's profile
@@ -77,7 +78,7 @@ pub record IsStopped (p : Option OnPath) (active : Option Wanted) : Type 0 where
   pub on : is_some p ≡ true
   pub rests : active ≡ None → is_moving p ≡ false
 
--- what each state says of the path and of the active command. PLCopen Motion Control Part 4, the state diagram; no step leads to GroupHoming
+-- what each state says of the path and the active command; no step leads to GroupHoming
 abbrev pub IsInState : GroupState → Option OnPath → Option Wanted → Type 0
 IsInState GroupDisabled p active = IsIdle p active
 IsInState GroupStandby p active = IsIdle p active
@@ -91,13 +92,14 @@ pub record IsPathOf (axes : ℕ) (limits : List Limits) (p : OnPath) : Type 0 wh
   pub count : p.way.count ≡ axes
   pub starts : AreInRange p.way.starts
   pub targets : AreInRange p.way.targets
-  pub within : (axis : ℕ) → axis < axes → AreWithin (limits_at limits axis) (coordinate_of p.way.starts axis) (coordinate_of p.way.targets axis)
+  pub within : (axis : ℕ) → axis < axes →
+      AreWithin (limits_at limits axis) (coordinate_of p.way.starts axis) (coordinate_of p.way.targets axis)
   pub limits_are : p.motion.limits ≡ limits_on p.way limits
   pub from : pos 0 ≤ℤ p.motion.previous
   pub to : p.motion.previous ≤ℤ p.motion.limits.hi
   pub kept : IsKept p.motion.limits p.motion.previous p.motion.place
 
--- a command that waits: a line, with rates in their ranges, to targets within the limits. BufferMode
+-- a command that waits: a line, with rates in their ranges, to targets within the limits
 pub record IsWaiting (axes : ℕ) (limits : List Limits) (w : Wanted) : Type 0 where
   pub line : w.kind ≡ kind.MoveLinearAbsolute
   pub rates : AreRates w.rates
@@ -109,8 +111,9 @@ abbrev pub AreWaiting : ℕ → List Limits → List Wanted → Type 0
 AreWaiting axes limits [] = Unit {0}
 AreWaiting axes limits (w ∷ ws) = IsWaiting axes limits w × AreWaiting axes limits ws
 
--- what always holds of a group on its path, whose axes have these limits, and of the commands that wait for it. This project's profile
-pub record IsGroupKept (limits : List Limits) (g : Group) (p : Option OnPath) (ws : List Wanted) : Type 0 where
+-- what always holds of a group whose axes have these limits, of its path and of its queue
+pub record IsGroupKept
+    (limits : List Limits) (g : Group) (p : Option OnPath) (ws : List Wanted) : Type 0 where
   pub axes : IsCount g.axes
   pub limits_are : AreGroupLimits g.axes limits
   pub state : IsInState g.state p g.active
@@ -128,13 +131,13 @@ is_within GroupDisabled = false
 is_within GroupErrorStop = false
 is_within s = true
 
--- what is told of the axes: they are as many as the group has, and they stand within their limits outside GroupDisabled and GroupErrorStop. This project's profile
+-- what is told of the axes: as many as the group has, standing within their limits where they must
 pub record IsLook (g : Group) (members : GroupLook) : Type 0 where
   pub count : members.count ≡ g.axes
   pub six : length members.setpoints ≡ 6
   pub setpoints : is_within g.state ≡ true → AreTargets g.axes (limits_in members) members.setpoints
 
--- a command is made of a call's inputs: its kind is a group's, its mode is Aborting where its kind takes none, and its positions behind those of the axes are 0
+-- a command is made of a call's inputs: its kind is a group's, what its kind doesn't take is unset
 pub record IsMade (axes : ℕ) (w : Wanted) : Type 0 where
   pub kind : acts_on_group w.kind ≡ true
   pub mode : may_wait w.kind ≡ false → w.mode ≡ Aborting

@@ -32,7 +32,7 @@ may_wait kind.MoveLinearAbsolute = true
 may_wait kind.MoveCircularAbsolute = true
 may_wait k = false
 
--- whether a kind may come in a state, with a path that moves or not: the states from which its event leads in the diagram, GroupErrorStop only where the path doesn't move. From where GroupDisable may come is this project's profile
+-- whether a kind may come in a state, with a path that moves or not: its event leads from there
 abbrev pub may_come : BlockKind → GroupState → Bool → Bool
 may_come kind.GroupEnable state.GroupDisabled moves = true
 may_come kind.GroupDisable state.GroupDisabled moves = true

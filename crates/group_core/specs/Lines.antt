@@ -10,7 +10,7 @@ use Rattle.group_core.specs.Kinds.{event_of}
 use Rattle.group_core.specs.Refusals.{limits_in}
 use Rattle.group_core.specs.declared.look.GroupLook.{GroupLook}
 
--- a line of these axes may begin: their number, their limits, its starts and its targets are in their ranges. This project's profile
+-- a line of these axes may begin: their number, limits, starts and targets are in their ranges
 pub record MayBeginLine (members : GroupLook) (starts targets : List ℤ) : Type 0 where
   pub count : IsCount members.count
   pub limits : AreAxesLimits members.count (limits_in members)
@@ -20,4 +20,5 @@ pub record MayBeginLine (members : GroupLook) (starts targets : List ℤ) : Type
 -- the first command that waits may take over, where the axes stand
 abbrev pub MayTakeOver : GroupLook → List ℤ → GroupState → List Wanted → Type 0
 MayTakeOver members starts s [] = Unit {0}
-MayTakeOver members starts s (w ∷ ws) = IsFrom s (event_of w.kind) × MayBeginLine members starts w.targets
+MayTakeOver members starts s (w ∷ ws) =
+    IsFrom s (event_of w.kind) × MayBeginLine members starts w.targets

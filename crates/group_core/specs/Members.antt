@@ -11,7 +11,7 @@ pub record StandsOn (p : OnPath) (axis : ℕ) (before now : ℤ) : Type 0 where
   pub before_is : before ≡ place_on p.way axis p.motion.previous
   pub now_is : now ≡ place_on p.way axis p.motion.place
 
--- an axis of the path can be stopped within its own limits, and the place that it is given next is a safe step. This project's profile
+-- an axis can be stopped within its own limits, and the place that it is given is a safe step
 pub record TakesSafely (limits : List Limits) (axis : ℕ) (before now place : ℤ) : Type 0 where
   pub kept : IsKept (limits_at limits axis) before now
   pub safe : IsSafe (limits_at limits axis) before now place

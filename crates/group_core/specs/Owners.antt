@@ -1,4 +1,5 @@
--- Which instance has a command of a group, how often, and how often it is told of an end (PLCopen Motion Control Part 1, general rules).
+-- Which instance has a command of a group, how often, and how often it is told of an end (PLCopen
+-- Motion Control Part 1, general rules).
 use Rattle.std.specs.Prelude.{◌≡◌, ℕ, ◌+◌, Option, Some, None, List}
 use Rattle.std.specs.List.{Contains}
 use Rattle.buffer_modes.specs.Owners.{is_owner, owner_by, waits_of}
@@ -12,20 +13,23 @@ use Rattle.group_core.specs.Fates.{Fate}
 use Rattle.group_core.specs.declared.group.PendingReset.{PendingReset}
 use Rattle.group_core.specs.declared.reason.Reason.{Reason}
 
--- among some notes one tells the instance that has the active command how that ended, where this fate ends it
+-- some notes tell the owner of the active command how that ended, where this fate ends it
 abbrev pub TellsOwner : Fate → Option Wanted → List Note → Type 0
-TellsOwner f active notes = (owner : ℕ) (g : Finish) → f.ends ≡ Some g → owner_by active ≡ Some owner → Contains notes (record { owner = owner; finish = g })
+TellsOwner f active notes = (owner : ℕ) (g : Finish) → f.ends ≡ Some g →
+    owner_by active ≡ Some owner → Contains notes (record { owner = owner; finish = g })
 
 -- the owner of a pending GroupReset
 abbrev pub reset_owner : Option PendingReset → Option ℕ
 reset_owner None = None
 reset_owner (Some p) = p.owner
 
--- how many commands of the group this instance has: the active one, those that wait and a pending GroupReset
+-- how many commands of the group this instance has, a pending GroupReset among them
 abbrev pub owns : ℕ → Core → ℕ
-owns k c = is_owner k (owner_by c.group.active) + waits_of k c.waiting + is_owner k (reset_owner c.group.reset)
+owns k c =
+    is_owner k (owner_by c.group.active) + waits_of k c.waiting
+    + is_owner k (reset_owner c.group.reset)
 
--- the owner that a command brings which is not refused; a GroupEnable and a GroupDisable are done at once
+-- the owner that a command brings; a GroupEnable and a GroupDisable are done at once
 abbrev pub brought_by : BlockKind → Wanted → Option ℕ
 brought_by kind.GroupReset w = w.owner
 brought_by kind.GroupStop w = w.owner

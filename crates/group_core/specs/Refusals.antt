@@ -19,7 +19,8 @@ use Rattle.group_core.specs.declared.look.GroupLook.{GroupLook}
 use Rattle.group_core.specs.declared.reason.Reason.{Reason}
 use Rattle.group_core.specs.declared.reason.Reason.TheVariants.{NotPowered, InErrorStop, InStopping, InHoming, BadVelocity, BadAcceleration, BadDeceleration, JerkRefused, TargetOutside, QueueFull, NotAtRest, GroupStateRefuses, BlendRefused, CircularRefused}
 
--- what a command is asked of: the group, whether its path moves, how many commands wait behind its active one, the command and its Jerk, and the axes
+-- what a command is asked of: the group, whether its path moves, and how many commands wait; the
+-- command and its Jerk; and the axes
 pub record Asked : Type 0 where
   pub group : Group
   pub moves : Bool
@@ -60,7 +61,8 @@ is_no_rate rate = is_outside (pos 1) rate (pos MOST_STEP)
 unfoldable pub any_outside : ℕ → List Limits → List ℤ → Bool
 any_outside zero limits targets = false
 any_outside (suc n) limits targets =
-    any_outside n limits targets || is_outside (limits_at limits n).lo (coordinate_of targets n) (limits_at limits n).hi
+    any_outside n limits targets
+    || is_outside (limits_at limits n).lo (coordinate_of targets n) (limits_at limits n).hi
 
 -- whether a mode is a blending one. PLCopen Motion Control Part 1, BufferMode
 abbrev pub is_blending : BufferMode → Bool

@@ -1,4 +1,4 @@
--- In which state a group and its axes are (PLCopen Motion Control Part 4 and Part 1, the state diagrams).
+-- In which state a group and its axes are (PLCopen Motion Control Part 4 and Part 1).
 use Rattle.std.specs.Prelude.{Bool, true, false, ◌||◌, List, [], ◌∷◌}
 use Rattle.axis_state.specs.declared.state.AxisState.{AxisState}
 use Rattle.axis_state.specs.declared.state.AxisState.TheVariants as axis

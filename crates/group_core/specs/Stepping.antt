@@ -10,7 +10,7 @@ pub record IsStepping (p : OnPath) : Type 0 where
   pub length : p.motion.limits.hi ≡ pos (length_of p.way)
   pub motion : IsMotionKept p.motion
 
--- a group may take a step along its path: that can be stopped, and the rates of the active command are in their ranges
+-- a group may take a step: its path can be stopped, and its command's rates are in their ranges
 pub record MayStep (g : Group) (p : Option OnPath) : Type 0 where
   pub path : IfSome p IsStepping
   pub active : IfSome g.active (λ w. AreNumbers w.kind w)

@@ -1,4 +1,4 @@
--- The path of a group, and how the group moves along it: an axis of its own, from place 0 to the path's length.
+-- The path of a group, and how the group moves along it: an axis of its own, from place 0 on.
 use Rattle.std.specs.Prelude.{◌≡◌, ℕ, zero, suc, ◌-◌, Bool, false, not, ℤ, pos, ◌+ℤ◌, ◌-ℤ◌, unsigned_abs, Option, Some, None, List, [], ◌∷◌, slice_set}
 use Rattle.std.specs.Int.{int_min}
 use Rattle.std.specs.Ordering.{int_eq}
@@ -9,7 +9,7 @@ use Rattle.linear_path.specs.Line.{coordinate_of, longest_way_of, path_limits_of
 use Rattle.trapezoid_plan.specs.MoveRun.{halt_taken_of, move_taken_of}
 use Rattle.group_core.specs.declared.group.Motion.{Motion}
 
--- the way of a path: how many axes it has, and where each of six starts and ends; those beyond the count are of no account
+-- the way of a path: how many axes it has, and where each starts and ends
 pub record Way : Type 0 where
   pub count : ℕ
   pub starts : List ℤ
@@ -26,7 +26,9 @@ length_of w = longest_way_of w.count w.starts w.targets
 
 -- where an axis stands on a straight line at a place of it. This project's profile
 abbrev pub place_on : Way → ℕ → ℤ → ℤ
-place_on w axis s = place_between (coordinate_of w.starts axis) (coordinate_of w.targets axis) (length_of w) (unsigned_abs s)
+place_on w axis s =
+    place_between (coordinate_of w.starts axis) (coordinate_of w.targets axis) (length_of w)
+    (unsigned_abs s)
 
 -- the limits of the path along a straight line, from those of its axes. This project's profile
 abbrev pub limits_on : Way → List Limits → Limits
@@ -34,7 +36,10 @@ limits_on w limits = path_limits_of w.count w.starts w.targets limits
 
 -- a group at the start of a straight line, with step 0
 abbrev pub beginning : Way → List Limits → OnPath
-beginning w limits = record { way = w; motion = record { limits = limits_on w limits; previous = pos 0; place = pos 0 } }
+beginning w limits = record {
+  way = w;
+  motion = record { limits = limits_on w limits; previous = pos 0; place = pos 0 };
+}
 
 -- the setpoints of so many axes are their places on a path, the others stay
 unfoldable pub places_of : ℕ → (ℕ → ℤ → ℤ) → ℤ → List ℤ → List ℤ
@@ -66,7 +71,11 @@ is_moving (Some p) = is_running p.motion
 
 -- the rates of a command, cut to the limits of the path
 abbrev pub cut : Limits → Rates → Rates
-cut limits rates = record { v = int_min rates.v limits.vmax; a = int_min rates.a limits.amax; d = int_min rates.d limits.dmax }
+cut limits rates = record {
+  v = int_min rates.v limits.vmax;
+  a = int_min rates.a limits.amax;
+  d = int_min rates.d limits.dmax;
+}
 
 -- the taken step of a line: that of a move to the end of the path, by the cut rates
 abbrev pub line_step_of : Rates → Motion → ℤ

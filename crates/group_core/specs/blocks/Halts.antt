@@ -1,4 +1,4 @@
--- MC_GroupHalt and MC_GroupStop, and the hold of a GroupStop on GroupStopping (PLCopen Motion Control Part 4).
+-- MC_GroupHalt and MC_GroupStop, and the hold on GroupStopping (PLCopen Motion Control Part 4).
 use Rattle.std.specs.Prelude.{ℕ, Bool, true, false, ◌&&◌, not, if◌then◌else◌, ℤ, pos, Option, Some, None, is_some, List, [], ◌∷◌}
 use Rattle.std.specs.Ordering.{int_eq}
 use Rattle.command_pool.specs.declared.ending.Finish.{Finish}
@@ -21,7 +21,11 @@ halt_tests = BadDeceleration ∷ JerkRefused ∷ GroupStateRefuses ∷ []
 abbrev pub halt_ending : ℤ → Option Finish
 halt_ending step = if int_eq step (pos 0) then Some finish.Done else None
 
--- both brake the path that moves; where none does, they are on one of length 0, where the axes stand. This project's profile
+-- a way of length 0, where the axes stand
+abbrev pub way_here : ℕ → List ℤ → Way
+way_here count setpoints = record { count = count; starts = setpoints; targets = setpoints }
+
+-- both brake the path that moves; where none does, one of length 0. This project's profile
 abbrev pub halted_path : Way → List Limits → Option OnPath → Option OnPath
 halted_path here limits p = if is_moving p then p else Some (beginning here limits)
 
@@ -35,6 +39,7 @@ abbrev pub is_released : Option ℕ → Bool → Bool
 is_released None held = true
 is_released (Some owner) held = not held
 
--- whether the group leaves GroupStopping: its GroupStop is done, the path is at rest, and nobody holds it
+-- whether the group leaves GroupStopping: its GroupStop is done, nothing moves, nobody holds it
 abbrev pub leaves_stopping : Bool → Group → Option OnPath → Bool
-leaves_stopping held g p = is_stopping g.state && not (is_some g.active) && not (is_moving p) && is_released g.hold held
+leaves_stopping held g p =
+    is_stopping g.state && not (is_some g.active) && not (is_moving p) && is_released g.hold held

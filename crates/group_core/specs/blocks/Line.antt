@@ -1,4 +1,4 @@
--- MC_MoveLinearAbsolute, and MC_MoveCircularAbsolute, which is refused (PLCopen Motion Control Part 4).
+-- MC_MoveLinearAbsolute, and MC_MoveCircularAbsolute, which is refused (PLCopen Part 4).
 use Rattle.std.specs.Prelude.{ℕ, Bool, true, false, ◌&&◌, if◌then◌else◌, ℤ, pos, Option, Some, None, List, [], ◌∷◌, ◌++◌}
 use Rattle.std.specs.Ordering.{int_eq}
 use Rattle.command_pool.specs.declared.ending.Finish.{Finish}
@@ -12,7 +12,9 @@ use Rattle.group_core.specs.declared.reason.Reason.TheVariants.{BadVelocity, Bad
 
 -- the refusals of both, in their order. This project's profile
 abbrev pub line_tests : List Reason
-line_tests = BadVelocity ∷ BadAcceleration ∷ BadDeceleration ∷ JerkRefused ∷ TargetOutside ∷ QueueFull ∷ GroupStateRefuses ∷ BlendRefused ∷ []
+line_tests =
+    BadVelocity ∷ BadAcceleration ∷ BadDeceleration ∷ JerkRefused ∷ TargetOutside ∷ QueueFull
+    ∷ GroupStateRefuses ∷ BlendRefused ∷ []
 
 abbrev pub circle_tests : List Reason
 circle_tests = line_tests ++ CircularRefused ∷ []
@@ -23,9 +25,10 @@ way_to count setpoints w = record { count = count; starts = setpoints; targets =
 
 -- a line is done where it stands at the end of its path and the step is 0
 abbrev pub line_ending : Motion → ℤ → Option Finish
-line_ending m step = if int_eq m.place m.limits.hi && int_eq step (pos 0) then Some finish.Done else None
+line_ending m step =
+    if int_eq m.place m.limits.hi && int_eq step (pos 0) then Some finish.Done else None
 
--- what brakes a path before an aborting line begins: a halt that nobody has, by the deceleration of the command that was active. This project's profile
+-- what brakes a path before an aborting line: a halt that nobody has, by the Deceleration that was
 abbrev pub braking_for : Option Wanted → Option Wanted
 braking_for None = None
 braking_for (Some w) = Some (record w { kind = kind.GroupHalt; owner = None })

@@ -1,4 +1,4 @@
--- MC_GroupReset: it is pending until a cycle in which it may be done (PLCopen Motion Control Part 4).
+-- MC_GroupReset: it is pending until a cycle in which it may be done (PLCopen Part 4).
 use Rattle.std.specs.Prelude.{Bool, true, false, ◌&&◌, not, if◌then◌else◌, Option, Some, None, is_some, List, []}
 use Rattle.std.specs.List.{list_any}
 use Rattle.axis_state.specs.declared.state.AxisState.{AxisState}
@@ -23,11 +23,11 @@ abbrev pub replaced_note : Option PendingReset → List Note
 replaced_note None = []
 replaced_note (Some p) = told_to p.owner finish.Aborted
 
--- whether a pending GroupReset is done: in GroupErrorStop once the group is on no path, else at once. This project's profile
+-- whether a pending GroupReset is done: in GroupErrorStop once there is no path, else at once
 abbrev pub may_reset : Bool → Group → Bool
 may_reset on_path g = not (is_error_stop g.state && on_path)
 
--- the state after a GroupReset: from GroupErrorStop to GroupStandby where every axis is in Standstill, else to GroupDisabled
+-- the state after a GroupReset: from GroupErrorStop, by whether an axis is not in Standstill
 abbrev pub reset_from : Bool → GroupState → GroupState
 reset_from false state.GroupErrorStop = next_of ResetAllStandstill
 reset_from true state.GroupErrorStop = next_of ResetElse
@@ -35,7 +35,8 @@ reset_from moved s = s
 
 -- the group after a GroupReset, with its axes in these states
 abbrev pub after_reset : List AxisState → Group → Group
-after_reset axes g = record g { state = reset_from (list_any is_moved axes) g.state; error = 0; reset = None }
+after_reset axes g =
+    record g { state = reset_from (list_any is_moved axes) g.state; error = 0; reset = None }
 
 -- the group whose pending GroupReset is done where it may be, and what is told of it
 abbrev pub reset_by : Option PendingReset → List AxisState → Bool → Group → Group

@@ -8,8 +8,8 @@ ghost use Rattle.motion_numbers.specs.declared.TheConstants.{MOST_PLACE};
 
 use crate::group::{Group, Motion, Track};
 use crate::moving::step_along;
-use crate::tests::bench::{AXIS, line_to};
-use crate::{Finish, GroupState, Limits, Path};
+use crate::tests::bench::AXIS;
+use crate::{BlockKind, BufferMode, Finish, Follow, GroupState, Limits, Path, Rates, Wanted};
 use kin_core::standing_is_kept;
 use std::process::Abort;
 
@@ -22,8 +22,9 @@ struct Rail {
 }
 
 impl Path for Rail {
-    ghost use Rattle.std.specs.Prelude.{refl};
-    ghost use Rattle.std.proofs.Common.{arith};
+    ghost use Rattle.std.specs.Prelude.{refl, unsigned_abs, ◌-ℤ◌};
+    ghost use Rattle.std.proofs.Common.{arith, subst};
+    ghost use Rattle.kin_core.specs.Admissible.{IsAdmissible};
     ghost use Rattle.std.proofs.lemmas.Int.{ints, clamps};
     ghost use Rattle.linear_path.specs.Path.{limits_at};
 
@@ -43,17 +44,45 @@ impl Path for Rail {
 
     ghost ends_at_the_target = { λ rail axis inside. refl };
 
-    ghost stays_between = { ? };
+    ghost stays_between = { λ rail axis s inside low high. record {
+      above = Prim.omega (arith, ints, clamps, low, high);
+      below = Prim.omega (arith, ints, clamps, low, high);
+    } };
 
-    ghost limits_in_range = { ? };
+    ghost limits_in_range = { λ rail limits axes. record {
+      lo_in_range = Prim.omega (arith, ints);
+      ordered = rail.from;
+      hi_in_range = Prim.omega (arith, ints, rail.to);
+      vmax_positive = (axes.each 0 (Prim.omega arith)).ranges.vmax_positive;
+      vmax_in_range = (axes.each 0 (Prim.omega arith)).ranges.vmax_in_range;
+      amax_positive = (axes.each 0 (Prim.omega arith)).ranges.amax_positive;
+      amax_within_dmax = (axes.each 0 (Prim.omega arith)).ranges.amax_within_dmax;
+      dmax_in_range = (axes.each 0 (Prim.omega arith)).ranges.dmax_in_range;
+    } };
 
     ghost limits_from = { λ rail limits. refl };
 
     ghost limits_to = { λ rail limits. refl };
 
-    ghost keeps_the_axes_speed = { ? };
+    ghost keeps_the_axes_speed = { λ rail limits axis before now axes inside a b d e slow.
+        subst (λ k. pos (unsigned_abs (now -ℤ before)) ≤ℤ (limits_at limits k).vmax)
+        (let first : 0 ≡ axis = Prim.omega (arith, inside) in first) slow };
 
-    ghost keeps_the_axes_limits = { ? };
+    ghost keeps_the_axes_limits = { λ rail limits axis before now next axes inside within a b d e ok.
+        (let first : 0 ≡ axis = Prim.omega (arith, inside) in
+        let low = within.start_above in
+        let high = within.target_below in
+        let from = ok.above in
+        let to = ok.below in
+        let own : IsAdmissible (record (limits_at limits axis) { lo = pos 0; hi = rail.length }) before now next =
+        subst (λ k. IsAdmissible (record (limits_at limits k) { lo = pos 0; hi = rail.length }) before now next) first ok in
+        record {
+          above = Prim.omega (arith, ints, low, from);
+          below = Prim.omega (arith, ints, high, to);
+          speed = own.speed;
+          falls = own.falls;
+          rises = own.rises;
+        }) };
 
     fn length(&self) -> i64 {
         self.length
@@ -84,7 +113,15 @@ fn any_path_is_gone_along_by_its_steps(rt: HostRuntime) {
         axes: 2,
         state: GroupState::GroupMoving,
         error: 0,
-        active: Some(line_to(1, 20, 0)),
+        active: Some(Wanted {
+            kind: BlockKind::MoveLinearAbsolute,
+            owner: Some(1),
+            target: None,
+            targets: [20, 0, 0, 0, 0, 0],
+            rates: Rates { v: 6, a: 2, d: 2 },
+            mode: BufferMode::Aborting,
+            follow: Follow::None,
+        }),
         reset: None,
         hold: None,
     };
