@@ -1,7 +1,6 @@
 -- What a bench keeps of its group.
 use Rattle.std.specs.Prelude.{◌≡◌, refl, ℕ, suc, Option, List, [], ◌∷◌, length, map}
-use Rattle.std.proofs.Common.{◌∙◌, ap, sym, subst}
-use Rattle.command_pool.specs.Waiting as waiting
+use Rattle.std.proofs.Common.{◌∙◌, ap, sym}
 use Rattle.command_pool.specs.Waiting.{queue_of}
 use Rattle.command_pool.specs.declared.wanted.Wanted.{Wanted}
 use Rattle.kin_core.specs.declared.limits.Limits.{Limits}

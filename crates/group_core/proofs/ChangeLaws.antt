@@ -1,5 +1,5 @@
 -- A group changes its state by rows of the diagram.
-use Rattle.std.specs.Prelude.{◌≡◌, refl, ◌⊎◌, ℕ, Bool, true, false, not, ◌&&◌, ◌||◌, nat_eq, ℤ, Option, Some, None, is_none, is_some, List, [], ◌∷◌, ◌++◌, if◌then◌else◌}
+use Rattle.std.specs.Prelude.{◌≡◌, refl, ◌⊎◌, ℕ, Bool, true, false, not, ◌&&◌, ◌||◌, nat_eq, ℤ, Option, Some, None, is_none, List, [], ◌∷◌, ◌++◌}
 use Rattle.std.proofs.Common.{◌∙◌, sym, ap, subst, inl, inr}
 use Rattle.std.proofs.lemmas.Bool.{and_parts, not-false}
 use Rattle.axis_state.specs.declared.state.AxisState.{AxisState}
@@ -15,15 +15,15 @@ use Rattle.group_state.specs.declared.state.GroupState.{GroupState}
 use Rattle.group_state.specs.declared.state.GroupState.TheVariants as state
 use Rattle.kin_core.specs.declared.limits.Limits.{Limits}
 use Rattle.group_core.specs.Calls.{admitted_by, asked_in, braked_for, commanded, commanded_by, group_without, powered_off, queued, waits_for_rest}
-use Rattle.group_core.specs.Changes.{ByRow, IsNext}
+use Rattle.group_core.specs.Changes.{IsNext}
 use Rattle.group_core.specs.Cores.{Core, ended, ended_by, failed, line_begun, settled, taken_over}
-use Rattle.group_core.specs.Cycles.{answered, cycled, ending_of, group_released, moved, path_after, released, reset_where}
-use Rattle.group_core.specs.GroupKept.{AreWaiting, IsCoreKept, IsMade, IsWaiting}
+use Rattle.group_core.specs.Cycles.{cycled, ending_of, moved, path_after, released, reset_where}
+use Rattle.group_core.specs.GroupKept.{AreWaiting, IsCoreKept, IsMade}
 use Rattle.group_core.specs.Kinds.{event_of, may_come, tests_of}
 use Rattle.group_core.specs.Refusals.{holds, limits_in, refusal_of, states_in}
-use Rattle.group_core.specs.States.{is_error_stop, is_stopping, may_fail}
-use Rattle.group_core.specs.Tracks.{OnPath, is_moving, places_at}
-use Rattle.group_core.specs.blocks.Halts.{is_released, leaves_stopping}
+use Rattle.group_core.specs.States.{is_stopping, may_fail}
+use Rattle.group_core.specs.Tracks.{is_moving, places_at}
+use Rattle.group_core.specs.blocks.Halts.{leaves_stopping}
 use Rattle.group_core.specs.blocks.Reset.{after_reset, may_reset, reset_by, reset_from}
 use Rattle.group_core.specs.declared.group.Group.{Group}
 use Rattle.group_core.specs.declared.group.PendingReset.{PendingReset}

@@ -1,9 +1,9 @@
 -- Commands of a group come to their end in time.
-use Rattle.std.specs.Prelude.{◌≡◌, ◌⊎◌, refl, ℕ, zero, suc, ◌+◌, ◌-◌, ◌/◌, ◌≤◌, Bool, true, false, not, ◌&&◌, ◌||◌, ℤ, pos, ◌≤ℤ◌, ◌+ℤ◌, ◌-ℤ◌, unsigned_abs, Option, Some, None, is_none, is_some, List, [], ◌∷◌, map, if◌then◌else◌}
+use Rattle.std.specs.Prelude.{◌≡◌, refl, ℕ, zero, suc, ◌+◌, ◌/◌, ◌≤◌, Bool, true, false, ◌||◌, ℤ, pos, ◌≤ℤ◌, ◌-ℤ◌, unsigned_abs, Option, Some, None, is_none, is_some, List, if◌then◌else◌}
 use Rattle.std.specs.Int.{int_min}
 use Rattle.std.specs.Ordering.{int_eq}
 use Rattle.std.proofs.Common.{◌∙◌, sym, ap, subst, arith, inl, inr}
-use Rattle.std.proofs.lemmas.Bool.{and_parts, not-false}
+use Rattle.std.proofs.lemmas.Bool.{and_parts}
 use Rattle.std.proofs.lemmas.Int.{ints, clamps}
 use Rattle.buffer_modes.specs.Queue.{is_aborting}
 use Rattle.command_pool.specs.Rates.{AreRates}
@@ -22,23 +22,21 @@ use Rattle.trapezoid_plan.specs.MoveRun.{IsAtRestWithin, IsDoneWithin, IsMoveWit
 use Rattle.group_core.specs.Calls.{active_without, admitted_by, asked_in, braked_for, commanded, commanded_by, disowned, group_without, powered_off, queued, waits_for_rest}
 use Rattle.group_core.specs.Cores.{Core, failed, line_begun}
 use Rattle.group_core.specs.Courses.{Carried, Course, GoesOn, IsAtEnd, IsEnd, IsUnderWay, RunsWithin, along, bound_of, course_by, course_of, is_line_done, slowing}
-use Rattle.group_core.specs.Cycles.{Advance, cycled, path_after, path_taken, reset_cycled, reset_where}
+use Rattle.group_core.specs.Cycles.{Advance, cycled, path_after, path_taken, reset_cycled}
 use Rattle.group_core.specs.Fates.{Fate, admitted_fate, asked_fate, command_fate, cycle_fate, goes_on, is_failing, power_off_fate, replaced}
-use Rattle.group_core.specs.GroupKept.{AreNumbers, IsCoreKept, IsDeceleration, IsLook, IsMade, IsPathOf}
+use Rattle.group_core.specs.GroupKept.{AreNumbers, IsCoreKept, IsDeceleration, IsLook, IsMade}
 use Rattle.group_core.specs.Kinds.{ending_by, step_by, tests_of}
 use Rattle.group_core.specs.Refusals.{holds, limits_in, refusal_of}
 use Rattle.group_core.specs.States.{is_error_stop, may_fail}
 use Rattle.group_core.specs.Tracks.{OnPath, braking_step_of, cut, line_step_of, moved_by}
 use Rattle.group_core.specs.blocks.Line.{braking_for}
-use Rattle.group_core.specs.declared.group.Group.{Group}
 use Rattle.group_core.specs.declared.group.Motion.{Motion}
 use Rattle.group_core.specs.declared.look.GroupLook.{GroupLook}
 use Rattle.group_core.specs.declared.reason.Reason.{Reason}
 use Rattle.group_core.proofs.FateLaws.{either, later-active, reset-active-same}
 use Rattle.group_core.proofs.KeptCalls.{IsAsked, disable-none, of_kind}
 use Rattle.group_core.proofs.KeptCycles.{int-same, same-int}
-use Rattle.group_core.proofs.KeptParts.{limits-of-path, stepping-of}
-use Rattle.group_core.proofs.MemberLaws.{same-path}
+use Rattle.group_core.proofs.KeptParts.{stepping-of}
 use Rattle.group_core.proofs.NoneHolds.{NoneHolds, none-holds}
 use Rattle.group_core.proofs.StepLaws.{active-runs, advanced-by, cycle-ends, goes-on, path-by}
 

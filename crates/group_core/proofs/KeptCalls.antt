@@ -1,30 +1,26 @@
 -- What a command, a Power off of a member and a detachment keep of a group.
-use Rattle.std.specs.Prelude.{◌≡◌, refl, ◌⊎◌, ℕ, ◌<◌, ◌≤◌, Bool, true, false, not, ◌&&◌, ◌||◌, nat_eq, ℤ, pos, Option, Some, None, is_some, is_none, List, [], ◌∷◌, ◌++◌, length, if◌then◌else◌}
+use Rattle.std.specs.Prelude.{◌≡◌, refl, ◌⊎◌, ℕ, Bool, true, false, not, ◌&&◌, ◌||◌, nat_eq, ℤ, Option, Some, None, is_some, is_none, List, [], ◌∷◌, ◌++◌, length, if◌then◌else◌}
 use Rattle.std.proofs.Common.{◌∙◌, sym, ap, subst, arith, inl, inr}
 use Rattle.std.proofs.lemmas.Bool.{and_parts, not-false}
-use Rattle.buffer_modes.specs.Queue.{Commands, behind, is_aborting, is_full, end_notes, noted}
-use Rattle.command_pool.specs.Rates.{AreRates}
+use Rattle.buffer_modes.specs.Queue.{Commands, behind, is_aborting, end_notes}
 use Rattle.command_pool.specs.declared.ending.Finish.TheVariants as finish
 use Rattle.command_pool.specs.declared.kind.BlockKind.{BlockKind}
 use Rattle.command_pool.specs.declared.kind.BlockKind.TheVariants as kind
 use Rattle.command_pool.specs.declared.wanted.Wanted.{Wanted}
 use Rattle.group_state.specs.Diagram.{IsFrom}
-use Rattle.group_state.specs.declared.diagram.GroupEvent.TheVariants as event
 use Rattle.group_state.specs.declared.state.GroupState.{GroupState}
 use Rattle.group_state.specs.declared.state.GroupState.TheVariants as state
 use Rattle.kin_core.specs.declared.limits.Limits.{Limits}
-use Rattle.group_core.specs.Admitting.{MayAdmit, MayHalt, MayJoin}
+use Rattle.group_core.specs.Admitting.{MayAdmit, MayHalt}
 use Rattle.group_core.specs.Calls.{admitted_by, asked_in, braked_for, commanded, commanded_by, halted, line_joined, powered_off, queue_in, queued, waits_for_rest}
-use Rattle.group_core.specs.Cores.{Core, all_ended, begun, failed, line_begun}
-use Rattle.group_core.specs.GroupKept.{AreGroupLimits, AreNumbers, AreTargets, AreWaiting, IsActive, IsCoreKept, IsCount, IsDeceleration, IsIdle, IsInState, IsLed, IsLook, IsMade, IsPathOf, IsStopped, IsWaiting, fits, is_within}
+use Rattle.group_core.specs.Cores.{Core, begun, failed, line_begun}
+use Rattle.group_core.specs.GroupKept.{AreGroupLimits, AreNumbers, AreTargets, AreWaiting, IsActive, IsCoreKept, IsCount, IsDeceleration, IsIdle, IsInState, IsLed, IsLook, IsMade, IsPathOf, IsWaiting, fits, is_within}
 use Rattle.group_core.specs.Kinds.{event_of, may_come, tests_of}
-use Rattle.group_core.specs.Refusals.{Asked, any_outside, holds, is_blending, limits_in, refusal_of}
+use Rattle.group_core.specs.Refusals.{any_outside, holds, limits_in, refusal_of}
 use Rattle.group_core.specs.States.{may_fail}
 use Rattle.group_core.specs.Tracks.{OnPath, Way, beginning, is_moving}
-use Rattle.group_core.specs.blocks.Enable.{disabled, enabled}
 use Rattle.group_core.specs.blocks.Halts.{halted_path}
 use Rattle.group_core.specs.blocks.Line.{braking_for, way_to}
-use Rattle.group_core.specs.declared.group.Group.{Group}
 use Rattle.group_core.specs.declared.look.GroupLook.{GroupLook}
 use Rattle.group_core.specs.declared.reason.Reason.{Reason}
 use Rattle.group_core.proofs.KeptParts.{Standing, beginning-kept, line-may-begin}

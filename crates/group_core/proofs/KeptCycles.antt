@@ -1,13 +1,11 @@
 -- What a cycle keeps of a group.
-use Rattle.std.specs.Prelude.{◌≡◌, refl, ◌⊎◌, ℕ, ◌+◌, ◌<◌, ◌≤◌, Bool, true, false, not, ◌&&◌, nat_eq, ℤ, pos, ◌≤ℤ◌, ◌+ℤ◌, ◌-ℤ◌, ◌-◌, unsigned_abs, Option, Some, None, is_some, IfSome, List, [], ◌∷◌, ◌++◌, length, if◌then◌else◌}
-use Rattle.std.specs.Int.{int_min, int_max}
+use Rattle.std.specs.Prelude.{◌≡◌, refl, ◌⊎◌, ℕ, ◌<◌, ◌≤◌, Bool, true, false, not, ◌&&◌, nat_eq, ℤ, pos, ◌≤ℤ◌, ◌+ℤ◌, ◌-ℤ◌, ◌-◌, unsigned_abs, Option, Some, None, is_some, List, [], ◌∷◌, ◌++◌, length, if◌then◌else◌}
 use Rattle.std.specs.Ordering.{int_eq}
 use Rattle.std.proofs.Common.{◌∙◌, sym, ap, subst, arith, inl, inr}
 use Rattle.std.proofs.lemmas.Bool.{and_parts, not-false}
 use Rattle.std.proofs.lemmas.Bool.Decides.{Decides-int_eq}
 use Rattle.std.proofs.lemmas.Int.{ints, clamps}
-use Rattle.buffer_modes.specs.Queue.{active_note, end_notes}
-use Rattle.command_pool.specs.Waiting.{note_of, notes_of, told_to}
+use Rattle.buffer_modes.specs.Queue.{active_note}
 use Rattle.command_pool.specs.declared.ending.Finish.{Finish}
 use Rattle.command_pool.specs.declared.ending.Finish.TheVariants as finish
 use Rattle.command_pool.specs.declared.kind.BlockKind.{BlockKind}
@@ -17,29 +15,27 @@ use Rattle.group_state.specs.Diagram.{IsFrom, next_of}
 use Rattle.group_state.specs.declared.diagram.GroupEvent.TheVariants as event
 use Rattle.group_state.specs.declared.state.GroupState.{GroupState}
 use Rattle.group_state.specs.declared.state.GroupState.TheVariants as state
-use Rattle.kin_core.specs.Admissible.{IsKept}
 use Rattle.kin_core.specs.Taken.{taken_step_of}
 use Rattle.kin_core.specs.Toward.{toward_zero}
 use Rattle.kin_core.specs.declared.limits.Limits.{Limits}
-use Rattle.linear_path.specs.Line.{coordinate_of, longest_way_of}
+use Rattle.linear_path.specs.Line.{longest_way_of}
 use Rattle.linear_path.specs.LineIsPath.{line_limits_from, line_limits_to}
 use Rattle.linear_path.specs.LineLaws.{line_between}
 use Rattle.linear_path.specs.Path.{AreWithin, IsBetween, limits_at}
-use Rattle.group_core.specs.Cores.{Core, ended, ended_by, failed, line_begun, path_settled, settled, settled_on, taken_over}
-use Rattle.group_core.specs.Cycles.{Advance, advanced, advanced_with, answered, cycled, ending_of, group_released, moved, over_at_rest, path_after, path_over, path_released, released}
-use Rattle.group_core.specs.GroupKept.{AreGroupLimits, AreNumbers, AreTargets, AreWaiting, IsActive, IsCoreKept, IsCount, IsIdle, IsInState, IsLed, IsLook, IsPathOf, IsStopped, IsWaiting, IsWithin, fits}
+use Rattle.group_core.specs.Cores.{Core, ended, ended_by, failed, path_settled, settled, taken_over}
+use Rattle.group_core.specs.Cycles.{Advance, advanced, advanced_with, answered, cycled, ending_of, moved, over_at_rest, path_after, released}
+use Rattle.group_core.specs.GroupKept.{AreGroupLimits, AreTargets, AreWaiting, IsActive, IsCoreKept, IsCount, IsInState, IsLook, IsPathOf, IsWithin, fits}
 use Rattle.group_core.specs.Kinds.{ending_by, event_of, step_by}
-use Rattle.group_core.specs.Lines.{MayBeginLine, MayTakeOver}
+use Rattle.group_core.specs.Lines.{MayTakeOver}
 use Rattle.group_core.specs.Refusals.{limits_in}
 use Rattle.group_core.specs.States.{is_error_stop, is_stopping, may_fail}
-use Rattle.group_core.specs.Stepping.{IsStepping, MayStep}
-use Rattle.group_core.specs.Tracks.{OnPath, Way, is_moving, is_running, moved_by, place_on, places_at}
+use Rattle.group_core.specs.Tracks.{OnPath, is_moving, is_running, moved_by, place_on, places_at}
 use Rattle.group_core.specs.blocks.Halts.{halt_ending, is_released, leaves_stopping}
 use Rattle.group_core.specs.declared.group.Group.{Group}
 use Rattle.group_core.specs.declared.group.Motion.{Motion}
 use Rattle.group_core.specs.declared.look.GroupLook.{GroupLook}
 use Rattle.group_core.proofs.KeptCalls.{by-if, failed-kept, line-begun-kept, no-active, none-waits}
-use Rattle.group_core.proofs.KeptParts.{Laws, limits-of-path, line-may-begin, path-kept, stepping-of}
+use Rattle.group_core.proofs.KeptParts.{Laws, limits-of-path, line-may-begin, path-kept}
 use Rattle.group_core.proofs.Places.{place-behind, place-of-axis}
 
 -- the error of a member keeps the group, and what is told of its axes

@@ -1,8 +1,7 @@
 -- What opening, a detachment and a GroupReset keep of a group.
-use Rattle.std.specs.Prelude.{◌≡◌, refl, ◌⊎◌, ℕ, Bool, true, false, not, ◌&&◌, nat_eq, Option, Some, None, is_some, List, [], ◌∷◌, map, if◌then◌else◌}
+use Rattle.std.specs.Prelude.{◌≡◌, refl, ◌⊎◌, ℕ, Bool, true, false, not, ◌&&◌, Option, Some, None, is_some, List, [], ◌∷◌, map}
 use Rattle.std.specs.List.{list_any}
-use Rattle.std.proofs.Common.{◌∙◌, sym, ap, subst, inl, inr}
-use Rattle.std.proofs.lemmas.Bool.{and_parts, not-false}
+use Rattle.std.proofs.Common.{◌∙◌, sym, ap, inl, inr}
 use Rattle.command_pool.specs.Waiting as pool
 use Rattle.command_pool.specs.declared.kind.BlockKind.{BlockKind}
 use Rattle.command_pool.specs.declared.kind.BlockKind.TheVariants as kind
@@ -13,7 +12,7 @@ use Rattle.kin_core.specs.declared.limits.Limits.{Limits}
 use Rattle.group_core.specs.Calls.{active_without, disowned, group_without}
 use Rattle.group_core.specs.Cores.{Core}
 use Rattle.group_core.specs.Cycles.{opening, reset_cycled, reset_where}
-use Rattle.group_core.specs.GroupKept.{AreGroupLimits, AreNumbers, AreWaiting, IsActive, IsCoreKept, IsCount, IsInState, IsWaiting}
+use Rattle.group_core.specs.GroupKept.{AreGroupLimits, AreNumbers, AreWaiting, IsActive, IsCoreKept, IsCount, IsInState}
 use Rattle.group_core.specs.Refusals.{states_in}
 use Rattle.group_core.specs.States.{is_error_stop, is_moved}
 use Rattle.group_core.specs.Tracks.{OnPath}

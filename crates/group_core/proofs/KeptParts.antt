@@ -1,32 +1,28 @@
 -- What the parts of a group keep: lines that begin, steps along a path, and what a state says.
-use Rattle.std.specs.Prelude.{◌≡◌, refl, ◌⊎◌, ℕ, ◌<◌, ◌≤◌, ◌*◌, ◌-◌, Bool, true, false, not, ℤ, pos, ◌≤ℤ◌, ◌+ℤ◌, ◌-ℤ◌, unsigned_abs, Option, Some, None, is_some, IfSome, List, [], ◌∷◌}
-use Rattle.std.specs.Ordering.{int_eq}
+use Rattle.std.specs.Prelude.{◌≡◌, refl, ℕ, ◌≤◌, ◌-◌, Bool, true, false, ℤ, pos, ◌≤ℤ◌, ◌+ℤ◌, ◌-ℤ◌, unsigned_abs, Option, Some, None, List}
 use Rattle.std.proofs.Common.{◌∙◌, sym, ap, subst, arith, inl, inr}
 use Rattle.std.proofs.lemmas.Bool.{cases_lt}
-use Rattle.std.proofs.lemmas.Int.{ints, clamps}
-use Rattle.command_pool.specs.Rates.{AreRates}
+use Rattle.std.proofs.lemmas.Int.{ints}
 use Rattle.command_pool.specs.declared.kind.BlockKind.{BlockKind}
 use Rattle.command_pool.specs.declared.kind.BlockKind.TheVariants as kind
 use Rattle.command_pool.specs.declared.wanted.Wanted.{Wanted}
-use Rattle.group_state.specs.declared.state.GroupState.{GroupState}
-use Rattle.group_state.specs.declared.state.GroupState.TheVariants as state
 use Rattle.kin_core.specs.Admissible.{AreLimits, IsKept}
 use Rattle.kin_core.specs.Taken.{taken_step_of}
 use Rattle.kin_core.specs.Toward.{toward_zero}
 use Rattle.kin_core.specs.declared.limits.Limits.{Limits}
 use Rattle.linear_path.specs.Line.{AreInRange, coordinate_of}
 use Rattle.linear_path.specs.LineIsPath.{line_limits_from, line_limits_in_range, line_limits_to}
-use Rattle.linear_path.specs.Path.{AreAxesLimits, AreWithin, limits_at}
+use Rattle.linear_path.specs.Path.{AreAxesLimits, limits_at}
 use Rattle.motion_numbers.specs.Ranges.{IsPlace}
 use Rattle.trapezoid_plan.specs.MoveRun.{halt_taken_of, move_taken_of}
 use Rattle.group_core.specs.Cycles.{advanced, advanced_with}
-use Rattle.group_core.specs.GroupKept.{AreGroupLimits, AreNumbers, AreTargets, IsActive, IsCount, IsDeceleration, IsPathOf, IsWithin, fits}
+use Rattle.group_core.specs.GroupKept.{AreGroupLimits, AreTargets, IsCount, IsPathOf, IsWithin}
 use Rattle.group_core.specs.Kinds.{step_by}
 use Rattle.group_core.specs.Lines.{MayBeginLine}
 use Rattle.group_core.specs.Refusals.{limits_in}
 use Rattle.group_core.specs.States.{is_error_stop}
 use Rattle.group_core.specs.Stepping.{IsStepping}
-use Rattle.group_core.specs.Tracks.{IsMotionKept, OnPath, Way, beginning, is_moving, limits_on, moved_by}
+use Rattle.group_core.specs.Tracks.{OnPath, beginning, limits_on, moved_by}
 use Rattle.group_core.specs.declared.group.Group.{Group}
 use Rattle.group_core.specs.declared.group.Motion.{Motion}
 use Rattle.group_core.specs.declared.look.GroupLook.{GroupLook}

@@ -1,34 +1,23 @@
 -- The axes of a group keep their limits along its path.
-use Rattle.std.specs.Prelude.{◌≡◌, refl, ◌⊎◌, ℕ, ◌<◌, ◌≤◌, Bool, true, false, not, ◌&&◌, nat_eq, ℤ, pos, ◌≤ℤ◌, ◌+ℤ◌, Option, Some, None, is_some, List, [], ◌∷◌, ◌++◌, length, if◌then◌else◌, unsigned_abs}
-use Rattle.std.specs.Ordering.{int_eq}
-use Rattle.std.proofs.Common.{◌∙◌, sym, ap, subst, arith, inl, inr}
-use Rattle.std.proofs.lemmas.Bool.{and_parts, not-false}
+use Rattle.std.specs.Prelude.{◌≡◌, refl, ℕ, ◌<◌, not, ◌&&◌, nat_eq, ℤ, pos, ◌≤ℤ◌, Option, Some, List}
+use Rattle.std.proofs.Common.{◌∙◌, sym, ap, subst, arith}
 use Rattle.std.proofs.lemmas.Int.{ints}
-use Rattle.buffer_modes.specs.Queue.{active_note}
-use Rattle.command_pool.specs.declared.ending.Finish.{Finish}
-use Rattle.command_pool.specs.declared.ending.Finish.TheVariants as finish
-use Rattle.command_pool.specs.declared.kind.BlockKind.{BlockKind}
-use Rattle.command_pool.specs.declared.kind.BlockKind.TheVariants as kind
-use Rattle.command_pool.specs.declared.wanted.Wanted.{Wanted}
 use Rattle.kin_core.specs.Admissible.{AreLimits, IsKept, IsSafe, IsTakenStep}
 use Rattle.kin_core.specs.Taken.{taken_step_of}
 use Rattle.kin_core.specs.declared.limits.Limits.{Limits}
-use Rattle.linear_path.specs.Line.{AreInRange, coordinate_of, longest_way_of}
+use Rattle.linear_path.specs.Line.{AreInRange, coordinate_of}
 use Rattle.linear_path.specs.LineIsPath.{line_limits_from, line_limits_to}
 use Rattle.linear_path.specs.Path.{AreAxesLimits, AreWithin, limits_at}
-use Rattle.linear_path.specs.declared.line.LinePath.{LinePath}
 use Rattle.group_core.specs.Cores.{Core, failed}
-use Rattle.group_core.specs.Cycles.{advanced, answered, cycled, ending_of, path_after, path_taken, step_of}
+use Rattle.group_core.specs.Cycles.{advanced, answered, path_after, path_taken, step_of}
 use Rattle.group_core.specs.GroupKept.{AreGroupLimits, IsCoreKept, IsCount, IsLook, IsPathOf}
-use Rattle.group_core.specs.Members.{StandsOn, TakesSafely}
+use Rattle.group_core.specs.Members.{TakesSafely}
 use Rattle.group_core.specs.Refusals.{limits_in}
 use Rattle.group_core.specs.States.{may_fail}
-use Rattle.group_core.specs.Tracks.{OnPath, Way, length_of, limits_on, moved_by, place_on, places_at}
-use Rattle.group_core.specs.declared.group.Group.{Group}
+use Rattle.group_core.specs.Tracks.{OnPath, Way, length_of, limits_on, place_on, places_at}
 use Rattle.group_core.specs.declared.group.Motion.{Motion}
 use Rattle.group_core.specs.declared.look.GroupLook.{GroupLook}
 use Rattle.group_core.proofs.KeptCalls.{by-if}
-use Rattle.group_core.proofs.KeptCycles.{answered-kept}
 use Rattle.group_core.proofs.KeptParts.{IsTaken, is-taken, limits-of-path}
 use Rattle.group_core.proofs.Places.{place-of-axis}
 

@@ -1,13 +1,11 @@
 -- A command that is not refused: none of the reasons of its kind holds.
-use Rattle.std.specs.Prelude.{◌≡◌, refl, ◌⊎◌, ℕ, zero, suc, ◌<◌, Bool, true, false, not, ◌||◌, ℤ, pos, int_lt, Option, Some, None, List, [], ◌∷◌, if◌then◌else◌}
-use Rattle.std.proofs.Common.{arith, sym, ap, inl, inr, subst}
-use Rattle.std.proofs.lemmas.Bool.{cases_eq, not-false, or_parts}
+use Rattle.std.specs.Prelude.{◌≡◌, refl, ℕ, zero, suc, ◌<◌, Bool, true, false, ℤ, pos, int_lt, Option, Some, None, List, [], ◌∷◌, if◌then◌else◌}
+use Rattle.std.proofs.Common.{arith, sym, inl, inr, subst}
+use Rattle.std.proofs.lemmas.Bool.{cases_eq, or_parts}
 use Rattle.std.proofs.lemmas.Int.{ints}
 use Rattle.command_pool.specs.Rates.{AreRates}
-use Rattle.command_pool.specs.declared.kind.BlockKind.{BlockKind}
 use Rattle.command_pool.specs.declared.kind.BlockKind.TheVariants as kind
 use Rattle.command_pool.specs.declared.rates.Rates.{Rates}
-use Rattle.command_pool.specs.declared.wanted.Wanted.{Wanted}
 use Rattle.group_state.specs.Diagram.{IsFrom}
 use Rattle.group_state.specs.declared.diagram.GroupEvent.TheVariants as event
 use Rattle.group_state.specs.declared.state.GroupState.{GroupState}
@@ -17,7 +15,7 @@ use Rattle.linear_path.specs.Line.{coordinate_of}
 use Rattle.linear_path.specs.Path.{limits_at}
 use Rattle.motion_numbers.specs.Ranges.{is_outside}
 use Rattle.group_core.specs.GroupKept.{IsDeceleration, IsWithin}
-use Rattle.group_core.specs.Kinds.{event_of, may_come}
+use Rattle.group_core.specs.Kinds.{may_come}
 use Rattle.group_core.specs.Refusals.{Asked, any_outside, first_holding, holds, is_no_rate}
 use Rattle.group_core.specs.declared.reason.Reason.{Reason}
 

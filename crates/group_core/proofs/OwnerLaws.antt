@@ -2,9 +2,8 @@
 use Rattle.std.specs.Prelude.{◌≡◌, refl, map, ℕ, ◌+◌, Bool, true, false, not, ◌&&◌, ◌||◌, is_none, is_some, nat_eq, ℤ, Option, Some, None, List, [], ◌∷◌, ◌++◌, if◌then◌else◌}
 use Rattle.std.proofs.Common.{sym, ◌∙◌, ap, arith}
 use Rattle.std.proofs.lemmas.Bool.{eqb-true}
-use Rattle.axis_state.specs.declared.state.AxisState.{AxisState}
-use Rattle.buffer_modes.specs.Owners.{is_owner, one_of, owner_by, told, waits_of}
-use Rattle.buffer_modes.specs.Queue.{Commands, active_note, behind, end_notes, is_aborting}
+use Rattle.buffer_modes.specs.Owners.{is_owner, owner_by, told, waits_of}
+use Rattle.buffer_modes.specs.Queue.{active_note, is_aborting}
 use Rattle.command_pool.specs.Waiting as pool
 use Rattle.command_pool.specs.Waiting.{notes_of, told_to, without}
 use Rattle.command_pool.specs.declared.ending.Finish.{Finish}
@@ -15,13 +14,13 @@ use Rattle.command_pool.specs.declared.notes.Note.{Note}
 use Rattle.command_pool.specs.declared.wanted.Wanted.{Wanted}
 use Rattle.group_state.specs.Diagram.{next_of}
 use Rattle.group_state.specs.declared.diagram.GroupEvent.TheVariants as event
-use Rattle.group_core.specs.Calls.{active_without, admitted_by, asked_in, braked_for, commanded, commanded_by, disowned, group_without, halted, line_joined, powered_off, queue_in, queued, reset_without, waits_for_rest}
+use Rattle.group_core.specs.Calls.{active_without, admitted_by, asked_in, braked_for, commanded, commanded_by, disowned, group_without, halted, line_joined, powered_off, queued, reset_without, waits_for_rest}
 use Rattle.group_core.specs.Cores.{Core, all_ended, ended, ended_by, failed, line_begun, taken_over}
-use Rattle.group_core.specs.Cycles.{answered, cycled, ending_of, group_released, moved, path_after, path_released, released, reset_cycled, reset_where}
+use Rattle.group_core.specs.Cycles.{answered, cycled, ending_of, moved, path_after, released, reset_cycled, reset_where}
 use Rattle.group_core.specs.Owners.{brought, brought_by, owns, reset_owner}
 use Rattle.group_core.specs.Refusals.{refusal_of, states_in}
 use Rattle.group_core.specs.States.{may_fail}
-use Rattle.group_core.specs.Tracks.{OnPath, places_at}
+use Rattle.group_core.specs.Tracks.{places_at}
 use Rattle.group_core.specs.blocks.Halts.{leaves_stopping}
 use Rattle.group_core.specs.blocks.Line.{braking_for}
 use Rattle.group_core.specs.blocks.Reset.{after_reset, may_reset, replaced_note, reset_by, reset_notes}

@@ -1,5 +1,5 @@
 -- Where a path begins in a call.
-use Rattle.std.specs.Prelude.{◌≡◌, refl, ◌⊎◌, ℕ, ◌<◌, Bool, true, false, not, ◌&&◌, ◌||◌, ℤ, pos, Option, Some, None, is_none, List, if◌then◌else◌}
+use Rattle.std.specs.Prelude.{◌≡◌, refl, ◌⊎◌, ℕ, ◌<◌, Bool, true, false, not, ◌&&◌, ◌||◌, ℤ, Option, Some, None, is_none, List, if◌then◌else◌}
 use Rattle.std.proofs.Common.{◌∙◌, sym, ap, subst, arith, inl, inr}
 use Rattle.buffer_modes.specs.Queue.{is_aborting}
 use Rattle.command_pool.specs.declared.kind.BlockKind.{BlockKind}

@@ -1,8 +1,8 @@
 -- How a path ends in a cycle: at rest, and where the next one begins.
-use Rattle.std.specs.Prelude.{◌≡◌, refl, ◌⊎◌, ℕ, ◌<◌, ◌≤◌, Bool, true, false, not, ◌&&◌, ℤ, pos, ◌+ℤ◌, Option, Some, None, is_some, List, [], ◌∷◌, ◌++◌, if◌then◌else◌}
+use Rattle.std.specs.Prelude.{◌≡◌, refl, ◌⊎◌, ℕ, ◌<◌, Bool, true, false, not, ◌&&◌, ℤ, pos, Option, Some, None, is_some, List, [], ◌∷◌, ◌++◌, if◌then◌else◌}
 use Rattle.std.specs.Ordering.{int_eq}
 use Rattle.std.proofs.Common.{◌∙◌, sym, ap, subst, arith, inl, inr}
-use Rattle.std.proofs.lemmas.Bool.{and_parts, not-false}
+use Rattle.std.proofs.lemmas.Bool.{and_parts}
 use Rattle.std.proofs.lemmas.Int.{ints}
 use Rattle.buffer_modes.specs.Queue.{active_note}
 use Rattle.command_pool.specs.declared.ending.Finish.{Finish}
@@ -15,20 +15,20 @@ use Rattle.group_state.specs.declared.state.GroupState.TheVariants as state
 use Rattle.linear_path.specs.Line.{coordinate_of}
 use Rattle.linear_path.specs.LineLaws.{line_begins}
 use Rattle.group_core.specs.Cores.{Core, ended, ended_by, path_settled, taken_over}
-use Rattle.group_core.specs.Cycles.{Advance, advanced, advanced_with, answered, cycled, ending_of, group_released, moved, over_at_rest, path_after, path_over, path_released, path_taken, released, step_of}
+use Rattle.group_core.specs.Cycles.{advanced, advanced_with, answered, cycled, ending_of, moved, path_after, path_taken, released, step_of}
 use Rattle.group_core.specs.GroupKept.{IsCoreKept, IsLook}
 use Rattle.group_core.specs.Kinds.{ending_by, step_by}
 use Rattle.group_core.specs.Members.{StandsOn}
 use Rattle.group_core.specs.Refusals.{limits_in}
 use Rattle.group_core.specs.States.{is_error_stop, is_stopping}
-use Rattle.group_core.specs.Tracks.{OnPath, Way, beginning, is_moving, is_running, moved_by, place_on, places_at}
-use Rattle.group_core.specs.blocks.Halts.{halt_ending, is_released, leaves_stopping}
+use Rattle.group_core.specs.Tracks.{OnPath, beginning, is_moving, moved_by, place_on, places_at}
+use Rattle.group_core.specs.blocks.Halts.{is_released, leaves_stopping}
 use Rattle.group_core.specs.blocks.Line.{line_ending, way_to}
 use Rattle.group_core.specs.declared.group.Group.{Group}
 use Rattle.group_core.specs.declared.group.Motion.{Motion}
 use Rattle.group_core.specs.declared.look.GroupLook.{GroupLook}
 use Rattle.group_core.proofs.KeptCycles.{at-rest, done-step, int-same}
-use Rattle.group_core.proofs.KeptParts.{IsTaken, is-taken}
+use Rattle.group_core.proofs.KeptParts.{is-taken}
 use Rattle.group_core.proofs.MemberLaws.{place-given, same-path, taken-path}
 
 -- a command that is done has step 0

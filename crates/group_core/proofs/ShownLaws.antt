@@ -1,6 +1,6 @@
 -- A group shows its error and its GroupStop truly.
-use Rattle.std.specs.Prelude.{◌≡◌, ◌≢◌, refl, ◌⊎◌, ℕ, Bool, true, false, not, ◌&&◌, ◌||◌, nat_eq, ℤ, Option, Some, None, is_none, is_some, List, [], ◌∷◌, ◌++◌, if◌then◌else◌}
-use Rattle.std.proofs.Common.{◌∙◌, sym, ap, subst, arith, inl, inr}
+use Rattle.std.specs.Prelude.{◌≡◌, ◌≢◌, refl, ◌⊎◌, ℕ, Bool, true, false, not, ◌&&◌, ◌||◌, nat_eq, ℤ, Option, Some, None, is_none, List, [], ◌∷◌, ◌++◌}
+use Rattle.std.proofs.Common.{◌∙◌, sym, ap, subst, arith}
 use Rattle.std.proofs.lemmas.Bool.{and_parts, not-false}
 use Rattle.axis_state.specs.declared.state.AxisState.{AxisState}
 use Rattle.buffer_modes.specs.Queue.{active_note, is_aborting}
@@ -16,7 +16,7 @@ use Rattle.group_state.specs.declared.state.GroupState.TheVariants as state
 use Rattle.kin_core.specs.declared.limits.Limits.{Limits}
 use Rattle.group_core.specs.Calls.{admitted_by, asked_in, braked_for, commanded, commanded_by, group_without, powered_off, queued, waits_for_rest}
 use Rattle.group_core.specs.Cores.{Core, ended, ended_by, failed, line_begun, settled, taken_over}
-use Rattle.group_core.specs.Cycles.{answered, cycled, ending_of, group_released, moved, opened, path_after, released, reset_where}
+use Rattle.group_core.specs.Cycles.{answered, cycled, ending_of, moved, opened, path_after, released, reset_where}
 use Rattle.group_core.specs.GroupKept.{AreWaiting, IsCoreKept, IsMade}
 use Rattle.group_core.specs.Kinds.{event_of, may_come, tests_of}
 use Rattle.group_core.specs.Refusals.{holds, limits_in, refusal_of, states_in}

@@ -1,5 +1,5 @@
 -- How a cycle takes an active command on: by its step, or to its end.
-use Rattle.std.specs.Prelude.{◌≡◌, ◌↔◌, ◌≢◌, refl, ℕ, Bool, true, false, not, ◌&&◌, ℤ, pos, ◌+ℤ◌, Option, Some, None, is_some, List, [], ◌∷◌, if◌then◌else◌}
+use Rattle.std.specs.Prelude.{◌≡◌, ◌↔◌, refl, Bool, true, false, not, ◌&&◌, ℤ, pos, Option, Some, None, is_some, List, if◌then◌else◌}
 use Rattle.std.specs.Ordering.{int_eq}
 use Rattle.std.proofs.Common.{◌∙◌, sym, ap, subst}
 use Rattle.command_pool.specs.declared.ending.Finish.{Finish}
@@ -11,16 +11,16 @@ use Rattle.group_state.specs.declared.state.GroupState.{GroupState}
 use Rattle.group_state.specs.declared.state.GroupState.TheVariants as state
 use Rattle.kin_core.specs.declared.limits.Limits.{Limits}
 use Rattle.group_core.specs.Calls.{asked_in, commanded, commanded_by}
-use Rattle.group_core.specs.Cores.{Core, ended_by, failed}
+use Rattle.group_core.specs.Cores.{Core}
 use Rattle.group_core.specs.Courses.{Leads, is_line_done, is_slowing}
-use Rattle.group_core.specs.Cycles.{Advance, advanced, advanced_with, answered, cycled, ending_of, group_released, moved, over_at_rest, path_after, path_over, path_released, path_taken, released}
-use Rattle.group_core.specs.Fates.{Fate, cycle_fate, ending_fate, is_failing, replaced}
+use Rattle.group_core.specs.Cycles.{Advance, advanced, advanced_with, answered, cycled, ending_of, moved, over_at_rest, path_after, path_taken, released}
+use Rattle.group_core.specs.Fates.{cycle_fate, ending_fate, is_failing}
 use Rattle.group_core.specs.GroupKept.{IsCoreKept, fits}
 use Rattle.group_core.specs.Kinds.{ending_by, step_by}
 use Rattle.group_core.specs.Refusals.{limits_in, refusal_of}
 use Rattle.group_core.specs.States.{is_error_stop, is_stopping}
 use Rattle.group_core.specs.Tracks.{OnPath, braking_step_of, is_moving, line_step_of, moved_by, places_at}
-use Rattle.group_core.specs.blocks.Halts.{halt_ending, is_released, leaves_stopping}
+use Rattle.group_core.specs.blocks.Halts.{is_released, leaves_stopping}
 use Rattle.group_core.specs.declared.group.Group.{Group}
 use Rattle.group_core.specs.declared.group.Motion.{Motion}
 use Rattle.group_core.specs.declared.look.GroupLook.{GroupLook}

@@ -1,7 +1,7 @@
 -- The instance that has the active command is told how it ends.
-use Rattle.std.specs.Prelude.{◌≡◌, refl, ℕ, Bool, true, false, not, ◌&&◌, ◌||◌, nat_eq, ℤ, Option, Some, None, is_none, List, [], ◌∷◌, ◌++◌, slice_get, if◌then◌else◌}
+use Rattle.std.specs.Prelude.{◌≡◌, refl, ℕ, Bool, true, false, ◌||◌, ℤ, Option, Some, None, is_none, List, [], ◌∷◌, ◌++◌, slice_get, if◌then◌else◌}
 use Rattle.std.specs.List.{Contains}
-use Rattle.std.proofs.Common.{◌∙◌, sym, ap, subst, arith}
+use Rattle.std.proofs.Common.{sym, ap, subst, arith}
 use Rattle.std.proofs.lemmas.List.Elements.{Contains-append_left, Contains-append_right}
 use Rattle.buffer_modes.specs.Owners.{owner_by}
 use Rattle.buffer_modes.specs.Queue.{active_note, end_notes, is_aborting}
@@ -14,7 +14,7 @@ use Rattle.command_pool.specs.declared.notes.Note.{Note}
 use Rattle.command_pool.specs.declared.wanted.Wanted.{Wanted}
 use Rattle.group_core.specs.Calls.{admitted_by, asked_in, braked_for, commanded, commanded_by, halted, line_joined, powered_off, queue_in, queued, waits_for_rest}
 use Rattle.group_core.specs.Cores.{Core, all_ended, ended, ended_by, failed, line_begun, taken_over}
-use Rattle.group_core.specs.Cycles.{answered, cycled, ending_of, moved, path_after}
+use Rattle.group_core.specs.Cycles.{cycled, ending_of, moved, path_after}
 use Rattle.group_core.specs.Fates.{Fate, admitted_fate, asked_fate, command_fate, cycle_fate, ending_fate, goes_on, is_failing, line_fate, power_off_fate, replaced}
 use Rattle.group_core.specs.Owners.{TellsOwner}
 use Rattle.group_core.specs.Refusals.{refusal_of}

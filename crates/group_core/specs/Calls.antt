@@ -1,6 +1,6 @@
 -- What commands, a Power off of a member and a detachment make of a group (PLCopen Part 4).
-use Rattle.std.specs.Prelude.{ℕ, Bool, true, false, not, ◌&&◌, if◌then◌else◌, ℤ, Option, Some, None, Result, Ok, Err, List, [], ◌∷◌, ◌++◌, length, map}
-use Rattle.buffer_modes.specs.Queue.{Commands, admitted, is_aborting, is_active_at_once, noted, end_notes}
+use Rattle.std.specs.Prelude.{ℕ, Bool, true, false, not, ◌&&◌, if◌then◌else◌, ℤ, Option, Some, None, Result, Ok, Err, [], ◌∷◌, ◌++◌, length, map}
+use Rattle.buffer_modes.specs.Queue.{Commands, admitted, is_aborting, is_active_at_once, noted}
 use Rattle.command_pool.specs.Waiting as waiting
 use Rattle.command_pool.specs.Waiting.{without}
 use Rattle.command_pool.specs.declared.ending.Finish.TheVariants as finish
@@ -8,7 +8,6 @@ use Rattle.command_pool.specs.declared.ending.Refusal.{Refusal}
 use Rattle.command_pool.specs.declared.kind.BlockKind.{BlockKind}
 use Rattle.command_pool.specs.declared.kind.BlockKind.TheVariants as kind
 use Rattle.command_pool.specs.declared.wanted.Wanted.{Wanted}
-use Rattle.kin_core.specs.declared.limits.Limits.{Limits}
 use Rattle.group_core.specs.Cores.{Core, all_ended, begun, failed, line_begun}
 use Rattle.group_core.specs.Refusals.{Asked, limits_in, number_of, refusal_of}
 use Rattle.group_core.specs.States.{may_fail}

@@ -1,11 +1,10 @@
 -- A group with the commands that wait behind its active one, and how these become active and end
 -- (PLCopen Motion Control Part 4; BufferMode of Part 1).
-use Rattle.std.specs.Prelude.{ℕ, ℤ, Option, Some, None, is_some, List, [], ◌∷◌, ◌++◌}
+use Rattle.std.specs.Prelude.{ℕ, ℤ, Option, Some, None, List, [], ◌∷◌, ◌++◌}
 use Rattle.buffer_modes.specs.Queue.{active_note, end_notes}
 use Rattle.command_pool.specs.Waiting.{queue_of}
 use Rattle.command_pool.specs.declared.ending.Finish.{Finish}
 use Rattle.command_pool.specs.declared.ending.Finish.TheVariants as finish
-use Rattle.command_pool.specs.declared.kind.BlockKind.{BlockKind}
 use Rattle.command_pool.specs.declared.notes.Note.{Note}
 use Rattle.command_pool.specs.declared.wanted.Wanted.{Wanted}
 use Rattle.group_state.specs.Diagram.{next_of}

@@ -1,11 +1,10 @@
 -- The order within a cycle of a group (PLCopen Part 4; the order is this project's profile).
-use Rattle.std.specs.Prelude.{ℕ, Bool, true, false, not, ◌&&◌, nat_eq, if◌then◌else◌, ℤ, pos, Option, Some, None, is_some, List, [], ◌++◌}
+use Rattle.std.specs.Prelude.{ℕ, Bool, not, ◌&&◌, nat_eq, if◌then◌else◌, pos, Option, Some, None, is_some, [], ◌++◌}
 use Rattle.command_pool.specs.declared.ending.Finish.{Finish}
 use Rattle.command_pool.specs.declared.wanted.Wanted.{Wanted}
 use Rattle.group_state.specs.Diagram.{next_of}
 use Rattle.group_state.specs.declared.diagram.GroupEvent.TheVariants.{StopReleased}
 use Rattle.group_state.specs.declared.state.GroupRow.{GroupRow}
-use Rattle.group_state.specs.declared.state.GroupState.{GroupState}
 use Rattle.group_state.specs.declared.state.GroupState.TheVariants as state
 use Rattle.kin_core.specs.Taken.{taken_step_of}
 use Rattle.group_core.specs.Cores.{Core, ended_by, failed}

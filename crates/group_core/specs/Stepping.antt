@@ -1,5 +1,5 @@
 -- What a group asks before it takes a step along its path.
-use Rattle.std.specs.Prelude.{◌≡◌, ◌≤◌, pos, Option, Some, None, IfSome}
+use Rattle.std.specs.Prelude.{◌≡◌, ◌≤◌, pos, Option, IfSome}
 use Rattle.group_core.specs.GroupKept.{AreNumbers}
 use Rattle.group_core.specs.Tracks.{IsMotionKept, OnPath, length_of}
 use Rattle.group_core.specs.declared.group.Group.{Group}

@@ -3,10 +3,10 @@
 ghost use Rattle.std.specs.Prelude.{◌≡◌, ◌<◌, ◌≤◌, [], false, length, slice_set, Option};
 ghost use Rattle.command_pool.specs.Waiting as waiting;
 ghost use Rattle.command_pool.specs.Waiting.{queue_of};
+ghost use Rattle.group_core.specs.Admitting.{MayAdmit, MayHalt, MayJoin};
 ghost use Rattle.group_core.specs.Calls as spec;
 ghost use Rattle.group_core.specs.Cores.{core_in};
 ghost use Rattle.group_core.specs.GroupKept.{IsCoreKept, IsLook, IsMade};
-ghost use Rattle.group_core.specs.Admitting.{MayAdmit, MayHalt, MayJoin};
 ghost use Rattle.group_core.specs.Refusals.{limits_in};
 ghost use Rattle.group_core.specs.Seen.{core_at, on_path};
 ghost use Rattle.group_core.specs.Tracks as tracks;
@@ -50,7 +50,8 @@ fn halt(
     requires list { list < length pool.old }
     requires room { length notes.old ≤ 3 }
     requires may { MayHalt members.now wanted.now on.old.group }
-    ensures after { core_at on.new pool.new list notes.new ≡ spec.halted members.now wanted.now (core_at on.old pool.old list notes.old) }
+    ensures after { core_at on.new pool.new list notes.new
+        ≡ spec.halted members.now wanted.now (core_at on.old pool.old list notes.old) }
     ensures others { pool.new ≡ slice_set pool.old list (queue_of pool.new list) }
 {
     end_all(&mut on.group, pool, list, Finish::Aborted, notes);
@@ -99,8 +100,10 @@ fn join_line(
     requires list { list < length pool.old }
     requires room { length notes.old ≤ 3 }
     requires may { MayJoin members.now wanted.now (core_at on.old pool.old list notes.old) }
-    ensures active { result ≡ spec.is_line_active wanted.now (core_at on.old pool.old list notes.old) }
-    ensures after { core_at on.new pool.new list notes.new ≡ spec.line_joined members.now wanted.now (core_at on.old pool.old list notes.old) }
+    ensures active { result
+        ≡ spec.is_line_active wanted.now (core_at on.old pool.old list notes.old) }
+    ensures after { core_at on.new pool.new list notes.new
+        ≡ spec.line_joined members.now wanted.now (core_at on.old pool.old list notes.old) }
     ensures others { pool.new ≡ slice_set pool.old list (queue_of pool.new list) }
 {
     if waits_for_rest(wanted, &on.track) {
@@ -127,10 +130,13 @@ fn admit_command(
 ) -> bool
     requires list { list < length pool.old }
     requires room { length notes.old ≤ 3 }
-    requires may { MayAdmit wanted.now.kind members.now wanted.now (core_at on.old pool.old list notes.old) }
-    ensures active { result ≡ spec.is_active_by wanted.now.kind wanted.now (core_at on.old pool.old list notes.old) }
+    requires may { MayAdmit wanted.now.kind members.now wanted.now
+        (core_at on.old pool.old list notes.old) }
+    ensures active { result
+        ≡ spec.is_active_by wanted.now.kind wanted.now (core_at on.old pool.old list notes.old) }
     ensures after { core_at on.new pool.new list notes.new
-        ≡ spec.admitted_by wanted.now.kind members.now wanted.now (core_at on.old pool.old list notes.old) }
+        ≡ spec.admitted_by wanted.now.kind members.now wanted.now
+        (core_at on.old pool.old list notes.old) }
     ensures others { pool.new ≡ slice_set pool.old list (queue_of pool.new list) }
 {
     match wanted.kind {
@@ -169,7 +175,8 @@ pub fn command(
     requires look { IsLook on.old.group members.now }
     requires kept { IsCoreKept (limits_in members.now) (core_at on.old pool.old list notes.old) }
     requires made { IsMade on.old.group.axes wanted.now }
-    ensures answer { result ≡ spec.answer_of wanted.now jerk members.now (core_at on.old pool.old list notes.old) }
+    ensures answer { result
+        ≡ spec.answer_of wanted.now jerk members.now (core_at on.old pool.old list notes.old) }
     ensures after { core_at on.new pool.new list notes.new
         ≡ spec.commanded wanted.now jerk members.now (core_at on.old pool.old list notes.old) }
     ensures others { pool.new ≡ slice_set pool.old list (queue_of pool.new list) }

@@ -44,7 +44,8 @@ fn advance(on: &mut GroupOnPath<LinePath>, setpoints: &mut [i64; 6]) -> Option<F
     ensures group { on.new.group ≡ on.old.group }
     ensures path { on_path on.new.track ≡ spec.path_after on.old.group (on_path on.old.track) }
     ensures ending { result ≡ spec.ending_of on.old.group (on_path on.old.track) }
-    ensures places { setpoints.new ≡ places_at (spec.path_after on.old.group (on_path on.old.track)) setpoints.old }
+    ensures places { setpoints.new
+        ≡ places_at (spec.path_after on.old.group (on_path on.old.track)) setpoints.old }
 {
     match &mut on.track {
         None => None,
@@ -55,7 +56,8 @@ fn advance(on: &mut GroupOnPath<LinePath>, setpoints: &mut [i64; 6]) -> Option<F
 // A group whose GroupStop is done leaves GroupStopping at rest where nobody holds it.
 fn leave_stopping(held: bool, on: &mut GroupOnPath<LinePath>)
     ensures group { on.new.group ≡ spec.group_released held on.old.group (on_path on.old.track) }
-    ensures path { on_path on.new.track ≡ spec.path_released held on.old.group (on_path on.old.track) }
+    ensures path { on_path on.new.track
+        ≡ spec.path_released held on.old.group (on_path on.old.track) }
 {
     let done = is_stopping(on.group.state) && on.group.active.is_none();
     if done && !is_moving(&on.track) && is_released(on.group.hold, held) {
@@ -87,8 +89,11 @@ fn run(
     requires room { notes.old ≡ [] }
     requires look { IsLook on.old.group members.now }
     requires kept { IsCoreKept (limits_in members.now) (core_at on.old pool.old list notes.old) }
-    ensures places { result ≡ places_at (spec.path_taken members.now (core_at on.old pool.old list notes.old)) members.now.setpoints }
-    ensures after { core_at on.new pool.new list notes.new ≡ spec.cycled members.now (core_at on.old pool.old list notes.old) }
+    ensures places { result
+        ≡ places_at (spec.path_taken members.now
+        (core_at on.old pool.old list notes.old)) members.now.setpoints }
+    ensures after { core_at on.new pool.new list notes.new
+        ≡ spec.cycled members.now (core_at on.old pool.old list notes.old) }
     ensures others { pool.new ≡ slice_set pool.old list (queue_of pool.new list) }
     ensures kept { IsCoreKept (limits_in members.now) (core_at on.new pool.new list notes.new) }
 {
@@ -134,7 +139,8 @@ pub fn cycle(
     requires look { IsLook on.old.group members.now }
     requires kept { IsCoreKept (limits_in members.now) (core_at on.old pool.old list notes.old) }
     ensures step { result ≡ spec.step_of members.now (core_at on.old pool.old list notes.old) }
-    ensures after { core_at on.new pool.new list notes.new ≡ spec.cycled members.now (core_at on.old pool.old list notes.old) }
+    ensures after { core_at on.new pool.new list notes.new
+        ≡ spec.cycled members.now (core_at on.old pool.old list notes.old) }
     ensures others { pool.new ≡ slice_set pool.old list (queue_of pool.new list) }
     ensures kept { IsCoreKept (limits_in members.now) (core_at on.new pool.new list notes.new) }
 {

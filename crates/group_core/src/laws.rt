@@ -1,20 +1,20 @@
 // Laws of a group: each is the contract of a function that does nothing.
 
-ghost use Rattle.std.specs.Prelude.{◌≡◌, ◌⊎◌, ◌+◌, ◌<◌, ◌≤◌, nat_eq, length, ℕ, ℤ, pos, Bool, true, false, Some, None, List};
 ghost use Rattle.std.specs.Ordering.{int_eq};
+ghost use Rattle.std.specs.Prelude.{◌≡◌, ◌⊎◌, ◌+◌, ◌<◌, ◌≤◌, nat_eq, length, ℕ, ℤ, pos, Bool, true, false, Some, None, List};
 ghost use Rattle.buffer_modes.specs.Owners.{IsSame, is_owner, told};
 ghost use Rattle.command_pool.specs.declared.wanted.Wanted.{Wanted};
 ghost use Rattle.group_core.specs.Calls.{asked_in, commanded, disowned, group_without, powered_off};
+ghost use Rattle.group_core.specs.Changes.{IsNext};
 ghost use Rattle.group_core.specs.Cores.{Core};
 ghost use Rattle.group_core.specs.Courses.{Carried, Course, IsUnderWay, Leads, bound_of, course_of, is_line_done, is_slowing};
 ghost use Rattle.group_core.specs.Cycles.{answered, cycled, opening, path_taken, reset_cycled, reset_where, step_of};
 ghost use Rattle.group_core.specs.Fates.{IsFate, command_fate, cycle_fate, is_failing, power_off_fate};
 ghost use Rattle.group_core.specs.GroupKept.{AreGroupLimits, IsCoreKept, IsCount, IsLook, IsMade};
 ghost use Rattle.group_core.specs.Members.{StandsOn, TakesSafely};
-ghost use Rattle.group_core.specs.Changes.{IsNext};
 ghost use Rattle.group_core.specs.Owners.{TellsOwner, brought, owns};
-ghost use Rattle.group_core.specs.Shown.{IsShown};
 ghost use Rattle.group_core.specs.Refusals.{limits_in, refusal_of};
+ghost use Rattle.group_core.specs.Shown.{IsShown};
 ghost use Rattle.group_core.specs.States.{is_error_stop};
 ghost use Rattle.group_core.specs.Tracks.{OnPath, braking_step_of, is_moving, line_step_of, moved_by};
 ghost use Rattle.group_core.specs.declared.group.Group.{Group};
@@ -31,14 +31,20 @@ use trapezoid_plan::{halts_come_to_rest_in_time, moves_arrive_in_time};
 /// What always holds of a group, of its path and of the commands that wait for it holds at opening,
 /// and after every call, every cycle and every GroupReset.
 pub fn groups_stay_kept()
-    ensures opened { (axes : ℕ) (limits : List Limits) → IsCount axes → AreGroupLimits axes limits → IsCoreKept limits (opening axes) }
-    ensures command { (members : GroupLook) (w : Wanted) (jerk : ℤ) (c : Core) → IsLook c.group members → IsMade c.group.axes w →
-        IsCoreKept (limits_in members) c → IsCoreKept (limits_in members) (commanded w jerk members c) }
-    ensures power_off { (limits : List Limits) (c : Core) → IsCoreKept limits c → IsCoreKept limits (powered_off c) }
-    ensures detach { (owner : ℕ) (limits : List Limits) (c : Core) → IsCoreKept limits c → IsCoreKept limits (disowned owner c) }
+    ensures opened { (axes : ℕ) (limits : List Limits) → IsCount axes →
+        AreGroupLimits axes limits → IsCoreKept limits (opening axes) }
+    ensures command { (members : GroupLook) (w : Wanted) (jerk : ℤ) (c : Core) →
+        IsLook c.group members → IsMade c.group.axes w →
+        IsCoreKept (limits_in members) c →
+        IsCoreKept (limits_in members) (commanded w jerk members c) }
+    ensures power_off { (limits : List Limits) (c : Core) → IsCoreKept limits c →
+        IsCoreKept limits (powered_off c) }
+    ensures detach { (owner : ℕ) (limits : List Limits) (c : Core) → IsCoreKept limits c →
+        IsCoreKept limits (disowned owner c) }
     ensures cycle { (members : GroupLook) (c : Core) → IsLook c.group members →
         IsCoreKept (limits_in members) c → IsCoreKept (limits_in members) (cycled members c) }
-    ensures reset { (members : GroupLook) (limits : List Limits) (c : Core) → IsCoreKept limits c → IsCoreKept limits (reset_cycled members c) }
+    ensures reset { (members : GroupLook) (limits : List Limits) (c : Core) →
+        IsCoreKept limits c → IsCoreKept limits (reset_cycled members c) }
 {
     standing_is_kept();
     taken_steps_keep();
@@ -51,24 +57,36 @@ pub fn groups_stay_kept()
 /// the next one, which begins there; in a call a path begins only where nothing moves and the axes
 /// stand, and is left only where the axis rests; in a cycle without a path none begins.
 pub fn members_keep_their_limits()
-    ensures safe { (members : GroupLook) (c : Core) (p : OnPath) (axis : ℕ) (before now : ℤ) → IsLook c.group members → IsCoreKept (limits_in members) c →
+    ensures safe { (members : GroupLook) (c : Core) (p : OnPath) (axis : ℕ) (before now : ℤ) →
+        IsLook c.group members → IsCoreKept (limits_in members) c →
         c.path ≡ Some p → axis < c.group.axes → StandsOn p axis before now →
-        TakesSafely (limits_in members) axis before now (coordinate_of (step_of members c).places axis) }
-    ensures ends { (members : GroupLook) (c : Core) (p : OnPath) (axis : ℕ) (before now : ℤ) → IsLook c.group members → IsCoreKept (limits_in members) c →
-        c.path ≡ Some p → axis < c.group.axes → StandsOn p axis before now → (step_of members c).ends ≡ true →
+        TakesSafely (limits_in members) axis before now (coordinate_of
+        (step_of members c).places axis) }
+    ensures ends { (members : GroupLook) (c : Core) (p : OnPath) (axis : ℕ) (before now : ℤ) →
+        IsLook c.group members → IsCoreKept (limits_in members) c →
+        c.path ≡ Some p → axis < c.group.axes → StandsOn p axis before now →
+        (step_of members c).ends ≡ true →
         coordinate_of (step_of members c).places axis ≡ now }
-    ensures stands { (members : GroupLook) (c : Core) (p q : OnPath) (axis : ℕ) (before now : ℤ) → IsLook c.group members → IsCoreKept (limits_in members) c →
-        c.path ≡ Some p → axis < c.group.axes → StandsOn p axis before now → (cycled members c).path ≡ Some q →
+    ensures stands { (members : GroupLook) (c : Core) (p q : OnPath) (axis : ℕ)
+        (before now : ℤ) → IsLook c.group members → IsCoreKept (limits_in members) c →
+        c.path ≡ Some p → axis < c.group.axes → StandsOn p axis before now →
+        (cycled members c).path ≡ Some q →
         StandsOn q axis now (coordinate_of (step_of members c).places axis) }
-    ensures begins { (members : GroupLook) (axis : ℕ) (w : Wanted) (jerk : ℤ) (c : Core) → IsLook c.group members → IsMade c.group.axes w →
-        IsCoreKept (limits_in members) c → axis < c.group.axes → (q : OnPath) → (commanded w jerk members c).path ≡ Some q →
+    ensures begins { (members : GroupLook) (axis : ℕ) (w : Wanted) (jerk : ℤ) (c : Core) →
+        IsLook c.group members → IsMade c.group.axes w →
+        IsCoreKept (limits_in members) c → axis < c.group.axes → (q : OnPath) →
+        (commanded w jerk members c).path ≡ Some q →
         (c.path ≡ Some q) ⊎ ((is_moving c.path ≡ false)
-        × StandsOn q axis (coordinate_of members.setpoints axis) (coordinate_of members.setpoints axis)) }
-    ensures leaves { (members : GroupLook) (axis : ℕ) (w : Wanted) (jerk : ℤ) (c : Core) (p : OnPath) (before now : ℤ) → IsLook c.group members →
-        IsMade c.group.axes w → IsCoreKept (limits_in members) c → c.path ≡ Some p → StandsOn p axis before now →
+        × StandsOn q axis (coordinate_of members.setpoints axis)
+        (coordinate_of members.setpoints axis)) }
+    ensures leaves { (members : GroupLook) (axis : ℕ) (w : Wanted) (jerk : ℤ) (c : Core)
+        (p : OnPath) (before now : ℤ) → IsLook c.group members →
+        IsMade c.group.axes w → IsCoreKept (limits_in members) c → c.path ≡ Some p →
+        StandsOn p axis before now →
         (commanded w jerk members c).path ≡ None → before ≡ now }
     ensures power_off { (c : Core) → (powered_off c).path ≡ c.path }
-    ensures stays_off { (members : GroupLook) (c : Core) → c.path ≡ None → (cycled members c).path ≡ None }
+    ensures stays_off { (members : GroupLook) (c : Core) → c.path ≡ None →
+        (cycled members c).path ≡ None }
 {
     steps_along_a_path_are_safe::<LinePath>();
     taken_steps_keep();
@@ -78,11 +96,15 @@ pub fn members_keep_their_limits()
 /// a member, an owner that is taken away and a cycle; a GroupReset leaves it as it is.
 pub fn fates_are_told()
     ensures command { (w : Wanted) (jerk : ℤ) (members : GroupLook) (c : Core) →
-        IsFate (command_fate w jerk members c) c.group.active (commanded w jerk members c).group.active }
-    ensures power_off { (c : Core) → IsFate (power_off_fate c) c.group.active (powered_off c).group.active }
+        IsFate (command_fate w jerk members c) c.group.active
+        (commanded w jerk members c).group.active }
+    ensures power_off { (c : Core) →
+        IsFate (power_off_fate c) c.group.active (powered_off c).group.active }
     ensures detach { (owner : ℕ) (g : Group) → IsSame g.active (group_without owner g).active }
-    ensures cycle { (members : GroupLook) (c : Core) → IsFate (cycle_fate members c) c.group.active (cycled members c).group.active }
-    ensures reset { (members : GroupLook) (on_path : Bool) (g : Group) → (reset_where members on_path g).active ≡ g.active }
+    ensures cycle { (members : GroupLook) (c : Core) →
+        IsFate (cycle_fate members c) c.group.active (cycled members c).group.active }
+    ensures reset { (members : GroupLook) (on_path : Bool) (g : Group) →
+        (reset_where members on_path g).active ≡ g.active }
 {}
 
 /// While no error of a member stops the group, a line goes on by the taken move step of its path, by its
@@ -91,17 +113,27 @@ pub fn fates_are_told()
 /// Deceleration, and are Done exactly where the step is 0. In GroupErrorStop a path brakes by its dmax,
 /// from the cycle of the error on. A refused command changes nothing.
 pub fn paths_go_on_by_their_steps()
-    ensures lines { (members : GroupLook) (c : Core) (p : OnPath) (w : Wanted) → IsCoreKept (limits_in members) c → c.group.active ≡ Some w →
+    ensures lines { (members : GroupLook) (c : Core) (p : OnPath) (w : Wanted) →
+        IsCoreKept (limits_in members) c → c.group.active ≡ Some w →
         w.kind ≡ BlockKind.MoveLinearAbsolute → c.path ≡ Some p → is_failing members c ≡ false →
-        Leads (line_step_of w.rates p.motion) (is_line_done p.motion (line_step_of w.rates p.motion)) p.motion
+        Leads (line_step_of w.rates p.motion) (is_line_done p.motion
+        (line_step_of w.rates p.motion)) p.motion
         (cycle_fate members c) (path_taken members c) }
-    ensures halts { (members : GroupLook) (c : Core) (p : OnPath) (w : Wanted) → IsCoreKept (limits_in members) c → c.group.active ≡ Some w →
+    ensures halts { (members : GroupLook) (c : Core) (p : OnPath) (w : Wanted) →
+        IsCoreKept (limits_in members) c → c.group.active ≡ Some w →
         is_slowing w.kind ≡ true → c.path ≡ Some p → is_failing members c ≡ false →
-        Leads (braking_step_of w.rates.d p.motion) (int_eq (braking_step_of w.rates.d p.motion) (pos 0)) p.motion
+        Leads (braking_step_of w.rates.d p.motion) (int_eq (braking_step_of w.rates.d p.motion)
+        (pos 0)) p.motion
         (cycle_fate members c) (path_taken members c) }
-    ensures errors { (members : GroupLook) (c : Core) (p : OnPath) → c.path ≡ Some p → is_error_stop (answered members.error c).group.state ≡ true →
-        path_taken members c ≡ Some (record p { motion = moved_by (braking_step_of p.motion.limits.dmax p.motion) p.motion }) }
-    ensures refused { (w : Wanted) (jerk : ℤ) (members : GroupLook) (c : Core) (r : Reason) → refusal_of (asked_in c w jerk members) ≡ Some r →
+    ensures errors { (members : GroupLook) (c : Core) (p : OnPath) → c.path ≡ Some p →
+        is_error_stop (answered members.error c).group.state ≡ true →
+        path_taken members c
+        ≡ Some (record p {
+          motion = moved_by
+              (braking_step_of p.motion.limits.dmax p.motion) p.motion;
+        }) }
+    ensures refused { (w : Wanted) (jerk : ℤ) (members : GroupLook) (c : Core) (r : Reason) →
+        refusal_of (asked_in c w jerk members) ≡ Some r →
         commanded w jerk members c ≡ c }
 {}
 
@@ -109,17 +141,24 @@ pub fn paths_go_on_by_their_steps()
 /// end in time: an active one is under way for as many cycles as its bound, and every event carries it
 /// on, with fewer cycles to go, or ends it: it is Done at the end of its course, replaced or faulted.
 pub fn courses_end_in_time()
-    ensures begins { (course : Course) (limits : List Limits) (c : Core) (w : Wanted) (p : OnPath) → IsCoreKept limits c → c.group.active ≡ Some w →
-        c.path ≡ Some p → course_of w ≡ Some course → IsUnderWay (bound_of course p.motion) course c }
-    ensures command { (n : ℕ) (course : Course) (w : Wanted) (jerk : ℤ) (members : GroupLook) (c : Core) → IsLook c.group members →
+    ensures begins { (course : Course) (limits : List Limits) (c : Core) (w : Wanted)
+        (p : OnPath) → IsCoreKept limits c → c.group.active ≡ Some w →
+        c.path ≡ Some p → course_of w ≡ Some course →
+        IsUnderWay (bound_of course p.motion) course c }
+    ensures command { (n : ℕ) (course : Course) (w : Wanted) (jerk : ℤ) (members : GroupLook)
+        (c : Core) → IsLook c.group members →
         IsMade c.group.axes w → IsCoreKept (limits_in members) c → IsUnderWay n course c →
-        Carried n 0 course (command_fate w jerk members c).ends (commanded w jerk members c).path (commanded w jerk members c) }
+        Carried n 0 course (command_fate w jerk members c).ends
+        (commanded w jerk members c).path (commanded w jerk members c) }
     ensures power_off { (n : ℕ) (course : Course) (c : Core) → IsUnderWay n course c →
         Carried n 0 course (power_off_fate c).ends (powered_off c).path (powered_off c) }
-    ensures detach { (n : ℕ) (course : Course) (owner : ℕ) (c : Core) → IsUnderWay n course c → IsUnderWay n course (disowned owner c) }
-    ensures cycle { (n : ℕ) (course : Course) (members : GroupLook) (c : Core) → IsCoreKept (limits_in members) c → IsUnderWay n course c →
+    ensures detach { (n : ℕ) (course : Course) (owner : ℕ) (c : Core) → IsUnderWay n course c →
+        IsUnderWay n course (disowned owner c) }
+    ensures cycle { (n : ℕ) (course : Course) (members : GroupLook) (c : Core) →
+        IsCoreKept (limits_in members) c → IsUnderWay n course c →
         Carried n 1 course (cycle_fate members c).ends (path_taken members c) (cycled members c) }
-    ensures reset { (n : ℕ) (course : Course) (members : GroupLook) (c : Core) → IsUnderWay n course c → IsUnderWay n course (reset_cycled members c) }
+    ensures reset { (n : ℕ) (course : Course) (members : GroupLook) (c : Core) →
+        IsUnderWay n course c → IsUnderWay n course (reset_cycled members c) }
 {
     moves_arrive_in_time();
     halts_come_to_rest_in_time();
@@ -130,17 +169,23 @@ pub fn courses_end_in_time()
 /// but for the command that it brings.
 pub fn ends_are_told_once()
     ensures told_command { (w : Wanted) (jerk : ℤ) (members : GroupLook) (c : Core) →
-        TellsOwner (command_fate w jerk members c) c.group.active (commanded w jerk members c).notes }
-    ensures told_power_off { (c : Core) → TellsOwner (power_off_fate c) c.group.active (powered_off c).notes }
-    ensures told_cycle { (members : GroupLook) (c : Core) → TellsOwner (cycle_fate members c) c.group.active (cycled members c).notes }
+        TellsOwner (command_fate w jerk members c) c.group.active
+        (commanded w jerk members c).notes }
+    ensures told_power_off { (c : Core) →
+        TellsOwner (power_off_fate c) c.group.active (powered_off c).notes }
+    ensures told_cycle { (members : GroupLook) (c : Core) →
+        TellsOwner (cycle_fate members c) c.group.active (cycled members c).notes }
     ensures once_command { (k : ℕ) (w : Wanted) (jerk : ℤ) (members : GroupLook) (c : Core) →
         owns k (commanded w jerk members c) + told k (commanded w jerk members c).notes
-        ≡ owns k c + told k c.notes + is_owner k (brought (refusal_of (asked_in c w jerk members)) w) }
-    ensures once_power_off { (k : ℕ) (c : Core) → owns k (powered_off c) + told k (powered_off c).notes ≡ owns k c + told k c.notes }
+        ≡ owns k c + told k c.notes + is_owner k (brought (refusal_of
+        (asked_in c w jerk members)) w) }
+    ensures once_power_off { (k : ℕ) (c : Core) →
+        owns k (powered_off c) + told k (powered_off c).notes ≡ owns k c + told k c.notes }
     ensures once_cycle { (k : ℕ) (members : GroupLook) (c : Core) →
         owns k (cycled members c) + told k (cycled members c).notes ≡ owns k c + told k c.notes }
     ensures once_reset { (k : ℕ) (members : GroupLook) (c : Core) →
-        owns k (reset_cycled members c) + told k (reset_cycled members c).notes ≡ owns k c + told k c.notes }
+        owns k (reset_cycled members c) + told k (reset_cycled members c).notes
+        ≡ owns k c + told k c.notes }
     ensures taken_away { (k : ℕ) (c : Core) → owns k (disowned k c) ≡ 0 }
     ensures left { (j k : ℕ) (c : Core) → nat_eq k j ≡ false → owns j (disowned k c) ≡ owns j c }
 {}
@@ -148,31 +193,39 @@ pub fn ends_are_told_once()
 /// A group changes its state by the diagram alone: each call, each cycle and each GroupReset takes at
 /// most one of its rows, from a state of that row; an owner that is taken away changes none.
 pub fn states_change_by_the_diagram()
-    ensures command { (w : Wanted) (jerk : ℤ) (members : GroupLook) (c : Core) → IsMade c.group.axes w →
+    ensures command { (w : Wanted) (jerk : ℤ) (members : GroupLook) (c : Core) →
+        IsMade c.group.axes w →
         IsNext c.group.state (commanded w jerk members c).group.state }
     ensures power_off { (c : Core) → IsNext c.group.state (powered_off c).group.state }
     ensures detach { (owner : ℕ) (g : Group) → (group_without owner g).state ≡ g.state }
-    ensures cycle { (members : GroupLook) (c : Core) → IsCoreKept (limits_in members) c → IsNext c.group.state (cycled members c).group.state }
-    ensures reset { (members : GroupLook) (on_path : Bool) (g : Group) → IsNext g.state (reset_where members on_path g).state }
+    ensures cycle { (members : GroupLook) (c : Core) → IsCoreKept (limits_in members) c →
+        IsNext c.group.state (cycled members c).group.state }
+    ensures reset { (members : GroupLook) (on_path : Bool) (g : Group) →
+        IsNext g.state (reset_where members on_path g).state }
 {}
 
 /// A group shows an error exactly in GroupErrorStop, and an instance holds GroupStopping only in
 /// GroupStopping: so at opening, and after every call, every cycle and every GroupReset.
 pub fn errors_stand_in_error_stop()
     ensures opened { (axes : ℕ) → IsShown (opening axes).group }
-    ensures command { (w : Wanted) (jerk : ℤ) (members : GroupLook) (c : Core) → IsMade c.group.axes w →
+    ensures command { (w : Wanted) (jerk : ℤ) (members : GroupLook) (c : Core) →
+        IsMade c.group.axes w →
         IsShown c.group → IsShown (commanded w jerk members c).group }
     ensures power_off { (c : Core) → IsShown c.group → IsShown (powered_off c).group }
     ensures detach { (owner : ℕ) (g : Group) → IsShown g → IsShown (group_without owner g) }
-    ensures cycle { (members : GroupLook) (c : Core) → IsCoreKept (limits_in members) c → IsShown c.group → IsShown (cycled members c).group }
-    ensures reset { (members : GroupLook) (on_path : Bool) (g : Group) → IsShown g → IsShown (reset_where members on_path g) }
+    ensures cycle { (members : GroupLook) (c : Core) → IsCoreKept (limits_in members) c →
+        IsShown c.group → IsShown (cycled members c).group }
+    ensures reset { (members : GroupLook) (on_path : Bool) (g : Group) → IsShown g →
+        IsShown (reset_where members on_path g) }
 {}
 
 /// At most eight commands wait for a group: a command that is asked keeps that, and a Power off of a
 /// member and a cycle add none.
 pub fn at_most_eight_wait()
-    ensures command { (w : Wanted) (jerk : ℤ) (members : GroupLook) (c : Core) → IsMade c.group.axes w → length c.waiting ≤ 8 →
+    ensures command { (w : Wanted) (jerk : ℤ) (members : GroupLook) (c : Core) →
+        IsMade c.group.axes w → length c.waiting ≤ 8 →
         length (commanded w jerk members c).waiting ≤ 8 }
     ensures power_off { (c : Core) → length (powered_off c).waiting ≤ length c.waiting }
-    ensures cycle { (members : GroupLook) (c : Core) → length (cycled members c).waiting ≤ length c.waiting }
+    ensures cycle { (members : GroupLook) (c : Core) →
+        length (cycled members c).waiting ≤ length c.waiting }
 {}

@@ -1,7 +1,7 @@
 // How a group moves along its path, whatever path that is.
 
-ghost use Rattle.std.specs.Prelude.{◌≡◌, ◌<◌, ◌≤◌, ◌*◌, ◌+ℤ◌, ◌-ℤ◌, ◌≤ℤ◌, pos, IfSome, length, unsigned_abs};
 ghost use Rattle.std.specs.Int.{int_min};
+ghost use Rattle.std.specs.Prelude.{◌≡◌, ◌<◌, ◌≤◌, ◌*◌, ◌+ℤ◌, ◌-ℤ◌, ◌≤ℤ◌, pos, IfSome, length, unsigned_abs};
 ghost use Rattle.command_pool.specs.Rates.{AreRates};
 ghost use Rattle.group_core.specs.Cycles as cycles;
 ghost use Rattle.group_core.specs.GroupKept.{AreNumbers, IsDeceleration};
@@ -44,7 +44,8 @@ fn way_left(motion: &Motion) -> i64
 fn taken(motion: &Motion, step: i64) -> i64
     requires motion { IsMotionKept motion.now }
     requires step { unsigned_abs step ≤ 2 * MOST_WAY }
-    ensures value { result ≡ taken_step_of motion.now.limits motion.now.previous motion.now.place step }
+    ensures value { result
+        ≡ taken_step_of motion.now.limits motion.now.previous motion.now.place step }
     ensures kept { IsKept motion.now.limits motion.now.place (motion.now.place +ℤ result) }
     ensures small { IsStep result }
 {
@@ -175,7 +176,8 @@ fn stand_on<P: Path>(path: &P, place: i64, setpoints: &mut [i64; 6])
     requires axes { P.count_of path.now ≤ 6 }
     requires from_the_start { pos 0 ≤ℤ place }
     requires to_the_target { place ≤ℤ P.length_of path.now }
-    ensures { setpoints.new ≡ places_of (P.count_of path.now) (P.place_of path.now) place setpoints.old }
+    ensures { setpoints.new
+        ≡ places_of (P.count_of path.now) (P.place_of path.now) place setpoints.old }
 {
     for axis in 0..path.axes() {
         setpoints[axis as usize] = path.place(axis, place);
@@ -193,11 +195,13 @@ pub fn step_along<P: Path>(
     requires length { track.old.motion.limits.hi ≡ P.length_of track.old.path }
     requires motion { IsMotionKept track.old.motion }
     requires active { IfSome group.now.active (λ w. AreNumbers w.kind w) }
-    ensures motion { track.new ≡ record track.old { motion = (cycles.advanced group.now track.old.motion).motion } }
+    ensures motion { track.new
+        ≡ record track.old { motion = (cycles.advanced group.now track.old.motion).motion } }
     ensures limits { track.new.motion.limits ≡ track.old.motion.limits }
     ensures kept { IsMotionKept track.new.motion }
     ensures ending { result ≡ (cycles.advanced group.now track.old.motion).ending }
-    ensures places { setpoints.new ≡ places_of (P.count_of track.old.path) (P.place_of track.old.path)
+    ensures places { setpoints.new
+        ≡ places_of (P.count_of track.old.path) (P.place_of track.old.path)
         (cycles.advanced group.now track.old.motion).motion.place setpoints.old }
 {
     let ending = advance(group, &mut track.motion);

@@ -53,7 +53,8 @@ impl<P: Path + Drop> GroupCore<P> {
             ≡ commands.powered_off (core_in self.old.group p pool.old list notes.old) }
         ensures path { self.new.track ≡ self.old.track }
         ensures others { pool.new ≡ slice_set pool.old list (queue_of pool.new list) }
-        ensures kept { (limits : List Limits) (p : Option OnPath) → IsGroupKept limits self.old.group p (queue_of pool.old list)
+        ensures kept { (limits : List Limits) (p : Option OnPath) →
+            IsGroupKept limits self.old.group p (queue_of pool.old list)
             → IsGroupKept limits self.new.group p (queue_of pool.new list) }
     {
         crate::calls::power_off(&mut self.on.group, pool, list, notes);
@@ -65,10 +66,13 @@ impl<P: Path + Drop> GroupCore<P> {
         requires count { members.now.count ≤ 6 }
         requires room { notes.old ≡ [] }
         ensures row { result ≡ cycles.row_of self.new.group }
-        ensures group { self.new.group ≡ cycles.reset_where members.now (is_some self.old.track) self.old.group }
+        ensures group { self.new.group
+            ≡ cycles.reset_where members.now (is_some self.old.track) self.old.group }
         ensures path { self.new.track ≡ self.old.track }
-        ensures notes { notes.new ≡ reset_notes self.old.group.reset (is_some self.old.track) self.old.group }
-        ensures kept { (limits : List Limits) (p : Option OnPath) (ws : List Wanted) → is_some p ≡ is_some self.old.track
+        ensures notes { notes.new
+            ≡ reset_notes self.old.group.reset (is_some self.old.track) self.old.group }
+        ensures kept { (limits : List Limits) (p : Option OnPath) (ws : List Wanted) →
+            is_some p ≡ is_some self.old.track
             → IsGroupKept limits self.old.group p ws → IsGroupKept limits self.new.group p ws }
     {
         let on_path = self.on.track.is_some();
@@ -82,8 +86,10 @@ impl<P: Path + Drop> GroupCore<P> {
     /// Takes an owner away from the active command, the pending GroupReset and the hold on
     /// GroupStopping.
     pub fn detach(&mut self, owner: u16)
-        ensures after { self.new ≡ record self.old { group = commands.group_without owner self.old.group } }
-        ensures kept { (limits : List Limits) (p : Option OnPath) (ws : List Wanted) → IsGroupKept limits self.old.group p ws
+        ensures after { self.new
+            ≡ record self.old { group = commands.group_without owner self.old.group } }
+        ensures kept { (limits : List Limits) (p : Option OnPath) (ws : List Wanted) →
+            IsGroupKept limits self.old.group p ws
             → IsGroupKept limits self.new.group p (map (waiting.detached owner) ws) }
     {
         crate::calls::detach(owner, &mut self.on.group);
@@ -119,7 +125,8 @@ impl GroupCore<LinePath> {
         requires { IsCount axes }
         ensures group { result.group ≡ cycles.opened axes }
         ensures path { result.track ≡ None }
-        ensures kept { (limits : List Limits) → AreGroupLimits axes limits → IsGroupKept limits result.group None [] }
+        ensures kept { (limits : List Limits) → AreGroupLimits axes limits →
+            IsGroupKept limits result.group None [] }
     {
         GroupCore {
             on: GroupOnPath {
@@ -150,13 +157,18 @@ impl GroupCore<LinePath> {
         requires list { list < length pool.old }
         requires room { notes.old ≡ [] }
         requires look { IsLook self.old.group members.now }
-        requires kept { IsCoreKept (limits_in members.now) (core_at self.old pool.old list notes.old) }
+        requires kept { IsCoreKept (limits_in members.now)
+            (core_at self.old pool.old list notes.old) }
         requires made { IsMade self.old.group.axes wanted.now }
-        ensures answer { result ≡ commands.answer_of wanted.now jerk members.now (core_at self.old pool.old list notes.old) }
+        ensures answer { result
+            ≡ commands.answer_of wanted.now jerk members.now
+            (core_at self.old pool.old list notes.old) }
         ensures after { core_at self.new pool.new list notes.new
-            ≡ commands.commanded wanted.now jerk members.now (core_at self.old pool.old list notes.old) }
+            ≡ commands.commanded wanted.now jerk members.now
+            (core_at self.old pool.old list notes.old) }
         ensures others { pool.new ≡ slice_set pool.old list (queue_of pool.new list) }
-        ensures kept { IsCoreKept (limits_in members.now) (core_at self.new pool.new list notes.new) }
+        ensures kept { IsCoreKept (limits_in members.now)
+            (core_at self.new pool.new list notes.new) }
     {
         crate::calls::command(wanted, jerk, members, &mut self.on, pool, list, notes)
     }
@@ -173,11 +185,15 @@ impl GroupCore<LinePath> {
         requires list { list < length pool.old }
         requires room { notes.old ≡ [] }
         requires look { IsLook self.old.group members.now }
-        requires kept { IsCoreKept (limits_in members.now) (core_at self.old pool.old list notes.old) }
-        ensures step { result ≡ cycles.step_of members.now (core_at self.old pool.old list notes.old) }
-        ensures after { core_at self.new pool.new list notes.new ≡ cycles.cycled members.now (core_at self.old pool.old list notes.old) }
+        requires kept { IsCoreKept (limits_in members.now)
+            (core_at self.old pool.old list notes.old) }
+        ensures step { result
+            ≡ cycles.step_of members.now (core_at self.old pool.old list notes.old) }
+        ensures after { core_at self.new pool.new list notes.new
+            ≡ cycles.cycled members.now (core_at self.old pool.old list notes.old) }
         ensures others { pool.new ≡ slice_set pool.old list (queue_of pool.new list) }
-        ensures kept { IsCoreKept (limits_in members.now) (core_at self.new pool.new list notes.new) }
+        ensures kept { IsCoreKept (limits_in members.now)
+            (core_at self.new pool.new list notes.new) }
     {
         crate::cycles::cycle(members, &mut self.on, pool, list, notes)
     }

@@ -1,7 +1,7 @@
 // In which state a group and its axes are.
 
-ghost use Rattle.std.specs.Prelude.{◌≡◌};
 ghost use Rattle.std.specs.List.{list_any};
+ghost use Rattle.std.specs.Prelude.{◌≡◌};
 ghost use Rattle.group_core.specs.States as spec;
 
 use axis_state::AxisState;

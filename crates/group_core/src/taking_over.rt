@@ -36,7 +36,8 @@ pub fn end_all(
     requires room { length notes.old ≤ 3 }
     ensures group { group.new ≡ record group.old { active = None } }
     ensures waiting { queue_of pool.new list ≡ [] }
-    ensures notes { notes.new ≡ notes.old ++ end_notes finish (commands group.old.active pool.old list) }
+    ensures notes { notes.new
+        ≡ notes.old ++ end_notes finish (commands group.old.active pool.old list) }
     ensures others { pool.new ≡ slice_set pool.old list (queue_of pool.new list) }
 {
     abort_all(pool, list, &mut group.active, finish, notes);
@@ -72,7 +73,8 @@ pub fn begin(wanted: &Wanted, group: &mut Group)
 pub fn beginning(members: &GroupLook, starts: &[i64; 6], targets: &[i64; 6]) -> Track<LinePath>
     requires { MayBeginLine members.now starts.now targets.now }
     ensures { on_path (Some result) ≡ Some (beginning
-        (record { count = members.now.count; starts = starts.now; targets = targets.now }) (refusals.limits_in members.now)) }
+        (record { count = members.now.count; starts = starts.now; targets = targets.now })
+        (refusals.limits_in members.now)) }
 {
     let path = LinePath {
         count: members.count,
@@ -100,7 +102,9 @@ pub fn begin_line(
     requires state { IsFrom on.old.group.state (kinds.event_of wanted.now.kind) }
     requires line { MayBeginLine members.now setpoints.now wanted.now.targets }
     ensures group { on.new.group ≡ spec.begun wanted.now on.old.group }
-    ensures path { on_path on.new.track ≡ Some (beginning (way_to members.now.count setpoints.now wanted.now) (refusals.limits_in members.now)) }
+    ensures path { on_path on.new.track
+        ≡ Some (beginning (way_to members.now.count setpoints.now wanted.now)
+        (refusals.limits_in members.now)) }
 {
     begin(wanted, &mut on.group);
     on.track = Some(beginning(members, setpoints, &wanted.targets));
@@ -109,7 +113,8 @@ pub fn begin_line(
 // The group settles where no command waits.
 fn settle(on: &mut GroupOnPath<LinePath>)
     ensures group { on.new.group ≡ record on.old.group { state = spec.settled on.old.group.state } }
-    ensures path { on_path on.new.track ≡ spec.path_settled on.old.group.state (on_path on.old.track) }
+    ensures path { on_path on.new.track
+        ≡ spec.path_settled on.old.group.state (on_path on.old.track) }
 {
     if matches!(on.group.state, GroupState::GroupMoving) {
         on.group.state = group_next(on.group.state, GroupEvent::LastDone);
@@ -126,9 +131,11 @@ fn take_over_next(
     list: u8,
 )
     requires list { list < length pool.old }
-    requires waiting { MayTakeOver members.now setpoints.now on.old.group.state (queue_of pool.old list) }
+    requires waiting { MayTakeOver members.now setpoints.now on.old.group.state
+        (queue_of pool.old list) }
     ensures after { (notes : List Note) → core_at on.new pool.new list notes
-        ≡ spec.taken_over members.now setpoints.now (queue_of pool.old list) (core_at on.old pool.old list notes) }
+        ≡ spec.taken_over members.now setpoints.now (queue_of pool.old list)
+        (core_at on.old pool.old list notes) }
     ensures others { pool.new ≡ slice_set pool.old list (queue_of pool.new list) }
 {
     match pool.pop_first(list) {
@@ -162,7 +169,8 @@ fn end(
 )
     requires list { list < length pool.old }
     requires room { length notes.old < 12 }
-    requires waiting { MayTakeOver members.now setpoints.now on.old.group.state (queue_of pool.old list) }
+    requires waiting { MayTakeOver members.now setpoints.now on.old.group.state
+        (queue_of pool.old list) }
     ensures after { core_at on.new pool.new list notes.new
         ≡ spec.ended members.now setpoints.now finish (core_at on.old pool.old list notes.old) }
     ensures others { pool.new ≡ slice_set pool.old list (queue_of pool.new list) }
@@ -183,7 +191,8 @@ pub fn end_by(
 )
     requires list { list < length pool.old }
     requires room { length notes.old < 12 }
-    requires waiting { IfSome ending (λ f. MayTakeOver members.now setpoints.now on.old.group.state (queue_of pool.old list)) }
+    requires waiting { IfSome ending
+        (λ f. MayTakeOver members.now setpoints.now on.old.group.state (queue_of pool.old list)) }
     ensures after { core_at on.new pool.new list notes.new
         ≡ spec.ended_by members.now setpoints.now ending (core_at on.old pool.old list notes.old) }
     ensures others { pool.new ≡ slice_set pool.old list (queue_of pool.new list) }

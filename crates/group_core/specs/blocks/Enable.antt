@@ -1,5 +1,5 @@
 -- MC_GroupEnable and MC_GroupDisable (PLCopen Motion Control Part 4).
-use Rattle.std.specs.Prelude.{Option, None, List, [], ◌∷◌}
+use Rattle.std.specs.Prelude.{List, [], ◌∷◌}
 use Rattle.group_state.specs.Diagram.{next_of}
 use Rattle.group_state.specs.declared.diagram.GroupEvent.TheVariants.{Enable, Disable}
 use Rattle.group_core.specs.declared.group.Group.{Group}

@@ -1,5 +1,5 @@
 -- MC_MoveLinearAbsolute, and MC_MoveCircularAbsolute, which is refused (PLCopen Part 4).
-use Rattle.std.specs.Prelude.{ℕ, Bool, true, false, ◌&&◌, if◌then◌else◌, ℤ, pos, Option, Some, None, List, [], ◌∷◌, ◌++◌}
+use Rattle.std.specs.Prelude.{ℕ, ◌&&◌, if◌then◌else◌, ℤ, pos, Option, Some, None, List, [], ◌∷◌, ◌++◌}
 use Rattle.std.specs.Ordering.{int_eq}
 use Rattle.command_pool.specs.declared.ending.Finish.{Finish}
 use Rattle.command_pool.specs.declared.ending.Finish.TheVariants as finish

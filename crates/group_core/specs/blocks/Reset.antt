@@ -1,5 +1,5 @@
 -- MC_GroupReset: it is pending until a cycle in which it may be done (PLCopen Part 4).
-use Rattle.std.specs.Prelude.{Bool, true, false, ◌&&◌, not, if◌then◌else◌, Option, Some, None, is_some, List, []}
+use Rattle.std.specs.Prelude.{Bool, true, false, ◌&&◌, not, if◌then◌else◌, Option, Some, None, List, []}
 use Rattle.std.specs.List.{list_any}
 use Rattle.axis_state.specs.declared.state.AxisState.{AxisState}
 use Rattle.command_pool.specs.Waiting.{told_to}

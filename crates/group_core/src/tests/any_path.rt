@@ -38,7 +38,8 @@ impl Path for Rail {
 
     ghost place_of = { λ rail axis s. s };
 
-    ghost limits_of = { λ rail limits. record (limits_at limits 0) { lo = pos 0; hi = rail.length } };
+    ghost limits_of = { λ rail limits. record
+        (limits_at limits 0) { lo = pos 0; hi = rail.length } };
 
     ghost begins_at_the_start = { λ rail axis inside. refl };
 
@@ -74,8 +75,10 @@ impl Path for Rail {
         let high = within.target_below in
         let from = ok.above in
         let to = ok.below in
-        let own : IsAdmissible (record (limits_at limits axis) { lo = pos 0; hi = rail.length }) before now next =
-        subst (λ k. IsAdmissible (record (limits_at limits k) { lo = pos 0; hi = rail.length }) before now next) first ok in
+        let own : IsAdmissible (record
+        (limits_at limits axis) { lo = pos 0; hi = rail.length }) before now next =
+        subst (λ k. IsAdmissible (record
+        (limits_at limits k) { lo = pos 0; hi = rail.length }) before now next) first ok in
         record {
           above = Prim.omega (arith, ints, low, from);
           below = Prim.omega (arith, ints, high, to);

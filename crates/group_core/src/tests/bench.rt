@@ -128,7 +128,8 @@ fn expect_limits(rt: &impl Abort, limits: &[Limits])
 // Stops the test where a place is outside the limits of its axis.
 fn expect_within(rt: &impl Abort, limits: &[Limits], places: &[i64; 6])
     requires { length limits.now ≤ 6 }
-    ensures { (axis : ℕ) → axis < length limits.now → IsWithin (limits_at limits.now axis) (coordinate_of places.now axis) }
+    ensures { (axis : ℕ) → axis < length limits.now →
+        IsWithin (limits_at limits.now axis) (coordinate_of places.now axis) }
 {
     for axis in 0..limits.len() {
         assert!(rt; limits[axis].lo <= places[axis]);

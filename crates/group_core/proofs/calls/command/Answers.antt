@@ -1,17 +1,17 @@
 -- What a command asks of its parts, and what it keeps.
-use Rattle.std.specs.Prelude.{◌≡◌, ℕ, Bool, ℤ, Option, None, length}
+use Rattle.std.specs.Prelude.{◌≡◌, ℕ, Bool, ℤ, Option, length}
 use Rattle.std.proofs.Common.{◌∙◌, sym, subst, arith}
 use Rattle.std.proofs.lemmas.Int.{ints}
 use Rattle.command_pool.specs.declared.wanted.Wanted.{Wanted}
 use Rattle.group_core.specs.Calls.{asked_in}
 use Rattle.group_core.specs.Cores.{Core}
 use Rattle.group_core.specs.GroupKept.{IsCoreKept}
-use Rattle.group_core.specs.Refusals.{Asked, limits_in, refusal_of}
+use Rattle.group_core.specs.Refusals.{limits_in, refusal_of}
 use Rattle.group_core.specs.Seen.{core_at}
 use Rattle.group_core.specs.Tracks.{is_moving}
 use Rattle.group_core.specs.declared.look.GroupLook.{GroupLook}
 use Rattle.group_core.specs.declared.reason.Reason.{Reason}
-use Rattle.group_core.proofs.KeptCalls.{IsAsked, admitted-kept, may-admit}
+use Rattle.group_core.proofs.KeptCalls.{admitted-kept, may-admit}
 use Rattle.group_core.proofs.calls.command.Goals as goal
 
 -- what a command is asked of, as it was read

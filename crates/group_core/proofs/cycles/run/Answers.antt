@@ -1,5 +1,5 @@
 -- A cycle, from what its parts made.
-use Rattle.std.specs.Prelude.{◌≡◌, ◌≤◌, length, slice_set}
+use Rattle.std.specs.Prelude.{◌≡◌, length, slice_set}
 use Rattle.std.proofs.Common.{◌∙◌, sym, ap, subst, arith}
 use Rattle.command_pool.specs.Waiting.{queue_of}
 use Rattle.group_core.specs.Cores.{Core, core_in}

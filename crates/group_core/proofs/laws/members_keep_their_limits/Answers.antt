@@ -1,7 +1,6 @@
 -- Each axis keeps its own limits along the path.
-use Rattle.std.specs.Prelude.{◌≡◌, ℕ, ℤ, List}
+use Rattle.std.specs.Prelude.{ℤ}
 use Rattle.std.proofs.Common.{◌∙◌, sym, subst}
-use Rattle.kin_core.specs.declared.limits.Limits.{Limits}
 use Rattle.linear_path.specs.Line.{coordinate_of}
 use Rattle.linear_path.specs.declared.line.LinePath.{LinePath}
 use Rattle.group_core.specs.Cycles.{step_of}

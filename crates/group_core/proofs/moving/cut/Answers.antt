@@ -1,7 +1,7 @@
 -- The rates by their parts.
 use Rattle.std.specs.Int.{int_min}
-use Rattle.std.proofs.Common.{◌≡◌, ◌∙◌, ℤ, arith, w64, FitsSigned, to_z, of_z, to_z-of_z}
-use Rattle.std.proofs.lemmas.Int.{ints, clamps}
+use Rattle.std.proofs.Common.{◌≡◌, ◌∙◌, ℤ, arith, w64, FitsSigned, to_z-of_z}
+use Rattle.std.proofs.lemmas.Int.{ints}
 use Rattle.command_pool.specs.declared.rates.Rates.{Rates}
 use Rattle.group_core.proofs.moving.cut.Goals as goal
 

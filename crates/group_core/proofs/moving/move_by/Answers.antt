@@ -1,8 +1,7 @@
 -- The pair after the step can be stopped.
-use Rattle.std.proofs.Common.{◌≡◌, ℤ, pos, arith, sym}
+use Rattle.std.proofs.Common.{◌≡◌, ℤ, pos, arith}
 use Rattle.std.proofs.lemmas.Int.{ints}
 use Rattle.group_core.specs.Tracks.{IsMotionKept}
-use Rattle.group_core.specs.declared.group.Motion.{Motion}
 use Rattle.kin_core.specs.Admissible.{AreLimits, IsKept}
 use Rattle.kin_core.specs.declared.limits.Limits.{Limits}
 use Rattle.group_core.proofs.moving.move_by.Goals as goal

@@ -1,5 +1,5 @@
 -- The place after the step is one of the path.
-use Rattle.std.proofs.Common.{◌≡◌, ◌∙◌, ℤ, pos, ◌≤ℤ◌, arith, sym, ap}
+use Rattle.std.proofs.Common.{◌≡◌, arith, ap}
 use Rattle.std.proofs.lemmas.Int.{ints}
 use Rattle.kin_core.specs.declared.limits.Limits.{Limits}
 use Rattle.group_core.proofs.moving.step_along.Goals as goal

@@ -1,5 +1,5 @@
 -- The pair after the step can be stopped.
-use Rattle.std.proofs.Common.{◌≡◌, ℤ, ◌+ℤ◌, arith, sym}
+use Rattle.std.proofs.Common.{◌≡◌, ℤ, arith}
 use Rattle.std.proofs.lemmas.Int.{ints}
 use Rattle.kin_core.specs.Admissible.{IsKept}
 use Rattle.kin_core.specs.declared.limits.Limits.{Limits}

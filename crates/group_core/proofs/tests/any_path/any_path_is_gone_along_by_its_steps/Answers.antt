@@ -4,7 +4,6 @@ use Rattle.std.proofs.Common.{arith}
 use Rattle.std.proofs.lemmas.Int.{ints}
 use Rattle.command_pool.specs.Rates.{AreRates}
 use Rattle.kin_core.specs.Admissible.{AreLimits}
-use Rattle.kin_core.specs.declared.limits.Limits.{Limits}
 use Rattle.group_core.proofs.tests.any_path.any_path_is_gone_along_by_its_steps.Goals as goal
 
 are : AreLimits (record { lo = pos 0; hi = pos 20; vmax = pos 10; amax = pos 4; dmax = pos 4 })

@@ -1,5 +1,5 @@
 -- The limits so far are in range.
-use Rattle.std.proofs.Common.{ℕ, ◌<◌, ℤ, pos, ◌≤ℤ◌}
+use Rattle.std.proofs.Common.{ℕ, ◌<◌, pos, ◌≤ℤ◌}
 use Rattle.linear_path.specs.Path.{AreAxisLimits, limits_at}
 use Rattle.group_core.proofs.tests.bench.expect_limits.Given as goal
 

@@ -9,7 +9,6 @@ use Rattle.group_core.specs.GroupKept.{IsGroupKept}
 use Rattle.group_core.specs.Refusals.{limits_in}
 use Rattle.group_core.specs.Seen.{on_path}
 use Rattle.group_core.specs.Tracks.{OnPath}
-use Rattle.group_core.specs.declared.group.Group.{Group}
 use Rattle.group_core.specs.declared.group.GroupOnPath.{GroupOnPath}
 use Rattle.group_core.proofs.Benches.{as-many, queue-without, same-axes}
 use Rattle.group_core.proofs.tests.bench.Bench.detach.Goals as goal
