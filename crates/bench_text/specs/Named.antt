@@ -32,18 +32,22 @@ block_at s name = position (λ (d : BlockDef). bytes_eq d.name name) s.blocks
 abbrev pub object_at : Setup → BlockKind → List ℕ → Option ℕ
 object_at s kind name = if acts_on_group kind then group_at s name else axis_at s name
 
--- a name that is no axis's breaks its rule, and so do those of the others
+-- the axis of this name; a name that is none's breaks its rule
 abbrev pub axis_named : Setup → List ℕ → Result ℕ ℕ
 axis_named s name = ok_or (axis_at s name) WRONG_NAME
 
+-- the task of this name, in the same way
 abbrev pub task_named : Setup → List ℕ → Result ℕ ℕ
 task_named s name = ok_or (task_at s name) WRONG_NAME
 
+-- the block of this name, in the same way
 abbrev pub block_named : Setup → List ℕ → Result ℕ ℕ
 block_named s name = ok_or (block_at s name) WRONG_NAME
 
+-- the axis or group of this name, in the same way
 abbrev pub object_named : Setup → BlockKind → List ℕ → Result ℕ ℕ
 object_named s kind name = ok_or (object_at s kind name) WRONG_NAME
 
+-- the kind of this name, in the same way
 abbrev pub kind_of : List ℕ → Result BlockKind ℕ
 kind_of name = ok_or (kind_named name) WRONG_NAME

@@ -4,6 +4,8 @@ use super::{TOP, joined};
 use crate::{BenchLine, read_bench};
 use fb_outputs::{BlockKind, BufferMode, Inputs};
 use motion_history::TraceVersion;
+use std::alloc::Global;
+use std::process::Abort;
 use std::test::Fail;
 
 // The inputs of a call with Execute true of which all are left out.
@@ -21,128 +23,127 @@ const LEFT_OUT: Inputs = Inputs {
     table: 0,
 };
 
-// Lines of events behind the machine of eleven lines, and what they say.
+// A call of the block of this number.
+fn call(instance: u16, inputs: Inputs) -> BenchLine {
+    BenchLine::Call { instance, inputs }
+}
+
+// Stops the test unless a line behind the machine of eleven lines and `go` says this.
+fn expect_event(
+    rt: &impl Abort,
+    alloc: Global,
+    line: &[u8],
+    wanted: &BenchLine,
+) -> Result<(), Fail> {
+    let text = joined(alloc, &[TOP, b"\r\n go # now\n", line])?;
+    let bench = read_bench(alloc, text.as_slice()).ok().ok_or("a bench")?;
+    let [event] = bench.lines() else {
+        assert!(rt; false, "one event in {line:?}");
+        return Ok(());
+    };
+    assert_eq!(rt; event, wanted, "{line:?}");
+    Ok(())
+}
+
 #[test]
-fn reads_events(rt: HostRuntime) -> Result<(), Fail> {
-    let call = |instance, inputs| BenchLine::Call { instance, inputs };
-    let cases: [(&[u8], BenchLine); 16] = [
+fn reads_other_events(rt: HostRuntime) -> Result<(), Fail> {
+    let off = Inputs {
+        execute: false,
+        ..LEFT_OUT
+    };
+    let cases: [(&[u8], BenchLine); 8] = [
         (b"call M on", call(0, LEFT_OUT)),
-        (
-            b"call M off",
-            call(
-                0,
-                Inputs {
-                    execute: false,
-                    ..LEFT_OUT
-                },
-            ),
-        ),
-        (
-            b"call M on pos=20 vel=6 acc=2 dec=3 jerk=4 mode=buffered",
-            call(
-                0,
-                Inputs {
-                    positions: [20, 0, 0, 0, 0, 0],
-                    velocity: 6,
-                    acceleration: 2,
-                    deceleration: 3,
-                    jerk: 4,
-                    mode: BufferMode::Buffered,
-                    ..LEFT_OUT
-                },
-            ),
-        ),
-        (
-            b"\tcall  M\ron pos=-0005 # now\r",
-            call(
-                0,
-                Inputs {
-                    positions: [-5, 0, 0, 0, 0, 0],
-                    ..LEFT_OUT
-                },
-            ),
-        ),
-        (
-            b"call M on vel=1#acc=2",
-            call(
-                0,
-                Inputs {
-                    velocity: 1,
-                    ..LEFT_OUT
-                },
-            ),
-        ),
-        (
-            b"call M on dec=-1000000000000000000 mode=blendingHigh",
-            call(
-                0,
-                Inputs {
-                    deceleration: -1_000_000_000_000_000_000,
-                    mode: BufferMode::BlendingHigh,
-                    ..LEFT_OUT
-                },
-            ),
-        ),
-        (
-            b"call L on pos=30;-10 mode=blendingLow",
-            call(
-                1,
-                Inputs {
-                    positions: [30, -10, 0, 0, 0, 0],
-                    mode: BufferMode::BlendingLow,
-                    ..LEFT_OUT
-                },
-            ),
-        ),
-        (
-            b"call E on acc=1 dec=2 master=Y num=-3 den=0",
-            call(
-                2,
-                Inputs {
-                    acceleration: 1,
-                    deceleration: 2,
-                    master: 1,
-                    numerator: -3,
-                    denominator: 0,
-                    ..LEFT_OUT
-                },
-            ),
-        ),
-        (
-            b"call C on vel=1 mode=blendingPrevious master=X table=65535",
-            call(
-                3,
-                Inputs {
-                    velocity: 1,
-                    mode: BufferMode::BlendingPrevious,
-                    table: 65_535,
-                    ..LEFT_OUT
-                },
-            ),
-        ),
-        (
-            b"call C on mode=blendingNext",
-            call(
-                3,
-                Inputs {
-                    mode: BufferMode::BlendingNext,
-                    ..LEFT_OUT
-                },
-            ),
-        ),
         (b"call C on mode=aborting table=-0", call(3, LEFT_OUT)),
         (b"call P on", call(4, LEFT_OUT)),
+        (b"call M off", call(0, off)),
         (b"cycle", BenchLine::Cycles { count: 1 }),
         (b"cycle 007", BenchLine::Cycles { count: 7 }),
         (b"cycle 200000", BenchLine::Cycles { count: 200_000 }),
         (b"end main", BenchLine::End { task: 0 }),
     ];
     for (line, wanted) in cases {
-        let text = joined(rt.alloc(), &[TOP, b"\r\n go # now\n", line])?;
-        let bench = read_bench(rt.alloc(), text.as_slice())
-            .ok()
-            .ok_or("a bench")?;
-        assert_eq!(rt; bench.lines(), [wanted].as_slice(), "{line:?}");
+        expect_event(&rt, rt.alloc(), line, &wanted)?;
+    }
+    Ok(())
+}
+
+#[test]
+fn reads_calls_of_an_axis(rt: HostRuntime) -> Result<(), Fail> {
+    let move_to = Inputs {
+        positions: [20, 0, 0, 0, 0, 0],
+        velocity: 6,
+        acceleration: 2,
+        deceleration: 3,
+        jerk: 4,
+        mode: BufferMode::Buffered,
+        ..LEFT_OUT
+    };
+    let position = Inputs {
+        positions: [-5, 0, 0, 0, 0, 0],
+        ..LEFT_OUT
+    };
+    let velocity = Inputs {
+        velocity: 1,
+        ..LEFT_OUT
+    };
+    let deceleration = Inputs {
+        deceleration: -1_000_000_000_000_000_000,
+        mode: BufferMode::BlendingHigh,
+        ..LEFT_OUT
+    };
+    let cases: [(&[u8], Inputs); 4] = [
+        (
+            b"call M on pos=20 vel=6 acc=2 dec=3 jerk=4 mode=buffered",
+            move_to,
+        ),
+        (b"\tcall  M\ron pos=-0005 # now\r", position),
+        (b"call M on vel=1#acc=2", velocity),
+        (
+            b"call M on dec=-1000000000000000000 mode=blendingHigh",
+            deceleration,
+        ),
+    ];
+    for (line, inputs) in cases {
+        expect_event(&rt, rt.alloc(), line, &call(0, inputs))?;
+    }
+    Ok(())
+}
+
+#[test]
+fn reads_calls_of_groups_and_followers(rt: HostRuntime) -> Result<(), Fail> {
+    let line = Inputs {
+        positions: [30, -10, 0, 0, 0, 0],
+        mode: BufferMode::BlendingLow,
+        ..LEFT_OUT
+    };
+    let gear = Inputs {
+        acceleration: 1,
+        deceleration: 2,
+        mode: BufferMode::BlendingNext,
+        master: 1,
+        numerator: -3,
+        denominator: 0,
+        ..LEFT_OUT
+    };
+    let cam = Inputs {
+        velocity: 1,
+        mode: BufferMode::BlendingPrevious,
+        table: 65_535,
+        ..LEFT_OUT
+    };
+    let cases: [(&[u8], BenchLine); 3] = [
+        (b"call L on pos=30;-10 mode=blendingLow", call(1, line)),
+        (
+            b"call E on acc=1 dec=2 mode=blendingNext master=Y num=-3 den=0",
+            call(2, gear),
+        ),
+        (
+            b"call C on vel=1 mode=blendingPrevious master=X table=65535",
+            call(3, cam),
+        ),
+    ];
+    for (line, wanted) in cases {
+        expect_event(&rt, rt.alloc(), line, &wanted)?;
     }
     Ok(())
 }

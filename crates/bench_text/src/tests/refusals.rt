@@ -1,155 +1,163 @@
 // Texts that are refused, by the rules in the order in which they are tested in a line.
 
 use super::{TOP, joined, refusal};
+use std::alloc::Global;
+use std::process::Abort;
 use std::test::Fail;
 
-// Lines behind the machine of eleven lines.
-#[test]
-fn refuses_lines_of_a_machine(rt: HostRuntime) -> Result<(), Fail> {
-    let cases: [(&[u8], u8); 68] = [
-        (b"task t\x00", 1),
-        (b"task t #\x7f", 1),
-        (b"motion-bench 1", 3),
-        (b"limit 20 40", 3),
-        (b"limit", 3),
-        (b"stop", 3),
-        (b"Task t", 3),
-        (b"call M on", 3),
-        (b"cycle", 3),
-        (b"end main", 3),
-        (b"axis Z 0 50 10 4 1", 4),
-        (b"axis Z 0 50 10 4 1 0 ready now", 4),
-        (b"axis X x", 4),
-        (b"drive X", 4),
-        (b"group H X", 4),
-        (b"group H a b c d e f g", 4),
-        (b"table", 4),
-        (b"task", 4),
-        (b"task a b", 4),
-        (b"block N main Halt", 4),
-        (b"block N main Halt X Y", 4),
-        (b"go now", 4),
-        (b"axis 1Z 0 50 10 4 1 0", 5),
-        (b"axis 1Z x x x x x x", 5),
-        (b"task _t", 5),
-        (b"task abcdefghijklmnopq", 5),
-        (b"group H! X Z", 5),
-        (b"block N- other halt Q", 5),
-        (b"axis X x 50 10 4 1 0", 6),
-        (b"axis main 0 50 10 4 1 0", 6),
-        (b"task M", 6),
-        (b"task G", 6),
-        (b"group H X Z", 6),
-        (b"group H X Y", 6),
-        (b"group H main M", 6),
-        (b"block N other Halt X", 6),
-        (b"block N X Halt X", 6),
-        (b"block N main halt X", 6),
-        (b"block N main Halt G", 6),
-        (b"block N main GroupHalt X", 6),
-        (b"block N main GroupHalt Q", 6),
-        (b"block X main Halt X", 6),
-        (b"drive Z x", 6),
-        (b"drive G 0", 6),
-        (b"axis Z 0 50 10 4 1 x", 7),
-        (b"axis Z 0 50 0 4 1 0 Ready", 7),
-        (b"axis Z +0 50 10 4 1 0", 7),
-        (b"axis Z 0 50 10 4 0 00000000000000000000", 7),
-        (b"drive X x", 7),
-        (b"drive X 65 1 y", 7),
-        (b"table 0:0 1", 7),
-        (b"table 0:0 0:0 1:1:1", 7),
-        (b"axis Z 50 0 10 4 1 0", 8),
-        (b"axis Z 0 50 0 4 1 0", 8),
-        (b"axis Z 0 50 10 1 1 0", 8),
-        (b"axis Z 0 50 10 4 0 0", 8),
-        (b"axis Z 0 50 10 4 3 1", 8),
-        (b"axis Z 0 50 10 4 1 51", 8),
-        (b"axis Z 0 3000000000 10 4 1 0", 8),
-        (b"drive X 65", 8),
-        (b"drive X -1", 8),
-        (b"drive X 0 0", 8),
-        (b"drive X 0 2 2", 8),
-        (b"drive X 0 4294967296", 8),
-        (b"table 0:0", 8),
-        (b"table 0:0 0:1", 8),
-        (b"table 0:0 1000000000000001:0", 8),
-        (b"", 10),
-    ];
-    for (line, rule) in cases {
-        let text = joined(rt.alloc(), &[TOP, line, b"\n"])?;
+// Rules, and lines behind the machine of eleven lines that break them.
+const MACHINE_LINES: &[u8] = b"1 task t\x00
+1 task t #\x7f
+3 motion-bench 1
+3 limit 20 40
+3 limit
+3 stop
+3 Task t
+3 call M on
+3 cycle
+3 end main
+4 axis Z 0 50 10 4 1
+4 axis Z 0 50 10 4 1 0 ready now
+4 axis X x
+4 drive X
+4 group H X
+4 group H a b c d e f g
+4 table
+4 task
+4 task a b
+4 block N main Halt
+4 block N main Halt X Y
+4 go now
+5 axis 1Z 0 50 10 4 1 0
+5 axis 1Z x x x x x x
+5 task _t
+5 task abcdefghijklmnopq
+5 group H! X Z
+5 block N- other halt Q
+6 axis X x 50 10 4 1 0
+6 axis main 0 50 10 4 1 0
+6 task M
+6 task G
+6 group H X Z
+6 group H X Y
+6 group H main M
+6 block N other Halt X
+6 block N X Halt X
+6 block N main halt X
+6 block N main Halt G
+6 block N main GroupHalt X
+6 block N main GroupHalt Q
+6 block X main Halt X
+6 drive Z x
+6 drive G 0
+7 axis Z 0 50 10 4 1 x
+7 axis Z 0 50 0 4 1 0 Ready
+7 axis Z +0 50 10 4 1 0
+7 axis Z 0 50 10 4 0 00000000000000000000
+7 drive X x
+7 drive X 65 1 y
+7 table 0:0 1
+7 table 0:0 0:0 1:1:1
+8 axis Z 50 0 10 4 1 0
+8 axis Z 0 50 0 4 1 0
+8 axis Z 0 50 10 1 1 0
+8 axis Z 0 50 10 4 0 0
+8 axis Z 0 50 10 4 3 1
+8 axis Z 0 50 10 4 1 51
+8 axis Z 0 3000000000 10 4 1 0
+8 drive X 65
+8 drive X -1
+8 drive X 0 0
+8 drive X 0 2 2
+8 drive X 0 4294967296
+8 table 0:0
+8 table 0:0 0:1
+8 table 0:0 1000000000000001:0
+";
+
+// Rules, and lines behind that machine and `go` that break them.
+const EVENT_LINES: &[u8] = b"1 call M on #\x1b
+3 motion-bench 1
+3 limit 20 40
+3 task t
+3 go
+3 begin
+4 call
+4 call M
+4 call N off pos=1
+4 cycle 0 2
+4 end
+4 end main now
+6 call N on
+6 call N maybe
+6 call main on
+6 call X off
+6 end M
+6 end Main
+6 call E on master=Q
+6 call E on master=G
+6 call E on master=
+6 call E on acc=x master=Q
+6 call E on num=1 master=Q
+7 call M maybe
+7 call M On
+7 call M on jerk=0 dec=1
+7 call M on vel=1 vel=1
+7 call M on master=Q
+7 call M on num=1
+7 call P on pos=0
+7 call E on vel=1
+7 call C on num=1
+7 call M on pos=1;2
+7 call L on pos=1
+7 call L on pos=1;2;3
+7 call L on pos=1;
+7 call M on pos=
+7 call M on vel=x
+7 call M on mode=Aborting
+7 call M on speed=1
+7 call M on vel=1 x
+7 call M on pos=1000000000000000001
+7 call M on pos=00000000000000000001
+7 call C on table=65536 x
+7 cycle x
+8 cycle 0
+8 cycle 200001
+8 call C on table=65536
+8 call C on table=-1
+";
+
+// Stops the test unless each line of a table is refused behind that machine and this text, in the
+// line of this number and by its rule.
+fn expect_refusals(
+    rt: &impl Abort,
+    alloc: Global,
+    behind: &[u8],
+    number: u64,
+    table: &[u8],
+) -> Result<(), Fail> {
+    for row in table.split(|b| *b == b'\n') {
+        let [rule, b' ', line @ ..] = row else {
+            continue;
+        };
+        let text = joined(alloc, &[TOP, behind, line, b"\ncycle x"])?;
         assert_eq!(rt;
-            refusal(rt.alloc(), text.as_slice()),
-            Some((12, rule)),
-            "{line:?}"
+            refusal(alloc, text.as_slice()),
+            Some((number, rule.wrapping_sub(b'0'))),
+            "{row:?}"
         );
     }
     Ok(())
 }
 
-// Lines behind that machine and `go`.
+#[test]
+fn refuses_lines_of_a_machine(rt: HostRuntime) -> Result<(), Fail> {
+    expect_refusals(&rt, rt.alloc(), b"", 12, MACHINE_LINES)
+}
+
 #[test]
 fn refuses_lines_of_events(rt: HostRuntime) -> Result<(), Fail> {
-    let cases: [(&[u8], u8); 49] = [
-        (b"call M on #\x1b", 1),
-        (b"motion-bench 1", 3),
-        (b"limit 20 40", 3),
-        (b"task t", 3),
-        (b"go", 3),
-        (b"begin", 3),
-        (b"call", 4),
-        (b"call M", 4),
-        (b"call N off pos=1", 4),
-        (b"cycle 0 2", 4),
-        (b"end", 4),
-        (b"end main now", 4),
-        (b"call N on", 6),
-        (b"call N maybe", 6),
-        (b"call main on", 6),
-        (b"call X off", 6),
-        (b"end M", 6),
-        (b"end Main", 6),
-        (b"call E on master=Q", 6),
-        (b"call E on master=G", 6),
-        (b"call E on master=", 6),
-        (b"call E on acc=x master=Q", 6),
-        (b"call E on num=1 master=Q", 6),
-        (b"call M maybe", 7),
-        (b"call M On", 7),
-        (b"call M on jerk=0 dec=1", 7),
-        (b"call M on vel=1 vel=1", 7),
-        (b"call M on master=Q", 7),
-        (b"call M on num=1", 7),
-        (b"call P on pos=0", 7),
-        (b"call E on vel=1", 7),
-        (b"call C on num=1", 7),
-        (b"call M on pos=1;2", 7),
-        (b"call L on pos=1", 7),
-        (b"call L on pos=1;2;3", 7),
-        (b"call L on pos=1;", 7),
-        (b"call M on pos=", 7),
-        (b"call M on vel=x", 7),
-        (b"call M on mode=Aborting", 7),
-        (b"call M on speed=1", 7),
-        (b"call M on vel=1 x", 7),
-        (b"call M on pos=1000000000000000001", 7),
-        (b"call M on pos=00000000000000000001", 7),
-        (b"call C on table=65536 x", 7),
-        (b"cycle x", 7),
-        (b"cycle 0", 8),
-        (b"cycle 200001", 8),
-        (b"call C on table=65536", 8),
-        (b"call C on table=-1", 8),
-    ];
-    for (line, rule) in cases {
-        let text = joined(rt.alloc(), &[TOP, b"go\n", line, b"\ncycle x"])?;
-        assert_eq!(rt;
-            refusal(rt.alloc(), text.as_slice()),
-            Some((13, rule)),
-            "{line:?}"
-        );
-    }
-    Ok(())
+    expect_refusals(&rt, rt.alloc(), b"go\n", 13, EVENT_LINES)
 }
 
 // Whole texts, of which some say in two lines what may be said once, and some end too early.
