@@ -1,5 +1,5 @@
 -- Commands of a group come to their end in time.
-use Rattle.std.specs.Prelude.{◌≡◌, refl, ℕ, zero, suc, ◌+◌, ◌/◌, ◌≤◌, Bool, true, false, ◌||◌, ℤ, pos, ◌≤ℤ◌, ◌-ℤ◌, unsigned_abs, Option, Some, None, is_none, is_some, List, if◌then◌else◌}
+use Rattle.std.specs.Prelude.{◌≡◌, refl, ℕ, zero, suc, ◌+◌, ◌/◌, ◌≤◌, Bool, true, false, not, ◌&&◌, ◌||◌, nat_eq, ℤ, pos, ◌≤ℤ◌, ◌-ℤ◌, unsigned_abs, Option, Some, None, is_none, is_some, List, if◌then◌else◌}
 use Rattle.std.specs.Int.{int_min}
 use Rattle.std.specs.Ordering.{int_eq}
 use Rattle.std.proofs.Common.{◌∙◌, sym, ap, subst, arith, inl, inr}
@@ -14,22 +14,25 @@ use Rattle.command_pool.specs.declared.kind.BlockKind.{BlockKind}
 use Rattle.command_pool.specs.declared.kind.BlockKind.TheVariants as kind
 use Rattle.command_pool.specs.declared.rates.Rates.{Rates}
 use Rattle.command_pool.specs.declared.wanted.Wanted.{Wanted}
+use Rattle.group_state.specs.declared.state.GroupState.{GroupState}
+use Rattle.group_state.specs.declared.state.GroupState.TheVariants as state
 use Rattle.kin_core.specs.Admissible.{AreLimits, IsKept}
 use Rattle.kin_core.specs.declared.limits.Limits.{Limits}
 use Rattle.motion_numbers.specs.declared.TheConstants.{MOST_WAY}
 use Rattle.trapezoid_plan.specs.CyclesBound.{cycles_bound_of}
 use Rattle.trapezoid_plan.specs.MoveRun.{IsAtRestWithin, IsDoneWithin, IsMoveWithin}
 use Rattle.group_core.specs.Calls.{active_without, admitted_by, asked_in, braked_for, commanded, commanded_by, disowned, group_without, powered_off, queued, waits_for_rest}
-use Rattle.group_core.specs.Cores.{Core, failed, line_begun}
-use Rattle.group_core.specs.Courses.{Carried, Course, GoesOn, IsAtEnd, IsEnd, IsUnderWay, RunsWithin, along, bound_of, course_by, course_of, is_line_done, slowing}
-use Rattle.group_core.specs.Cycles.{Advance, cycled, path_after, path_taken, reset_cycled}
+use Rattle.group_core.specs.Cores.{Core, ended_by, failed, line_begun}
+use Rattle.group_core.specs.Courses.{Braked, BrakesOn, Carried, Course, GoesOn, IsAtEnd, IsBraking, IsEnd, IsUnderWay, RunsWithin, along, bound_of, course_by, course_of, is_line_done, slowing}
+use Rattle.group_core.specs.Cycles.{Advance, advanced, answered, cycled, ending_of, moved, over_at_rest, path_after, path_over, path_taken, released, reset_cycled}
 use Rattle.group_core.specs.Fates.{Fate, admitted_fate, asked_fate, command_fate, cycle_fate, goes_on, is_failing, power_off_fate, replaced}
 use Rattle.group_core.specs.GroupKept.{AreNumbers, IsCoreKept, IsDeceleration, IsLook, IsMade}
 use Rattle.group_core.specs.Kinds.{ending_by, step_by, tests_of}
 use Rattle.group_core.specs.Refusals.{holds, limits_in, refusal_of}
-use Rattle.group_core.specs.States.{is_error_stop, may_fail}
-use Rattle.group_core.specs.Tracks.{OnPath, braking_step_of, cut, line_step_of, moved_by}
+use Rattle.group_core.specs.States.{is_error_stop, is_stopping, may_fail}
+use Rattle.group_core.specs.Tracks.{OnPath, braking_step_of, cut, is_moving, is_running, line_step_of, moved_by, places_at}
 use Rattle.group_core.specs.blocks.Line.{braking_for}
+use Rattle.group_core.specs.declared.group.Group.{Group}
 use Rattle.group_core.specs.declared.group.Motion.{Motion}
 use Rattle.group_core.specs.declared.look.GroupLook.{GroupLook}
 use Rattle.group_core.specs.declared.reason.Reason.{Reason}
@@ -338,3 +341,108 @@ cycle-carries-by false n course members c k u h =
 pub cycle-carries : (n : ℕ) (course : Course) (members : GroupLook) (c : Core) → IsCoreKept (limits_in members) c → IsUnderWay n course c →
     Carried n 1 course (cycle_fate members c).ends (path_taken members c) (cycled members c)
 cycle-carries n course members c k u = cycle-carries-by (is_failing members c) n course members c k u refl
+
+-- in GroupErrorStop: where the braking begins
+pub braking-begins : Plans → (limits : List Limits) (c : Core) (p : OnPath) → IsCoreKept limits c → is_error_stop c.group.state ≡ true → c.path ≡ Some p →
+    IsBraking (bound_of (slowing p.motion.limits.dmax) p.motion) c
+braking-begins plans limits c p k h on =
+    let q = k.path p on in
+    let are = (stepping-of c.group.axes limits p k.axes k.limits_are q).motion.limits in
+    let positive = are.amax_positive in
+    let within = are.amax_within_dmax in
+    let d : ℤ = int_min p.motion.limits.dmax p.motion.limits.dmax in
+    record {
+      stopped = h;
+      on = p;
+      path = on;
+      run = plans.rest p.motion.limits d p.motion.previous p.motion.place are (omega (arith, ints, clamps, positive, within)) (omega (arith, ints, clamps)) q.kept;
+    }
+
+-- no error of a member changes it
+never-fails : (s : GroupState) → is_error_stop s ≡ true → may_fail s ≡ false
+never-fails state.GroupErrorStop h = refl
+never-fails _ h = absurd (cc)
+
+none-both : (b : Bool) → (b && false) ≡ false
+none-both true = refl
+none-both false = refl
+
+same-answered : (members : GroupLook) (c : Core) → is_error_stop c.group.state ≡ true → answered members.error c ≡ c
+same-answered members c h = rw (never-fails c.group.state h, none-both (not (nat_eq members.error 0))) refl
+
+-- it doesn't leave GroupStopping, where it isn't
+never-leaves : (s : GroupState) → is_error_stop s ≡ true → is_stopping s ≡ false
+never-leaves state.GroupErrorStop h = refl
+never-leaves _ h = absurd (cc)
+
+abbrev braked-on : OnPath → OnPath
+braked-on p = record p { motion = moved_by (braking_step_of p.motion.limits.dmax p.motion) p.motion }
+
+abbrev braked-by : Motion → Advance
+braked-by m = record { motion = moved_by (braking_step_of m.limits.dmax m) m; ending = None }
+
+braked-advance : (g : Group) (m : Motion) → is_error_stop g.state ≡ true → advanced g m ≡ braked-by m
+unfolding advanced
+braked-advance g m h = rw h refl
+
+braked-path : (c : Core) (p : OnPath) → is_error_stop c.group.state ≡ true → c.path ≡ Some p → path_after c.group c.path ≡ Some (braked-on p)
+braked-path c p h on =
+    ap (path_after c.group) on ∙ ap (λ (a : Advance). Some (record p { motion = a.motion })) (braked-advance c.group p.motion h)
+
+braked-ending : (c : Core) (p : OnPath) → is_error_stop c.group.state ≡ true → c.path ≡ Some p → ending_of c.group c.path ≡ None
+braked-ending c p h on = ap (ending_of c.group) on ∙ ap (λ (a : Advance). a.ending) (braked-advance c.group p.motion h)
+
+-- the group after the cycle
+abbrev with-path : Core → Option OnPath → Core
+with-path c o = record c { path = o }
+
+abbrev on-braked : Core → OnPath → Core
+on-braked c p = with-path c (Some (braked-on p))
+
+braked-moved : (members : GroupLook) (c : Core) (p : OnPath) → is_error_stop c.group.state ≡ true → c.path ≡ Some p → moved members c ≡ on-braked c p
+braked-moved members c p h on =
+    let path = path_after c.group c.path in
+    ap (λ (o : Option Finish). ended_by members (places_at path members.setpoints) o (record c { path = path })) (braked-ending c p h on)
+    ∙ ap (with-path c) (braked-path c p h on)
+
+braked-released : (held : Bool) (c : Core) → is_error_stop c.group.state ≡ true → released held c ≡ c
+braked-released held c h = rw (never-leaves c.group.state h) refl
+
+braked-cycle : (members : GroupLook) (c : Core) (p : OnPath) → is_error_stop c.group.state ≡ true → c.path ≡ Some p → cycled members c ≡ over_at_rest (on-braked c p)
+unfolding cycled
+braked-cycle members c p h on =
+    ap (λ (x : Core). over_at_rest (released members.stop_held (moved members x))) (same-answered members c h)
+    ∙ ap (λ (x : Core). over_at_rest (released members.stop_held x)) (braked-moved members c p h on)
+    ∙ ap over_at_rest (braked-released members.stop_held (on-braked c p) h)
+
+-- a path at rest is over, another brakes on
+over-rests : (c : Core) (p : OnPath) (b : Bool) → is_error_stop c.group.state ≡ true → c.path ≡ Some p → is_moving (Some p) ≡ b → (over_at_rest c).path ≡ (if not b then None else Some p)
+over-rests c p b h on e = ap (path_over c.group) on ∙ rw (h, e) refl
+
+runs-not : (m : Motion) → m.place ≡ m.previous → is_running m ≡ true → ⊥
+runs-not m same h = (let none : is_running m ≡ false = ap not (same-int m.place m.previous same) in cc)
+
+brakes-done : (n : ℕ) (c : Core) (p : OnPath) → is_error_stop c.group.state ≡ true → is_moving (Some (braked-on p)) ≡ true → (d : Bool) →
+    IsStep (slowing p.motion.limits.dmax) p.motion (braked-on p).motion n d → (d ≡ true → ⊥) → BrakesOn n (over_at_rest (on-braked c p))
+brakes-done n c p h e true s f = absurd (f refl)
+brakes-done n c p h e false s f = record {
+  left = s.left;
+  sum = s.sum refl;
+  braking = record {
+    stopped = h;
+    on = braked-on p;
+    path = over-rests (on-braked c p) (braked-on p) true h refl e;
+    run = s.run refl;
+  };
+}
+
+brakes-by : (n : ℕ) (c : Core) (p : OnPath) → is_error_stop c.group.state ≡ true → RunsWithin n (slowing p.motion.limits.dmax) p.motion →
+    (b : Bool) → is_moving (Some (braked-on p)) ≡ b → Braked n (over_at_rest (on-braked c p))
+brakes-by n c p h run false e = inl (over-rests (on-braked c p) (braked-on p) false h refl e)
+brakes-by n c p h run true e =
+    let s = halt-step n p.motion.limits.dmax p.motion run in
+    inr (brakes-done n c p h e (int_eq (braking_step_of p.motion.limits.dmax p.motion) (pos 0)) s (λ d. runs-not (braked-on p).motion (s.ends d).1 e))
+
+pub braking-carries : (n : ℕ) (members : GroupLook) (c : Core) → IsBraking n c → Braked n (cycled members c)
+braking-carries n members c k =
+    subst (Braked n) (sym (braked-cycle members c k.on k.stopped k.path)) (brakes-by n c k.on k.stopped k.run (is_moving (Some (braked-on k.on))) refl)

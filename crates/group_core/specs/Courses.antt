@@ -1,5 +1,5 @@
 -- Commands of a group that come to their end in time (PLCopen Motion Control Part 4, Done).
-use Rattle.std.specs.Prelude.{◌≡◌, ◌↔◌, ℕ, ◌+◌, ◌/◌, ◌≤◌, Bool, true, false, ℤ, pos, ◌-ℤ◌, ◌&&◌, unsigned_abs, Option, Some, None}
+use Rattle.std.specs.Prelude.{◌≡◌, ◌↔◌, ◌⊎◌, ℕ, ◌+◌, ◌/◌, ◌≤◌, Bool, true, false, ℤ, pos, ◌-ℤ◌, ◌&&◌, unsigned_abs, Option, Some, None}
 use Rattle.std.specs.Int.{int_min}
 use Rattle.std.specs.Ordering.{int_eq}
 use Rattle.command_pool.specs.declared.ending.Finish.{Finish}
@@ -12,6 +12,7 @@ use Rattle.trapezoid_plan.specs.CyclesBound.{cycles_bound_of}
 use Rattle.trapezoid_plan.specs.MoveRun.{IsAtRestWithin, IsDoneWithin}
 use Rattle.group_core.specs.Cores.{Core}
 use Rattle.group_core.specs.Fates.{Fate}
+use Rattle.group_core.specs.States.{is_error_stop}
 use Rattle.group_core.specs.Tracks.{OnPath, cut, moved_by}
 use Rattle.group_core.specs.declared.group.Motion.{Motion}
 
@@ -75,6 +76,23 @@ pub record GoesOn (n cycles : ℕ) (course : Course) (c : Core) : Type 0 where
 abbrev pub Carried : ℕ → ℕ → Course → Option Finish → Option OnPath → Core → Type 0
 Carried n cycles course (Some f) p c = (cycles ≤ n) × IsEnd f course p
 Carried n cycles course None p c = GoesOn n cycles course c
+
+-- in GroupErrorStop a path brakes by its dmax, and comes to rest within n cycles
+pub record IsBraking (n : ℕ) (c : Core) : Type 0 where
+  pub stopped : is_error_stop c.group.state ≡ true
+  pub on : OnPath
+  pub path : c.path ≡ Some on
+  pub run : RunsWithin n (slowing on.motion.limits.dmax) on.motion
+
+-- it brakes on, with one cycle less to go
+pub record BrakesOn (n : ℕ) (c : Core) : Type 0 where
+  pub left : ℕ
+  pub sum : 1 + left ≡ n
+  pub braking : IsBraking left c
+
+-- after a cycle the path is over, or it brakes on
+abbrev pub Braked : ℕ → Core → Type 0
+Braked n c = (c.path ≡ None) ⊎ BrakesOn n c
 
 -- in a cycle the path takes this step, and the command is done exactly where this holds
 pub record Leads (step : ℤ) (done : Bool) (m : Motion) (f : Fate) (p : Option OnPath) : Type 0 where

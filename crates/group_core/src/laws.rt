@@ -7,7 +7,7 @@ ghost use Rattle.command_pool.specs.declared.wanted.Wanted.{Wanted};
 ghost use Rattle.group_core.specs.Calls.{asked_in, commanded, disowned, group_without, powered_off};
 ghost use Rattle.group_core.specs.Changes.{IsNext};
 ghost use Rattle.group_core.specs.Cores.{Core};
-ghost use Rattle.group_core.specs.Courses.{Carried, Course, IsUnderWay, Leads, bound_of, course_of, is_line_done, is_slowing};
+ghost use Rattle.group_core.specs.Courses.{Braked, Carried, Course, IsBraking, IsUnderWay, Leads, bound_of, course_of, is_line_done, is_slowing, slowing};
 ghost use Rattle.group_core.specs.Cycles.{answered, cycled, opening, path_taken, reset_cycled, reset_where, step_of};
 ghost use Rattle.group_core.specs.Fates.{IsFate, command_fate, cycle_fate, is_failing, power_off_fate};
 ghost use Rattle.group_core.specs.GroupKept.{AreGroupLimits, IsCoreKept, IsCount, IsLook, IsMade};
@@ -140,6 +140,8 @@ pub fn paths_go_on_by_their_steps()
 /// A line, a GroupHalt and a GroupStop, and what brakes a path before an aborting line, come to their
 /// end in time: an active one is under way for as many cycles as its bound, and every event carries it
 /// on, with fewer cycles to go, or ends it: it is Done at the end of its course, replaced or faulted.
+/// In GroupErrorStop a path comes to rest in time too, by its dmax: each cycle leaves it with one cycle
+/// less to go, or it is over.
 pub fn courses_end_in_time()
     ensures begins { (course : Course) (limits : List Limits) (c : Core) (w : Wanted)
         (p : OnPath) → IsCoreKept limits c → c.group.active ≡ Some w →
@@ -159,6 +161,11 @@ pub fn courses_end_in_time()
         Carried n 1 course (cycle_fate members c).ends (path_taken members c) (cycled members c) }
     ensures reset { (n : ℕ) (course : Course) (members : GroupLook) (c : Core) →
         IsUnderWay n course c → IsUnderWay n course (reset_cycled members c) }
+    ensures stopped { (limits : List Limits) (c : Core) (p : OnPath) → IsCoreKept limits c →
+        is_error_stop c.group.state ≡ true → c.path ≡ Some p →
+        IsBraking (bound_of (slowing p.motion.limits.dmax) p.motion) c }
+    ensures braked { (n : ℕ) (members : GroupLook) (c : Core) → IsBraking n c →
+        Braked n (cycled members c) }
 {
     moves_arrive_in_time();
     halts_come_to_rest_in_time();

@@ -1,5 +1,5 @@
 -- Commands of a group come to their end in time.
-use Rattle.group_core.proofs.CourseLaws.{Plans, begins-under-way, command-carries, cycle-carries, detach-carries, off-carries, reset-carries}
+use Rattle.group_core.proofs.CourseLaws.{Plans, begins-under-way, braking-begins, braking-carries, command-carries, cycle-carries, detach-carries, off-carries, reset-carries}
 use Rattle.group_core.proofs.laws.courses_end_in_time.Goals as goal
 
 pub returns-clause-begins : goal.returns-clause-begins
@@ -21,3 +21,11 @@ returns-clause-cycle c = λ n course members core kept under-way. cycle-carries 
 
 pub returns-clause-reset : goal.returns-clause-reset
 returns-clause-reset c = λ n course members core under-way. reset-carries n course members core under-way
+
+pub returns-clause-stopped : goal.returns-clause-stopped
+returns-clause-stopped c = λ limits core p kept stopped on.
+    (let plans : Plans = record { arrive = c.moves_arrive_in_time.ensures; rest = c.halts_come_to_rest_in_time.ensures } in
+    braking-begins plans limits core p kept stopped on)
+
+pub returns-clause-braked : goal.returns-clause-braked
+returns-clause-braked c = λ n members core braking. braking-carries n members core braking
