@@ -1,0 +1,4 @@
+mod axes_group;
+mod member;
+mod plant;
+mod rows;
