@@ -79,11 +79,6 @@ impl<H: Host, J: Worker<H>> Spawner<H, J> {
         })
     }
 
-    /// The handle that each job is given.
-    pub fn host(&self) -> H {
-        self.rt
-    }
-
     /// How many jobs were started.
     pub fn started(&self) -> u32
         ensures { result ≡ length self.now.jobs }
