@@ -124,7 +124,7 @@ taker-stays : (k : BlockKind) (s : GroupState) → k ≡ kind.MoveLinearAbsolute
 taker-stays k s e f = ap (λ l. next_of (event_of l)) e ∙ sym f
 
 -- what becomes of the state where commands end: it stays, or settles from GroupMoving
-abbrev Settles : GroupState → GroupState → Type 0
+abbrev pub Settles : GroupState → GroupState → Type 0
 Settles s t = (t ≡ s) ⊎ ((s ≡ state.GroupMoving) × (t ≡ state.GroupStandby))
 
 settled-as : (s : GroupState) → Settles s (settled s)
@@ -147,12 +147,12 @@ ended-as limits members s None c k q = inl refl
 ended-as limits members s (Some f) c k q =
     taken-as limits members s c.waiting (record c { group = record c.group { active = None }; notes = c.notes ++ active_note f c.group.active }) k q
 
-moved-as : (limits : List Limits) (members : GroupLook) (c : Core) → IsCoreKept limits c → Settles c.group.state (moved members c).group.state
+pub moved-as : (limits : List Limits) (members : GroupLook) (c : Core) → IsCoreKept limits c → Settles c.group.state (moved members c).group.state
 moved-as limits members c k =
     ended-as limits members (places_at (path_after c.group c.path) members.setpoints) (ending_of c.group c.path) (record c { path = path_after c.group c.path }) k.waiting k.queue
 
 -- and then GroupStopping may be left
-stopping-is : (s : GroupState) → is_stopping s ≡ true → s ≡ state.GroupStopping
+pub stopping-is : (s : GroupState) → is_stopping s ≡ true → s ≡ state.GroupStopping
 stopping-is state.GroupStopping h = refl
 stopping-is _ h = absurd (cc)
 
@@ -172,7 +172,7 @@ released-next held s c h =
     (λ l. left-next s c.group.state h (stopping-is c.group.state (left-idle held c.group c.path l).0)) (λ l. settles-next s c.group.state h)
 
 -- a group that fails in a cycle does nothing else
-failed-cycle : (members : GroupLook) (n : ℕ) (c : Core) → (released members.stop_held (moved members (failed n c))).group.state ≡ state.GroupErrorStop
+pub failed-cycle : (members : GroupLook) (n : ℕ) (c : Core) → (released members.stop_held (moved members (failed n c))).group.state ≡ state.GroupErrorStop
 unfolding failed
 failed-cycle members n c =
     let read : Core = failed n c in

@@ -54,17 +54,17 @@ unfolding powered_off
 powered-kept limits c k = by-if (IsCoreKept limits) (may_fail c.group.state) (failed 102 c) c (λ h. failed-kept 102 limits c k) (λ h. k)
 
 -- the axes of a group that takes commands of its path stand within their limits
-takes-within : (s : GroupState) (moves : Bool) → may_come kind.MoveLinearAbsolute s moves ≡ true → is_within s ≡ true
+pub takes-within : (s : GroupState) (moves : Bool) → may_come kind.MoveLinearAbsolute s moves ≡ true → is_within s ≡ true
 takes-within state.GroupStandby moves h = refl
 takes-within state.GroupMoving moves h = refl
 takes-within _ moves h = absurd (cc)
 
-halts-within : (s : GroupState) (moves : Bool) → may_come kind.GroupHalt s moves ≡ true → is_within s ≡ true
+pub halts-within : (s : GroupState) (moves : Bool) → may_come kind.GroupHalt s moves ≡ true → is_within s ≡ true
 halts-within state.GroupStandby moves h = refl
 halts-within state.GroupMoving moves h = refl
 halts-within _ moves h = absurd (cc)
 
-stops-within : (s : GroupState) (moves : Bool) → may_come kind.GroupStop s moves ≡ true → is_within s ≡ true
+pub stops-within : (s : GroupState) (moves : Bool) → may_come kind.GroupStop s moves ≡ true → is_within s ≡ true
 stops-within state.GroupStandby moves h = refl
 stops-within state.GroupMoving moves h = refl
 stops-within _ moves h = absurd (cc)
@@ -164,7 +164,7 @@ moving-some : (p : Option OnPath) → is_moving p ≡ true → is_some p ≡ tru
 moving-some None h = absurd (cc)
 moving-some (Some p) h = refl
 
-halted-some : (here : Way) (limits : List Limits) (p : Option OnPath) → is_some (halted_path here limits p) ≡ true
+pub halted-some : (here : Way) (limits : List Limits) (p : Option OnPath) → is_some (halted_path here limits p) ≡ true
 halted-some here limits p = by-if (λ (o : Option OnPath). is_some o ≡ true) (is_moving p) p (Some (beginning here limits)) (moving-some p) (λ h. refl)
 
 -- the path of a halt is one of the axes

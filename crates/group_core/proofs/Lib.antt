@@ -1,3 +1,6 @@
+pub mod AxesLaws
+pub mod LiveLaws
+pub mod PathChanges
 pub mod ShownLaws
 pub mod WaitingLaws
 pub mod ChangeLaws

@@ -11,6 +11,7 @@ mod laws;
 mod look;
 mod moving;
 mod one_group;
+mod path_laws;
 mod reason;
 mod refusing;
 mod states;
@@ -34,4 +35,7 @@ pub use laws::{
 pub use linear_path::{LinePath, Path};
 pub use look::{ActiveLook, GroupLook, GroupStep};
 pub use one_group::GroupCore;
+pub use path_laws::{
+    groups_come_alive_by_enable_and_reset, groups_keep_their_axes, paths_change_by_commands,
+};
 pub use reason::Reason;
