@@ -246,6 +246,26 @@ cycles-led look c k =
     (then-led read.axis after.axis _ (runs (driven && read.axis.driven) driven look read (answered-kept look.input c k))
     (then-led after.axis done _ (resets after.axis.reset look.input after.axis) (as-before done (axis_after_word look.input done) refl refl)))
 
+-- after an error an axis is on no path
+not-on : (b : Bool) → (b ≡ true → ⊥) → b ≡ false
+not-on true h = absurd (h refl)
+not-on false h = refl
+
+answer-fails : (input : DriveIn) (c : Core) → nat_eq (answer_error_of c.axis input) 0 ≡ false → is_on_path (core_after_answer input c).axis ≡ false
+answer-fails input c h = rw h ((fails (answer_error_of c.axis input) c).path)
+
+pub failed-led : (look : AxisLook) (c : Core) → IsCoreKept c → nat_eq (answer_error_of c.axis look.input) 0 ≡ false → is_on_path (core_after_cycle look c).axis ≡ false
+unfolding core_after_cycle
+failed-led look c k loud =
+    let read = core_after_answer look.input c in
+    let driven = is_driven c.axis look.input in
+    let after = core_after_step look driven read in
+    let done = reset_axis after.axis.reset look.input after.axis in
+    let led = then-led read.axis after.axis (axis_after_word look.input done) (runs (driven && read.axis.driven) driven look read (answered-kept look.input c k))
+    (then-led after.axis done (axis_after_word look.input done) (resets after.axis.reset look.input after.axis) (as-before done (axis_after_word look.input done) refl refl)) in
+    not-on (is_on_path (axis_after_word look.input done))
+    (λ on. absurd (let f : true ≡ false = sym (led.path on) ∙ answer-fails look.input c loud in cc))
+
 -- a command joins the others
 joins : (b : Bool) (w : Wanted) (c : Core) → is_active_at_once (queue_in c) w ≡ b →
     StaysLed c.axis (if b then record (core_with_queued w c) { axis = axis_under w (core_with_queued w c).axis } else core_with_queued w c).axis

@@ -27,3 +27,6 @@ pub mod WaitingLaws
 pub mod MotionLaws
 pub mod StandingLaws
 pub mod OneStep
+pub mod DefinitionLaws
+pub mod HeldLaws
+pub mod PathLaws

@@ -36,7 +36,7 @@ not-stopping state.ErrorStop true h = refl
 not-stopping state.ErrorStop false h = refl
 not-stopping _ driven h = absurd h
 
-no-stop : (look : AxisLook) (a : Axis) → is_stopping a.state ≡ false → axis_after_stop look a ≡ a
+pub no-stop : (look : AxisLook) (a : Axis) → is_stopping a.state ≡ false → axis_after_stop look a ≡ a
 no-stop look a h = rw h refl
 
 -- an error comes only where the axis is not driven

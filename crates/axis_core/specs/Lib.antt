@@ -1,3 +1,4 @@
+pub mod Along
 pub mod Ranges
 pub mod States
 pub mod Steps

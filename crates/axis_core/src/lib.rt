@@ -13,6 +13,7 @@ mod laws;
 mod look;
 mod one_axis;
 mod opening;
+mod path_laws;
 mod progress;
 mod reason;
 mod refusing;
@@ -35,4 +36,5 @@ pub use laws::{
 };
 pub use look::{ActiveLook, AxisLook};
 pub use one_axis::AxisCore;
+pub use path_laws::{axes_keep_their_definitions, held_axes_take_no_command, paths_are_followed};
 pub use reason::Reason;

@@ -129,5 +129,5 @@ cycle-live members c k =
     (not (nat_eq members.error 0) && may_fail c.group.state) (failed members.error c) c
     (λ h live. absurd (let dead : false ≡ true = ap is_within (sym (failed-cycle members members.error c)) ∙ live in cc))
     (λ h live.
-        let within = released-live members.stop_held c.group.state (moved members c) (moved-as (limits_in members) members c k) live in
-        (within, no-error members.error (error-none (nat_eq members.error 0) (may_fail c.group.state) h (fails-within c.group.state c.path c.group.active k.state within))))
+    let within = released-live members.stop_held c.group.state (moved members c) (moved-as (limits_in members) members c k) live in
+    (within, no-error members.error (error-none (nat_eq members.error 0) (may_fail c.group.state) h (fails-within c.group.state c.path c.group.active k.state within))))

@@ -14,7 +14,6 @@ use Rattle.group_core.specs.Tracks.{OnPath}
 use Rattle.group_core.specs.blocks.Halts.{way_here}
 use Rattle.group_core.specs.declared.look.GroupLook.{GroupLook}
 use Rattle.group_core.specs.declared.reason.Reason.{Reason}
-use Rattle.group_core.proofs.FateLaws.{either}
 use Rattle.group_core.proofs.KeptCalls.{halted-some}
 
 -- what an active answer, a path and none say of a command
@@ -53,6 +52,7 @@ line-path members w c = by (waits_for_rest w c.path) refl
         Changes w c.path b (if b then line_begun members members.setpoints w (queued w c) else queued w c).path
     now true e = some-path w c.path _ refl
     now false e = same-path w c.path
+
     by : (b : Bool) → waits_for_rest w c.path ≡ b →
         Changes w c.path (not b && (is_aborting w.mode || is_none c.group.active))
         (if b then braked_for w c else (if is_aborting w.mode || is_none c.group.active then line_begun members members.setpoints w (queued w c) else queued w c)).path
