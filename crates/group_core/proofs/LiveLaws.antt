@@ -32,36 +32,46 @@ use Rattle.group_core.proofs.KeptCalls.{by-if, halts-within, of_kind, stops-with
 use Rattle.group_core.proofs.KeptCycles.{left-idle}
 use Rattle.group_core.proofs.NoneHolds.{NoneHolds, none-holds}
 
--- what a command asks: the axes stood within their limits before, or none of them is moved
-abbrev Stood : GroupLook → Core → Core → Type 0
-Stood members c x = is_within x.group.state ≡ true → (is_within c.group.state ≡ true) ⊎ (list_any is_moved (states_in members) ≡ false)
+-- what a command asks: the axes stood within their limits before, or it is a GroupEnable and none of them is moved
+abbrev Stood : GroupLook → Wanted → Core → Core → Type 0
+Stood members w c x = is_within x.group.state ≡ true →
+    (is_within c.group.state ≡ true) ⊎ ((w.kind ≡ kind.GroupEnable) × (list_any is_moved (states_in members) ≡ false))
 
 line-live : (members : GroupLook) (w : Wanted) (c : Core) → may_come kind.MoveLinearAbsolute c.group.state (is_moving c.path) ≡ true →
-    Stood members c (admitted_by kind.MoveLinearAbsolute members w c)
+    Stood members w c (admitted_by kind.MoveLinearAbsolute members w c)
 line-live members w c come =
-    by-if (Stood members c) (waits_for_rest w c.path) (braked_for w c) _ (λ h live. inl live)
-    (λ h. by-if (Stood members c) (is_aborting w.mode || is_none c.group.active) (line_begun members members.setpoints w (queued w c)) (queued w c)
+    by-if (Stood members w c) (waits_for_rest w c.path) (braked_for w c) _ (λ h live. inl live)
+    (λ h. by-if (Stood members w c) (is_aborting w.mode || is_none c.group.active) (line_begun members members.setpoints w (queued w c)) (queued w c)
     (λ g live. inl (takes-within c.group.state (is_moving c.path) come)) (λ g live. inl live))
 
 live-by : (k : BlockKind) (members : GroupLook) (w : Wanted) (jerk : ℤ) (c : Core) → NoneHolds (asked_in c (of_kind k w) jerk members) (tests_of k) →
-    Stood members c (admitted_by k members (of_kind k w) c)
+    Stood members (of_kind k w) c (admitted_by k members (of_kind k w) c)
 unfolding holds
-live-by kind.GroupEnable members w jerk c n live = inr n.1.1.1.1.0
+live-by kind.GroupEnable members w jerk c n live = inr (refl, n.1.1.1.1.0)
 live-by kind.GroupDisable members w jerk c n live = absurd (cc)
 live-by kind.GroupStop members w jerk c n live = inl (stops-within c.group.state (is_moving c.path) (not-false _ n.1.1.0))
 live-by kind.GroupHalt members w jerk c n live = inl (halts-within c.group.state (is_moving c.path) (not-false _ n.1.1.0))
 live-by kind.MoveLinearAbsolute members w jerk c n live = line-live members (of_kind kind.MoveLinearAbsolute w) c (not-false _ n.1.1.1.1.1.1.0) live
 live-by _ members w jerk c n live = inl live
 
-live-asked : (o : Option Reason) (members : GroupLook) (w : Wanted) (jerk : ℤ) (c : Core) → refusal_of (asked_in c w jerk members) ≡ o → Stood members c (commanded_by o members w c)
+live-asked : (o : Option Reason) (members : GroupLook) (w : Wanted) (jerk : ℤ) (c : Core) → refusal_of (asked_in c w jerk members) ≡ o → Stood members w c (commanded_by o members w c)
 unfolding refusal_of
 live-asked None members w jerk c h live = live-by w.kind members w jerk c (none-holds (asked_in c w jerk members) (tests_of w.kind) h) live
 live-asked (Some r) members w jerk c h live = inl live
 
+live-after : (w : Wanted) (jerk : ℤ) (members : GroupLook) (c : Core) → Stood members w c (commanded w jerk members c)
+unfolding commanded
+live-after w jerk members c = live-asked (refusal_of (asked_in c w jerk members)) members w jerk c refl
+
 pub command-live : (w : Wanted) (jerk : ℤ) (members : GroupLook) (c : Core) → is_within (commanded w jerk members c).group.state ≡ true →
     (is_within c.group.state ≡ true) ⊎ (list_any is_moved (states_in members) ≡ false)
-unfolding commanded
-command-live w jerk members c = live-asked (refusal_of (asked_in c w jerk members)) members w jerk c refl
+command-live w jerk members c live =
+    elim (live-after w jerk members c live) [ inl before ↦ inl before | inr both ↦ inr both.1 ]
+
+pub enable-live : (w : Wanted) (jerk : ℤ) (members : GroupLook) (c : Core) → is_within (commanded w jerk members c).group.state ≡ true →
+    (is_within c.group.state ≡ true) ⊎ (w.kind ≡ kind.GroupEnable)
+enable-live w jerk members c live =
+    elim (live-after w jerk members c live) [ inl before ↦ inl before | inr both ↦ inr both.0 ]
 
 -- a Power off of a member
 no-longer : (s : GroupState) (p : Option OnPath) (active : Option Wanted) → IsInState s p active → may_fail s ≡ false → is_within s ≡ false

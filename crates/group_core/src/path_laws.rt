@@ -35,6 +35,9 @@ pub fn groups_come_alive_by_enable_and_reset()
     ensures command { (w : Wanted) (jerk : ℤ) (members : GroupLook) (c : Core) →
         is_within (commanded w jerk members c).group.state ≡ true →
         (is_within c.group.state ≡ true) ⊎ (list_any is_moved (states_in members) ≡ false) }
+    ensures only_enable { (w : Wanted) (jerk : ℤ) (members : GroupLook) (c : Core) →
+        is_within (commanded w jerk members c).group.state ≡ true →
+        (is_within c.group.state ≡ true) ⊎ (w.kind ≡ BlockKind.GroupEnable) }
     ensures power_off { (limits : List Limits) (c : Core) → IsCoreKept limits c →
         is_within (powered_off c).group.state ≡ false }
     ensures cycle { (members : GroupLook) (c : Core) → IsCoreKept (limits_in members) c →
