@@ -1,0 +1,40 @@
+-- What always holds of a machine is kept as items are added.
+use Rattle.std.proofs.Common.{◌≡◌, ◌+◌, List, [], ◌∷◌, ◌++◌, length, refl, sym, ap, ◌∙◌, arith}
+use Rattle.std.proofs.lemmas.List.Elements.{All-append, All-from_recursion}
+use Rattle.axis_state.specs.declared.definition.AxisDef.{AxisDef}
+use Rattle.motion_history.specs.Setup.{Setup}
+use Rattle.motion_history.specs.declared.drives.DriveDef.{DriveDef}
+use Rattle.machine_config.specs.Drives.{IsDrive}
+use Rattle.machine_config.specs.Machines.{IsMachine}
+use Rattle.machine_config.specs.declared.machine.Machine.{Machine}
+
+length-push : {A : Type 0} (xs : List A) (x : A) → length (xs ++ x ∷ []) ≡ length xs + 1
+length-push [] x = refl
+length-push (y ∷ ys) x = let h = length-push ys x in omega (arith, h)
+
+-- one axis more, and its drive
+pub axis-kept : (m : Machine) (config : Setup) (drives : List DriveDef) (axis : AxisDef) (drive : DriveDef) → IsMachine m → IsDrive drive →
+    config ≡ record m.config { axes = m.config.axes ++ axis ∷ [] } → drives ≡ m.drives ++ drive ∷ [] →
+    IsMachine (record { config = config; cycle_us = m.cycle_us; drives = drives })
+axis-kept m config drives axis drive k is e f = record {
+  shortest = k.shortest;
+  longest = k.longest;
+  each =
+    ap length f ∙ length-push m.drives drive ∙ ap (λ n. n + 1) k.each ∙ sym (length-push m.config.axes axis)
+    ∙ sym (ap (λ (s : Setup). length s.axes) e);
+  drives = rw f (All-append IsDrive m.drives (drive ∷ []) k.drives (All-from_recursion IsDrive (drive ∷ []) (is, tt)));
+  tasks = ap (λ (s : Setup). s.tasks) e ∙ k.tasks;
+  blocks = ap (λ (s : Setup). s.blocks) e ∙ k.blocks;
+}
+
+-- other items
+pub config-kept : (m : Machine) (config : Setup) → IsMachine m → config.axes ≡ m.config.axes → config.tasks ≡ m.config.tasks →
+    config.blocks ≡ m.config.blocks → IsMachine (record m { config = config })
+config-kept m config k axes tasks blocks = record {
+  shortest = k.shortest;
+  longest = k.longest;
+  each = k.each ∙ sym (ap length axes);
+  drives = k.drives;
+  tasks = tasks ∙ k.tasks;
+  blocks = blocks ∙ k.blocks;
+}

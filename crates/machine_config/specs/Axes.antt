@@ -1,0 +1,68 @@
+-- The axes of a configuration. This project's profile.
+use Rattle.std.specs.Prelude.{ℕ, Result, Ok, [], ◌∷◌, ◌++◌}
+use Rattle.axis_state.specs.declared.definition.AxisDef.{AxisDef}
+use Rattle.fixed_units.specs.PerCycle.{per_cycle_of, per_cycle_squared_of}
+use Rattle.kin_core.specs.declared.limits.Limits.{Limits}
+use Rattle.line_text.specs.Reading.{◌>>=◌}
+use Rattle.motion_history.specs.Faults.{axis_fault}
+use Rattle.motion_history.specs.declared.drives.DriveDef.{DriveDef}
+use Rattle.toml.specs.Data.{Members}
+use Rattle.machine_config.specs.Drives.{drive_of}
+use Rattle.machine_config.specs.Keys.{has_keys}
+use Rattle.machine_config.specs.Quantities.{quantity_at, quantity_or}
+use Rattle.machine_config.specs.Rules.{broken_by, broken_unless}
+use Rattle.machine_config.specs.Values.{flag_at, text_at}
+use Rattle.machine_config.specs.declared.axis.Placed.{Placed}
+use Rattle.machine_config.specs.declared.key.Key.TheVariants.{Amax, Dmax, Hi, Increment, Lo, Name, Ready, Start, Vmax}
+use Rattle.machine_config.specs.declared.key.TheConstants.{AXIS_KEYS}
+use Rattle.machine_config.specs.declared.machine.Machine.{Machine}
+use Rattle.machine_config.specs.declared.rule.TheConstants.{WRONG_KEY}
+
+-- the limits of an axis in a cycle of so many microseconds: places in internal units, and from rates
+-- per second and per second squared the steps per cycle and their changes, rounded down. It brakes
+-- as it speeds up where dmax is left out
+unfoldable pub limits_of : ℕ → Members → Result Limits ℕ
+limits_of cycle_us table = do
+  lo ← quantity_at Lo table
+  hi ← quantity_at Hi table
+  vmax ← quantity_at Vmax table
+  amax ← quantity_at Amax table
+  dmax ← quantity_or amax Dmax table
+  Ok (record {
+    lo = lo;
+    hi = hi;
+    vmax = per_cycle_of vmax cycle_us;
+    amax = per_cycle_squared_of amax cycle_us;
+    dmax = per_cycle_squared_of dmax cycle_us;
+  })
+
+-- the increment of an axis and its start, in internal units
+unfoldable pub placed_of : Members → Result Placed ℕ
+placed_of table = do
+  inc ← quantity_at Increment table
+  start ← quantity_at Start table
+  Ok (record { inc = inc; start = start })
+
+-- a machine with one axis more, and its drive
+abbrev pub with_axis : Machine → AxisDef → DriveDef → Machine
+with_axis m axis drive = record m {
+  config = record m.config { axes = m.config.axes ++ axis ∷ [] };
+  drives = m.drives ++ drive ∷ [];
+}
+
+-- what the table of an axis makes of a machine: it has the keys of an axis, its quantities are such,
+-- its name is free and its values are in their ranges, and it hasn't too many faults
+unfoldable pub axis_meaning : Machine → Members → Result Machine ℕ
+axis_meaning m table = do
+  _ ← broken_unless (has_keys AXIS_KEYS table) WRONG_KEY
+  limits ← limits_of m.cycle_us table
+  placed ← placed_of table
+  _ ← broken_by (axis_fault m.config (text_at Name table) limits placed.inc placed.start)
+  drive ← drive_of table
+  Ok (with_axis m (record {
+    name = text_at Name table;
+    limits = limits;
+    inc = placed.inc;
+    start = placed.start;
+    ready = flag_at Ready table;
+  }) drive)

@@ -1,0 +1,12 @@
+pub mod Rules
+pub mod Keys
+pub mod Values
+pub mod Quantities
+pub mod Drives
+pub mod Machines
+pub mod Axes
+pub mod Groups
+pub mod Tables
+pub mod Tops
+pub mod Reading
+pub mod Shown

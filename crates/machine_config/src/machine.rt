@@ -1,0 +1,20 @@
+// What a configuration makes.
+
+use motion_history::{Builder, DriveDefs};
+
+/// The microseconds of the shortest cycle.
+pub const SHORTEST_CYCLE: u32 = 100;
+
+/// The microseconds of the longest cycle.
+pub const LONGEST_CYCLE: u32 = 100_000;
+
+/// A machine without tasks and blocks.
+#[derive(Drop)]
+pub struct Machine {
+    /// Its axes, groups and cam tables, and the room of its history.
+    pub config: Builder,
+    /// The length of a cycle in microseconds, 100 to 100,000.
+    pub cycle_us: u32,
+    /// The drive of each axis, in the order of the axes.
+    pub drives: DriveDefs,
+}

@@ -1,0 +1,100 @@
+// Reading a configuration.
+
+ghost use Rattle.std.specs.Prelude.{◌≡◌, IfOk, OnOk, Ok, Err};
+ghost use Rattle.toml.specs.View.{table_view};
+ghost use Rattle.machine_config.specs.Machines.{IsMachine};
+ghost use Rattle.machine_config.specs.Reading as spec;
+ghost use Rattle.machine_config.specs.Reading.{ReadsBy, TakesItems, items_meaning, top_reading};
+ghost use Rattle.machine_config.specs.Shown.{shown};
+
+use crate::item::{ItemKind, add_item, items_of};
+use crate::machine::Machine;
+use crate::rule::NO_TOML;
+use crate::top::bare_machine;
+use line_text::LineFault;
+use motion_history::{Rule, TextFault, TextRefused};
+use std::alloc::Global;
+use toml::{Table, table_from_slice};
+
+/// The machine that a text configures. A text that configures none is refused at its first place
+/// that breaks a rule, by the first rule that it breaks: C1 to C7. Place 0 is the top; the axes,
+/// groups and cam tables are counted from 1, one behind the other. It takes memory for the TOML
+/// document that the text is, besides the machine.
+#[tactic(auto, unfolding(crate::specs::Reading::machine_of))]
+pub fn read_config(alloc: Global, text: &[u8]) -> Result<Machine, TextFault>
+    // A text that configures a machine gives that machine, another is refused so.
+    ensures exact { ReadsBy (spec.machine_of text.now) result }
+    // What is configured always holds.
+    ensures machine { IfOk result IsMachine }
+{
+    let top = document_of(alloc, text)?;
+    machine_of(alloc, &top)
+}
+
+// The TOML document that a text is.
+#[tactic(auto, unfolding(crate::specs::Reading::document_of))]
+fn document_of(alloc: Global, text: &[u8]) -> Result<Table, TextFault>
+    ensures { spec.Reads (λ t. table_view t) (spec.document_reading text.now) result }
+{
+    match table_from_slice(alloc, text) {
+        Ok(top) => Ok(top),
+        Err(error) => {
+            if error.is_memory() {
+                Err(TextFault::OutOfMemory)
+            } else {
+                Err(told_at(0, LineFault::Rule(NO_TOML)))
+            }
+        }
+    }
+}
+
+// The machine that a document configures.
+fn machine_of(alloc: Global, top: &Table) -> Result<Machine, TextFault>
+    ensures exact { ReadsBy (top_reading (table_view top.now)) result }
+    ensures machine { IfOk result IsMachine }
+{
+    let mut machine = match bare_machine(alloc, top) {
+        Ok(machine) => machine,
+        Err(fault) => return Err(told_at(0, fault)),
+    };
+    let Ok(items) = items_of(alloc, top) else {
+        return Err(TextFault::OutOfMemory);
+    };
+    add_items(alloc, &mut machine, items.as_slice())?;
+    Ok(machine)
+}
+
+// Adds items, one behind the other.
+fn add_items(
+    alloc: Global,
+    machine: &mut Machine,
+    items: &[(ItemKind, &Table)],
+) -> Result<(), TextFault>
+    requires { IsMachine machine.old }
+    ensures takes { TakesItems (items_meaning 0 machine.old (shown items.now)) machine.new result }
+    ensures kept { OnOk result (IsMachine machine.new) }
+{
+    for (before, (kind, table)) in items.iter().enumerate() {
+        match add_item(alloc, machine, *kind, table) {
+            Ok(()) => {}
+            Err(fault) => return Err(told_at(before as u64 + 1, fault)),
+        }
+    }
+    Ok(())
+}
+
+// How a text is refused at this place.
+fn told_at(place: u64, fault: LineFault) -> TextFault
+    ensures { result ≡ spec.told_at place fault }
+{
+    match fault {
+        LineFault::Rule(number) => TextFault::Refused(TextRefused {
+            place,
+            rule: Rule {
+                letter: b'C',
+                number,
+            },
+        }),
+        LineFault::OutOfMemory => TextFault::OutOfMemory,
+    }
+}

@@ -1,0 +1,71 @@
+// The rules of a configuration by their numbers, and when one is broken.
+
+ghost use Rattle.std.specs.Prelude.{◌≡◌, ◌≢◌, ◌≤◌, IfOk};
+ghost use Rattle.line_text.specs.Reading.{Gives};
+ghost use Rattle.machine_config.specs.Rules as spec;
+ghost use Rattle.motion_history.specs.declared.fault.ConfigFault.TheVariants.{OutOfMemory};
+
+use line_text::LineFault;
+use motion_history::ConfigFault;
+
+/// The text isn't TOML.
+pub const NO_TOML: u8 = 1;
+
+/// A key is missing or unknown, or what stands under it is of another type.
+pub const WRONG_KEY: u8 = 2;
+
+/// What stands for a quantity isn't one.
+pub const NO_QUANTITY: u8 = 3;
+
+/// A name is none or is used already, or what is named isn't there or isn't free.
+pub const WRONG_NAME: u8 = 4;
+
+/// A value is outside its range.
+pub const OUT_OF_RANGE: u8 = 5;
+
+/// There are too many or too few of a kind.
+pub const WRONG_COUNT: u8 = 6;
+
+/// Points make no cam table.
+pub const NO_TABLE: u8 = 7;
+
+/// Breaks a rule unless this holds.
+pub fn broken_unless(holds: bool, rule: u8) -> Result<(), LineFault>
+    ensures { Gives (λ u. u) (spec.broken_unless holds rule) result }
+{
+    if holds {
+        Ok(())
+    } else {
+        Err(LineFault::Rule(rule))
+    }
+}
+
+/// The number where it lies between two, both included.
+#[tactic(auto, unfolding(crate::specs::Rules::in_range))]
+pub fn in_range(least: u32, most: u32, number: i64) -> Result<u32, LineFault>
+    ensures value { Gives (λ n. n) (spec.in_range least most number) result }
+    ensures least { IfOk result (λ n. least ≤ n) }
+    ensures most { IfOk result (λ n. n ≤ most) }
+{
+    if i64::from(least) <= number && number <= i64::from(most) {
+        Ok(number as u32)
+    } else {
+        Err(LineFault::Rule(OUT_OF_RANGE))
+    }
+}
+
+/// Why an item is refused that has this fault.
+pub fn refusal_of(fault: ConfigFault) -> LineFault
+    ensures memory { fault ≡ OutOfMemory → result ≡ LineFault.OutOfMemory }
+    ensures rule { fault ≢ OutOfMemory → result ≡ LineFault.Rule (spec.rule_of fault) }
+{
+    match fault {
+        ConfigFault::BadName | ConfigFault::NameUsed | ConfigFault::NameUnknown => {
+            LineFault::Rule(WRONG_NAME)
+        }
+        ConfigFault::OutOfRange => LineFault::Rule(OUT_OF_RANGE),
+        ConfigFault::TooMany | ConfigFault::TooFew => LineFault::Rule(WRONG_COUNT),
+        ConfigFault::Table(_) => LineFault::Rule(NO_TABLE),
+        ConfigFault::OutOfMemory => LineFault::OutOfMemory,
+    }
+}

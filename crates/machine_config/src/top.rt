@@ -1,0 +1,50 @@
+// The top of a configuration.
+
+ghost use Rattle.std.specs.Prelude.{◌≡◌, IfOk};
+ghost use Rattle.line_text.specs.Reading.{Gives};
+ghost use Rattle.toml.specs.View.{table_view};
+ghost use Rattle.machine_config.specs.Machines.{IsMachine};
+ghost use Rattle.machine_config.specs.Tops as spec;
+
+use crate::key::{Key, TOP_KEYS, has_keys};
+use crate::machine::{LONGEST_CYCLE, Machine, SHORTEST_CYCLE};
+use crate::rule::{WRONG_COUNT, WRONG_KEY, broken_unless, in_range};
+use crate::value::{integer_at, values_at};
+use line_text::LineFault;
+use motion_history::{
+    Builder, DriveDefs, MOST_AXES, MOST_CYCLES, MOST_ENTRIES, MOST_GROUPS, MOST_TABLES,
+};
+use std::alloc::Global;
+use toml::Table;
+
+/// The machine of a configuration before its items.
+#[tactic(auto, unfolding(crate::specs::Tops::top_meaning))]
+pub fn bare_machine(alloc: Global, top: &Table) -> Result<Machine, LineFault>
+    ensures value { Gives (λ m. m) (spec.top_meaning (table_view top.now)) result }
+    ensures machine { IfOk result IsMachine }
+{
+    broken_unless(has_keys(&TOP_KEYS, top), WRONG_KEY)?;
+    let cycle_us = in_range(SHORTEST_CYCLE, LONGEST_CYCLE, integer_at(top, Key::CycleUs))?;
+    let cycles = in_range(1, MOST_CYCLES, integer_at(top, Key::Cycles))?;
+    let entries = in_range(1, MOST_ENTRIES, integer_at(top, Key::Entries))?;
+    broken_unless(are_counted(top), WRONG_COUNT)?;
+    let Ok(config) = Builder::open(alloc, cycles, entries) else {
+        return Err(LineFault::OutOfMemory);
+    };
+    Ok(Machine {
+        config,
+        cycle_us,
+        drives: DriveDefs::new(alloc),
+    })
+}
+
+// Whether there are neither too many items nor too few.
+#[tactic(auto, unfolding(crate::specs::Tops::are_counted))]
+fn are_counted(top: &Table) -> bool
+    ensures { result ≡ spec.are_counted (table_view top.now) }
+{
+    let axes = values_at(top, Key::Axis).len();
+    let groups = values_at(top, Key::Group).len();
+    let tables = values_at(top, Key::Table).len();
+    1 <= axes && axes <= MOST_AXES && groups <= MOST_GROUPS && tables <= MOST_TABLES
+}
