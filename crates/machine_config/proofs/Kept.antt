@@ -20,8 +20,8 @@ axis-kept m config drives axis drive k is e f = record {
   shortest = k.shortest;
   longest = k.longest;
   each =
-    ap length f ∙ length-push m.drives drive ∙ ap (λ n. n + 1) k.each ∙ sym (length-push m.config.axes axis)
-    ∙ sym (ap (λ (s : Setup). length s.axes) e);
+      ap length f ∙ length-push m.drives drive ∙ ap (λ n. n + 1) k.each ∙ sym (length-push m.config.axes axis)
+      ∙ sym (ap (λ (s : Setup). length s.axes) e);
   drives = rw f (All-append IsDrive m.drives (drive ∷ []) k.drives (All-from_recursion IsDrive (drive ∷ []) (is, tt)));
   tasks = ap (λ (s : Setup). s.tasks) e ∙ k.tasks;
   blocks = ap (λ (s : Setup). s.blocks) e ∙ k.blocks;

@@ -5,7 +5,7 @@ use Rattle.std.specs.Option.{ok_or}
 use Rattle.std.specs.Str.{bytes_eq}
 use Rattle.axis_state.specs.declared.definition.AxisDef.{AxisDef}
 use Rattle.line_text.specs.Reading.{◌>>=◌, each_of}
-use Rattle.motion_history.specs.Faults.{group_fault, name_fault}
+use Rattle.motion_history.specs.Faults.{group_fault}
 use Rattle.motion_history.specs.Members.{group_of}
 use Rattle.motion_history.specs.Setup.{Setup}
 use Rattle.toml.specs.Data.{Members}
@@ -25,14 +25,15 @@ axis_at s name = position (λ (d : AxisDef). bytes_eq d.name name) s.axes
 abbrev pub axis_named : Setup → List ℕ → Result ℕ ℕ
 axis_named s name = ok_or (axis_at s name) WRONG_NAME
 
--- what the table of a group makes of a machine: it has the keys of a group, its name is free, its
--- axes are there and free, and they are 2 to 6
+-- what the table of a group makes of a machine: it has the keys of a group, its axes are there, its
+-- name is free, and its axes are free, each once, and 2 to 6
 unfoldable pub group_meaning : Machine → Members → Result Machine ℕ
 group_meaning m table = do
   _ ← broken_unless (has_keys GROUP_KEYS table) WRONG_KEY
-  _ ← broken_by (name_fault m.config (text_at Name table))
   axes ← each_of (axis_named m.config) (texts_at Axes table)
   _ ← broken_by (group_fault m.config (text_at Name table) axes)
-  Ok (record m { config = record m.config {
-    groups = m.config.groups ++ group_of (text_at Name table) axes ∷ [];
-  } })
+  Ok (record m {
+    config = record m.config {
+      groups = m.config.groups ++ group_of (text_at Name table) axes ∷ [];
+    };
+  })

@@ -70,7 +70,7 @@ top_reading top = do
 unfoldable pub machine_of : List ℕ → Result Machine TextRefused
 machine_of text = document_reading text >>= top_reading
 
--- the answer, seen by a view, is this reading, or the refusal; or memory ran out
+-- what a function answered, seen by a view, is this reading, or its refusal; or memory ran out
 abbrev pub Reads : {X Y : Type 0} → (X → Y) → Result Y TextRefused → Result X TextFault → Type 0
 Reads view reading (Ok x) = reading ≡ Ok (view x)
 Reads view reading (Err (Refused r)) = reading ≡ Err r
@@ -81,12 +81,6 @@ abbrev pub told_at : ℕ → LineFault → TextFault
 told_at place (line.Rule number) =
     Refused (record { place = place; rule = record { letter = 67; number = number } })
 told_at place line.OutOfMemory = OutOfMemory
-
--- the answer is this reading: the machine, or the refusal; or memory ran out
-abbrev pub ReadsBy : Result Machine TextRefused → Result Machine TextFault → Type 0
-ReadsBy reading (Ok machine) = reading ≡ Ok machine
-ReadsBy reading (Err (Refused r)) = reading ≡ Err r
-ReadsBy reading (Err OutOfMemory) = Unit {0}
 
 -- items are taken: the machine is now what they make of it, or the place is told; or memory ran out
 abbrev pub TakesItems : Result Machine TextRefused → Machine → Result (Unit {0}) TextFault → Type 0

@@ -37,7 +37,10 @@ pub fn add_axis(alloc: Global, machine: &mut Machine, table: &Table) -> Result<(
     let placed = placed_of(table)?;
     let name = text_at(table, Key::Name).as_bytes();
     let ready = flag_at(table, Key::Ready);
-    match machine.config.axis(name, &limits, placed.inc, placed.start, ready) {
+    match machine
+        .config
+        .axis(name, &limits, placed.inc, placed.start, ready)
+    {
         Ok(_) => {}
         Err(fault) => return Err(refusal_of(fault)),
     }

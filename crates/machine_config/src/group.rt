@@ -5,11 +5,9 @@ ghost use Rattle.std.specs.List.{position};
 ghost use Rattle.std.specs.Str.{bytes_eq};
 ghost use Rattle.line_text.specs.Reading.{Gives, Takes, each_of};
 ghost use Rattle.line_text.specs.Texts.{texts};
-ghost use Rattle.motion_history.specs.Faults as faults;
 ghost use Rattle.toml.specs.View.{table_view};
 ghost use Rattle.machine_config.specs.Groups as spec;
 ghost use Rattle.machine_config.specs.Machines.{IsMachine};
-ghost use Rattle.machine_config.specs.Rules as rules;
 
 use crate::key::{GROUP_KEYS, Key, has_keys};
 use crate::machine::Machine;
@@ -30,7 +28,6 @@ pub fn add_group(alloc: Global, machine: &mut Machine, table: &Table) -> Result<
 {
     broken_unless(has_keys(&GROUP_KEYS, table), WRONG_KEY)?;
     let name = text_at(table, Key::Name).as_bytes();
-    free_name(&machine.config, name)?;
     let Ok(names) = texts_at(alloc, table, Key::Axes) else {
         return Err(LineFault::OutOfMemory);
     };
@@ -38,16 +35,6 @@ pub fn add_group(alloc: Global, machine: &mut Machine, table: &Table) -> Result<
     match machine.config.group(name, axes.as_slice()) {
         Ok(_) => Ok(()),
         Err(fault) => Err(refusal_of(fault)),
-    }
-}
-
-// Whether a new item may have this name.
-fn free_name(config: &Builder, name: &[u8]) -> Result<(), LineFault>
-    ensures { Gives (λ u. u) (rules.broken_by (faults.name_fault config.now name.now)) result }
-{
-    match config.name_fault(name) {
-        None => Ok(()),
-        Some(fault) => Err(refusal_of(fault)),
     }
 }
 

@@ -118,13 +118,8 @@ fn form_of(key: Key) -> Form
         Key::CycleUs | Key::Cycles | Key::Entries | Key::Lag => Form::One(Sort::Integer),
         Key::Axis | Key::Group | Key::Table => Form::List(Sort::Table),
         Key::Name => Form::One(Sort::Text),
-        Key::Lo
-        | Key::Hi
-        | Key::Vmax
-        | Key::Amax
-        | Key::Dmax
-        | Key::Increment
-        | Key::Start => Form::One(Sort::Quantity),
+        Key::Lo | Key::Hi | Key::Vmax | Key::Amax | Key::Dmax | Key::Increment | Key::Start =>
+            Form::One(Sort::Quantity),
         Key::Ready => Form::One(Sort::Flag),
         Key::Faults => Form::List(Sort::Integer),
         Key::Axes | Key::Points => Form::List(Sort::Text),

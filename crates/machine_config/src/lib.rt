@@ -17,3 +17,5 @@ mod value;
 pub use machine::Machine;
 pub use reading::read_config;
 
+#[cfg(test)]
+mod tests;

@@ -4,7 +4,7 @@ ghost use Rattle.std.specs.Prelude.{◌≡◌, IfOk, OnOk, Ok, Err};
 ghost use Rattle.toml.specs.View.{table_view};
 ghost use Rattle.machine_config.specs.Machines.{IsMachine};
 ghost use Rattle.machine_config.specs.Reading as spec;
-ghost use Rattle.machine_config.specs.Reading.{ReadsBy, TakesItems, items_meaning, top_reading};
+ghost use Rattle.machine_config.specs.Reading.{Reads, TakesItems, items_meaning};
 ghost use Rattle.machine_config.specs.Shown.{shown};
 
 use crate::item::{ItemKind, add_item, items_of};
@@ -23,7 +23,7 @@ use toml::{Table, table_from_slice};
 #[tactic(auto, unfolding(crate::specs::Reading::machine_of))]
 pub fn read_config(alloc: Global, text: &[u8]) -> Result<Machine, TextFault>
     // A text that configures a machine gives that machine, another is refused so.
-    ensures exact { ReadsBy (spec.machine_of text.now) result }
+    ensures exact { Reads (λ m. m) (spec.machine_of text.now) result }
     // What is configured always holds.
     ensures machine { IfOk result IsMachine }
 {
@@ -34,7 +34,7 @@ pub fn read_config(alloc: Global, text: &[u8]) -> Result<Machine, TextFault>
 // The TOML document that a text is.
 #[tactic(auto, unfolding(crate::specs::Reading::document_of))]
 fn document_of(alloc: Global, text: &[u8]) -> Result<Table, TextFault>
-    ensures { spec.Reads (λ t. table_view t) (spec.document_reading text.now) result }
+    ensures { Reads (λ t. table_view t) (spec.document_reading text.now) result }
 {
     match table_from_slice(alloc, text) {
         Ok(top) => Ok(top),
@@ -50,7 +50,7 @@ fn document_of(alloc: Global, text: &[u8]) -> Result<Table, TextFault>
 
 // The machine that a document configures.
 fn machine_of(alloc: Global, top: &Table) -> Result<Machine, TextFault>
-    ensures exact { ReadsBy (top_reading (table_view top.now)) result }
+    ensures exact { Reads (λ m. m) (spec.top_reading (table_view top.now)) result }
     ensures machine { IfOk result IsMachine }
 {
     let mut machine = match bare_machine(alloc, top) {
