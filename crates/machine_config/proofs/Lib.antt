@@ -4,3 +4,7 @@ pub mod Colons
 pub mod Kept
 pub mod Points
 pub mod ItemLaws
+pub mod Results
+pub mod Told
+pub mod Items
+pub mod Configured

@@ -1,7 +1,7 @@
 -- Points that make a cam table, and points that are refused.
 use Rattle.std.proofs.Common.{◌≡◌, ℕ, ◌<◌, ℤ, true, false, List, [], ◌∷◌, ◌++◌, length, Ok, Err, refl, sym, ap, inl, inr, arith}
-use Rattle.std.specs.Prelude.{◌↔◌, ◌≢◌, nat_le}
-use Rattle.std.proofs.lemmas.Bool.{cases_Bool, le-leb, leb-true}
+use Rattle.std.specs.Prelude.{◌↔◌, ◌≢◌, nat_le, not}
+use Rattle.std.proofs.lemmas.Bool.{cases_Bool, cases_lt, le-leb, leb-true}
 use Rattle.cam_table.specs.CamFault.{IsFault}
 use Rattle.cam_table.specs.CamTable.{IsCamTable, is_cam_table}
 use Rattle.cam_table.specs.declared.fault.CamFault.{CamFault}
@@ -24,11 +24,18 @@ AreTold = (points : List (ℤ × ℤ)) → (is_cam_table points ≡ true) ↔ Is
 abbrev pub HaveNone : Type 0
 HaveNone = (points : List (ℤ × ℤ)) (fault : CamFault) → IsCamTable points → IsFault points fault → ⊥
 
-not_full : (n : ℕ) → n < MOST_TABLES → nat_le MOST_TABLES n ≡ false
+pub not_full : (n : ℕ) → n < MOST_TABLES → nat_le MOST_TABLES n ≡ false
 not_full n h =
     elim (cases_Bool (nat_le MOST_TABLES n)) [
       | inl full ↦ let l = leb-true _ _ full in absurd (omega (arith, l, h))
       | inr room ↦ room
+    ]
+
+pub has_room : (n : ℕ) → not (nat_le MOST_TABLES n) ≡ true → n < MOST_TABLES
+has_room n h =
+    elim (cases_lt n MOST_TABLES) [
+      | inl room ↦ room
+      | inr full ↦ let e = rw (le-leb MOST_TABLES n full) at h in absurd (cc)
     ]
 
 -- points that make a table, where there is room for one

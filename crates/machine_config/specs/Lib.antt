@@ -10,3 +10,4 @@ pub mod Tables
 pub mod Tops
 pub mod Reading
 pub mod Shown
+pub mod Configured

@@ -2,6 +2,7 @@
 
 ghost use Rattle.std.specs.Prelude.{◌≡◌, IfOk, OnOk, Ok, Err};
 ghost use Rattle.toml.specs.View.{table_view};
+ghost use Rattle.machine_config.specs.Configured.{Configures};
 ghost use Rattle.machine_config.specs.Machines.{IsMachine};
 ghost use Rattle.machine_config.specs.Reading as spec;
 ghost use Rattle.machine_config.specs.Reading.{Reads, TakesItems, items_meaning};
@@ -11,6 +12,8 @@ use crate::item::{ItemKind, add_item, items_of};
 use crate::machine::Machine;
 use crate::rule::NO_TOML;
 use crate::top::bare_machine;
+use cam_table::cam_tables_are_told;
+use fixed_units::reads_what_is_spelled;
 use line_text::LineFault;
 use motion_history::{Rule, TextFault, TextRefused};
 use std::alloc::Global;
@@ -20,11 +23,25 @@ use toml::{Table, table_from_slice};
 /// that breaks a rule, by the first rule that it breaks: C1 to C7. Place 0 is the top; the axes,
 /// groups and cam tables are counted from 1, one behind the other. It takes memory for the TOML
 /// document that the text is, besides the machine.
-#[tactic(auto, unfolding(crate::specs::Reading::machine_of))]
 pub fn read_config(alloc: Global, text: &[u8]) -> Result<Machine, TextFault>
-    // A text that configures a machine gives that machine, another is refused so.
+    // What is read is a machine that the text configures.
+    ensures found { IfOk result (Configures text.now) }
+    // A machine that the text configures is read, unless memory runs out.
+    ensures only { (machine : Machine) → Configures text.now machine → Reads (λ m. m) (Ok machine) result }
+    // A text that configures none is refused so.
     ensures exact { Reads (λ m. m) (spec.machine_of text.now) result }
-    // What is configured always holds.
+    // What always holds of a machine.
+    ensures machine { IfOk result IsMachine }
+{
+    reads_what_is_spelled();
+    cam_tables_are_told();
+    read(alloc, text)
+}
+
+// The machine that a text configures.
+#[tactic(auto, unfolding(crate::specs::Reading::machine_of))]
+fn read(alloc: Global, text: &[u8]) -> Result<Machine, TextFault>
+    ensures exact { Reads (λ m. m) (spec.machine_of text.now) result }
     ensures machine { IfOk result IsMachine }
 {
     let top = document_of(alloc, text)?;

@@ -1,0 +1,191 @@
+-- What items mean is what they add.
+use Rattle.std.proofs.Common.{◌≡◌, ℕ, ◌<◌, ◌≤◌, ℤ, Bool, true, false, Option, Some, None, Result, Ok, Err, List, [], ◌∷◌, ◌++◌, length, refl, sym, ap, subst, ◌∙◌, arith, lit≤}
+use Rattle.std.specs.Prelude.{◌↔◌, nat_le, not, pos}
+use Rattle.std.specs.Option.{ok_or}
+use Rattle.std.proofs.lemmas.Bool.{le-leb, leb-true, cases_Bool}
+use Rattle.axis_state.specs.declared.definition.AxisDef.{AxisDef}
+use Rattle.cam_table.specs.CamTable.{IsCamTable, is_cam_table}
+use Rattle.fixed_units.specs.PerCycle.{per_cycle_of, per_cycle_squared_of}
+use Rattle.kin_core.specs.declared.limits.Limits.{Limits}
+use Rattle.line_text.specs.Reading.{each_of}
+use Rattle.motion_history.specs.Faults.{axis_fault, group_fault}
+use Rattle.motion_history.specs.Members.{group_of}
+use Rattle.motion_history.specs.Setup.{Setup}
+use Rattle.motion_history.specs.declared.drives.DriveDef.{DriveDef}
+use Rattle.motion_history.specs.declared.sizes.TheConstants.{MOST_FAULTS, MOST_LAG, MOST_TABLES}
+use Rattle.toml.specs.Data.{Members}
+use Rattle.machine_config.specs.Axes.{axis_meaning, limits_of, placed_of, with_axis}
+use Rattle.machine_config.specs.Configured.{AddsAxis, AddsGroup, AddsTable, AreEach, GivesAxis, GivesDrive, GivesLimits, IsPoint, IsStep}
+use Rattle.machine_config.specs.Drives.{IsDrive, drive_of, rise_above}
+use Rattle.machine_config.specs.Groups.{axis_at, axis_named, group_meaning}
+use Rattle.machine_config.specs.Keys.{has_keys}
+use Rattle.machine_config.specs.Quantities.{point_of, quantity_at, quantity_or}
+use Rattle.machine_config.specs.Rules.{broken_by, broken_unless, in_range}
+use Rattle.machine_config.specs.Tables.{points_meaning, table_meaning}
+use Rattle.machine_config.specs.Values.{flag_at, integer_at, integers_at, text_at, texts_at, value_at}
+use Rattle.machine_config.specs.declared.axis.Placed.{Placed}
+use Rattle.machine_config.specs.declared.drive.TheConstants.{MOST_STEPS}
+use Rattle.machine_config.specs.declared.key.Key.TheVariants.{Amax, Axes, Dmax, Faults, Hi, Increment, Lag, Lo, Name, Points, Ready, Start, Vmax}
+use Rattle.machine_config.specs.declared.key.TheConstants.{AXIS_KEYS, GROUP_KEYS, TABLE_KEYS}
+use Rattle.machine_config.specs.declared.machine.Machine.{Machine}
+use Rattle.machine_config.specs.declared.rule.TheConstants.{NO_TABLE, OUT_OF_RANGE, WRONG_COUNT, WRONG_KEY, WRONG_NAME}
+use Rattle.machine_config.proofs.Points.{AreTold, has_room, not_full}
+use Rattle.machine_config.proofs.Results.{bind_ok, faultless, found, holds, ok_is}
+use Rattle.machine_config.proofs.Told.{AreSpelled, each-read, each-told, point-read, point-told, quantity-read, quantity-told, quantity_or-read, quantity_or-told, range-read, range-told}
+
+-- ---- limits
+
+pub limits-told : AreSpelled → (cycle_us : ℕ) (t : Members) (l : Limits) → limits_of cycle_us t ≡ Ok l → GivesLimits cycle_us t l
+unfolding limits_of quantity_at quantity_or
+limits-told spelled cycle_us t l h =
+    let lo = bind_ok (quantity_at Lo t) _ l h in
+    let hi = bind_ok (quantity_at Hi t) _ l lo.2 in
+    let v = bind_ok (quantity_at Vmax t) _ l hi.2 in
+    let a = bind_ok (quantity_at Amax t) _ l v.2 in
+    let d = bind_ok (quantity_or a.0 Dmax t) _ l a.2 in
+    let made : Limits = record {
+      lo = lo.0; hi = hi.0; vmax = per_cycle_of v.0 cycle_us; amax = per_cycle_squared_of a.0 cycle_us; dmax = per_cycle_squared_of d.0 cycle_us } in
+    let is : made ≡ l = ok_is (Ok made) made l refl d.2 in
+    subst (λ m. GivesLimits cycle_us t m) is (record {
+      velocity = v.0;
+      acceleration = a.0;
+      deceleration = d.0;
+      lo = quantity-told spelled (value_at Lo t) lo.0 lo.1;
+      hi = quantity-told spelled (value_at Hi t) hi.0 hi.1;
+      vmax = quantity-told spelled (value_at Vmax t) v.0 v.1;
+      amax = quantity-told spelled (value_at Amax t) a.0 a.1;
+      dmax = quantity_or-told spelled a.0 (value_at Dmax t) d.0 d.1;
+      steps = refl;
+      speeds_up = refl;
+      slows_down = refl;
+    })
+
+pub limits-read : AreSpelled → (cycle_us : ℕ) (t : Members) (l : Limits) → GivesLimits cycle_us t l → limits_of cycle_us t ≡ Ok l
+unfolding limits_of quantity_at quantity_or
+limits-read spelled cycle_us t l g =
+    rw (quantity-read spelled _ l.lo g.lo, quantity-read spelled _ l.hi g.hi, quantity-read spelled _ g.velocity g.vmax,
+    quantity-read spelled _ g.acceleration g.amax, quantity_or-read spelled g.acceleration _ g.deceleration g.dmax)
+    (rw (g.steps, g.speeds_up, g.slows_down) refl)
+
+-- ---- drives
+
+pub drive-told : (t : Members) (d : DriveDef) → drive_of t ≡ Ok d → GivesDrive t d
+unfolding drive_of
+drive-told t d h =
+    let lag = bind_ok (in_range 0 MOST_LAG (integer_at Lag t)) _ d h in
+    let steps = bind_ok (each_of (in_range 1 MOST_STEPS) (integers_at Faults t)) _ d lag.2 in
+    let rising = bind_ok (broken_unless (rise_above 0 steps.0) OUT_OF_RANGE) _ d steps.2 in
+    let few = bind_ok (broken_unless (nat_le (length steps.0) MOST_FAULTS) WRONG_COUNT) _ d rising.2 in
+    let made : DriveDef = record { lag = lag.0; faults = steps.0 } in
+    let is : made ≡ d = ok_is (Ok made) made d refl few.2 in
+    let behind = range-told 0 MOST_LAG (integer_at Lag t) lag.0 lag.1 in
+    subst (λ e. GivesDrive t e) is (record {
+      lag = behind.is;
+      faults = each-told (in_range 1 MOST_STEPS) IsStep (λ z n r. let p = range-told 1 MOST_STEPS z n r in record { is = p.is; least = p.above; most = p.below })
+        (integers_at Faults t) steps.0 steps.1;
+      in_ranges = record {
+        lag = behind.below;
+        few = leb-true _ _ (holds _ WRONG_COUNT few.0 few.1);
+        rising = holds _ OUT_OF_RANGE rising.0 rising.1;
+      };
+    })
+
+pub drive-read : (t : Members) (d : DriveDef) → GivesDrive t d → drive_of t ≡ Ok d
+unfolding drive_of
+drive-read t d g =
+    let lag = range-read 0 MOST_LAG (integer_at Lag t) d.lag (record { is = g.lag; above = omega arith; below = g.in_ranges.lag }) in
+    let steps = each-read (in_range 1 MOST_STEPS) IsStep (λ z n s. range-read 1 MOST_STEPS z n (record { is = s.is; above = s.least; below = s.most }))
+      (integers_at Faults t) d.faults g.faults in
+    rw (lag, steps, g.in_ranges.rising, le-leb _ _ g.in_ranges.few) refl
+
+-- ---- axes
+
+pub axis-told : AreSpelled → (m : Machine) (t : Members) (n : Machine) → axis_meaning m t ≡ Ok n → AddsAxis m t n
+unfolding axis_meaning placed_of quantity_at
+axis-told spelled m t n h =
+    let keys = bind_ok (broken_unless (has_keys AXIS_KEYS t) WRONG_KEY) _ n h in
+    let limits = bind_ok (limits_of m.cycle_us t) _ n keys.2 in
+    let placed = bind_ok (placed_of t) _ n limits.2 in
+    let fits = bind_ok (broken_by (axis_fault m.config (text_at Name t) limits.0 placed.0.inc placed.0.start)) _ n placed.2 in
+    let drive = bind_ok (drive_of t) _ n fits.2 in
+    let inc = bind_ok (quantity_at Increment t) _ placed.0 placed.1 in
+    let start = bind_ok (quantity_at Start t) _ placed.0 inc.2 in
+    let stands : Placed = record { inc = inc.0; start = start.0 } in
+    let at : stands ≡ placed.0 = ok_is (Ok stands) stands placed.0 refl start.2 in
+    record {
+      axis = record { name = text_at Name t; limits = limits.0; inc = placed.0.inc; start = placed.0.start; ready = flag_at Ready t };
+      drive = drive.0;
+      gives_axis = record {
+        keys = holds _ WRONG_KEY keys.0 keys.1;
+        name = refl;
+        limits = limits-told spelled m.cycle_us t limits.0 limits.1;
+        increment = quantity-told spelled (value_at Increment t) placed.0.inc (inc.1 ∙ ap (λ p. Ok p.inc) at);
+        start = quantity-told spelled (value_at Start t) placed.0.start (start.1 ∙ ap (λ p. Ok p.start) at);
+        ready = refl;
+      };
+      gives_drive = drive-told t drive.0 drive.1;
+      fits = faultless _ fits.0 fits.1;
+      added = sym (ok_is (Ok _) _ n refl drive.2);
+    }
+
+pub axis-read : AreSpelled → (m : Machine) (t : Members) (n : Machine) → AddsAxis m t n → axis_meaning m t ≡ Ok n
+unfolding axis_meaning placed_of quantity_at
+axis-read spelled m t n adds =
+    let g = adds.gives_axis in
+    let named : axis_fault m.config (text_at Name t) adds.axis.limits adds.axis.inc adds.axis.start ≡ None =
+      subst (λ name. axis_fault m.config name adds.axis.limits adds.axis.inc adds.axis.start ≡ None) g.name adds.fits in
+    rw (g.keys, limits-read spelled m.cycle_us t adds.axis.limits g.limits, quantity-read spelled _ adds.axis.inc g.increment,
+    quantity-read spelled _ adds.axis.start g.start, named, drive-read t adds.drive adds.gives_drive, adds.added)
+    (rw (← g.name, ← g.ready) refl)
+
+-- ---- groups
+
+names-told : (s : Setup) (name : List ℕ) (axis : ℕ) → axis_named s name ≡ Ok axis → axis_at s name ≡ Some axis
+names-told s name axis h = found (axis_at s name) WRONG_NAME axis h
+
+names-read : (s : Setup) (name : List ℕ) (axis : ℕ) → axis_at s name ≡ Some axis → axis_named s name ≡ Ok axis
+names-read s name axis h = rw h refl
+
+pub group-told : (m : Machine) (t : Members) (n : Machine) → group_meaning m t ≡ Ok n → AddsGroup m t n
+unfolding group_meaning
+group-told m t n h =
+    let keys = bind_ok (broken_unless (has_keys GROUP_KEYS t) WRONG_KEY) _ n h in
+    let axes = bind_ok (each_of (axis_named m.config) (texts_at Axes t)) _ n keys.2 in
+    let fits = bind_ok (broken_by (group_fault m.config (text_at Name t) axes.0)) _ n axes.2 in
+    record {
+      axes = axes.0;
+      keys = holds _ WRONG_KEY keys.0 keys.1;
+      named = each-told (axis_named m.config) _ (names-told m.config) (texts_at Axes t) axes.0 axes.1;
+      fits = faultless _ fits.0 fits.1;
+      added = sym (ok_is (Ok _) _ n refl fits.2);
+    }
+
+pub group-read : (m : Machine) (t : Members) (n : Machine) → AddsGroup m t n → group_meaning m t ≡ Ok n
+unfolding group_meaning
+group-read m t n adds =
+    rw (adds.keys, each-read (axis_named m.config) _ (names-read m.config) (texts_at Axes t) adds.axes adds.named, adds.fits, adds.added) refl
+
+-- ---- cam tables
+
+pub table-told : AreSpelled → AreTold → (m : Machine) (t : Members) (n : Machine) → table_meaning m t ≡ Ok n → AddsTable m t n
+unfolding table_meaning points_meaning
+table-told spelled told m t n h =
+    let keys = bind_ok (broken_unless (has_keys TABLE_KEYS t) WRONG_KEY) _ n h in
+    let points = bind_ok (each_of point_of (texts_at Points t)) _ n keys.2 in
+    let config = bind_ok (points_meaning m.config points.0) _ n points.2 in
+    let makes = bind_ok (broken_unless (is_cam_table points.0) NO_TABLE) _ config.0 config.1 in
+    let room = bind_ok (broken_unless (not (nat_le MOST_TABLES (length m.config.tables))) WRONG_COUNT) _ config.0 makes.2 in
+    let is = ok_is (Ok _) _ config.0 refl room.2 in
+    record {
+      points = points.0;
+      keys = holds _ WRONG_KEY keys.0 keys.1;
+      read = each-told point_of IsPoint (point-told spelled) (texts_at Points t) points.0 points.1;
+      makes = (told points.0).0 (holds _ NO_TABLE makes.0 makes.1);
+      room = has_room (length m.config.tables) (holds _ WRONG_COUNT room.0 room.1);
+      added = sym (ap (λ c. record m { config = c }) is ∙ ok_is (Ok _) _ n refl config.2);
+    }
+
+pub table-read : AreSpelled → AreTold → (m : Machine) (t : Members) (n : Machine) → AddsTable m t n → table_meaning m t ≡ Ok n
+unfolding table_meaning points_meaning
+table-read spelled told m t n adds =
+    rw (adds.keys, each-read point_of IsPoint (point-read spelled) (texts_at Points t) adds.points adds.read, (told adds.points).1 adds.makes, not_full (length m.config.tables) adds.room, adds.added) refl

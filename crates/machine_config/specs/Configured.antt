@@ -1,0 +1,170 @@
+-- What a text configures, as facts: what stands under the keys of its tables, and what each item
+-- adds to the machine. Apart from where a text is refused. This project's profile.
+use Rattle.std.specs.Prelude.{◌≡◌, ◌<◌, ◌≤◌, ℕ, ℤ, pos, ◌*ℤ◌, unsigned_abs, All, IsTrue, Option, Some, None, List, [], ◌∷◌, ◌++◌, length, map}
+use Rattle.std.specs.List.{after_first, before_first, list_any}
+use Rattle.std.specs.Str.{IsUtf8}
+use Rattle.axis_state.specs.declared.definition.AxisDef.{AxisDef}
+use Rattle.cam_table.specs.CamTable.{IsCamTable}
+use Rattle.fixed_units.specs.Numbers.{Spells}
+use Rattle.fixed_units.specs.PerCycle.{per_cycle_of, per_cycle_squared_of}
+use Rattle.kin_core.specs.declared.limits.Limits.{Limits}
+use Rattle.motion_history.specs.Faults.{axis_fault, group_fault}
+use Rattle.motion_history.specs.Members.{group_of}
+use Rattle.motion_history.specs.declared.drives.DriveDef.{DriveDef}
+use Rattle.motion_history.specs.declared.sizes.TheConstants.{MOST_CYCLES, MOST_ENTRIES, MOST_TABLES}
+use Rattle.motion_numbers.specs.declared.TheConstants.{MOST_NUMBER}
+use Rattle.toml.specs.Data.{Data, integer, string, Members}
+use Rattle.toml.specs.Parse.{parse_document}
+use Rattle.machine_config.specs.Axes.{with_axis}
+use Rattle.machine_config.specs.Drives.{IsDrive}
+use Rattle.machine_config.specs.Groups.{axis_at}
+use Rattle.machine_config.specs.Keys.{has_keys}
+use Rattle.machine_config.specs.Quantities.{is_colon}
+use Rattle.machine_config.specs.Reading.{items_of}
+use Rattle.machine_config.specs.Tops.{are_counted, bare_setup}
+use Rattle.machine_config.specs.Values.{flag_at, integer_at, integers_at, text_at, texts_at, value_at}
+use Rattle.machine_config.specs.declared.drive.TheConstants.{MOST_STEPS}
+use Rattle.machine_config.specs.declared.item.ItemKind.{ItemKind}
+use Rattle.machine_config.specs.declared.item.ItemKind.TheVariants as kind
+use Rattle.machine_config.specs.declared.key.Key.TheVariants.{Amax, Axes, Cycles, CycleUs, Dmax, Entries, Faults, Hi, Increment, Lag, Lo, Name, Points, Ready, Start, Vmax}
+use Rattle.machine_config.specs.declared.key.TheConstants.{AXIS_KEYS, GROUP_KEYS, TABLE_KEYS, TOP_KEYS}
+use Rattle.machine_config.specs.declared.machine.Machine.{Machine}
+use Rattle.machine_config.specs.declared.machine.TheConstants.{LONGEST_CYCLE, SHORTEST_CYCLE}
+use Rattle.machine_config.specs.declared.quantity.TheConstants.{UNIT}
+
+-- a text spells so many internal units, at most 10^18
+pub record IsDecimal (text : List ℕ) (units : ℤ) : Type 0 where
+  pub spells : Spells text units
+  pub small : unsigned_abs units ≤ MOST_NUMBER
+
+-- an integer of user units is so many internal units, at most 10^18
+pub record IsWhole (z units : ℤ) : Type 0 where
+  pub value : units ≡ z *ℤ pos UNIT
+  pub small : unsigned_abs units ≤ MOST_NUMBER
+
+-- what is given is a quantity of so many internal units: a text, or an integer
+abbrev pub IsQuantity : Option Data → ℤ → Type 0
+IsQuantity (Some (string text)) units = IsDecimal text units
+IsQuantity (Some (integer z)) units = IsWhole z units
+IsQuantity _ units = ⊥
+
+-- the same, or nothing is given and it is this other number
+abbrev pub IsQuantityOr : ℤ → Option Data → ℤ → Type 0
+IsQuantityOr other None units = units ≡ other
+IsQuantityOr other (Some d) units = IsQuantity (Some d) units
+
+-- two lists are as long as each other, and each item of one is so to that of the other
+abbrev pub AreEach : {A B : Type 0} → (A → B → Type 0) → List A → List B → Type 0
+AreEach R [] [] = Unit {0}
+AreEach R (x ∷ xs) (y ∷ ys) = R x y × AreEach R xs ys
+AreEach R _ _ = ⊥
+
+-- a table gives an axis these limits: its places, and its rates in steps of a cycle, rounded down.
+-- Without a deceleration it brakes as it speeds up
+pub record GivesLimits (cycle_us : ℕ) (table : Members) (l : Limits) : Type 0 where
+  pub velocity : ℤ
+  pub acceleration : ℤ
+  pub deceleration : ℤ
+  pub lo : IsQuantity (value_at Lo table) l.lo
+  pub hi : IsQuantity (value_at Hi table) l.hi
+  pub vmax : IsQuantity (value_at Vmax table) velocity
+  pub amax : IsQuantity (value_at Amax table) acceleration
+  pub dmax : IsQuantityOr acceleration (value_at Dmax table) deceleration
+  pub steps : l.vmax ≡ per_cycle_of velocity cycle_us
+  pub speeds_up : l.amax ≡ per_cycle_squared_of acceleration cycle_us
+  pub slows_down : l.dmax ≡ per_cycle_squared_of deceleration cycle_us
+
+-- a table gives this axis
+pub record GivesAxis (cycle_us : ℕ) (table : Members) (axis : AxisDef) : Type 0 where
+  pub keys : IsTrue (has_keys AXIS_KEYS table)
+  pub name : axis.name ≡ text_at Name table
+  pub limits : GivesLimits cycle_us table axis.limits
+  pub increment : IsQuantity (value_at Increment table) axis.inc
+  pub start : IsQuantity (value_at Start table) axis.start
+  pub ready : axis.ready ≡ flag_at Ready table
+
+-- an integer is a step in which a drive may have a fault
+pub record IsStep (z : ℤ) (step : ℕ) : Type 0 where
+  pub is : z ≡ pos step
+  pub least : 1 ≤ step
+  pub most : step ≤ MOST_STEPS
+
+-- a table gives this drive
+pub record GivesDrive (table : Members) (drive : DriveDef) : Type 0 where
+  pub lag : integer_at Lag table ≡ pos drive.lag
+  pub faults : AreEach IsStep (integers_at Faults table) drive.faults
+  pub in_ranges : IsDrive drive
+
+-- the table of an axis adds it to a machine, with its drive: the axis is free and in its ranges
+pub record AddsAxis (m : Machine) (table : Members) (n : Machine) : Type 0 where
+  pub axis : AxisDef
+  pub drive : DriveDef
+  pub gives_axis : GivesAxis m.cycle_us table axis
+  pub gives_drive : GivesDrive table drive
+  pub fits : axis_fault m.config axis.name axis.limits axis.inc axis.start ≡ None
+  pub added : n ≡ with_axis m axis drive
+
+-- the table of a group adds it to a machine: its axes are there, and it is free and in its ranges
+pub record AddsGroup (m : Machine) (table : Members) (n : Machine) : Type 0 where
+  pub axes : List ℕ
+  pub keys : IsTrue (has_keys GROUP_KEYS table)
+  pub named : AreEach (λ name axis. axis_at m.config name ≡ Some axis) (texts_at Axes table) axes
+  pub fits : group_fault m.config (text_at Name table) axes ≡ None
+  pub added : n ≡ record m { config = record m.config {
+    groups = m.config.groups ++ group_of (text_at Name table) axes ∷ [];
+  } }
+
+-- a text X:Y is this point, a decimal before its first colon and one behind it
+pub record IsPoint (text : List ℕ) (point : ℤ × ℤ) : Type 0 where
+  pub colon : IsTrue (list_any is_colon text)
+  pub x : IsDecimal (before_first is_colon text) point.0
+  pub y : IsDecimal (after_first is_colon text) point.1
+
+-- the table of a cam table adds it to a machine: its points make one, and there is room for it
+pub record AddsTable (m : Machine) (table : Members) (n : Machine) : Type 0 where
+  pub points : List (ℤ × ℤ)
+  pub keys : IsTrue (has_keys TABLE_KEYS table)
+  pub read : AreEach IsPoint (texts_at Points table) points
+  pub makes : IsCamTable points
+  pub room : length m.config.tables < MOST_TABLES
+  pub added : n ≡ record m { config = record m.config { tables = m.config.tables ++ points ∷ [] } }
+
+-- an item adds what it is
+abbrev pub AddsItem : Machine → ItemKind → Members → Machine → Type 0
+AddsItem m kind.Axis table n = AddsAxis m table n
+AddsItem m kind.Group table n = AddsGroup m table n
+AddsItem m kind.Table table n = AddsTable m table n
+
+-- items lead from a machine to another, each from where those before it lead
+abbrev pub ItemsLead : Machine → List (ItemKind × Members) → Machine → Type 0
+ItemsLead m [] n = n ≡ m
+ItemsLead m (i ∷ more) n = (u : Machine) × AddsItem m i.0 i.1 u × ItemsLead u more n
+
+-- the top gives a cycle and the room of the history, in their ranges, and neither too many items nor
+-- too few
+pub record GivesTop (top : Members) (cycle_us cycles entries : ℕ) : Type 0 where
+  pub keys : IsTrue (has_keys TOP_KEYS top)
+  pub cycle : integer_at CycleUs top ≡ pos cycle_us
+  pub shortest : SHORTEST_CYCLE ≤ cycle_us
+  pub longest : cycle_us ≤ LONGEST_CYCLE
+  pub room : integer_at Cycles top ≡ pos cycles
+  pub some_room : 1 ≤ cycles
+  pub most_room : cycles ≤ MOST_CYCLES
+  pub entries_room : integer_at Entries top ≡ pos entries
+  pub some_entries : 1 ≤ entries
+  pub most_entries : entries ≤ MOST_ENTRIES
+  pub counted : IsTrue (are_counted top)
+
+-- a text configures this machine: it is a TOML document, whose items lead there from the machine
+-- that its top gives
+pub record Configures (text : List ℕ) (machine : Machine) : Type 0 where
+  pub top : Members
+  pub cycle_us : ℕ
+  pub cycles : ℕ
+  pub entries : ℕ
+  pub utf8 : IsUtf8 text
+  pub document : parse_document text ≡ Some top
+  pub gives : GivesTop top cycle_us cycles entries
+  pub leads : ItemsLead
+    (record { config = bare_setup cycles entries; cycle_us = cycle_us; drives = [] })
+    (items_of top) machine
