@@ -1,7 +1,6 @@
 -- A text's reading is the machine that it configures.
-use Rattle.std.proofs.Common.{◌≡◌, ℕ, ◌+◌, Bool, true, false, Option, Some, None, Result, Ok, Err, List, [], ◌∷◌, refl, sym, ap, subst, ◌∙◌, inl, inr}
+use Rattle.std.proofs.Common.{◌≡◌, ℕ, ◌+◌, Some, Result, Ok, Err, List, [], ◌∷◌, refl, sym, ap, subst, inl, inr}
 use Rattle.std.specs.Prelude.{IfOk}
-use Rattle.std.specs.Option.{ok_or}
 use Rattle.std.specs.Str.{IsUtf8, is_utf8}
 use Rattle.std.proofs.lemmas.Bool.{cases_Bool}
 use Rattle.std.proofs.lemmas.Str.{IsUtf8-from_is_utf8, is_utf8-from_IsUtf8}
@@ -84,9 +83,15 @@ top-told top m h =
       entries = entries.0;
       gives = record {
         keys = holds _ WRONG_KEY keys.0 keys.1;
-        cycle = c.is; shortest = c.above; longest = c.below;
-        room = r.is; some_room = r.above; most_room = r.below;
-        entries_room = e.is; some_entries = e.above; most_entries = e.below;
+        cycle = c.is;
+        shortest = c.above;
+        longest = c.below;
+        room = r.is;
+        some_room = r.above;
+        most_room = r.below;
+        entries_room = e.is;
+        some_entries = e.above;
+        most_entries = e.below;
         counted = holds _ WRONG_COUNT counted.0 counted.1;
       };
       is = sym (ok_is (Ok _) _ m refl counted.2);
@@ -95,9 +100,13 @@ top-told top m h =
 top-read : (top : Members) (cycle_us cycles entries : ℕ) → GivesTop top cycle_us cycles entries → top_meaning top ≡ Ok (bare cycle_us cycles entries)
 unfolding top_meaning
 top-read top cycle_us cycles entries g =
-    rw (g.keys, range-read SHORTEST_CYCLE LONGEST_CYCLE (integer_at CycleUs top) cycle_us (record { is = g.cycle; above = g.shortest; below = g.longest }),
-    range-read 1 MOST_CYCLES (integer_at Cycles top) cycles (record { is = g.room; above = g.some_room; below = g.most_room }),
-    range-read 1 MOST_ENTRIES (integer_at Entries top) entries (record { is = g.entries_room; above = g.some_entries; below = g.most_entries }), g.counted) refl
+    rw (
+      g.keys,
+      range-read SHORTEST_CYCLE LONGEST_CYCLE (integer_at CycleUs top) cycle_us (record { is = g.cycle; above = g.shortest; below = g.longest }),
+      range-read 1 MOST_CYCLES (integer_at Cycles top) cycles (record { is = g.room; above = g.some_room; below = g.most_room }),
+      range-read 1 MOST_ENTRIES (integer_at Entries top) entries (record { is = g.entries_room; above = g.some_entries; below = g.most_entries }),
+      g.counted,
+    ) refl
 
 -- ---- the document
 

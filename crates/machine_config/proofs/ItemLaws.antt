@@ -9,7 +9,7 @@ use Rattle.motion_history.specs.declared.refused.TextRefused.{TextRefused}
 use Rattle.toml.specs.Data.{Members}
 use Rattle.toml.specs.View.{table_view}
 use Rattle.toml.specs.declared.value.Value.{Value}
-use Rattle.machine_config.specs.Reading.{TakesItems, item_meaning, items_meaning, told_at}
+use Rattle.machine_config.specs.Reading.{TakesItems, item_meaning, items_meaning, refused_at, told_at}
 use Rattle.machine_config.specs.Shown.{shown}
 use Rattle.machine_config.specs.declared.item.ItemKind.{ItemKind}
 use Rattle.machine_config.specs.declared.machine.Machine.{Machine}
@@ -40,6 +40,6 @@ pub stops : (i : ℕ) (m n : Machine) (xs : List (ItemKind × Members)) (x : Ite
     drop i xs ≡ x ∷ drop (suc i) xs → Takes (item_meaning m x.0 x.1) n (Err fault) → items_meaning i m (drop i xs) ≡ whole →
     TakesItems whole n (Err (told_at (i + 1) fault))
 stops i m n xs x whole (line.Rule number) cut is before =
-    let one : items_meaning i m (drop i xs) ≡ Err (record { place = i + 1; rule = record { letter = 67; number = number } }) = rw (cut, is) refl in
+    let one : items_meaning i m (drop i xs) ≡ Err (refused_at (i + 1) number) = rw (cut, is) refl in
     sym before ∙ one
 stops i m n xs x whole line.OutOfMemory cut is before = tt

@@ -1,22 +1,19 @@
 -- What items mean is what they add.
-use Rattle.std.proofs.Common.{◌≡◌, ℕ, ◌<◌, ◌≤◌, ℤ, Bool, true, false, Option, Some, None, Result, Ok, Err, List, [], ◌∷◌, ◌++◌, length, refl, sym, ap, subst, ◌∙◌, arith, lit≤}
-use Rattle.std.specs.Prelude.{◌↔◌, nat_le, not, pos}
-use Rattle.std.specs.Option.{ok_or}
-use Rattle.std.proofs.lemmas.Bool.{le-leb, leb-true, cases_Bool}
-use Rattle.axis_state.specs.declared.definition.AxisDef.{AxisDef}
-use Rattle.cam_table.specs.CamTable.{IsCamTable, is_cam_table}
+use Rattle.std.proofs.Common.{◌≡◌, ℕ, Some, None, Ok, List, length, refl, sym, ap, subst, ◌∙◌, arith}
+use Rattle.std.specs.Prelude.{nat_le, not}
+use Rattle.std.proofs.lemmas.Bool.{le-leb, leb-true}
+use Rattle.cam_table.specs.CamTable.{is_cam_table}
 use Rattle.fixed_units.specs.PerCycle.{per_cycle_of, per_cycle_squared_of}
 use Rattle.kin_core.specs.declared.limits.Limits.{Limits}
 use Rattle.line_text.specs.Reading.{each_of}
 use Rattle.motion_history.specs.Faults.{axis_fault, group_fault}
-use Rattle.motion_history.specs.Members.{group_of}
 use Rattle.motion_history.specs.Setup.{Setup}
 use Rattle.motion_history.specs.declared.drives.DriveDef.{DriveDef}
 use Rattle.motion_history.specs.declared.sizes.TheConstants.{MOST_FAULTS, MOST_LAG, MOST_TABLES}
 use Rattle.toml.specs.Data.{Members}
-use Rattle.machine_config.specs.Axes.{axis_meaning, limits_of, placed_of, with_axis}
-use Rattle.machine_config.specs.Configured.{AddsAxis, AddsGroup, AddsTable, AreEach, GivesAxis, GivesDrive, GivesLimits, IsPoint, IsStep}
-use Rattle.machine_config.specs.Drives.{IsDrive, drive_of, rise_above}
+use Rattle.machine_config.specs.Axes.{axis_meaning, limits_of, placed_of}
+use Rattle.machine_config.specs.Configured.{AddsAxis, AddsGroup, AddsTable, GivesDrive, GivesLimits, IsPoint, IsStep}
+use Rattle.machine_config.specs.Drives.{drive_of, rise_above}
 use Rattle.machine_config.specs.Groups.{axis_at, axis_named, group_meaning}
 use Rattle.machine_config.specs.Keys.{has_keys}
 use Rattle.machine_config.specs.Quantities.{point_of, quantity_at, quantity_or}
@@ -44,7 +41,12 @@ limits-told spelled cycle_us t l h =
     let a = bind_ok (quantity_at Amax t) _ l v.2 in
     let d = bind_ok (quantity_or a.0 Dmax t) _ l a.2 in
     let made : Limits = record {
-      lo = lo.0; hi = hi.0; vmax = per_cycle_of v.0 cycle_us; amax = per_cycle_squared_of a.0 cycle_us; dmax = per_cycle_squared_of d.0 cycle_us } in
+      lo = lo.0;
+      hi = hi.0;
+      vmax = per_cycle_of v.0 cycle_us;
+      amax = per_cycle_squared_of a.0 cycle_us;
+      dmax = per_cycle_squared_of d.0 cycle_us;
+    } in
     let is : made ≡ l = ok_is (Ok made) made l refl d.2 in
     subst (λ m. GivesLimits cycle_us t m) is (record {
       velocity = v.0;
@@ -63,8 +65,13 @@ limits-told spelled cycle_us t l h =
 pub limits-read : AreSpelled → (cycle_us : ℕ) (t : Members) (l : Limits) → GivesLimits cycle_us t l → limits_of cycle_us t ≡ Ok l
 unfolding limits_of quantity_at quantity_or
 limits-read spelled cycle_us t l g =
-    rw (quantity-read spelled _ l.lo g.lo, quantity-read spelled _ l.hi g.hi, quantity-read spelled _ g.velocity g.vmax,
-    quantity-read spelled _ g.acceleration g.amax, quantity_or-read spelled g.acceleration _ g.deceleration g.dmax)
+    rw (
+      quantity-read spelled _ l.lo g.lo,
+      quantity-read spelled _ l.hi g.hi,
+      quantity-read spelled _ g.velocity g.vmax,
+      quantity-read spelled _ g.acceleration g.amax,
+      quantity_or-read spelled g.acceleration _ g.deceleration g.dmax,
+    )
     (rw (g.steps, g.speeds_up, g.slows_down) refl)
 
 -- ---- drives
@@ -82,7 +89,7 @@ drive-told t d h =
     subst (λ e. GivesDrive t e) is (record {
       lag = behind.is;
       faults = each-told (in_range 1 MOST_STEPS) IsStep (λ z n r. let p = range-told 1 MOST_STEPS z n r in record { is = p.is; least = p.above; most = p.below })
-        (integers_at Faults t) steps.0 steps.1;
+          (integers_at Faults t) steps.0 steps.1;
       in_ranges = record {
         lag = behind.below;
         few = leb-true _ _ (holds _ WRONG_COUNT few.0 few.1);
@@ -95,7 +102,7 @@ unfolding drive_of
 drive-read t d g =
     let lag = range-read 0 MOST_LAG (integer_at Lag t) d.lag (record { is = g.lag; above = omega arith; below = g.in_ranges.lag }) in
     let steps = each-read (in_range 1 MOST_STEPS) IsStep (λ z n s. range-read 1 MOST_STEPS z n (record { is = s.is; above = s.least; below = s.most }))
-      (integers_at Faults t) d.faults g.faults in
+    (integers_at Faults t) d.faults g.faults in
     rw (lag, steps, g.in_ranges.rising, le-leb _ _ g.in_ranges.few) refl
 
 -- ---- axes
@@ -133,9 +140,16 @@ unfolding axis_meaning placed_of quantity_at
 axis-read spelled m t n adds =
     let g = adds.gives_axis in
     let named : axis_fault m.config (text_at Name t) adds.axis.limits adds.axis.inc adds.axis.start ≡ None =
-      subst (λ name. axis_fault m.config name adds.axis.limits adds.axis.inc adds.axis.start ≡ None) g.name adds.fits in
-    rw (g.keys, limits-read spelled m.cycle_us t adds.axis.limits g.limits, quantity-read spelled _ adds.axis.inc g.increment,
-    quantity-read spelled _ adds.axis.start g.start, named, drive-read t adds.drive adds.gives_drive, adds.added)
+    subst (λ name. axis_fault m.config name adds.axis.limits adds.axis.inc adds.axis.start ≡ None) g.name adds.fits in
+    rw (
+      g.keys,
+      limits-read spelled m.cycle_us t adds.axis.limits g.limits,
+      quantity-read spelled _ adds.axis.inc g.increment,
+      quantity-read spelled _ adds.axis.start g.start,
+      named,
+      drive-read t adds.drive adds.gives_drive,
+      adds.added,
+    )
     (rw (← g.name, ← g.ready) refl)
 
 -- ---- groups

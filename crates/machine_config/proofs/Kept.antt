@@ -5,17 +5,18 @@ use Rattle.axis_state.specs.declared.definition.AxisDef.{AxisDef}
 use Rattle.motion_history.specs.Setup.{Setup}
 use Rattle.motion_history.specs.declared.drives.DriveDef.{DriveDef}
 use Rattle.machine_config.specs.Drives.{IsDrive}
-use Rattle.machine_config.specs.Machines.{IsMachine}
+use Rattle.machine_config.specs.Machines.{IsUnderWay}
 use Rattle.machine_config.specs.declared.machine.Machine.{Machine}
 
-length-push : {A : Type 0} (xs : List A) (x : A) → length (xs ++ x ∷ []) ≡ length xs + 1
+-- one item more
+pub length-push : {A : Type 0} (xs : List A) (x : A) → length (xs ++ x ∷ []) ≡ length xs + 1
 length-push [] x = refl
 length-push (y ∷ ys) x = let h = length-push ys x in omega (arith, h)
 
 -- one axis more, and its drive
-pub axis-kept : (m : Machine) (config : Setup) (drives : List DriveDef) (axis : AxisDef) (drive : DriveDef) → IsMachine m → IsDrive drive →
+pub axis-kept : (m : Machine) (config : Setup) (drives : List DriveDef) (axis : AxisDef) (drive : DriveDef) → IsUnderWay m → IsDrive drive →
     config ≡ record m.config { axes = m.config.axes ++ axis ∷ [] } → drives ≡ m.drives ++ drive ∷ [] →
-    IsMachine (record { config = config; cycle_us = m.cycle_us; drives = drives })
+    IsUnderWay (record { config = config; cycle_us = m.cycle_us; drives = drives })
 axis-kept m config drives axis drive k is e f = record {
   shortest = k.shortest;
   longest = k.longest;
@@ -28,8 +29,8 @@ axis-kept m config drives axis drive k is e f = record {
 }
 
 -- other items
-pub config-kept : (m : Machine) (config : Setup) → IsMachine m → config.axes ≡ m.config.axes → config.tasks ≡ m.config.tasks →
-    config.blocks ≡ m.config.blocks → IsMachine (record m { config = config })
+pub config-kept : (m : Machine) (config : Setup) → IsUnderWay m → config.axes ≡ m.config.axes → config.tasks ≡ m.config.tasks →
+    config.blocks ≡ m.config.blocks → IsUnderWay (record m { config = config })
 config-kept m config k axes tasks blocks = record {
   shortest = k.shortest;
   longest = k.longest;

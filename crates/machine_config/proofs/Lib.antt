@@ -8,3 +8,4 @@ pub mod Results
 pub mod Told
 pub mod Items
 pub mod Configured
+pub mod SomeAxis

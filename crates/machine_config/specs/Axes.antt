@@ -18,9 +18,9 @@ use Rattle.machine_config.specs.declared.key.TheConstants.{AXIS_KEYS}
 use Rattle.machine_config.specs.declared.machine.Machine.{Machine}
 use Rattle.machine_config.specs.declared.rule.TheConstants.{WRONG_KEY}
 
--- the limits of an axis in a cycle of so many microseconds: places in internal units, and from rates
--- per second and per second squared the steps per cycle and their changes, rounded down. It brakes
--- as it speeds up where dmax is left out
+-- the limits of an axis in a cycle of so many microseconds: places in internal units, and from
+-- rates per second and per second squared the steps per cycle and their changes, rounded down. It
+-- brakes as it speeds up where dmax is left out
 unfoldable pub limits_of : ℕ → Members → Result Limits ℕ
 limits_of cycle_us table = do
   lo ← quantity_at Lo table
@@ -50,8 +50,9 @@ with_axis m axis drive = record m {
   drives = m.drives ++ drive ∷ [];
 }
 
--- what the table of an axis makes of a machine: it has the keys of an axis, its quantities are such,
--- its name is free and its values are in their ranges, and it hasn't too many faults
+-- what the table of an axis makes of a machine: it has the keys of an axis (else C2), its
+-- quantities are such (C3), its name is free (C4), its values are in their ranges (C5), and it hasn't
+-- too many faults (C6)
 unfoldable pub axis_meaning : Machine → Members → Result Machine ℕ
 axis_meaning m table = do
   _ ← broken_unless (has_keys AXIS_KEYS table) WRONG_KEY

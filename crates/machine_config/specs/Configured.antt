@@ -1,6 +1,6 @@
 -- What a text configures, as facts: what stands under the keys of its tables, and what each item
 -- adds to the machine. Apart from where a text is refused. This project's profile.
-use Rattle.std.specs.Prelude.{◌≡◌, ◌<◌, ◌≤◌, ℕ, ℤ, pos, ◌*ℤ◌, unsigned_abs, All, IsTrue, Option, Some, None, List, [], ◌∷◌, ◌++◌, length, map}
+use Rattle.std.specs.Prelude.{◌≡◌, ◌<◌, ◌≤◌, ℕ, ℤ, pos, ◌*ℤ◌, unsigned_abs, IsTrue, Option, Some, None, List, [], ◌∷◌, ◌++◌, length}
 use Rattle.std.specs.List.{after_first, before_first, list_any}
 use Rattle.std.specs.Str.{IsUtf8}
 use Rattle.axis_state.specs.declared.definition.AxisDef.{AxisDef}
@@ -110,9 +110,11 @@ pub record AddsGroup (m : Machine) (table : Members) (n : Machine) : Type 0 wher
   pub keys : IsTrue (has_keys GROUP_KEYS table)
   pub named : AreEach (λ name axis. axis_at m.config name ≡ Some axis) (texts_at Axes table) axes
   pub fits : group_fault m.config (text_at Name table) axes ≡ None
-  pub added : n ≡ record m { config = record m.config {
-    groups = m.config.groups ++ group_of (text_at Name table) axes ∷ [];
-  } }
+  pub added : n ≡ record m {
+    config = record m.config {
+      groups = m.config.groups ++ group_of (text_at Name table) axes ∷ [];
+    };
+  }
 
 -- a text X:Y is this point, a decimal before its first colon and one behind it
 pub record IsPoint (text : List ℕ) (point : ℤ × ℤ) : Type 0 where
@@ -140,8 +142,8 @@ abbrev pub ItemsLead : Machine → List (ItemKind × Members) → Machine → Ty
 ItemsLead m [] n = n ≡ m
 ItemsLead m (i ∷ more) n = (u : Machine) × AddsItem m i.0 i.1 u × ItemsLead u more n
 
--- the top gives a cycle and the room of the history, in their ranges, and neither too many items nor
--- too few
+-- the top gives a cycle and the room of the history, in their ranges, and neither too many items
+-- nor too few
 pub record GivesTop (top : Members) (cycle_us cycles entries : ℕ) : Type 0 where
   pub keys : IsTrue (has_keys TOP_KEYS top)
   pub cycle : integer_at CycleUs top ≡ pos cycle_us
@@ -166,5 +168,5 @@ pub record Configures (text : List ℕ) (machine : Machine) : Type 0 where
   pub document : parse_document text ≡ Some top
   pub gives : GivesTop top cycle_us cycles entries
   pub leads : ItemsLead
-    (record { config = bare_setup cycles entries; cycle_us = cycle_us; drives = [] })
-    (items_of top) machine
+      (record { config = bare_setup cycles entries; cycle_us = cycle_us; drives = [] })
+      (items_of top) machine

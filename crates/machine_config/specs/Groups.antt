@@ -25,8 +25,8 @@ axis_at s name = position (λ (d : AxisDef). bytes_eq d.name name) s.axes
 abbrev pub axis_named : Setup → List ℕ → Result ℕ ℕ
 axis_named s name = ok_or (axis_at s name) WRONG_NAME
 
--- what the table of a group makes of a machine: it has the keys of a group, its axes are there, its
--- name is free, and its axes are free, each once, and 2 to 6
+-- what the table of a group makes of a machine: it has the keys of a group (else C2), its axes are
+-- there, its name is free, and its axes are free and come once (C4), and they are 2 to 6 (C6)
 unfoldable pub group_meaning : Machine → Members → Result Machine ℕ
 group_meaning m table = do
   _ ← broken_unless (has_keys GROUP_KEYS table) WRONG_KEY

@@ -87,7 +87,8 @@ is_form (form.List s) _ = false
 
 -- whether a key is given its form, or is left out where it may be
 unfoldable pub is_given : Members → Key → Bool
-is_given table k = option_map_or (is_form (form_of k)) (get_member (word_of k) table) (not (is_needed k))
+is_given table k =
+    option_map_or (is_form (form_of k)) (get_member (word_of k) table) (not (is_needed k))
 
 -- whether a word is the word of one of these keys
 unfoldable pub is_known : List Key → List ℕ → Bool

@@ -25,8 +25,8 @@ use Rattle.machine_config.specs.declared.rule.TheConstants.{NO_TOML}
 abbrev pub of_kind : ItemKind → List Members → List (ItemKind × Members)
 of_kind k tables = map (λ (t : Members). (k, t)) tables
 
--- the items of a configuration in the order of their places, which are counted from 1: its axes, its
--- groups and its cam tables
+-- the items of a configuration in the order of their places, which are counted from 1: its axes,
+-- its groups and its cam tables
 unfoldable pub items_of : Members → List (ItemKind × Members)
 items_of top =
     of_kind kind.Axis (tables_at key.Axis top) ++ (of_kind kind.Group (tables_at key.Group top) ++
@@ -38,14 +38,17 @@ item_meaning m kind.Axis table = axis_meaning m table
 item_meaning m kind.Group table = group_meaning m table
 item_meaning m kind.Table table = table_meaning m table
 
--- the rule that is broken at a place, told by the letter C
+-- a rule is broken at a place, which is told by the letter C
+abbrev pub refused_at : ℕ → ℕ → TextRefused
+refused_at place rule = record { place = place; rule = record { letter = 67; number = rule } }
+
+-- a reading whose rule, where one is broken, is told at a place
 abbrev pub at_place : {A : Type 0} → ℕ → Result A ℕ → Result A TextRefused
 at_place place (Ok x) = Ok x
-at_place place (Err rule) =
-    Err (record { place = place; rule = record { letter = 67; number = rule } })
+at_place place (Err rule) = Err (refused_at place rule)
 
--- what items make of a machine one after another, so many places in: the first that breaks a rule is
--- refused
+-- what items make of a machine one after another, so many places in: the first that breaks a rule
+-- is refused
 abbrev pub items_meaning : ℕ → Machine → List (ItemKind × Members) → Result Machine TextRefused
 items_meaning before m [] = Ok m
 items_meaning before m (i ∷ more) =
@@ -78,8 +81,7 @@ Reads view reading (Err OutOfMemory) = Unit {0}
 
 -- how a fault is told at a place
 abbrev pub told_at : ℕ → LineFault → TextFault
-told_at place (line.Rule number) =
-    Refused (record { place = place; rule = record { letter = 67; number = number } })
+told_at place (line.Rule number) = Refused (refused_at place number)
 told_at place line.OutOfMemory = OutOfMemory
 
 -- items are taken: the machine is now what they make of it, or the place is told; or memory ran out

@@ -9,5 +9,6 @@ use Rattle.toml.specs.declared.value.Value.{Value}
 use Rattle.machine_config.specs.declared.item.ItemKind.{ItemKind}
 
 -- the items whose tables the references show
-abbrev pub shown : List (ItemKind × Bor (BTreeMap (String Global) Value)) → List (ItemKind × Members)
+abbrev pub shown : List (ItemKind × Bor (BTreeMap (String Global) Value)) →
+    List (ItemKind × Members)
 shown items = map (λ i. (i.0, table_view i.1.now)) items

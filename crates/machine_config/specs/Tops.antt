@@ -1,5 +1,5 @@
--- The top of a configuration: its cycle, the room of its history, and how many items there are. This
--- project's profile.
+-- The top of a configuration: its cycle, the room of its history, and how many items there are.
+-- This project's profile.
 use Rattle.std.specs.Prelude.{ℕ, Bool, ◌&&◌, nat_le, Result, Ok, [], length}
 use Rattle.line_text.specs.Reading.{◌>>=◌}
 use Rattle.motion_history.specs.Setup.{Setup}
@@ -37,8 +37,8 @@ are_counted top =
     nat_le 1 (count_at Axis top) && nat_le (count_at Axis top) MOST_AXES &&
     nat_le (count_at Group top) MOST_GROUPS && nat_le (count_at Table top) MOST_TABLES
 
--- the machine of a text before its items: it has the keys of the top, its cycle and the room of its
--- history are in their ranges, and it has neither too many items nor too few
+-- the machine of a text before its items: it has the keys of the top (else C2), its cycle and the
+-- room of its history are in their ranges (C5), and it has neither too many items nor too few (C6)
 unfoldable pub top_meaning : Members → Result Machine ℕ
 top_meaning top = do
   _ ← broken_unless (has_keys TOP_KEYS top) WRONG_KEY

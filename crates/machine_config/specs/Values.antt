@@ -1,5 +1,5 @@
--- What stands under the keys of a table that has them in their forms, and what stands for those that
--- are left out. This project's profile.
+-- What stands under the keys of a table that has them in their forms, and what stands for those
+-- that are left out. This project's profile.
 use Rattle.std.specs.Prelude.{ℕ, ℤ, pos, Bool, false, Option, Some, List, []}
 use Rattle.std.specs.List.{filter_map}
 use Rattle.toml.specs.Data.{Data, array, boolean, integer, string, Members, get_member, as_integer, as_str, as_table}

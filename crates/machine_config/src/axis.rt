@@ -4,7 +4,7 @@ ghost use Rattle.std.specs.Prelude.{◌≡◌, ◌≤◌, IfOk, OnOk};
 ghost use Rattle.line_text.specs.Reading.{Gives, Takes};
 ghost use Rattle.toml.specs.View.{table_view};
 ghost use Rattle.machine_config.specs.Axes as spec;
-ghost use Rattle.machine_config.specs.Machines.{IsMachine};
+ghost use Rattle.machine_config.specs.Machines.{IsUnderWay};
 
 use crate::drive::drive_of;
 use crate::key::{AXIS_KEYS, Key, has_keys};
@@ -28,9 +28,10 @@ pub struct Placed {
 /// Adds the axis of a table, and its drive.
 #[tactic(auto, unfolding(crate::specs::Axes::axis_meaning))]
 pub fn add_axis(alloc: Global, machine: &mut Machine, table: &Table) -> Result<(), LineFault>
-    requires { IsMachine machine.old }
-    ensures takes { Takes (spec.axis_meaning machine.old (table_view table.now)) machine.new result }
-    ensures kept { OnOk result (IsMachine machine.new) }
+    requires { IsUnderWay machine.old }
+    ensures takes { Takes (spec.axis_meaning machine.old (table_view table.now))
+        machine.new result }
+    ensures kept { OnOk result (IsUnderWay machine.new) }
 {
     broken_unless(has_keys(&AXIS_KEYS, table), WRONG_KEY)?;
     let limits = limits_of(machine.cycle_us, table)?;

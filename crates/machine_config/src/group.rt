@@ -7,7 +7,7 @@ ghost use Rattle.line_text.specs.Reading.{Gives, Takes, each_of};
 ghost use Rattle.line_text.specs.Texts.{texts};
 ghost use Rattle.toml.specs.View.{table_view};
 ghost use Rattle.machine_config.specs.Groups as spec;
-ghost use Rattle.machine_config.specs.Machines.{IsMachine};
+ghost use Rattle.machine_config.specs.Machines.{IsUnderWay};
 
 use crate::key::{GROUP_KEYS, Key, has_keys};
 use crate::machine::Machine;
@@ -22,9 +22,10 @@ use toml::Table;
 /// Adds the group of a table.
 #[tactic(auto, unfolding(crate::specs::Groups::group_meaning))]
 pub fn add_group(alloc: Global, machine: &mut Machine, table: &Table) -> Result<(), LineFault>
-    requires { IsMachine machine.old }
-    ensures takes { Takes (spec.group_meaning machine.old (table_view table.now)) machine.new result }
-    ensures kept { OnOk result (IsMachine machine.new) }
+    requires { IsUnderWay machine.old }
+    ensures takes { Takes (spec.group_meaning machine.old (table_view table.now))
+        machine.new result }
+    ensures kept { OnOk result (IsUnderWay machine.new) }
 {
     broken_unless(has_keys(&GROUP_KEYS, table), WRONG_KEY)?;
     let name = text_at(table, Key::Name).as_bytes();

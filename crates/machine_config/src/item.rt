@@ -5,7 +5,7 @@ ghost use Rattle.std.specs.List.{filter_map};
 ghost use Rattle.line_text.specs.Reading.{Takes};
 ghost use Rattle.toml.specs.Data.{as_table};
 ghost use Rattle.toml.specs.View.{table_view, view};
-ghost use Rattle.machine_config.specs.Machines.{IsMachine};
+ghost use Rattle.machine_config.specs.Machines.{IsUnderWay};
 ghost use Rattle.machine_config.specs.Reading as spec;
 ghost use Rattle.machine_config.specs.Shown.{shown};
 
@@ -65,9 +65,10 @@ pub fn add_item(
     kind: ItemKind,
     table: &Table,
 ) -> Result<(), LineFault>
-    requires { IsMachine machine.old }
-    ensures takes { Takes (spec.item_meaning machine.old kind (table_view table.now)) machine.new result }
-    ensures kept { OnOk result (IsMachine machine.new) }
+    requires { IsUnderWay machine.old }
+    ensures takes { Takes (spec.item_meaning machine.old kind (table_view table.now))
+        machine.new result }
+    ensures kept { OnOk result (IsUnderWay machine.new) }
 {
     match kind {
         ItemKind::Axis => add_axis(alloc, machine, table),

@@ -3,7 +3,7 @@
 ghost use Rattle.std.specs.Prelude.{◌≡◌, IfOk, OnOk, Ok, Err};
 ghost use Rattle.toml.specs.View.{table_view};
 ghost use Rattle.machine_config.specs.Configured.{Configures};
-ghost use Rattle.machine_config.specs.Machines.{IsMachine};
+ghost use Rattle.machine_config.specs.Machines.{IsMachine, IsUnderWay};
 ghost use Rattle.machine_config.specs.Reading as spec;
 ghost use Rattle.machine_config.specs.Reading.{Reads, TakesItems, items_meaning};
 ghost use Rattle.machine_config.specs.Shown.{shown};
@@ -27,7 +27,8 @@ pub fn read_config(alloc: Global, text: &[u8]) -> Result<Machine, TextFault>
     // What is read is a machine that the text configures.
     ensures found { IfOk result (Configures text.now) }
     // A machine that the text configures is read, unless memory runs out.
-    ensures only { (machine : Machine) → Configures text.now machine → Reads (λ m. m) (Ok machine) result }
+    ensures only { (machine : Machine) → Configures text.now machine →
+        Reads (λ m. m) (Ok machine) result }
     // A text that configures none is refused so.
     ensures exact { Reads (λ m. m) (spec.machine_of text.now) result }
     // What always holds of a machine.
@@ -42,7 +43,7 @@ pub fn read_config(alloc: Global, text: &[u8]) -> Result<Machine, TextFault>
 #[tactic(auto, unfolding(crate::specs::Reading::machine_of))]
 fn read(alloc: Global, text: &[u8]) -> Result<Machine, TextFault>
     ensures exact { Reads (λ m. m) (spec.machine_of text.now) result }
-    ensures machine { IfOk result IsMachine }
+    ensures kept { IfOk result IsUnderWay }
 {
     let top = document_of(alloc, text)?;
     machine_of(alloc, &top)
@@ -68,7 +69,7 @@ fn document_of(alloc: Global, text: &[u8]) -> Result<Table, TextFault>
 // The machine that a document configures.
 fn machine_of(alloc: Global, top: &Table) -> Result<Machine, TextFault>
     ensures exact { Reads (λ m. m) (spec.top_reading (table_view top.now)) result }
-    ensures machine { IfOk result IsMachine }
+    ensures kept { IfOk result IsUnderWay }
 {
     let mut machine = match bare_machine(alloc, top) {
         Ok(machine) => machine,
@@ -87,9 +88,9 @@ fn add_items(
     machine: &mut Machine,
     items: &[(ItemKind, &Table)],
 ) -> Result<(), TextFault>
-    requires { IsMachine machine.old }
+    requires { IsUnderWay machine.old }
     ensures takes { TakesItems (items_meaning 0 machine.old (shown items.now)) machine.new result }
-    ensures kept { OnOk result (IsMachine machine.new) }
+    ensures kept { OnOk result (IsUnderWay machine.new) }
 {
     for (before, (kind, table)) in items.iter().enumerate() {
         match add_item(alloc, machine, *kind, table) {

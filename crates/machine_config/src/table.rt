@@ -3,7 +3,7 @@
 ghost use Rattle.std.specs.Prelude.{◌≡◌, OnOk};
 ghost use Rattle.line_text.specs.Reading.{Takes};
 ghost use Rattle.toml.specs.View.{table_view};
-ghost use Rattle.machine_config.specs.Machines.{IsMachine};
+ghost use Rattle.machine_config.specs.Machines.{IsUnderWay};
 ghost use Rattle.machine_config.specs.Tables as spec;
 
 use crate::key::{Key, TABLE_KEYS, has_keys};
@@ -20,9 +20,10 @@ use toml::Table;
 /// Adds the cam table of a table.
 #[tactic(auto, unfolding(crate::specs::Tables::table_meaning))]
 pub fn add_table(alloc: Global, machine: &mut Machine, table: &Table) -> Result<(), LineFault>
-    requires { IsMachine machine.old }
-    ensures takes { Takes (spec.table_meaning machine.old (table_view table.now)) machine.new result }
-    ensures kept { OnOk result (IsMachine machine.new) }
+    requires { IsUnderWay machine.old }
+    ensures takes { Takes (spec.table_meaning machine.old (table_view table.now))
+        machine.new result }
+    ensures kept { OnOk result (IsUnderWay machine.new) }
 {
     broken_unless(has_keys(&TABLE_KEYS, table), WRONG_KEY)?;
     let Ok(words) = texts_at(alloc, table, Key::Points) else {

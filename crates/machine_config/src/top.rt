@@ -3,7 +3,7 @@
 ghost use Rattle.std.specs.Prelude.{◌≡◌, IfOk};
 ghost use Rattle.line_text.specs.Reading.{Gives};
 ghost use Rattle.toml.specs.View.{table_view};
-ghost use Rattle.machine_config.specs.Machines.{IsMachine};
+ghost use Rattle.machine_config.specs.Machines.{IsUnderWay};
 ghost use Rattle.machine_config.specs.Tops as spec;
 
 use crate::key::{Key, TOP_KEYS, has_keys};
@@ -21,7 +21,7 @@ use toml::Table;
 #[tactic(auto, unfolding(crate::specs::Tops::top_meaning))]
 pub fn bare_machine(alloc: Global, top: &Table) -> Result<Machine, LineFault>
     ensures value { Gives (λ m. m) (spec.top_meaning (table_view top.now)) result }
-    ensures machine { IfOk result IsMachine }
+    ensures kept { IfOk result IsUnderWay }
 {
     broken_unless(has_keys(&TOP_KEYS, top), WRONG_KEY)?;
     let cycle_us = in_range(SHORTEST_CYCLE, LONGEST_CYCLE, integer_at(top, Key::CycleUs))?;

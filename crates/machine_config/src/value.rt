@@ -45,7 +45,7 @@ pub fn flag_at(table: &Table, key: Key) -> bool
 }
 
 /// The values of the list under a key, or none.
-#[tactic(auto, using(crate::proofs::Views::data_in_view), unfolding(crate::specs::Values::values_at, crate::specs::Values::value_at))]
+#[tactic(auto, unfolding(crate::specs::Values::values_at, crate::specs::Values::value_at))]
 pub fn values_at(table: &Table, key: Key) -> &[Value]
     ensures { map (λ v. view v) result.now ≡ spec.values_at key (table_view table.now) }
 {
