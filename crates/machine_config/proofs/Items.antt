@@ -15,11 +15,11 @@ use Rattle.machine_config.specs.Axes.{axis_meaning, limits_of, placed_of}
 use Rattle.machine_config.specs.Configured.{AddsAxis, AddsGroup, AddsTable, GivesDrive, GivesLimits, IsPoint, IsStep}
 use Rattle.machine_config.specs.Drives.{drive_of, rise_above}
 use Rattle.machine_config.specs.Groups.{axis_at, axis_named, group_meaning}
-use Rattle.machine_config.specs.Keys.{has_keys}
+use Rattle.machine_config.specs.Keys.{has_keys, value_at}
 use Rattle.machine_config.specs.Quantities.{point_of, quantity_at, quantity_or}
 use Rattle.machine_config.specs.Rules.{broken_by, broken_unless, in_range}
 use Rattle.machine_config.specs.Tables.{points_meaning, table_meaning}
-use Rattle.machine_config.specs.Values.{flag_at, integer_at, integers_at, text_at, texts_at, value_at}
+use Rattle.machine_config.specs.Values.{flag_at, integer_at, integers_at, text_at, texts_at}
 use Rattle.machine_config.specs.declared.axis.Placed.{Placed}
 use Rattle.machine_config.specs.declared.drive.TheConstants.{MOST_STEPS}
 use Rattle.machine_config.specs.declared.key.Key.TheVariants.{Amax, Axes, Dmax, Faults, Hi, Increment, Lag, Lo, Name, Points, Ready, Start, Vmax}

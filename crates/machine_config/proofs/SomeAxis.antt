@@ -6,13 +6,13 @@ use Rattle.std.specs.Option.{option_map_or}
 use Rattle.std.proofs.lemmas.Bool.{and_parts, leb-true}
 use Rattle.motion_history.specs.declared.refused.TextFault.{TextFault}
 use Rattle.motion_history.specs.declared.sizes.TheConstants.{MOST_AXES, MOST_GROUPS, MOST_TABLES}
-use Rattle.toml.specs.Data.{Data, array, as_table, boolean, datetime, float, get_member, integer, Members, string, table}
+use Rattle.toml.specs.Data.{Data, array, as_table, boolean, datetime, float, integer, Members, string, table}
 use Rattle.machine_config.specs.Configured.{AddsItem, Configures, ItemsLead}
-use Rattle.machine_config.specs.Keys.{data_in, has_keys, has_known, is_form, is_given, word_of}
+use Rattle.machine_config.specs.Keys.{data_in, has_keys, has_known, is_form, is_given, value_at}
 use Rattle.machine_config.specs.Machines.{IsMachine, IsUnderWay}
 use Rattle.machine_config.specs.Reading.{items_of, of_kind}
 use Rattle.machine_config.specs.Tops.{are_counted, count_at}
-use Rattle.machine_config.specs.Values.{tables_at, value_at, values_at, values_in}
+use Rattle.machine_config.specs.Values.{tables_at, values_at, values_in}
 use Rattle.machine_config.specs.declared.item.ItemKind.{ItemKind}
 use Rattle.machine_config.specs.declared.item.ItemKind.TheVariants as kind
 use Rattle.machine_config.specs.declared.key.Form.TheVariants as form
@@ -86,8 +86,8 @@ some_counted top h =
     leb-true 1 _ (and_parts some few (and_parts (some && few) groups both).0).0
 
 axes_first : (top : Members) → has_keys TOP_KEYS top ≡ true → are_counted top ≡ true → HasFirst (tables_at key.Axis top)
-unfolding is_given values_at value_at
-axes_first top keys counted = given_first (get_member (word_of key.Axis) top) (axis_given top keys) (some_counted top counted)
+unfolding is_given values_at
+axes_first top keys counted = given_first (value_at key.Axis top) (axis_given top keys) (some_counted top counted)
 
 leads-some : (top : Members) (m n : Machine) → HasFirst (tables_at key.Axis top) → ItemsLead m (items_of top) n → 1 ≤ length n.config.axes
 unfolding items_of

@@ -51,8 +51,8 @@ with_axis m axis drive = record m {
 }
 
 -- what the table of an axis makes of a machine: it has the keys of an axis (else C2), its
--- quantities are such (C3), its name is free (C4), its values are in their ranges (C5), and it hasn't
--- too many faults (C6)
+-- quantities are such (C3), its name is free (C4), its values are in their ranges (C5), and it
+-- hasn't too many faults (C6)
 unfoldable pub axis_meaning : Machine → Members → Result Machine ℕ
 axis_meaning m table = do
   _ ← broken_unless (has_keys AXIS_KEYS table) WRONG_KEY

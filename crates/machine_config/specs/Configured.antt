@@ -18,11 +18,11 @@ use Rattle.toml.specs.Parse.{parse_document}
 use Rattle.machine_config.specs.Axes.{with_axis}
 use Rattle.machine_config.specs.Drives.{IsDrive}
 use Rattle.machine_config.specs.Groups.{axis_at}
-use Rattle.machine_config.specs.Keys.{has_keys}
+use Rattle.machine_config.specs.Keys.{has_keys, value_at}
 use Rattle.machine_config.specs.Quantities.{is_colon}
 use Rattle.machine_config.specs.Reading.{items_of}
 use Rattle.machine_config.specs.Tops.{are_counted, bare_setup}
-use Rattle.machine_config.specs.Values.{flag_at, integer_at, integers_at, text_at, texts_at, value_at}
+use Rattle.machine_config.specs.Values.{flag_at, integer_at, integers_at, text_at, texts_at}
 use Rattle.machine_config.specs.declared.drive.TheConstants.{MOST_STEPS}
 use Rattle.machine_config.specs.declared.item.ItemKind.{ItemKind}
 use Rattle.machine_config.specs.declared.item.ItemKind.TheVariants as kind

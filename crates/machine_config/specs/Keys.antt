@@ -1,6 +1,6 @@
 -- The keys of a configuration's tables, a row each, and what stands under them. This project's
 -- profile.
-use Rattle.std.specs.Prelude.{ℕ, Bool, true, false, not, ◌&&◌, ◌||◌, codes, is_some, List, [], ◌∷◌}
+use Rattle.std.specs.Prelude.{ℕ, Bool, true, false, not, ◌&&◌, ◌||◌, codes, is_some, Option, List, [], ◌∷◌}
 use Rattle.std.specs.List.{list_all, list_any}
 use Rattle.std.specs.Option.{option_map_or}
 use Rattle.std.specs.Str.{bytes_eq}
@@ -85,10 +85,13 @@ is_form (form.One s) d = is_sort s d
 is_form (form.List s) (array ds) = list_all (is_sort s) (data_in ds)
 is_form (form.List s) _ = false
 
+-- what stands under a key, if it is given
+unfoldable pub value_at : Key → Members → Option Data
+value_at k table = get_member (word_of k) table
+
 -- whether a key is given its form, or is left out where it may be
 unfoldable pub is_given : Members → Key → Bool
-is_given table k =
-    option_map_or (is_form (form_of k)) (get_member (word_of k) table) (not (is_needed k))
+is_given table k = option_map_or (is_form (form_of k)) (value_at k table) (not (is_needed k))
 
 -- whether a word is the word of one of these keys
 unfoldable pub is_known : List Key → List ℕ → Bool

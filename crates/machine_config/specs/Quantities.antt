@@ -7,8 +7,8 @@ use Rattle.fixed_units.specs.declared.reading.UnitFault.{UnitFault}
 use Rattle.line_text.specs.Reading.{◌>>=◌}
 use Rattle.motion_numbers.specs.declared.TheConstants.{MOST_NUMBER}
 use Rattle.toml.specs.Data.{Data, integer, string, Members}
+use Rattle.machine_config.specs.Keys.{value_at}
 use Rattle.machine_config.specs.Rules.{broken_unless}
-use Rattle.machine_config.specs.Values.{value_at}
 use Rattle.machine_config.specs.declared.key.Key.{Key}
 use Rattle.machine_config.specs.declared.quantity.TheConstants.{UNIT}
 use Rattle.machine_config.specs.declared.rule.TheConstants.{NO_QUANTITY}

@@ -21,8 +21,8 @@ points_meaning s points = do
   _ ← broken_unless (not (nat_le MOST_TABLES (length s.tables))) WRONG_COUNT
   Ok (record s { tables = s.tables ++ points ∷ [] })
 
--- what the table of a cam table makes of a machine: it has the keys of one (else C2), and its points
--- are points of quantities (C3) that make a cam table (C7)
+-- what the table of a cam table makes of a machine: it has the keys of one (else C2), and its
+-- points are points of quantities (C3) that make a cam table (C7)
 unfoldable pub table_meaning : Machine → Members → Result Machine ℕ
 table_meaning m table = do
   _ ← broken_unless (has_keys TABLE_KEYS table) WRONG_KEY

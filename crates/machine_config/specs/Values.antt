@@ -2,13 +2,9 @@
 -- that are left out. This project's profile.
 use Rattle.std.specs.Prelude.{ℕ, ℤ, pos, Bool, false, Option, Some, List, []}
 use Rattle.std.specs.List.{filter_map}
-use Rattle.toml.specs.Data.{Data, array, boolean, integer, string, Members, get_member, as_integer, as_str, as_table}
-use Rattle.machine_config.specs.Keys.{data_in, word_of}
+use Rattle.toml.specs.Data.{Data, array, boolean, integer, string, Members, as_integer, as_str, as_table}
+use Rattle.machine_config.specs.Keys.{data_in, value_at}
 use Rattle.machine_config.specs.declared.key.Key.{Key}
-
--- what stands under a key, if it is given
-unfoldable pub value_at : Key → Members → Option Data
-value_at k table = get_member (word_of k) table
 
 -- the bytes of a text
 abbrev pub text_in : Option Data → List ℕ

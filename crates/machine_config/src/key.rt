@@ -3,7 +3,6 @@
 ghost use Rattle.std.specs.Prelude.{◌≡◌, option_map};
 ghost use Rattle.std.specs.List.{list_all, list_any};
 ghost use Rattle.std.specs.Str.{bytes_eq};
-ghost use Rattle.toml.specs.Data.{get_member};
 ghost use Rattle.toml.specs.View.{table_view, view};
 ghost use Rattle.machine_config.specs.Keys as spec;
 
@@ -138,8 +137,7 @@ fn is_needed(key: Key) -> bool
 
 /// What stands under a key of a table.
 pub fn value_at(table: &Table, key: Key) -> Option<&Value>
-    ensures { option_map (λ v. view v.now) result ≡
-        get_member (spec.word_of key) (table_view table.now) }
+    ensures { option_map (λ v. view v.now) result ≡ spec.value_at key (table_view table.now) }
 {
     table.get(word_of(key))
 }

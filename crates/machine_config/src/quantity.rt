@@ -57,7 +57,7 @@ fn quantity_of(value: &Value) -> Result<i64, LineFault>
 }
 
 /// The quantity under a key.
-#[tactic(auto, unfolding(crate::specs::Quantities::quantity_at, crate::specs::Values::value_at))]
+#[tactic(auto, unfolding(crate::specs::Quantities::quantity_at))]
 pub fn quantity_at(table: &Table, key: Key) -> Result<i64, LineFault>
     ensures value { Gives (λ z. z) (spec.quantity_at key (table_view table.now)) result }
     ensures small { IfOk result (λ z. unsigned_abs z ≤ 10 ^ 18) }
@@ -69,7 +69,7 @@ pub fn quantity_at(table: &Table, key: Key) -> Result<i64, LineFault>
 }
 
 /// The quantity under a key, or another where it is left out.
-#[tactic(auto, unfolding(crate::specs::Quantities::quantity_or, crate::specs::Values::value_at))]
+#[tactic(auto, unfolding(crate::specs::Quantities::quantity_or))]
 pub fn quantity_or(other: i64, table: &Table, key: Key) -> Result<i64, LineFault>
     requires { unsigned_abs other ≤ 10 ^ 18 }
     ensures value { Gives (λ z. z) (spec.quantity_or other key (table_view table.now)) result }

@@ -12,7 +12,7 @@ use std::alloc::{AllocError, Global};
 use toml::{Table, Value};
 
 /// The text under a key.
-#[tactic(auto, unfolding(crate::specs::Values::text_at, crate::specs::Values::value_at))]
+#[tactic(auto, unfolding(crate::specs::Values::text_at))]
 pub fn text_at(table: &Table, key: Key) -> &str
     ensures { result.now ≡ spec.text_at key (table_view table.now) }
 {
@@ -23,7 +23,7 @@ pub fn text_at(table: &Table, key: Key) -> &str
 }
 
 /// The integer under a key, or 0.
-#[tactic(auto, unfolding(crate::specs::Values::integer_at, crate::specs::Values::value_at))]
+#[tactic(auto, unfolding(crate::specs::Values::integer_at))]
 pub fn integer_at(table: &Table, key: Key) -> i64
     ensures { result ≡ spec.integer_at key (table_view table.now) }
 {
@@ -34,7 +34,7 @@ pub fn integer_at(table: &Table, key: Key) -> i64
 }
 
 /// The flag under a key, or false.
-#[tactic(auto, unfolding(crate::specs::Values::flag_at, crate::specs::Values::value_at))]
+#[tactic(auto, unfolding(crate::specs::Values::flag_at))]
 pub fn flag_at(table: &Table, key: Key) -> bool
     ensures { result ≡ spec.flag_at key (table_view table.now) }
 {
@@ -45,7 +45,7 @@ pub fn flag_at(table: &Table, key: Key) -> bool
 }
 
 /// The values of the list under a key, or none.
-#[tactic(auto, unfolding(crate::specs::Values::values_at, crate::specs::Values::value_at))]
+#[tactic(auto, unfolding(crate::specs::Values::values_at))]
 pub fn values_at(table: &Table, key: Key) -> &[Value]
     ensures { map (λ v. view v) result.now ≡ spec.values_at key (table_view table.now) }
 {
