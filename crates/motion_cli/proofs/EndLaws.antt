@@ -16,6 +16,7 @@ use Rattle.motion_kernel.specs.KernelState.{KernelState}
 use Rattle.motion_kernel.specs.Machine.{IsLegal}
 use Rattle.trace_text.specs.Trace.{trace_text}
 use Rattle.trace_text.specs.Writes.{Output, Writes, WritesPrefix}
+use Rattle.motion_history.specs.declared.refused.TraceVersion.TheVariants.{One}
 use Rattle.trace_text.specs.declared.write.Command.TheVariants.{Bench}
 use Rattle.trace_text.specs.declared.write.DriveEndRow.{DriveEndRow}
 use Rattle.trace_text.specs.declared.write.TraceFault.{TraceFault}
@@ -73,10 +74,10 @@ drives-are b k shown answers drives cycles r n a d =
 -- the trace that is written is that of the bench
 pub trace-is : (b : BenchState) (s : Setup) (k : KernelState) (es : List Entry) (answers : List DriveIn) (drives : List DriveEndRow) →
     s ≡ b.config → es ≡ k.history → run_at k answers ≡ run_of b → drives ≡ drives_of (run_of b) →
-    trace_text Bench s es drives ≡ bench_trace b
+    trace_text One Bench s es drives ≡ bench_trace b
 trace-is b s k es answers drives config e r d =
     let history : es ≡ (run_of b).history = e ∙ ap (λ (x : Run). x.history) r in
-    λ t. trace_text Bench (config t) (history t) (d t)
+    λ t. trace_text One Bench (config t) (history t) (d t)
 
 -- a run whose trace was written is legal
 pub runs-written : (bench : BenchState) (written : Result (Unit {0}) TraceFault) (s : Status) →

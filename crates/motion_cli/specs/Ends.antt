@@ -11,6 +11,7 @@ use Rattle.motion_kernel.specs.Machine.{IsLegal}
 use Rattle.outside.specs.Told.{FileMap, HasFile, LacksFile, IsLonger}
 use Rattle.trace_text.specs.Trace.{trace_text}
 use Rattle.trace_text.specs.Writes.{Output, Writes}
+use Rattle.motion_history.specs.declared.refused.TraceVersion.TheVariants.{One}
 use Rattle.trace_text.specs.declared.write.Command.TheVariants.{Bench}
 use Rattle.trace_text.specs.declared.write.TraceFault.{TraceFault}
 use Rattle.trace_text.specs.declared.write.TraceFault.TheVariants as fault
@@ -46,7 +47,7 @@ refused_line name r = codes "refused " ++ name ++ codes " " ++ decimal r.place +
 
 -- the trace of a bench: that of its run. This project's profile
 abbrev pub bench_trace : BenchState → List ℕ
-bench_trace b = trace_text Bench b.config (run_of b).history (drives_of (run_of b))
+bench_trace b = trace_text One Bench b.config (run_of b).history (drives_of (run_of b))
 
 -- the line that tells which line of a bench asks for more than the program does so far. This
 -- project's profile

@@ -1,2 +1,5 @@
+pub mod Texts
 pub mod Numbered
+pub mod Joined
+pub mod Padding
 pub mod Writing

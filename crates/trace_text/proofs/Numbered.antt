@@ -7,25 +7,25 @@ use Rattle.std.proofs.Common.{◌∙◌, sym, ap, arith, add-one, append_assoc}
 use Rattle.std.proofs.KnownBytes.{Appends-trans}
 use Rattle.std.proofs.lemmas.Grind.{flat_map-append}
 use Rattle.std.proofs.lemmas.List.{append-nil}
-use Rattle.trace_text.specs.Trace.{numbered}
+use Rattle.trace_text.specs.Records.{record_text}
+use Rattle.trace_text.specs.Trace.{numbered, text_of}
+use Rattle.trace_text.proofs.Texts.{text_of-more}
 
-numbered-suc : {X : Type 0} (f : ℕ → X → List ℕ) (n : ℕ) (xs : List X) (i k : ℕ) (d : X) → i < length xs → k ≡ n + i →
-    numbered f n (take (suc i) xs) ≡ numbered f n (take i xs) ++ f k (slice_index_or xs i d)
+numbered-suc : {X : Type 0} (f : ℕ → X → List (List ℕ)) (n : ℕ) (xs : List X) (i k : ℕ) (d : X) → i < length xs → k ≡ n + i →
+    numbered f n (take (suc i) xs) ≡ numbered f n (take i xs) ++ f k (slice_index_or xs i d) ∷ []
 numbered-suc f n [] i k d l e = absurd (omega arith)
-numbered-suc f n (x ∷ xs) zero k d l e = let same : n ≡ k = omega arith in append-nil (f n x) ∙ ap (λ m. f m x) same
+numbered-suc f n (x ∷ xs) zero k d l e = let same : n ≡ k = omega arith in ap (λ m. f m x ∷ []) same
 numbered-suc f n (x ∷ xs) (suc i) k d l e =
-    ap (λ t. f n x ++ t) (numbered-suc f (suc n) xs i k d (omega arith) (omega arith)) ∙
-    sym (append_assoc (f n x) (numbered f (suc n) (take i xs)) (f k (slice_index_or xs i d)))
+    ap (λ t. f n x ∷ t) (numbered-suc f (suc n) xs i k d (omega arith) (omega arith))
 
--- one more text of those by their numbers
-pub numbered-more : {X : Type 0} (f : ℕ → X → List ℕ) (xs : List X) (i : ℕ) (d : X) → i < length xs →
-    numbered f 0 (take (i + 1) xs) ≡ numbered f 0 (take i xs) ++ f i (slice_index_or xs i d)
-numbered-more f xs i d l = rw add-one (numbered-suc f 0 xs i i d l (omega arith))
-
--- one more text of those by their numbers, appended
-pub numbered-appended : {X : Type 0} (f : ℕ → X → List ℕ) (xs : List X) (i : ℕ) (d : X) (a b c : Option (List ℕ)) → i < length xs →
-    Appends a b (numbered f 0 (take i xs)) → Appends b c (f i (slice_index_or xs i d)) → Appends a c (numbered f 0 (take (i + 1) xs))
-numbered-appended f xs i d a b c l p q = rw (numbered-more f xs i d l) (Appends-trans a b c _ _ p q)
+-- one more record of those by their numbers, appended
+pub numbered-appended : {X : Type 0} (f : ℕ → X → List (List ℕ)) (xs : List X) (i : ℕ) (d : X) (a b c : Option (List ℕ)) → i < length xs →
+    Appends a b (text_of (numbered f 0 (take i xs))) → Appends b c (record_text (f i (slice_index_or xs i d))) →
+    Appends a c (text_of (numbered f 0 (take (i + 1) xs)))
+numbered-appended f xs i d a b c l p q =
+    let e : text_of (numbered f 0 (take (i + 1) xs)) ≡ text_of (numbered f 0 (take i xs)) ++ record_text (f i (slice_index_or xs i d)) =
+    ap text_of (rw add-one (numbered-suc f 0 xs i i d l (omega arith))) ∙ text_of-more (numbered f 0 (take i xs)) (f i (slice_index_or xs i d)) in
+    rw e (Appends-trans a b c _ _ p q)
 
 take_next : {X : Type 0} (xs : List X) (i : ℕ) → take (suc i) xs ≡ take i xs ++ option_to_list (slice_get xs i)
 take_next [] zero = refl

@@ -1,5 +1,5 @@
 -- A text that is written piece after piece.
-use Rattle.std.specs.Prelude.{◌≡◌, refl, ℕ, ◌+◌, ◌*◌, ◌/◌, ◌-◌, ◌≤◌, ◌<◌, min, Option, Result, Ok, Err, List, [], ◌++◌, take, drop, length}
+use Rattle.std.specs.Prelude.{OnOk, ◌≡◌, refl, ℕ, ◌+◌, ◌*◌, ◌/◌, ◌-◌, ◌≤◌, ◌<◌, min, Option, Result, Ok, Err, List, [], ◌++◌, take, drop, length}
 use Rattle.std.specs.List.{flat_map}
 use Rattle.std.specs.Io.KnownBytes.{Appends}
 use Rattle.std.proofs.Common.{◌∙◌, sym, ap, subst, arith, append_assoc}
@@ -116,3 +116,7 @@ pub trace-then : (old mid later new : Output) (x y z : List ℕ) (r : Result (Un
     Writes later new z r → Writes old new ((x ++ y) ++ z) r
 trace-then old mid later new x y z r a b w =
     Writes-then old later new (x ++ y) z r (Appends-trans old.told mid.told later.told x y a.0 b.0) (b.1 ∙ a.1) w
+
+-- the same text appended
+pub Appends-same : {E : Type 0} (old new : Option (List ℕ)) (x y : List ℕ) (r : Result (Unit {0}) E) → x ≡ y → OnOk r (Appends old new x) → OnOk r (Appends old new y)
+Appends-same old new x y r e a = rw (← e) a

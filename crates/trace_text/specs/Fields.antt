@@ -5,6 +5,22 @@ use Rattle.axis_state.specs.declared.state.AxisState.TheVariants as axis
 use Rattle.cia402_machine.specs.declared.drive.DriveState.{DriveState}
 use Rattle.cia402_machine.specs.declared.drive.DriveState.TheVariants as drive
 use Rattle.fb_outputs.specs.declared.outputs.Outputs.{Outputs}
+use Rattle.group_state.specs.declared.state.GroupState.{GroupState}
+use Rattle.group_state.specs.declared.state.GroupState.TheVariants as group
+use Rattle.motion_history.specs.declared.refused.TraceVersion.{TraceVersion}
+use Rattle.motion_history.specs.declared.refused.TraceVersion.TheVariants.{One, Two}
+use Rattle.trace_text.specs.declared.write.Command.{Command}
+use Rattle.trace_text.specs.declared.write.Command.TheVariants as command
+
+-- the version of a trace. This project's profile
+unfoldable pub version_text : TraceVersion → List ℕ
+version_text One = codes "1"
+version_text Two = codes "2"
+
+-- who made a trace. This project's profile
+unfoldable pub command_text : Command → List ℕ
+command_text command.Bench = codes "bench"
+command_text command.Run = codes "run"
 
 -- a truth value is 0 or 1. This project's profile
 unfoldable pub flag_text : Bool → List ℕ
@@ -39,6 +55,15 @@ axis_state_text axis.DiscreteMotion = codes "DiscreteMotion"
 axis_state_text axis.ContinuousMotion = codes "ContinuousMotion"
 axis_state_text axis.SynchronizedMotion = codes "SynchronizedMotion"
 axis_state_text axis.ErrorStop = codes "ErrorStop"
+
+-- the names of the group states. PLCopen Motion Control Part 4, the state diagram
+unfoldable pub group_state_text : GroupState → List ℕ
+group_state_text group.GroupDisabled = codes "GroupDisabled"
+group_state_text group.GroupStandby = codes "GroupStandby"
+group_state_text group.GroupMoving = codes "GroupMoving"
+group_state_text group.GroupHoming = codes "GroupHoming"
+group_state_text group.GroupStopping = codes "GroupStopping"
+group_state_text group.GroupErrorStop = codes "GroupErrorStop"
 
 -- the names of the drive states. IEC 61800-7-201, the finite state automaton
 unfoldable pub drive_state_text : DriveState → List ℕ

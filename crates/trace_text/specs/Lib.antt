@@ -3,4 +3,4 @@ pub mod Records
 pub mod Trace
 pub mod Between
 pub mod Writes
-pub mod Taken
+pub mod Parts

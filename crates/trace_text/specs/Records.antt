@@ -1,46 +1,57 @@
--- The records of a trace, field by field.
-use Rattle.std.specs.Prelude.{ℕ, ℤ, pos, if◌then◌else◌, Option, Some, None, List, [], ◌∷◌, codes, decimal, slice_get, slice_index_or}
+-- The records of a trace, field by field. This project's profile.
+use Rattle.std.specs.Prelude.{ℕ, ℤ, ◌-◌, Bool, if◌then◌else◌, Option, Some, None, List, [], ◌∷◌, ◌++◌, codes, decimal, length, map, replicate, slice_get, take}
 use Rattle.std.specs.Fmt.{signed_decimal}
+use Rattle.std.specs.List.{join_with_byte}
 use Rattle.std.specs.Option.{option_map}
 use Rattle.csv.specs.Writing.{row_text, default_writer}
+use Rattle.axis_state.specs.Counts.{place_of}
 use Rattle.axis_state.specs.declared.definition.AxisDef.{AxisDef}
 use Rattle.axis_state.specs.declared.definition.AxisRow.{AxisRow}
 use Rattle.command_pool.specs.Kinds.{acts_on_group}
+use Rattle.command_pool.specs.declared.kind.BlockKind.{BlockKind}
+use Rattle.command_pool.specs.declared.kind.BlockKind.TheVariants.{GearIn, CamIn}
+use Rattle.fb_outputs.specs.Inputs.{takes}
+use Rattle.fb_outputs.specs.Names.{kind_name, mode_name}
+use Rattle.fb_outputs.specs.declared.inputs.Input.{Input}
+use Rattle.fb_outputs.specs.declared.inputs.Input.TheVariants.{Position, Velocity, Acceleration, Deceleration, Jerk, Mode}
 use Rattle.fb_outputs.specs.declared.inputs.Inputs.{Inputs}
 use Rattle.fb_outputs.specs.declared.outputs.Outputs.{Outputs}
+use Rattle.group_state.specs.declared.state.GroupRow.{GroupRow}
+use Rattle.motion_history.specs.Calls.{axes_of}
+use Rattle.motion_history.specs.Members.{members_of}
 use Rattle.motion_history.specs.Setup.{Setup}
 use Rattle.motion_history.specs.declared.config.BlockDef.{BlockDef}
 use Rattle.motion_history.specs.declared.config.GroupDef.{GroupDef}
+use Rattle.motion_history.specs.declared.refused.TraceVersion.{TraceVersion}
+use Rattle.motion_history.specs.declared.refused.TraceVersion.TheVariants.{One, Two}
+use Rattle.trace_text.specs.declared.records.TheConstants.{FIELDS}
 use Rattle.trace_text.specs.declared.write.Command.{Command}
-use Rattle.trace_text.specs.declared.write.Command.TheVariants as command
 use Rattle.trace_text.specs.declared.write.DriveEndRow.{DriveEndRow}
-use Rattle.trace_text.specs.declared.taken.TakenInputs.{TakenInputs}
-use Rattle.trace_text.specs.Taken.{taken_in, taken_text}
-use Rattle.trace_text.specs.Fields.{flag_text, hex_text, outputs_text, axis_state_text, drive_state_text}
-use Rattle.fb_outputs.specs.Names.{kind_name, mode_name}
+use Rattle.trace_text.specs.Fields.{axis_state_text, command_text, drive_state_text, flag_text, group_state_text, hex_text, outputs_text, version_text}
+
+-- a record has twelve fields; those that it does not use are empty
+abbrev pub padded : List (List ℕ) → List (List ℕ)
+padded fields = fields ++ replicate (FIELDS - length fields) []
 
 -- the text of a record: its fields with commas between them, and a line feed. RFC 4180, with line
 -- feeds
 unfoldable pub record_text : List (List ℕ) → List ℕ
-record_text fields = row_text default_writer fields
+record_text fields = row_text default_writer (padded fields)
 
--- the bytes of a name, or none
-abbrev pub name_text : Option (List ℕ) → List ℕ
-name_text None = []
-name_text (Some name) = name
+-- a text that is there, or none
+abbrev pub text_or_none : Option (List ℕ) → List ℕ
+text_or_none None = []
+text_or_none (Some text) = text
 
 -- the name of an axis, a group, a task or a block, by its number
 unfoldable pub axis_name : Setup → ℕ → List ℕ
-axis_name s n = name_text (option_map (λ (d : AxisDef). d.name) (slice_get s.axes n))
+axis_name s n = text_or_none (option_map (λ (d : AxisDef). d.name) (slice_get s.axes n))
 
 unfoldable pub group_name : Setup → ℕ → List ℕ
-group_name s n = name_text (option_map (λ (d : GroupDef). d.name) (slice_get s.groups n))
+group_name s n = text_or_none (option_map (λ (d : GroupDef). d.name) (slice_get s.groups n))
 
 unfoldable pub task_name : Setup → ℕ → List ℕ
-task_name s n = name_text (slice_get s.tasks n)
-
-unfoldable pub block_name : Setup → ℕ → List ℕ
-block_name s n = name_text (option_map (λ (d : BlockDef). d.name) (slice_get s.blocks n))
+task_name s n = text_or_none (slice_get s.tasks n)
 
 -- the name of what a block acts on
 unfoldable pub object_name : Setup → BlockDef → List ℕ
@@ -49,61 +60,129 @@ object_name s d = if acts_on_group d.kind then group_name s d.object else axis_n
 -- the names of the columns
 abbrev pub header_fields : List (List ℕ)
 header_fields =
-    codes "kind" ∷ codes "a" ∷ codes "b" ∷ codes "c" ∷ codes "d" ∷ codes "e" ∷ codes "f" ∷ codes "g" ∷ codes "h" ∷ codes "i" ∷ codes "j" ∷ codes "k" ∷ []
-
--- who made the trace
-unfoldable pub command_text : Command → List ℕ
-command_text command.Bench = codes "bench"
-command_text command.Run = codes "run"
+    codes "kind" ∷ codes "a" ∷ codes "b" ∷ codes "c" ∷ codes "d" ∷ codes "e" ∷ codes "f" ∷
+    codes "g" ∷ codes "h" ∷ codes "i" ∷ codes "j" ∷ codes "k" ∷ []
 
 -- the version, who made the trace, and the room for cycles and entries
-abbrev pub trace_fields : Command → Setup → List (List ℕ)
-trace_fields c s =
-    codes "trace" ∷ codes "1" ∷ command_text c ∷ decimal s.cycles ∷ decimal s.entries ∷ [] ∷ [] ∷ [] ∷ [] ∷ [] ∷ [] ∷ [] ∷ []
+abbrev pub trace_fields : TraceVersion → Command → Setup → List (List ℕ)
+trace_fields v c s =
+    codes "trace" ∷ version_text v ∷ command_text c ∷ decimal s.cycles ∷ decimal s.entries ∷ []
 
--- an axis: its name, its limits, its increment, its start, and whether it opens ready
-abbrev pub axis_fields : AxisDef → List (List ℕ)
-axis_fields d =
-    codes "axis" ∷ d.name ∷ signed_decimal d.limits.lo ∷ signed_decimal d.limits.hi ∷ signed_decimal d.limits.vmax ∷ signed_decimal d.limits.amax ∷
-    signed_decimal d.inc ∷ signed_decimal d.start ∷ flag_text d.ready ∷ [] ∷ [] ∷ [] ∷ []
+-- an axis: its name, its limits, its increment, its start, and whether it opens ready. Version 1
+-- has no field for the braking limit
+abbrev pub axis_fields : TraceVersion → AxisDef → List (List ℕ)
+axis_fields One d =
+    codes "axis" ∷ d.name ∷ signed_decimal d.limits.lo ∷ signed_decimal d.limits.hi ∷
+    signed_decimal d.limits.vmax ∷ signed_decimal d.limits.amax ∷
+    signed_decimal d.inc ∷ signed_decimal d.start ∷ flag_text d.ready ∷ []
+axis_fields Two d =
+    codes "axis" ∷ d.name ∷ signed_decimal d.limits.lo ∷ signed_decimal d.limits.hi ∷
+    signed_decimal d.limits.vmax ∷ signed_decimal d.limits.amax ∷ signed_decimal d.limits.dmax ∷
+    signed_decimal d.inc ∷ signed_decimal d.start ∷ flag_text d.ready ∷ []
+
+-- the names of the axes of a group, joined by semicolons
+unfoldable pub members_text : Setup → GroupDef → List ℕ
+members_text s g = join_with_byte 59 (map (axis_name s) (members_of g))
+
+-- a group: its name and its axes
+abbrev pub group_fields : Setup → GroupDef → List (List ℕ)
+group_fields s g = codes "group" ∷ g.name ∷ members_text s g ∷ []
+
+-- a point: its coordinates, joined by a colon
+unfoldable pub point_text : ℤ × ℤ → List ℕ
+point_text p = signed_decimal p.0 ++ (58 ∷ signed_decimal p.1)
+
+-- the points of a cam table, joined by semicolons
+unfoldable pub points_text : List (ℤ × ℤ) → List ℕ
+points_text points = join_with_byte 59 (map point_text points)
+
+-- a cam table: its points
+abbrev pub table_fields : List (ℤ × ℤ) → List (List ℕ)
+table_fields points = codes "table" ∷ points_text points ∷ []
 
 -- a task: its name
 abbrev pub task_fields : List ℕ → List (List ℕ)
-task_fields name = codes "task" ∷ name ∷ [] ∷ [] ∷ [] ∷ [] ∷ [] ∷ [] ∷ [] ∷ [] ∷ [] ∷ [] ∷ []
+task_fields name = codes "task" ∷ name ∷ []
 
 -- a block: its name, its task, its kind, and what it acts on
 abbrev pub block_fields : Setup → BlockDef → List (List ℕ)
 block_fields s d =
-    codes "block" ∷ d.name ∷ task_name s d.task ∷ kind_name d.kind ∷ object_name s d ∷ [] ∷ [] ∷ [] ∷ [] ∷ [] ∷ [] ∷ [] ∷ []
+    codes "block" ∷ d.name ∷ task_name s d.task ∷ kind_name d.kind ∷ object_name s d ∷ []
 
--- a call: the name of the block, its inputs that are taken, its outputs and the ErrorID
-abbrev pub call_fields_of : List ℕ → TakenInputs → ℤ → Inputs → List ℕ → ℕ → List (List ℕ)
-call_fields_of name taken first i outputs error_id =
-    codes "call" ∷ name ∷ flag_text i.execute ∷ taken_text taken.positions (signed_decimal first) ∷ taken_text taken.velocity (signed_decimal i.velocity) ∷
-    taken_text taken.acceleration (signed_decimal i.acceleration) ∷ taken_text taken.deceleration (signed_decimal i.deceleration) ∷
-    taken_text taken.deceleration (signed_decimal i.jerk) ∷ taken_text taken.acceleration (mode_name i.mode) ∷ [] ∷ outputs ∷ decimal error_id ∷ []
+-- the text of an input, or an empty field where it isn't taken
+unfoldable pub taken_text : Bool → List ℕ → List ℕ
+taken_text taken text = if taken then text else []
 
--- a call of the block of a number. So far its position is that of one axis
+-- a number that is an input of a kind
+abbrev pub number_text : BlockKind → Input → ℤ → List ℕ
+number_text k input z = taken_text (takes k input) (signed_decimal z)
+
+-- the positions of a call, one for each axis of its block, joined by semicolons
+unfoldable pub positions_text : Setup → BlockDef → List ℤ → List ℕ
+positions_text s b positions =
+    taken_text (takes b.kind Position)
+    (join_with_byte 59 (map signed_decimal (take (axes_of s b) positions)))
+
+-- what an axis follows: its master with the gear's numerator and denominator, or with the number of
+-- the cam table
+unfoldable pub follow_text : Setup → BlockKind → Inputs → List ℕ
+follow_text s GearIn i =
+    axis_name s i.master ++
+    (58 ∷ (signed_decimal i.numerator ++ (58 ∷ signed_decimal i.denominator)))
+follow_text s CamIn i = axis_name s i.master ++ (58 ∷ decimal i.table)
+follow_text s _ i = []
+
+-- a call of a block: its inputs that are taken, its outputs and the ErrorID
+abbrev pub block_call_fields : Setup → BlockDef → Inputs → Outputs → List (List ℕ)
+block_call_fields s b i o =
+    codes "call" ∷ b.name ∷ flag_text i.execute ∷ positions_text s b i.positions ∷
+    number_text b.kind Velocity i.velocity ∷ number_text b.kind Acceleration i.acceleration ∷
+    number_text b.kind Deceleration i.deceleration ∷ number_text b.kind Jerk i.jerk ∷
+    taken_text (takes b.kind Mode) (mode_name i.mode) ∷ follow_text s b.kind i ∷
+    outputs_text o ∷ decimal o.error_id ∷ []
+
+-- a call of the block of a number. A history has none of a block that isn't there
+unfoldable pub call_fields_of : Setup → Option BlockDef → Inputs → Outputs → List (List ℕ)
+call_fields_of s None i o = codes "call" ∷ []
+call_fields_of s (Some b) i o = block_call_fields s b i o
+
 abbrev pub call_fields : Setup → ℕ → Inputs → Outputs → List (List ℕ)
-call_fields s k i o = call_fields_of (block_name s k) (taken_in s k) (slice_index_or i.positions 0 (pos 0)) i (outputs_text o) o.error_id
+call_fields s k i o = call_fields_of s (slice_get s.blocks k) i o
 
 -- a cycle: its number
 abbrev pub cycle_fields : ℕ → List (List ℕ)
-cycle_fields n = codes "cycle" ∷ decimal n ∷ [] ∷ [] ∷ [] ∷ [] ∷ [] ∷ [] ∷ [] ∷ [] ∷ [] ∷ [] ∷ []
+cycle_fields n = codes "cycle" ∷ decimal n ∷ []
+
+-- the place that the drive of an axis reports in a row. IEC 61800-7-201, object 6064h
+abbrev pub reported_place : AxisDef → AxisRow → ℤ
+reported_place d r = place_of d.limits.lo r.input.actual r.offset d.inc
+
+-- that place, in version 2 alone
+unfoldable pub reported_text : TraceVersion → Setup → ℕ → AxisRow → List ℕ
+reported_text One s n r = []
+reported_text Two s n r =
+    text_or_none (option_map (λ d. signed_decimal (reported_place d r)) (slice_get s.axes n))
 
 -- a row: the axis, what its drive answered, its state, error, whether it is driven, its setpoint,
--- and what its drive is given
-abbrev pub row_fields : Setup → ℕ → AxisRow → List (List ℕ)
-row_fields s n r =
-    codes "row" ∷ axis_name s n ∷ hex_text r.input.statusword ∷ signed_decimal r.input.actual ∷ signed_decimal r.input.mode_display ∷
-    axis_state_text r.state ∷ decimal r.error ∷ flag_text r.driven ∷ signed_decimal r.setpoint ∷ hex_text r.output.controlword ∷ signed_decimal r.output.target ∷ [] ∷ []
+-- what its drive is given, and the place that its drive reported
+abbrev pub row_fields : TraceVersion → Setup → ℕ → AxisRow → List (List ℕ)
+row_fields v s n r =
+    codes "row" ∷ axis_name s n ∷ hex_text r.input.statusword ∷ signed_decimal r.input.actual ∷
+    signed_decimal r.input.mode_display ∷ axis_state_text r.state ∷ decimal r.error ∷
+    flag_text r.driven ∷ signed_decimal r.setpoint ∷ hex_text r.output.controlword ∷
+    signed_decimal r.output.target ∷ reported_text v s n r ∷ []
+
+-- a group's row: the group, its state and its error
+abbrev pub grow_fields : Setup → ℕ → GroupRow → List (List ℕ)
+grow_fields s n r = codes "grow" ∷ group_name s n ∷ group_state_text r.state ∷ decimal r.error ∷ []
 
 -- the end of a task: its name
 abbrev pub end_fields : Setup → ℕ → List (List ℕ)
-end_fields s task = codes "end" ∷ task_name s task ∷ [] ∷ [] ∷ [] ∷ [] ∷ [] ∷ [] ∷ [] ∷ [] ∷ [] ∷ [] ∷ []
+end_fields s task = codes "end" ∷ task_name s task ∷ []
 
 -- what a drive took: the axis, the number of setpoints, the drive's state and its actual position
 -- at the end
 abbrev pub drive_fields : Setup → ℕ → DriveEndRow → List (List ℕ)
 drive_fields s n d =
-    codes "drive" ∷ axis_name s n ∷ decimal d.taken ∷ drive_state_text d.state ∷ signed_decimal d.actual ∷ [] ∷ [] ∷ [] ∷ [] ∷ [] ∷ [] ∷ [] ∷ []
+    codes "drive" ∷ axis_name s n ∷ decimal d.taken ∷ drive_state_text d.state ∷
+    signed_decimal d.actual ∷ []

@@ -1,40 +1,56 @@
--- The trace text of a history.
-use Rattle.std.specs.Prelude.{◌≡◌, ℕ, suc, List, [], ◌∷◌, ◌++◌, All}
+-- The records and the text of a trace. This project's profile.
+use Rattle.std.specs.Prelude.{◌≡◌, ℕ, suc, List, [], ◌∷◌, ◌++◌, All, map}
 use Rattle.std.specs.List.{flat_map}
 use Rattle.axis_state.specs.declared.definition.AxisDef.{AxisDef}
 use Rattle.motion_history.specs.Entries.{Entry, call, cycle, end_of}
 use Rattle.motion_history.specs.Setup.{Setup}
+use Rattle.motion_history.specs.declared.refused.TraceVersion.{TraceVersion}
+use Rattle.motion_history.specs.declared.refused.TraceVersion.TheVariants.{One, Two}
 use Rattle.trace_text.specs.declared.write.Command.{Command}
 use Rattle.trace_text.specs.declared.write.DriveEndRow.{DriveEndRow}
-use Rattle.trace_text.specs.Records.{record_text, header_fields, trace_fields, axis_fields, task_fields, block_fields, call_fields, cycle_fields, row_fields, end_fields, drive_fields}
+use Rattle.trace_text.specs.Records.{record_text, header_fields, trace_fields, axis_fields, group_fields, table_fields, task_fields, block_fields, call_fields, cycle_fields, row_fields, grow_fields, end_fields, drive_fields}
 
--- the texts of the items of a list, each by its number
-abbrev pub numbered : {X : Type 0} → (ℕ → X → List ℕ) → ℕ → List X → List ℕ
+-- the records of the items of a list, each by its number
+abbrev pub numbered : {X : Type 0} → (ℕ → X → List (List ℕ)) → ℕ → List X → List (List (List ℕ))
 numbered f n [] = []
-numbered f n (x ∷ xs) = f n x ++ numbered f (suc n) xs
+numbered f n (x ∷ xs) = f n x ∷ numbered f (suc n) xs
 
--- the machine part: the header, who made the trace, the axes, the tasks and the blocks. This
--- project's profile
-unfoldable pub machine_text : Command → Setup → List ℕ
-machine_text c s =
-    record_text header_fields ++ record_text (trace_fields c s) ++ flat_map (λ d. record_text (axis_fields d)) s.axes ++
-    flat_map (λ name. record_text (task_fields name)) s.tasks ++ flat_map (λ d. record_text (block_fields s d)) s.blocks
+-- the items of a machine: the axes, the groups, the cam tables, the tasks and the blocks
+unfoldable pub item_records : TraceVersion → Setup → List (List (List ℕ))
+item_records v s =
+    map (axis_fields v) s.axes ++ (map (group_fields s) s.groups ++ (map table_fields s.tables ++
+    (map task_fields s.tasks ++ map (block_fields s) s.blocks)))
 
--- an entry: a call, a cycle with a row for each axis, or the end of a task. This project's profile
-unfoldable pub entry_text : Setup → Entry → List ℕ
-entry_text s (call k i o) = record_text (call_fields s k i o)
-entry_text s (cycle n rows groups) = record_text (cycle_fields n) ++ numbered (λ j r. record_text (row_fields s j r)) 0 rows
-entry_text s (end_of task) = record_text (end_fields s task)
+-- the machine part: the header, who made the trace, and the items of the machine
+unfoldable pub machine_records : TraceVersion → Command → Setup → List (List (List ℕ))
+machine_records v c s = header_fields ∷ trace_fields v c s ∷ item_records v s
 
--- what each drive took. This project's profile
-unfoldable pub drives_text : Setup → List DriveEndRow → List ℕ
-drives_text s ds = numbered (λ j d. record_text (drive_fields s j d)) 0 ds
+-- an entry: a call, a cycle with a row for each axis and each group, or the end of a task
+unfoldable pub entry_records : TraceVersion → Setup → Entry → List (List (List ℕ))
+entry_records v s (call k i o) = call_fields s k i o ∷ []
+entry_records v s (cycle n rows groups) =
+    cycle_fields n ∷ (numbered (row_fields v s) 0 rows ++ numbered (grow_fields s) 0 groups)
+entry_records v s (end_of task) = end_fields s task ∷ []
 
--- each axis brakes as hard as it speeds up: format version 1 has no field for dmax. This project's
--- profile
-abbrev pub IsVersionOne : Setup → Type 0
-IsVersionOne s = All (λ (d : AxisDef). d.limits.dmax ≡ d.limits.amax) s.axes
+-- what each drive took
+unfoldable pub drive_records : Setup → List DriveEndRow → List (List (List ℕ))
+drive_records s ds = numbered (drive_fields s) 0 ds
 
--- the trace text of a machine, its history and its drives. This project's profile
-unfoldable pub trace_text : Command → Setup → List Entry → List DriveEndRow → List ℕ
-trace_text c s es ds = machine_text c s ++ flat_map (entry_text s) es ++ drives_text s ds
+-- all records of a trace
+unfoldable pub trace_records : TraceVersion → Command → Setup → List Entry → List DriveEndRow →
+    List (List (List ℕ))
+trace_records v c s es ds =
+    machine_records v c s ++ (flat_map (entry_records v s) es ++ drive_records s ds)
+
+-- the text of records: those of each, one behind the other
+unfoldable pub text_of : List (List (List ℕ)) → List ℕ
+text_of records = flat_map record_text records
+
+-- the trace text of a machine, its history and its drives
+unfoldable pub trace_text : TraceVersion → Command → Setup → List Entry → List DriveEndRow → List ℕ
+trace_text v c s es ds = text_of (trace_records v c s es ds)
+
+-- a version can hold a machine: in version 1 each axis brakes as hard as it speeds up
+abbrev pub CanHold : TraceVersion → Setup → Type 0
+CanHold One s = All (λ (d : AxisDef). d.limits.dmax ≡ d.limits.amax) s.axes
+CanHold Two s = Unit {0}

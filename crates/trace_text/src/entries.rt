@@ -1,97 +1,26 @@
 // The entries of a history, and what the drives took, in a trace.
 
-ghost use Rattle.std.specs.Prelude.{◌≡◌, ◌++◌, pos, slice_index_or, OnOk};
+ghost use Rattle.std.specs.Prelude.{◌≡◌, ◌≤◌, ◌^◌, ◌++◌, ◌+ℤ◌, ◌-ℤ◌, ◌*ℤ◌, ◌&&◌, int_lt, unsigned_abs, OnOk};
 ghost use Rattle.std.specs.Io.KnownBytes.{Appends};
-ghost use Rattle.axis_state.specs.declared.definition.AxisRow.{AxisRow};
 ghost use Rattle.csv.specs.Writing.{text_written};
 ghost use Rattle.motion_history.specs.Looks.{told};
 ghost use Rattle.trace_text.specs.Between.{IsBetween};
-ghost use Rattle.trace_text.specs.Records.{record_text, call_fields, cycle_fields, row_fields, end_fields, drive_fields};
+ghost use Rattle.trace_text.specs.Parts.{drives_text, entry_text};
+ghost use Rattle.trace_text.specs.Records.{record_text, cycle_fields, row_fields, grow_fields, end_fields, drive_fields};
 ghost use Rattle.trace_text.specs.Records as spec;
-ghost use Rattle.trace_text.specs.Trace.{entry_text, numbered, drives_text};
+ghost use Rattle.trace_text.specs.Trace.{numbered, text_of};
 
-use crate::fields::{axis_state_text, drive_state_text, flag_text, hex_text, outputs_text};
-use crate::records::{axis_name, block_name, name_text, task_name, write_record};
-use crate::taken::{TakenInputs, number_text, taken_in, taken_text};
+use crate::calls::write_call;
+use crate::fields::{axis_state_text, drive_state_text, flag_text, group_state_text, hex_text};
+use crate::records::{axis_name, group_name, name_text, task_name, write_record};
 use crate::write::DriveEndRow;
-use axis_state::{AxisRow, Name};
+use axis_state::{AxisDef, AxisRow};
 use csv::Writer;
-use fb_outputs::{Inputs, Outputs, mode_name};
+use group_state::GroupRow;
 use itoa::Buffer;
-use motion_history::{Config, EntryLook, OutOfMemory};
+use motion_history::{Config, EntryLook, OutOfMemory, TraceVersion};
 use std::alloc::Global;
 use std::io::Write;
-
-// The position of a move on one axis.
-fn first_position(inputs: &Inputs) -> i64
-    ensures { result ≡ slice_index_or inputs.now.positions 0 (pos 0) }
-{
-    inputs.positions[0]
-}
-
-// A call by the name of its block, the inputs that are taken and the letters of its outputs.
-fn put_call<W: Write + Drop>(
-    wtr: &mut Writer<W>,
-    block: Option<Name>,
-    taken: TakenInputs,
-    inputs: &Inputs,
-    outputs: Vec<u8>,
-    error_id: u16,
-) -> Result<(), OutOfMemory>
-    requires { IsBetween wtr.old }
-    ensures text { OnOk result (Appends (text_written W.contents wtr.old) (text_written W.contents wtr.new)
-        (record_text (spec.call_fields_of (spec.name_text block) taken
-        (slice_index_or inputs.now.positions 0 (pos 0)) inputs.now outputs.items error_id))) }
-    ensures between { OnOk result (IsBetween wtr.new) }
-{
-    let mut position = Buffer::new();
-    let mut velocity = Buffer::new();
-    let mut acceleration = Buffer::new();
-    let mut deceleration = Buffer::new();
-    let mut jerk = Buffer::new();
-    let mut error = Buffer::new();
-    write_record(
-        wtr,
-        &[
-            b"call",
-            name_text(&block),
-            flag_text(inputs.execute).as_bytes(),
-            number_text(taken.positions, &mut position, first_position(inputs)),
-            number_text(taken.velocity, &mut velocity, inputs.velocity),
-            number_text(taken.acceleration, &mut acceleration, inputs.acceleration),
-            number_text(taken.deceleration, &mut deceleration, inputs.deceleration),
-            number_text(taken.deceleration, &mut jerk, inputs.jerk),
-            taken_text(taken.acceleration, mode_name(inputs.mode).as_bytes()),
-            b"",
-            outputs.as_slice(),
-            error.format(error_id).as_bytes(),
-        ],
-    )
-}
-
-fn write_call<W: Write + Drop>(
-    alloc: Global,
-    wtr: &mut Writer<W>,
-    config: &Config,
-    block: u16,
-    inputs: &Inputs,
-    reply: &Outputs,
-) -> Result<(), OutOfMemory>
-    requires { IsBetween wtr.old }
-    ensures text { OnOk result (Appends (text_written W.contents wtr.old) (text_written W.contents wtr.new)
-        (record_text (call_fields config.now block inputs.now reply.now))) }
-    ensures between { OnOk result (IsBetween wtr.new) }
-{
-    let outputs = outputs_text(alloc, reply)?;
-    put_call(
-        wtr,
-        block_name(config, block as usize),
-        taken_in(config, block as usize),
-        inputs,
-        outputs,
-        reply.error_id,
-    )
-}
 
 fn write_cycle<W: Write + Drop>(wtr: &mut Writer<W>, number: u32) -> Result<(), OutOfMemory>
     requires { IsBetween wtr.old }
@@ -100,34 +29,67 @@ fn write_cycle<W: Write + Drop>(wtr: &mut Writer<W>, number: u32) -> Result<(), 
     ensures between { OnOk result (IsBetween wtr.new) }
 {
     let mut digits = Buffer::new();
-    write_record(
-        wtr,
-        &[
-            b"cycle",
-            digits.format(number).as_bytes(),
-            b"",
-            b"",
-            b"",
-            b"",
-            b"",
-            b"",
-            b"",
-            b"",
-            b"",
-            b"",
-        ],
-    )
+    write_record(wtr, &[b"cycle", digits.format(number).as_bytes()])
+}
+
+// The place of a count, as many increments from the offset.
+fn counted_place(count: i32, inc: i64, offset: i64) -> i128
+    ensures value { result ≡ (count *ℤ inc) +ℤ offset }
+    ensures small { unsigned_abs result ≤ 2 ^ 96 }
+{
+    i128::from(count) * i128::from(inc) + i128::from(offset)
+}
+
+// Whether a place lies less than an increment below the lowest one.
+fn is_just_below(lo: i64, inc: i64, counted: i128) -> bool
+    ensures { result ≡ (int_lt (lo -ℤ inc) counted && int_lt counted lo) }
+{
+    i128::from(lo) - i128::from(inc) < counted && counted < i128::from(lo)
+}
+
+// The place that the drive of an axis reports.
+#[tactic(auto, unfolding(axis_state::specs::Counts::place_of))]
+fn reported_place(axis: &AxisDef, row: &AxisRow) -> i128
+    ensures { result ≡ spec.reported_place axis.now row.now }
+{
+    let counted = counted_place(row.input.actual, axis.inc, row.offset);
+    if is_just_below(axis.limits.lo, axis.inc, counted) {
+        i128::from(axis.limits.lo)
+    } else {
+        counted
+    }
+}
+
+// The text of that place, in version 2 alone.
+#[tactic(auto, unfolding(crate::specs::Records::reported_text))]
+fn reported_text<'a>(
+    digits: &'a mut Buffer,
+    version: TraceVersion,
+    config: &Config,
+    axis: usize,
+    row: &AxisRow,
+) -> &'a [u8]
+    ensures { result.now ≡ spec.reported_text version config.now axis row.now }
+{
+    match version {
+        TraceVersion::One => b"",
+        TraceVersion::Two => match config.axes().get(axis) {
+            Some(def) => digits.format(reported_place(def, row)).as_bytes(),
+            None => b"",
+        },
+    }
 }
 
 fn write_row<W: Write + Drop>(
     wtr: &mut Writer<W>,
+    version: TraceVersion,
     config: &Config,
     axis: usize,
     row: &AxisRow,
 ) -> Result<(), OutOfMemory>
     requires { IsBetween wtr.old }
     ensures text { OnOk result (Appends (text_written W.contents wtr.old) (text_written W.contents wtr.new)
-        (record_text (row_fields config.now axis row.now))) }
+        (record_text (row_fields version config.now axis row.now))) }
     ensures between { OnOk result (IsBetween wtr.new) }
 {
     let name = axis_name(config, axis);
@@ -138,6 +100,7 @@ fn write_row<W: Write + Drop>(
     let mut setpoint = Buffer::new();
     let controlword = hex_text(row.output.controlword);
     let mut target = Buffer::new();
+    let mut reported = Buffer::new();
     write_record(
         wtr,
         &[
@@ -152,23 +115,66 @@ fn write_row<W: Write + Drop>(
             setpoint.format(row.setpoint).as_bytes(),
             &controlword,
             target.format(row.output.target).as_bytes(),
-            b"",
+            reported_text(&mut reported, version, config, axis, row),
         ],
     )
 }
 
+#[tactic(auto, unfolding(crate::specs::Trace::text_of))]
 fn write_rows<W: Write + Drop>(
     wtr: &mut Writer<W>,
+    version: TraceVersion,
     config: &Config,
     rows: &[AxisRow],
 ) -> Result<(), OutOfMemory>
     requires { IsBetween wtr.old }
     ensures text { OnOk result (Appends (text_written W.contents wtr.old) (text_written W.contents wtr.new)
-        (numbered (λ j r. record_text (row_fields config.now j r)) 0 rows.now)) }
+        (text_of (numbered (row_fields version config.now) 0 rows.now))) }
     ensures between { OnOk result (IsBetween wtr.new) }
 {
     for (i, row) in rows.iter().enumerate() {
-        write_row(wtr, config, i, row)?;
+        write_row(wtr, version, config, i, row)?;
+    }
+    Ok(())
+}
+
+fn write_grow<W: Write + Drop>(
+    wtr: &mut Writer<W>,
+    config: &Config,
+    group: usize,
+    row: &GroupRow,
+) -> Result<(), OutOfMemory>
+    requires { IsBetween wtr.old }
+    ensures text { OnOk result (Appends (text_written W.contents wtr.old) (text_written W.contents wtr.new)
+        (record_text (grow_fields config.now group row.now))) }
+    ensures between { OnOk result (IsBetween wtr.new) }
+{
+    let name = group_name(config, group);
+    let mut error = Buffer::new();
+    write_record(
+        wtr,
+        &[
+            b"grow",
+            name_text(&name),
+            group_state_text(row.state).as_bytes(),
+            error.format(row.error).as_bytes(),
+        ],
+    )
+}
+
+#[tactic(auto, unfolding(crate::specs::Trace::text_of))]
+fn write_grows<W: Write + Drop>(
+    wtr: &mut Writer<W>,
+    config: &Config,
+    rows: &[GroupRow],
+) -> Result<(), OutOfMemory>
+    requires { IsBetween wtr.old }
+    ensures text { OnOk result (Appends (text_written W.contents wtr.old) (text_written W.contents wtr.new)
+        (text_of (numbered (grow_fields config.now) 0 rows.now))) }
+    ensures between { OnOk result (IsBetween wtr.new) }
+{
+    for (i, row) in rows.iter().enumerate() {
+        write_grow(wtr, config, i, row)?;
     }
     Ok(())
 }
@@ -184,51 +190,42 @@ fn write_end<W: Write + Drop>(
     ensures between { OnOk result (IsBetween wtr.new) }
 {
     let name = task_name(config, task as usize);
-    write_record(
-        wtr,
-        &[
-            b"end",
-            name_text(&name),
-            b"",
-            b"",
-            b"",
-            b"",
-            b"",
-            b"",
-            b"",
-            b"",
-            b"",
-            b"",
-        ],
-    )
+    write_record(wtr, &[b"end", name_text(&name)])
 }
 
+// A cycle with a row for each axis and each group.
 fn write_cycle_and_rows<W: Write + Drop>(
     wtr: &mut Writer<W>,
+    version: TraceVersion,
     config: &Config,
     number: u32,
-    rows: &[AxisRow],
+    axes: &[AxisRow],
+    groups: &[GroupRow],
 ) -> Result<(), OutOfMemory>
     requires { IsBetween wtr.old }
     ensures text { OnOk result (Appends (text_written W.contents wtr.old) (text_written W.contents wtr.new)
-        (record_text (cycle_fields number) ++ numbered (λ j r. record_text (row_fields config.now j r)) 0 rows.now)) }
+        (record_text (cycle_fields number) ++
+        text_of (numbered (row_fields version config.now) 0 axes.now) ++
+        text_of (numbered (grow_fields config.now) 0 groups.now))) }
     ensures between { OnOk result (IsBetween wtr.new) }
 {
     write_cycle(wtr, number)?;
-    write_rows(wtr, config, rows)
+    write_rows(wtr, version, config, axes)?;
+    write_grows(wtr, config, groups)
 }
 
 /// Writes an entry.
-#[tactic(auto, unfolding(crate::specs::Trace::entry_text))]
+#[tactic(auto, unfolding(crate::specs::Parts::entry_text))]
 pub fn write_entry<W: Write + Drop>(
     alloc: Global,
     wtr: &mut Writer<W>,
+    version: TraceVersion,
     config: &Config,
     entry: &EntryLook<'_>,
 ) -> Result<(), OutOfMemory>
     requires { IsBetween wtr.old }
     ensures text { OnOk result (Appends (text_written W.contents wtr.old) (text_written W.contents wtr.new)
-        (entry_text config.now (told entry.now))) }
+        (entry_text version config.now (told entry.now))) }
     ensures between { OnOk result (IsBetween wtr.new) }
 {
     match entry {
@@ -237,7 +234,11 @@ pub fn write_entry<W: Write + Drop>(
             inputs,
             reply,
         } => write_call(alloc, wtr, config, *instance, inputs, reply),
-        EntryLook::Cycle { number, axes, .. } => write_cycle_and_rows(wtr, config, *number, axes),
+        EntryLook::Cycle {
+            number,
+            axes,
+            groups,
+        } => write_cycle_and_rows(wtr, version, config, *number, axes, groups),
         EntryLook::End { task } => write_end(wtr, config, *task),
     }
 }
@@ -264,19 +265,12 @@ fn write_drive<W: Write + Drop>(
             taken.format(drive.taken).as_bytes(),
             drive_state_text(drive.state).as_bytes(),
             actual.format(drive.actual).as_bytes(),
-            b"",
-            b"",
-            b"",
-            b"",
-            b"",
-            b"",
-            b"",
         ],
     )
 }
 
 /// Writes what each drive took.
-#[tactic(auto, unfolding(crate::specs::Trace::drives_text))]
+#[tactic(auto, unfolding(crate::specs::Parts::drives_text, crate::specs::Trace::drive_records, crate::specs::Trace::text_of))]
 pub fn write_drives<W: Write + Drop>(
     wtr: &mut Writer<W>,
     config: &Config,

@@ -2,11 +2,38 @@
 
 ghost use Rattle.std.specs.Prelude.{◌≡◌, ◌++◌, ◌<◌, IfOk, OnOk};
 ghost use Rattle.trace_text.specs.Fields as spec;
+ghost use Rattle.trace_text.specs.Records as records;
 
+use crate::write::Command;
 use axis_state::AxisState;
 use cia402_machine::DriveState;
-use fb_outputs::Outputs;
+use fb_outputs::{BlockKind, Input, Outputs, takes};
+use group_state::GroupState;
+use itoa::Buffer;
+use motion_history::TraceVersion;
 use std::alloc::{AllocError, Global};
+
+/// The version of a trace.
+#[tactic(auto, unfolding(crate::specs::Fields::version_text))]
+pub fn version_text(version: TraceVersion) -> &'static str
+    ensures { result.now ≡ spec.version_text version }
+{
+    match version {
+        TraceVersion::One => "1",
+        TraceVersion::Two => "2",
+    }
+}
+
+/// Who made the trace.
+#[tactic(auto, unfolding(crate::specs::Fields::command_text))]
+pub fn command_text(command: Command) -> &'static str
+    ensures { result.now ≡ spec.command_text command }
+{
+    match command {
+        Command::Bench => "bench",
+        Command::Run => "run",
+    }
+}
 
 /// A truth value.
 #[tactic(auto, unfolding(crate::specs::Fields::flag_text))]
@@ -79,6 +106,21 @@ pub fn axis_state_text(state: AxisState) -> &'static str
     }
 }
 
+/// The name of a group state.
+#[tactic(auto, unfolding(crate::specs::Fields::group_state_text))]
+pub fn group_state_text(state: GroupState) -> &'static str
+    ensures { result.now ≡ spec.group_state_text state }
+{
+    match state {
+        GroupState::GroupDisabled => "GroupDisabled",
+        GroupState::GroupStandby => "GroupStandby",
+        GroupState::GroupMoving => "GroupMoving",
+        GroupState::GroupHoming => "GroupHoming",
+        GroupState::GroupStopping => "GroupStopping",
+        GroupState::GroupErrorStop => "GroupErrorStop",
+    }
+}
+
 /// The name of a drive state.
 #[tactic(auto, unfolding(crate::specs::Fields::drive_state_text))]
 pub fn drive_state_text(state: DriveState) -> &'static str
@@ -93,5 +135,30 @@ pub fn drive_state_text(state: DriveState) -> &'static str
         DriveState::QuickStopActive => "QuickStopActive",
         DriveState::FaultReactionActive => "FaultReactionActive",
         DriveState::Fault => "Fault",
+    }
+}
+
+/// The text of an input, or nothing where it isn't taken.
+#[tactic(auto, unfolding(crate::specs::Records::taken_text))]
+pub fn taken_text(taken: bool, text: &[u8]) -> &[u8]
+    ensures { result.now ≡ records.taken_text taken text.now }
+{
+    if taken { text } else { b"" }
+}
+
+/// The text of a number that is an input, or nothing where the kind doesn't take it.
+#[tactic(auto, unfolding(crate::specs::Records::taken_text))]
+pub fn number_text<'a>(
+    kind: BlockKind,
+    input: Input,
+    digits: &'a mut Buffer,
+    number: i64,
+) -> &'a [u8]
+    ensures { result.now ≡ records.number_text kind input number }
+{
+    if takes(kind, input) {
+        digits.format(number).as_bytes()
+    } else {
+        b""
     }
 }

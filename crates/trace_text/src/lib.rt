@@ -2,12 +2,13 @@
 //! comma-separated fields.
 #![tactic(auto)]
 
+mod calls;
 mod entries;
 mod fields;
 mod laws;
 mod machine;
+mod parts;
 mod records;
-mod taken;
 mod write;
 
 pub use laws::parts_are_beginnings;

@@ -1,34 +1,25 @@
 // The machine part of a trace.
 
-ghost use Rattle.std.specs.Prelude.{◌≡◌, [], OnOk};
+ghost use Rattle.std.specs.Prelude.{◌≡◌, OnOk};
 ghost use Rattle.std.specs.List.{flat_map};
 ghost use Rattle.std.specs.Io.KnownBytes.{Appends};
 ghost use Rattle.csv.specs.Writing.{text_written};
 ghost use Rattle.trace_text.specs.Between.{IsBetween};
-ghost use Rattle.trace_text.specs.Records.{record_text, header_fields, trace_fields, axis_fields, task_fields, block_fields};
-ghost use Rattle.trace_text.specs.Records as spec;
-ghost use Rattle.trace_text.specs.Trace.{machine_text};
+ghost use Rattle.trace_text.specs.Parts.{items_text, machine_text};
+ghost use Rattle.trace_text.specs.Records.{record_text, header_fields, trace_fields, axis_fields, group_fields, table_fields, task_fields, block_fields};
 
-use crate::fields::flag_text;
+use crate::fields::{command_text, flag_text, version_text};
+use crate::parts::{members_text, points_text};
 use crate::records::{name_text, object_name, task_name, write_record};
 use crate::write::Command;
 use axis_state::{AxisDef, Name};
+use cam_table::CamTable;
 use csv::Writer;
 use fb_outputs::kind_name;
 use itoa::Buffer;
-use motion_history::{BlockDef, Config, OutOfMemory};
+use motion_history::{BlockDef, Config, GroupDef, OutOfMemory, TraceVersion};
+use std::alloc::Global;
 use std::io::Write;
-
-// Who made the trace.
-#[tactic(auto, unfolding(crate::specs::Records::command_text))]
-fn command_text(command: Command) -> &'static str
-    ensures { result.now ≡ spec.command_text command }
-{
-    match command {
-        Command::Bench => "bench",
-        Command::Run => "run",
-    }
-}
 
 fn write_header<W: Write + Drop>(wtr: &mut Writer<W>) -> Result<(), OutOfMemory>
     requires { IsBetween wtr.old }
@@ -46,12 +37,13 @@ fn write_header<W: Write + Drop>(wtr: &mut Writer<W>) -> Result<(), OutOfMemory>
 
 fn write_room<W: Write + Drop>(
     wtr: &mut Writer<W>,
+    version: TraceVersion,
     command: Command,
     config: &Config,
 ) -> Result<(), OutOfMemory>
     requires { IsBetween wtr.old }
     ensures text { OnOk result (Appends (text_written W.contents wtr.old) (text_written W.contents wtr.new)
-        (record_text (trace_fields command config.now))) }
+        (record_text (trace_fields version command config.now))) }
     ensures between { OnOk result (IsBetween wtr.new) }
 {
     let mut cycles = Buffer::new();
@@ -60,25 +52,35 @@ fn write_room<W: Write + Drop>(
         wtr,
         &[
             b"trace",
-            b"1",
+            version_text(version).as_bytes(),
             command_text(command).as_bytes(),
             cycles.format(config.cycles()).as_bytes(),
             entries.format(config.entries()).as_bytes(),
-            b"",
-            b"",
-            b"",
-            b"",
-            b"",
-            b"",
-            b"",
         ],
     )
 }
 
-fn write_axis<W: Write + Drop>(wtr: &mut Writer<W>, axis: &AxisDef) -> Result<(), OutOfMemory>
+fn write_axis<W: Write + Drop>(
+    wtr: &mut Writer<W>,
+    version: TraceVersion,
+    axis: &AxisDef,
+) -> Result<(), OutOfMemory>
     requires { IsBetween wtr.old }
     ensures text { OnOk result (Appends (text_written W.contents wtr.old) (text_written W.contents wtr.new)
-        (record_text (axis_fields axis.now))) }
+        (record_text (axis_fields version axis.now))) }
+    ensures between { OnOk result (IsBetween wtr.new) }
+{
+    match version {
+        TraceVersion::One => write_axis_one(wtr, axis),
+        TraceVersion::Two => write_axis_two(wtr, axis),
+    }
+}
+
+// An axis in version 1, without its braking limit.
+fn write_axis_one<W: Write + Drop>(wtr: &mut Writer<W>, axis: &AxisDef) -> Result<(), OutOfMemory>
+    requires { IsBetween wtr.old }
+    ensures text { OnOk result (Appends (text_written W.contents wtr.old) (text_written W.contents wtr.new)
+        (record_text (axis_fields TraceVersion.One axis.now))) }
     ensures between { OnOk result (IsBetween wtr.new) }
 {
     let name = axis.name;
@@ -100,11 +102,70 @@ fn write_axis<W: Write + Drop>(wtr: &mut Writer<W>, axis: &AxisDef) -> Result<()
             inc.format(axis.inc).as_bytes(),
             start.format(axis.start).as_bytes(),
             flag_text(axis.ready).as_bytes(),
-            b"",
-            b"",
-            b"",
         ],
     )
+}
+
+// An axis in version 2.
+fn write_axis_two<W: Write + Drop>(wtr: &mut Writer<W>, axis: &AxisDef) -> Result<(), OutOfMemory>
+    requires { IsBetween wtr.old }
+    ensures text { OnOk result (Appends (text_written W.contents wtr.old) (text_written W.contents wtr.new)
+        (record_text (axis_fields TraceVersion.Two axis.now))) }
+    ensures between { OnOk result (IsBetween wtr.new) }
+{
+    let name = axis.name;
+    let mut lo = Buffer::new();
+    let mut hi = Buffer::new();
+    let mut vmax = Buffer::new();
+    let mut amax = Buffer::new();
+    let mut dmax = Buffer::new();
+    let mut inc = Buffer::new();
+    let mut start = Buffer::new();
+    write_record(
+        wtr,
+        &[
+            b"axis",
+            name.bytes(),
+            lo.format(axis.limits.lo).as_bytes(),
+            hi.format(axis.limits.hi).as_bytes(),
+            vmax.format(axis.limits.vmax).as_bytes(),
+            amax.format(axis.limits.amax).as_bytes(),
+            dmax.format(axis.limits.dmax).as_bytes(),
+            inc.format(axis.inc).as_bytes(),
+            start.format(axis.start).as_bytes(),
+            flag_text(axis.ready).as_bytes(),
+        ],
+    )
+}
+
+fn write_group<W: Write + Drop>(
+    alloc: Global,
+    wtr: &mut Writer<W>,
+    config: &Config,
+    group: &GroupDef,
+) -> Result<(), OutOfMemory>
+    requires { IsBetween wtr.old }
+    ensures text { OnOk result (Appends (text_written W.contents wtr.old) (text_written W.contents wtr.new)
+        (record_text (group_fields config.now group.now))) }
+    ensures between { OnOk result (IsBetween wtr.new) }
+{
+    let name = group.name;
+    let members = members_text(alloc, config, group)?;
+    write_record(wtr, &[b"group", name.bytes(), members.as_slice()])
+}
+
+fn write_table<W: Write + Drop>(
+    alloc: Global,
+    wtr: &mut Writer<W>,
+    table: &CamTable,
+) -> Result<(), OutOfMemory>
+    requires { IsBetween wtr.old }
+    ensures text { OnOk result (Appends (text_written W.contents wtr.old) (text_written W.contents wtr.new)
+        (record_text (table_fields table.now))) }
+    ensures between { OnOk result (IsBetween wtr.new) }
+{
+    let points = points_text(alloc, table.points())?;
+    write_record(wtr, &[b"table", points.as_slice()])
 }
 
 fn write_task<W: Write + Drop>(wtr: &mut Writer<W>, name: &Name) -> Result<(), OutOfMemory>
@@ -113,23 +174,7 @@ fn write_task<W: Write + Drop>(wtr: &mut Writer<W>, name: &Name) -> Result<(), O
         (record_text (task_fields name.now))) }
     ensures between { OnOk result (IsBetween wtr.new) }
 {
-    write_record(
-        wtr,
-        &[
-            b"task",
-            name.bytes(),
-            b"",
-            b"",
-            b"",
-            b"",
-            b"",
-            b"",
-            b"",
-            b"",
-            b"",
-            b"",
-        ],
-    )
+    write_record(wtr, &[b"task", name.bytes()])
 }
 
 fn write_block<W: Write + Drop>(
@@ -153,25 +198,55 @@ fn write_block<W: Write + Drop>(
             name_text(&task),
             kind_name(block.kind).as_bytes(),
             name_text(&object),
-            b"",
-            b"",
-            b"",
-            b"",
-            b"",
-            b"",
-            b"",
         ],
     )
 }
 
-fn write_axes<W: Write + Drop>(wtr: &mut Writer<W>, axes: &[AxisDef]) -> Result<(), OutOfMemory>
+fn write_axes<W: Write + Drop>(
+    wtr: &mut Writer<W>,
+    version: TraceVersion,
+    axes: &[AxisDef],
+) -> Result<(), OutOfMemory>
     requires { IsBetween wtr.old }
     ensures text { OnOk result (Appends (text_written W.contents wtr.old) (text_written W.contents wtr.new)
-        (flat_map (λ d. record_text (axis_fields d)) axes.now)) }
+        (flat_map (λ d. record_text (axis_fields version d)) axes.now)) }
     ensures between { OnOk result (IsBetween wtr.new) }
 {
     for axis in axes {
-        write_axis(wtr, axis)?;
+        write_axis(wtr, version, axis)?;
+    }
+    Ok(())
+}
+
+fn write_groups<W: Write + Drop>(
+    alloc: Global,
+    wtr: &mut Writer<W>,
+    config: &Config,
+    groups: &[GroupDef],
+) -> Result<(), OutOfMemory>
+    requires { IsBetween wtr.old }
+    ensures text { OnOk result (Appends (text_written W.contents wtr.old) (text_written W.contents wtr.new)
+        (flat_map (λ g. record_text (group_fields config.now g)) groups.now)) }
+    ensures between { OnOk result (IsBetween wtr.new) }
+{
+    for group in groups {
+        write_group(alloc, wtr, config, group)?;
+    }
+    Ok(())
+}
+
+fn write_tables<W: Write + Drop>(
+    alloc: Global,
+    wtr: &mut Writer<W>,
+    tables: &[CamTable],
+) -> Result<(), OutOfMemory>
+    requires { IsBetween wtr.old }
+    ensures text { OnOk result (Appends (text_written W.contents wtr.old) (text_written W.contents wtr.new)
+        (flat_map (λ t. record_text (table_fields t)) tables.now)) }
+    ensures between { OnOk result (IsBetween wtr.new) }
+{
+    for table in tables {
+        write_table(alloc, wtr, table)?;
     }
     Ok(())
 }
@@ -204,21 +279,41 @@ fn write_blocks<W: Write + Drop>(
     Ok(())
 }
 
-/// Writes the machine part.
-#[tactic(auto, unfolding(crate::specs::Trace::machine_text))]
-pub fn write_machine<W: Write + Drop>(
+// The items of a machine.
+#[tactic(auto, unfolding(crate::specs::Parts::items_text))]
+fn write_items<W: Write + Drop>(
+    alloc: Global,
     wtr: &mut Writer<W>,
+    version: TraceVersion,
+    config: &Config,
+) -> Result<(), OutOfMemory>
+    requires { IsBetween wtr.old }
+    ensures text { OnOk result (Appends (text_written W.contents wtr.old) (text_written W.contents wtr.new)
+        (items_text version config.now)) }
+    ensures between { OnOk result (IsBetween wtr.new) }
+{
+    write_axes(wtr, version, config.axes())?;
+    write_groups(alloc, wtr, config, config.groups())?;
+    write_tables(alloc, wtr, config.tables())?;
+    write_tasks(wtr, config.tasks())?;
+    write_blocks(wtr, config, config.blocks())
+}
+
+/// Writes the machine part.
+#[tactic(auto, unfolding(crate::specs::Parts::machine_text))]
+pub fn write_machine<W: Write + Drop>(
+    alloc: Global,
+    wtr: &mut Writer<W>,
+    version: TraceVersion,
     command: Command,
     config: &Config,
 ) -> Result<(), OutOfMemory>
     requires { IsBetween wtr.old }
     ensures text { OnOk result (Appends (text_written W.contents wtr.old) (text_written W.contents wtr.new)
-        (machine_text command config.now)) }
+        (machine_text version command config.now)) }
     ensures between { OnOk result (IsBetween wtr.new) }
 {
     write_header(wtr)?;
-    write_room(wtr, command, config)?;
-    write_axes(wtr, config.axes())?;
-    write_tasks(wtr, config.tasks())?;
-    write_blocks(wtr, config, config.blocks())
+    write_room(wtr, version, command, config)?;
+    write_items(alloc, wtr, version, config)
 }

@@ -1,6 +1,6 @@
 // Records of fields, by the crate `csv`, and the names that stand in them.
 
-ghost use Rattle.std.specs.Prelude.{◌≡◌, map, OnOk};
+ghost use Rattle.std.specs.Prelude.{◌≡◌, ◌≤◌, length, map, OnOk};
 ghost use Rattle.std.specs.Io.KnownBytes.{Appends};
 ghost use Rattle.csv.specs.Writing.{text_written};
 ghost use Rattle.trace_text.specs.Between.{IsBetween};
@@ -12,26 +12,41 @@ use csv::Writer;
 use motion_history::{BlockDef, Config, OutOfMemory};
 use std::io::Write;
 
-/// Writes a record.
+/// How many fields a record has.
+pub const FIELDS: usize = 12;
+
+/// Writes a record of these fields; the others are empty.
 #[tactic(auto, unfolding(crate::specs::Records::record_text))]
 pub fn write_record<W: Write + Drop>(
     wtr: &mut Writer<W>,
     fields: &[&[u8]],
 ) -> Result<(), OutOfMemory>
-    requires { IsBetween wtr.old }
+    requires between { IsBetween wtr.old }
+    requires few { length fields.now ≤ FIELDS }
     ensures text { OnOk result (Appends (text_written W.contents wtr.old) (text_written W.contents wtr.new)
         (record_text (map (λ f. f.now) fields.now))) }
     ensures between { OnOk result (IsBetween wtr.new) }
 {
-    match wtr.write_fields(fields) {
+    let all = padded(fields);
+    match wtr.write_fields(&all) {
         Ok(()) => Ok(()),
         Err(_) => Err(OutOfMemory),
     }
 }
 
+// These fields, and empty ones behind them.
+fn padded<'a>(fields: &[&'a [u8]]) -> [&'a [u8]; FIELDS]
+    requires { length fields.now ≤ FIELDS }
+    ensures { map (λ f. f.now) result ≡ spec.padded (map (λ f. f.now) fields.now) }
+{
+    let mut all: [&[u8]; FIELDS] = [b""; FIELDS];
+    all[..fields.len()].copy_from_slice(fields);
+    all
+}
+
 /// The bytes of a name, or none.
 pub fn name_text(name: &Option<Name>) -> &[u8]
-    ensures { result.now ≡ spec.name_text name.now }
+    ensures { result.now ≡ spec.text_or_none name.now }
 {
     match name {
         Some(name) => name.bytes(),
@@ -42,7 +57,7 @@ pub fn name_text(name: &Option<Name>) -> &[u8]
 /// The name of an axis, if it is there.
 #[tactic(auto, unfolding(crate::specs::Records::axis_name))]
 pub fn axis_name(config: &Config, number: usize) -> Option<Name>
-    ensures { spec.name_text result ≡ spec.axis_name config.now number }
+    ensures { spec.text_or_none result ≡ spec.axis_name config.now number }
 {
     match config.axes().get(number) {
         Some(def) => Some(def.name),
@@ -53,7 +68,7 @@ pub fn axis_name(config: &Config, number: usize) -> Option<Name>
 /// The name of a group, if it is there.
 #[tactic(auto, unfolding(crate::specs::Records::group_name))]
 pub fn group_name(config: &Config, number: usize) -> Option<Name>
-    ensures { spec.name_text result ≡ spec.group_name config.now number }
+    ensures { spec.text_or_none result ≡ spec.group_name config.now number }
 {
     match config.groups().get(number) {
         Some(def) => Some(def.name),
@@ -64,7 +79,7 @@ pub fn group_name(config: &Config, number: usize) -> Option<Name>
 /// The name of a task, if it is there.
 #[tactic(auto, unfolding(crate::specs::Records::task_name))]
 pub fn task_name(config: &Config, number: usize) -> Option<Name>
-    ensures { spec.name_text result ≡ spec.task_name config.now number }
+    ensures { spec.text_or_none result ≡ spec.task_name config.now number }
 {
     match config.tasks().get(number) {
         Some(name) => Some(*name),
@@ -72,21 +87,10 @@ pub fn task_name(config: &Config, number: usize) -> Option<Name>
     }
 }
 
-/// The name of a block, if it is there.
-#[tactic(auto, unfolding(crate::specs::Records::block_name))]
-pub fn block_name(config: &Config, number: usize) -> Option<Name>
-    ensures { spec.name_text result ≡ spec.block_name config.now number }
-{
-    match config.blocks().get(number) {
-        Some(def) => Some(def.name),
-        None => None,
-    }
-}
-
 /// The name of what a block acts on, if it is there.
 #[tactic(auto, unfolding(crate::specs::Records::object_name))]
 pub fn object_name(config: &Config, block: &BlockDef) -> Option<Name>
-    ensures { spec.name_text result ≡ spec.object_name config.now block.now }
+    ensures { spec.text_or_none result ≡ spec.object_name config.now block.now }
 {
     if block.kind.acts_on_group() {
         group_name(config, block.object as usize)

@@ -7,7 +7,8 @@ ghost use Rattle.std.specs.Io.KnownBytes.{Appends};
 ghost use Rattle.csv.specs.Writing.{text_written};
 ghost use Rattle.trace_text.specs.Between.{IsBetween};
 ghost use Rattle.trace_text.specs.Writes.{Output, Writes, WritesPiece};
-ghost use Rattle.trace_text.specs.Trace.{IsVersionOne, machine_text, drives_text, entry_text, trace_text};
+ghost use Rattle.trace_text.specs.Parts.{all_text, machine_text, drives_text, entry_text};
+ghost use Rattle.trace_text.specs.Trace.{CanHold, trace_text};
 
 use crate::entries::{write_drives, write_entry};
 use crate::machine::write_machine;
@@ -46,11 +47,16 @@ pub enum TraceFault {
 const PIECE: u64 = 1000;
 
 // The text of the machine part.
-fn machine_piece(alloc: Global, command: Command, config: &Config) -> Result<Vec<u8>, OutOfMemory>
-    ensures { IfOk result (λ v. v.items ≡ machine_text command config.now) }
+fn machine_piece(
+    alloc: Global,
+    version: TraceVersion,
+    command: Command,
+    config: &Config,
+) -> Result<Vec<u8>, OutOfMemory>
+    ensures { IfOk result (λ v. v.items ≡ machine_text version command config.now) }
 {
     let mut wtr = WriterBuilder::new().from_writer(Vec::new(alloc));
-    write_machine(&mut wtr, command, config)?;
+    write_machine(alloc, &mut wtr, version, command, config)?;
     match wtr.into_inner() {
         Ok(text) => Ok(text),
         Err(e) => {
@@ -83,17 +89,18 @@ fn drives_piece(
 fn write_entry_at<W: Write + Drop>(
     alloc: Global,
     wtr: &mut Writer<W>,
+    version: TraceVersion,
     config: &Config,
     history: &History,
     place: u64,
 ) -> Result<(), OutOfMemory>
     requires { IsBetween wtr.old }
     ensures text { OnOk result (Appends (text_written W.contents wtr.old) (text_written W.contents wtr.new)
-        (flat_map (entry_text config.now) (option_to_list (slice_get history.now.entries place)))) }
+        (flat_map (entry_text version config.now) (option_to_list (slice_get history.now.entries place)))) }
     ensures between { OnOk result (IsBetween wtr.new) }
 {
     match history.look(place) {
-        Some(entry) => write_entry(alloc, wtr, config, &entry),
+        Some(entry) => write_entry(alloc, wtr, version, config, &entry),
         None => Ok(()),
     }
 }
@@ -102,6 +109,7 @@ fn write_entry_at<W: Write + Drop>(
 fn write_entries<W: Write + Drop>(
     alloc: Global,
     wtr: &mut Writer<W>,
+    version: TraceVersion,
     config: &Config,
     history: &History,
     from: u64,
@@ -110,11 +118,11 @@ fn write_entries<W: Write + Drop>(
     requires between { IsBetween wtr.old }
     requires fits { from + count < 2 ^ 64 }
     ensures text { OnOk result (Appends (text_written W.contents wtr.old) (text_written W.contents wtr.new)
-        (flat_map (entry_text config.now) (take count (drop from history.now.entries)))) }
+        (flat_map (entry_text version config.now) (take count (drop from history.now.entries)))) }
     ensures between { OnOk result (IsBetween wtr.new) }
 {
     for i in 0..count {
-        write_entry_at(alloc, wtr, config, history, from + i)?;
+        write_entry_at(alloc, wtr, version, config, history, from + i)?;
     }
     Ok(())
 }
@@ -122,16 +130,17 @@ fn write_entries<W: Write + Drop>(
 // The text of so many entries from a place on.
 fn entries_piece(
     alloc: Global,
+    version: TraceVersion,
     config: &Config,
     history: &History,
     from: u64,
     count: u64,
 ) -> Result<Vec<u8>, OutOfMemory>
     requires { from + count < 2 ^ 64 }
-    ensures { IfOk result (λ v. v.items ≡ flat_map (entry_text config.now) (take count (drop from history.now.entries))) }
+    ensures { IfOk result (λ v. v.items ≡ flat_map (entry_text version config.now) (take count (drop from history.now.entries))) }
 {
     let mut wtr = WriterBuilder::new().from_writer(Vec::new(alloc));
-    write_entries(alloc, &mut wtr, config, history, from, count)?;
+    write_entries(alloc, &mut wtr, version, config, history, from, count)?;
     match wtr.into_inner() {
         Ok(text) => Ok(text),
         Err(e) => {
@@ -158,14 +167,15 @@ fn put<K: Sink>(piece: Result<Vec<u8>, OutOfMemory>, out: &mut K) -> Result<(), 
 // Writes the machine part.
 fn put_machine<K: Sink>(
     alloc: Global,
+    version: TraceVersion,
     command: Command,
     config: &Config,
     out: &mut K,
 ) -> Result<(), TraceFault>
     ensures { Writes (record { count = K.count out.old; told = K.told out.old })
-        (record { count = K.count out.new; told = K.told out.new }) (machine_text command config.now) result }
+        (record { count = K.count out.new; told = K.told out.new }) (machine_text version command config.now) result }
 {
-    put(machine_piece(alloc, command, config), out)
+    put(machine_piece(alloc, version, command, config), out)
 }
 
 // Writes what the drives took.
@@ -184,6 +194,7 @@ fn put_drives<K: Sink>(
 // Writes so many entries from a place on.
 fn put_entries<K: Sink>(
     alloc: Global,
+    version: TraceVersion,
     config: &Config,
     history: &History,
     from: u64,
@@ -193,27 +204,31 @@ fn put_entries<K: Sink>(
     requires { from + count < 2 ^ 64 }
     ensures { Writes (record { count = K.count out.old; told = K.told out.old })
         (record { count = K.count out.new; told = K.told out.new })
-        (flat_map (entry_text config.now) (take count (drop from history.now.entries))) result }
+        (flat_map (entry_text version config.now) (take count (drop from history.now.entries))) result }
 {
-    put(entries_piece(alloc, config, history, from, count), out)
+    put(
+        entries_piece(alloc, version, config, history, from, count),
+        out,
+    )
 }
 
 // Writes all entries, a piece at a time.
 fn put_history<K: Sink>(
     alloc: Global,
+    version: TraceVersion,
     config: &Config,
     history: &History,
     out: &mut K,
 ) -> Result<(), TraceFault>
     ensures { Writes (record { count = K.count out.old; told = K.told out.old })
         (record { count = K.count out.new; told = K.told out.new })
-        (flat_map (entry_text config.now) history.now.entries) result }
+        (flat_map (entry_text version config.now) history.now.entries) result }
 {
     let entries = history.entries();
     for piece in 0..entries / PIECE + 1 {
         let from = piece * PIECE;
         let count = (entries - from).min(PIECE);
-        match put_entries(alloc, config, history, from, count, out) {
+        match put_entries(alloc, version, config, history, from, count, out) {
             Ok(()) => {}
             Err(fault) => return Err(fault),
         }
@@ -221,9 +236,35 @@ fn put_history<K: Sink>(
     Ok(())
 }
 
-/// Writes the trace of a history of this configuration and of what its drives took. So far the
-/// version is One, which gives no braking limit: each is the axis's `amax`.
-#[tactic(auto, unfolding(crate::specs::Trace::trace_text))]
+// Writes all parts of the trace.
+fn put_all<K: Sink>(
+    alloc: Global,
+    version: TraceVersion,
+    command: Command,
+    config: &Config,
+    history: &History,
+    drives: &[DriveEndRow],
+    out: &mut K,
+) -> Result<(), TraceFault>
+    ensures { Writes (record { count = K.count out.old; told = K.told out.old })
+        (record { count = K.count out.new; told = K.told out.new })
+        (all_text version command config.now history.now.entries drives.now) result }
+{
+    match put_machine(alloc, version, command, config, out) {
+        Ok(()) => {}
+        Err(fault) => return Err(fault),
+    }
+    match put_history(alloc, version, config, history, out) {
+        Ok(()) => {}
+        Err(fault) => return Err(fault),
+    }
+    put_drives(alloc, config, drives, out)
+}
+
+/// Writes the trace of a history of this configuration and of what its drives took, one item per
+/// axis. Version One gives no braking limit: each is the axis's `amax`. Where the trace isn't written
+/// whole, its first bytes are.
+#[tactic(auto, using(crate::proofs::Texts::trace_parts))]
 pub fn write_trace<K: Sink>(
     alloc: Global,
     version: TraceVersion,
@@ -233,20 +274,11 @@ pub fn write_trace<K: Sink>(
     drives: &[DriveEndRow],
     out: &mut K,
 ) -> Result<(), TraceFault>
-    requires version { version ≡ TraceVersion.One }
-    requires braking { IsVersionOne config.now }
+    requires version { CanHold version config.now }
     requires drives { length drives.now ≡ length config.now.axes }
     ensures { Writes (record { count = K.count out.old; told = K.told out.old })
         (record { count = K.count out.new; told = K.told out.new })
-        (trace_text command config.now history.now.entries drives.now) result }
+        (trace_text version command config.now history.now.entries drives.now) result }
 {
-    match put_machine(alloc, command, config, out) {
-        Ok(()) => {}
-        Err(fault) => return Err(fault),
-    }
-    match put_history(alloc, config, history, out) {
-        Ok(()) => {}
-        Err(fault) => return Err(fault),
-    }
-    put_drives(alloc, config, drives, out)
+    put_all(alloc, version, command, config, history, drives, out)
 }

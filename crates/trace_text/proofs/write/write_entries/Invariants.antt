@@ -3,12 +3,12 @@ use Rattle.std.specs.List.{flat_map}
 use Rattle.std.specs.Io.KnownBytes.{Appends}
 use Rattle.csv.specs.Writing.{text_written}
 use Rattle.trace_text.specs.Between.{IsBetween}
-use Rattle.trace_text.specs.Trace.{entry_text}
+use Rattle.trace_text.specs.Parts.{entry_text}
 use Rattle.trace_text.proofs.write.write_entries.Given as goal
 
 abbrev pub invariant-loop-i : goal.invariant-loop-i
 invariant-loop-i g l = record {
   text : Appends (text_written g.W.Write.contents l.fn.wtr) (text_written g.W.Write.contents l.wtr)
-      (flat_map (entry_text l.config) (take l.i (drop l.from l.history.entries)));
+      (flat_map (entry_text l.version l.config) (take l.i (drop l.from l.history.entries)));
   between : IsBetween l.wtr;
 }
