@@ -3,3 +3,12 @@ pub mod Numbered
 pub mod Joined
 pub mod Padding
 pub mod Writing
+mod Shown
+mod Each
+mod Results
+mod Tables
+mod Positions
+mod SameLists
+mod RowLaws
+mod Eleven
+mod RecordLoop

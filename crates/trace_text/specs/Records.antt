@@ -27,7 +27,8 @@ use Rattle.motion_history.specs.declared.refused.TraceVersion.TheVariants.{One, 
 use Rattle.trace_text.specs.declared.records.TheConstants.{FIELDS}
 use Rattle.trace_text.specs.declared.write.Command.{Command}
 use Rattle.trace_text.specs.declared.write.DriveEndRow.{DriveEndRow}
-use Rattle.trace_text.specs.Fields.{axis_state_text, command_text, drive_state_text, flag_text, group_state_text, hex_text, outputs_text, version_text}
+use Rattle.trace_columns.specs.Fields.{axis_state_text, drive_state_text, flag_text, group_state_text, hex_text, outputs_text}
+use Rattle.trace_text.specs.Words.{command_text, version_text}
 
 -- a record has twelve fields; those that it does not use are empty
 abbrev pub padded : List (List ℕ) → List (List ℕ)

@@ -6,7 +6,7 @@ ghost use Rattle.csv.specs.Writing.{text_written};
 ghost use Rattle.trace_text.specs.Between.{IsBetween};
 ghost use Rattle.trace_text.specs.Records.{block_call_fields, call_fields, record_text};
 
-use crate::fields::{flag_text, number_text, outputs_text, taken_text};
+use crate::fields::{number_text, taken_text};
 use crate::parts::{follow_text, positions_text};
 use crate::records::write_record;
 use csv::Writer;
@@ -15,6 +15,7 @@ use itoa::Buffer;
 use motion_history::{BlockDef, Config, OutOfMemory};
 use std::alloc::Global;
 use std::io::Write;
+use trace_columns::{flag_text, outputs_text};
 
 /// Writes a call of the block of a number.
 #[tactic(auto, unfolding(crate::specs::Records::call_fields_of))]

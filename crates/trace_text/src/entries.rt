@@ -11,7 +11,6 @@ ghost use Rattle.trace_text.specs.Records as spec;
 ghost use Rattle.trace_text.specs.Trace.{numbered, text_of};
 
 use crate::calls::write_call;
-use crate::fields::{axis_state_text, drive_state_text, flag_text, group_state_text, hex_text};
 use crate::records::{axis_name, group_name, name_text, task_name, write_record};
 use crate::write::DriveEndRow;
 use axis_state::{AxisDef, AxisRow};
@@ -21,6 +20,7 @@ use itoa::Buffer;
 use motion_history::{Config, EntryLook, OutOfMemory, TraceVersion};
 use std::alloc::Global;
 use std::io::Write;
+use trace_columns::{axis_state_text, drive_state_text, flag_text, group_state_text, hex_text};
 
 fn write_cycle<W: Write + Drop>(wtr: &mut Writer<W>, number: u32) -> Result<(), OutOfMemory>
     requires { IsBetween wtr.old }

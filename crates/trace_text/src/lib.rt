@@ -1,16 +1,29 @@
 //! Traces: the text of a machine, its history and what its drives took, as records of
-//! comma-separated fields.
+//! comma-separated fields, written and read.
 #![tactic(auto)]
 
+mod call;
 mod calls;
 mod entries;
 mod fields;
+mod found;
+mod head;
+mod item;
+mod kind;
 mod laws;
 mod machine;
+mod name;
 mod parts;
+mod read;
+mod reader;
 mod records;
+mod row;
+mod rule;
+mod trace;
 mod write;
 
 pub use laws::parts_are_beginnings;
-pub use motion_history::{Config, History, OutOfMemory, TraceVersion};
+pub use motion_history::{Config, History, OutOfMemory, TextFault, TextRefused, TraceVersion};
+pub use read::read_trace;
+pub use trace::Trace;
 pub use write::{Command, DriveEndRow, TraceFault, write_trace};

@@ -8,7 +8,7 @@ ghost use Rattle.trace_text.specs.Between.{IsBetween};
 ghost use Rattle.trace_text.specs.Parts.{items_text, machine_text};
 ghost use Rattle.trace_text.specs.Records.{record_text, header_fields, trace_fields, axis_fields, group_fields, table_fields, task_fields, block_fields};
 
-use crate::fields::{command_text, flag_text, version_text};
+use crate::fields::{command_text, version_text};
 use crate::parts::{members_text, points_text};
 use crate::records::{name_text, object_name, task_name, write_record};
 use crate::write::Command;
@@ -20,6 +20,7 @@ use itoa::Buffer;
 use motion_history::{BlockDef, Config, GroupDef, OutOfMemory, TraceVersion};
 use std::alloc::Global;
 use std::io::Write;
+use trace_columns::flag_text;
 
 fn write_header<W: Write + Drop>(wtr: &mut Writer<W>) -> Result<(), OutOfMemory>
     requires { IsBetween wtr.old }

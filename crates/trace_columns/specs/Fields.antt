@@ -7,20 +7,6 @@ use Rattle.cia402_machine.specs.declared.drive.DriveState.TheVariants as drive
 use Rattle.fb_outputs.specs.declared.outputs.Outputs.{Outputs}
 use Rattle.group_state.specs.declared.state.GroupState.{GroupState}
 use Rattle.group_state.specs.declared.state.GroupState.TheVariants as group
-use Rattle.motion_history.specs.declared.refused.TraceVersion.{TraceVersion}
-use Rattle.motion_history.specs.declared.refused.TraceVersion.TheVariants.{One, Two}
-use Rattle.trace_text.specs.declared.write.Command.{Command}
-use Rattle.trace_text.specs.declared.write.Command.TheVariants as command
-
--- the version of a trace. This project's profile
-unfoldable pub version_text : TraceVersion → List ℕ
-version_text One = codes "1"
-version_text Two = codes "2"
-
--- who made a trace. This project's profile
-unfoldable pub command_text : Command → List ℕ
-command_text command.Bench = codes "bench"
-command_text command.Run = codes "run"
 
 -- a truth value is 0 or 1. This project's profile
 unfoldable pub flag_text : Bool → List ℕ

@@ -1,0 +1,18 @@
+//! The columns of a trace: how the values of its fields are spelled, and which value a field spells.
+#![tactic(auto)]
+
+mod fields;
+mod number;
+mod outputs;
+mod state;
+mod word;
+
+pub use fields::{
+    axis_state_text, drive_state_text, flag_text, group_state_text, hex_text, outputs_text,
+};
+pub use number::{
+    halves_of, int_of, number_of, point_of, small_int_of, unsigned_of, wide_number_of, word_of,
+};
+pub use outputs::outputs_of;
+pub use state::{axis_state_of, drive_state_of, group_state_of};
+pub use word::{flag_of, hex_of};

@@ -1,0 +1,125 @@
+// The numbers of a trace, as a writer spells them.
+
+ghost use Rattle.std.specs.Prelude.{◌≡◌, ◌≤◌, ◌<◌, ◌-◌, ◌^◌, ◌≤ℤ◌, pos, neg_ℤ, unsigned_abs, IfSome, length};
+ghost use Rattle.std.specs.Fmt.{signed_decimal};
+ghost use Rattle.std.specs.List.{position};
+ghost use Rattle.std.specs.Option.{option_map};
+ghost use Rattle.std.specs.Str.{bytes_eq};
+ghost use Rattle.trace_columns.specs.Columns as spec;
+
+use itoa::Buffer;
+use motion_numbers::MOST_NUMBER;
+use std::str;
+
+/// The greatest size of a number that is an input or a limit.
+const MOST: i64 = MOST_NUMBER as i64;
+
+/// The number of 64 bits that a field is, in decimal without needless zeros, and without a plus.
+pub fn wide_number_of(text: &[u8]) -> Option<i64>
+    ensures { result ≡ spec.wide_number_of text.now }
+{
+    let Ok(word) = str::from_utf8(text) else {
+        return None;
+    };
+    let Ok(number) = word.parse::<i64>() else {
+        return None;
+    };
+    if is_spelled(number, text) {
+        Some(number)
+    } else {
+        None
+    }
+}
+
+// Whether a text is what is written for a number.
+fn is_spelled(number: i64, text: &[u8]) -> bool
+    ensures { result ≡ bytes_eq (signed_decimal number) text.now }
+{
+    let mut digits = Buffer::new();
+    digits.format(number).as_bytes() == text
+}
+
+// The number that a field is, between two, both included.
+#[tactic(auto, unfolding(crate::specs::Columns::number_of))]
+fn number_between(least: i64, most: i64, text: &[u8]) -> Option<i64>
+    ensures value { result ≡ spec.number_of least most text.now }
+    ensures least { IfSome result (λ z. least ≤ℤ z) }
+    ensures most { IfSome result (λ z. z ≤ℤ most) }
+{
+    let number = wide_number_of(text)?;
+    if least <= number && number <= most {
+        Some(number)
+    } else {
+        None
+    }
+}
+
+/// The number that a field is, at most 10^18 in size.
+pub fn number_of(text: &[u8]) -> Option<i64>
+    ensures value { result ≡ spec.size_limited_of text.now }
+    ensures small { IfSome result (λ z. unsigned_abs z ≤ MOST_NUMBER) }
+{
+    number_between(-MOST, MOST, text)
+}
+
+/// The number that a field is, between two that are not negative, both included.
+#[tactic(auto, unfolding(crate::specs::Columns::unsigned_of))]
+pub fn unsigned_of(least: u32, most: u32, text: &[u8]) -> Option<u32>
+    ensures value { result ≡ spec.unsigned_of least most text.now }
+    ensures most { IfSome result (λ n. n ≤ most) }
+{
+    let number = number_between(i64::from(least), i64::from(most), text)?;
+    Some(number as u32)
+}
+
+/// The number of 32 bits that a field is.
+pub fn int_of(text: &[u8]) -> Option<i32>
+    ensures { result ≡ spec.number_of (neg_ℤ (pos (2 ^ 31))) (pos (2 ^ 31 - 1)) text.now }
+{
+    let number = number_between(i64::from(i32::MIN), i64::from(i32::MAX), text)?;
+    Some(number as i32)
+}
+
+/// The number of 8 bits that a field is.
+pub fn small_int_of(text: &[u8]) -> Option<i8>
+    ensures { result ≡ spec.number_of (neg_ℤ (pos 128)) (pos 127) text.now }
+{
+    let number = number_between(i64::from(i8::MIN), i64::from(i8::MAX), text)?;
+    Some(number as i8)
+}
+
+/// The number of 16 bits that a field is.
+pub fn word_of(text: &[u8]) -> Option<u16>
+    ensures { result ≡ spec.unsigned_of 0 65535 text.now }
+{
+    let number = unsigned_of(0, 65_535, text)?;
+    Some(number as u16)
+}
+
+// Where the first colon stands.
+fn colon_in(text: &[u8]) -> Option<usize>
+    ensures place { result ≡ position spec.is_colon text.now }
+    ensures within { IfSome result (λ place. place < length text.now) }
+{
+    text.iter().position(|b| *b == b':')
+}
+
+/// The parts of a field before its first colon and behind it.
+#[tactic(auto, unfolding(crate::specs::Columns::halves_of))]
+pub fn halves_of(text: &[u8]) -> Option<(&[u8], &[u8])>
+    ensures { option_map (λ h. (h.0.now, h.1.now)) result ≡ spec.halves_of text.now }
+{
+    let colon = colon_in(text)?;
+    Some((&text[..colon], &text[colon + 1..]))
+}
+
+/// The point that a field is: two numbers joined by a colon.
+#[tactic(auto, unfolding(crate::specs::Columns::point_of))]
+pub fn point_of(text: &[u8]) -> Option<(i64, i64)>
+    ensures { result ≡ spec.point_of text.now }
+{
+    let (x, y) = halves_of(text)?;
+    let x = number_of(x)?;
+    let y = number_of(y)?;
+    Some((x, y))
+}

@@ -1,0 +1,73 @@
+// The states of axes, groups and drives, by their names.
+
+ghost use Rattle.std.specs.Prelude.{◌≡◌};
+ghost use Rattle.trace_columns.specs.Columns as spec;
+
+use crate::fields::{axis_state_text, drive_state_text, group_state_text};
+use axis_state::AxisState;
+use cia402_machine::DriveState;
+use group_state::GroupState;
+
+/// The states of an axis.
+const AXIS_STATES: [AxisState; 8] = [
+    AxisState::Disabled,
+    AxisState::Standstill,
+    AxisState::Homing,
+    AxisState::Stopping,
+    AxisState::DiscreteMotion,
+    AxisState::ContinuousMotion,
+    AxisState::SynchronizedMotion,
+    AxisState::ErrorStop,
+];
+
+/// The states of a group.
+const GROUP_STATES: [GroupState; 6] = [
+    GroupState::GroupDisabled,
+    GroupState::GroupStandby,
+    GroupState::GroupMoving,
+    GroupState::GroupHoming,
+    GroupState::GroupStopping,
+    GroupState::GroupErrorStop,
+];
+
+/// The states of a drive.
+const DRIVE_STATES: [DriveState; 8] = [
+    DriveState::NotReady,
+    DriveState::SwitchOnDisabled,
+    DriveState::ReadyToSwitchOn,
+    DriveState::SwitchedOn,
+    DriveState::OperationEnabled,
+    DriveState::QuickStopActive,
+    DriveState::FaultReactionActive,
+    DriveState::Fault,
+];
+
+/// The state of an axis of this name.
+pub fn axis_state_of(name: &[u8]) -> Option<AxisState>
+    ensures { result ≡ spec.axis_state_of name.now }
+{
+    AXIS_STATES
+        .iter()
+        .find(|state| axis_state_text(**state).as_bytes() == name)
+        .copied()
+}
+
+/// The state of a group of this name.
+pub fn group_state_of(name: &[u8]) -> Option<GroupState>
+    ensures { result ≡ spec.group_state_of name.now }
+{
+    GROUP_STATES
+        .iter()
+        .find(|state| group_state_text(**state).as_bytes() == name)
+        .copied()
+}
+
+/// The state of a drive of this name.
+pub fn drive_state_of(name: &[u8]) -> Option<DriveState>
+    ensures { result ≡ spec.drive_state_of name.now }
+{
+    DRIVE_STATES
+        .iter()
+        .find(|state| drive_state_text(**state).as_bytes() == name)
+        .copied()
+}

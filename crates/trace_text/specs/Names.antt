@@ -1,0 +1,30 @@
+-- What the names in a trace name. This project's profile.
+use Rattle.std.specs.Prelude.{ℕ, if◌then◌else◌, Option, Some, None, List}
+use Rattle.std.specs.List.{position}
+use Rattle.std.specs.Str.{bytes_eq}
+use Rattle.axis_state.specs.declared.definition.AxisDef.{AxisDef}
+use Rattle.command_pool.specs.Kinds.{acts_on_group}
+use Rattle.command_pool.specs.declared.kind.BlockKind.{BlockKind}
+use Rattle.motion_history.specs.Setup.{Setup}
+use Rattle.motion_history.specs.declared.config.BlockDef.{BlockDef}
+use Rattle.motion_history.specs.declared.config.GroupDef.{GroupDef}
+
+-- the number of the axis of this name
+unfoldable pub axis_at : Setup → List ℕ → Option ℕ
+axis_at s name = position (λ (d : AxisDef). bytes_eq d.name name) s.axes
+
+-- the number of the group of this name
+unfoldable pub group_at : Setup → List ℕ → Option ℕ
+group_at s name = position (λ (d : GroupDef). bytes_eq d.name name) s.groups
+
+-- the number of the task of this name
+unfoldable pub task_at : Setup → List ℕ → Option ℕ
+task_at s name = position (λ (n : List ℕ). bytes_eq n name) s.tasks
+
+-- the number of the block of this name
+unfoldable pub block_at : Setup → List ℕ → Option ℕ
+block_at s name = position (λ (d : BlockDef). bytes_eq d.name name) s.blocks
+
+-- the number of the axis or group of this name, by what the kind acts on
+abbrev pub object_at : Setup → BlockKind → List ℕ → Option ℕ
+object_at s kind name = if acts_on_group kind then group_at s name else axis_at s name

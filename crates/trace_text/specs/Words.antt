@@ -1,0 +1,16 @@
+-- The words of a trace that no other crate has. This project's profile.
+use Rattle.std.specs.Prelude.{ℕ, List, codes}
+use Rattle.motion_history.specs.declared.refused.TraceVersion.{TraceVersion}
+use Rattle.motion_history.specs.declared.refused.TraceVersion.TheVariants.{One, Two}
+use Rattle.trace_text.specs.declared.write.Command.{Command}
+use Rattle.trace_text.specs.declared.write.Command.TheVariants as command
+
+-- the version of a trace
+unfoldable pub version_text : TraceVersion → List ℕ
+version_text One = codes "1"
+version_text Two = codes "2"
+
+-- who made a trace
+unfoldable pub command_text : Command → List ℕ
+command_text command.Bench = codes "bench"
+command_text command.Run = codes "run"

@@ -1,0 +1,145 @@
+// What is found in a trace: its entries as they stand there.
+
+ghost use Rattle.std.specs.Prelude.{◌≡◌, ◌++◌, ◌∷◌, [], OnOk, IfErr, length};
+ghost use Rattle.std.specs.Option.{option_to_list};
+ghost use Rattle.motion_history.specs.Looks.{told};
+ghost use Rattle.trace_text.specs.TraceState as spec;
+
+use axis_state::AxisRow;
+use fb_outputs::{Inputs, Outputs};
+use group_state::GroupRow;
+use motion_history::{EntryLook, OutOfMemory};
+use std::alloc::Global;
+use std::marker::Model;
+
+/// A cycle, or a part of it. Contracts see it as a `CycleFound`.
+#[derive(Drop)]
+pub struct FoundCycle {
+    number: u32,
+    axes: Vec<AxisRow>,
+    groups: Vec<GroupRow>,
+    places: Vec<i64>,
+}
+
+impl Model for FoundCycle {
+    ghost use Rattle.trace_text.specs.Found.{CycleFound};
+
+    ghost Value = { CycleFound };
+
+    ghost view = { λ c. record {
+      number = c.number;
+      axes = c.axes.items;
+      groups = c.groups.items;
+      places = c.places.items;
+    } };
+}
+
+/// An entry of a trace.
+#[derive(Drop)]
+pub enum FoundEntry {
+    /// A call of a block, by its number.
+    Call {
+        instance: u16,
+        inputs: Inputs,
+        reply: Outputs,
+    },
+    /// A cycle.
+    Cycle(FoundCycle),
+    /// The end of a task, by its number.
+    End {
+        task: u8,
+    },
+}
+
+impl FoundCycle {
+    /// A cycle of this number without rows.
+    pub fn new(alloc: Global, number: u32) -> FoundCycle
+        ensures { result ≡ record { number = number; axes = []; groups = []; places = [] } }
+    {
+        FoundCycle {
+            number,
+            axes: Vec::new(alloc),
+            groups: Vec::new(alloc),
+            places: Vec::new(alloc),
+        }
+    }
+
+    /// How many rows of axes it has.
+    pub fn axes(&self) -> usize
+        ensures { result ≡ length self.now.axes }
+    {
+        self.axes.len()
+    }
+
+    /// How many rows of groups it has.
+    pub fn groups(&self) -> usize
+        ensures { result ≡ length self.now.groups }
+    {
+        self.groups.len()
+    }
+
+    /// Adds the row of an axis, and the place that its drive reported, if it did.
+    pub fn push_row(&mut self, row: AxisRow, place: Option<i64>) -> Result<(), OutOfMemory>
+        ensures { OnOk result (self.new ≡ record self.old {
+          axes = self.old.axes ++ row ∷ [];
+          places = self.old.places ++ option_to_list place;
+        }) }
+    {
+        let Ok(()) = self.axes.push(row) else {
+            return Err(OutOfMemory);
+        };
+        if let Some(place) = place {
+            let Ok(()) = self.places.push(place) else {
+                return Err(OutOfMemory);
+            };
+        }
+        Ok(())
+    }
+
+    /// Adds the row of a group.
+    pub fn push_group(&mut self, row: GroupRow) -> Result<(), OutOfMemory>
+        ensures { OnOk result (self.new ≡ record self.old {
+          groups = self.old.groups ++ row ∷ [];
+        }) }
+    {
+        let Ok(()) = self.groups.push(row) else {
+            return Err(OutOfMemory);
+        };
+        Ok(())
+    }
+}
+
+impl FoundEntry {
+    /// The entry, as it is looked at.
+    pub fn look(&self) -> EntryLook<'_>
+        ensures { told result ≡ spec.entry_of self.now }
+    {
+        match self {
+            FoundEntry::Call {
+                instance,
+                inputs,
+                reply,
+            } => EntryLook::Call {
+                instance: *instance,
+                inputs,
+                reply,
+            },
+            FoundEntry::Cycle(cycle) => EntryLook::Cycle {
+                number: cycle.number,
+                axes: cycle.axes.as_slice(),
+                groups: cycle.groups.as_slice(),
+            },
+            FoundEntry::End { task } => EntryLook::End { task: *task },
+        }
+    }
+
+    /// The places that the drives reported in it.
+    pub fn places(&self) -> &[i64]
+        ensures { result.now ≡ spec.places_of self.now }
+    {
+        match self {
+            FoundEntry::Cycle(cycle) => cycle.places.as_slice(),
+            _ => &[],
+        }
+    }
+}

@@ -1,0 +1,349 @@
+// A trace as far as it was read, and how its records lead it on.
+
+ghost use Rattle.std.specs.Prelude.{◌≡◌, ℕ, Ok, Result};
+ghost use Rattle.line_text.specs.Reading.{Gives, Takes};
+ghost use Rattle.line_text.specs.Texts.{texts};
+ghost use Rattle.trace_text.specs.Calls as calls;
+ghost use Rattle.trace_text.specs.Kinds as kinds;
+ghost use Rattle.trace_text.specs.Reading as spec;
+ghost use Rattle.trace_text.specs.SoFar.{SoFar};
+ghost use Rattle.trace_text.specs.declared.found.FoundEntry.{FoundEntry};
+
+use crate::call::{call_of, cycle_of, end_of};
+use crate::found::{FoundCycle, FoundEntry};
+use crate::head::{command_of, is_header, version_of};
+use crate::item::{add_axis, add_block, add_group, add_table, add_task, set_room, whole};
+use crate::kind::{Kind, Stage, is_stage, kind_of, rank_of};
+use crate::row::{drive_of, grow_of, row_of};
+use crate::rule::{NO_HEADER, NOT_TWELVE, OUT_OF_PLACE, broken_unless, value};
+use crate::write::{Command, DriveEndRow};
+use line_text::{LineFault, says};
+use motion_history::{Builder, TraceVersion};
+use std::alloc::Global;
+use std::marker::Model;
+use std::mem;
+
+/// A trace as far as it was read. Contracts see it as a `SoFar`.
+#[derive(Drop)]
+pub struct TraceReader {
+    pub(crate) alloc: Global,
+    pub(crate) stage: Stage,
+    pub(crate) last: Kind,
+    pub(crate) version: TraceVersion,
+    pub(crate) command: Command,
+    pub(crate) machine: Builder,
+    pub(crate) cycle: FoundCycle,
+    pub(crate) found: Vec<FoundEntry>,
+    pub(crate) drives: Vec<DriveEndRow>,
+}
+
+impl Model for TraceReader {
+    ghost use Rattle.trace_text.specs.SoFar.{SoFar};
+
+    ghost Value = { SoFar };
+
+    ghost view = { λ r. record {
+      stage = r.stage;
+      last = r.last;
+      version = r.version;
+      command = r.command;
+      setup = r.machine;
+      cycle = r.cycle;
+      found = r.found.items;
+      drives = r.drives.items;
+    } };
+}
+
+impl TraceReader {
+    /// Takes the twelve fields of a record. Where a rule is broken or memory runs out, the reader is
+    /// given up.
+    #[tactic(auto, unfolding(crate::specs::Reading::twelve_meaning))]
+    pub fn read_fields(&mut self, fields: &[&[u8]]) -> Result<(), LineFault>
+        ensures { Takes (spec.twelve_meaning self.old (texts fields.now)) self.new result }
+    {
+        if is_stage(self.stage, Stage::Header) {
+            self.read_header(fields)
+        } else if is_stage(self.stage, Stage::Room) {
+            self.read_room(fields)
+        } else {
+            self.read_later(fields)
+        }
+    }
+
+    // Takes the header.
+    #[tactic(auto, unfolding(crate::specs::Reading::header_meaning))]
+    fn read_header(&mut self, fields: &[&[u8]]) -> Result<(), LineFault>
+        ensures { Takes (spec.header_meaning self.old (texts fields.now)) self.new result }
+    {
+        broken_unless(is_header(fields), NO_HEADER)?;
+        self.stage = Stage::Room;
+        Ok(())
+    }
+
+    // Takes the record that gives the version and the room.
+    #[tactic(auto, unfolding(crate::specs::Reading::trace_meaning))]
+    fn read_room(&mut self, fields: &[&[u8]]) -> Result<(), LineFault>
+        ensures { Takes (spec.trace_meaning self.old (texts fields.now)) self.new result }
+    {
+        let [first, version, made_by, room @ ..] = fields else {
+            return Err(LineFault::Rule(NO_HEADER));
+        };
+        broken_unless(says(first, b"trace"), NO_HEADER)?;
+        let Some(version) = version_of(version) else {
+            return Err(LineFault::Rule(NO_HEADER));
+        };
+        let command = value(command_of(made_by))?;
+        set_room(&mut self.machine, room)?;
+        self.stage = Stage::Machine;
+        self.version = version;
+        self.command = command;
+        Ok(())
+    }
+
+    // Takes a record behind the second.
+    #[tactic(auto, unfolding(crate::specs::Reading::later_meaning))]
+    fn read_later(&mut self, fields: &[&[u8]]) -> Result<(), LineFault>
+        ensures { Takes (spec.later_meaning self.old (texts fields.now)) self.new result }
+    {
+        let [first, fields @ ..] = fields else {
+            return Err(LineFault::Rule(NOT_TWELVE));
+        };
+        let Some(kind) = kind_of(first) else {
+            return Err(LineFault::Rule(OUT_OF_PLACE));
+        };
+        broken_unless(self.is_here(kind), OUT_OF_PLACE)?;
+        self.read_kind(kind, fields)
+    }
+
+    // Whether a record of a kind may stand here.
+    #[tactic(auto, unfolding(crate::specs::Kinds::is_here))]
+    fn is_here(&self, kind: Kind) -> bool
+        ensures { result ≡ kinds.is_here self.now kind }
+    {
+        match kind {
+            Kind::Axis | Kind::Group | Kind::Table | Kind::Task | Kind::Block => {
+                self.is_item_here(kind)
+            }
+            Kind::Call | Kind::Cycle | Kind::End => self.is_entry_here(),
+            Kind::Row => self.is_row_here(),
+            Kind::Grow => self.is_group_row_here(),
+            Kind::Drive => self.is_drive_here(),
+        }
+    }
+
+    // Whether an item of a kind may stand here.
+    fn is_item_here(&self, kind: Kind) -> bool
+        ensures { result ≡ kinds.is_item_here self.now kind }
+    {
+        is_stage(self.stage, Stage::Machine) && rank_of(self.last) <= rank_of(kind)
+    }
+
+    // Whether an entry may begin here.
+    fn is_entry_here(&self) -> bool
+        ensures { result ≡ kinds.is_entry_here self.now }
+    {
+        is_stage(self.stage, Stage::Machine) || is_stage(self.stage, Stage::Entries)
+    }
+
+    // Whether a row of an axis may stand here.
+    #[tactic(auto, unfolding(crate::specs::Kinds::is_here))]
+    fn is_row_here(&self) -> bool
+        ensures { result ≡ kinds.is_here self.now Kind.Row }
+    {
+        is_stage(self.stage, Stage::Rows) && self.cycle.axes() < self.machine.axes().len()
+    }
+
+    // Whether a row of a group may stand here.
+    #[tactic(auto, unfolding(crate::specs::Kinds::is_here))]
+    fn is_group_row_here(&self) -> bool
+        ensures { result ≡ kinds.is_here self.now Kind.Grow }
+    {
+        is_stage(self.stage, Stage::Rows) && self.machine.axes().len() <= self.cycle.axes()
+    }
+
+    // Whether what a drive took may stand here.
+    #[tactic(auto, unfolding(crate::specs::Kinds::is_here))]
+    fn is_drive_here(&self) -> bool
+        ensures { result ≡ kinds.is_here self.now Kind.Drive }
+    {
+        (self.is_entry_here() || is_stage(self.stage, Stage::Drives))
+            && self.drives.len() < self.machine.axes().len()
+    }
+
+    // Takes the fields behind the kind.
+    #[tactic(auto, unfolding(crate::specs::Reading::fields_meaning))]
+    fn read_kind(&mut self, kind: Kind, fields: &[&[u8]]) -> Result<(), LineFault>
+        ensures { Takes (spec.fields_meaning self.old kind (texts fields.now)) self.new result }
+    {
+        match kind {
+            Kind::Axis => self.read_axis(fields),
+            Kind::Group => self.read_group(fields),
+            Kind::Table => self.read_table(fields),
+            Kind::Task => self.read_task(fields),
+            Kind::Block => self.read_block(fields),
+            Kind::Call => self.read_call(fields),
+            Kind::Cycle => self.read_cycle(fields),
+            Kind::Row => self.read_row(fields),
+            Kind::Grow => self.read_group_row(fields),
+            Kind::End => self.read_end(fields),
+            Kind::Drive => self.read_drive(fields),
+        }
+    }
+
+    // Takes an axis.
+    #[tactic(auto, unfolding(crate::specs::Reading::fields_meaning))]
+    fn read_axis(&mut self, fields: &[&[u8]]) -> Result<(), LineFault>
+        ensures { Takes (spec.fields_meaning self.old Kind.Axis (texts fields.now)) self.new result }
+    {
+        add_axis(&mut self.machine, self.version, fields)?;
+        self.last = Kind::Axis;
+        Ok(())
+    }
+
+    // Takes a group.
+    #[tactic(auto, unfolding(crate::specs::Reading::fields_meaning))]
+    fn read_group(&mut self, fields: &[&[u8]]) -> Result<(), LineFault>
+        ensures { Takes (spec.fields_meaning self.old Kind.Group (texts fields.now)) self.new result }
+    {
+        add_group(self.alloc, &mut self.machine, fields)?;
+        self.last = Kind::Group;
+        Ok(())
+    }
+
+    // Takes a cam table.
+    #[tactic(auto, unfolding(crate::specs::Reading::fields_meaning))]
+    fn read_table(&mut self, fields: &[&[u8]]) -> Result<(), LineFault>
+        ensures { Takes (spec.fields_meaning self.old Kind.Table (texts fields.now)) self.new result }
+    {
+        add_table(self.alloc, &mut self.machine, fields)?;
+        self.last = Kind::Table;
+        Ok(())
+    }
+
+    // Takes a task.
+    #[tactic(auto, unfolding(crate::specs::Reading::fields_meaning))]
+    fn read_task(&mut self, fields: &[&[u8]]) -> Result<(), LineFault>
+        ensures { Takes (spec.fields_meaning self.old Kind.Task (texts fields.now)) self.new result }
+    {
+        add_task(&mut self.machine, fields)?;
+        self.last = Kind::Task;
+        Ok(())
+    }
+
+    // Takes a block.
+    #[tactic(auto, unfolding(crate::specs::Reading::fields_meaning))]
+    fn read_block(&mut self, fields: &[&[u8]]) -> Result<(), LineFault>
+        ensures { Takes (spec.fields_meaning self.old Kind.Block (texts fields.now)) self.new result }
+    {
+        add_block(&mut self.machine, fields)?;
+        self.last = Kind::Block;
+        Ok(())
+    }
+
+    // Takes a call.
+    fn read_call(&mut self, fields: &[&[u8]]) -> Result<(), LineFault>
+        ensures { Takes (spec.with_entry self.old
+            (calls.call_meaning self.old.setup (texts fields.now))) self.new result }
+    {
+        let entry = call_of(self.alloc, &self.machine, fields);
+        self.push(entry)
+    }
+
+    // Takes the end of a task.
+    fn read_end(&mut self, fields: &[&[u8]]) -> Result<(), LineFault>
+        ensures { Takes (spec.with_entry self.old
+            (calls.end_meaning self.old.setup (texts fields.now))) self.new result }
+    {
+        let entry = end_of(&self.machine, fields);
+        self.push(entry)
+    }
+
+    // Takes an entry.
+    fn push(&mut self, entry: Result<FoundEntry, LineFault>) -> Result<(), LineFault>
+        ensures { (read : Result FoundEntry ℕ) → Gives (λ e. e) read entry →
+            Takes (spec.with_entry self.old read) self.new result }
+    {
+        let entry = entry?;
+        whole(&self.machine)?;
+        let Ok(()) = self.found.push(entry) else {
+            return Err(LineFault::OutOfMemory);
+        };
+        self.stage = Stage::Entries;
+        Ok(())
+    }
+
+    // Takes the beginning of a cycle.
+    #[tactic(auto, unfolding(crate::specs::Reading::fields_meaning, crate::specs::Reading::with_cycle))]
+    fn read_cycle(&mut self, fields: &[&[u8]]) -> Result<(), LineFault>
+        ensures { Takes (spec.fields_meaning self.old Kind.Cycle (texts fields.now)) self.new result }
+    {
+        let number = cycle_of(fields)?;
+        whole(&self.machine)?;
+        self.stage = Stage::Rows;
+        self.cycle = FoundCycle::new(self.alloc, number);
+        Ok(())
+    }
+
+    // Takes the row of the next axis.
+    #[tactic(auto, unfolding(crate::specs::Reading::rows_meaning))]
+    fn read_row(&mut self, fields: &[&[u8]]) -> Result<(), LineFault>
+        ensures { Takes (spec.rows_meaning self.old (texts fields.now)) self.new result }
+    {
+        let (row, place) = row_of(self.version, &self.machine, self.cycle.axes(), fields)?;
+        let Ok(()) = self.cycle.push_row(row, place) else {
+            return Err(LineFault::OutOfMemory);
+        };
+        self.end_cycle()
+    }
+
+    // Takes the row of the next group.
+    #[tactic(auto, unfolding(crate::specs::Reading::grows_meaning))]
+    fn read_group_row(&mut self, fields: &[&[u8]]) -> Result<(), LineFault>
+        ensures { Takes (spec.grows_meaning self.old (texts fields.now)) self.new result }
+    {
+        let row = grow_of(&self.machine, self.cycle.groups(), fields)?;
+        let Ok(()) = self.cycle.push_group(row) else {
+            return Err(LineFault::OutOfMemory);
+        };
+        self.end_cycle()
+    }
+
+    // Whether the cycle has a row for each axis and each group.
+    fn is_whole_cycle(&self) -> bool
+        ensures { result ≡ spec.is_whole_cycle self.now.setup self.now.cycle }
+    {
+        self.machine.axes().len() <= self.cycle.axes()
+            && self.machine.groups().len() <= self.cycle.groups()
+    }
+
+    // Makes an entry of the cycle where it is whole.
+    #[tactic(auto, unfolding(crate::specs::Reading::cycle_after))]
+    fn end_cycle(&mut self) -> Result<(), LineFault>
+        ensures { (s : SoFar) → record s { cycle = self.old.cycle } ≡ self.old →
+            Takes (Ok (spec.cycle_after s self.old.cycle)) self.new result }
+    {
+        if !self.is_whole_cycle() {
+            return Ok(());
+        }
+        let cycle = mem::replace(&mut self.cycle, FoundCycle::new(self.alloc, 0));
+        let Ok(()) = self.found.push(FoundEntry::Cycle(cycle)) else {
+            return Err(LineFault::OutOfMemory);
+        };
+        self.stage = Stage::Entries;
+        Ok(())
+    }
+
+    // Takes what the next drive took.
+    #[tactic(auto, unfolding(crate::specs::Reading::fields_meaning, crate::specs::Reading::drives_meaning))]
+    fn read_drive(&mut self, fields: &[&[u8]]) -> Result<(), LineFault>
+        ensures { Takes (spec.fields_meaning self.old Kind.Drive (texts fields.now)) self.new result }
+    {
+        let drive = drive_of(&self.machine, self.drives.len(), fields)?;
+        whole(&self.machine)?;
+        let Ok(()) = self.drives.push(drive) else {
+            return Err(LineFault::OutOfMemory);
+        };
+        self.stage = Stage::Drives;
+        Ok(())
+    }
+}
