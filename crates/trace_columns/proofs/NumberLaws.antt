@@ -23,11 +23,11 @@ wide-fits z e =
     let p = and_parts (int_le (neg_ℤ (pos (2 ^ 63))) z) (int_le z (pos (2 ^ 63 - 1))) e in
     omega (arith, ints, p.0, p.1)
 
-unless_false : (b : Bool) → (b ≡ false → ⊥) → b ≡ true
+pub unless_false : (b : Bool) → (b ≡ false → ⊥) → b ≡ true
 unless_false true n = refl
 unless_false false n = absurd (n refl)
 
-both-hold : (a b : Bool) → a ≡ true → b ≡ true → (a && b) ≡ true
+pub both-hold : (a b : Bool) → a ≡ true → b ≡ true → (a && b) ≡ true
 both-hold a b p q = rw (p, q) refl
 
 pub fits-wide : (z : ℤ) → FitsSigned w64 z → is_wide z ≡ true

@@ -2,6 +2,7 @@
 #![tactic(auto)]
 
 mod fields;
+mod laws;
 mod number;
 mod outputs;
 mod state;
@@ -10,6 +11,7 @@ mod word;
 pub use fields::{
     axis_state_text, drive_state_text, flag_text, group_state_text, hex_text, outputs_text,
 };
+pub use laws::columns_are_read_back;
 pub use number::{
     halves_of, int_of, number_of, point_of, small_int_of, unsigned_of, wide_number_of, word_of,
 };

@@ -19,6 +19,8 @@ mod reader;
 mod records;
 mod row;
 mod rule;
+#[cfg(test)]
+mod tests;
 mod trace;
 mod write;
 

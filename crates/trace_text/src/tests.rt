@@ -1,0 +1,51 @@
+// Traces: what is read of them and written again, and where and by which rule others are refused.
+
+use crate::read_trace;
+use motion_history::TextFault;
+use std::alloc::{AllocError, Global};
+
+mod readings;
+mod refusals;
+
+/// A move of the axis X from 0 to 20.
+const ONE_MOVE: &[u8] = b"kind,a,b,c,d,e,f,g,h,i,j,k
+trace,1,bench,20,40,,,,,,,
+axis,X,0,50,10,4,1,0,1,,,
+task,main,,,,,,,,,,
+block,M,main,MoveAbsolute,X,,,,,,,
+call,M,1,20,6,2,2,0,aborting,,BA,0
+cycle,1,,,,,,,,,,
+row,X,0037,0,8,DiscreteMotion,0,1,2,000f,2,
+cycle,2,,,,,,,,,,
+row,X,0037,2,8,DiscreteMotion,0,1,6,000f,6,
+cycle,3,,,,,,,,,,
+row,X,0037,6,8,DiscreteMotion,0,1,12,000f,12,
+cycle,4,,,,,,,,,,
+row,X,0037,12,8,DiscreteMotion,0,1,16,000f,16,
+cycle,5,,,,,,,,,,
+row,X,0037,16,8,DiscreteMotion,0,1,19,000f,19,
+cycle,6,,,,,,,,,,
+row,X,0037,19,8,DiscreteMotion,0,1,20,000f,20,
+cycle,7,,,,,,,,,,
+row,X,0037,20,8,Standstill,0,1,20,000f,20,
+call,M,1,0,0,0,0,0,aborting,,D,0
+end,main,,,,,,,,,,
+drive,X,7,OperationEnabled,20,,,,,,,
+";
+
+// These texts, one behind the other.
+fn joined(alloc: Global, texts: &[&[u8]]) -> Result<Vec<u8>, AllocError> {
+    let mut all = Vec::new(alloc);
+    for text in texts {
+        all.extend_from_slice(text)?;
+    }
+    Ok(all)
+}
+
+// The record at which a text is refused, and the number of the rule.
+fn refusal(alloc: Global, text: &[u8]) -> Option<(u64, u8)> {
+    match read_trace(alloc, text) {
+        Err(TextFault::Refused(refused)) => Some((refused.place, refused.rule.number)),
+        _ => None,
+    }
+}
