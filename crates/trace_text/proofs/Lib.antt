@@ -3,6 +3,7 @@ pub mod Numbered
 pub mod Joined
 pub mod Padding
 pub mod Writing
+pub mod RecordLaws
 mod Shown
 mod Each
 mod Results

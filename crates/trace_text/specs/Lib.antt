@@ -16,3 +16,4 @@ pub mod Calls
 pub mod RowFields
 pub mod Rows
 pub mod Reading
+pub mod ReadBack

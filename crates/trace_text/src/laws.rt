@@ -1,7 +1,8 @@
-// Laws of what a writer of a text did: each is the contract of a function that does nothing.
+// Laws of traces that were written: each is the contract of a function that does nothing.
 
 ghost use Rattle.std.specs.Prelude.{List, ℕ, Option};
 ghost use Rattle.outside.specs.Told.{AppendsPart};
+ghost use Rattle.trace_text.specs.ReadBack.{RecordsAreReadBack, TextsTellRecords};
 ghost use Rattle.trace_text.specs.Writes.{WritesPrefix};
 
 /// Nothing of a text is a beginning of it, and so is a part of it that was taken. Nothing runs.
@@ -9,4 +10,11 @@ pub fn parts_are_beginnings()
     ensures none { (told : Option (List ℕ)) (text : List ℕ) → WritesPrefix told told text }
     ensures part { (old new : Option (List ℕ)) (text : List ℕ) →
         AppendsPart old new text → WritesPrefix old new text }
+{}
+
+/// The records of a trace's text are those of which it was made, field by field; so texts that are
+/// the same have the same records. Nothing runs.
+pub fn records_are_read_back()
+    ensures records { RecordsAreReadBack }
+    ensures told { TextsTellRecords }
 {}
