@@ -4,6 +4,7 @@ pub mod Joined
 pub mod Padding
 pub mod Writing
 pub mod RecordLaws
+pub mod EntryLaws
 mod Shown
 mod Each
 mod Results

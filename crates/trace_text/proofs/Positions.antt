@@ -1,7 +1,6 @@
 -- Positions, and the zeros behind them.
 use Rattle.std.proofs.Common.{◌≡◌, ℕ, zero, suc, ◌-◌, ◌≤◌, ℤ, List, [], ◌∷◌, ◌++◌, length, drop, Ok, refl, sym, ap, arith}
 use Rattle.std.specs.Prelude.{pos, ◌==◌, replicate}
-use Rattle.std.specs.List.{slice_split}
 use Rattle.std.proofs.lemmas.Bool.{eqb-true}
 use Rattle.line_text.specs.Reading.{each_of}
 use Rattle.trace_text.specs.Calls.{joined_positions}

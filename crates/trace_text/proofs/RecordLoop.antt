@@ -1,11 +1,9 @@
 -- Records that are taken one after another, as the loop does.
-use Rattle.std.specs.Prelude.{◌≡◌, refl, ℕ, suc, ◌+◌, Bool, true, false, Result, Ok, Err, List, [], ◌∷◌, length}
+use Rattle.std.specs.Prelude.{◌≡◌, refl, ℕ, ◌+◌, Bool, true, false, Ok, Err, List, [], ◌∷◌, length}
 use Rattle.std.specs.Borrow.{Bor}
-use Rattle.std.proofs.Common.{◌∙◌, sym, ap, arith}
+use Rattle.std.proofs.Common.{◌∙◌, sym, arith}
 use Rattle.csv.specs.declared.reader.Reader.{Reader}
 use Rattle.csv_records.specs.Records.{IsReading, TakesNext, slice_left}
-use Rattle.line_text.specs.Reading.{◌>>=◌, at_line}
-use Rattle.line_text.specs.declared.reader.LineRefused.{LineRefused}
 use Rattle.trace_text.specs.Reading.{meaning, records_meaning}
 use Rattle.trace_text.specs.SoFar.{SoFar}
 

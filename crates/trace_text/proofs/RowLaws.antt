@@ -1,7 +1,7 @@
 -- A row that is added to the cycle under way.
-use Rattle.std.specs.Prelude.{◌≡◌, refl, ℕ, ℤ, Option, Result, Ok, List, [], ◌∷◌, ◌++◌, length}
+use Rattle.std.specs.Prelude.{◌≡◌, ℕ, ℤ, Option, Result, Ok, List, [], ◌∷◌, ◌++◌, length}
 use Rattle.std.specs.Option.{option_to_list}
-use Rattle.std.proofs.Common.{subst, sym}
+use Rattle.std.proofs.Common.{subst}
 use Rattle.axis_state.specs.declared.definition.AxisRow.{AxisRow}
 use Rattle.group_state.specs.declared.state.GroupRow.{GroupRow}
 use Rattle.line_text.specs.Reading.{Takes}

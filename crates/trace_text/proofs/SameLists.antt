@@ -1,5 +1,5 @@
 -- Lists of texts that are compared.
-use Rattle.std.proofs.Common.{◌≡◌, ℕ, suc, ◌+◌, ◌<◌, Bool, true, false, List, [], ◌∷◌, Bor, length, get_or, drop, refl, sym, ap, subst, ◌∙◌, add-one, arith, inl, inr}
+use Rattle.std.proofs.Common.{◌≡◌, ℕ, suc, ◌+◌, ◌<◌, true, false, List, [], ◌∷◌, Bor, length, get_or, drop, refl, ap, add-one, inl, inr}
 use Rattle.std.proofs.lemmas.Bool.{cases_Bool}
 use Rattle.line_text.specs.Texts.{says, texts}
 use Rattle.trace_text.specs.Reading.{are_same}

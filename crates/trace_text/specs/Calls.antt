@@ -1,6 +1,6 @@
 -- The entries of a trace, read from its records: each is the fields behind its kind. This project's
 -- profile.
-use Rattle.std.specs.Prelude.{ℕ, ℤ, pos, ◌-◌, ◌^◌, ◌==◌, Bool, if◌then◌else◌, unsigned_abs, Option, Some, None, Result, Ok, Err, List, [], ◌∷◌, ◌++◌, length, replicate, slice_get}
+use Rattle.std.specs.Prelude.{ℕ, ℤ, pos, ◌-◌, ◌^◌, ◌==◌, if◌then◌else◌, Result, Ok, Err, List, [], ◌∷◌, ◌++◌, length, replicate, slice_get}
 use Rattle.command_pool.specs.declared.kind.BlockKind.{BlockKind}
 use Rattle.command_pool.specs.declared.kind.BlockKind.TheVariants.{GearIn, CamIn}
 use Rattle.command_pool.specs.declared.kind.BufferMode.{BufferMode}
@@ -16,7 +16,7 @@ use Rattle.motion_history.specs.Calls.{axes_of}
 use Rattle.motion_history.specs.Setup.{Setup}
 use Rattle.motion_history.specs.declared.config.BlockDef.{BlockDef}
 use Rattle.motion_history.specs.declared.sizes.TheConstants.{MOST_MEMBERS}
-use Rattle.trace_columns.specs.Columns.{flag_of, halves_of, outputs_of, size_limited_of, unsigned_of}
+use Rattle.trace_columns.specs.Columns.{flag_of, halves_of, outputs_of, unsigned_of}
 use Rattle.trace_text.specs.Items.{axis_named, number, parts_of}
 use Rattle.trace_text.specs.Names.{block_at, task_at}
 use Rattle.trace_text.specs.Rules.{are_empty, broken_unless, is_empty, value}

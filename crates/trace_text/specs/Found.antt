@@ -1,5 +1,5 @@
 -- What is found in a trace. This project's profile.
-use Rattle.std.specs.Prelude.{ℕ, ℤ, List, [], map}
+use Rattle.std.specs.Prelude.{ℕ, ℤ, List}
 use Rattle.axis_state.specs.declared.definition.AxisRow.{AxisRow}
 use Rattle.group_state.specs.declared.state.GroupRow.{GroupRow}
 

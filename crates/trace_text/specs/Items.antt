@@ -1,6 +1,6 @@
 -- The items of a machine, read from the records of a trace: each is the fields behind its kind.
 -- This project's profile.
-use Rattle.std.specs.Prelude.{ℕ, ℤ, pos, ◌==◌, int_le, Bool, not, ◌&&◌, ◌||◌, nat_le, is_some, if◌then◌else◌, codes, unsigned_abs, Option, Some, None, Result, Ok, Err, List, [], ◌∷◌, ◌++◌, length}
+use Rattle.std.specs.Prelude.{ℕ, ℤ, pos, ◌==◌, int_le, Bool, not, ◌&&◌, ◌||◌, nat_le, is_some, if◌then◌else◌, unsigned_abs, Result, Ok, Err, List, [], ◌∷◌, ◌++◌, length}
 use Rattle.std.specs.List.{slice_split}
 use Rattle.std.specs.Option.{ok_or}
 use Rattle.axis_state.specs.Names.{is_name}
@@ -8,7 +8,6 @@ use Rattle.cam_table.specs.CamTable.{is_cam_table}
 use Rattle.fb_outputs.specs.Names.{kind_named}
 use Rattle.kin_core.specs.declared.limits.Limits.{Limits}
 use Rattle.line_text.specs.Reading.{◌>>=◌, each_of}
-use Rattle.line_text.specs.Texts.{says}
 use Rattle.motion_history.specs.Faults.{axis_fault, block_fault, group_fault, task_fault, whole_fault}
 use Rattle.motion_history.specs.Members.{group_of}
 use Rattle.motion_history.specs.Setup.{Setup}

@@ -16,4 +16,5 @@ pub mod Calls
 pub mod RowFields
 pub mod Rows
 pub mod Reading
+pub mod RowRanges
 pub mod ReadBack

@@ -1,5 +1,5 @@
 -- What the names in a trace name. This project's profile.
-use Rattle.std.specs.Prelude.{ℕ, if◌then◌else◌, Option, Some, None, List}
+use Rattle.std.specs.Prelude.{ℕ, if◌then◌else◌, Option, List}
 use Rattle.std.specs.List.{position}
 use Rattle.std.specs.Str.{bytes_eq}
 use Rattle.axis_state.specs.declared.definition.AxisDef.{AxisDef}

@@ -1,11 +1,16 @@
 -- What is read of a trace that was written. This project's profile.
-use Rattle.std.specs.Prelude.{◌≡◌, List, map}
+use Rattle.std.specs.Prelude.{◌≡◌, ◌≤◌, ◌-◌, ◌^◌, ℕ, Ok, Some, List, drop, map, slice_get}
+use Rattle.axis_state.specs.declared.definition.AxisDef.{AxisDef}
+use Rattle.axis_state.specs.declared.definition.AxisRow.{AxisRow}
+use Rattle.group_state.specs.declared.state.GroupRow.{GroupRow}
 use Rattle.csv_records.specs.Records.{records_of}
 use Rattle.motion_history.specs.Entries.{Entry}
 use Rattle.motion_history.specs.Setup.{Setup}
 use Rattle.motion_history.specs.declared.refused.TraceVersion.{TraceVersion}
-use Rattle.trace_text.specs.Reading.{reading_of, refused_by, trace_of}
-use Rattle.trace_text.specs.Records.{padded}
+use Rattle.trace_text.specs.Calls.{cycle_meaning}
+use Rattle.trace_text.specs.Records.{cycle_fields, drive_fields, grow_fields, padded, row_fields}
+use Rattle.trace_text.specs.RowRanges.{IsDriveEnd, IsGroupRow, IsReported, IsRow, found_place, found_row}
+use Rattle.trace_text.specs.Rows.{drive_meaning, grow_meaning, row_meaning}
 use Rattle.trace_text.specs.Trace.{trace_records, trace_text}
 use Rattle.trace_text.specs.declared.write.Command.{Command}
 use Rattle.trace_text.specs.declared.write.DriveEndRow.{DriveEndRow}
@@ -20,3 +25,16 @@ abbrev pub TextsTellRecords : Type 0
 TextsTellRecords = (v : TraceVersion) (c : Command) (s : Setup) (es others : List Entry) (ds : List DriveEndRow) →
     trace_text v c s es ds ≡ trace_text v c s others ds →
     map padded (trace_records v c s es ds) ≡ map padded (trace_records v c s others ds)
+
+-- the records of cycles, of their rows and of what the drives took are read as what was written, each
+-- row without its offset, in both versions
+pub record AreRowsReadBack : Type 0 where
+  pub cycles : (n : ℕ) → 1 ≤ n → n ≤ 2 ^ 32 - 1 →
+      cycle_meaning (drop 1 (padded (cycle_fields n))) ≡ Ok n
+  pub rows : (v : TraceVersion) (s : Setup) (n : ℕ) (d : AxisDef) (r : AxisRow) →
+      slice_get s.axes n ≡ Some d → IsRow r → IsReported d r →
+      row_meaning v s n (drop 1 (padded (row_fields v s n r))) ≡ Ok (found_row r, found_place v d r)
+  pub groups : (s : Setup) (n : ℕ) (r : GroupRow) → IsGroupRow r →
+      grow_meaning s n (drop 1 (padded (grow_fields s n r))) ≡ Ok r
+  pub drives : (s : Setup) (n : ℕ) (d : DriveEndRow) → IsDriveEnd d →
+      drive_meaning s n (drop 1 (padded (drive_fields s n d))) ≡ Ok d

@@ -2,8 +2,10 @@
 
 ghost use Rattle.std.specs.Prelude.{List, ℕ, Option};
 ghost use Rattle.outside.specs.Told.{AppendsPart};
-ghost use Rattle.trace_text.specs.ReadBack.{RecordsAreReadBack, TextsTellRecords};
+ghost use Rattle.trace_text.specs.ReadBack.{AreRowsReadBack, RecordsAreReadBack, TextsTellRecords};
 ghost use Rattle.trace_text.specs.Writes.{WritesPrefix};
+
+use trace_columns::columns_are_read_back;
 
 /// Nothing of a text is a beginning of it, and so is a part of it that was taken. Nothing runs.
 pub fn parts_are_beginnings()
@@ -18,3 +20,12 @@ pub fn records_are_read_back()
     ensures records { RecordsAreReadBack }
     ensures told { TextsTellRecords }
 {}
+
+/// What is written of a cycle's number, of a row and of what a drive took is read as it: for every
+/// row of the ranges of its columns, without its offset, with the place that its drive reported in
+/// version 2. Nothing runs.
+pub fn rows_are_read_back()
+    ensures { AreRowsReadBack }
+{
+    columns_are_read_back();
+}

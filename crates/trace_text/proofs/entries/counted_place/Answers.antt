@@ -1,5 +1,5 @@
 -- The sum fits.
-use Rattle.std.specs.Prelude.{◌≡◌, ◌≤◌, ◌*◌, ◌^◌, ◌+ℤ◌, ◌*ℤ◌, unsigned_abs}
+use Rattle.std.specs.Prelude.{◌≡◌, ◌≤◌, ◌*◌, ◌+ℤ◌, ◌*ℤ◌, unsigned_abs}
 use Rattle.std.specs.Int.{w128}
 use Rattle.std.proofs.Common.{arith, ◌∙◌, to_z, of_z, w32, w64, FitsSigned, to_z-of_z}
 use Rattle.std.proofs.lemmas.Int.{ints, unsigned_abs-mul}

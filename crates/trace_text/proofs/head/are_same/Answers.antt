@@ -1,6 +1,5 @@
 -- Two texts at a time.
-use Rattle.std.specs.Prelude.{map}
-use Rattle.std.proofs.Common.{◌≡◌, ◌∙◌, ◌<◌, length, sym, subst}
+use Rattle.std.proofs.Common.{◌∙◌, ◌<◌, length, sym, subst}
 use Rattle.std.proofs.lemmas.List.{length-map}
 use Rattle.line_text.specs.Texts.{texts}
 use Rattle.trace_text.proofs.SameLists.{same-more, same-stops, unequal}
