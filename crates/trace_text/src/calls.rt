@@ -28,7 +28,8 @@ pub fn write_call<W: Write + Drop>(
     reply: &Outputs,
 ) -> Result<(), OutOfMemory>
     requires { IsBetween wtr.old }
-    ensures text { OnOk result (Appends (text_written W.contents wtr.old) (text_written W.contents wtr.new)
+    ensures text { OnOk result (Appends (text_written W.contents wtr.old)
+        (text_written W.contents wtr.new)
         (record_text (call_fields config.now block inputs.now reply.now))) }
     ensures between { OnOk result (IsBetween wtr.new) }
 {
@@ -48,7 +49,8 @@ fn write_call_of<W: Write + Drop>(
     reply: &Outputs,
 ) -> Result<(), OutOfMemory>
     requires { IsBetween wtr.old }
-    ensures text { OnOk result (Appends (text_written W.contents wtr.old) (text_written W.contents wtr.new)
+    ensures text { OnOk result (Appends (text_written W.contents wtr.old)
+        (text_written W.contents wtr.new)
         (record_text (block_call_fields config.now block.now inputs.now reply.now))) }
     ensures between { OnOk result (IsBetween wtr.new) }
 {

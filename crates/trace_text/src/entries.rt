@@ -24,7 +24,8 @@ use trace_columns::{axis_state_text, drive_state_text, flag_text, group_state_te
 
 fn write_cycle<W: Write + Drop>(wtr: &mut Writer<W>, number: u32) -> Result<(), OutOfMemory>
     requires { IsBetween wtr.old }
-    ensures text { OnOk result (Appends (text_written W.contents wtr.old) (text_written W.contents wtr.new)
+    ensures text { OnOk result (Appends (text_written W.contents wtr.old)
+        (text_written W.contents wtr.new)
         (record_text (cycle_fields number))) }
     ensures between { OnOk result (IsBetween wtr.new) }
 {
@@ -88,7 +89,8 @@ fn write_row<W: Write + Drop>(
     row: &AxisRow,
 ) -> Result<(), OutOfMemory>
     requires { IsBetween wtr.old }
-    ensures text { OnOk result (Appends (text_written W.contents wtr.old) (text_written W.contents wtr.new)
+    ensures text { OnOk result (Appends (text_written W.contents wtr.old)
+        (text_written W.contents wtr.new)
         (record_text (row_fields version config.now axis row.now))) }
     ensures between { OnOk result (IsBetween wtr.new) }
 {
@@ -128,7 +130,8 @@ fn write_rows<W: Write + Drop>(
     rows: &[AxisRow],
 ) -> Result<(), OutOfMemory>
     requires { IsBetween wtr.old }
-    ensures text { OnOk result (Appends (text_written W.contents wtr.old) (text_written W.contents wtr.new)
+    ensures text { OnOk result (Appends (text_written W.contents wtr.old)
+        (text_written W.contents wtr.new)
         (text_of (numbered (row_fields version config.now) 0 rows.now))) }
     ensures between { OnOk result (IsBetween wtr.new) }
 {
@@ -145,7 +148,8 @@ fn write_grow<W: Write + Drop>(
     row: &GroupRow,
 ) -> Result<(), OutOfMemory>
     requires { IsBetween wtr.old }
-    ensures text { OnOk result (Appends (text_written W.contents wtr.old) (text_written W.contents wtr.new)
+    ensures text { OnOk result (Appends (text_written W.contents wtr.old)
+        (text_written W.contents wtr.new)
         (record_text (grow_fields config.now group row.now))) }
     ensures between { OnOk result (IsBetween wtr.new) }
 {
@@ -169,7 +173,8 @@ fn write_grows<W: Write + Drop>(
     rows: &[GroupRow],
 ) -> Result<(), OutOfMemory>
     requires { IsBetween wtr.old }
-    ensures text { OnOk result (Appends (text_written W.contents wtr.old) (text_written W.contents wtr.new)
+    ensures text { OnOk result (Appends (text_written W.contents wtr.old)
+        (text_written W.contents wtr.new)
         (text_of (numbered (grow_fields config.now) 0 rows.now))) }
     ensures between { OnOk result (IsBetween wtr.new) }
 {
@@ -185,7 +190,8 @@ fn write_end<W: Write + Drop>(
     task: u8,
 ) -> Result<(), OutOfMemory>
     requires { IsBetween wtr.old }
-    ensures text { OnOk result (Appends (text_written W.contents wtr.old) (text_written W.contents wtr.new)
+    ensures text { OnOk result (Appends (text_written W.contents wtr.old)
+        (text_written W.contents wtr.new)
         (record_text (end_fields config.now task))) }
     ensures between { OnOk result (IsBetween wtr.new) }
 {
@@ -203,7 +209,8 @@ fn write_cycle_and_rows<W: Write + Drop>(
     groups: &[GroupRow],
 ) -> Result<(), OutOfMemory>
     requires { IsBetween wtr.old }
-    ensures text { OnOk result (Appends (text_written W.contents wtr.old) (text_written W.contents wtr.new)
+    ensures text { OnOk result (Appends (text_written W.contents wtr.old)
+        (text_written W.contents wtr.new)
         (record_text (cycle_fields number) ++
         text_of (numbered (row_fields version config.now) 0 axes.now) ++
         text_of (numbered (grow_fields config.now) 0 groups.now))) }
@@ -224,7 +231,8 @@ pub fn write_entry<W: Write + Drop>(
     entry: &EntryLook<'_>,
 ) -> Result<(), OutOfMemory>
     requires { IsBetween wtr.old }
-    ensures text { OnOk result (Appends (text_written W.contents wtr.old) (text_written W.contents wtr.new)
+    ensures text { OnOk result (Appends (text_written W.contents wtr.old)
+        (text_written W.contents wtr.new)
         (entry_text version config.now (told entry.now))) }
     ensures between { OnOk result (IsBetween wtr.new) }
 {
@@ -250,7 +258,8 @@ fn write_drive<W: Write + Drop>(
     drive: &DriveEndRow,
 ) -> Result<(), OutOfMemory>
     requires { IsBetween wtr.old }
-    ensures text { OnOk result (Appends (text_written W.contents wtr.old) (text_written W.contents wtr.new)
+    ensures text { OnOk result (Appends (text_written W.contents wtr.old)
+        (text_written W.contents wtr.new)
         (record_text (drive_fields config.now axis drive.now))) }
     ensures between { OnOk result (IsBetween wtr.new) }
 {
@@ -277,7 +286,8 @@ pub fn write_drives<W: Write + Drop>(
     drives: &[DriveEndRow],
 ) -> Result<(), OutOfMemory>
     requires { IsBetween wtr.old }
-    ensures text { OnOk result (Appends (text_written W.contents wtr.old) (text_written W.contents wtr.new)
+    ensures text { OnOk result (Appends (text_written W.contents wtr.old)
+        (text_written W.contents wtr.new)
         (drives_text config.now drives.now)) }
     ensures between { OnOk result (IsBetween wtr.new) }
 {

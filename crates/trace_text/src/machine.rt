@@ -24,7 +24,8 @@ use trace_columns::flag_text;
 
 fn write_header<W: Write + Drop>(wtr: &mut Writer<W>) -> Result<(), OutOfMemory>
     requires { IsBetween wtr.old }
-    ensures text { OnOk result (Appends (text_written W.contents wtr.old) (text_written W.contents wtr.new)
+    ensures text { OnOk result (Appends (text_written W.contents wtr.old)
+        (text_written W.contents wtr.new)
         (record_text header_fields)) }
     ensures between { OnOk result (IsBetween wtr.new) }
 {
@@ -43,7 +44,8 @@ fn write_room<W: Write + Drop>(
     config: &Config,
 ) -> Result<(), OutOfMemory>
     requires { IsBetween wtr.old }
-    ensures text { OnOk result (Appends (text_written W.contents wtr.old) (text_written W.contents wtr.new)
+    ensures text { OnOk result (Appends (text_written W.contents wtr.old)
+        (text_written W.contents wtr.new)
         (record_text (trace_fields version command config.now))) }
     ensures between { OnOk result (IsBetween wtr.new) }
 {
@@ -67,7 +69,8 @@ fn write_axis<W: Write + Drop>(
     axis: &AxisDef,
 ) -> Result<(), OutOfMemory>
     requires { IsBetween wtr.old }
-    ensures text { OnOk result (Appends (text_written W.contents wtr.old) (text_written W.contents wtr.new)
+    ensures text { OnOk result (Appends (text_written W.contents wtr.old)
+        (text_written W.contents wtr.new)
         (record_text (axis_fields version axis.now))) }
     ensures between { OnOk result (IsBetween wtr.new) }
 {
@@ -80,7 +83,8 @@ fn write_axis<W: Write + Drop>(
 // An axis in version 1, without its braking limit.
 fn write_axis_one<W: Write + Drop>(wtr: &mut Writer<W>, axis: &AxisDef) -> Result<(), OutOfMemory>
     requires { IsBetween wtr.old }
-    ensures text { OnOk result (Appends (text_written W.contents wtr.old) (text_written W.contents wtr.new)
+    ensures text { OnOk result (Appends (text_written W.contents wtr.old)
+        (text_written W.contents wtr.new)
         (record_text (axis_fields TraceVersion.One axis.now))) }
     ensures between { OnOk result (IsBetween wtr.new) }
 {
@@ -110,7 +114,8 @@ fn write_axis_one<W: Write + Drop>(wtr: &mut Writer<W>, axis: &AxisDef) -> Resul
 // An axis in version 2.
 fn write_axis_two<W: Write + Drop>(wtr: &mut Writer<W>, axis: &AxisDef) -> Result<(), OutOfMemory>
     requires { IsBetween wtr.old }
-    ensures text { OnOk result (Appends (text_written W.contents wtr.old) (text_written W.contents wtr.new)
+    ensures text { OnOk result (Appends (text_written W.contents wtr.old)
+        (text_written W.contents wtr.new)
         (record_text (axis_fields TraceVersion.Two axis.now))) }
     ensures between { OnOk result (IsBetween wtr.new) }
 {
@@ -146,7 +151,8 @@ fn write_group<W: Write + Drop>(
     group: &GroupDef,
 ) -> Result<(), OutOfMemory>
     requires { IsBetween wtr.old }
-    ensures text { OnOk result (Appends (text_written W.contents wtr.old) (text_written W.contents wtr.new)
+    ensures text { OnOk result (Appends (text_written W.contents wtr.old)
+        (text_written W.contents wtr.new)
         (record_text (group_fields config.now group.now))) }
     ensures between { OnOk result (IsBetween wtr.new) }
 {
@@ -161,7 +167,8 @@ fn write_table<W: Write + Drop>(
     table: &CamTable,
 ) -> Result<(), OutOfMemory>
     requires { IsBetween wtr.old }
-    ensures text { OnOk result (Appends (text_written W.contents wtr.old) (text_written W.contents wtr.new)
+    ensures text { OnOk result (Appends (text_written W.contents wtr.old)
+        (text_written W.contents wtr.new)
         (record_text (table_fields table.now))) }
     ensures between { OnOk result (IsBetween wtr.new) }
 {
@@ -171,7 +178,8 @@ fn write_table<W: Write + Drop>(
 
 fn write_task<W: Write + Drop>(wtr: &mut Writer<W>, name: &Name) -> Result<(), OutOfMemory>
     requires { IsBetween wtr.old }
-    ensures text { OnOk result (Appends (text_written W.contents wtr.old) (text_written W.contents wtr.new)
+    ensures text { OnOk result (Appends (text_written W.contents wtr.old)
+        (text_written W.contents wtr.new)
         (record_text (task_fields name.now))) }
     ensures between { OnOk result (IsBetween wtr.new) }
 {
@@ -184,7 +192,8 @@ fn write_block<W: Write + Drop>(
     block: &BlockDef,
 ) -> Result<(), OutOfMemory>
     requires { IsBetween wtr.old }
-    ensures text { OnOk result (Appends (text_written W.contents wtr.old) (text_written W.contents wtr.new)
+    ensures text { OnOk result (Appends (text_written W.contents wtr.old)
+        (text_written W.contents wtr.new)
         (record_text (block_fields config.now block.now))) }
     ensures between { OnOk result (IsBetween wtr.new) }
 {
@@ -209,7 +218,8 @@ fn write_axes<W: Write + Drop>(
     axes: &[AxisDef],
 ) -> Result<(), OutOfMemory>
     requires { IsBetween wtr.old }
-    ensures text { OnOk result (Appends (text_written W.contents wtr.old) (text_written W.contents wtr.new)
+    ensures text { OnOk result (Appends (text_written W.contents wtr.old)
+        (text_written W.contents wtr.new)
         (flat_map (λ d. record_text (axis_fields version d)) axes.now)) }
     ensures between { OnOk result (IsBetween wtr.new) }
 {
@@ -226,7 +236,8 @@ fn write_groups<W: Write + Drop>(
     groups: &[GroupDef],
 ) -> Result<(), OutOfMemory>
     requires { IsBetween wtr.old }
-    ensures text { OnOk result (Appends (text_written W.contents wtr.old) (text_written W.contents wtr.new)
+    ensures text { OnOk result (Appends (text_written W.contents wtr.old)
+        (text_written W.contents wtr.new)
         (flat_map (λ g. record_text (group_fields config.now g)) groups.now)) }
     ensures between { OnOk result (IsBetween wtr.new) }
 {
@@ -242,7 +253,8 @@ fn write_tables<W: Write + Drop>(
     tables: &[CamTable],
 ) -> Result<(), OutOfMemory>
     requires { IsBetween wtr.old }
-    ensures text { OnOk result (Appends (text_written W.contents wtr.old) (text_written W.contents wtr.new)
+    ensures text { OnOk result (Appends (text_written W.contents wtr.old)
+        (text_written W.contents wtr.new)
         (flat_map (λ t. record_text (table_fields t)) tables.now)) }
     ensures between { OnOk result (IsBetween wtr.new) }
 {
@@ -254,7 +266,8 @@ fn write_tables<W: Write + Drop>(
 
 fn write_tasks<W: Write + Drop>(wtr: &mut Writer<W>, tasks: &[Name]) -> Result<(), OutOfMemory>
     requires { IsBetween wtr.old }
-    ensures text { OnOk result (Appends (text_written W.contents wtr.old) (text_written W.contents wtr.new)
+    ensures text { OnOk result (Appends (text_written W.contents wtr.old)
+        (text_written W.contents wtr.new)
         (flat_map (λ name. record_text (task_fields name)) tasks.now)) }
     ensures between { OnOk result (IsBetween wtr.new) }
 {
@@ -270,7 +283,8 @@ fn write_blocks<W: Write + Drop>(
     blocks: &[BlockDef],
 ) -> Result<(), OutOfMemory>
     requires { IsBetween wtr.old }
-    ensures text { OnOk result (Appends (text_written W.contents wtr.old) (text_written W.contents wtr.new)
+    ensures text { OnOk result (Appends (text_written W.contents wtr.old)
+        (text_written W.contents wtr.new)
         (flat_map (λ d. record_text (block_fields config.now d)) blocks.now)) }
     ensures between { OnOk result (IsBetween wtr.new) }
 {
@@ -289,7 +303,8 @@ fn write_items<W: Write + Drop>(
     config: &Config,
 ) -> Result<(), OutOfMemory>
     requires { IsBetween wtr.old }
-    ensures text { OnOk result (Appends (text_written W.contents wtr.old) (text_written W.contents wtr.new)
+    ensures text { OnOk result (Appends (text_written W.contents wtr.old)
+        (text_written W.contents wtr.new)
         (items_text version config.now)) }
     ensures between { OnOk result (IsBetween wtr.new) }
 {
@@ -310,7 +325,8 @@ pub fn write_machine<W: Write + Drop>(
     config: &Config,
 ) -> Result<(), OutOfMemory>
     requires { IsBetween wtr.old }
-    ensures text { OnOk result (Appends (text_written W.contents wtr.old) (text_written W.contents wtr.new)
+    ensures text { OnOk result (Appends (text_written W.contents wtr.old)
+        (text_written W.contents wtr.new)
         (machine_text version command config.now)) }
     ensures between { OnOk result (IsBetween wtr.new) }
 {

@@ -23,7 +23,8 @@ pub fn write_record<W: Write + Drop>(
 ) -> Result<(), OutOfMemory>
     requires between { IsBetween wtr.old }
     requires few { length fields.now ≤ FIELDS }
-    ensures text { OnOk result (Appends (text_written W.contents wtr.old) (text_written W.contents wtr.new)
+    ensures text { OnOk result (Appends (text_written W.contents wtr.old)
+        (text_written W.contents wtr.new)
         (record_text (map (λ f. f.now) fields.now))) }
     ensures between { OnOk result (IsBetween wtr.new) }
 {

@@ -95,7 +95,8 @@ fn write_entry_at<W: Write + Drop>(
     place: u64,
 ) -> Result<(), OutOfMemory>
     requires { IsBetween wtr.old }
-    ensures text { OnOk result (Appends (text_written W.contents wtr.old) (text_written W.contents wtr.new)
+    ensures text { OnOk result (Appends (text_written W.contents wtr.old)
+        (text_written W.contents wtr.new)
         (flat_map (entry_text version config.now) (option_to_list (slice_get history.now.entries place)))) }
     ensures between { OnOk result (IsBetween wtr.new) }
 {
@@ -117,7 +118,8 @@ fn write_entries<W: Write + Drop>(
 ) -> Result<(), OutOfMemory>
     requires between { IsBetween wtr.old }
     requires fits { from + count < 2 ^ 64 }
-    ensures text { OnOk result (Appends (text_written W.contents wtr.old) (text_written W.contents wtr.new)
+    ensures text { OnOk result (Appends (text_written W.contents wtr.old)
+        (text_written W.contents wtr.new)
         (flat_map (entry_text version config.now) (take count (drop from history.now.entries)))) }
     ensures between { OnOk result (IsBetween wtr.new) }
 {
