@@ -1,19 +1,19 @@
 -- How the program ends, from what its parts did.
-use Rattle.std.specs.Prelude.{◌≡◌, refl, ℕ, Option, Some, None, Result, Ok, Err, List, map, IfOk}
+use Rattle.std.specs.Prelude.{◌≡◌, refl, ℕ, Option, Result, Ok, Err, List, map, IfOk}
 use Rattle.std.specs.declared.alloc.AllocError.{AllocError}
 use Rattle.std.proofs.Common.{Vec, Global, ◌∙◌, sym, ap, subst}
 use Rattle.bench_text.specs.BenchState.{BenchState}
 use Rattle.cia402_machine.specs.declared.drive.DriveIn.{DriveIn}
 use Rattle.cia402_machine.specs.declared.drive.DriveState.TheVariants.{OperationEnabled}
-use Rattle.motion_history.specs.Columns.{KeepTheirLimits}
+use Rattle.motion_kernel.specs.Laws.{KeepsLaws}
 use Rattle.motion_history.specs.Entries.{Entry, cycles_of}
 use Rattle.motion_history.specs.Setup.{Setup}
 use Rattle.bench_text.specs.Reading.{ReadsBy}
 use Rattle.motion_history.specs.declared.refused.TextFault.{TextFault}
 use Rattle.motion_history.specs.declared.refused.TextFault.TheVariants.{Refused}
 use Rattle.motion_history.specs.declared.refused.TextRefused.{TextRefused}
+use Rattle.motion_kernel.specs.Histories.{IsLegal}
 use Rattle.motion_kernel.specs.KernelState.{KernelState}
-use Rattle.motion_kernel.specs.Machine.{IsLegal}
 use Rattle.trace_text.specs.Trace.{trace_text}
 use Rattle.trace_text.specs.Writes.{Output, Writes, WritesPrefix}
 use Rattle.motion_history.specs.declared.refused.TraceVersion.TheVariants.{One}
@@ -104,11 +104,11 @@ whatever (Err e) P p = tt
 
 -- the run that a kernel made of a bench is legal, as the kernel's history is
 pub legal-run : (b : BenchState) (k : KernelState) (answers : List DriveIn) (written : Result (Unit {0}) TraceFault) → k.config ≡ b.config → run_at k answers ≡ run_of b →
-    IsLegal k.config k.history → KeepTheirLimits k.config k.history → IfOk written (λ u. IsLegalRun b)
-legal-run b k answers written c r legal limits =
+    IsLegal k.config k.history → KeepsLaws k.config k.history → IfOk written (λ u. IsLegalRun b)
+legal-run b k answers written c r legal laws =
     let h : k.history ≡ (run_of b).history = ap (λ (x : Run). x.history) r in
     let L : Setup → Type 0 = λ s. IsLegal s k.history in
     let M : List Entry → Type 0 = λ es. IsLegal b.config es in
-    let N : Setup → Type 0 = λ s. KeepTheirLimits s k.history in
-    let O : List Entry → Type 0 = λ es. KeepTheirLimits b.config es in
-    whatever written (IsLegalRun b) (record { legal = subst M h (subst L c legal); limits = subst O h (subst N c limits) })
+    let N : Setup → Type 0 = λ s. KeepsLaws s k.history in
+    let O : List Entry → Type 0 = λ es. KeepsLaws b.config es in
+    whatever written (IsLegalRun b) (record { legal = subst M h (subst L c legal); laws = subst O h (subst N c laws) })

@@ -1,12 +1,9 @@
 -- The run of a bench, a line after another.
-use Rattle.std.specs.Prelude.{◌≡◌, refl, ℕ, zero, suc, ◌+◌, ◌-◌, ◌<◌, ◌≤◌, List, [], ◌∷◌, ◌++◌, length, map, drop, slice_index_or}
-use Rattle.std.specs.List.{All}
+use Rattle.std.specs.Prelude.{◌≡◌, refl, ℕ, zero, suc, ◌+◌, ◌-◌, ◌<◌, ◌≤◌, List, [], ◌∷◌, ◌++◌, false, length, map, drop, slice_index_or}
 use Rattle.std.proofs.Common.{◌∙◌, sym, ap, subst, arith}
 use Rattle.std.proofs.lemmas.List.{drop_more, length-map}
-use Rattle.std.proofs.lemmas.List.Elements.{All-nil, All-cons}
 use Rattle.std.proofs.lemmas.List.Sums.{sum_by-cons}
 use Rattle.std.proofs.lemmas.Simd.{map-map}
-use Rattle.axis_state.specs.declared.definition.AxisDef.{AxisDef}
 use Rattle.axis_state.specs.declared.definition.AxisRow.{AxisRow}
 use Rattle.motion_cli.specs.Ready as bench
 use Rattle.motion_cli.specs.Ready.{entries_of, cycles_of_lines}
@@ -16,34 +13,37 @@ use Rattle.cia402_machine.specs.declared.drive.DriveIn.{DriveIn}
 use Rattle.cia402_machine.specs.declared.drive.DriveOut.{DriveOut}
 use Rattle.motion_history.specs.Entries.{CyclesAddUp, Entry, cycle, cycles_of}
 use Rattle.motion_history.specs.Setup.{Setup, IsSetup}
+use Rattle.motion_kernel.specs.Cycles as machine
 use Rattle.motion_kernel.specs.KernelState.{KernelState, state_of}
-use Rattle.motion_kernel.specs.Machine.{IsOperational, rows_of}
+use Rattle.motion_kernel.specs.Histories.{machine_after}
 use Rattle.motion_cli.specs.Drives.{opening_answer, answer_to}
 use Rattle.motion_cli.specs.Going.{IsGoing}
 use Rattle.motion_cli.specs.Run.{Run, cycled, cycled_often, made, made_all}
 
-all_operational : (outs : List DriveOut) → All IsOperational (map answer_to outs)
-all_operational [] = All-nil IsOperational
-all_operational (o ∷ os) = All-cons IsOperational _ _ (record { statusword = refl; mode_display = refl }) (all_operational os)
+-- the entry of a cycle in which the drives gave these answers
+abbrev pub entry_of : Setup → List Entry → List DriveIn → Entry
+entry_of s es ins =
+    let rows = machine.cycled s (machine_after s es) ins in
+    cycle (cycles_of es + 1) rows.axes rows.groups
 
 -- a cycle of the kernel whose outputs the drives take and answer
 pub cycled-is : (k k2 : KernelState) (ins answers : List DriveIn) (outs : List DriveOut) →
-    k2 ≡ record k { history = k.history ++ cycle (cycles_of k.history + 1) (rows_of (state_of k) ins) [] ∷ [] } →
-    outs ≡ map (λ (r : AxisRow). r.output) (rows_of (state_of k) ins) → answers ≡ map answer_to outs →
+    k2 ≡ record k { history = k.history ++ entry_of k.config k.history ins ∷ [] } →
+    outs ≡ map (λ (r : AxisRow). r.output) (machine.cycled k.config (state_of k) ins).axes → answers ≡ map answer_to outs →
     record { history = k2.history; answers = answers } ≡ cycled k.config (record { history = k.history; answers = ins })
 unfolding cycled
 cycled-is k k2 ins answers outs h o a =
     let out : AxisRow → DriveOut = λ r. r.output in
-    let e : answers ≡ map (λ (row : AxisRow). answer_to row.output) (rows_of (state_of k) ins) = a ∙ ap (map answer_to) o ∙ map-map answer_to out _ in
+    let e : answers ≡ map (λ (row : AxisRow). answer_to row.output) (machine.cycled k.config (state_of k) ins).axes = a ∙ ap (map answer_to) o ∙ map-map answer_to out _ in
     λ t. record { history = (h t).history; answers = e t }
 
 -- a run goes on after a cycle
-pub going-on : (k k2 : KernelState) (ins answers : List DriveIn) (outs : List DriveOut) → IsGoing k ins → k2.config ≡ k.config →
-    answers ≡ map answer_to outs → length answers ≡ length ins → IsGoing k2 answers
-going-on k k2 ins answers outs g c a l = record {
+pub going-on : (k k2 : KernelState) (ins answers : List DriveIn) → IsGoing k ins → k2.config ≡ k.config → k2.stopped ≡ k.stopped →
+    length answers ≡ length ins → IsGoing k2 answers
+going-on k k2 ins answers g c o l = record {
   drives = l ∙ g.drives ∙ ap (λ s. length s.axes) (sym c);
   few = rw c g.few;
-  operational = rw a (all_operational outs);
+  runs = o ∙ g.runs;
 }
 
 -- what a loop of a run keeps: it goes on, there is room for the rest, and the rest leads to the
@@ -73,7 +73,7 @@ cycle-further add s k k2 answers answers2 n i whole l before c c2 e g =
     let P : ℕ → Type 0 = λ m. IsUnderWay k answers m m (cycled_often s m (run_at k answers)) whole in
     let one : n - i ≡ suc left = omega arith in
     let u : P (suc left) = subst P one before in
-    let h : k2.history ≡ k.history ++ cycle (cycles_of k.history + 1) (rows_of (state_of k) answers) [] ∷ [] = ap (λ (r : Run). r.history) e in
+    let h : k2.history ≡ k.history ++ entry_of k.config k.history answers ∷ [] = ap (λ (r : Run). r.history) e in
     let x : length k2.history ≡ length k.history + 1 = ap length h ∙ length_more k.history _ in
     let y : cycles_of k2.history ≡ cycles_of k.history + 1 = ap cycles_of h ∙ add k.history _ in
     let a = u.room in
@@ -88,12 +88,12 @@ cycle-further add s k k2 answers answers2 n i whole l before c c2 e g =
 length_often : (s : Setup) (n : ℕ) (r : Run) → length (cycled_often s n r).history ≡ length r.history + n
 unfolding cycled
 length_often s zero r = omega arith
-length_often s (suc n) r = let h = length_often s n (cycled s r) in let e = length_more r.history (cycle (cycles_of r.history + 1) (rows_of (state_of (record { config = s; history = r.history })) r.answers) []) in omega arith
+length_often s (suc n) r = let h = length_often s n (cycled s r) in let e = length_more r.history (entry_of s r.history r.answers) in omega arith
 
 cycles_often : CyclesAddUp → (s : Setup) (n : ℕ) (r : Run) → cycles_of (cycled_often s n r).history ≡ cycles_of r.history + n
 unfolding cycled
 cycles_often add s zero r = omega arith
-cycles_often add s (suc n) r = let h = cycles_often add s n (cycled s r) in let e = add r.history (cycle (cycles_of r.history + 1) (rows_of (state_of (record { config = s; history = r.history })) r.answers) []) in omega arith
+cycles_often add s (suc n) r = let h = cycles_often add s n (cycled s r) in let e = add r.history (entry_of s r.history r.answers) in omega arith
 
 -- how long the history is after a line
 length-made : (s : Setup) (l : BenchLine) (r : Run) → length (made s l r).history ≡ length r.history + bench.entry_count l
@@ -134,14 +134,10 @@ line-further add s k k2 answers answers2 lines i d whole at before c c2 e g =
       so_far = ap (made_all s ls) (e ∙ ap (λ t. made t l (run_at k answers)) c) ∙ u.so_far;
     }
 
-first_operational : (axes : List AxisDef) → All IsOperational (map opening_answer axes)
-first_operational [] = All-nil IsOperational
-first_operational (d ∷ ds) = All-cons IsOperational _ _ (record { statusword = refl; mode_display = refl }) (first_operational ds)
-
 -- a run begins with a drive for each axis
-pub going-first : (k : KernelState) (s : Setup) (answers : List DriveIn) → IsSetup s → k.config ≡ s → answers ≡ map opening_answer s.axes → IsGoing k answers
-going-first k s answers h c a = rw (a, c) (record {
+pub going-first : (k : KernelState) (s : Setup) (answers : List DriveIn) → IsSetup s → k.config ≡ s → k.stopped ≡ false → answers ≡ map opening_answer s.axes → IsGoing k answers
+going-first k s answers h c o a = rw (a, c) (record {
   drives = length-map s.axes opening_answer;
   few = h.within.sizes.axes;
-  operational = first_operational s.axes;
+  runs = o;
 })

@@ -5,9 +5,9 @@ use Rattle.std.specs.declared.alloc.AllocError.{AllocError}
 use Rattle.bench_text.specs.BenchState.{BenchState}
 use Rattle.bench_text.specs.Reading.{bench_of}
 use Rattle.line_text.specs.Lines.{lines_of}
-use Rattle.motion_history.specs.Columns.{KeepTheirLimits}
+use Rattle.motion_kernel.specs.Laws.{KeepsLaws}
 use Rattle.motion_history.specs.declared.refused.TextRefused.{TextRefused}
-use Rattle.motion_kernel.specs.Machine.{IsLegal}
+use Rattle.motion_kernel.specs.Histories.{IsLegal}
 use Rattle.outside.specs.Told.{FileMap, HasFile, LacksFile, IsLonger}
 use Rattle.trace_text.specs.Trace.{trace_text}
 use Rattle.trace_text.specs.Writes.{Output, Writes}
@@ -95,11 +95,11 @@ plan_of name Unread = record { status = status.ReadFault 1; text = unread_line n
 plan_of name Longer = record { status = status.TooLong 1; text = too_long_line name }
 plan_of name (Content bytes) = plan_of_reading name bytes (bench_of bytes)
 
--- the run of a bench has a legal history, in which each axis keeps its limits in every row. This
+-- the run of a bench has a legal history, which keeps the laws of the machine. This
 -- project's profile
 pub record IsLegalRun (b : BenchState) : Type 0 where
   pub legal : IsLegal b.config (run_of b).history
-  pub limits : KeepTheirLimits b.config (run_of b).history
+  pub laws : KeepsLaws b.config (run_of b).history
 
 -- the file's content has a bench as its reading
 abbrev pub IsBenchIn : Found → BenchState → Type 0

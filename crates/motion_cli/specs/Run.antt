@@ -8,8 +8,9 @@ use Rattle.cia402_machine.specs.declared.drive.DriveIn.{DriveIn}
 use Rattle.cia402_machine.specs.declared.drive.DriveState.TheVariants.{OperationEnabled}
 use Rattle.motion_history.specs.Entries.{Entry, call, cycle, end_of, cycles_of}
 use Rattle.motion_history.specs.Setup.{Setup}
-use Rattle.motion_kernel.specs.KernelState.{state_of}
-use Rattle.motion_kernel.specs.Machine.{reply_of, rows_of}
+use Rattle.motion_kernel.specs.Calls.{reply_of}
+use Rattle.motion_kernel.specs.Cycles as machine
+use Rattle.motion_kernel.specs.Histories.{machine_after}
 use Rattle.trace_text.specs.declared.write.DriveEndRow.{DriveEndRow}
 use Rattle.motion_cli.specs.Drives.{opening_answer, answer_to}
 
@@ -22,10 +23,10 @@ pub record Run : Type 0 where
 -- profile
 unfoldable pub cycled : Setup → Run → Run
 cycled s r =
-    let rows = rows_of (state_of (record { config = s; history = r.history })) r.answers in
+    let rows = machine.cycled s (machine_after s r.history) r.answers in
     record {
-      history = r.history ++ cycle (cycles_of r.history + 1) rows [] ∷ [];
-      answers = map (λ (row : AxisRow). answer_to row.output) rows;
+      history = r.history ++ cycle (cycles_of r.history + 1) rows.axes rows.groups ∷ [];
+      answers = map (λ (row : AxisRow). answer_to row.output) rows.axes;
     }
 
 -- so many cycles. This project's profile
@@ -36,7 +37,7 @@ cycled_often s (suc n) r = cycled_often s n (cycled s r)
 -- a line: a call with the machine's reply, so many cycles, or the end of a task. This project's
 -- profile
 unfoldable pub made : Setup → BenchLine → Run → Run
-made s (Call k i) r = record r { history = r.history ++ call k i (reply_of (state_of (record { config = s; history = r.history })) k i) ∷ [] }
+made s (Call k i) r = record r { history = r.history ++ call k i (reply_of s (machine_after s r.history) k i) ∷ [] }
 made s (Cycles n) r = cycled_often s n r
 made s (End t) r = record r { history = r.history ++ end_of t ∷ [] }
 

@@ -1,11 +1,11 @@
 // The run of a bench: its lines one after another on a kernel, with the drives in step.
 
-ghost use Rattle.std.specs.Prelude.{◌≡◌, ◌+◌, ◌<◌, ◌≤◌, ◌++◌, ◌∷◌, [], IfOk, length, All};
+ghost use Rattle.std.specs.Prelude.{◌≡◌, ◌+◌, ◌<◌, ◌≤◌, ◌++◌, ◌∷◌, [], IfOk, length, All, false};
 ghost use Rattle.motion_cli.specs.Ready.{IsReady, IsReadyLine, entry_count, cycle_count, entries_of, cycles_of_lines};
 ghost use Rattle.motion_history.specs.Entries.{call, cycles_of};
 ghost use Rattle.motion_history.specs.Ready.{IsReadyCall};
+ghost use Rattle.motion_kernel.specs.Calls.{reply_of};
 ghost use Rattle.motion_kernel.specs.KernelState.{state_of};
-ghost use Rattle.motion_kernel.specs.Machine.{reply_of};
 ghost use Rattle.motion_cli.specs.Run as spec;
 ghost use Rattle.motion_cli.specs.Going.{IsGoing};
 
@@ -60,10 +60,11 @@ fn make_cycles(kernel: &mut Kernel, answers: &mut [DriveIn], count: u32)
 // A call of a block, in its task.
 fn make_call(kernel: &mut Kernel, instance: u16, inputs: &Inputs)
     requires room { length kernel.old.history < kernel.old.config.entries }
+    requires runs { kernel.old.stopped ≡ false }
     requires call { IsReadyCall kernel.old.config instance inputs.now }
     ensures { kernel.new ≡ record kernel.old {
       history = kernel.old.history ++
-          call instance inputs.now (reply_of (state_of kernel.old) instance inputs.now) ∷ [];
+          call instance inputs.now (reply_of kernel.old.config (state_of kernel.old) instance inputs.now) ∷ [];
     } }
 {
     let task = kernel.config().blocks()[instance as usize].task;

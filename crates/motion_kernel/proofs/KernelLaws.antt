@@ -1,115 +1,98 @@
 -- What a kernel keeps at opening, and with one more entry of its history.
-use Rattle.std.specs.Prelude.{IsTrue, ◌≡◌, ℤ, ◌≤ℤ◌, ℕ, zero, suc, ◌+◌, ◌<◌, ◌≤◌, true, List, [], ◌∷◌, ◌++◌, length, map, Some}
-use Rattle.std.specs.List.{list_all}
-use Rattle.std.proofs.Common.{◌∙◌, sym, ap, subst, arith}
-use Rattle.std.proofs.lemmas.Bool.{and_parts}
-use Rattle.std.proofs.lemmas.List.{length-map}
-use Rattle.axis_state.specs.declared.definition.AxisDef.{AxisDef}
-use Rattle.kin_core.specs.Admissible.{AreLimits, IsKept}
-use Rattle.kin_core.specs.declared.limits.Limits.{Limits}
-use Rattle.fb_outputs.specs.Steps as step
-use Rattle.motion_history.specs.Entries.{CyclesAddUp, Entry, cycle_count, cycles_of, HistoryState}
-use Rattle.motion_history.specs.AxisRanges.{AreAxisRanges}
-use Rattle.motion_history.specs.Ranges.{is_axis}
-use Rattle.motion_history.specs.Setup.{Setup, IsSetup}
+use Rattle.std.specs.Prelude.{◌≡◌, refl, ℕ, Bool, true, false, if◌then◌else◌, ◌+◌, ◌<◌, ◌≤◌, List, [], ◌∷◌, ◌++◌, length}
+use Rattle.std.proofs.Common.{arith, ap, sym, subst, ◌∙◌}
+use Rattle.std.proofs.lemmas.List.{length_push}
+use Rattle.motion_history.specs.Entries.{CyclesAddUp, Entry, HistoryState, cycle_count, cycles_of}
+use Rattle.motion_history.specs.Setup.{Setup}
+use Rattle.motion_kernel.specs.Histories.{machine_after, Follows, IsLegal, IsOf, after, replay}
+use Rattle.motion_kernel.specs.KernelKept.{IsKernelKept, told_of}
+use Rattle.motion_kernel.specs.KernelState.{room_of}
+use Rattle.motion_kernel.specs.Machine.{Machine, machine_at_opening}
+use Rattle.motion_kernel.specs.Marked.{AreMarked}
+use Rattle.motion_kernel.specs.MachineKept.{AreWhole, IsMachineKept}
+use Rattle.motion_kernel.specs.Seen.{machine_of}
 use Rattle.motion_kernel.specs.declared.kernel.Kernel.TheInside.{Inside}
-use Rattle.motion_kernel.specs.Axes as axis
-use Rattle.motion_kernel.specs.Axes.{owner_of}
-use Rattle.motion_kernel.specs.AxisKept.{IsAxisKept}
-use Rattle.motion_kernel.specs.KernelKept.{machine_of, IsMachineKept, IsKernelKept}
-use Rattle.motion_history.specs.Ready.{IsReadyMachine}
-use Rattle.motion_kernel.specs.KernelState.{state_of}
-use Rattle.motion_kernel.specs.Machine.{Machine, opened, replay, after, axis_at, IsOf, IsLegal}
-use Rattle.motion_kernel.proofs.MachineLaws.{IsReplayed, IsReplayed-more}
 
--- an axis that stands anywhere within its limits can be stopped
-abbrev pub StandingIsKept : Type 0
-StandingIsKept = (limits : Limits) (place : ℤ) → AreLimits limits → limits.lo ≤ℤ place → place ≤ℤ limits.hi → IsKept limits place place
+-- the replay of one entry more
+replay_more : (s : Setup) (m : Machine) (es : List Entry) (e : Entry) → replay s m (es ++ e ∷ []) ≡ after s (replay s m es) e
+replay_more s m [] e = refl
+replay_more s m (x ∷ xs) e = replay_more s (after s m x) xs e
 
--- an axis that is in its ranges has these ranges
-abbrev pub RangesHold : Type 0
-RangesHold = (d : AxisDef) → IsTrue (is_axis d) → AreAxisRanges d
+-- one entry more that is the machine's
+follows_more : (s : Setup) (n : ℕ) (m : Machine) (es : List Entry) (e : Entry) → Follows s n m es → IsOf s (n + cycles_of es) (replay s m es) e →
+    Follows s n m (es ++ e ∷ [])
+follows_more s n m [] e f o = (subst (λ k. IsOf s k m e) (omega arith) o, tt)
+follows_more s n m (x ∷ xs) e f o =
+    (f.0, follows_more s (n + cycle_count x) (after s m x) xs e f.1 (subst (λ k. IsOf s k (replay s (after s m x) xs) e) (omega arith) o))
 
--- an axis that stands ready at its start keeps its limits
-opened-kept : StandingIsKept → RangesHold → (d : AxisDef) → is_axis d ≡ true → IsAxisKept (axis.opened d)
-opened-kept standing ranges d h =
-    let r = ranges d h in
-    record {
-      limits = r.limits;
-      least = r.least;
-      top = r.top;
-      counts = r.counts;
-      kept = standing d.limits d.start r.limits r.above r.below;
-      within = λ m e. absurd (cc);
-    }
-
-axes-kept : StandingIsKept → RangesHold → (ds : List AxisDef) → list_all is_axis ds ≡ true →
-    (n : ℕ) → n < length (map axis.opened ds) → IsAxisKept (axis_at (map axis.opened ds) n)
-axes-kept standing ranges [] h n l = absurd (omega arith)
-axes-kept standing ranges (d ∷ ds) h zero l = opened-kept standing ranges d (and_parts (is_axis d) (list_all is_axis ds) h).0
-axes-kept standing ranges (d ∷ ds) h (suc n) l = axes-kept standing ranges ds (and_parts (is_axis d) (list_all is_axis ds) h).1 n (omega arith)
-
-no_owners : (ds : List AxisDef) (n o : ℕ) → n < length (map axis.opened ds) → owner_of (axis_at (map axis.opened ds) n).active ≡ Some o → ⊥
-no_owners [] n o l h = omega arith
-no_owners (d ∷ ds) zero o l h = cc
-no_owners (d ∷ ds) (suc n) o l h = no_owners ds n o (omega arith) h
-
--- the machine at opening is kept
-pub opened-machine-kept : StandingIsKept → RangesHold → (s : Setup) → IsSetup s → IsReadyMachine s → IsMachineKept (opened s)
-opened-machine-kept standing ranges s setup ready = record {
-  setup = setup;
-  ready = ready;
-  axes = length-map s.axes _;
-  instances = length-map s.blocks _;
-  kept = axes-kept standing ranges s.axes setup.within.axes;
-  owners = λ n o l h. absurd (no_owners s.axes n o l h);
+-- a history with one entry more is legal
+legal_more : CyclesAddUp → (s : Setup) (es : List Entry) (e : Entry) → IsLegal s es → IsOf s (cycles_of es) (replay s (machine_at_opening s) es) e →
+    length es < s.entries → cycles_of es + cycle_count e ≤ s.cycles → IsLegal s (es ++ e ∷ [])
+legal_more add s es e legal is room cycles = record {
+  entries = let l = length_push es e in omega (arith, l);
+  cycles = let a = add es e in omega (arith, a);
+  follows = follows_more s 0 (machine_at_opening s) es e legal.follows (subst (λ k. IsOf s k (replay s (machine_at_opening s) es) e) (omega arith) is);
 }
 
 -- a kernel at opening
-pub IsKernelKept-open : (k : Inside) → StandingIsKept → RangesHold → IsSetup k.config → IsReadyMachine k.config →
-    k.axes.items ≡ map axis.opened k.config.axes → k.instances.items ≡ map (λ b. step.opened b.kind) k.config.blocks →
-    k.history ≡ record { axes = length k.config.axes; groups = length k.config.groups; room = k.config.entries; cycles = k.config.cycles; entries = [] } →
-    IsKernelKept k
-unfolding state_of
-IsKernelKept-open k standing ranges setup ready axes instances history =
+pub kernel_opened : (k : Inside) → machine_of k.parts ≡ machine_at_opening k.layout → k.history ≡ record {
+  axes = length k.layout.axes;
+  groups = length k.layout.groups;
+  room = k.layout.entries;
+  cycles = k.layout.cycles;
+  entries = [];
+} → IsMachineKept k.layout (machine_at_opening k.layout) → AreWhole k.layout → AreMarked k.layout [] k.tasks.marks → IsKernelKept k
+unfolding machine_after
+kernel_opened k machine history kept whole marked =
     let none : k.history.entries ≡ [] = ap (λ (h : HistoryState). h.entries) history in
-    let machine : machine_of k ≡ opened k.config =
-    λ i. record { setup = k.config; axes = axes i; instances = instances i; cycles = cycles_of (none i) } in
-    let P : Machine → Type 0 = IsMachineKept in
+    let P : Machine → Type 0 = IsMachineKept k.layout in
     record {
-      replayed = machine ∙ ap (replay (opened k.config)) (sym none);
+      replayed = machine ∙ ap (replay k.layout (machine_at_opening k.layout)) (sym none);
       legal = rw none (record { entries = omega arith; cycles = omega arith; follows = tt });
-      machine = subst P (sym machine) (opened-machine-kept standing ranges k.config setup ready);
+      machine = subst P (sym machine) kept;
+      whole = whole;
       room = record {
         axes = ap (λ (h : HistoryState). h.axes) history;
         groups = ap (λ (h : HistoryState). h.groups) history;
         room = ap (λ (h : HistoryState). h.room) history;
         cycles = ap (λ (h : HistoryState). h.cycles) history;
       };
+      tasks = rw none marked;
     }
 
 -- a kernel with one more entry
-pub IsKernelKept-more : CyclesAddUp → (k next : Inside) (e : Entry) → IsKernelKept k → next.config ≡ k.config →
+pub kernel_more : CyclesAddUp → (k next : Inside) (e : Entry) → IsKernelKept k → next.layout ≡ k.layout →
     next.history ≡ record k.history { entries = k.history.entries ++ e ∷ [] } →
-    machine_of next ≡ after (machine_of k) e → IsOf (machine_of k) e → IsMachineKept (machine_of next) →
-    length k.history.entries < k.config.entries → cycles_of k.history.entries + cycle_count e ≤ k.config.cycles →
-    IsKernelKept next
-unfolding state_of
-IsKernelKept-more add k next e kept config history step of machine room cycles =
-    let es : next.history.entries ≡ k.history.entries ++ e ∷ [] = ap (λ (h : HistoryState). h.entries) history in
-    let r : IsReplayed k.config k.history.entries (machine_of k) = record { replayed = kept.replayed; legal = kept.legal } in
-    let n = IsReplayed-more add k.config k.history.entries (machine_of k) e (machine_of next) r step of room cycles in
-    let there : machine_of next ≡ replay (opened next.config) next.history.entries =
-    n.replayed ∙ (λ i. replay (opened (sym config i)) (sym es i)) in
-    let P : Setup → List Entry → Type 0 = IsLegal in
+    machine_of next.parts ≡ after k.layout (machine_of k.parts) e → IsOf k.layout (cycles_of k.history.entries) (machine_of k.parts) e →
+    IsMachineKept k.layout (machine_of next.parts) → AreMarked k.layout (k.history.entries ++ e ∷ []) next.tasks.marks →
+    length k.history.entries < k.layout.entries → cycles_of k.history.entries + cycle_count e ≤ k.layout.cycles → IsKernelKept next
+unfolding machine_after
+kernel_more add k next e kept layout history step is machine marked room cycles =
+    let s = k.layout in
+    let entries : next.history.entries ≡ k.history.entries ++ e ∷ [] = ap (λ (h : HistoryState). h.entries) history in
+    let there : replay s (machine_at_opening s) k.history.entries ≡ machine_of k.parts = sym kept.replayed in
+    let here : IsOf s (cycles_of k.history.entries) (replay s (machine_at_opening s) k.history.entries) e = subst (λ m. IsOf s (cycles_of k.history.entries) m e) kept.replayed is in
+    let replayed : machine_of next.parts ≡ replay s (machine_at_opening s) (k.history.entries ++ e ∷ []) =
+    step ∙ ap (λ m. after s m e) kept.replayed ∙ sym (replay_more s (machine_at_opening s) k.history.entries e) in
+    let legal = legal_more add s k.history.entries e kept.legal here room cycles in
     record {
-      replayed = there;
-      legal = rw (es, config) n.legal;
-      machine = machine;
+      replayed = replayed ∙ (λ i. replay (sym layout i) (machine_at_opening (sym layout i)) (sym entries i));
+      legal = rw (entries, layout) legal;
+      machine = rw layout machine;
+      whole = rw layout kept.whole;
       room = record {
-        axes = ap (λ (h : HistoryState). h.axes) history ∙ kept.room.axes ∙ ap (λ (s : Setup). length s.axes) (sym config);
-        groups = ap (λ (h : HistoryState). h.groups) history ∙ kept.room.groups ∙ ap (λ (s : Setup). length s.groups) (sym config);
-        room = ap (λ (h : HistoryState). h.room) history ∙ kept.room.room ∙ ap (λ (s : Setup). s.entries) (sym config);
-        cycles = ap (λ (h : HistoryState). h.cycles) history ∙ kept.room.cycles ∙ ap (λ (s : Setup). s.cycles) (sym config);
+        axes = ap (λ (h : HistoryState). h.axes) history ∙ kept.room.axes ∙ ap (λ (x : Setup). length x.axes) (sym layout);
+        groups = ap (λ (h : HistoryState). h.groups) history ∙ kept.room.groups ∙ ap (λ (x : Setup). length x.groups) (sym layout);
+        room = ap (λ (h : HistoryState). h.room) history ∙ kept.room.room ∙ ap (λ (x : Setup). x.entries) (sym layout);
+        cycles = ap (λ (h : HistoryState). h.cycles) history ∙ kept.room.cycles ∙ ap (λ (x : Setup). x.cycles) (sym layout);
       };
+      tasks = rw (entries, layout) marked;
     }
+
+roomy : {n m : ℕ} (stopped : Bool) → n < (if stopped then n else m) → n < m
+roomy true l = omega (arith, l)
+roomy false l = l
+
+-- where room is left, the configuration's is
+pub has_room : (k : Inside) → length k.history.entries < room_of (told_of k) → length k.history.entries < k.layout.entries
+has_room k l = roomy k.stopped l

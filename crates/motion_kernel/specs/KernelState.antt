@@ -1,14 +1,20 @@
 -- What contracts see of a kernel.
-use Rattle.std.specs.Prelude.{List}
+use Rattle.std.specs.Prelude.{ℕ, Bool, if◌then◌else◌, List, length}
 use Rattle.motion_history.specs.Entries.{Entry}
 use Rattle.motion_history.specs.Setup.{Setup}
-use Rattle.motion_kernel.specs.Machine.{Machine, opened, replay}
+use Rattle.motion_kernel.specs.Histories.{machine_after}
+use Rattle.motion_kernel.specs.Machine.{Machine}
 
--- a kernel: its configuration and its history. This project's profile
+-- a kernel: its configuration, its history, and whether it was stopped. This project's profile
 pub record KernelState : Type 0 where
   pub config : Setup
   pub history : List Entry
+  pub stopped : Bool
+
+-- the room of its history: a stopped one has the entries made
+abbrev pub room_of : KernelState → ℕ
+room_of k = if k.stopped then length k.history else k.config.entries
 
 -- the machine that the kernel is: the replay of its history. This project's profile
-unfoldable pub state_of : KernelState → Machine
-state_of k = replay (opened k.config) k.history
+abbrev pub state_of : KernelState → Machine
+state_of k = machine_after k.config k.history

@@ -1,130 +1,100 @@
--- The machine: what its state is, and what a call, a cycle and the end of a task make of it.
-use Rattle.std.specs.Prelude.{ℕ, ◌+◌, ◌≡◌, ◌<◌, ◌≤◌, pos, List, [], ◌∷◌, map, length, Option, Some, None, slice_get, slice_index_or, slice_set}
-use Rattle.axis_state.specs.declared.definition.AxisRow.{AxisRow}
-use Rattle.axis_state.specs.declared.state.AxisState.TheVariants.{Disabled}
-use Rattle.cia402_machine.specs.Statusword.{status_of_state}
-use Rattle.cia402_machine.specs.declared.drive.DriveState.TheVariants.{OperationEnabled}
-use Rattle.cia402_machine.specs.declared.controlword.TheConstants.{CYCLIC_SYNCHRONOUS_POSITION}
-use Rattle.cia402_machine.specs.declared.drive.DriveIn.{DriveIn}
+-- The machine: its axes, its groups, the commands that wait for them, and the instances of its
+-- blocks (PLCopen Motion Control Part 1 and Part 4).
+use Rattle.std.specs.Prelude.{ℕ, ◌+◌, Bool, false, ◌&&◌, pos, Option, Some, None, List, [], length, map, slice_get, slice_index_or, replicate}
+use Rattle.axis_core.specs.Cores as axis
+use Rattle.axis_core.specs.Cycles.{axis_at_opening}
+use Rattle.axis_core.specs.declared.axis.Axis.{Axis}
+use Rattle.axis_state.specs.declared.definition.AxisDef.{AxisDef}
+use Rattle.command_pool.specs.declared.kind.BlockKind.TheVariants.{Power}
+use Rattle.command_pool.specs.declared.wanted.Wanted.{Wanted}
 use Rattle.fb_outputs.specs.InstanceState.{InstanceState}
-use Rattle.fb_outputs.specs.Steps as step
-use Rattle.fb_outputs.specs.declared.inputs.Inputs.{Inputs}
-use Rattle.fb_outputs.specs.declared.outputs.Outputs.{Outputs}
-use Rattle.motion_history.specs.Entries.{Entry, call, cycle, end_of, cycles_of}
-use Rattle.motion_history.specs.Ready.{IsReadyCall}
+use Rattle.fb_outputs.specs.Steps as instance
+use Rattle.group_core.specs.Cores as group
+use Rattle.group_core.specs.Cycles as opening
+use Rattle.group_core.specs.Tracks.{OnPath}
+use Rattle.group_core.specs.declared.group.Group.{Group}
 use Rattle.motion_history.specs.Setup.{Setup}
 use Rattle.motion_history.specs.declared.config.BlockDef.{BlockDef}
-use Rattle.motion_kernel.specs.declared.axis.Axis.{Axis}
-use Rattle.motion_kernel.specs.Axes as axis
-use Rattle.motion_kernel.specs.Instances.{Parts, called, reply_by, shown_by, notified_all}
-use Rattle.motion_kernel.specs.Lists.{zip_with}
+use Rattle.motion_history.specs.declared.config.GroupDef.{GroupDef}
 
--- the machine: its configuration, its axes and instances in the order of their numbers, and how many cycles there were. This project's profile
+-- a group and the path that its axes are on, if it is on one
+pub record PlacedGroup : Type 0 where
+  pub group : Group
+  pub path : Option OnPath
+
+-- the machine: its axes, its groups and the instances of its blocks in the order of their numbers,
+-- and the commands that wait, those of each axis and behind them those of each group. This
+-- project's profile
 pub record Machine : Type 0 where
-  pub setup : Setup
   pub axes : List Axis
+  pub groups : List PlacedGroup
+  pub queues : List (List Wanted)
   pub instances : List InstanceState
-  pub cycles : ℕ
 
--- the machine at opening. This project's profile
-abbrev pub opened : Setup → Machine
-opened s = record { setup = s; axes = map axis.opened s.axes; instances = map (λ b. step.opened b.kind) s.blocks; cycles = 0 }
+-- a group at opening, on no path
+abbrev pub group_at_opening : GroupDef → PlacedGroup
+group_at_opening d = record { group = opening.opened d.count; path = None }
 
--- the number of the axis on which a block acts. This project's profile
-abbrev pub object_by : Option BlockDef → ℕ
-object_by None = 0
-object_by (Some b) = b.object
+-- whether an axis of a configuration is ready
+abbrev pub is_ready : Option AxisDef → Bool
+is_ready None = false
+is_ready (Some d) = d.ready
 
-abbrev pub object_of : Setup → ℕ → ℕ
-object_of s k = object_by (slice_get s.blocks k)
+-- the instance of a block at opening: a Power shows that its axis is driven where it is ready
+unfoldable pub instance_at_opening_of : List AxisDef → BlockDef → InstanceState
+instance_at_opening_of axes b =
+    instance.with_reached (instance.opened b.kind)
+    (instance.is_power b.kind && is_ready (slice_get axes b.object))
 
--- an axis that is nowhere stands for one that is not there
-abbrev pub nowhere : Axis
-nowhere = record {
+-- the machine at opening
+abbrev pub machine_at_opening : Setup → Machine
+machine_at_opening s = record {
+  axes = map axis_at_opening s.axes;
+  groups = map group_at_opening s.groups;
+  queues = replicate (length s.axes + length s.groups) [];
+  instances = map (instance_at_opening_of s.axes) s.blocks;
+}
+
+-- what is nowhere stands for what was never called, configured or moved
+abbrev pub no_axis : Axis
+no_axis = axis_at_opening (record {
+  name = [];
   limits = record { lo = pos 0; hi = pos 0; vmax = pos 0; amax = pos 0; dmax = pos 0 };
   inc = pos 0;
-  state = Disabled;
-  previous = pos 0;
-  setpoint = pos 0;
-  active = None;
-}
+  start = pos 0;
+  ready = false;
+})
 
--- the axis of a number. This project's profile
-abbrev pub axis_at : List Axis → ℕ → Axis
-axis_at axes n = slice_index_or axes n nowhere
+abbrev pub no_group : PlacedGroup
+no_group = record { group = opening.opened 0; path = None }
 
--- what a call finds: the axis on which its block acts, and the instances. This project's profile
-abbrev pub parts_of : Machine → ℕ → Parts
-parts_of m k = record { axis = axis_at m.axes (object_of m.setup k); instances = m.instances }
+abbrev pub no_instance : InstanceState
+no_instance = instance.opened Power
 
--- the reply of a block call. PLCopen Motion Control Part 1, general rules
-abbrev pub reply_of : Machine → ℕ → Inputs → Outputs
-reply_of m k i = reply_by k (called k i (parts_of m k))
+-- the axis, the group and the instance of a number
+abbrev pub axis_among : List Axis → ℕ → Axis
+axis_among axes n = slice_index_or axes n no_axis
 
--- the machine with what a call found changed to these parts. This project's profile
-abbrev pub with_parts : Machine → ℕ → Parts → Machine
-with_parts m k p = record m { axes = slice_set m.axes (object_of m.setup k) p.axis; instances = p.instances }
+abbrev pub axis_at : Machine → ℕ → Axis
+axis_at m n = axis_among m.axes n
 
--- the machine after a block call. PLCopen Motion Control Part 1, general rules
-abbrev pub after_call : Machine → ℕ → Inputs → Machine
-after_call m k i = with_parts m k (shown_by k (called k i (parts_of m k)))
+abbrev pub group_among : List PlacedGroup → ℕ → PlacedGroup
+group_among groups j = slice_index_or groups j no_group
 
--- each axis after a cycle, what the cycle shows of it, and whose command is done. PLCopen Motion Control Part 1
-unfoldable pub axis_after : Axis → DriveIn → Axis
-axis_after a d = (axis.cycled a d).axis
+abbrev pub group_at : Machine → ℕ → PlacedGroup
+group_at m j = group_among m.groups j
 
-unfoldable pub row_after : Axis → DriveIn → AxisRow
-row_after a d = (axis.cycled a d).row
+abbrev pub instance_at : List InstanceState → ℕ → InstanceState
+instance_at instances k = slice_index_or instances k no_instance
 
-unfoldable pub done_after : Axis → DriveIn → Option ℕ
-done_after a d = (axis.cycled a d).done
+-- in which list the commands wait for a group: behind those of the axes
+abbrev pub list_of : Machine → ℕ → ℕ
+list_of m j = length m.axes + j
 
--- the rows of a cycle in which the drives gave these answers. PLCopen Motion Control Part 1
-abbrev pub rows_of : Machine → List DriveIn → List AxisRow
-rows_of m ins = zip_with row_after m.axes ins
+-- an axis with the commands that wait for it, of which nothing is told yet
+abbrev pub axis_core_at : Machine → ℕ → axis.Core
+axis_core_at m n = axis.core_at (axis_at m n) m.queues n []
 
--- the machine after a cycle in which the drives gave these answers. PLCopen Motion Control Part 1
-abbrev pub after_cycle : Machine → List DriveIn → Machine
-after_cycle m ins = record m {
-  axes = zip_with axis_after m.axes ins;
-  instances = notified_all (zip_with done_after m.axes ins) m.instances;
-  cycles = m.cycles + 1;
-}
-
--- the drives' answers that the rows of a cycle show. This project's profile
-abbrev pub inputs_of : List AxisRow → List DriveIn
-inputs_of rows = map (λ (r : AxisRow). r.input) rows
-
--- the machine after an entry of its history. This project's profile
-abbrev pub after : Machine → Entry → Machine
-after m (call k i reply) = after_call m k i
-after m (cycle n rows groups) = after_cycle m (inputs_of rows)
-after m (end_of task) = m
-
--- the machine after the entries of a history: its replay. This project's profile
-abbrev pub replay : Machine → List Entry → Machine
-replay m [] = m
-replay m (e ∷ es) = replay (after m e) es
-
--- a drive's answer is operational: it reads Operation enabled, in cyclic synchronous position mode. IEC 61800-7-201, objects 6041h and 6061h
-pub record IsOperational (d : DriveIn) : Type 0 where
-  pub statusword : d.statusword ≡ status_of_state OperationEnabled
-  pub mode_display : d.mode_display ≡ CYCLIC_SYNCHRONOUS_POSITION
-
--- the entry is the machine's: its reply or its rows are what the machine gives. This project's profile
-abbrev pub IsOf : Machine → Entry → Type 0
-IsOf m (call k i reply) = IsReadyCall m.setup k i × (reply ≡ reply_of m k i)
-IsOf m (cycle n rows groups) =
-    (n ≡ m.cycles + 1) × (length rows ≡ length m.axes) × (rows ≡ rows_of m (inputs_of rows)) × (groups ≡ [])
-IsOf m (end_of task) = task < length m.setup.tasks
-
--- each entry is the machine's after those before it. This project's profile
-abbrev pub Follows : Machine → List Entry → Type 0
-Follows m [] = Unit {0}
-Follows m (e ∷ es) = IsOf m e × Follows (after m e) es
-
--- a history is legal for a configuration: it keeps within the room, and folding the machine from opening gives each reply and each row. This project's profile
-pub record IsLegal (s : Setup) (es : List Entry) : Type 0 where
-  pub entries : length es ≤ s.entries
-  pub cycles : cycles_of es ≤ s.cycles
-  pub follows : Follows (opened s) es
+-- a group with its path and the commands that wait for it, of which nothing is told yet
+abbrev pub group_core_at : Machine → ℕ → group.Core
+group_core_at m j = group.core_in (group_at m j).group (group_at m j).path m.queues (list_of m j) []

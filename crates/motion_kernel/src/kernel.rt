@@ -1,25 +1,33 @@
 // The kernel: its state is the replay of its history.
 
-ghost use Rattle.std.specs.Prelude.{◌≡◌, ◌<◌, ◌+◌, ◌-◌, ◌++◌, ◌∷◌, [], length, map, IfOk, IsSomeAnd, slice_get, All};
+ghost use Rattle.std.specs.Prelude.{◌≡◌, ◌<◌, ◌+◌, ◌-◌, ◌++◌, ◌∷◌, [], length, map, IfOk, IsSomeAnd, slice_get, All, true, false};
+ghost use Rattle.axis_state.specs.Counts.{IsCount};
 ghost use Rattle.axis_state.specs.declared.definition.AxisRow.{AxisRow};
-ghost use Rattle.motion_history.specs.Columns.{KeepTheirLimits};
+ghost use Rattle.cia402_machine.specs.declared.drive.DriveIn.{DriveIn};
+ghost use Rattle.motion_history.specs.Calls.{IsCall};
 ghost use Rattle.motion_history.specs.Entries.{call, cycle, end_of, cycles_of};
-ghost use Rattle.fb_outputs.specs.Steps as step;
-ghost use Rattle.motion_kernel.specs.Axes as axis;
-ghost use Rattle.motion_history.specs.Ready.{IsReadyCall, IsReadyMachine};
-ghost use Rattle.motion_kernel.specs.KernelState.{KernelState, state_of};
-ghost use Rattle.motion_kernel.specs.Machine.{IsLegal, IsOperational, reply_of, rows_of};
+ghost use Rattle.motion_kernel.specs.Calls.{reply_of};
+ghost use Rattle.motion_kernel.specs.Cycles.{cycled};
+ghost use Rattle.motion_kernel.specs.Histories.{IsLegal};
+ghost use Rattle.motion_kernel.specs.KernelState.{KernelState, room_of, state_of};
+ghost use Rattle.motion_kernel.specs.Laws.{KeepsLaws};
+ghost use Rattle.motion_kernel.specs.Tasks.{live_tasks, quiet_tasks};
 
-use crate::axis::{Axis, opened};
+use crate::answers::counts_have_32_bits;
 use crate::calls::call_block;
-use crate::cycles::cycle_machine;
-use crate::laws::rows_keep_limits;
+use crate::cycling::{cycle_machine, give};
+use crate::history_laws::histories_keep_their_laws;
+use crate::laws::machines_stay_kept;
+use crate::layout::Layout;
+use crate::opening::open_parts;
+use crate::parts::Parts;
+use crate::tasks::TaskMarks;
 use axis_state::{AxisRow, AxisState};
 use cia402_machine::{DriveIn, DriveOut};
-use fb_outputs::{Inputs, Instance, Outputs};
-use kin_core::standing_is_kept;
+use fb_outputs::{Inputs, Outputs};
+use group_core::{GroupRow, GroupState};
 use motion_history::{
-    AxisDef, BlockDef, Config, History, MOST_AXES, OutOfMemory, axes_are_in_range, cycles_add_up,
+    Config, History, MOST_AXES, MOST_GROUPS, OutOfMemory, configurations_are_sound, cycles_add_up,
 };
 use std::alloc::{AllocError, Global};
 use std::marker::Model;
@@ -42,13 +50,14 @@ impl From<OutOfMemory> for OpenFault {
     }
 }
 
-/// A motion kernel. Contracts see it as its configuration and its history.
+/// A motion kernel. Contracts see it as its configuration, its history, and whether it was stopped.
 #[derive(Drop)]
 pub struct Kernel {
-    config: Config,
-    axes: Vec<Axis>,
-    instances: Vec<Instance>,
+    layout: Layout,
+    parts: Parts,
     history: History,
+    tasks: TaskMarks,
+    stopped: bool,
 }
 
 impl Model for Kernel {
@@ -64,85 +73,104 @@ impl Model for Kernel {
 }
 
 impl Kernel {
-    /// A kernel at rest, with the whole room of its history reserved. So far its axes are ready, and its blocks are of
-    /// kind MoveAbsolute.
+    /// A kernel at rest, with the whole room of its history reserved.
     pub fn open(alloc: Global, config: Config) -> Result<Kernel, OpenFault>
-        requires { IsReadyMachine config }
-        ensures { IfOk result (λ k. k ≡ record { config = config; history = [] }) }
+        ensures { IfOk result (λ k. k ≡ record { config = config; history = []; stopped = false }) }
     {
-        made(alloc, config)
+        machines_stay_kept();
+        let layout = Layout::open(alloc, config)?;
+        let parts = open_parts(alloc, &layout)?;
+        let history = History::open(alloc, layout.config())?;
+        let tasks = TaskMarks::open();
+        Ok(Kernel {
+            layout,
+            parts,
+            history,
+            tasks,
+            stopped: false,
+        })
     }
 
-    /// Calls a block, which belongs to this task, and answers its outputs. So far the buffer mode is Aborting.
+    /// Calls a block, which belongs to this task, and answers its outputs.
     pub fn call(&mut self, task: u8, instance: u16, inputs: &Inputs) -> Outputs
-        requires room { length self.old.history < self.old.config.entries }
+        requires room { length self.old.history < room_of self.old }
         requires task { IsSomeAnd (slice_get self.old.config.blocks instance) (λ b. b.task ≡ task) }
-        requires call { IsReadyCall self.old.config instance inputs.now }
-        ensures reply { result ≡ reply_of (state_of self.old) instance inputs.now }
+        requires call { IsCall self.old.config instance inputs.now }
+        ensures reply { result ≡ reply_of self.old.config (state_of self.old) instance inputs.now }
         ensures after { self.new ≡ record self.old {
           history = self.old.history ++ call instance inputs.now result ∷ [];
         } }
     {
         cycles_add_up();
-        let object = self.config.blocks()[instance as usize].object;
-        let reply = call_block(
-            instance,
-            inputs,
-            &mut self.axes[object as usize],
-            self.instances.as_mut_slice(),
-        );
+        machines_stay_kept();
+        configurations_are_sound();
+        let reply = call_block(instance, inputs, &self.layout, &mut self.parts);
         self.history.record_call(instance, inputs, &reply);
+        self.tasks.hear(task);
         reply
     }
 
-    /// Goes through a cycle with the drives' answers, and gives each drive its controlword, mode and target. So far the
-    /// answers are operational.
+    /// Goes through a cycle with the drives' answers, and gives each drive its controlword, mode
+    /// and target.
     pub fn cycle(&mut self, ins: &[DriveIn], outs: &mut [DriveOut])
-        requires room { length self.old.history < self.old.config.entries }
+        requires room { length self.old.history < room_of self.old }
         requires cycle { cycles_of self.old.history < self.old.config.cycles }
         requires ins { length ins.now ≡ length self.old.config.axes }
         requires outs { length outs.old ≡ length self.old.config.axes }
-        requires operational { All IsOperational ins.now }
-        ensures outs { outs.new ≡ map (λ (r : AxisRow). r.output) (rows_of (state_of self.old) ins.now) }
+        ensures outs { outs.new ≡ map (λ (r : AxisRow). r.output) (cycled self.old.config
+            (state_of self.old) ins.now).axes }
         ensures after { self.new ≡ record self.old {
           history = self.old.history ++
-              cycle (cycles_of self.old.history + 1) (rows_of (state_of self.old) ins.now) [] ∷ [];
+              cycle (cycles_of self.old.history + 1) (cycled self.old.config
+              (state_of self.old) ins.now).axes
+              (cycled self.old.config (state_of self.old) ins.now).groups ∷ [];
         } }
     {
         cycles_add_up();
-        let mut room = [NO_ROW; MOST_AXES];
-        let rows = &mut room[..self.axes.len()];
-        cycle_machine(
-            self.axes.as_mut_slice(),
-            self.instances.as_mut_slice(),
-            ins,
-            outs,
-            rows,
-        );
-        self.history.record_cycle(rows, &[]);
+        machines_stay_kept();
+        counts_have_32_bits(ins);
+        let mut rows = [NO_ROW; MOST_AXES];
+        let rows = &mut rows[..self.layout.config().axes().len()];
+        let mut grows = [NO_GROUP_ROW; MOST_GROUPS];
+        let grows = &mut grows[..self.layout.config().groups().len()];
+        cycle_machine(ins, &self.layout, &mut self.parts, rows, grows);
+        give(rows, outs);
+        self.history.record_cycle(rows, grows);
+        self.tasks.cycle();
     }
 
     /// Ends a task. A second end of a task makes an entry and changes nothing else.
     pub fn end(&mut self, task: u8)
-        requires room { length self.old.history < self.old.config.entries }
+        requires room { length self.old.history < room_of self.old }
         requires task { task < length self.old.config.tasks }
         ensures { self.new ≡ record self.old { history = self.old.history ++ end_of task ∷ [] } }
     {
         cycles_add_up();
         self.history.record_end(task);
+        self.tasks.end(task);
+    }
+
+    /// Stops the kernel: its history takes no entry more.
+    pub fn stop(&mut self)
+        ensures { self.new ≡ record self.old { stopped = true } }
+    {
+        self.stopped = true;
     }
 
     /// The configuration.
     pub fn config(&self) -> &Config
         ensures { result.now ≡ self.now.config }
     {
-        &self.config
+        self.layout.config()
     }
 
     /// How many entries more the history has room for.
     pub fn room_left(&self) -> u64
-        ensures { result ≡ self.now.config.entries - length self.now.history }
+        ensures { result ≡ room_of self.now - length self.now.history }
     {
+        if self.stopped {
+            return 0;
+        }
         self.history.room_left()
     }
 
@@ -153,13 +181,28 @@ impl Kernel {
         self.history.cycles_left()
     }
 
+    /// How many tasks live: those that have not ended.
+    pub fn live_tasks(&self) -> u8
+        ensures { result ≡ live_tasks self.now.config self.now.history }
+    {
+        self.tasks.live(self.layout.config().tasks().len())
+    }
+
+    /// How many tasks are quiet: those that live and have made no entry since the last cycle or,
+    /// before the first, since opening.
+    pub fn quiet_tasks(&self) -> u8
+        ensures { result ≡ quiet_tasks self.now.config self.now.history }
+    {
+        self.tasks.quiet(self.layout.config().tasks().len())
+    }
+
     /// The history so far.
     pub fn history(&self) -> &History
         ensures entries { result.now.entries ≡ self.now.history }
         ensures legal { IsLegal self.now.config self.now.history }
-        ensures limits { KeepTheirLimits self.now.config self.now.history }
+        ensures laws { KeepsLaws self.now.config self.now.history }
     {
-        rows_keep_limits();
+        histories_keep_their_laws();
         &self.history
     }
 }
@@ -183,37 +226,8 @@ const NO_ROW: AxisRow = AxisRow {
     },
 };
 
-// A kernel at rest.
-fn made(alloc: Global, config: Config) -> Result<Kernel, OpenFault>
-    requires { IsReadyMachine config }
-    ensures { IfOk result (λ k. k ≡ record { config = config; history = [] }) }
-{
-    standing_is_kept();
-    axes_are_in_range();
-    let axes = opened_axes(alloc, config.axes())?;
-    let instances = opened_instances(alloc, config.blocks())?;
-    let history = History::open(alloc, &config)?;
-    Ok(Kernel {
-        config,
-        axes,
-        instances,
-        history,
-    })
-}
-
-// The axes at opening.
-fn opened_axes(alloc: Global, axes: &[AxisDef]) -> Result<Vec<Axis>, AllocError>
-    ensures { IfOk result (λ v. v.items ≡ map axis.opened axes.now) }
-{
-    axes.iter().map(opened).collect(alloc)
-}
-
-// The instances at opening.
-fn opened_instances(alloc: Global, blocks: &[BlockDef]) -> Result<Vec<Instance>, AllocError>
-    ensures { IfOk result (λ v. v.items ≡ map (λ b. step.opened b.kind) blocks.now) }
-{
-    blocks
-        .iter()
-        .map(|block| Instance::new(block.kind))
-        .collect(alloc)
-}
+/// A group's row before it is written.
+const NO_GROUP_ROW: GroupRow = GroupRow {
+    state: GroupState::GroupDisabled,
+    error: 0,
+};

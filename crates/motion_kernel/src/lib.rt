@@ -1,12 +1,30 @@
-//! The motion kernel: block calls, cycles and ends of tasks, each one entry of a history whose replay is the kernel's state.
+//! The motion kernel: block calls, cycles and ends of tasks, each one entry of a history whose
+//! replay is the kernel's state.
 #![tactic(auto)]
 
-mod axis;
+mod answers;
+mod asking;
+mod axis_calls;
 mod calls;
 mod cycles;
+mod cycling;
+mod group_calls;
+mod history_laws;
 mod kernel;
 mod laws;
+mod layout;
+mod limit_laws;
+mod looks;
+mod masters;
+mod members;
+mod opening;
+mod parts;
+mod showing;
+mod tasks;
+mod telling;
 
+pub use history_laws::histories_keep_their_laws;
 pub use kernel::{Kernel, OpenFault};
-pub use laws::rows_keep_limits;
+pub use laws::machines_stay_kept;
+pub use limit_laws::{at_most_eight_wait, axes_stay_stoppable, rows_keep_limits};
 pub use motion_history::{Config, DriveIn, DriveOut, History, Inputs, Outputs};

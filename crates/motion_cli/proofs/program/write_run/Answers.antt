@@ -20,7 +20,7 @@ returns g c =
     let told = g.K.Sink.told in
     let count = g.K.Sink.count in
     record {
-      legal = legal-run _ k answers c.write_trace.result c.in-Ok.ensures.config c.in-Ok.ensures.made c.history-history.ensures.legal c.history-history.ensures.limits;
+      legal = legal-run _ k answers c.write_trace.result c.in-Ok.ensures.config c.in-Ok.ensures.made c.history-history.ensures.legal c.history-history.ensures.laws;
       writes = same-text (record { count = count c.args.out.now; told = told c.args.out.now }) (record { count = count c.write_trace.new.out; told = told c.write_trace.new.out })
           _ _ c.write_trace.result text c.write_trace.ensures;
     }

@@ -3,7 +3,7 @@ use Rattle.std.proofs.Common.{◌∙◌, rules, tests}
 use Rattle.std.proofs.lemmas.Iterator.{YieldsList-from_slice}
 use Rattle.std.proofs.lemmas.Iterator.Search.{any_from_yields_List}
 use Rattle.line_text.specs.Texts.{says}
-use Rattle.motion_cli.specs.Ready.{has_word, is_other_mode}
+use Rattle.motion_cli.specs.Ready.{has_word}
 use Rattle.motion_cli.proofs.ReadyLaws.{list_any-texts}
 use Rattle.motion_cli.proofs.ready.has_word.Goals as goal
 

@@ -1,5 +1,5 @@
 -- No line is left.
-use Rattle.std.proofs.Common.{◌≡◌, List, ℕ, [], refl, sym, ◌∙◌}
+use Rattle.std.proofs.Common.{◌≡◌, [], sym}
 use Rattle.std.proofs.lemmas.Bool.{eqb-true}
 use Rattle.std.proofs.lemmas.List.{nil_from_length}
 use Rattle.line_text.specs.Lines.{lines_of}

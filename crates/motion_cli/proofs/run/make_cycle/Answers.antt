@@ -9,4 +9,4 @@ returns-clause-made c = cycled-is _ _ _ _ _ c.cycle.ensures.after c.cycle.ensure
 
 pub returns-clause-going : goal.returns-clause-going
 returns-clause-going c =
-    going-on _ _ _ _ _ c.requires.going (ap (λ (k : KernelState). k.config) c.cycle.ensures.after) c.answer.ensures c.answer.auto.answers
+    going-on _ _ _ _ c.requires.going (ap (λ (k : KernelState). k.config) c.cycle.ensures.after) (ap (λ (k : KernelState). k.stopped) c.cycle.ensures.after) c.answer.auto.answers

@@ -10,4 +10,5 @@ pub make_all-requires-clause-going : goal.make_all-requires-clause-going
 make_all-requires-clause-going c =
     going-first _ _ _ c.axes.ensures.setup
     (ap (λ (k : KernelState). k.config) c.in-Ok.ensures ∙ c.in_ok-copy.ensures)
+    (ap (λ (k : KernelState). k.stopped) c.in-Ok.ensures)
     (c.as_mut_slice.ensures.value ∙ c.in_ok-answers.ensures ∙ ap (map opening_answer) c.axes.ensures.axes)

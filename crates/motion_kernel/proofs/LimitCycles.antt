@@ -1,0 +1,119 @@
+-- The row of an axis in a cycle keeps the axis's limits, and leads on to the axis after it.
+use Rattle.std.specs.Prelude.{◌≡◌, refl, ℕ, zero, suc, ◌<◌, ◌≤◌, List, [], length, slice_index_or}
+use Rattle.std.proofs.Common.{arith, ap, sym, subst, ◌∙◌, inl, inr}
+use Rattle.std.proofs.lemmas.Bool.{cases_eq}
+use Rattle.std.proofs.lemmas.List.{get_or-set_other, get_or-set_same}
+use Rattle.axis_core.specs.AxisKept as axis
+use Rattle.axis_core.specs.Cores as cores
+use Rattle.axis_core.specs.Cycles.{core_after_cycle, row_shown}
+use Rattle.axis_core.specs.Rows.{KeepsSpell}
+use Rattle.axis_core.specs.declared.axis.Axis.{Axis}
+use Rattle.axis_core.specs.declared.look.AxisLook.{AxisLook}
+use Rattle.axis_state.specs.declared.definition.AxisRow.{AxisRow}
+use Rattle.cia402_machine.specs.declared.drive.DriveIn.{DriveIn}
+use Rattle.motion_history.specs.Columns.{no_row}
+use Rattle.motion_history.specs.Setup.{Setup}
+use Rattle.motion_kernel.specs.Cycles.{Surroundings, after_cycle, around_in, axes_cycled, axis_look, core_in_cycle, cycled, groups_reset, row_in_cycle, stepped_in, with_found}
+use Rattle.motion_kernel.specs.Machine.{Machine, axis_among, axis_at, axis_core_at, no_axis}
+use Rattle.motion_kernel.specs.MachineKept.{IsMachineKept}
+use Rattle.motion_kernel.specs.Ready.{MayGoOn}
+use Rattle.motion_kernel.proofs.CycleRows.{axes_count, rows_count, steps_axes}
+use Rattle.motion_kernel.proofs.KeptEvents.{axis_beside_axis}
+use Rattle.motion_kernel.proofs.KeptLists.{index_before, index_last}
+use Rattle.motion_kernel.proofs.KeptSteps.{have_stepped}
+
+-- axis_core's axes_stay_kept, of a cycle's row
+abbrev pub RowsKeepSpells : Type 0
+RowsKeepSpells = (look : AxisLook) (c : cores.Core) → axis.IsCoreKept c → axis.IsLook c.axis look →
+    KeepsSpell c.axis (row_shown look.input (core_after_cycle look c).axis) (core_after_cycle look c).axis
+
+-- the machine before the cycle of an axis: those before it went through theirs
+abbrev before_axis : Setup → Surroundings → Machine → ℕ → Machine
+before_axis s around m n = (axes_cycled s n around m).machine
+
+-- an axis is as it was until its own cycle
+not_yet : (s : Setup) (n : ℕ) (around : Surroundings) (m : Machine) (k : ℕ) → n ≤ k → axis_core_at (axes_cycled s n around m).machine k ≡ axis_core_at m k
+unfolding axes_cycled
+not_yet s zero around m k l = refl
+not_yet s (suc n) around m k l =
+    let so_far = (axes_cycled s n around m).machine in
+    axis_beside_axis so_far n k (core_in_cycle s around n so_far) (λ e. omega arith) ∙ not_yet s n around m k (omega arith)
+
+-- and stays as its own cycle leaves it
+cycled_once : (s : Setup) (n : ℕ) (around : Surroundings) (m : Machine) (k : ℕ) → n ≤ length m.axes → k < n →
+    axis_at (axes_cycled s n around m).machine k ≡ (core_in_cycle s around k (before_axis s around m k)).axis
+unfolding axes_cycled
+cycled_once s zero around m k l b = absurd (omega arith)
+cycled_once s (suc n) around m k l b =
+    let so_far = (axes_cycled s n around m).machine in
+    let a = (core_in_cycle s around n so_far).axis in
+    let count = axes_count s n around m in
+    elim (cases_eq k n) [
+      | inl e ↦ rw e (get_or-set_same so_far.axes n a no_axis (omega arith))
+      | inr d ↦ get_or-set_other so_far.axes n k a no_axis d ∙ cycled_once s n around m k (omega arith) (omega arith)
+    ]
+
+-- its row is the one of its own cycle
+row_once : (s : Setup) (n : ℕ) (around : Surroundings) (m : Machine) (k : ℕ) → k < n →
+    slice_index_or (axes_cycled s n around m).rows k no_row ≡ row_in_cycle s around k (before_axis s around m k)
+unfolding axes_cycled
+row_once s zero around m k b = absurd (omega arith)
+row_once s (suc n) around m k b =
+    let so_far = axes_cycled s n around m in
+    let row = row_in_cycle s around n so_far.machine in
+    let count = rows_count s n around m in
+    elim (cases_eq k n) [
+      | inl e ↦ rw e (index_last so_far.rows row n no_row (sym count))
+      | inr d ↦ index_before so_far.rows row k no_row (omega arith) ∙ row_once s n around m k (omega arith)
+    ]
+
+-- pending Resets and what the instances are told leave the axes
+resets_axes : (s : Setup) (n : ℕ) (m : Machine) → (groups_reset s n m).machine.axes ≡ m.axes
+unfolding groups_reset
+resets_axes s zero m = refl
+resets_axes s (suc n) m = resets_axes s n m
+
+found_axes : (s : Setup) (m : Machine) → (with_found s m).axes ≡ m.axes
+unfolding with_found
+found_axes s m = refl
+
+-- the machine whose axes went through the cycle
+abbrev moved_in : Setup → Machine → List DriveIn → Machine
+moved_in s m ins = (axes_cycled s (length (stepped_in s ins m).machine.axes) (around_in s ins m) (stepped_in s ins m).machine).machine
+
+axes_moved : (s : Setup) (m : Machine) (ins : List DriveIn) → (after_cycle s m ins).axes ≡ (moved_in s m ins).axes
+unfolding cycled
+axes_moved s m ins = found_axes s (cycled s m ins).machine ∙ resets_axes s (length (moved_in s m ins).groups) (moved_in s m ins)
+
+rows_moved : (s : Setup) (m : Machine) (ins : List DriveIn) →
+    (cycled s m ins).axes ≡ (axes_cycled s (length (stepped_in s ins m).machine.axes) (around_in s ins m) (stepped_in s ins m).machine).rows
+unfolding cycled
+rows_moved s m ins = refl
+
+-- the row of an axis of a kept machine in a cycle
+pub cycle_keeps : RowsKeepSpells → (s : Setup) (m : Machine) (ins : List DriveIn) (n : ℕ) → IsMachineKept s m →
+    MayGoOn s (around_in s ins m) (stepped_in s ins m).machine → n < length m.axes →
+    KeepsSpell (axis_at m n) (slice_index_or (cycled s m ins).axes n no_row) (axis_at (after_cycle s m ins) n)
+cycle_keeps law s m ins n h may l =
+    let stepped = (stepped_in s ins m).machine in
+    let around = around_in s ins m in
+    let size : length stepped.axes ≡ length m.axes = ap length (steps_axes s (length m.groups) ins m) in
+    let b : n < length stepped.axes = omega arith in
+    let before = before_axis s around stepped n in
+    let look = axis_look s around before n in
+    let steps = have_stepped s m ins (length m.groups) h (omega arith) in
+    let axes = steps.axes in
+    let queue = steps.queues n l in
+    let here : axis_core_at stepped n ≡ axis_core_at m n = λ i. record { axis = axis_among (axes i) n; waiting = queue i; notes = [] } in
+    let same : axis_core_at before n ≡ axis_core_at m n = not_yet s n around stepped n (omega arith) ∙ here in
+    let kept : axis.IsCoreKept (axis_core_at before n) = subst axis.IsCoreKept (sym same) (h.axes n l).core in
+    let keeps = law look (axis_core_at before n) kept (may n b).look in
+    let row : slice_index_or (cycled s m ins).axes n no_row ≡ row_in_cycle s around n before =
+    ap (λ rs. slice_index_or rs n no_row) (rows_moved s m ins) ∙ row_once s (length stepped.axes) around stepped n b in
+    let after : axis_at (after_cycle s m ins) n ≡ (core_in_cycle s around n before).axis =
+    ap (λ axes. axis_among axes n) (axes_moved s m ins) ∙ cycled_once s (length stepped.axes) around stepped n (omega arith) b in
+    let was : axis_at before n ≡ axis_at m n = ap (λ (c : cores.Core). c.axis) same in
+    let P : Axis → Type 0 = λ a. KeepsSpell a (slice_index_or (cycled s m ins).axes n no_row) (axis_at (after_cycle s m ins) n) in
+    let Q : AxisRow → Type 0 = λ r. KeepsSpell (axis_at before n) r (axis_at (after_cycle s m ins) n) in
+    let R : Axis → Type 0 = λ a. KeepsSpell (axis_at before n) (row_in_cycle s around n before) a in
+    subst P was (subst Q (sym row) (subst R (sym after) keeps))

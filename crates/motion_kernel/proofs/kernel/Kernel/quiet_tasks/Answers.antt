@@ -1,0 +1,17 @@
+-- The marks are those of the history.
+use Rattle.std.proofs.Common.{◌≡◌, ◌∙◌, ap, length, take, List, ℕ}
+use Rattle.std.specs.List.{filter}
+use Rattle.motion_history.specs.Setup.{Setup}
+use Rattle.motion_kernel.specs.KernelState.{KernelState}
+use Rattle.motion_kernel.specs.Marked.{is_still}
+use Rattle.motion_kernel.specs.Tasks.{quiet_tasks}
+use Rattle.motion_kernel.proofs.MarkLaws.{quiet_counted}
+use Rattle.motion_kernel.proofs.kernel.Kernel.quiet_tasks.Goals as goal
+
+pub returns : goal.returns
+returns c =
+    let k = c.self.inside in
+    let tasks : c.tasks.result.now ≡ k.layout.tasks = c.tasks.ensures ∙ ap (λ (s : Setup). s.tasks) c.config.ensures.config in
+    c.quiet.ensures ∙ ap (λ (ts : List (List ℕ)). length (filter is_still (take (length ts) k.tasks.marks))) tasks
+    ∙ quiet_counted k.layout k.history.entries k.tasks.marks c.self.invariant.tasks
+    ∙ ap (λ (x : KernelState). quiet_tasks x.config x.history) c.self.view_is

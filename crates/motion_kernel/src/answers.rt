@@ -1,0 +1,24 @@
+// The drives' answers of a cycle.
+
+ghost use Rattle.std.specs.Prelude.{◌≡◌, All};
+ghost use Rattle.axis_state.specs.Counts.{IsCount};
+ghost use Rattle.cia402_machine.specs.declared.drive.DriveIn.{DriveIn};
+
+use cia402_machine::DriveIn;
+
+// The count that a drive reports: it has 32 bits.
+fn count_of(input: &DriveIn) -> i32
+    ensures count { result ≡ input.now.actual }
+    ensures bits { IsCount result }
+{
+    input.actual
+}
+
+/// The counts that the drives report have 32 bits each.
+pub fn counts_have_32_bits(ins: &[DriveIn])
+    ensures { All (λ (d : DriveIn). IsCount d.actual) ins.now }
+{
+    for input in ins {
+        let _ = count_of(input);
+    }
+}

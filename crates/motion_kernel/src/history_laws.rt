@@ -1,0 +1,22 @@
+// What every legal history keeps, in one: the contract of a function that does nothing.
+
+ghost use Rattle.std.specs.Prelude.{List};
+ghost use Rattle.motion_history.specs.Entries.{Entry};
+ghost use Rattle.motion_history.specs.Setup.{Setup, IsSetup};
+ghost use Rattle.motion_kernel.specs.Histories.{IsLegal};
+ghost use Rattle.motion_kernel.specs.Laws.{KeepsLaws};
+ghost use Rattle.motion_kernel.specs.MachineKept.{AreWhole};
+
+use crate::limit_laws::{at_most_eight_wait, axes_stay_stoppable, rows_keep_limits};
+
+/// In every legal history each row keeps its axis's limits; and after every entry each axis that is
+/// driven and each path can be stopped within its limits, and at most eight commands wait for each
+/// axis and each group.
+pub fn histories_keep_their_laws()
+    ensures { (s : Setup) (es : List Entry) → IsSetup s → AreWhole s → IsLegal s es →
+        KeepsLaws s es }
+{
+    rows_keep_limits();
+    axes_stay_stoppable();
+    at_most_eight_wait();
+}
