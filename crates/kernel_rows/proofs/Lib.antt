@@ -1,0 +1,1 @@
+-- The node of the crate's proofs.
