@@ -1,3 +1,5 @@
+pub mod ArrivalCalls
+pub mod ArrivalLaws
 pub mod CallMay
 pub mod CycleEntries
 pub mod CycleRows

@@ -13,6 +13,7 @@ use Rattle.axis_state.specs.declared.definition.AxisRow.{AxisRow}
 use Rattle.cia402_machine.specs.declared.drive.DriveIn.{DriveIn}
 use Rattle.motion_history.specs.Columns.{no_row}
 use Rattle.motion_history.specs.Setup.{Setup}
+use Rattle.motion_kernel.specs.AxisFates.{look_of_axis}
 use Rattle.motion_kernel.specs.Cycles.{Surroundings, after_cycle, around_in, axes_cycled, axis_look, core_in_cycle, cycled, groups_reset, row_in_cycle, stepped_in, with_found}
 use Rattle.motion_kernel.specs.Machine.{Machine, axis_among, axis_at, axis_core_at, no_axis}
 use Rattle.motion_kernel.specs.MachineKept.{IsMachineKept}
@@ -90,11 +91,17 @@ rows_moved : (s : Setup) (m : Machine) (ins : List DriveIn) →
 unfolding cycled
 rows_moved s m ins = refl
 
--- the row of an axis of a kept machine in a cycle
-pub cycle_keeps : RowsKeepSpells → (s : Setup) (m : Machine) (ins : List DriveIn) (n : ℕ) → IsMachineKept s m →
-    MayGoOn s (around_in s ins m) (stepped_in s ins m).machine → n < length m.axes →
-    KeepsSpell (axis_at m n) (slice_index_or (cycled s m ins).axes n no_row) (axis_at (after_cycle s m ins) n)
-cycle_keeps law s m ins n h may l =
+-- how an axis of a kept machine goes through a cycle, by what it looks at
+pub record GoesThrough (s : Setup) (m : Machine) (ins : List DriveIn) (n : ℕ) (look : AxisLook) : Type 0 where
+  pub kept : axis.IsCoreKept (axis_core_at m n)
+  pub fits : axis.IsLook (axis_at m n) look
+  pub row : slice_index_or (cycled s m ins).axes n no_row ≡ row_shown look.input (core_after_cycle look (axis_core_at m n)).axis
+  pub after : axis_at (after_cycle s m ins) n ≡ (core_after_cycle look (axis_core_at m n)).axis
+
+-- each axis does
+pub goes_through : (s : Setup) (m : Machine) (ins : List DriveIn) (n : ℕ) → IsMachineKept s m →
+    MayGoOn s (around_in s ins m) (stepped_in s ins m).machine → n < length m.axes → GoesThrough s m ins n (look_of_axis s m ins n)
+goes_through s m ins n h may l =
     let stepped = (stepped_in s ins m).machine in
     let around = around_in s ins m in
     let size : length stepped.axes ≡ length m.axes = ap length (steps_axes s (length m.groups) ins m) in
@@ -106,14 +113,23 @@ cycle_keeps law s m ins n h may l =
     let queue = steps.queues n l in
     let here : axis_core_at stepped n ≡ axis_core_at m n = λ i. record { axis = axis_among (axes i) n; waiting = queue i; notes = [] } in
     let same : axis_core_at before n ≡ axis_core_at m n = not_yet s n around stepped n (omega arith) ∙ here in
-    let kept : axis.IsCoreKept (axis_core_at before n) = subst axis.IsCoreKept (sym same) (h.axes n l).core in
-    let keeps = law look (axis_core_at before n) kept (may n b).look in
-    let row : slice_index_or (cycled s m ins).axes n no_row ≡ row_in_cycle s around n before =
-    ap (λ rs. slice_index_or rs n no_row) (rows_moved s m ins) ∙ row_once s (length stepped.axes) around stepped n b in
-    let after : axis_at (after_cycle s m ins) n ≡ (core_in_cycle s around n before).axis =
-    ap (λ axes. axis_among axes n) (axes_moved s m ins) ∙ cycled_once s (length stepped.axes) around stepped n (omega arith) b in
     let was : axis_at before n ≡ axis_at m n = ap (λ (c : cores.Core). c.axis) same in
-    let P : Axis → Type 0 = λ a. KeepsSpell a (slice_index_or (cycled s m ins).axes n no_row) (axis_at (after_cycle s m ins) n) in
-    let Q : AxisRow → Type 0 = λ r. KeepsSpell (axis_at before n) r (axis_at (after_cycle s m ins) n) in
-    let R : Axis → Type 0 = λ a. KeepsSpell (axis_at before n) (row_in_cycle s around n before) a in
-    subst P was (subst Q (sym row) (subst R (sym after) keeps))
+    record {
+      kept = (h.axes n l).core;
+      fits = subst (λ a. axis.IsLook a look) was (may n b).look;
+      row = ap (λ rs. slice_index_or rs n no_row) (rows_moved s m ins) ∙ row_once s (length stepped.axes) around stepped n b
+          ∙ ap (λ c. row_shown look.input (core_after_cycle look c).axis) same;
+      after = ap (λ axes. axis_among axes n) (axes_moved s m ins) ∙ cycled_once s (length stepped.axes) around stepped n (omega arith) b
+          ∙ ap (λ c. (core_after_cycle look c).axis) same;
+    }
+
+-- the row of an axis of a kept machine in a cycle
+pub cycle_keeps : RowsKeepSpells → (s : Setup) (m : Machine) (ins : List DriveIn) (n : ℕ) → IsMachineKept s m →
+    MayGoOn s (around_in s ins m) (stepped_in s ins m).machine → n < length m.axes →
+    KeepsSpell (axis_at m n) (slice_index_or (cycled s m ins).axes n no_row) (axis_at (after_cycle s m ins) n)
+cycle_keeps law s m ins n h may l =
+    let look = look_of_axis s m ins n in
+    let through = goes_through s m ins n h may l in
+    let P : AxisRow → Type 0 = λ r. KeepsSpell (axis_at m n) r (axis_at (after_cycle s m ins) n) in
+    let Q : Axis → Type 0 = λ a. KeepsSpell (axis_at m n) (row_shown look.input (core_after_cycle look (axis_core_at m n)).axis) a in
+    subst P (sym through.row) (subst Q (sym through.after) (law look (axis_core_at m n) through.kept through.fits))

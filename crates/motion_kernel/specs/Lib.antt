@@ -13,6 +13,8 @@ pub mod Around
 pub mod Histories
 pub mod Tasks
 pub mod Marked
+pub mod AxisFates
+pub mod Arrivals
 pub mod Laws
 pub mod KernelState
 pub mod KernelKept

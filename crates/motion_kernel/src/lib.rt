@@ -3,6 +3,7 @@
 #![tactic(auto)]
 
 mod answers;
+mod arrival_laws;
 mod asking;
 mod axis_calls;
 mod calls;
@@ -23,6 +24,7 @@ mod showing;
 mod tasks;
 mod telling;
 
+pub use arrival_laws::moves_arrive_in_time;
 pub use history_laws::histories_keep_their_laws;
 pub use kernel::{Kernel, OpenFault};
 pub use laws::machines_stay_kept;

@@ -14,4 +14,5 @@ returns c s es setup whole legal = record {
         paths = λ j l p is. c.axes_stay_stoppable.ensures.paths s made setup whole so_far j p l is;
         waiting = λ list. c.at_most_eight_wait.ensures.lists s made setup whole so_far list;
       };
+  moves = c.moves_arrive_in_time.ensures.moves s es setup whole legal;
 }

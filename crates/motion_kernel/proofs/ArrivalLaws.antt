@@ -1,0 +1,348 @@
+-- The active commands of axes come to their end in time.
+use Rattle.std.specs.Prelude.{◌≡◌, ◌≢◌, refl, ℕ, zero, suc, ◌+◌, ◌<◌, ◌≤◌, Bool, true, false, Option, Some, None, List, [], ◌∷◌, ◌++◌, length, slice_get}
+use Rattle.std.proofs.Common.{arith, sym, subst, ◌∙◌}
+use Rattle.axis_core.specs.Arrivals.{Carried, Course, toward, slowing, GoesOn, IsMoveDone, IsUnderWay, Turn, bound_of, course_of, turn_of}
+use Rattle.axis_core.specs.AxisKept.{IsCoreKept}
+use Rattle.axis_core.specs.Calls.{axis_without_owner, core_after_command, core_after_power}
+use Rattle.axis_core.specs.Cores as cores
+use Rattle.axis_core.specs.Cycles.{core_after_cycle}
+use Rattle.axis_core.specs.Fates.{Fate, IsFate, IsSame, admitted_fate, asked_fate, command_fate, cycle_fate, goes_on, joined_fate, power_fate, replaced}
+use Rattle.axis_core.specs.Refusals.{Asked, refusal_of}
+use Rattle.axis_core.specs.States.{is_error_stop}
+use Rattle.axis_core.specs.blocks.Gear.{velocity_command}
+use Rattle.axis_core.specs.declared.reason.Reason.{Reason}
+use Rattle.axis_core.specs.blocks.Moves.{blended_with, is_move, known_target_of, target_of, with_target}
+use Rattle.axis_core.specs.blocks.Path.{axis_on_path}
+use Rattle.axis_core.specs.declared.axis.Axis.{Axis}
+use Rattle.axis_core.specs.declared.look.AxisLook.{AxisLook}
+use Rattle.cia402_machine.specs.declared.drive.DriveIn.{DriveIn}
+use Rattle.command_pool.specs.Waiting.{last_of}
+use Rattle.command_pool.specs.declared.ending.Finish.TheVariants as finish
+use Rattle.command_pool.specs.declared.kind.BlockKind.{BlockKind}
+use Rattle.command_pool.specs.declared.kind.BlockKind.TheVariants as kind
+use Rattle.command_pool.specs.declared.wanted.Wanted.{Wanted}
+use Rattle.motion_history.specs.Entries.{Entry, call, cycle, cycle_count, cycles_of, end_of}
+use Rattle.motion_history.specs.Setup.{Setup, IsSetup}
+use Rattle.motion_kernel.specs.Arrivals.{IsTurnedWithin, KeepsMotion, MovesArrive, Turned, turned_by, turned_in}
+use Rattle.motion_kernel.specs.AxisFates.{axis_fate, look_of_axis}
+use Rattle.motion_kernel.specs.Histories.{Follows, IsLegal, IsOf, after, inputs_of, machine_after, replay}
+use Rattle.motion_kernel.specs.Machine.{Machine, axis_at, axis_core_at, machine_at_opening}
+use Rattle.motion_kernel.specs.MachineKept.{AreWhole, IsMachineKept}
+use Rattle.motion_kernel.proofs.ArrivalCalls.{IsByFate, by_call}
+use Rattle.motion_kernel.proofs.LimitCycles.{GoesThrough, goes_through}
+use Rattle.motion_kernel.proofs.LimitLaws.{MachinesStayKept}
+use Rattle.motion_kernel.proofs.SizeLaws.{by_if}
+use Rattle.motion_kernel.proofs.StoppableLaws.{legal_kept, legal_so_far, replay_kept}
+
+-- axis_core's fates_are_told
+pub record FatesAreTold : Type 0 where
+  pub command : (q : Asked) (c : cores.Core) → IsFate (command_fate q c) c.axis.active
+      (core_after_command q c).axis.active
+  pub power : (enable : Bool) (c : cores.Core) → IsFate (power_fate enable c) c.axis.active
+      (core_after_power enable c).axis.active
+  pub detach : (owner : ℕ) (a : Axis) → IsSame a.active (axis_without_owner owner a).active
+  pub path : (on : Bool) (a : Axis) → (axis_on_path on a).active ≡ a.active
+  pub cycle : (look : AxisLook) (c : cores.Core) → IsFate (cycle_fate look c) c.axis.active
+      (core_after_cycle look c).axis.active
+
+-- axis_core's courses_end_in_time
+pub record CoursesEnd : Type 0 where
+  pub begins : (course : Course) (c : cores.Core) (w : Wanted) → IsCoreKept c →
+      c.axis.active ≡ Some w → course_of w ≡ Some course →
+      IsUnderWay (bound_of course c.axis) course c.axis
+  pub command : (n : ℕ) (course : Course) (q : Asked) (c : cores.Core) →
+      IsUnderWay n course c.axis →
+      Carried n 0 course (turn_of (command_fate q c)) (core_after_command q c).axis
+  pub power : (n : ℕ) (course : Course) (enable : Bool) (c : cores.Core) →
+      IsUnderWay n course c.axis →
+      Carried n 0 course (turn_of (power_fate enable c)) (core_after_power enable c).axis
+  pub detach : (n : ℕ) (course : Course) (owner : ℕ) (a : Axis) → IsUnderWay n course a →
+      IsUnderWay n course (axis_without_owner owner a)
+  pub cycle : (n : ℕ) (course : Course) (look : AxisLook) (c : cores.Core) → IsCoreKept c →
+      IsUnderWay n course c.axis →
+      Carried n 1 course (turn_of (cycle_fate look c)) (core_after_cycle look c).axis
+
+-- axis_core's moves_are_done_at_their_targets
+abbrev pub MovesAreDone : Type 0
+MovesAreDone = (look : AxisLook) (c : cores.Core) (w : Wanted) → IsCoreKept c →
+    c.axis.active ≡ Some w → is_move w.kind ≡ true →
+    (cycle_fate look c).ends ≡ Some finish.Done →
+    IsMoveDone (blended_with c.axis w (slice_get c.waiting 0)) (target_of w) c.axis.setpoint
+        (core_after_cycle look c).axis
+
+-- the laws on which it rests that moves arrive
+pub record ArrivalLaws : Type 0 where
+  pub machines : MachinesStayKept
+  pub fates : FatesAreTold
+  pub courses : CoursesEnd
+  pub moves : MovesAreDone
+
+-- commands that are the same one after another
+same_again : (a b c : Option Wanted) → IsSame a b → IsSame b c → IsSame a c
+same_again None None c h k = k
+same_again None (Some v) c h k = elim h [ ]
+same_again (Some w) None c h k = elim h [ ]
+same_again (Some w) (Some v) None h k = elim k [ ]
+same_again (Some w) (Some v) (Some u) h k = k ∙ h
+
+as_it_is : (o : Option Wanted) → IsSame o o
+as_it_is None = tt
+as_it_is (Some w) = refl
+
+nothing_before : (a b : Option Wanted) → IsSame a b → a ≡ None → b ≡ None
+nothing_before None None h e = refl
+nothing_before None (Some v) h e = elim h [ ]
+nothing_before (Some w) b h e = absurd (cc)
+
+-- the fate of every event of an axis is what its active command shows
+stays : (before now : Option Wanted) → IsSame before now → IsFate goes_on before now
+stays before now h = record {
+  begins = λ w e. absurd (cc);
+  ends = λ d e. absurd (d refl);
+  goes_on = λ e f. h;
+  was = λ d. absurd (d refl);
+}
+
+chained : (f : Fate) (a b c : Option Wanted) → IsSame a b → IsFate f b c → IsFate f a c
+chained f a b c s h = record {
+  begins = h.begins;
+  ends = h.ends;
+  goes_on = λ x y. same_again a b c s (h.goes_on x y);
+  was = λ d e. h.was d (nothing_before a b s e);
+}
+
+fates_by : ArrivalLaws → (a : Axis) → IsByFate a (λ f x. IsFate f a.active x.active)
+fates_by laws a = record {
+  rests = stays a.active a.active (as_it_is a.active);
+  path = λ on x h. subst (IsFate goes_on a.active) (sym (laws.fates.path on x)) h;
+  detach = λ owner. stays a.active (axis_without_owner owner a).active (laws.fates.detach owner a);
+  power = λ enable c e. subst
+      (λ (x : Axis). IsFate (power_fate enable c) x.active (core_after_power enable c).axis.active)
+      e (laws.fates.power enable c);
+  command = λ owner q c e.
+      let same = subst (λ (x : Axis). IsSame a.active x.active) (sym e)
+          (laws.fates.detach owner a) in
+      chained (command_fate q c) a.active c.axis.active (core_after_command q c).axis.active same
+          (laws.fates.command q c);
+}
+
+-- a command that is under way is carried on by every event of its axis
+on_it : (n : ℕ) (course : Course) (a : Axis) → IsUnderWay n course a → GoesOn n 0 course a
+on_it n course a h = record { left = n; sum = omega arith; under_way = h }
+
+led_on : (n : ℕ) (course : Course) (on : Bool) (a : Axis) → IsUnderWay n course a →
+    IsUnderWay n course (axis_on_path on a)
+unfolding axis_on_path
+led_on n course on a h = record { command = h.command; active = h.active; leads = h.leads; run =
+    h.run }
+
+carried_by : ArrivalLaws → (n : ℕ) (course : Course) (a : Axis) → IsUnderWay n course a →
+    IsByFate a (λ f x. Carried n 0 course (turn_of f) x)
+carried_by laws n course a h = record {
+  rests = on_it n course a h;
+  path = λ on x g. record { left = g.left; sum = g.sum; under_way =
+      led_on g.left course on x g.under_way };
+  detach = λ owner. on_it n course (axis_without_owner owner a)
+      (laws.courses.detach n course owner a h);
+  power = λ enable c e. laws.courses.power n course enable c
+      (subst (IsUnderWay n course) (sym e) h);
+  command = λ owner q c e. laws.courses.command n course q c
+      (subst (IsUnderWay n course) (sym e) (laws.courses.detach n course owner a h));
+}
+
+-- how an axis of a kept machine goes through a cycle of its history
+through : ArrivalLaws → (s : Setup) (m : Machine) (ins : List DriveIn) (n : ℕ) → IsMachineKept s m →
+    n < length m.axes → GoesThrough s m ins n (look_of_axis s m ins n)
+through laws s m ins n h l = goes_through s m ins n h (laws.machines.may_go_on s m ins h) l
+
+-- what an entry makes of an axis goes with its fate
+fate_shown : ArrivalLaws → (s : Setup) (m : Machine) (e : Entry) (n : ℕ) → IsMachineKept s m →
+    n < length m.axes →
+    IsFate (axis_fate s m e n) (axis_at m n).active (axis_at (after s m e) n).active
+fate_shown laws s m (call k i reply) n h l =
+    by_call (λ f x. IsFate f (axis_at m n).active x.active) s m k i n (fates_by laws (axis_at m n))
+    l
+fate_shown laws s m (cycle c rows grows) n h l =
+    let look = look_of_axis s m (inputs_of rows) n in
+    subst (λ (a : Axis). IsFate (cycle_fate look (axis_core_at m n)) (axis_at m n).active a.active)
+    (sym (through laws s m (inputs_of rows) n h l).after) (laws.fates.cycle look (axis_core_at m n))
+fate_shown laws s m (end_of task) n h l = stays (axis_at m n).active (axis_at m n).active
+    (as_it_is (axis_at m n).active)
+
+carried_on : ArrivalLaws → (s : Setup) (m : Machine) (e : Entry) (n most : ℕ) (course : Course) →
+    IsMachineKept s m → n < length m.axes →
+    IsUnderWay most course (axis_at m n) → Carried most (cycle_count e) course
+        (turn_of (axis_fate s m e n)) (axis_at (after s m e) n)
+carried_on laws s m (call k i reply) n most course h l u =
+    by_call (λ f x. Carried most 0 course (turn_of f) x) s m k i n
+        (carried_by laws most course (axis_at m n) u) l
+carried_on laws s m (cycle c rows grows) n most course h l u =
+    let look = look_of_axis s m (inputs_of rows) n in
+    let goes = through laws s m (inputs_of rows) n h l in
+    subst (Carried most 1 course (turn_of (cycle_fate look (axis_core_at m n)))) (sym goes.after)
+        (laws.courses.cycle most course look (axis_core_at m n) goes.kept u)
+carried_on laws s m (end_of task) n most course h l u = on_it most course (axis_at m n) u
+
+-- a turn later
+later_on : (c left most : ℕ) (course : Course) (n : ℕ) (m : Machine) (later : Option Turned) →
+    c + left ≡ most → IsTurnedWithin left course n later →
+    IsTurnedWithin most course n (turned_by None c m later)
+later_on c left most course n m None sum h = h
+later_on c left most course n m (Some t) sum h = let l = h.0 in (omega arith, h.1)
+
+turns : (most c : ℕ) (course : Course) (n : ℕ) (m : Machine) (later : Option Turned)
+    (t : Option Turn) → Carried most c course t (axis_at m n) →
+    ((left : ℕ) → c + left ≡ most → IsUnderWay left course (axis_at m n) →
+        IsTurnedWithin left course n later) → IsTurnedWithin most course n (turned_by t c m later)
+turns most c course n m later (Some t) h behind = h
+turns most c course n m later None h behind = later_on c h.left most course n m later h.sum
+    (behind h.left h.sum h.under_way)
+
+-- no course has no cycles to go
+runs : (course : Course) (a : Axis) → IsUnderWay 0 course a → ⊥
+runs (toward target rates) a h = h.run
+runs (slowing d) a h = h.run
+
+-- the machine after an entry is kept, and has as many axes
+kept_after : ArrivalLaws → (s : Setup) (cycles : ℕ) (m : Machine) (e : Entry) → AreWhole s →
+    IsMachineKept s m → IsOf s cycles m e → IsMachineKept s (after s m e)
+kept_after laws s cycles m e whole h is = replay_kept laws.machines s cycles m (e ∷ []) whole h
+    (is, tt)
+
+-- a command that is under way is turned in time
+arrives : ArrivalLaws → (s : Setup) (cycles : ℕ) (m : Machine) (es : List Entry) (n most : ℕ)
+    (course : Course) → AreWhole s → IsMachineKept s m →
+    Follows s cycles m es → n < length s.axes → IsUnderWay most course (axis_at m n) →
+        most ≤ cycles_of es → IsTurnedWithin most course n (turned_in s n m es)
+arrives laws s cycles m [] n zero course whole h f l u b = absurd (runs course (axis_at m n) u)
+arrives laws s cycles m [] n (suc most) course whole h f l u b = absurd (omega arith)
+arrives laws s cycles m (e ∷ es) n most course whole h f l u b =
+    let sizes = h.sized in
+    let size = sizes.axes in
+    let next = kept_after laws s cycles m e whole h f.0 in
+    turns most (cycle_count e) course n (after s m e) (turned_in s n (after s m e) es)
+        (turn_of (axis_fate s m e n)) (carried_on laws s m e n most course h (omega arith) u)
+    (λ left sum under. arrives laws s (cycles + cycle_count e) (after s m e) es n left course whole
+        next f.1 l under (omega arith))
+
+-- the entries behind some follow the machine after these
+behind : (s : Setup) (cycles : ℕ) (m : Machine) (es fs : List Entry) →
+    Follows s cycles m (es ++ fs) → Follows s (cycles + cycles_of es) (replay s m es) fs
+behind s cycles m [] fs f = subst (λ c. Follows s c m fs) (omega arith) f
+behind s cycles m (e ∷ es) fs f =
+    subst (λ c. Follows s c (replay s (after s m e) es) fs) (omega arith)
+        (behind s (cycles + cycle_count e) (after s m e) es fs f.1)
+
+-- a call ends no command Done
+replaced_not_done : (o next : Option Wanted) →
+    (replaced finish.Aborted o next).ends ≢ Some finish.Done
+replaced_not_done None next e = absurd (cc)
+replaced_not_done (Some w) next e = absurd (cc)
+
+goes_on_not_done : goes_on.ends ≢ Some finish.Done
+goes_on_not_done e = absurd (cc)
+
+abbrev IsNotDone : Fate → Type 0
+IsNotDone f = f.ends ≢ Some finish.Done
+
+joined_not_done : (w : Wanted) (c : cores.Core) → IsNotDone (joined_fate w c)
+joined_not_done w c = by_if IsNotDone _ _ _ (replaced_not_done c.axis.active (Some w))
+    goes_on_not_done
+
+admitted_not_done : (k : BlockKind) (w : Wanted) (c : cores.Core) → IsNotDone (admitted_fate k w c)
+admitted_not_done kind.Reset w c = goes_on_not_done
+admitted_not_done kind.GearOut w c = replaced_not_done c.axis.active
+    (Some (velocity_command w c.axis))
+admitted_not_done kind.CamOut w c = replaced_not_done c.axis.active
+    (Some (velocity_command w c.axis))
+admitted_not_done kind.Power w c = joined_not_done w c
+admitted_not_done kind.Home w c = joined_not_done w c
+admitted_not_done kind.Stop w c = joined_not_done w c
+admitted_not_done kind.Halt w c = joined_not_done w c
+admitted_not_done kind.MoveAbsolute w c = joined_not_done w c
+admitted_not_done kind.MoveRelative w c = joined_not_done w c
+admitted_not_done kind.MoveVelocity w c = joined_not_done w c
+admitted_not_done kind.GearIn w c = joined_not_done w c
+admitted_not_done kind.CamIn w c = joined_not_done w c
+admitted_not_done kind.GroupEnable w c = joined_not_done w c
+admitted_not_done kind.GroupDisable w c = joined_not_done w c
+admitted_not_done kind.GroupReset w c = joined_not_done w c
+admitted_not_done kind.GroupStop w c = joined_not_done w c
+admitted_not_done kind.GroupHalt w c = joined_not_done w c
+admitted_not_done kind.MoveLinearAbsolute w c = joined_not_done w c
+admitted_not_done kind.MoveCircularAbsolute w c = joined_not_done w c
+
+asked_not_done : (o : Option Reason) (w : Wanted) (c : cores.Core) → IsNotDone (asked_fate o w c)
+asked_not_done None w c =
+    admitted_not_done w.kind (with_target (known_target_of c.axis (last_of c.waiting) w) w) c
+asked_not_done (Some r) w c = goes_on_not_done
+
+command_not_done : (q : Asked) (c : cores.Core) → IsNotDone (command_fate q c)
+unfolding command_fate
+command_not_done q c = asked_not_done (refusal_of q) q.wanted c
+
+power_not_done : (enable : Bool) (c : cores.Core) → IsNotDone (power_fate enable c)
+unfolding power_fate
+power_not_done true c = goes_on_not_done
+power_not_done false c = by_if IsNotDone (is_error_stop c.axis.state) _ _ goes_on_not_done
+    (replaced_not_done c.axis.active None)
+
+not_done_by : (a : Axis) → IsByFate a (λ f x. IsNotDone f)
+not_done_by a = record {
+  rests = goes_on_not_done;
+  path = λ on x h. h;
+  detach = λ owner. goes_on_not_done;
+  power = λ enable c e. power_not_done enable c;
+  command = λ owner q c e. command_not_done q c;
+}
+
+-- a move is Done at its target
+done_there : ArrivalLaws → (s : Setup) (m : Machine) (e : Entry) (n : ℕ) (w : Wanted) →
+    IsMachineKept s m → n < length m.axes → (axis_at m n).active ≡ Some w →
+    is_move w.kind ≡ true → (axis_fate s m e n).ends ≡ Some finish.Done →
+    IsMoveDone (blended_with (axis_at m n) w (slice_get (axis_core_at m n).waiting 0)) (target_of w)
+        (axis_at m n).setpoint (axis_at (after s m e) n)
+done_there laws s m (call k i reply) n w h l active move done =
+    absurd (by_call (λ f x. IsNotDone f) s m k i n (not_done_by (axis_at m n)) l done)
+done_there laws s m (cycle c rows grows) n w h l active move done =
+    let look = look_of_axis s m (inputs_of rows) n in
+    let goes = through laws s m (inputs_of rows) n h l in
+    let c = axis_core_at m n in
+    subst (λ (a : Axis). IsMoveDone (blended_with c.axis w (slice_get c.waiting 0))
+        (target_of w) c.axis.setpoint a) (sym goes.after)
+    (laws.moves look c w goes.kept active move done)
+done_there laws s m (end_of task) n w h l active move done = absurd (goes_on_not_done done)
+
+-- each entry of a history that follows a kept machine
+motion_kept : ArrivalLaws → (s : Setup) (cycles : ℕ) (m : Machine) (e : Entry) (more : List Entry)
+    (n : ℕ) → AreWhole s → IsMachineKept s m →
+    Follows s cycles m (e ∷ more) → n < length s.axes → KeepsMotion s m e more n
+motion_kept laws s cycles m e more n whole h f l =
+    let sizes = h.sized in
+    let size = sizes.axes in
+    let here : n < length m.axes = omega arith in
+    let next = kept_after laws s cycles m e whole h f.0 in
+    let then = next.sized in
+    let count = then.axes in
+    let there : n < length (after s m e).axes = omega arith in
+    let fate = fate_shown laws s m e n h here in
+    record {
+      fate = fate;
+      in_time = λ w course begins leads most.
+          let under = laws.courses.begins course (axis_core_at (after s m e) n) w
+              (next.axes n there).core (fate.begins w begins) leads in
+          arrives laws s (cycles + cycle_count e) (after s m e) more n
+              (bound_of course (axis_at (after s m e) n)) course whole next f.1 l under most;
+      done = λ w active move done. done_there laws s m e n w h here active move done;
+    }
+
+-- and so each entry of a legal history
+pub moves_arrive : ArrivalLaws → (s : Setup) (es : List Entry) → IsSetup s → AreWhole s →
+    IsLegal s es → MovesArrive s es
+unfolding machine_after
+moves_arrive laws s es setup whole legal made more e n is l =
+    let all = subst (IsLegal s) is legal in
+    let so_far = legal_so_far s made (e ∷ more) all in
+    motion_kept laws s (0 + cycles_of made) (machine_after s made) e more n whole
+        (legal_kept laws.machines s made setup whole so_far)
+    (behind s 0 (machine_at_opening s) made (e ∷ more) all.follows) l

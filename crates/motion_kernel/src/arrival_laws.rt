@@ -1,0 +1,31 @@
+// Laws of motion over the machine's histories: each is the contract of a function that does
+// nothing.
+
+ghost use Rattle.std.specs.Prelude.{List};
+ghost use Rattle.motion_history.specs.Entries.{Entry};
+ghost use Rattle.motion_history.specs.Setup.{Setup, IsSetup};
+ghost use Rattle.motion_kernel.specs.Arrivals.{MovesArrive};
+ghost use Rattle.motion_kernel.specs.Histories.{IsLegal};
+ghost use Rattle.motion_kernel.specs.MachineKept.{AreWhole};
+
+use crate::laws::machines_stay_kept;
+use axis_core::{courses_end_in_time, fates_are_told, moves_are_done_at_their_targets};
+
+/// In every legal history the active command of an axis changes by its fate alone; and a move, a
+/// Halt and a Stop come to their end in time. From the entry on in which one becomes active, be it
+/// in its call or by taking over in a cycle, and where the history has as many cycles behind it as
+/// its bound, it is within these Done at the end of its course, or was aborted, blended or faulted
+/// before: at rest at its target, by the bound on a move's cycles from where the axis then stood
+/// and how it moved; or, for a Halt and a Stop, at rest, within |step| / Deceleration + 1 cycles.
+/// What happens to other axes and blocks, and what the drives answer, changes nothing of that. A
+/// move is Done at its target alone; a blended one there, or by a step of at most the blend
+/// velocity that crosses it.
+pub fn moves_arrive_in_time()
+    ensures moves { (s : Setup) (es : List Entry) → IsSetup s → AreWhole s → IsLegal s es →
+        MovesArrive s es }
+{
+    machines_stay_kept();
+    fates_are_told();
+    courses_end_in_time();
+    moves_are_done_at_their_targets();
+}
