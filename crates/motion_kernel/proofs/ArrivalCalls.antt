@@ -90,7 +90,7 @@ all_led : (a : Axis) (P : Fate → Axis → Type 0) → IsByFate a P →
 all_led a P laws on [] m n h = h
 all_led a P laws on (k ∷ ks) m n h =
     all_led a P laws on ks (record m { axes = slice_set m.axes k (axis_led on (axis_at m k)) }) n
-        (set_led a P laws on m.axes k n h)
+    (set_led a P laws on m.axes k n h)
 
 group_led : (a : Axis) (P : Fate → Axis → Type 0) → IsByFate a P →
     (s : Setup) (j : ℕ) (kind : BlockKind) (answer : Result Bool Refusal) (m : Machine) (n : ℕ) →
@@ -112,7 +112,7 @@ axis_command : (a : Axis) (P : Fate → Axis → Type 0) → IsByFate a P →
     (s : Setup) (k o : ℕ) (kind : BlockKind) (i : Inputs) (m : Machine) (n : ℕ) →
     n < length m.axes → axis_at m n ≡ axis_without_owner k a →
     P (if nat_eq o n then command_fate (asked_of_axis s k n kind i m)
-        (axis_core_at m n) else goes_on) (axis_at (after_axis_command s k o kind i m) n)
+    (axis_core_at m n) else goes_on) (axis_at (after_axis_command s k o kind i m) n)
 unfolding after_axis_command
 axis_command a P laws s k o kind i m n l free =
     let q = asked_of_axis s k o kind i m in
@@ -120,13 +120,13 @@ axis_command a P laws s k o kind i m n l free =
     one_fate (λ f x. P f (axis_at x n)) (nat_eq o n) _ _ (after_axis_command s k o kind i m)
     (λ e. let same = eqb-true o n e in
     let here : P (command_fate (asked_of_axis s k n kind i m) (axis_core_at m n))
-        (core_after_command (asked_of_axis s k n kind i m) (axis_core_at m n)).axis =
+    (core_after_command (asked_of_axis s k n kind i m) (axis_core_at m n)).axis =
     laws.command k (asked_of_axis s k n kind i m) (axis_core_at m n) free in
     rw same (subst (P (command_fate (asked_of_axis s k n kind i m) (axis_core_at m n)))
-        (sym (written m n (core_after_command (asked_of_axis s k n kind i m) (axis_core_at m n)) l))
-        here))
+    (sym (written m n (core_after_command (asked_of_axis s k n kind i m) (axis_core_at m n)) l))
+    here))
     (λ e. subst Q (sym (beside m o n (core_after_command q (axis_core_at m o)) e))
-        (subst Q (sym free) (laws.detach k)))
+    (subst Q (sym free) (laws.detach k)))
 
 -- a rising edge
 rising : (P : Fate → Axis → Type 0) (s : Setup) (k : ℕ) (b : BlockDef) (i : Inputs) (m : Machine)
@@ -138,7 +138,7 @@ rising P s k b i m n laws l =
     let count = freed_count k m in
     both (λ f x. P f (axis_at x n)) (acts_on_group b.kind) _ _ _ _
     (λ e. group_command (axis_at m n) P laws s k b.object b.kind i free n
-        (subst (P goes_on) (sym is) (laws.detach k)))
+    (subst (P goes_on) (sym is) (laws.detach k)))
     (λ e. axis_command (axis_at m n) P laws s k b.object b.kind i free n (omega arith) is)
 
 edges : (P : Fate → Axis → Type 0) (s : Setup) (e : Edge) (k : ℕ) (b : BlockDef) (i : Inputs)
@@ -165,19 +165,19 @@ power_axes s o false m = group_off (membership_of s o)
 powers : (P : Fate → Axis → Type 0) (s : Setup) (o : ℕ) (enable : Bool) (m : Machine) (n : ℕ) →
     IsByFate (axis_at m n) P → n < length m.axes →
     P (if nat_eq o n then power_fate enable (axis_core_at m n) else goes_on)
-        (axis_at (after_power s o enable m) n)
+    (axis_at (after_power s o enable m) n)
 powers P s o enable m n laws l =
     let c = core_after_power enable (axis_core_at m o) in
     let now : axis_at (after_power s o enable m) n ≡ axis_at (with_axis_core m o c) n =
-        ap (λ axes. axis_among axes n) (power_axes s o enable m) in
+    ap (λ axes. axis_among axes n) (power_axes s o enable m) in
     one_fate (λ f x. P f (axis_at x n)) (nat_eq o n) _ _ (after_power s o enable m)
     (λ e. let same = eqb-true o n e in
     let all : axis_at
-        (after_power s o enable m) n ≡ (core_after_power enable (axis_core_at m n)).axis =
-        now ∙ ap (λ x. axis_at (with_axis_core m x (core_after_power enable (axis_core_at m x))) n)
-        same ∙ written m n (core_after_power enable (axis_core_at m n)) l in
+    (after_power s o enable m) n ≡ (core_after_power enable (axis_core_at m n)).axis =
+    now ∙ ap (λ x. axis_at (with_axis_core m x (core_after_power enable (axis_core_at m x))) n)
+    same ∙ written m n (core_after_power enable (axis_core_at m n)) l in
     subst (P (power_fate enable (axis_core_at m n))) (sym all)
-        (laws.power enable (axis_core_at m n) refl))
+    (laws.power enable (axis_core_at m n) refl))
     (λ e. subst (P goes_on) (sym (now ∙ beside m o n c e)) laws.rests)
 
 kinds : (P : Fate → Axis → Type 0) (s : Setup) (kind : BlockKind) (e : Edge) (k : ℕ) (b : BlockDef)
@@ -209,7 +209,7 @@ calls : (P : Fate → Axis → Type 0) (s : Setup) (o : Option BlockDef) (k : �
 calls P s None k i m n laws l = laws.rests
 calls P s (Some b) k i m n laws l =
     kinds P s b.kind (edge_of (instance_at m.instances k).execute i.execute) k b i
-        (with_execute k i m) n laws l
+    (with_execute k i m) n laws l
 
 -- what a call makes of an axis
 pub by_call : (P : Fate → Axis → Type 0) (s : Setup) (m : Machine) (k : ℕ) (i : Inputs) (n : ℕ) →

@@ -68,7 +68,7 @@ MovesAreDone = (look : AxisLook) (c : cores.Core) (w : Wanted) → IsCoreKept c 
     c.axis.active ≡ Some w → is_move w.kind ≡ true →
     (cycle_fate look c).ends ≡ Some finish.Done →
     IsMoveDone (blended_with c.axis w (slice_get c.waiting 0)) (target_of w) c.axis.setpoint
-        (core_after_cycle look c).axis
+    (core_after_cycle look c).axis
 
 -- the laws on which it rests that moves arrive
 pub record ArrivalLaws : Type 0 where
@@ -121,9 +121,9 @@ fates_by laws a = record {
       e (laws.fates.power enable c);
   command = λ owner q c e.
       let same = subst (λ (x : Axis). IsSame a.active x.active) (sym e)
-          (laws.fates.detach owner a) in
+      (laws.fates.detach owner a) in
       chained (command_fate q c) a.active c.axis.active (core_after_command q c).axis.active same
-          (laws.fates.command q c);
+      (laws.fates.command q c);
 }
 
 -- a command that is under way is carried on by every event of its axis
@@ -133,15 +133,24 @@ on_it n course a h = record { left = n; sum = omega arith; under_way = h }
 led_on : (n : ℕ) (course : Course) (on : Bool) (a : Axis) → IsUnderWay n course a →
     IsUnderWay n course (axis_on_path on a)
 unfolding axis_on_path
-led_on n course on a h = record { command = h.command; active = h.active; leads = h.leads; run =
-    h.run }
+led_on n course on a h = record {
+  command = h.command;
+  active = h.active;
+  leads = h.leads;
+  run =
+      h.run;
+}
 
 carried_by : ArrivalLaws → (n : ℕ) (course : Course) (a : Axis) → IsUnderWay n course a →
     IsByFate a (λ f x. Carried n 0 course (turn_of f) x)
 carried_by laws n course a h = record {
   rests = on_it n course a h;
-  path = λ on x g. record { left = g.left; sum = g.sum; under_way =
-      led_on g.left course on x g.under_way };
+  path = λ on x g. record {
+    left = g.left;
+    sum = g.sum;
+    under_way =
+        led_on g.left course on x g.under_way;
+  };
   detach = λ owner. on_it n course (axis_without_owner owner a)
       (laws.courses.detach n course owner a h);
   power = λ enable c e. laws.courses.power n course enable c
@@ -172,15 +181,15 @@ fate_shown laws s m (end_of task) n h l = stays (axis_at m n).active (axis_at m 
 carried_on : ArrivalLaws → (s : Setup) (m : Machine) (e : Entry) (n most : ℕ) (course : Course) →
     IsMachineKept s m → n < length m.axes →
     IsUnderWay most course (axis_at m n) → Carried most (cycle_count e) course
-        (turn_of (axis_fate s m e n)) (axis_at (after s m e) n)
+    (turn_of (axis_fate s m e n)) (axis_at (after s m e) n)
 carried_on laws s m (call k i reply) n most course h l u =
     by_call (λ f x. Carried most 0 course (turn_of f) x) s m k i n
-        (carried_by laws most course (axis_at m n) u) l
+    (carried_by laws most course (axis_at m n) u) l
 carried_on laws s m (cycle c rows grows) n most course h l u =
     let look = look_of_axis s m (inputs_of rows) n in
     let goes = through laws s m (inputs_of rows) n h l in
     subst (Carried most 1 course (turn_of (cycle_fate look (axis_core_at m n)))) (sym goes.after)
-        (laws.courses.cycle most course look (axis_core_at m n) goes.kept u)
+    (laws.courses.cycle most course look (axis_core_at m n) goes.kept u)
 carried_on laws s m (end_of task) n most course h l u = on_it most course (axis_at m n) u
 
 -- a turn later
@@ -193,7 +202,7 @@ later_on c left most course n m (Some t) sum h = let l = h.0 in (omega arith, h.
 turns : (most c : ℕ) (course : Course) (n : ℕ) (m : Machine) (later : Option Turned)
     (t : Option Turn) → Carried most c course t (axis_at m n) →
     ((left : ℕ) → c + left ≡ most → IsUnderWay left course (axis_at m n) →
-        IsTurnedWithin left course n later) → IsTurnedWithin most course n (turned_by t c m later)
+    IsTurnedWithin left course n later) → IsTurnedWithin most course n (turned_by t c m later)
 turns most c course n m later (Some t) h behind = h
 turns most c course n m later None h behind = later_on c h.left most course n m later h.sum
     (behind h.left h.sum h.under_way)
@@ -213,7 +222,7 @@ kept_after laws s cycles m e whole h is = replay_kept laws.machines s cycles m (
 arrives : ArrivalLaws → (s : Setup) (cycles : ℕ) (m : Machine) (es : List Entry) (n most : ℕ)
     (course : Course) → AreWhole s → IsMachineKept s m →
     Follows s cycles m es → n < length s.axes → IsUnderWay most course (axis_at m n) →
-        most ≤ cycles_of es → IsTurnedWithin most course n (turned_in s n m es)
+    most ≤ cycles_of es → IsTurnedWithin most course n (turned_in s n m es)
 arrives laws s cycles m [] n zero course whole h f l u b = absurd (runs course (axis_at m n) u)
 arrives laws s cycles m [] n (suc most) course whole h f l u b = absurd (omega arith)
 arrives laws s cycles m (e ∷ es) n most course whole h f l u b =
@@ -221,17 +230,17 @@ arrives laws s cycles m (e ∷ es) n most course whole h f l u b =
     let size = sizes.axes in
     let next = kept_after laws s cycles m e whole h f.0 in
     turns most (cycle_count e) course n (after s m e) (turned_in s n (after s m e) es)
-        (turn_of (axis_fate s m e n)) (carried_on laws s m e n most course h (omega arith) u)
+    (turn_of (axis_fate s m e n)) (carried_on laws s m e n most course h (omega arith) u)
     (λ left sum under. arrives laws s (cycles + cycle_count e) (after s m e) es n left course whole
-        next f.1 l under (omega arith))
+    next f.1 l under (omega arith))
 
 -- the entries behind some follow the machine after these
-behind : (s : Setup) (cycles : ℕ) (m : Machine) (es fs : List Entry) →
+pub behind : (s : Setup) (cycles : ℕ) (m : Machine) (es fs : List Entry) →
     Follows s cycles m (es ++ fs) → Follows s (cycles + cycles_of es) (replay s m es) fs
 behind s cycles m [] fs f = subst (λ c. Follows s c m fs) (omega arith) f
 behind s cycles m (e ∷ es) fs f =
     subst (λ c. Follows s c (replay s (after s m e) es) fs) (omega arith)
-        (behind s (cycles + cycle_count e) (after s m e) es fs f.1)
+    (behind s (cycles + cycle_count e) (after s m e) es fs f.1)
 
 -- a call ends no command Done
 replaced_not_done : (o next : Option Wanted) →
@@ -301,7 +310,7 @@ done_there : ArrivalLaws → (s : Setup) (m : Machine) (e : Entry) (n : ℕ) (w 
     IsMachineKept s m → n < length m.axes → (axis_at m n).active ≡ Some w →
     is_move w.kind ≡ true → (axis_fate s m e n).ends ≡ Some finish.Done →
     IsMoveDone (blended_with (axis_at m n) w (slice_get (axis_core_at m n).waiting 0)) (target_of w)
-        (axis_at m n).setpoint (axis_at (after s m e) n)
+    (axis_at m n).setpoint (axis_at (after s m e) n)
 done_there laws s m (call k i reply) n w h l active move done =
     absurd (by_call (λ f x. IsNotDone f) s m k i n (not_done_by (axis_at m n)) l done)
 done_there laws s m (cycle c rows grows) n w h l active move done =
@@ -309,7 +318,7 @@ done_there laws s m (cycle c rows grows) n w h l active move done =
     let goes = through laws s m (inputs_of rows) n h l in
     let c = axis_core_at m n in
     subst (λ (a : Axis). IsMoveDone (blended_with c.axis w (slice_get c.waiting 0))
-        (target_of w) c.axis.setpoint a) (sym goes.after)
+    (target_of w) c.axis.setpoint a) (sym goes.after)
     (laws.moves look c w goes.kept active move done)
 done_there laws s m (end_of task) n w h l active move done = absurd (goes_on_not_done done)
 
@@ -330,9 +339,9 @@ motion_kept laws s cycles m e more n whole h f l =
       fate = fate;
       in_time = λ w course begins leads most.
           let under = laws.courses.begins course (axis_core_at (after s m e) n) w
-              (next.axes n there).core (fate.begins w begins) leads in
+          (next.axes n there).core (fate.begins w begins) leads in
           arrives laws s (cycles + cycle_count e) (after s m e) more n
-              (bound_of course (axis_at (after s m e) n)) course whole next f.1 l under most;
+          (bound_of course (axis_at (after s m e) n)) course whole next f.1 l under most;
       done = λ w active move done. done_there laws s m e n w h here active move done;
     }
 
@@ -344,5 +353,5 @@ moves_arrive laws s es setup whole legal made more e n is l =
     let all = subst (IsLegal s) is legal in
     let so_far = legal_so_far s made (e ∷ more) all in
     motion_kept laws s (0 + cycles_of made) (machine_after s made) e more n whole
-        (legal_kept laws.machines s made setup whole so_far)
+    (legal_kept laws.machines s made setup whole so_far)
     (behind s 0 (machine_at_opening s) made (e ∷ more) all.follows) l

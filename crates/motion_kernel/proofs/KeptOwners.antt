@@ -29,7 +29,7 @@ use Rattle.motion_kernel.proofs.KeptMembers.{membership_is}
 abbrev placed_without : ℕ → PlacedGroup → PlacedGroup
 placed_without k g = record g { group = group_without k g.group }
 
-disowned_size : (k : ℕ) (m : Machine) → IsAsLarge m (without_owner k m)
+pub disowned_size : (k : ℕ) (m : Machine) → IsAsLarge m (without_owner k m)
 unfolding without_owner
 disowned_size k m = record {
   axes = length-map m.axes (axis_without_owner k);
@@ -50,7 +50,7 @@ group_there : (k j : ℕ) (m : Machine) → j < length m.groups → group_at (wi
 unfolding without_owner
 group_there k j m l = get_or-map (placed_without k) m.groups j no_group no_group l
 
-group_disowned : (k j : ℕ) (m : Machine) → j < length m.groups → list_of m j < length m.queues →
+pub group_disowned : (k j : ℕ) (m : Machine) → j < length m.groups → list_of m j < length m.queues →
     group_core_at (without_owner k m) j ≡ disowned k (group_core_at m j)
 unfolding without_owner
 group_disowned k j m l q =

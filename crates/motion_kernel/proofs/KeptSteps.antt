@@ -50,6 +50,7 @@ looks_at s m after j error h l axes size hold =
 -- a group after its step
 pub record HasStepped (s : Setup) (m : Machine) (ins : List DriveIn) (g : GroupsStepped) (j : ℕ) : Type 0 where
   pub seen : GroupLook
+  pub is : seen ≡ look_in_cycle s ins j (groups_stepped s j ins m).machine
   pub looking : IsLooking s m j seen
   pub error : seen.error ≡ error_of_group s m ins j
   pub core : group_core_at g.machine j ≡ record (cycled seen (group_core_at m j)) { notes = [] }
@@ -80,6 +81,7 @@ stepped_before s m ins n j g h l =
     let count = h.count in
     record {
       seen = a.seen;
+      is = a.is;
       looking = a.looking;
       error = a.error;
       core = group_beside_group g.machine n j c (λ e. omega arith) ∙ a.core;
@@ -87,8 +89,8 @@ stepped_before s m ins n j g h l =
     }
 
 stepped_here : (s : Setup) (m : Machine) (ins : List DriveIn) (n : ℕ) (g : GroupsStepped) → IsMachineKept s m → n < length m.groups →
-    HaveStepped s m ins n g → HasStepped s m ins (group_stepped s ins n g) n
-stepped_here s m ins n g h l so_far =
+    HaveStepped s m ins n g → g ≡ groups_stepped s n ins m → HasStepped s m ins (group_stepped s ins n g) n
+stepped_here s m ins n g h l so_far is =
     let sizes = h.sized in
     let s1 = sizes.axes in
     let s2 = sizes.groups in
@@ -103,6 +105,7 @@ stepped_here s m ins n g h l so_far =
     let error = error_of_group s g.machine ins n in
     record {
       seen = look;
+      is = ap (λ (x : GroupsStepped). look_in_cycle s ins n x.machine) is;
       looking = looks_at s m g.machine n error h l so_far.axes size.instances (ap (λ (c : group_cores.Core). c.group.hold) same);
       error = told_error s g.machine n error ∙ ap (λ axes. first_error axes ins (members_at s n)) so_far.axes;
       core = group_written g.machine n (cycled look (group_core_at g.machine n)) (omega arith) (omega arith)
@@ -111,8 +114,8 @@ stepped_here s m ins n g h l so_far =
     }
 
 stepped_more : (s : Setup) (m : Machine) (ins : List DriveIn) (n : ℕ) (g : GroupsStepped) → IsMachineKept s m → n < length m.groups →
-    HaveStepped s m ins n g → HaveStepped s m ins (suc n) (group_stepped s ins n g)
-stepped_more s m ins n g h l so_far =
+    HaveStepped s m ins n g → g ≡ groups_stepped s n ins m → HaveStepped s m ins (suc n) (group_stepped s ins n g)
+stepped_more s m ins n g h l so_far is =
     let size = so_far.size in
     let t1 = size.axes in
     let count = so_far.count in
@@ -125,7 +128,7 @@ stepped_more s m ins n g h l so_far =
       later = λ j b. group_beside_group g.machine n j c (λ e. omega arith) ∙ so_far.later j (omega arith);
       count = let p = length_push g.steps (step_of look (group_core_at g.machine n)) in omega (arith, p);
       each = λ j b. elim (cases_eq j n) [
-        | inl e ↦ subst (HasStepped s m ins (group_stepped s ins n g)) (sym e) (stepped_here s m ins n g h l so_far)
+        | inl e ↦ subst (HasStepped s m ins (group_stepped s ins n g)) (sym e) (stepped_here s m ins n g h l so_far is)
         | inr d ↦ stepped_before s m ins n j g so_far (omega arith)
       ];
     }
@@ -142,7 +145,7 @@ have_stepped s m ins zero h l = record {
   count = refl;
   each = λ j b. absurd (omega arith);
 }
-have_stepped s m ins (suc n) h l = stepped_more s m ins n (groups_stepped s n ins m) h (omega arith) (have_stepped s m ins n h (omega arith))
+have_stepped s m ins (suc n) h l = stepped_more s m ins n (groups_stepped s n ins m) h (omega arith) (have_stepped s m ins n h (omega arith)) refl
 
 -- each may take its step
 pub may_step : (s : Setup) (m : Machine) (ins : List DriveIn) → IsMachineKept s m → MayStep s ins m

@@ -4,6 +4,8 @@ pub mod CallMay
 pub mod CycleEntries
 pub mod CycleRows
 pub mod CycleSteps
+pub mod GroupArrivalCalls
+pub mod GroupArrivalLaws
 pub mod GroupParts
 pub mod KeptAxisCalls
 pub mod KeptAxisCycles

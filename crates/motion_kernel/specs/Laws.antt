@@ -8,6 +8,7 @@ use Rattle.motion_history.specs.Columns.{KeepTheirLimits}
 use Rattle.motion_history.specs.Entries.{Entry}
 use Rattle.motion_history.specs.Setup.{Setup}
 use Rattle.motion_kernel.specs.Arrivals.{MovesArrive}
+use Rattle.motion_kernel.specs.GroupArrivals.{PathsEnd}
 use Rattle.motion_kernel.specs.Histories.{machine_after}
 use Rattle.motion_kernel.specs.Machine.{Machine, axis_at, group_at}
 use Rattle.motion_kernel.specs.MachineKept.{limits_of}
@@ -31,8 +32,10 @@ pub record IsSafe (s : Setup) (m : Machine) : Type 0 where
   pub paths : (j : ℕ) → j < length s.groups → IsPathStoppable s m j
   pub waiting : (list : ℕ) → length (queue_of m.queues list) ≤ 8
 
--- each row keeps its axis's limits, the machine is safe after every entry, and its moves arrive
+-- each row keeps its axis's limits, the machine is safe after every entry, and the commands that
+-- lead an axis or a group to an end come there in time
 pub record KeepsLaws (s : Setup) (es : List Entry) : Type 0 where
   pub limits : KeepTheirLimits s es
   pub safe : (made more : List Entry) → es ≡ made ++ more → IsSafe s (machine_after s made)
   pub moves : MovesArrive s es
+  pub paths : PathsEnd s es

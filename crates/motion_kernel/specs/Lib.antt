@@ -15,6 +15,8 @@ pub mod Tasks
 pub mod Marked
 pub mod AxisFates
 pub mod Arrivals
+pub mod GroupFates
+pub mod GroupArrivals
 pub mod Laws
 pub mod KernelState
 pub mod KernelKept

@@ -5,6 +5,7 @@ ghost use Rattle.std.specs.Prelude.{List};
 ghost use Rattle.motion_history.specs.Entries.{Entry};
 ghost use Rattle.motion_history.specs.Setup.{Setup, IsSetup};
 ghost use Rattle.motion_kernel.specs.Arrivals.{MovesArrive};
+ghost use Rattle.motion_kernel.specs.GroupArrivals.{PathsEnd};
 ghost use Rattle.motion_kernel.specs.Histories.{IsLegal};
 ghost use Rattle.motion_kernel.specs.MachineKept.{AreWhole};
 
@@ -28,4 +29,21 @@ pub fn moves_arrive_in_time()
     fates_are_told();
     courses_end_in_time();
     moves_are_done_at_their_targets();
+}
+
+/// In every legal history the active command of a group changes by its fate alone; and a
+/// MoveLinearAbsolute, a GroupHalt and a GroupStop, and what brakes a path before an aborting line,
+/// come to their end in time. From the entry on in which one becomes active, be it in its call, by
+/// taking over in a cycle or after the braking, and where the history has as many cycles behind it
+/// as its bound, it is within these Done at the end of its course, or was aborted or faulted
+/// before: at rest at the end of its path, by the bound on a move's cycles along it at the
+/// command's rates cut to those of the path; or, for those that brake, at rest, within
+/// |step| / Deceleration + 1 cycles.
+pub fn paths_end_in_time()
+    ensures paths { (s : Setup) (es : List Entry) → IsSetup s → AreWhole s → IsLegal s es →
+        PathsEnd s es }
+{
+    machines_stay_kept();
+    group_core::fates_are_told();
+    group_core::courses_end_in_time();
 }

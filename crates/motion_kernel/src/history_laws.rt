@@ -7,12 +7,13 @@ ghost use Rattle.motion_kernel.specs.Histories.{IsLegal};
 ghost use Rattle.motion_kernel.specs.Laws.{KeepsLaws};
 ghost use Rattle.motion_kernel.specs.MachineKept.{AreWhole};
 
-use crate::arrival_laws::moves_arrive_in_time;
+use crate::arrival_laws::{moves_arrive_in_time, paths_end_in_time};
 use crate::limit_laws::{at_most_eight_wait, axes_stay_stoppable, rows_keep_limits};
 
 /// In every legal history each row keeps its axis's limits; and after every entry each axis that is
 /// driven and each path can be stopped within its limits, and at most eight commands wait for each
-/// axis and each group. Each move, Halt and Stop of an axis comes to its end in time.
+/// axis and each group. Each move, Halt and Stop of an axis, and each line, GroupHalt and GroupStop
+/// of a group, comes to its end in time.
 pub fn histories_keep_their_laws()
     ensures { (s : Setup) (es : List Entry) → IsSetup s → AreWhole s → IsLegal s es →
         KeepsLaws s es }
@@ -21,4 +22,5 @@ pub fn histories_keep_their_laws()
     axes_stay_stoppable();
     at_most_eight_wait();
     moves_arrive_in_time();
+    paths_end_in_time();
 }

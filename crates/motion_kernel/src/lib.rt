@@ -24,7 +24,7 @@ mod showing;
 mod tasks;
 mod telling;
 
-pub use arrival_laws::moves_arrive_in_time;
+pub use arrival_laws::{moves_arrive_in_time, paths_end_in_time};
 pub use history_laws::histories_keep_their_laws;
 pub use kernel::{Kernel, OpenFault};
 pub use laws::machines_stay_kept;

@@ -15,4 +15,5 @@ returns c s es setup whole legal = record {
         waiting = λ list. c.at_most_eight_wait.ensures.lists s made setup whole so_far list;
       };
   moves = c.moves_arrive_in_time.ensures.moves s es setup whole legal;
+  paths = c.paths_end_in_time.ensures.paths s es setup whole legal;
 }
