@@ -36,6 +36,7 @@ pub mod Lists
 pub mod LookLaws
 pub mod MemberLaws
 pub mod Memberships
+pub mod RefusalLaws
 pub mod SizeLaws
 pub mod StoppableLaws
 pub mod WaitingLaws

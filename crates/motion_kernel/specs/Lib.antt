@@ -11,6 +11,7 @@ pub mod Ready
 pub mod Seen
 pub mod Around
 pub mod Histories
+pub mod Refusals
 pub mod Tasks
 pub mod Marked
 pub mod AxisFates
