@@ -6,6 +6,7 @@ pub mod CycleRows
 pub mod CycleSteps
 pub mod GroupArrivalCalls
 pub mod GroupArrivalLaws
+pub mod DiagramLaws
 pub mod GroupParts
 pub mod KeptAxisCalls
 pub mod KeptAxisCycles

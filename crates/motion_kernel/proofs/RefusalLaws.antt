@@ -1,5 +1,6 @@
 -- A refused call changes nothing but its instance.
-use Rattle.std.specs.Prelude.{◌≡◌, refl, ℕ, zero, suc, ◌+◌, ◌<◌, ◌≤◌, Bool, true, false, ◌&&◌, if◌then◌else◌, Option, Some, None, Ok, Err, List, [], ◌∷◌, ◌++◌, length, map, slice_get, slice_index_or, slice_set}
+use Rattle.std.specs.Prelude.{◌≡◌, refl, ℕ, zero, suc, ◌+◌, ◌<◌, ◌≤◌, Bool, true, false, ◌&&◌, if◌then◌else◌, Option, Some, None, Ok, Err, List, [], ◌∷◌, ◌++◌, length, map, slice_get, slice_set}
+use Rattle.std.proofs.lemmas.List.{set-get_or}
 use Rattle.std.proofs.Common.{arith, ap, sym, subst, ◌∙◌}
 use Rattle.axis_core.specs.Calls.{answer_by, answer_of, axis_without_owner, core_after_command, core_after_power, core_after_verdict}
 use Rattle.axis_core.specs.Refusals as axis_refusals
@@ -39,23 +40,17 @@ use Rattle.motion_kernel.specs.Machine.{Machine, PlacedGroup, axis_core_at, grou
 use Rattle.motion_kernel.specs.Refusals.{IsRefusalNumber, IsRefused, machine_refused, refused_instance}
 use Rattle.motion_kernel.proofs.SizeLaws.{by_if}
 
--- what is written over itself stays
-set_same : {X : Type 0} (xs : List X) (i : ℕ) (d : X) → slice_set xs i (slice_index_or xs i d) ≡ xs
-set_same [] i d = refl
-set_same (x ∷ xs) zero d = refl
-set_same (x ∷ xs) (suc i) d = ap (λ ys. x ∷ ys) (set_same xs i d)
-
 -- an axis and a group that stay as they are leave the machine so
 axis_as_it_is : (m : Machine) (n : ℕ) → with_axis_core m n (axis_core_at m n) ≡ m
 axis_as_it_is m n =
-    let a = set_same m.axes n no_axis in
-    let w = set_same m.queues n [] in
+    let a = set-get_or m.axes n no_axis in
+    let w = set-get_or m.queues n [] in
     λ i. record { axes = a i; groups = m.groups; queues = w i; instances = m.instances }
 
 group_as_it_is : (m : Machine) (j : ℕ) → with_group_core m j (group_core_at m j) ≡ m
 group_as_it_is m j =
-    let g = set_same m.groups j no_group in
-    let w = set_same m.queues (list_of m j) [] in
+    let g = set-get_or m.groups j no_group in
+    let w = set-get_or m.queues (list_of m j) [] in
     λ i. record { axes = m.axes; groups = g i; queues = w i; instances = m.instances }
 
 -- an instance without a result of error shows none
@@ -306,24 +301,7 @@ asking_well : (s : Setup) (kind : BlockKind) (k : ℕ) (b : BlockDef) (i : Input
     edge_of (instance_at m.instances k).execute i.execute ≡ edge.Rising →
     RefusesWell k m (after_asking s kind (edge_of (instance_at m.instances k).execute i.execute) k b i (with_execute k i m))
 asking_well s kind.Power k b i m e = power_well s k b.object i m e
-asking_well s kind.Reset k b i m e = edge_well s _ k b i m e e
-asking_well s kind.Home k b i m e = edge_well s _ k b i m e e
-asking_well s kind.Stop k b i m e = edge_well s _ k b i m e e
-asking_well s kind.Halt k b i m e = edge_well s _ k b i m e e
-asking_well s kind.MoveAbsolute k b i m e = edge_well s _ k b i m e e
-asking_well s kind.MoveRelative k b i m e = edge_well s _ k b i m e e
-asking_well s kind.MoveVelocity k b i m e = edge_well s _ k b i m e e
-asking_well s kind.GearIn k b i m e = edge_well s _ k b i m e e
-asking_well s kind.GearOut k b i m e = edge_well s _ k b i m e e
-asking_well s kind.CamIn k b i m e = edge_well s _ k b i m e e
-asking_well s kind.CamOut k b i m e = edge_well s _ k b i m e e
-asking_well s kind.GroupEnable k b i m e = edge_well s _ k b i m e e
-asking_well s kind.GroupDisable k b i m e = edge_well s _ k b i m e e
-asking_well s kind.GroupReset k b i m e = edge_well s _ k b i m e e
-asking_well s kind.GroupStop k b i m e = edge_well s _ k b i m e e
-asking_well s kind.GroupHalt k b i m e = edge_well s _ k b i m e e
-asking_well s kind.MoveLinearAbsolute k b i m e = edge_well s _ k b i m e e
-asking_well s kind.MoveCircularAbsolute k b i m e = edge_well s _ k b i m e e
+asking_well s _ k b i m e = edge_well s _ k b i m e e
 
 -- a block that is there
 pub there_is : {X : Type 0} (xs : List X) (k : ℕ) → k < length xs → slice_get xs k ≡ None → ⊥

@@ -12,6 +12,7 @@ pub mod Seen
 pub mod Around
 pub mod Histories
 pub mod Refusals
+pub mod Diagrams
 pub mod Tasks
 pub mod Marked
 pub mod AxisFates
