@@ -37,7 +37,9 @@ pub mod Lists
 pub mod LookLaws
 pub mod MemberLaws
 pub mod Memberships
+pub mod NoteNumbers
 pub mod RefusalLaws
+pub mod ReplyLaws
 pub mod SizeLaws
 pub mod StoppableLaws
 pub mod WaitingLaws

@@ -13,6 +13,7 @@ pub mod Around
 pub mod Histories
 pub mod Refusals
 pub mod Diagrams
+pub mod Replies
 pub mod Tasks
 pub mod Marked
 pub mod AxisFates
