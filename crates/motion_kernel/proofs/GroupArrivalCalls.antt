@@ -45,7 +45,7 @@ pub record IsByFate (c : Core) (P : Fate → Core → Type 0) : Type 0 where
   pub command : (owner : ℕ) (w : Wanted) (jerk : ℤ) (members : GroupLook) (x : Core) →
       x ≡ disowned owner c → IsLook x.group members →
       IsMade x.group.axes w → IsCoreKept (limits_in members) x → P (command_fate w jerk members x)
-          (commanded w jerk members x)
+      (commanded w jerk members x)
 
 -- the group and its list are there
 pub record IsThere (m : Machine) (j : ℕ) : Type 0 where
@@ -69,8 +69,13 @@ one_led : (m : Machine) (n : ℕ) (on : Bool) (j : ℕ) →
     ≡ group_core_at m j
 one_led m n on j =
     let size = length-set m.axes n (axis_led on (axis_at m n)) in
-    λ i. record { group = (group_at m j).group; path = (group_at m j).path; waiting =
-        queue_of m.queues (size i + j); notes = [] }
+    λ i. record {
+      group = (group_at m j).group;
+      path = (group_at m j).path;
+      waiting =
+          queue_of m.queues (size i + j);
+      notes = [];
+    }
 
 all_led : (on : Bool) (ns : List ℕ) (m : Machine) (j : ℕ) →
     group_core_at (axes_led on ns m) j ≡ group_core_at m j
@@ -85,21 +90,21 @@ group_led : (s : Setup) (o : ℕ) (kind : BlockKind) (answer : Result Bool Refus
 group_led s o kind answer m j =
     let Q : Machine → Type 0 = λ x. group_core_at x j ≡ group_core_at m j in
     by_if Q (enters_path answer) _ _ (all_led true (members_at s o) m j)
-        (by_if Q (leaves_path kind answer) _ _ (all_led false (members_at s o) m j) refl)
+    (by_if Q (leaves_path kind answer) _ _ (all_led false (members_at s o) m j) refl)
 
 -- a command that is asked of this group, or of another one
 group_command : (c : Core) (P : Fate → Core → Type 0) → IsByFate c P →
     (s : Setup) (k o : ℕ) (kind : BlockKind) (i : Inputs) (m : Machine) (j : ℕ) →
     IsThere m j → group_core_at m j ≡ disowned k c → MayAskGroup s k o kind i m →
     P (if nat_eq o j then command_fate (wanted_of k kind i) i.jerk (group_look s m j 0)
-        (group_core_at m j) else goes_on)
+    (group_core_at m j) else goes_on)
     (group_core_at (after_group_command s k o kind i m) j)
 unfolding after_group_command
 group_command c P laws s k o kind i m j there free may =
     let w = wanted_of k kind i in
     let d : ℕ → Core = λ x. commanded w i.jerk (group_look s m x 0) (group_core_at m x) in
     let after : group_core_at (after_group_command s k o kind i m) j ≡ group_core_at
-        (with_group_core m o (d o)) j =
+    (with_group_core m o (d o)) j =
     group_led s o kind _ (with_group_core m o (d o)) j in
     one_fate (λ f. P f (group_core_at (after_group_command s k o kind i m) j)) (nat_eq o j) _ _
     (λ e.
@@ -107,15 +112,15 @@ group_command c P laws s k o kind i m j there free may =
     let may_here = subst (λ x. MayAskGroup s k x kind i m) same may in
     let looks = may_here.may in
     let made = laws.command k w i.jerk (group_look s m j 0) (group_core_at m j) free looks.look
-        may_here.made looks.kept in
+    may_here.made looks.kept in
     let is : group_core_at (after_group_command s k o kind i m) j ≡ record (d j) { notes = [] } =
     after ∙ ap (λ x. group_core_at (with_group_core m x (d x)) j) same ∙ group_written m j
-        (d j) there.group there.list in
+    (d j) there.group there.list in
     subst (P (command_fate w i.jerk (group_look s m j 0) (group_core_at m j))) (sym is)
-        (laws.untold _ (d j) made))
+    (laws.untold _ (d j) made))
     (λ e. subst (P goes_on)
-        (sym (after ∙ group_beside_group m o j (d o) (λ x. eqb-false o j e (sym x)) ∙ free))
-        (laws.detach k))
+    (sym (after ∙ group_beside_group m o j (d o) (λ x. eqb-false o j e (sym x)) ∙ free))
+    (laws.detach k))
 
 -- a command that is asked of an axis leaves the groups
 axis_command : (s : Setup) (k n : ℕ) (kind : BlockKind) (i : Inputs) (m : Machine) (j : ℕ) →
@@ -129,7 +134,7 @@ axis_command s k n kind i m j l =
 rising : (P : Fate → Core → Type 0) (s : Setup) (k : ℕ) (b : BlockDef) (i : Inputs) (m : Machine)
     (j : ℕ) → IsByFate (group_core_at m j) P → IsThere m j →
     (acts_on_group b.kind ≡ true → MayAskGroup s k b.object b.kind i (without_owner k m)) →
-        (acts_on_group b.kind ≡ false → b.object < length m.axes) →
+    (acts_on_group b.kind ≡ false → b.object < length m.axes) →
     P (fate_by_rising s k b i m j) (group_core_at (after_rising s k b i m) j)
 rising P s k b i m j laws there may axis =
     let free = without_owner k m in
@@ -143,10 +148,10 @@ rising P s k b i m j laws there may axis =
     let there_free : IsThere free j = record { group = omega arith; list = omega arith } in
     both (λ f x. P f (group_core_at x j)) (acts_on_group b.kind) _ _ _ _
     (λ e. group_command (group_core_at m j) P laws s k b.object b.kind i free j there_free is
-        (may e))
+    (may e))
     (λ e. let l =
-        axis e in subst (P goes_on)
-        (sym (axis_command s k b.object b.kind i free j (omega arith) ∙ is)) (laws.detach k))
+    axis e in subst (P goes_on)
+    (sym (axis_command s k b.object b.kind i free j (omega arith) ∙ is)) (laws.detach k))
 
 -- what a call of a block asks is there
 pub record IsAsked (s : Setup) (k : ℕ) (b : BlockDef) (i : Inputs) (m : Machine) : Type 0 where
@@ -157,7 +162,7 @@ pub record IsAsked (s : Setup) (k : ℕ) (b : BlockDef) (i : Inputs) (m : Machin
 edges : (P : Fate → Core → Type 0) (s : Setup) (e : Edge) (k : ℕ) (b : BlockDef) (i : Inputs)
     (m : Machine) (j : ℕ) → IsByFate (group_core_at m j) P →
     IsThere m j → IsAsked s k b i m → is_power b.kind ≡ false → P (fate_by_edge s e k b i m j)
-        (group_core_at (after_edge s e k b i m) j)
+    (group_core_at (after_edge s e k b i m) j)
 edges P s edge.Rising k b i m j laws there asked other = rising P s k b i m j laws there
     (asked.group other) asked.axis
 edges P s edge.High k b i m j laws there asked other = laws.rests
@@ -173,30 +178,30 @@ group_off P None m powered j laws there same = subst (P goes_on) (sym (same j)) 
 group_off P (Some at) m powered j laws there same =
     let off : ℕ → Core = λ x. powered_off (group_core_at powered x) in
     one_fate (λ f. P f (group_core_at (with_group_core powered at.group (off at.group)) j))
-        (nat_eq at.group j) _ _
+    (nat_eq at.group j) _ _
     (λ e.
     let it : at.group ≡ j = eqb-true at.group j e in
     let is : group_core_at (with_group_core powered at.group (off at.group)) j ≡ record
-        (powered_off (group_core_at m j)) { notes = [] } =
+    (powered_off (group_core_at m j)) { notes = [] } =
     ap (λ x. group_core_at (with_group_core powered x (off x)) j) it ∙ group_written powered j
-        (off j) there.group there.list
+    (off j) there.group there.list
     ∙ ap (λ x. record (powered_off x) { notes = [] }) (same j) in
     subst (P (power_off_fate (group_core_at m j))) (sym is)
-        (laws.untold _ (powered_off (group_core_at m j)) laws.power_off))
+    (laws.untold _ (powered_off (group_core_at m j)) laws.power_off))
     (λ e. subst (P goes_on)
-        (sym (group_beside_group powered at.group j (off at.group)
-        (λ x. eqb-false at.group j e (sym x)) ∙ same j)) laws.rests)
+    (sym (group_beside_group powered at.group j (off at.group)
+    (λ x. eqb-false at.group j e (sym x)) ∙ same j)) laws.rests)
 
 powers : (P : Fate → Core → Type 0) (s : Setup) (n : ℕ) (enable : Bool) (m : Machine) (j : ℕ) →
     IsByFate (group_core_at m j) P → IsThere m j → n < length m.axes →
     P (if enable then goes_on else fate_by_power_off (membership_of s n) m j)
-        (group_core_at (after_power s n enable m) j)
+    (group_core_at (after_power s n enable m) j)
 unfolding after_power
 powers P s n enable m j laws there l =
     let c = core_after_power enable (axis_core_at m n) in
     let powered = with_axis_core m n c in
     let same : (x : ℕ) → group_core_at powered x ≡ group_core_at m x =
-        λ x. group_beside_axis m n x c l in
+    λ x. group_beside_axis m n x c l in
     let a = length-set m.axes n c.axis in
     let q = length-set m.queues n c.waiting in
     let list = there.list in
@@ -211,7 +216,7 @@ acts_alone k e = ap acts_on_group e
 kinds : (P : Fate → Core → Type 0) (s : Setup) (kind : BlockKind) (e : Edge) (k : ℕ) (b : BlockDef)
     (i : Inputs) (m : Machine) (j : ℕ) → b.kind ≡ kind →
     IsByFate (group_core_at m j) P → IsThere m j → IsAsked s k b i m →
-        P (fate_by_kind s kind e k b i m j) (group_core_at (after_asking s kind e k b i m) j)
+    P (fate_by_kind s kind e k b i m j) (group_core_at (after_asking s kind e k b i m) j)
 kinds P s kind.Power e k b i m j is laws there asked = powers P s b.object i.execute m j laws there
     (asked.axis (acts_alone b.kind is))
 kinds P s kind.Reset e k b i m j is laws there asked = edges P s e k b i m j laws there asked
@@ -254,7 +259,7 @@ kinds P s kind.MoveCircularAbsolute e k b i m j is laws there asked =
 calls : (P : Fate → Core → Type 0) (s : Setup) (o : Option BlockDef) (k : ℕ) (i : Inputs)
     (m : Machine) (j : ℕ) → IsByFate (group_core_at m j) P → IsThere m j →
     ((b : BlockDef) → o ≡ Some b → MayCall s k b i (with_execute k i m)) → IsMachineKept s m →
-        P (fate_by_call s o k i m j) (group_core_at (called_where s o k i m) j)
+    P (fate_by_call s o k i m j) (group_core_at (called_where s o k i m) j)
 calls P s None k i m j laws there may h = laws.rests
 calls P s (Some b) k i m j laws there may h =
     let can = may b refl in
@@ -266,13 +271,13 @@ calls P s (Some b) k i m j laws there may h =
           can.object in omega arith;
     } in
     kinds P s b.kind (edge_of (instance_at m.instances k).execute i.execute) k b i
-        (with_execute k i m) j refl laws (record { group = there.group; list = there.list }) asked
+    (with_execute k i m) j refl laws (record { group = there.group; list = there.list }) asked
 
 -- what a call makes of a group
 pub by_call : (P : Fate → Core → Type 0) (s : Setup) (m : Machine) (k : ℕ) (i : Inputs) (j : ℕ) →
     IsByFate (group_core_at m j) P → IsThere m j →
     ((b : BlockDef) → slice_get s.blocks k ≡ Some b → MayCall s k b i (with_execute k i m)) →
-        IsMachineKept s m →
+    IsMachineKept s m →
     P (fate_by_call s (slice_get s.blocks k) k i m j) (group_core_at (after_call s m k i) j)
 unfolding called
 by_call P s m k i j laws there may h = calls P s (slice_get s.blocks k) k i m j laws there may h

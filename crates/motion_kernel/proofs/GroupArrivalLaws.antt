@@ -46,7 +46,7 @@ use Rattle.motion_kernel.proofs.StoppableLaws.{legal_kept, legal_so_far, replay_
 pub record FatesAreTold : Type 0 where
   pub command : (w : Wanted) (jerk : ℤ) (members : GroupLook) (c : Core) →
       IsFate (command_fate w jerk members c) c.group.active
-          (commanded w jerk members c).group.active
+      (commanded w jerk members c).group.active
   pub power_off : (c : Core) → IsFate (power_off_fate c) c.group.active (powered_off c).group.active
   pub detach : (owner : ℕ) (g : Group) → IsSame g.active (group_without owner g).active
   pub cycle : (members : GroupLook) (c : Core) → IsFate (cycle_fate members c) c.group.active
@@ -63,7 +63,7 @@ pub record CoursesEnd : Type 0 where
       IsLook c.group members →
       IsMade c.group.axes w → IsCoreKept (limits_in members) c → IsUnderWay n course c →
       Carried n 0 course (command_fate w jerk members c).ends (commanded w jerk members c).path
-          (commanded w jerk members c)
+      (commanded w jerk members c)
   pub power_off : (n : ℕ) (course : Course) (c : Core) → IsUnderWay n course c →
       Carried n 0 course (power_off_fate c).ends (powered_off c).path (powered_off c)
   pub detach : (n : ℕ) (course : Course) (owner : ℕ) (c : Core) → IsUnderWay n course c →
@@ -129,9 +129,9 @@ fates_by laws c = record {
   power_off = laws.fates.power_off c;
   command = λ owner w jerk members x e looks made kept.
       let same = subst (λ (d : Core). IsSame c.group.active d.group.active) (sym e)
-          (laws.fates.detach owner c.group) in
+      (laws.fates.detach owner c.group) in
       chained (command_fate w jerk members x) c.group.active x.group.active
-          (commanded w jerk members x).group.active same (laws.fates.command w jerk members x);
+      (commanded w jerk members x).group.active same (laws.fates.command w jerk members x);
 }
 
 -- a command that is under way is carried on by every event of its group
@@ -140,8 +140,15 @@ on_it n course c h = record { left = n; sum = omega arith; under_way = h }
 
 untold_way : (n : ℕ) (course : Course) (c : Core) → IsUnderWay n course c →
     IsUnderWay n course (record c { notes = [] })
-untold_way n course c h = record { command = h.command; active = h.active; leads = h.leads; on =
-    h.on; path = h.path; run = h.run }
+untold_way n course c h = record {
+  command = h.command;
+  active = h.active;
+  leads = h.leads;
+  on =
+      h.on;
+  path = h.path;
+  run = h.run;
+}
 
 untold_carried : (n cycles : ℕ) (course : Course) (o : Option Finish) (p : Option OnPath)
     (c : Core) → Carried n cycles course o p c →
@@ -155,8 +162,12 @@ reset_carried : GroupLaws → (n cycles : ℕ) (course : Course) (o : Option Fin
     Carried n cycles course o p c → Carried n cycles course o p (reset_cycled look c)
 reset_carried laws n cycles course (Some f) p look c h = h
 reset_carried laws n cycles course None p look c h =
-    record { left = h.left; sum = h.sum; under_way =
-        laws.courses.reset h.left course look c h.under_way }
+    record {
+      left = h.left;
+      sum = h.sum;
+      under_way =
+          laws.courses.reset h.left course look c h.under_way;
+    }
 
 carried_by : GroupLaws → (n : ℕ) (course : Course) (c : Core) → IsUnderWay n course c →
     IsByFate c (λ f x. Carried n 0 course f.ends x.path x)
@@ -167,7 +178,7 @@ carried_by laws n course c h = record {
   power_off = laws.courses.power_off n course c h;
   command = λ owner w jerk members x e looks made kept.
       laws.courses.command n course w jerk members x looks made kept
-          (subst (IsUnderWay n course) (sym e) (laws.courses.detach n course owner c h));
+      (subst (IsUnderWay n course) (sym e) (laws.courses.detach n course owner c h));
 }
 
 -- the cycles of the axes leave the groups
@@ -180,7 +191,7 @@ cycles_leave s (suc n) around m j l =
     let so_far = (axes_cycled s n around m).machine in
     let count = axes_count s n around m in
     group_beside_axis so_far n j (core_in_cycle s around n so_far) (omega arith)
-        ∙ cycles_leave s n around m j (omega arith)
+    ∙ cycles_leave s n around m j (omega arith)
 
 -- pending Resets
 resets_size : (s : Setup) (n : ℕ) (m : Machine) → IsAsLarge m (groups_reset s n m).machine
@@ -189,7 +200,7 @@ resets_size s zero m = record { axes = refl; groups = refl; queues = refl; insta
 resets_size s (suc n) m =
     let so_far = (groups_reset s n m).machine in
     larger m so_far (with_group_core so_far n (core_after_reset s n so_far)) (resets_size s n m)
-        (group_event_size so_far n (core_after_reset s n so_far))
+    (group_event_size so_far n (core_after_reset s n so_far))
 
 -- a property of a group that a GroupReset and telling its notes keep
 record IsLasting (Q : Core → Type 0) : Type 0 where
@@ -212,12 +223,12 @@ resets_keep Q lasts s (suc n) m j l k h =
     elim (cases_eq j n) [
       | inl e ↦
           let here : Q (group_core_at so_far n) =
-              subst (λ x. Q (group_core_at so_far x)) e before in
+          subst (λ x. Q (group_core_at so_far x)) e before in
           let is = group_written so_far n c (omega arith) (omega arith) in
           subst (λ x. Q (group_core_at (with_group_core so_far n c) x)) (sym e)
           (subst Q (sym is)
-              (lasts.untold c
-              (lasts.reset (group_look s so_far n 0) (group_core_at so_far n) here)))
+          (lasts.untold c
+          (lasts.reset (group_look s so_far n 0) (group_core_at so_far n) here)))
       | inr d ↦ subst Q (sym (group_beside_group so_far n j c d)) before
     ]
 
@@ -229,7 +240,7 @@ moved_size s zero around m = record { axes = refl; groups = refl; queues = refl;
 moved_size s (suc n) around m =
     let so_far = (axes_cycled s n around m).machine in
     larger m so_far (with_axis_core so_far n (core_in_cycle s around n so_far))
-        (moved_size s n around m) (axis_event_size so_far n (core_in_cycle s around n so_far))
+    (moved_size s n around m) (axis_event_size so_far n (core_in_cycle s around n so_far))
 
 found_leave : (s : Setup) (m : Machine) (j : ℕ) →
     group_core_at (with_found s m) j ≡ group_core_at m j
@@ -241,8 +252,8 @@ by_cycle : (Q : Core → Type 0) → IsLasting Q →
     (s : Setup) (m : Machine) (ins : List DriveIn) (j : ℕ) → IsMachineKept s m →
     j < length m.groups →
     (IsLooking s m j (look_of_group s m ins j) →
-        Q (group.cycled (look_of_group s m ins j) (group_core_at m j))) →
-        Q (group_core_at (after_cycle s m ins) j)
+    Q (group.cycled (look_of_group s m ins j) (group_core_at m j))) →
+    Q (group_core_at (after_cycle s m ins) j)
 unfolding cycled
 by_cycle Q lasts s m ins j h l made =
     let g = (stepped_in s ins m).machine in
@@ -261,7 +272,7 @@ by_cycle Q lasts s m ins j h l made =
     let first = subst (λ x. Q (group.cycled x (group_core_at m j))) (sym one.is) (made looking) in
     let here : Q (group_core_at g j) = subst Q (sym one.core) (lasts.untold _ first) in
     let then : Q (group_core_at moved j) =
-        subst Q (sym (cycles_leave s (length g.axes) (around_in s ins m) g j (omega arith))) here in
+    subst Q (sym (cycles_leave s (length g.axes) (around_in s ins m) g j (omega arith))) here in
     let more = moved_size s (length g.axes) (around_in s ins m) g in
     let u1 = more.axes in
     let u2 = more.groups in
@@ -292,14 +303,14 @@ fate_shown : GroupLaws → (s : Setup) (cycles : ℕ) (m : Machine) (e : Entry) 
     IsFate (group_fate s m e j) (group_at m j).group.active (group_at (after s m e) j).group.active
 fate_shown laws s cycles m (call k i reply) j whole h is l =
     by_call (λ f x. IsFate f (group_at m j).group.active x.group.active) s m k i j
-        (fates_by laws (group_core_at m j)) (there s m j h l)
+    (fates_by laws (group_core_at m j)) (there s m j h l)
     (λ b e. laws.may_call s k b i m whole e is.0 h) h
 fate_shown laws s cycles m (cycle c rows grows) j whole h is l =
     let look = look_of_group s m (inputs_of rows) j in
     by_cycle (λ x. IsFate (cycle_fate look (group_core_at m j))
-        (group_at m j).group.active x.group.active)
+    (group_at m j).group.active x.group.active)
     (fate_lasts laws (cycle_fate look (group_core_at m j)) (group_at m j).group.active) s m
-        (inputs_of rows) j h l
+    (inputs_of rows) j h l
     (λ looking. laws.fates.cycle look (group_core_at m j))
 fate_shown laws s cycles m (end_of task) j whole h is l = stays (group_at m j).group.active
     (group_at m j).group.active (as_it_is (group_at m j).group.active)
@@ -316,17 +327,17 @@ carried_on : GroupLaws → (s : Setup) (cycles : ℕ) (m : Machine) (e : Entry) 
     (course : Course) → AreWhole s → IsMachineKept s m → IsOf s cycles m e →
     j < length m.groups → IsUnderWay most course (group_core_at m j) →
     Carried most (cycle_count e) course (group_fate s m e j).ends (path_in s m e j)
-        (group_core_at (after s m e) j)
+    (group_core_at (after s m e) j)
 carried_on laws s cycles m (call k i reply) j most course whole h is l u =
     by_call (λ f x. Carried most 0 course f.ends x.path x) s m k i j
-        (carried_by laws most course (group_core_at m j) u) (there s m j h l)
+    (carried_by laws most course (group_core_at m j) u) (there s m j h l)
     (λ b e. laws.may_call s k b i m whole e is.0 h) h
 carried_on laws s cycles m (cycle c rows grows) j most course whole h is l u =
     let look = look_of_group s m (inputs_of rows) j in
     let x = group_core_at m j in
     by_cycle (Carried most 1 course (cycle_fate look x).ends (path_taken look x))
     (way_lasts laws most 1 course (cycle_fate look x).ends (path_taken look x)) s m
-        (inputs_of rows) j h l
+    (inputs_of rows) j h l
     (λ looking. laws.courses.cycle most course look x looking.kept u)
 carried_on laws s cycles m (end_of task) j most course whole h is l u =
     on_it most course (group_core_at m j) u
@@ -341,7 +352,7 @@ later_on c left most course p (Some t) sum h = let l = h.0 in (omega arith, h.1)
 ends : (most c : ℕ) (course : Course) (m : Core) (p : Option OnPath) (later : Option Ended)
     (o : Option Finish) → Carried most c course o p m →
     ((left : ℕ) → c + left ≡ most → IsUnderWay left course m → IsEndedWithin left course later) →
-        IsEndedWithin most course (ended_by o c p later)
+    IsEndedWithin most course (ended_by o c p later)
 ends most c course m p later (Some f) h more = h
 ends most c course m p later None h more = later_on c h.left most course p later h.sum
     (more h.left h.sum h.under_way)
@@ -360,7 +371,7 @@ kept_after laws s cycles m e whole h is = replay_kept laws.machines s cycles m (
 arrives : GroupLaws → (s : Setup) (cycles : ℕ) (m : Machine) (es : List Entry) (j most : ℕ)
     (course : Course) → AreWhole s → IsMachineKept s m →
     Follows s cycles m es → j < length s.groups → IsUnderWay most course (group_core_at m j) →
-        most ≤ cycles_of es → IsEndedWithin most course (ended_in s j m es)
+    most ≤ cycles_of es → IsEndedWithin most course (ended_in s j m es)
 arrives laws s cycles m [] j zero course whole h f l u b =
     absurd (runs course (group_core_at m j) u)
 arrives laws s cycles m [] j (suc most) course whole h f l u b = absurd (omega arith)
@@ -369,10 +380,10 @@ arrives laws s cycles m (e ∷ es) j most course whole h f l u b =
     let size = sizes.groups in
     let next = kept_after laws s cycles m e whole h f.0 in
     ends most (cycle_count e) course (group_core_at (after s m e) j) (path_in s m e j)
-        (ended_in s j (after s m e) es) (group_fate s m e j).ends
+    (ended_in s j (after s m e) es) (group_fate s m e j).ends
     (carried_on laws s cycles m e j most course whole h f.0 (omega arith) u)
     (λ left sum under. arrives laws s (cycles + cycle_count e) (after s m e) es j left course whole
-        next f.1 l under (omega arith))
+    next f.1 l under (omega arith))
 
 -- each entry of a history that follows a kept machine
 course_kept : GroupLaws → (s : Setup) (cycles : ℕ) (m : Machine) (e : Entry) (more : List Entry)
@@ -391,10 +402,10 @@ course_kept laws s cycles m e more j whole h f l =
       fate = fate;
       in_time = λ w course p begins leads on most.
           let under = laws.courses.begins course (map (limits_of s) (members_at s j))
-              (group_core_at (after s m e) j) w p (next.groups j behind_it).core
+          (group_core_at (after s m e) j) w p (next.groups j behind_it).core
           (fate.begins w begins) on leads in
           arrives laws s (cycles + cycle_count e) (after s m e) more j
-              (bound_of course p.motion) course whole next f.1 l under most;
+          (bound_of course p.motion) course whole next f.1 l under most;
     }
 
 -- and so each entry of a legal history
@@ -405,5 +416,5 @@ paths_end laws s es setup whole legal made more e j is l =
     let all = subst (IsLegal s) is legal in
     let so_far = legal_so_far s made (e ∷ more) all in
     course_kept laws s (0 + cycles_of made) (machine_after s made) e more j whole
-        (legal_kept laws.machines s made setup whole so_far)
+    (legal_kept laws.machines s made setup whole so_far)
     (behind s 0 (machine_at_opening s) made (e ∷ more) all.follows) l
