@@ -1,3 +1,4 @@
+pub mod TargetLaws
 pub mod AxesLaws
 pub mod LiveLaws
 pub mod PathChanges

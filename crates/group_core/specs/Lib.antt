@@ -19,3 +19,4 @@ pub mod States
 pub mod Stepping
 pub mod Tracks
 pub mod blocks
+pub mod Targets

@@ -16,6 +16,7 @@ mod reason;
 mod refusing;
 mod states;
 mod taking_over;
+mod target_laws;
 #[cfg(test)]
 mod tests;
 
@@ -39,3 +40,4 @@ pub use path_laws::{
     groups_come_alive_by_enable_and_reset, groups_keep_their_axes, paths_change_by_commands,
 };
 pub use reason::Reason;
+pub use target_laws::lines_lead_to_their_targets;

@@ -1,5 +1,5 @@
 -- The active commands of groups come to their end in time.
-use Rattle.std.specs.Prelude.{◌≡◌, refl, ℕ, zero, suc, ◌+◌, ◌<◌, ◌≤◌, Bool, ℤ, Option, Some, None, List, [], ◌∷◌, length, map, is_some}
+use Rattle.std.specs.Prelude.{◌≡◌, refl, ℕ, zero, suc, ◌+◌, ◌<◌, ◌≤◌, Bool, ℤ, Option, Some, None, List, [], ◌∷◌, length, is_some}
 use Rattle.std.proofs.Common.{arith, sym, subst, ◌∙◌, inl, inr}
 use Rattle.std.proofs.lemmas.Bool.{cases_eq}
 use Rattle.cia402_machine.specs.declared.drive.DriveIn.{DriveIn}
@@ -21,26 +21,24 @@ use Rattle.group_core.specs.declared.look.GroupLook.{GroupLook}
 use Rattle.kin_core.specs.declared.limits.Limits.{Limits}
 use Rattle.motion_history.specs.Calls.{IsCall}
 use Rattle.motion_history.specs.Entries.{Entry, call, cycle, cycle_count, cycles_of, end_of}
-use Rattle.motion_history.specs.Setup.{Setup, IsSetup}
+use Rattle.motion_history.specs.Setup.{Setup}
 use Rattle.motion_history.specs.declared.config.BlockDef.{BlockDef}
 use Rattle.std.specs.Prelude.{slice_get}
 use Rattle.motion_kernel.specs.Calls.{with_axis_core, with_execute, with_group_core}
 use Rattle.motion_kernel.specs.Cycles.{Surroundings, after_cycle, around_in, axes_cycled, core_after_reset, core_in_cycle, cycled, groups_reset, stepped_in, with_found}
-use Rattle.motion_kernel.specs.GroupArrivals.{Ended, IsEndedWithin, KeepsCourse, PathsEnd, ended_by, ended_in}
+use Rattle.motion_kernel.specs.GroupArrivals.{Ended, IsEndedWithin, ended_by, ended_in}
 use Rattle.motion_kernel.specs.GroupFates.{group_fate, look_of_group, path_in}
-use Rattle.motion_kernel.specs.Histories.{Follows, IsLegal, IsOf, after, inputs_of, machine_after}
+use Rattle.motion_kernel.specs.Histories.{Follows, IsOf, after, inputs_of}
 use Rattle.motion_kernel.specs.Looks.{group_look}
-use Rattle.motion_kernel.specs.Machine.{Machine, group_at, group_core_at, machine_at_opening}
-use Rattle.motion_kernel.specs.MachineKept.{AreWhole, IsMachineKept, limits_of}
-use Rattle.motion_kernel.specs.Members.{members_at}
+use Rattle.motion_kernel.specs.Machine.{Machine, group_at, group_core_at}
+use Rattle.motion_kernel.specs.MachineKept.{AreWhole, IsMachineKept}
 use Rattle.motion_kernel.specs.Ready.{MayCall}
-use Rattle.motion_kernel.proofs.ArrivalLaws.{behind}
 use Rattle.motion_kernel.proofs.CycleRows.{axes_count}
 use Rattle.motion_kernel.proofs.GroupArrivalCalls.{IsByFate, IsThere, by_call}
 use Rattle.motion_kernel.proofs.KeptEvents.{IsAsLarge, axis_event_size, group_beside_axis, group_beside_group, group_event_size, group_written}
 use Rattle.motion_kernel.proofs.KeptSteps.{IsLooking, have_stepped, larger}
 use Rattle.motion_kernel.proofs.LimitLaws.{MachinesStayKept}
-use Rattle.motion_kernel.proofs.StoppableLaws.{legal_kept, legal_so_far, replay_kept}
+use Rattle.motion_kernel.proofs.StoppableLaws.{replay_kept}
 
 -- group_core's fates_are_told
 pub record FatesAreTold : Type 0 where
@@ -203,9 +201,9 @@ resets_size s (suc n) m =
     (group_event_size so_far n (core_after_reset s n so_far))
 
 -- a property of a group that a GroupReset and telling its notes keep
-record IsLasting (Q : Core → Type 0) : Type 0 where
-  untold : (c : Core) → Q c → Q (record c { notes = [] })
-  reset : (look : GroupLook) (c : Core) → Q c → Q (reset_cycled look c)
+pub record IsLasting (Q : Core → Type 0) : Type 0 where
+  pub untold : (c : Core) → Q c → Q (record c { notes = [] })
+  pub reset : (look : GroupLook) (c : Core) → Q c → Q (reset_cycled look c)
 
 resets_keep : (Q : Core → Type 0) → IsLasting Q → (s : Setup) (n : ℕ) (m : Machine) (j : ℕ) →
     n ≤ length m.groups → length m.axes + length m.groups ≤ length m.queues →
@@ -248,7 +246,7 @@ unfolding with_found
 found_leave s m j = refl
 
 -- what a cycle makes of a group of a kept machine
-by_cycle : (Q : Core → Type 0) → IsLasting Q →
+pub by_cycle : (Q : Core → Type 0) → IsLasting Q →
     (s : Setup) (m : Machine) (ins : List DriveIn) (j : ℕ) → IsMachineKept s m →
     j < length m.groups →
     (IsLooking s m j (look_of_group s m ins j) →
@@ -281,7 +279,7 @@ by_cycle Q lasts s m ins j h l made =
     (resets_keep Q lasts s (length moved.groups) moved j (omega arith) (omega arith) then)
 
 -- the group and its list are there in a kept machine
-there : (s : Setup) (m : Machine) (j : ℕ) → IsMachineKept s m → j < length m.groups → IsThere m j
+pub there : (s : Setup) (m : Machine) (j : ℕ) → IsMachineKept s m → j < length m.groups → IsThere m j
 there s m j h l =
     let sizes = h.sized in
     let t1 = sizes.axes in
@@ -298,7 +296,7 @@ fate_lasts laws f before = record {
       h;
 }
 
-fate_shown : GroupLaws → (s : Setup) (cycles : ℕ) (m : Machine) (e : Entry) (j : ℕ) → AreWhole s →
+pub fate_shown : GroupLaws → (s : Setup) (cycles : ℕ) (m : Machine) (e : Entry) (j : ℕ) → AreWhole s →
     IsMachineKept s m → IsOf s cycles m e → j < length m.groups →
     IsFate (group_fate s m e j) (group_at m j).group.active (group_at (after s m e) j).group.active
 fate_shown laws s cycles m (call k i reply) j whole h is l =
@@ -362,13 +360,13 @@ runs : (course : Course) (c : Core) → IsUnderWay 0 course c → ⊥
 runs (along rates) c h = h.run
 runs (slowing d) c h = h.run
 
-kept_after : GroupLaws → (s : Setup) (cycles : ℕ) (m : Machine) (e : Entry) → AreWhole s →
+pub kept_after : GroupLaws → (s : Setup) (cycles : ℕ) (m : Machine) (e : Entry) → AreWhole s →
     IsMachineKept s m → IsOf s cycles m e → IsMachineKept s (after s m e)
 kept_after laws s cycles m e whole h is = replay_kept laws.machines s cycles m (e ∷ []) whole h
     (is, tt)
 
 -- a command that is under way ends in time
-arrives : GroupLaws → (s : Setup) (cycles : ℕ) (m : Machine) (es : List Entry) (j most : ℕ)
+pub arrives : GroupLaws → (s : Setup) (cycles : ℕ) (m : Machine) (es : List Entry) (j most : ℕ)
     (course : Course) → AreWhole s → IsMachineKept s m →
     Follows s cycles m es → j < length s.groups → IsUnderWay most course (group_core_at m j) →
     most ≤ cycles_of es → IsEndedWithin most course (ended_in s j m es)
@@ -384,37 +382,3 @@ arrives laws s cycles m (e ∷ es) j most course whole h f l u b =
     (carried_on laws s cycles m e j most course whole h f.0 (omega arith) u)
     (λ left sum under. arrives laws s (cycles + cycle_count e) (after s m e) es j left course whole
     next f.1 l under (omega arith))
-
--- each entry of a history that follows a kept machine
-course_kept : GroupLaws → (s : Setup) (cycles : ℕ) (m : Machine) (e : Entry) (more : List Entry)
-    (j : ℕ) → AreWhole s → IsMachineKept s m →
-    Follows s cycles m (e ∷ more) → j < length s.groups → KeepsCourse s m e more j
-course_kept laws s cycles m e more j whole h f l =
-    let sizes = h.sized in
-    let size = sizes.groups in
-    let here : j < length m.groups = omega arith in
-    let next = kept_after laws s cycles m e whole h f.0 in
-    let then = next.sized in
-    let count = then.groups in
-    let behind_it : j < length (after s m e).groups = omega arith in
-    let fate = fate_shown laws s cycles m e j whole h f.0 here in
-    record {
-      fate = fate;
-      in_time = λ w course p begins leads on most.
-          let under = laws.courses.begins course (map (limits_of s) (members_at s j))
-          (group_core_at (after s m e) j) w p (next.groups j behind_it).core
-          (fate.begins w begins) on leads in
-          arrives laws s (cycles + cycle_count e) (after s m e) more j
-          (bound_of course p.motion) course whole next f.1 l under most;
-    }
-
--- and so each entry of a legal history
-pub paths_end : GroupLaws → (s : Setup) (es : List Entry) → IsSetup s → AreWhole s → IsLegal s es →
-    PathsEnd s es
-unfolding machine_after
-paths_end laws s es setup whole legal made more e j is l =
-    let all = subst (IsLegal s) is legal in
-    let so_far = legal_so_far s made (e ∷ more) all in
-    course_kept laws s (0 + cycles_of made) (machine_after s made) e more j whole
-    (legal_kept laws.machines s made setup whole so_far)
-    (behind s 0 (machine_at_opening s) made (e ∷ more) all.follows) l

@@ -6,6 +6,8 @@ pub mod CycleRows
 pub mod CycleSteps
 pub mod GroupArrivalCalls
 pub mod GroupArrivalLaws
+pub mod GroupDoneLaws
+pub mod GroupEndLaws
 pub mod DiagramLaws
 pub mod GroupParts
 pub mod KeptAxisCalls

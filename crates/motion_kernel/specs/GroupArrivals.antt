@@ -1,15 +1,19 @@
 -- When the commands of groups come to their end (PLCopen Motion Control Part 4, Done).
 use Rattle.std.specs.Prelude.{◌≡◌, ℕ, ◌+◌, ◌<◌, ◌≤◌, Option, Some, None, option_map, List, [], ◌∷◌, ◌++◌, length}
 use Rattle.command_pool.specs.declared.ending.Finish.{Finish}
+use Rattle.command_pool.specs.declared.ending.Finish.TheVariants as finish
+use Rattle.command_pool.specs.declared.kind.BlockKind.TheVariants as kind
 use Rattle.command_pool.specs.declared.wanted.Wanted.{Wanted}
 use Rattle.group_core.specs.Courses.{Course, IsEnd, bound_of, course_of}
 use Rattle.group_core.specs.Fates.{IsFate}
 use Rattle.group_core.specs.Tracks.{OnPath}
+use Rattle.linear_path.specs.Line.{coordinate_of}
 use Rattle.motion_history.specs.Entries.{Entry, cycle_count, cycles_of}
 use Rattle.motion_history.specs.Setup.{Setup}
 use Rattle.motion_kernel.specs.GroupFates.{group_fate, path_in}
 use Rattle.motion_kernel.specs.Histories.{after, machine_after}
-use Rattle.motion_kernel.specs.Machine.{Machine, group_at}
+use Rattle.motion_kernel.specs.Machine.{Machine, axis_at, group_at}
+use Rattle.motion_kernel.specs.Members.{member_at, members_at}
 
 -- how the active command of a group ends: in which cycle, how, and on which path. This project's
 -- profile
@@ -37,6 +41,13 @@ abbrev pub IsEndedWithin : ℕ → Course → Option Ended → Type 0
 IsEndedWithin most course None = ⊥
 IsEndedWithin most course (Some t) = (t.cycles ≤ most) × IsEnd t.finish course t.path
 
+-- the axes of a group rest, and where the command was a line each stands at its target
+abbrev pub AreAtEnd : Setup → Machine → ℕ → Wanted → Type 0
+AreAtEnd s m j w = (place : ℕ) → place < length (members_at s j) →
+    let a = axis_at m (member_at (members_at s j) place) in
+    (a.previous ≡ a.setpoint) ×
+    (w.kind ≡ kind.MoveLinearAbsolute → a.setpoint ≡ coordinate_of w.targets place)
+
 -- what an entry makes of the active command of a group, with the entries behind it
 pub record KeepsCourse (s : Setup) (m : Machine) (e : Entry) (more : List Entry) (j : ℕ)
     : Type 0 where
@@ -49,6 +60,9 @@ pub record KeepsCourse (s : Setup) (m : Machine) (e : Entry) (more : List Entry)
       course_of w ≡ Some course → (group_at (after s m e) j).path ≡ Some p →
       bound_of course p.motion ≤ cycles_of more →
       IsEndedWithin (bound_of course p.motion) course (ended_in s j (after s m e) more)
+  -- wherever a command ends Done, the axes rest, those of a line at its targets
+  pub done : (w : Wanted) → (group_at m j).group.active ≡ Some w →
+      (group_fate s m e j).ends ≡ Some finish.Done → AreAtEnd s (after s m e) j w
 
 -- so it is of each entry of a history and each group
 abbrev pub PathsEnd : Setup → List Entry → Type 0

@@ -10,7 +10,10 @@ ghost use Rattle.motion_kernel.specs.Histories.{IsLegal};
 ghost use Rattle.motion_kernel.specs.MachineKept.{AreWhole};
 
 use crate::laws::machines_stay_kept;
-use axis_core::{courses_end_in_time, fates_are_told, moves_are_done_at_their_targets};
+use axis_core::{
+    courses_end_in_time, fates_are_told, moves_are_done_at_their_targets, paths_are_followed,
+};
+use group_core::lines_lead_to_their_targets;
 
 /// In every legal history the active command of an axis changes by its fate alone; and a move, a
 /// Halt and a Stop come to their end in time. From the entry on in which one becomes active, be it
@@ -38,7 +41,8 @@ pub fn moves_arrive_in_time()
 /// as its bound, it is within these Done at the end of its course, or was aborted or faulted
 /// before: at rest at the end of its path, by the bound on a move's cycles along it at the
 /// command's rates cut to those of the path; or, for those that brake, at rest, within
-/// |step| / Deceleration + 1 cycles.
+/// |step| / Deceleration + 1 cycles. Wherever a command is Done, each axis of the group rests, and
+/// where it was a line stands at its target.
 pub fn paths_end_in_time()
     ensures paths { (s : Setup) (es : List Entry) → IsSetup s → AreWhole s → IsLegal s es →
         PathsEnd s es }
@@ -46,4 +50,6 @@ pub fn paths_end_in_time()
     machines_stay_kept();
     group_core::fates_are_told();
     group_core::courses_end_in_time();
+    lines_lead_to_their_targets();
+    paths_are_followed();
 }

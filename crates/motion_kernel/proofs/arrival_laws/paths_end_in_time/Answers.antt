@@ -1,9 +1,11 @@
 -- Commands of groups end in time, by the laws of the machine and of its groups.
-use Rattle.motion_kernel.proofs.GroupArrivalLaws.{GroupLaws, paths_end}
+use Rattle.motion_kernel.proofs.GroupArrivalLaws.{GroupLaws}
+use Rattle.motion_kernel.proofs.GroupDoneLaws.{DoneLaws}
+use Rattle.motion_kernel.proofs.GroupEndLaws.{paths_end}
 use Rattle.motion_kernel.proofs.arrival_laws.paths_end_in_time.Goals as goal
 
-laws : (c : goal.After-courses_end_in_time) → GroupLaws
-laws c = record {
+groups : (c : goal.After-paths_are_followed) → GroupLaws
+groups c = record {
   machines = record {
     opened = c.machines_stay_kept.ensures.opened;
     call = c.machines_stay_kept.ensures.call;
@@ -26,6 +28,21 @@ laws c = record {
     cycle = c.courses_end_in_time.ensures.cycle;
     reset = c.courses_end_in_time.ensures.reset;
   };
+}
+
+laws : (c : goal.After-paths_are_followed) → DoneLaws
+laws c = record {
+  groups = groups c;
+  lines = record {
+    command = c.lines_lead_to_their_targets.ensures.command;
+    power_off = c.lines_lead_to_their_targets.ensures.power_off;
+    detach = c.lines_lead_to_their_targets.ensures.detach;
+    cycle = c.lines_lead_to_their_targets.ensures.cycle;
+    places = c.lines_lead_to_their_targets.ensures.places;
+    done = c.lines_lead_to_their_targets.ensures.done;
+    ends = c.lines_lead_to_their_targets.ensures.ends;
+  };
+  follows = c.paths_are_followed.ensures.goes_on;
 }
 
 pub returns : goal.returns
