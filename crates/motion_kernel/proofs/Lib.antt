@@ -40,6 +40,8 @@ pub mod LookLaws
 pub mod MemberLaws
 pub mod Memberships
 pub mod NoteNumbers
+pub mod OwnerCounts
+pub mod OwnerLaws
 pub mod RefusalLaws
 pub mod ReplyLaws
 pub mod SizeLaws

@@ -14,6 +14,7 @@ pub mod Histories
 pub mod Refusals
 pub mod Diagrams
 pub mod Replies
+pub mod Owners
 pub mod Tasks
 pub mod Marked
 pub mod AxisFates

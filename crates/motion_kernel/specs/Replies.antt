@@ -17,7 +17,7 @@ pub record IsReplyOf (b : BlockDef) (i : Inputs) (o : Outputs) : Type 0 where
   pub single : IsReply (is_stop b.kind && i.execute) o
   pub numbered : o.error ≡ true → is_error_number o.error_id ≡ true
 
--- an instance of this kind, to which some calls, starts, ends, cycles and replies have happened, each
+-- an instance of this kind, to which calls, starts, ends, cycles and replies have happened, each
 -- end by an error with its number
 pub record HasHappened (kind : BlockKind) (i : InstanceState) : Type 0 where
   pub happenings : List Happening
