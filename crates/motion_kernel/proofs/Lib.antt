@@ -1,5 +1,7 @@
 pub mod ArrivalCalls
 pub mod ArrivalLaws
+pub mod ActiveCounts
+pub mod ActiveLaws
 pub mod CallMay
 pub mod CycleEntries
 pub mod CycleRows

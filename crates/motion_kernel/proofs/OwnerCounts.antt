@@ -194,7 +194,7 @@ record GroupHasNone (k : ℕ) (c : groups.Core) : Type 0 where
   waiting : waits_of k c.waiting ≡ 0
   reset : is_owner k (group_owners.reset_owner c.group.reset) ≡ 0
 
-same_active : (k : ℕ) (active : Option Wanted) → modes.is_owner k (modes.owner_by active) ≡ is_owner k (owner_by active)
+pub same_active : (k : ℕ) (active : Option Wanted) → modes.is_owner k (modes.owner_by active) ≡ is_owner k (owner_by active)
 same_active k None = same_owner k None
 same_active k (Some w) = same_owner k w.owner
 

@@ -9,7 +9,7 @@ use Rattle.fb_outputs.specs.declared.instance.Progress.TheVariants.{Idle, Waitin
 use Rattle.group_core.specs.Owners as group
 use Rattle.motion_history.specs.Setup.{Setup}
 use Rattle.motion_history.specs.declared.config.BlockDef.{BlockDef}
-use Rattle.motion_kernel.specs.Machine.{Machine, axis_core_at, group_core_at, instance_at}
+use Rattle.motion_kernel.specs.Machine.{Machine, axis_at, axis_core_at, group_at, group_core_at, instance_at}
 
 -- an axis or a group, by its number
 pub data Object : Type 0 where
@@ -49,9 +49,33 @@ commands_shown Waiting = 1
 commands_shown Active = 1
 commands_shown (Ended f shown) = 0
 
+-- whether an instance has the active command of it: 1, else 0
+abbrev pub active_at : Machine → ℕ → Object → ℕ
+active_at m k (an_axis n) = axis.is_owner k (axis.owner_by (axis_at m n).active)
+active_at m k (a_group j) = axis.is_owner k (axis.owner_by (group_at m j).group.active)
+
+-- whether an instance shows that its command is active: 1, else 0
+abbrev pub active_shown : Progress → ℕ
+active_shown Idle = 0
+active_shown Waiting = 0
+active_shown Active = 1
+active_shown (Ended f shown) = 0
+
 -- an instance has a command exactly while it shows one, on the axis or group on which its block
 -- acts; and whoever has a command is an instance of the configuration
-abbrev pub AreWhereShown : Setup → Machine → Type 0
-AreWhereShown s m = (k : ℕ) (o : Object) → IsThere m o →
+abbrev pub CommandsAreShown : Setup → Machine → Type 0
+CommandsAreShown s m = (k : ℕ) (o : Object) → IsThere m o →
     commands_at m k o ≡ (if has_commands_on (slice_get s.blocks k) o
     then commands_shown (instance_at m.instances k).progress else 0)
+
+-- and its command is the active one exactly while it shows so
+abbrev pub ActiveAreShown : Setup → Machine → Type 0
+ActiveAreShown s m = (k : ℕ) (o : Object) → IsThere m o →
+    active_at m k o ≡ (if has_commands_on (slice_get s.blocks k) o
+    then active_shown (instance_at m.instances k).progress else 0)
+
+-- commands are where their instances show: none where an instance is Idle or Ended, one that waits,
+-- or is a pending reset, where it is Waiting, and the active one where it is Active
+pub record AreWhereShown (s : Setup) (m : Machine) : Type 0 where
+  pub commands : CommandsAreShown s m
+  pub active : ActiveAreShown s m
