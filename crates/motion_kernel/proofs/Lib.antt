@@ -11,6 +11,7 @@ pub mod GroupArrivalLaws
 pub mod GroupDoneLaws
 pub mod GroupEndLaws
 pub mod DiagramLaws
+pub mod EntryLaws
 pub mod GroupParts
 pub mod KeptAxisCalls
 pub mod KeptAxisCycles

@@ -15,6 +15,7 @@ pub mod Refusals
 pub mod Diagrams
 pub mod Replies
 pub mod Owners
+pub mod EntryKept
 pub mod Tasks
 pub mod Marked
 pub mod AxisFates

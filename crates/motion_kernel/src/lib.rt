@@ -10,6 +10,7 @@ mod calls;
 mod cycles;
 mod cycling;
 mod diagram_laws;
+mod entry_laws;
 mod group_calls;
 mod history_laws;
 mod kernel;
@@ -30,6 +31,7 @@ mod telling;
 
 pub use arrival_laws::{moves_arrive_in_time, paths_end_in_time};
 pub use diagram_laws::states_follow_the_diagrams;
+pub use entry_laws::entries_keep_their_laws;
 pub use history_laws::histories_keep_their_laws;
 pub use kernel::{Kernel, OpenFault};
 pub use laws::machines_stay_kept;
