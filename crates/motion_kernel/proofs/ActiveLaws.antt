@@ -34,27 +34,29 @@ use Rattle.group_core.specs.Cores as group_cores
 use Rattle.group_core.specs.Cycles as group_cycles
 use Rattle.group_core.specs.Owners as group
 use Rattle.motion_history.specs.Calls.{IsCall}
-use Rattle.motion_history.specs.Entries.{Entry, call, cycle, cycle_count, end_of}
-use Rattle.motion_history.specs.Setup.{Setup, IsSetup}
+use Rattle.motion_history.specs.Setup.{Setup}
 use Rattle.motion_history.specs.declared.config.BlockDef.{BlockDef}
 use Rattle.motion_kernel.specs.Asking.{wanted_of}
 use Rattle.motion_kernel.specs.Calls.{after_asking, after_axis_command, after_call, after_edge, after_group_command, after_power, after_rising, answered_instance, asked_of_axis, axes_led, axis_led, called, called_where, enters_path, group_without_power, leaves_path, members_led, with_axis_core, with_execute, with_group_core, with_instance, without_owner}
 use Rattle.motion_kernel.specs.Cycles.{Surroundings, after_cycle, around_in, axes_cycled, axes_shown, axis_look, cycled, found_by, groups_reset, groups_shown, groups_stepped, instance_found, instances_found, look_in_cycle, owner_of, stepped_in, told_found, with_found}
-use Rattle.motion_kernel.specs.Histories.{Follows, IsLegal, inputs_of, machine_after, replay}
 use Rattle.motion_kernel.specs.Looks.{group_look}
 use Rattle.motion_kernel.specs.Machine.{Machine, PlacedGroup, axis_among, axis_at, axis_core_at, group_among, group_at, group_core_at, instance_at, machine_at_opening, no_instance}
 use Rattle.motion_kernel.specs.MachineKept.{AreWhole, IsMachineKept, IsSized}
 use Rattle.motion_kernel.specs.Members.{members_at, membership_of}
-use Rattle.motion_kernel.specs.Owners.{ActiveAreShown, AreWhereShown, CommandsAreShown, IsThere, Object, a_group, active_at, active_shown, an_axis, commands_at, commands_shown, has_commands_on, is_same, object_of}
+use Rattle.motion_kernel.specs.Owners.{ActiveAreShown, CommandsAreShown, IsThere, Object, a_group, active_at, active_shown, an_axis, commands_at, commands_shown, has_commands_on, is_same, object_of}
 use Rattle.motion_kernel.specs.Telling.{shown_active, shown_at}
 use Rattle.motion_kernel.specs.declared.members.Membership.{Membership}
 use Rattle.motion_kernel.proofs.ActiveCounts.{AxisNoMore, GroupNoMore, active_of, command_no_more, cycle_waits, group_active_of, group_command_no_more, group_cycle_waits, group_own_active, group_power_no_more, group_reset_waits, group_waiting_of, own_active, power_no_more, waiting_of}
 use Rattle.motion_kernel.proofs.KeptEvents.{axis_beside_axis, axis_beside_group, axis_written, group_beside_axis, group_beside_group, group_written, told_length}
 use Rattle.motion_kernel.proofs.KeptMembers.{membership_is}
-use Rattle.motion_kernel.proofs.LimitLaws.{kept_by_cycle}
 use Rattle.motion_kernel.proofs.OwnerCounts.{told_shows_none, none_owned, other_owner, same_active, same_owner, same_waits, shown_by, untold_stays}
 use Rattle.motion_kernel.proofs.OwnerLaws.{other_brings, other_brings_group, one_led, told_active, axis_active, AsShown, Changes, IsAsking, IsGood, OwnerLaws, ShownOf, asks, axes_good, axes_told, axis_active_shown, axis_as_many, axis_changes, axis_disowned, beside_none, call_shown, cycle_shown, cycled_good, event_shown, group_active_shown, group_as_many, group_changes, group_disowned, group_list, groups_told, instances_without, lists_there, members_are_led, most_one, none_beside, none_if, not_shown, opening_shown, plus_none, plus_nothing, power_execute, power_good, power_has_none, resets_good, same_object, same_there, set_at, shown_if, shown_where, shows_none, steps_good, as_many_without}
 use Rattle.motion_kernel.proofs.SizeLaws.{by_if}
+
+-- commands are where their instances show, apart from holds
+pub record AreTrulyShown (s : Setup) (m : Machine) : Type 0 where
+  pub commands : CommandsAreShown s m
+  pub active : ActiveAreShown s m
 
 -- whether an instance of these shows that its command is active
 abbrev pub active_by : List InstanceState → ℕ → ℕ
@@ -486,8 +488,8 @@ called_active : OwnerLaws → (s : Setup) (m : Machine) (k : ℕ) (i : Inputs) �
 unfolding called
 called_active laws s m k i whole made kept h active = where_active laws s (slice_get s.blocks k) k i m refl whole made kept h active
 
-pub call_truly_shown : OwnerLaws → (s : Setup) (m : Machine) (k : ℕ) (i : Inputs) → AreWhole s → IsCall s k i → IsMachineKept s m → AreWhereShown s m →
-    AreWhereShown s (after_call s m k i)
+pub call_truly_shown : OwnerLaws → (s : Setup) (m : Machine) (k : ℕ) (i : Inputs) → AreWhole s → IsCall s k i → IsMachineKept s m → AreTrulyShown s m →
+    AreTrulyShown s (after_call s m k i)
 call_truly_shown laws s m k i whole made kept h =
     let x = called s k i m in
     record {
@@ -852,7 +854,7 @@ found_truly s m h waits k o l =
     active_same m found k o ∙ told_truly s m k o h (waits k) there
     ∙ ap (λ x. if has_commands_on (slice_get s.blocks k) o then x else 0) (sym (all_found_active (length s.blocks) s.blocks m.axes m.groups (told_in m) k))
 
-pub cycle_truly_shown : OwnerLaws → (s : Setup) (m : Machine) (ins : List DriveIn) → IsMachineKept s m → AreWhereShown s m → AreWhereShown s (after_cycle s m ins)
+pub cycle_truly_shown : OwnerLaws → (s : Setup) (m : Machine) (ins : List DriveIn) → IsMachineKept s m → AreTrulyShown s m → AreTrulyShown s (after_cycle s m ins)
 cycle_truly_shown laws s m ins kept h =
     let good : IsGood s m = record { sized = kept.sized; shown = h.commands } in
     let after = cycled_good laws s m ins good in
@@ -863,26 +865,8 @@ cycle_truly_shown laws s m ins kept h =
     }
 
 -- at opening
-pub opening_truly_shown : (s : Setup) → AreWhereShown s (machine_at_opening s)
+pub opening_truly_shown : (s : Setup) → AreTrulyShown s (machine_at_opening s)
 opening_truly_shown s = record {
   commands = opening_shown s;
   active = λ k. none_is_active s k (machine_at_opening s) (opening_shown s k) (shows_none s.axes s.blocks k);
 }
-
--- so it is after a history
-replay_truly_shown : OwnerLaws → (s : Setup) (cycles : ℕ) (m : Machine) (es : List Entry) → AreWhole s → IsMachineKept s m → AreWhereShown s m → Follows s cycles m es →
-    AreWhereShown s (replay s m es)
-replay_truly_shown laws s cycles m [] whole kept h f = h
-replay_truly_shown laws s cycles m (call k i reply ∷ es) whole kept h f =
-    replay_truly_shown laws s (cycles + cycle_count (call k i reply)) (after_call s m k i) es whole (laws.machines.call s m k i whole f.0.0 kept)
-    (call_truly_shown laws s m k i whole f.0.0 kept h) f.1
-replay_truly_shown laws s cycles m (cycle c rows grows ∷ es) whole kept h f =
-    replay_truly_shown laws s (cycles + cycle_count (cycle c rows grows)) (after_cycle s m (inputs_of rows)) es whole
-    (kept_by_cycle laws.machines s m rows grows kept f.0.1) (cycle_truly_shown laws s m (inputs_of rows) kept h) f.1
-replay_truly_shown laws s cycles m (end_of task ∷ es) whole kept h f =
-    replay_truly_shown laws s (cycles + cycle_count (end_of task)) m es whole kept h f.1
-
-pub legal_truly_shown : OwnerLaws → (s : Setup) (es : List Entry) → IsSetup s → AreWhole s → IsLegal s es → AreWhereShown s (machine_after s es)
-unfolding machine_after
-legal_truly_shown laws s es setup whole legal =
-    replay_truly_shown laws s 0 (machine_at_opening s) es whole (laws.machines.opened s setup whole) (opening_truly_shown s) legal.follows

@@ -13,6 +13,7 @@ pub mod GroupEndLaws
 pub mod DiagramLaws
 pub mod EntryLaws
 pub mod GroupParts
+pub mod HolderLaws
 pub mod KeptAxisCalls
 pub mod KeptAxisCycles
 pub mod KeptCalls

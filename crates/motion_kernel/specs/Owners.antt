@@ -1,6 +1,6 @@
 -- Where the commands of instances are, and what an instance shows of its own (PLCopen Motion
 -- Control Part 1, general rules).
-use Rattle.std.specs.Prelude.{◌≡◌, ℕ, ◌<◌, Bool, false, not, ◌&&◌, nat_eq, if◌then◌else◌, Option, Some, None, length, slice_get}
+use Rattle.std.specs.Prelude.{◌≡◌, ℕ, ◌<◌, Bool, true, false, not, ◌&&◌, nat_eq, if◌then◌else◌, Option, Some, None, length, slice_get}
 use Rattle.axis_core.specs.Owners as axis
 use Rattle.command_pool.specs.Kinds.{acts_on_group}
 use Rattle.fb_outputs.specs.Steps.{is_power}
@@ -74,8 +74,19 @@ ActiveAreShown s m = (k : ℕ) (o : Object) → IsThere m o →
     active_at m k o ≡ (if has_commands_on (slice_get s.blocks k) o
     then active_shown (instance_at m.instances k).progress else 0)
 
+-- who holds an axis in Stopping or a group in GroupStopping, if an instance does
+abbrev pub holder_at : Machine → Object → Option ℕ
+holder_at m (an_axis n) = (axis_at m n).hold
+holder_at m (a_group j) = (group_at m j).group.hold
+
+-- whoever holds one is an instance of the configuration whose block acts on it
+abbrev pub HoldersHaveBlocks : Setup → Machine → Type 0
+HoldersHaveBlocks s m = (o : Object) → IsThere m o → (k : ℕ) → holder_at m o ≡ Some k →
+    has_commands_on (slice_get s.blocks k) o ≡ true
+
 -- commands are where their instances show: none where an instance is Idle or Ended, one that waits,
 -- or is a pending reset, where it is Waiting, and the active one where it is Active
 pub record AreWhereShown (s : Setup) (m : Machine) : Type 0 where
   pub commands : CommandsAreShown s m
   pub active : ActiveAreShown s m
+  pub holders : HoldersHaveBlocks s m

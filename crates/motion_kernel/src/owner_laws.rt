@@ -17,9 +17,9 @@ use crate::laws::machines_stay_kept;
 
 /// Each instance shows Active exactly while its command is the active one of the axis or group on
 /// which its block acts, and Waiting exactly while its command waits there or is a pending reset;
-/// it has no command elsewhere, and never two; and nobody but an instance of the configuration has
-/// one. So it is at opening, after every call and every cycle, and so after every entry of a legal
-/// history.
+/// it has no command elsewhere, and never two. Nobody but an instance of the configuration has a
+/// command, or holds an axis in Stopping or a group in GroupStopping. So it is at opening, after
+/// every call and every cycle, and so after every entry of a legal history.
 pub fn commands_are_where_their_instances_show()
     ensures opened { (s : Setup) → AreWhereShown s (machine_at_opening s) }
     ensures call { (s : Setup) (m : Machine) (k : ℕ) (i : Inputs) → AreWhole s → IsCall s k i →

@@ -1,5 +1,5 @@
 -- Commands are where their instances show, by the laws of the machine, its axes and its groups.
-use Rattle.motion_kernel.proofs.ActiveLaws.{call_truly_shown, cycle_truly_shown, legal_truly_shown, opening_truly_shown}
+use Rattle.motion_kernel.proofs.HolderLaws.{call_all_shown, cycle_all_shown, legal_all_shown, opening_all_shown}
 use Rattle.motion_kernel.proofs.OwnerLaws.{OwnerLaws}
 use Rattle.motion_kernel.proofs.owner_laws.commands_are_where_their_instances_show.Goals as goal
 
@@ -16,13 +16,13 @@ laws c =
     }
 
 pub returns-clause-opened : goal.returns-clause-opened
-returns-clause-opened c = opening_truly_shown
+returns-clause-opened c = opening_all_shown
 
 pub returns-clause-call : goal.returns-clause-call
-returns-clause-call c = call_truly_shown (laws c)
+returns-clause-call c = call_all_shown (laws c)
 
 pub returns-clause-cycle : goal.returns-clause-cycle
-returns-clause-cycle c = cycle_truly_shown (laws c)
+returns-clause-cycle c = cycle_all_shown (laws c)
 
 pub returns-clause-entries : goal.returns-clause-entries
-returns-clause-entries c = legal_truly_shown (laws c)
+returns-clause-entries c = legal_all_shown (laws c)
