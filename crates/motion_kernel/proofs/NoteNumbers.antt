@@ -68,14 +68,17 @@ one_told (Some k) f h = (h, tt)
 
 all_aborted : (ws : List Wanted) → AreNumbered (notes_of finish.Aborted ws)
 all_aborted [] = tt
-all_aborted (w ∷ ws) = both (told_to w.owner finish.Aborted) (notes_of finish.Aborted ws) (one_told w.owner finish.Aborted tt) (all_aborted ws)
+all_aborted (w ∷ ws) = both (told_to w.owner finish.Aborted) (notes_of finish.Aborted ws)
+    (one_told w.owner finish.Aborted tt) (all_aborted ws)
 
-active_told : (f : Finish) (active : Option Wanted) → HasNumber f → AreNumbered (active_note f active)
+active_told : (f : Finish) (active : Option Wanted) → HasNumber f → AreNumbered
+    (active_note f active)
 active_told f None h = tt
 active_told f (Some w) h = one_told w.owner f h
 
 all_told : (f : Finish) (q : Commands) → HasNumber f → AreNumbered (end_notes f q)
-all_told f q h = both (active_note f q.active) (notes_of finish.Aborted q.waiting) (active_told f q.active h) (all_aborted q.waiting)
+all_told f q h = both (active_note f q.active) (notes_of finish.Aborted q.waiting)
+    (active_told f q.active h) (all_aborted q.waiting)
 
 queue_told : (q : Commands) (w : Wanted) → AreNumbered (noted q w)
 queue_told q w = by_if AreNumbered (is_aborting w.mode) _ _ (all_told finish.Aborted q tt) tt
@@ -93,7 +96,8 @@ group_numbered _ = refl
 abbrev TellsNumbers : Core → Type 0
 TellsNumbers c = AreNumbered c.notes
 
-failed_told : (n : ℕ) (c : Core) → is_error_number n ≡ true → TellsNumbers c → TellsNumbers (core_after_error n c)
+failed_told : (n : ℕ) (c : Core) → is_error_number n ≡ true → TellsNumbers c → TellsNumbers
+    (core_after_error n c)
 unfolding core_after_error
 failed_told n c e h = both c.notes _ h (all_told (finish.Error n) (queue_in c) e)
 
@@ -110,25 +114,31 @@ joined_told w c h =
 left_told : (w : Wanted) (c : Core) → TellsNumbers c → TellsNumbers (core_after_leaving w c)
 left_told w c h = both c.notes _ h (all_told finish.Aborted (queue_in c) tt)
 
-admitted_told : (k : BlockKind) (w : Wanted) (c : Core) → TellsNumbers c → TellsNumbers (core_after_admission k w c)
+admitted_told : (k : BlockKind) (w : Wanted) (c : Core) → TellsNumbers c → TellsNumbers
+    (core_after_admission k w c)
 admitted_told kind.Reset w c h = both c.notes _ h (replaced_told c.axis.reset)
 admitted_told kind.GearOut w c h = left_told w c h
 admitted_told kind.CamOut w c h = left_told w c h
 admitted_told _ w c h = joined_told w c h
 
-verdict_told : (o : Option axis_reason.Reason) (w : Wanted) (c : Core) → TellsNumbers c → TellsNumbers (core_after_verdict o w c)
-verdict_told None w c h = admitted_told w.kind (with_target (known_target_of c.axis (last_of c.waiting) w) w) c h
+verdict_told : (o : Option axis_reason.Reason) (w : Wanted) (c : Core) → TellsNumbers c →
+    TellsNumbers (core_after_verdict o w c)
+verdict_told None w c h = admitted_told w.kind
+    (with_target (known_target_of c.axis (last_of c.waiting) w) w) c h
 verdict_told (Some r) w c h = h
 
-pub command_told : (q : Asked) (c : Core) → AreNumbered c.notes → AreNumbered (core_after_command q c).notes
+pub command_told : (q : Asked) (c : Core) → AreNumbered c.notes → AreNumbered
+    (core_after_command q c).notes
 unfolding core_after_command
 command_told q c h = verdict_told (axis_refusals.refusal_of q) q.wanted c h
 
 -- a Power
-pub power_told : (enable : Bool) (c : Core) → AreNumbered c.notes → AreNumbered (core_after_power enable c).notes
+pub power_told : (enable : Bool) (c : Core) → AreNumbered c.notes → AreNumbered
+    (core_after_power enable c).notes
 unfolding core_after_power
 power_told true c h = h
-power_told false c h = by_if TellsNumbers (is_error_stop c.axis.state) _ _ h (both c.notes _ h (all_told finish.Aborted (queue_in c) tt))
+power_told false c h = by_if TellsNumbers (is_error_stop c.axis.state) _ _ h
+    (both c.notes _ h (all_told finish.Aborted (queue_in c) tt))
 
 -- how a command of an axis ends by its step
 abbrev EndsWell : Option Finish → Type 0
@@ -147,7 +157,8 @@ aborted_well : (b : Bool) → EndsWell (ends_where b finish.Aborted)
 aborted_well true = tt
 aborted_well false = tt
 
-ends_well : (k : BlockKind) (a : Axis) (w : Wanted) (next : Option Wanted) (step : ℤ) (look : AxisLook) → EndsWell (ending_by k a w next step look)
+ends_well : (k : BlockKind) (a : Axis) (w : Wanted) (next : Option Wanted) (step : ℤ)
+    (look : AxisLook) → EndsWell (ending_by k a w next step look)
 ends_well kind.MoveAbsolute a w next step look = done_well _
 ends_well kind.MoveRelative a w next step look = done_well _
 ends_well kind.Halt a w next step look = done_well _
@@ -159,39 +170,50 @@ ends_well kind.CamIn a w next step look = aborted_well _
 ends_well _ a w next step look = tt
 
 limited_wish : (a : Axis) (step : ℤ) → IsWish (wish_within_limits a step)
-limited_wish a step = by_if IsWish (is_braking (old_step_of a) step || is_safe_step a step) (Ok step) (Err 103) tt refl
+limited_wish a step = by_if IsWish (is_braking (old_step_of a) step || is_safe_step a step)
+    (Ok step) (Err 103) tt refl
 
 cam_wish : (safe : Bool) (a : Axis) (w : Wanted) (cam : ℤ) → IsWish (cam_wish_where safe a w cam)
 cam_wish true a w cam = tt
-cam_wish false a w cam = by_if IsWish a.reached (Err 104) (wish_within_limits a (step_toward a cam w)) refl (limited_wish a (step_toward a cam w))
+cam_wish false a w cam = by_if IsWish a.reached (Err 104)
+    (wish_within_limits a (step_toward a cam w)) refl (limited_wish a (step_toward a cam w))
 
-is_wish : (k : BlockKind) (a : Axis) (w : Wanted) (next : Option Wanted) (look : AxisLook) → IsWish (wish_by k a w next look)
+is_wish : (k : BlockKind) (a : Axis) (w : Wanted) (next : Option Wanted) (look : AxisLook) → IsWish
+    (wish_by k a w next look)
 is_wish kind.MoveAbsolute a w next look = tt
 is_wish kind.MoveRelative a w next look = tt
 is_wish kind.Halt a w next look = tt
 is_wish kind.Stop a w next look = tt
 is_wish kind.MoveVelocity a w next look = limited_wish a (step_to_velocity a w.rates.v w)
-is_wish kind.GearIn a w next look = limited_wish a (step_to_velocity a (gear_toward_of (gear_step_of w.follow look.master) a.limits.vmax) w)
+is_wish kind.GearIn a w next look = limited_wish a
+    (step_to_velocity a (gear_toward_of (gear_step_of w.follow look.master) a.limits.vmax) w)
 is_wish kind.CamIn a w next look = cam_wish (is_safe_step a (look.cam -ℤ a.setpoint)) a w look.cam
 is_wish _ a w next look = tt
 
-wished_well : (wish : Result ℤ ℕ) (w : Wanted) (next : Option Wanted) (look : AxisLook) (a : Axis) → IsWish wish →
-    EndsWell (advance_by_progress w.kind (target_of w) a (progress_by_step a w next look (step_for_wish a wish))).ending
+wished_well : (wish : Result ℤ ℕ) (w : Wanted) (next : Option Wanted) (look : AxisLook) (a : Axis) →
+    IsWish wish →
+    EndsWell (advance_by_progress w.kind (target_of w) a
+    (progress_by_step a w next look (step_for_wish a wish))).ending
 wished_well (Ok step) w next look a i = ends_well w.kind a w next _ look
 wished_well (Err n) w next look a i = i
 
-commanded_well : (active next : Option Wanted) (look : AxisLook) (a : Axis) → EndsWell (advance_by_command active next look a).ending
+commanded_well : (active next : Option Wanted) (look : AxisLook) (a : Axis) → EndsWell
+    (advance_by_command active next look a).ending
 commanded_well None next look a = tt
-commanded_well (Some w) next look a = wished_well (wish_by w.kind a w next look) w next look a (is_wish w.kind a w next look)
+commanded_well (Some w) next look a = wished_well (wish_by w.kind a w next look) w next look a
+    (is_wish w.kind a w next look)
 
-placed_well : (o : Option ℤ) (next : Option Wanted) (look : AxisLook) (a : Axis) → EndsWell (advance_without_error o next look a).ending
+placed_well : (o : Option ℤ) (next : Option Wanted) (look : AxisLook) (a : Axis) → EndsWell
+    (advance_without_error o next look a).ending
 placed_well None next look a = commanded_well a.active next look a
 placed_well (Some place) next look a = tt
 
-advances_well : (next : Option Wanted) (look : AxisLook) (a : Axis) → EndsWell (advance_in_cycle next look a).ending
+advances_well : (next : Option Wanted) (look : AxisLook) (a : Axis) → EndsWell
+    (advance_in_cycle next look a).ending
 unfolding advance_in_cycle
 advances_well next look a =
-    by_if (λ (x : Advance). EndsWell x.ending) (is_error_stop a.state) _ _ tt (placed_well (place_on_path a look) next look a)
+    by_if (λ (x : Advance). EndsWell x.ending) (is_error_stop a.state) _ _ tt
+    (placed_well (place_on_path a look) next look a)
 
 -- the ends of a cycle of an axis
 from_told : (w : Wanted) (t : ℤ) (c : Core) → TellsNumbers c → TellsNumbers (core_under_from w t c)
@@ -199,36 +221,43 @@ from_told w t c h =
     by_if TellsNumbers (is_outside c.axis.limits.lo t c.axis.limits.hi) _ _
     (failed_told 106 (record c { axis = record c.axis { active = Some w } }) refl h) h
 
-taken_told : (k : BlockKind) (t : Option ℤ) (w : Wanted) (c : Core) → TellsNumbers c → TellsNumbers (core_taken_by k t w c)
+taken_told : (k : BlockKind) (t : Option ℤ) (w : Wanted) (c : Core) → TellsNumbers c → TellsNumbers
+    (core_taken_by k t w c)
 taken_told kind.MoveRelative None w c h = from_told w _ c h
 taken_told kind.MoveRelative (Some t) w c h = h
 taken_told _ t w c h = h
 
-over_told : (ws : List Wanted) (c : Core) → TellsNumbers c → TellsNumbers (core_after_take_over ws c)
+over_told : (ws : List Wanted) (c : Core) → TellsNumbers c → TellsNumbers
+    (core_after_take_over ws c)
 over_told [] c h = h
 over_told (w ∷ ws) c h = taken_told w.kind w.target w (record c { waiting = ws }) h
 
-end_told : (f : Finish) (c : Core) → HasNumber f → TellsNumbers c → TellsNumbers (core_after_end f c)
+end_told : (f : Finish) (c : Core) → HasNumber f → TellsNumbers c → TellsNumbers
+    (core_after_end f c)
 unfolding core_after_end
 end_told f c e h = over_told c.waiting _ (both c.notes _ h (active_told f c.axis.active e))
 
-ending_told : (o : Option Finish) (c : Core) → EndsWell o → TellsNumbers c → TellsNumbers (core_after_ending o c)
+ending_told : (o : Option Finish) (c : Core) → EndsWell o → TellsNumbers c → TellsNumbers
+    (core_after_ending o c)
 ending_told None c e h = h
 ending_told (Some (finish.Error n)) c e h = failed_told n c e h
 ending_told (Some finish.Done) c e h = end_told finish.Done c tt h
 ending_told (Some finish.Aborted) c e h = end_told finish.Aborted c tt h
 
-step_told : (look : AxisLook) (driven : Bool) (c : Core) → TellsNumbers c → TellsNumbers (core_after_step look driven c)
+step_told : (look : AxisLook) (driven : Bool) (c : Core) → TellsNumbers c → TellsNumbers
+    (core_after_step look driven c)
 step_told look driven c h =
     let step = advance_in_cycle (slice_get c.waiting 0) look c.axis in
     by_if TellsNumbers (driven && c.axis.driven) _ _
-    (ending_told step.ending (record c { axis = step.axis }) (advances_well (slice_get c.waiting 0) look c.axis) h) h
+    (ending_told step.ending (record c { axis = step.axis })
+    (advances_well (slice_get c.waiting 0) look c.axis) h) h
 
 -- the error that an answer brings
 abbrev pub IsNumberOrNone : ℕ → Type 0
 IsNumberOrNone n = nat_eq n 0 ≡ false → is_error_number n ≡ true
 
-chosen : (x y z : Bool) → IsNumberOrNone (if x then 101 else if y then 102 else if z then 105 else 0)
+chosen : (x y z : Bool) → IsNumberOrNone
+    (if x then 101 else if y then 102 else if z then 105 else 0)
 chosen true y z h = refl
 chosen false true z h = refl
 chosen false false true h = refl
@@ -240,34 +269,42 @@ skipped false n i h = i h
 
 pub answer_numbered : (a : Axis) (input : DriveIn) → IsNumberOrNone (answer_error_of a input)
 unfolding answer_error_of
-answer_numbered a input = skipped (is_error_stop a.state) (new_error_of a input) (chosen (has_fault input) _ _)
+answer_numbered a input = skipped (is_error_stop a.state) (new_error_of a input)
+    (chosen (has_fault input) _ _)
 
 -- where a test is false, what it leaves out needs its fact alone
-told_where : (b : Bool) (c d : Core) → TellsNumbers c → (b ≡ false → TellsNumbers d) → TellsNumbers (if b then c else d)
+told_where : (b : Bool) (c d : Core) → TellsNumbers c → (b ≡ false → TellsNumbers d) → TellsNumbers
+    (if b then c else d)
 told_where true c d h k = h
 told_where false c d h k = k refl
 
-answer_told : (input : DriveIn) (c : Core) → TellsNumbers c → TellsNumbers (core_after_answer input c)
+answer_told : (input : DriveIn) (c : Core) → TellsNumbers c → TellsNumbers
+    (core_after_answer input c)
 answer_told input c h =
     told_where (nat_eq (answer_error_of c.axis input) 0) c _ h
     (λ e. failed_told (answer_error_of c.axis input) c (answer_numbered c.axis input e) h)
 
-done_told : (o : Option axis_pending.PendingReset) (input : DriveIn) (a : Axis) → AreNumbered (axis_reset.reset_notes o input a)
+done_told : (o : Option axis_pending.PendingReset) (input : DriveIn) (a : Axis) → AreNumbered
+    (axis_reset.reset_notes o input a)
 done_told None input a = tt
-done_told (Some p) input a = by_if AreNumbered (axis_reset.may_reset input a) _ _ (one_told p.owner finish.Done tt) tt
+done_told (Some p) input a = by_if AreNumbered (axis_reset.may_reset input a) _ _
+    (one_told p.owner finish.Done tt) tt
 
-pub cycle_told : (look : AxisLook) (c : Core) → AreNumbered c.notes → AreNumbered (core_after_cycle look c).notes
+pub cycle_told : (look : AxisLook) (c : Core) → AreNumbered c.notes → AreNumbered
+    (core_after_cycle look c).notes
 unfolding core_after_cycle
 cycle_told look c h =
     let ran = core_after_step look (is_driven c.axis look.input) (core_after_answer look.input c) in
-    both ran.notes _ (step_told look (is_driven c.axis look.input) (core_after_answer look.input c) (answer_told look.input c h))
+    both ran.notes _ (step_told look (is_driven c.axis look.input) (core_after_answer look.input c)
+    (answer_told look.input c h))
     (done_told ran.axis.reset look.input ran.axis)
 
 -- what a group has told so far
 abbrev GroupTells : groups.Core → Type 0
 GroupTells c = AreNumbered c.notes
 
-group_failed : (n : ℕ) (c : groups.Core) → is_error_number n ≡ true → GroupTells c → GroupTells (groups.failed n c)
+group_failed : (n : ℕ) (c : groups.Core) → is_error_number n ≡ true → GroupTells c → GroupTells
+    (groups.failed n c)
 unfolding groups.failed
 group_failed n c e h = both c.notes _ h (all_told (finish.Error n) (group_calls.queue_in c) e)
 
@@ -276,34 +313,45 @@ group_replaced : (o : Option group_pending.PendingReset) → AreNumbered (group_
 group_replaced None = tt
 group_replaced (Some p) = one_told p.owner finish.Aborted tt
 
-line_told : (members : GroupLook) (w : Wanted) (c : groups.Core) → GroupTells c → GroupTells (group_calls.line_joined members w c)
+line_told : (members : GroupLook) (w : Wanted) (c : groups.Core) → GroupTells c → GroupTells
+    (group_calls.line_joined members w c)
 line_told members w c h =
-    let all = both c.notes (noted (group_calls.queue_in c) w) h (queue_told (group_calls.queue_in c) w) in
-    by_if GroupTells (group_calls.waits_for_rest w c.path) _ _ (both c.notes _ h (all_told finish.Aborted (group_calls.queue_in c) tt))
+    let all = both c.notes (noted (group_calls.queue_in c) w) h
+    (queue_told (group_calls.queue_in c) w) in
+    by_if GroupTells (group_calls.waits_for_rest w c.path) _ _
+    (both c.notes _ h (all_told finish.Aborted (group_calls.queue_in c) tt))
     (by_if GroupTells (is_active_at_once (group_calls.queue_in c) w) _ _ all all)
 
-group_admitted : (k : BlockKind) (members : GroupLook) (w : Wanted) (c : groups.Core) → GroupTells c → GroupTells (group_calls.admitted_by k members w c)
+group_admitted : (k : BlockKind) (members : GroupLook) (w : Wanted) (c : groups.Core) →
+    GroupTells c → GroupTells (group_calls.admitted_by k members w c)
 group_admitted kind.GroupEnable members w c h = h
 group_admitted kind.GroupDisable members w c h = h
 group_admitted kind.GroupReset members w c h = both c.notes _ h (group_replaced c.group.reset)
-group_admitted kind.GroupStop members w c h = both c.notes _ h (all_told finish.Aborted (group_calls.queue_in c) tt)
-group_admitted kind.GroupHalt members w c h = both c.notes _ h (all_told finish.Aborted (group_calls.queue_in c) tt)
+group_admitted kind.GroupStop members w c h = both c.notes _ h
+    (all_told finish.Aborted (group_calls.queue_in c) tt)
+group_admitted kind.GroupHalt members w c h = both c.notes _ h
+    (all_told finish.Aborted (group_calls.queue_in c) tt)
 group_admitted kind.MoveLinearAbsolute members w c h = line_told members w c h
 group_admitted _ members w c h = h
 
-group_verdict : (o : Option group_reason.Reason) (members : GroupLook) (w : Wanted) (c : groups.Core) → GroupTells c → GroupTells (group_calls.commanded_by o members w c)
+group_verdict : (o : Option group_reason.Reason) (members : GroupLook) (w : Wanted)
+    (c : groups.Core) → GroupTells c → GroupTells (group_calls.commanded_by o members w c)
 group_verdict None members w c h = group_admitted w.kind members w c h
 group_verdict (Some r) members w c h = h
 
-pub group_command_told : (w : Wanted) (jerk : ℤ) (members : GroupLook) (c : groups.Core) → AreNumbered c.notes →
+pub group_command_told : (w : Wanted) (jerk : ℤ) (members : GroupLook) (c : groups.Core) →
+    AreNumbered c.notes →
     AreNumbered (group_calls.commanded w jerk members c).notes
 unfolding group_calls.commanded
-group_command_told w jerk members c h = group_verdict (group_refusals.refusal_of (group_calls.asked_in c w jerk members)) members w c h
+group_command_told w jerk members c h = group_verdict
+    (group_refusals.refusal_of (group_calls.asked_in c w jerk members)) members w c h
 
 -- a Power off of a member
-pub group_power_told : (c : groups.Core) → AreNumbered c.notes → AreNumbered (group_calls.powered_off c).notes
+pub group_power_told : (c : groups.Core) → AreNumbered c.notes → AreNumbered
+    (group_calls.powered_off c).notes
 unfolding group_calls.powered_off
-group_power_told c h = by_if GroupTells (group_states.may_fail c.group.state) _ _ (group_failed 102 c refl h) h
+group_power_told c h = by_if GroupTells (group_states.may_fail c.group.state) _ _
+    (group_failed 102 c refl h) h
 
 -- the ends of a group's step
 line_well : (k : BlockKind) (m : Motion) (step : ℤ) → EndsWell (group_kinds.ending_by k m step)
@@ -311,7 +359,8 @@ line_well kind.MoveLinearAbsolute m step =
     by_if EndsWell (int_eq m.place m.limits.hi && int_eq step _) (Some finish.Done) None tt tt
 line_well _ m step = by_if EndsWell (int_eq step _) (Some finish.Done) None tt tt
 
-moves_well : (active : Option Wanted) (m : Motion) → EndsWell (group_cycles.advanced_with active m).ending
+moves_well : (active : Option Wanted) (m : Motion) → EndsWell
+    (group_cycles.advanced_with active m).ending
 moves_well None m = tt
 moves_well (Some w) m = line_well w.kind m _
 
@@ -319,19 +368,24 @@ group_advances : (g : Group) (p : Option OnPath) → EndsWell (group_cycles.endi
 unfolding group_cycles.advanced
 group_advances g None = tt
 group_advances g (Some p) =
-    by_if (λ (x : group_cycles.Advance). EndsWell x.ending) (group_states.is_error_stop g.state) _ _ tt (moves_well g.active p.motion)
+    by_if (λ (x : group_cycles.Advance). EndsWell x.ending)
+    (group_states.is_error_stop g.state) _ _ tt (moves_well g.active p.motion)
 
-group_over : (members : GroupLook) (setpoints : List ℤ) (ws : List Wanted) (c : groups.Core) → GroupTells c → GroupTells (groups.taken_over members setpoints ws c)
+group_over : (members : GroupLook) (setpoints : List ℤ) (ws : List Wanted) (c : groups.Core) →
+    GroupTells c → GroupTells (groups.taken_over members setpoints ws c)
 group_over members setpoints [] c h = h
 group_over members setpoints (w ∷ ws) c h = h
 
-group_ended : (members : GroupLook) (setpoints : List ℤ) (o : Option Finish) (c : groups.Core) → EndsWell o → GroupTells c →
+group_ended : (members : GroupLook) (setpoints : List ℤ) (o : Option Finish) (c : groups.Core) →
+    EndsWell o → GroupTells c →
     GroupTells (groups.ended_by members setpoints o c)
 unfolding groups.ended
 group_ended members setpoints None c e h = h
-group_ended members setpoints (Some f) c e h = group_over members setpoints c.waiting _ (both c.notes _ h (active_told f c.group.active e))
+group_ended members setpoints (Some f) c e h = group_over members setpoints c.waiting _
+    (both c.notes _ h (active_told f c.group.active e))
 
-group_where : (b : Bool) (c d : groups.Core) → (b ≡ true → GroupTells c) → GroupTells d → GroupTells (if b then c else d)
+group_where : (b : Bool) (c d : groups.Core) → (b ≡ true → GroupTells c) → GroupTells d → GroupTells
+    (if b then c else d)
 group_where true c d h k = h refl
 group_where false c d h k = k
 
@@ -341,33 +395,41 @@ is_there n b e = elim (cases_Bool (nat_eq n 0)) [
   | inr other ↦ other
 ]
 
-group_answered : (error : ℕ) (c : groups.Core) → IsNumberOrNone error → GroupTells c → GroupTells (group_cycles.answered error c)
+group_answered : (error : ℕ) (c : groups.Core) → IsNumberOrNone error → GroupTells c → GroupTells
+    (group_cycles.answered error c)
 group_answered error c i h =
     group_where (not (nat_eq error 0) && group_states.may_fail c.group.state) _ c
     (λ e. group_failed error c (i (is_there error _ e)) h) h
 
-pub group_cycle_told : (members : GroupLook) (c : groups.Core) → IsNumberOrNone members.error → AreNumbered c.notes →
+pub group_cycle_told : (members : GroupLook) (c : groups.Core) → IsNumberOrNone members.error →
+    AreNumbered c.notes →
     AreNumbered (group_cycles.cycled members c).notes
 unfolding group_cycles.cycled
 group_cycle_told members c i h =
     let stopped = group_cycles.answered members.error c in
     let path = group_cycles.path_after stopped.group stopped.path in
-    group_ended members _ (group_cycles.ending_of stopped.group stopped.path) (record stopped { path = path })
+    group_ended members _ (group_cycles.ending_of stopped.group stopped.path)
+    (record stopped { path = path })
     (group_advances stopped.group stopped.path) (group_answered members.error c i h)
 
 -- a GroupReset
-group_done : (o : Option group_pending.PendingReset) (on_path : Bool) (g : Group) → AreNumbered (group_reset.reset_notes o on_path g)
+group_done : (o : Option group_pending.PendingReset) (on_path : Bool) (g : Group) → AreNumbered
+    (group_reset.reset_notes o on_path g)
 group_done None on_path g = tt
-group_done (Some p) on_path g = by_if AreNumbered (group_reset.may_reset on_path g) _ _ (one_told p.owner finish.Done tt) tt
+group_done (Some p) on_path g = by_if AreNumbered (group_reset.may_reset on_path g) _ _
+    (one_told p.owner finish.Done tt) tt
 
-pub group_reset_told : (members : GroupLook) (c : groups.Core) → AreNumbered c.notes → AreNumbered (group_cycles.reset_cycled members c).notes
+pub group_reset_told : (members : GroupLook) (c : groups.Core) → AreNumbered c.notes → AreNumbered
+    (group_cycles.reset_cycled members c).notes
 group_reset_told members c h = both c.notes _ h (group_done c.group.reset (is_some c.path) c.group)
 
 -- the error that a group gets from its axes
-error_first : (error more : ℕ) → IsNumberOrNone error → IsNumberOrNone more → IsNumberOrNone (if nat_eq error 0 then more else error)
+error_first : (error more : ℕ) → IsNumberOrNone error → IsNumberOrNone more → IsNumberOrNone
+    (if nat_eq error 0 then more else error)
 error_first error more h k = by_if IsNumberOrNone (nat_eq error 0) more error k h
 
-pub first_numbered : (axes : List Axis) (ins : List DriveIn) (ns : List ℕ) → IsNumberOrNone (first_error axes ins ns)
+pub first_numbered : (axes : List Axis) (ins : List DriveIn) (ns : List ℕ) → IsNumberOrNone
+    (first_error axes ins ns)
 first_numbered axes ins [] h = absurd (cc)
 first_numbered axes ins (n ∷ ns) h =
     error_first (answer_error_of (axis_among axes n) (answer_at ins n)) (first_error axes ins ns)

@@ -55,19 +55,24 @@ group_as_it_is m j =
 
 -- an instance without a result of error shows none
 shows_no_error : (b stop execute reached : Bool) (p : Progress) (o : Outputs) → o.error ≡ false →
-    (outputs_by stop execute reached p).error ≡ false → (if b then o else outputs_by stop execute reached p).error ≡ false
+    (outputs_by stop execute reached p).error ≡ false →
+    (if b then o else outputs_by stop execute reached p).error ≡ false
 shows_no_error true stop execute reached p o h k = h
 shows_no_error false stop execute reached p o h k = k
 
-admitted_shows : (kind : BlockKind) (active : Bool) (i : InstanceState) → (outputs_of (answered_instance kind (Ok active) i)).error ≡ false
-admitted_shows kind true i = shows_no_error (is_power i.kind) (is_stop i.kind) i.execute false Active _ refl refl
+admitted_shows : (kind : BlockKind) (active : Bool) (i : InstanceState) →
+    (outputs_of (answered_instance kind (Ok active) i)).error ≡ false
+admitted_shows kind true i = shows_no_error (is_power i.kind)
+    (is_stop i.kind) i.execute false Active _ refl refl
 admitted_shows kind false i =
     by_if (λ (j : InstanceState). (outputs_of j).error ≡ false) (is_done_at_once kind) _ _
-    (shows_no_error (is_power i.kind) (is_stop i.kind) i.execute i.reached (Ended finish.Done false) _ refl refl)
+    (shows_no_error (is_power i.kind) (is_stop i.kind) i.execute i.reached
+    (Ended finish.Done false) _ refl refl)
     (shows_no_error (is_power i.kind) (is_stop i.kind) i.execute false Waiting _ refl refl)
 
 -- nor does the place of it in a list
-written_shows : (is : List InstanceState) (k : ℕ) (j : InstanceState) → (outputs_of j).error ≡ false → (outputs_of (instance_at (slice_set is k j) k)).error ≡ false
+written_shows : (is : List InstanceState) (k : ℕ) (j : InstanceState) →
+    (outputs_of j).error ≡ false → (outputs_of (instance_at (slice_set is k j) k)).error ≡ false
 written_shows [] k j h = refl
 written_shows (i ∷ is) zero j h = h
 written_shows (i ∷ is) (suc k) j h = written_shows is k j h
@@ -90,7 +95,8 @@ record ShowsError (power : Bool) (number id : ℕ) : Type 0 where
 
 error_shown : (power : Bool) (o : Outputs) (number : ℕ) → o.error ≡ false →
     (if power then o else record nothing { error = true; error_id = number }).error ≡ true →
-    ShowsError power number (if power then o else record nothing { error = true; error_id = number }).error_id
+    ShowsError power number
+    (if power then o else record nothing { error = true; error_id = number }).error_id
 error_shown true o number h e = absurd (cc)
 error_shown false o number h e = record { no_power = refl; same = refl }
 
@@ -103,9 +109,11 @@ record IsInstanceRefused (number : ℕ) (before after : InstanceState) (id : ℕ
   same : id ≡ number
   left : instance.shown after ≡ refused_instance id before
 
-instance_refused : (i : InstanceState) (execute : Bool) (number : ℕ) → edge_of i.execute execute ≡ edge.Rising →
+instance_refused : (i : InstanceState) (execute : Bool) (number : ℕ) → edge_of i.execute execute
+    ≡ edge.Rising →
     (outputs_of (refusing execute number i)).error ≡ true →
-    IsInstanceRefused number i (refusing execute number i) (outputs_of (refusing execute number i)).error_id
+    IsInstanceRefused number i (refusing execute number i)
+    (outputs_of (refusing execute number i)).error_id
 instance_refused i execute number e shows =
     let rise = rise_of i.execute execute e in
     let error = error_shown (is_power i.kind) _ number refl shows in
@@ -114,7 +122,13 @@ instance_refused i execute number e shows =
     ap (λ x. reached_after i.kind x i.reached) e ∙ ap (λ p. p && i.reached) error.no_power in
     record {
       same = error.same;
-      left = λ x. record { kind = i.kind; execute = now x; reached = none x; progress = Ended (finish.Error (sym error.same x)) true };
+      left = λ x. record {
+        kind = i.kind;
+        execute = now x;
+        reached = none x;
+        progress = Ended
+            (finish.Error (sym error.same x)) true;
+      };
     }
 
 -- the same in its place in a list
@@ -128,10 +142,13 @@ id_shown is k = (outputs_of (instance_at is k)).error_id
 
 record AreRefused (number : ℕ) (before after : List InstanceState) (k : ℕ) : Type 0 where
   same : id_shown after k ≡ number
-  left : slice_set after k (instance.shown (instance_at after k)) ≡ slice_set before k (refused_instance (id_shown after k) (instance_at before k))
+  left : slice_set after k (instance.shown (instance_at after k)) ≡ slice_set before k
+      (refused_instance (id_shown after k) (instance_at before k))
 
-are_refused : (is : List InstanceState) (k : ℕ) (execute : Bool) (number : ℕ) → edge_of (instance_at is k).execute execute ≡ edge.Rising →
-    (outputs_of (instance_at (refused_in execute number is k) k)).error ≡ true → AreRefused number is (refused_in execute number is k) k
+are_refused : (is : List InstanceState) (k : ℕ) (execute : Bool) (number : ℕ) → edge_of
+    (instance_at is k).execute execute ≡ edge.Rising →
+    (outputs_of (instance_at (refused_in execute number is k) k)).error ≡ true →
+    AreRefused number is (refused_in execute number is k) k
 are_refused [] k execute number e shows = absurd (cc)
 are_refused (i ∷ is) zero execute number e shows =
     let one = instance_refused i execute number e shows in
@@ -150,9 +167,12 @@ abbrev RefusesWell : ℕ → Machine → Machine → Type 0
 RefusesWell k m x = (outputs_of (instance_at x.instances k)).error ≡ true → ChangesNothing k m x
 
 -- a call that is admitted shows no error
-admitted_well : (k : ℕ) (kind : BlockKind) (active : Bool) (m y : Machine) → RefusesWell k m (with_answer k kind (Ok active) y)
+admitted_well : (k : ℕ) (kind : BlockKind) (active : Bool) (m y : Machine) → RefusesWell k m
+    (with_answer k kind (Ok active) y)
 admitted_well k kind active m y shows =
-    let none = written_shows y.instances k (answered_instance kind (Ok active) (instance_at y.instances k)) (admitted_shows kind active (instance_at y.instances k)) in
+    let none = written_shows y.instances k
+    (answered_instance kind (Ok active) (instance_at y.instances k))
+    (admitted_shows kind active (instance_at y.instances k)) in
     absurd (cc)
 
 -- the machine in which a call asks
@@ -160,8 +180,10 @@ abbrev asking_machine : ℕ → Inputs → Machine → Machine
 asking_machine k i m = without_owner k (with_execute k i m)
 
 -- a refused one has changed nothing
-refused_here : (k : ℕ) (kind : BlockKind) (i : Inputs) (m : Machine) (number : ℕ) → edge_of (instance_at m.instances k).execute i.execute ≡ edge.Rising →
-    IsRefusalNumber number → RefusesWell k m (with_answer k kind (Err (record { number = number })) (asking_machine k i m))
+refused_here : (k : ℕ) (kind : BlockKind) (i : Inputs) (m : Machine) (number : ℕ) → edge_of
+    (instance_at m.instances k).execute i.execute ≡ edge.Rising →
+    IsRefusalNumber number → RefusesWell k m (with_answer k kind (Err (record { number = number }))
+    (asking_machine k i m))
 unfolding without_owner
 refused_here k kind i m number e is shows =
     let all = are_refused m.instances k i.execute number e shows in
@@ -175,10 +197,13 @@ refused_here k kind i m number e is shows =
       number = subst IsRefusalNumber (sym all.same) is;
     }
 
-refused_well : (k : ℕ) (kind : BlockKind) (i : Inputs) (m y : Machine) (number : ℕ) → edge_of (instance_at m.instances k).execute i.execute ≡ edge.Rising →
-    IsRefusalNumber number → y ≡ asking_machine k i m → RefusesWell k m (with_answer k kind (Err (record { number = number })) y)
+refused_well : (k : ℕ) (kind : BlockKind) (i : Inputs) (m y : Machine) (number : ℕ) → edge_of
+    (instance_at m.instances k).execute i.execute ≡ edge.Rising →
+    IsRefusalNumber number → y ≡ asking_machine k i m → RefusesWell k m
+    (with_answer k kind (Err (record { number = number })) y)
 refused_well k kind i m y number e is same =
-    subst (λ x. RefusesWell k m (with_answer k kind (Err (record { number = number })) x)) (sym same) (refused_here k kind i m number e is)
+    subst (λ x. RefusesWell k m (with_answer k kind (Err (record { number = number })) x))
+    (sym same) (refused_here k kind i m number e is)
 
 -- the numbers of refusals
 is_number : (n : ℕ) → 1 ≤ n → n ≤ 19 → IsRefusalNumber n
@@ -219,15 +244,20 @@ group_number group_reasons.BlendRefused = is_number 17 (omega arith) (omega arit
 group_number group_reasons.CircularRefused = is_number 18 (omega arith) (omega arith)
 
 -- a command that is asked of an axis
-axis_verdict : (k n : ℕ) (kind : BlockKind) (i : Inputs) (m : Machine) (w : Wanted) (o : Option axis_reason.Reason) →
+axis_verdict : (k n : ℕ) (kind : BlockKind) (i : Inputs) (m : Machine) (w : Wanted)
+    (o : Option axis_reason.Reason) →
     edge_of (instance_at m.instances k).execute i.execute ≡ edge.Rising →
     let c = axis_core_at (asking_machine k i m) n in
-    RefusesWell k m (with_answer k kind (answer_by o w c) (with_axis_core (asking_machine k i m) n (core_after_verdict o w c)))
+    RefusesWell k m
+    (with_answer k kind (answer_by o w c)
+    (with_axis_core (asking_machine k i m) n (core_after_verdict o w c)))
 axis_verdict k n kind i m w None e = admitted_well k kind _ m _
 axis_verdict k n kind i m w (Some r) e =
-    refused_well k kind i m _ (axis_refusals.number_of r) e (axis_number r) (axis_as_it_is (asking_machine k i m) n)
+    refused_well k kind i m _ (axis_refusals.number_of r) e (axis_number r)
+    (axis_as_it_is (asking_machine k i m) n)
 
-axis_well : (s : Setup) (k n : ℕ) (kind : BlockKind) (i : Inputs) (m : Machine) → edge_of (instance_at m.instances k).execute i.execute ≡ edge.Rising →
+axis_well : (s : Setup) (k n : ℕ) (kind : BlockKind) (i : Inputs) (m : Machine) → edge_of
+    (instance_at m.instances k).execute i.execute ≡ edge.Rising →
     RefusesWell k m (after_axis_command s k n kind i (asking_machine k i m))
 unfolding after_axis_command core_after_command answer_of
 axis_well s k n kind i m e =
@@ -239,20 +269,27 @@ no_leaving : (kind : BlockKind) (r : Refusal) → leaves_path kind (Err r) ≡ f
 no_leaving kind.GroupDisable r = refl
 no_leaving _ r = refl
 
-group_verdict : (s : Setup) (k j : ℕ) (kind : BlockKind) (i : Inputs) (m : Machine) (members : GroupLook) (w : Wanted) (o : Option group_reason.Reason) →
+group_verdict : (s : Setup) (k j : ℕ) (kind : BlockKind) (i : Inputs) (m : Machine)
+    (members : GroupLook) (w : Wanted) (o : Option group_reason.Reason) →
     edge_of (instance_at m.instances k).execute i.execute ≡ edge.Rising →
     let c = group_core_at (asking_machine k i m) j in
     let answer = group_calls.answer_by o w c in
-    RefusesWell k m (with_answer k kind answer (members_led s j kind answer (with_group_core (asking_machine k i m) j (commanded_by o members w c))))
+    RefusesWell k m
+    (with_answer k kind answer
+    (members_led s j kind answer
+    (with_group_core (asking_machine k i m) j (commanded_by o members w c))))
 group_verdict s k j kind i m members w None e = admitted_well k kind _ m _
 group_verdict s k j kind i m members w (Some r) e =
     let free = asking_machine k i m in
     let number = group_refusals.number_of r in
-    let led : members_led s j kind (Err (record { number = number })) (with_group_core free j (group_core_at free j)) ≡ with_group_core free j (group_core_at free j) =
+    let led : members_led s j kind (Err (record { number = number }))
+    (with_group_core free j (group_core_at free j)) ≡ with_group_core free j
+    (group_core_at free j) =
     let none = no_leaving kind (record { number = number }) in rw none refl in
     refused_well k kind i m _ number e (group_number r) (led ∙ group_as_it_is free j)
 
-group_well : (s : Setup) (k j : ℕ) (kind : BlockKind) (i : Inputs) (m : Machine) → edge_of (instance_at m.instances k).execute i.execute ≡ edge.Rising →
+group_well : (s : Setup) (k j : ℕ) (kind : BlockKind) (i : Inputs) (m : Machine) → edge_of
+    (instance_at m.instances k).execute i.execute ≡ edge.Rising →
     RefusesWell k m (after_group_command s k j kind i (asking_machine k i m))
 unfolding after_group_command commanded group_calls.answer_of
 group_well s k j kind i m e =
@@ -260,15 +297,19 @@ group_well s k j kind i m e =
     let c = group_core_at free j in
     let w = wanted_of k kind i in
     let members = group_look s free j 0 in
-    group_verdict s k j kind i m members w (group_refusals.refusal_of (group_calls.asked_in c w i.jerk members)) e
+    group_verdict s k j kind i m members w
+    (group_refusals.refusal_of (group_calls.asked_in c w i.jerk members)) e
 
 -- a rising edge
-rising_well : (s : Setup) (k : ℕ) (b : BlockDef) (i : Inputs) (m : Machine) → edge_of (instance_at m.instances k).execute i.execute ≡ edge.Rising →
+rising_well : (s : Setup) (k : ℕ) (b : BlockDef) (i : Inputs) (m : Machine) → edge_of
+    (instance_at m.instances k).execute i.execute ≡ edge.Rising →
     RefusesWell k m (after_rising s k b i (with_execute k i m))
 rising_well s k b i m e =
-    by_if (RefusesWell k m) (acts_on_group b.kind) _ _ (group_well s k b.object b.kind i m e) (axis_well s k b.object b.kind i m e)
+    by_if (RefusesWell k m) (acts_on_group b.kind) _ _ (group_well s k b.object b.kind i m e)
+    (axis_well s k b.object b.kind i m e)
 
-edge_well : (s : Setup) (e : Edge) (k : ℕ) (b : BlockDef) (i : Inputs) (m : Machine) → edge_of (instance_at m.instances k).execute i.execute ≡ edge.Rising →
+edge_well : (s : Setup) (e : Edge) (k : ℕ) (b : BlockDef) (i : Inputs) (m : Machine) → edge_of
+    (instance_at m.instances k).execute i.execute ≡ edge.Rising →
     e ≡ edge.Rising → RefusesWell k m (after_edge s e k b i (with_execute k i m))
 edge_well s edge.Rising k b i m h is = rising_well s k b i m h
 edge_well s edge.High k b i m h is = absurd (cc)
@@ -276,30 +317,40 @@ edge_well s edge.Falling k b i m h is = absurd (cc)
 edge_well s edge.Low k b i m h is = absurd (cc)
 
 -- a Power that is called anew shows no error
-power_shows : (i : InstanceState) (execute : Bool) → edge_of i.execute execute ≡ edge.Rising → (outputs_of (instance.called i execute)).error ≡ false
+power_shows : (i : InstanceState) (execute : Bool) → edge_of i.execute execute ≡ edge.Rising →
+    (outputs_of (instance.called i execute)).error ≡ false
 power_shows i execute e =
-    let idle : instance.progress_after (edge_of i.execute execute) i.progress ≡ Idle = ap (λ x. instance.progress_after x i.progress) e in
-    shows_no_error (is_power i.kind) (is_stop i.kind) execute _ (instance.progress_after (edge_of i.execute execute) i.progress) _ refl
-    (ap (λ p. (outputs_by (is_stop i.kind) execute (reached_after i.kind (edge_of i.execute execute) i.reached) p).error) idle)
+    let idle : instance.progress_after (edge_of i.execute execute) i.progress ≡ Idle = ap
+    (λ x. instance.progress_after x i.progress) e in
+    shows_no_error (is_power i.kind) (is_stop i.kind) execute _
+    (instance.progress_after (edge_of i.execute execute) i.progress) _ refl
+    (ap (λ p.
+    (outputs_by (is_stop i.kind) execute
+    (reached_after i.kind (edge_of i.execute execute) i.reached) p).error) idle)
 
-power_on : (s : Setup) (n : ℕ) (enable : Bool) (m : Machine) → enable ≡ true → (after_power s n enable m).instances ≡ m.instances
+power_on : (s : Setup) (n : ℕ) (enable : Bool) (m : Machine) → enable ≡ true →
+    (after_power s n enable m).instances ≡ m.instances
 unfolding after_power core_after_power
 power_on s n true m e = refl
 power_on s n false m e = absurd (cc)
 
-power_well : (s : Setup) (k n : ℕ) (i : Inputs) (m : Machine) → edge_of (instance_at m.instances k).execute i.execute ≡ edge.Rising →
+power_well : (s : Setup) (k n : ℕ) (i : Inputs) (m : Machine) → edge_of
+    (instance_at m.instances k).execute i.execute ≡ edge.Rising →
     RefusesWell k m (after_power s n i.execute (with_execute k i m))
 power_well s k n i m e shows =
     let rise = rise_of (instance_at m.instances k).execute i.execute e in
     let same = power_on s n i.execute (with_execute k i m) rise.is in
-    let none = written_shows m.instances k (instance.called (instance_at m.instances k) i.execute) (power_shows (instance_at m.instances k) i.execute e) in
+    let none = written_shows m.instances k (instance.called (instance_at m.instances k) i.execute)
+    (power_shows (instance_at m.instances k) i.execute e) in
     let P : List InstanceState → Type 0 = λ js. (outputs_of (instance_at js k)).error ≡ true in
     let error = subst P same shows in
     absurd (cc)
 
 asking_well : (s : Setup) (kind : BlockKind) (k : ℕ) (b : BlockDef) (i : Inputs) (m : Machine) →
     edge_of (instance_at m.instances k).execute i.execute ≡ edge.Rising →
-    RefusesWell k m (after_asking s kind (edge_of (instance_at m.instances k).execute i.execute) k b i (with_execute k i m))
+    RefusesWell k m
+    (after_asking s kind (edge_of (instance_at m.instances k).execute i.execute) k b i
+    (with_execute k i m))
 asking_well s kind.Power k b i m e = power_well s k b.object i m e
 asking_well s _ k b i m e = edge_well s _ k b i m e e
 
@@ -309,25 +360,31 @@ there_is [] k l e = omega arith
 there_is (x ∷ xs) zero l e = cc
 there_is (x ∷ xs) (suc k) l e = there_is xs k (omega arith) e
 
-called_well : (s : Setup) (o : Option BlockDef) (k : ℕ) (i : Inputs) (m : Machine) → k < length s.blocks → slice_get s.blocks k ≡ o →
-    edge_of (instance_at m.instances k).execute i.execute ≡ edge.Rising → RefusesWell k m (called_where s o k i m)
+called_well : (s : Setup) (o : Option BlockDef) (k : ℕ) (i : Inputs) (m : Machine) →
+    k < length s.blocks → slice_get s.blocks k ≡ o →
+    edge_of (instance_at m.instances k).execute i.execute ≡ edge.Rising → RefusesWell k m
+    (called_where s o k i m)
 called_well s None k i m l is e = absurd (there_is s.blocks k l is)
 called_well s (Some b) k i m l is e = asking_well s b.kind k b i m e
 
-call_well : (s : Setup) (m : Machine) (k : ℕ) (i : Inputs) → k < length s.blocks → IsRefused m k i (reply_of s m k i) → ChangesNothing k m (called s k i m)
+call_well : (s : Setup) (m : Machine) (k : ℕ) (i : Inputs) → k < length s.blocks → IsRefused m k i
+    (reply_of s m k i) → ChangesNothing k m (called s k i m)
 unfolding called
 call_well s m k i l h = called_well s (slice_get s.blocks k) k i m l refl h.edge h.error
 
-pub refused_call : (s : Setup) (m : Machine) (k : ℕ) (i : Inputs) → k < length s.blocks → IsRefused m k i (reply_of s m k i) →
+pub refused_call : (s : Setup) (m : Machine) (k : ℕ) (i : Inputs) → k < length s.blocks →
+    IsRefused m k i (reply_of s m k i) →
     after_call s m k i ≡ machine_refused k (reply_of s m k i).error_id m
 refused_call s m k i l h = let w = call_well s m k i l h in w.left
 
-pub refused_number : (s : Setup) (m : Machine) (k : ℕ) (i : Inputs) → k < length s.blocks → IsRefused m k i (reply_of s m k i) →
+pub refused_number : (s : Setup) (m : Machine) (k : ℕ) (i : Inputs) → k < length s.blocks →
+    IsRefused m k i (reply_of s m k i) →
     IsRefusalNumber (reply_of s m k i).error_id
 refused_number s m k i l h = let w = call_well s m k i l h in w.number
 
 -- the replay of some entries, one after others
-pub replay_append : (s : Setup) (m : Machine) (es fs : List Entry) → replay s m (es ++ fs) ≡ replay s (replay s m es) fs
+pub replay_append : (s : Setup) (m : Machine) (es fs : List Entry) → replay s m
+    (es ++ fs) ≡ replay s (replay s m es) fs
 replay_append s m [] fs = refl
 replay_append s m (e ∷ es) fs = replay_append s (after s m e) es fs
 
@@ -336,14 +393,18 @@ pub record IsCalled (s : Setup) (m : Machine) (k : ℕ) (i : Inputs) (reply : Ou
   pub made : IsCall s k i
   pub answered : reply ≡ reply_of s m k i
 
-pub call_in : (s : Setup) (cycles : ℕ) (m : Machine) (made more : List Entry) (k : ℕ) (i : Inputs) (reply : Outputs) →
+pub call_in : (s : Setup) (cycles : ℕ) (m : Machine) (made more : List Entry) (k : ℕ) (i : Inputs)
+    (reply : Outputs) →
     Follows s cycles m (made ++ call k i reply ∷ more) → IsCalled s (replay s m made) k i reply
 call_in s cycles m [] more k i reply f = record { made = f.0.0; answered = f.0.1 }
-call_in s cycles m (e ∷ es) more k i reply f = call_in s (cycles + cycle_count e) (after s m e) es more k i reply f.1
+call_in s cycles m (e ∷ es) more k i reply f = call_in s (cycles + cycle_count e)
+    (after s m e) es more k i reply f.1
 
-pub refused_entry : (s : Setup) (made more : List Entry) (k : ℕ) (i : Inputs) (reply : Outputs) → IsLegal s (made ++ call k i reply ∷ more) →
+pub refused_entry : (s : Setup) (made more : List Entry) (k : ℕ) (i : Inputs) (reply : Outputs) →
+    IsLegal s (made ++ call k i reply ∷ more) →
     IsRefused (machine_after s made) k i reply →
-    machine_after s (made ++ call k i reply ∷ []) ≡ machine_refused k reply.error_id (machine_after s made)
+    machine_after s (made ++ call k i reply ∷ []) ≡ machine_refused k reply.error_id
+    (machine_after s made)
 unfolding machine_after
 refused_entry s made more k i reply legal h =
     let m = replay s (machine_at_opening s) made in

@@ -9,10 +9,28 @@ laws c =
     let a = c.ends_are_told_once.ensures in
     let g = c.ends_are_told_once-2.ensures in
     record {
-      machines = record { opened = m.opened; call = m.call; may_go_on = m.may_go_on; cycle = m.cycle };
+      machines = record {
+        opened = m.opened;
+        call = m.call;
+        may_go_on = m.may_go_on;
+        cycle = m.cycle;
+      };
       may_call = m.may_call;
-      axes = record { command = a.once_command; power = a.once_power; cycle = a.once_cycle; taken_away = a.taken_away; left = a.left };
-      groups = record { command = g.once_command; power_off = g.once_power_off; cycle = g.once_cycle; reset = g.once_reset; taken_away = g.taken_away; left = g.left };
+      axes = record {
+        command = a.once_command;
+        power = a.once_power;
+        cycle = a.once_cycle;
+        taken_away = a.taken_away;
+        left = a.left;
+      };
+      groups = record {
+        command = g.once_command;
+        power_off = g.once_power_off;
+        cycle = g.once_cycle;
+        reset = g.once_reset;
+        taken_away = g.taken_away;
+        left = g.left;
+      };
     }
 
 pub returns-clause-opened : goal.returns-clause-opened

@@ -3,12 +3,23 @@ use Rattle.motion_kernel.proofs.ReplyLaws.{InstancesTellOne, ReplyLaws, call_of_
 use Rattle.motion_kernel.proofs.reply_laws.replies_tell_one_result.Goals as goal
 
 instances : (c : goal.After-replies_tell_one_result) → InstancesTellOne
-instances c = record { single = c.replies_tell_one_result.ensures.single; numbered = c.replies_tell_one_result.ensures.numbered }
+instances c = record {
+  single = c.replies_tell_one_result.ensures.single;
+  numbered = c.replies_tell_one_result.ensures.numbered;
+}
 
 laws : (c : goal.After-replies_tell_one_result) → ReplyLaws
 laws c =
     let m = c.machines_stay_kept.ensures in
-    record { machines = record { opened = m.opened; call = m.call; may_go_on = m.may_go_on; cycle = m.cycle }; instances = instances c }
+    record {
+      machines = record {
+        opened = m.opened;
+        call = m.call;
+        may_go_on = m.may_go_on;
+        cycle = m.cycle;
+      };
+      instances = instances c;
+    }
 
 pub returns-clause-opened : goal.returns-clause-opened
 returns-clause-opened c = opening_of_blocks
