@@ -1,24 +1,19 @@
 -- What every legal history keeps.
-use Rattle.std.specs.Prelude.{◌≡◌, ℕ, ◌<◌, ◌≤◌, true, Some, List, [], ◌∷◌, ◌++◌, length, map, slice_get}
+use Rattle.std.specs.Prelude.{◌≡◌, ℕ, ◌<◌, ◌≤◌, true, Some, List, ◌++◌, length, map}
 use Rattle.command_pool.specs.Waiting.{queue_of}
-use Rattle.fb_outputs.specs.declared.inputs.Inputs.{Inputs}
-use Rattle.fb_outputs.specs.declared.outputs.Outputs.{Outputs}
 use Rattle.group_core.specs.GroupKept.{IsPathOf}
 use Rattle.group_core.specs.Tracks.{OnPath}
 use Rattle.kin_core.specs.Admissible.{IsKept}
 use Rattle.motion_history.specs.Columns.{KeepTheirLimits}
-use Rattle.motion_history.specs.Entries.{Entry, call}
+use Rattle.motion_history.specs.Entries.{Entry}
 use Rattle.motion_history.specs.Setup.{Setup}
-use Rattle.motion_history.specs.declared.config.BlockDef.{BlockDef}
 use Rattle.motion_kernel.specs.Arrivals.{MovesArrive}
-use Rattle.motion_kernel.specs.Diagrams.{FollowsDiagrams}
+use Rattle.motion_kernel.specs.EntryKept.{KeepsEntries}
 use Rattle.motion_kernel.specs.GroupArrivals.{PathsEnd}
 use Rattle.motion_kernel.specs.Histories.{machine_after}
 use Rattle.motion_kernel.specs.Machine.{Machine, axis_at, group_at}
 use Rattle.motion_kernel.specs.MachineKept.{limits_of}
 use Rattle.motion_kernel.specs.Members.{members_at}
-use Rattle.motion_kernel.specs.Refusals.{IsRefused, machine_refused}
-use Rattle.motion_kernel.specs.Replies.{IsReplyOf}
 
 -- an axis can be stopped within its limits, where it is driven
 abbrev pub IsAxisStoppable : Setup → Machine → ℕ → Type 0
@@ -38,32 +33,11 @@ pub record IsSafe (s : Setup) (m : Machine) : Type 0 where
   pub paths : (j : ℕ) → j < length s.groups → IsPathStoppable s m j
   pub waiting : (list : ℕ) → length (queue_of m.queues list) ≤ 8
 
--- a call that is refused changes nothing but its own instance
-abbrev pub RefusalsChangeNothing : Setup → List Entry → Type 0
-RefusalsChangeNothing s es = (made more : List Entry) (k : ℕ) (i : Inputs) (reply : Outputs) →
-    es ≡ made ++ call k i reply ∷ more → IsRefused (machine_after s made) k i reply →
-    machine_after s (made ++ call k i reply ∷ [])
-    ≡ machine_refused k reply.error_id (machine_after s made)
-
--- each reply tells one result, with the number of its error
-abbrev pub RepliesTellOneResult : Setup → List Entry → Type 0
-RepliesTellOneResult s es = (made more : List Entry) (k : ℕ) (i : Inputs) (reply : Outputs)
-    (b : BlockDef) → es ≡ made ++ call k i reply ∷ more → slice_get s.blocks k ≡ Some b →
-    IsReplyOf b i reply
-
--- the states of axes and groups follow their diagrams in each entry
-abbrev pub StatesFollowDiagrams : Setup → List Entry → Type 0
-StatesFollowDiagrams s es = (made more : List Entry) (e : Entry) → es ≡ made ++ e ∷ more →
-    FollowsDiagrams s (machine_after s made) e
-
--- each row keeps its axis's limits; the machine is safe after every entry; refused calls change
--- nothing, replies tell one result, states follow their diagrams; and the commands that lead an axis
--- or a group to an end come there in time
+-- each row keeps its axis's limits; the machine is safe after every entry; every entry keeps the
+-- laws of entries; and the commands that lead an axis or a group to an end come there in time
 pub record KeepsLaws (s : Setup) (es : List Entry) : Type 0 where
   pub limits : KeepTheirLimits s es
   pub safe : (made more : List Entry) → es ≡ made ++ more → IsSafe s (machine_after s made)
-  pub refusals : RefusalsChangeNothing s es
-  pub replies : RepliesTellOneResult s es
-  pub states : StatesFollowDiagrams s es
+  pub entries : KeepsEntries s es
   pub moves : MovesArrive s es
   pub paths : PathsEnd s es

@@ -8,16 +8,15 @@ ghost use Rattle.motion_kernel.specs.Laws.{KeepsLaws};
 ghost use Rattle.motion_kernel.specs.MachineKept.{AreWhole};
 
 use crate::arrival_laws::{moves_arrive_in_time, paths_end_in_time};
-use crate::diagram_laws::states_follow_the_diagrams;
+use crate::entry_laws::entries_keep_their_laws;
 use crate::limit_laws::{at_most_eight_wait, axes_stay_stoppable, rows_keep_limits};
-use crate::refusal_laws::refusals_change_nothing;
-use crate::reply_laws::replies_tell_one_result;
 
 /// In every legal history each row keeps its axis's limits; and after every entry each axis that is
 /// driven and each path can be stopped within its limits, and at most eight commands wait for each
-/// axis and each group. A refused call changes nothing but its own instance, each reply tells one
-/// result, and the states follow their diagrams. Each move, Halt and Stop of an axis, and each line, GroupHalt and GroupStop
-/// of a group, comes to its end in time.
+/// axis and each group. Each entry keeps the laws of entries: a refused call changes nothing but its
+/// own instance, each reply tells one result, the states follow their diagrams, and commands are
+/// where their instances show. Each move, Halt and Stop of an axis, and each line, GroupHalt and
+/// GroupStop of a group, comes to its end in time.
 pub fn histories_keep_their_laws()
     ensures { (s : Setup) (es : List Entry) → IsSetup s → AreWhole s → IsLegal s es →
         KeepsLaws s es }
@@ -25,9 +24,7 @@ pub fn histories_keep_their_laws()
     rows_keep_limits();
     axes_stay_stoppable();
     at_most_eight_wait();
-    refusals_change_nothing();
-    replies_tell_one_result();
-    states_follow_the_diagrams();
+    entries_keep_their_laws();
     moves_arrive_in_time();
     paths_end_in_time();
 }

@@ -14,14 +14,7 @@ returns c s es setup whole legal = record {
         paths = λ j l p is. c.axes_stay_stoppable.ensures.paths s made setup whole so_far j p l is;
         waiting = λ list. c.at_most_eight_wait.ensures.lists s made setup whole so_far list;
       };
-  refusals = λ made more k i reply e.
-      c.refusals_change_nothing.ensures.entries s made more k i reply (subst (IsLegal s) e legal);
-  replies = λ made more k i reply b e.
-      c.replies_tell_one_result.ensures.entries s made more k i reply b setup whole
-      (subst (IsLegal s) e legal);
-  states = λ made more e is.
-      c.states_follow_the_diagrams.ensures.entries s made more e setup whole
-      (subst (IsLegal s) is legal);
+  entries = c.entries_keep_their_laws.ensures s es setup whole legal;
   moves = c.moves_arrive_in_time.ensures.moves s es setup whole legal;
   paths = c.paths_end_in_time.ensures.paths s es setup whole legal;
 }
