@@ -1,29 +1,30 @@
 -- How the program ends, from what its parts did.
-use Rattle.std.specs.Prelude.{◌≡◌, refl, ℕ, Option, Result, Ok, Err, List, map, IfOk}
+use Rattle.std.specs.Prelude.{◌≡◌, refl, ℕ, true, false, Option, Result, Ok, Err, List, map, All, IfOk}
 use Rattle.std.specs.declared.alloc.AllocError.{AllocError}
 use Rattle.std.proofs.Common.{Vec, Global, ◌∙◌, sym, ap, subst}
-use Rattle.bench_text.specs.BenchState.{BenchState}
-use Rattle.cia402_machine.specs.declared.drive.DriveIn.{DriveIn}
-use Rattle.cia402_machine.specs.declared.drive.DriveState.TheVariants.{OperationEnabled}
-use Rattle.motion_kernel.specs.Laws.{KeepsLaws}
+use Rattle.bench_text.specs.BenchState.{BenchState, BrakesAsItSpeedsUp, IsBench}
+use Rattle.bench_text.specs.Reading.{ReadsBy}
+use Rattle.drive_sim.specs.Sim.{DriveSim}
 use Rattle.motion_history.specs.Entries.{Entry, cycles_of}
 use Rattle.motion_history.specs.Setup.{Setup}
-use Rattle.bench_text.specs.Reading.{ReadsBy}
 use Rattle.motion_history.specs.declared.refused.TextFault.{TextFault}
 use Rattle.motion_history.specs.declared.refused.TextFault.TheVariants.{Refused}
 use Rattle.motion_history.specs.declared.refused.TextRefused.{TextRefused}
+use Rattle.motion_history.specs.declared.refused.TraceVersion.{TraceVersion}
+use Rattle.motion_history.specs.declared.refused.TraceVersion.TheVariants.{One, Two}
 use Rattle.motion_kernel.specs.Histories.{IsLegal}
 use Rattle.motion_kernel.specs.KernelState.{KernelState}
-use Rattle.trace_text.specs.Trace.{trace_text}
+use Rattle.motion_kernel.specs.Laws.{KeepsLaws}
+use Rattle.trace_text.specs.Trace.{CanHold, trace_text}
 use Rattle.trace_text.specs.Writes.{Output, Writes, WritesPrefix}
-use Rattle.motion_history.specs.declared.refused.TraceVersion.TheVariants.{One}
 use Rattle.trace_text.specs.declared.write.Command.TheVariants.{Bench}
-use Rattle.trace_text.specs.declared.write.DriveEndRow.{DriveEndRow}
 use Rattle.trace_text.specs.declared.write.TraceFault.{TraceFault}
 use Rattle.trace_text.specs.declared.write.TraceFault.TheVariants as fault
 use Rattle.motion_cli.proofs.RunLaws.{run_at}
-use Rattle.motion_cli.specs.Ends.{Plan, EndsBy, EndsEarly, IsLegalRun, RunsBy, Says, status_by, bench_trace, plan_of_reading, refused_line}
-use Rattle.motion_cli.specs.Run.{Run, run_of, drives_of}
+use Rattle.motion_cli.specs.Drives.{drive_end}
+use Rattle.motion_cli.specs.Ends.{Plan, EndsBy, EndsEarly, IsLegalRun, RunsBy, Says, drive_ends, is_traced, status_by, status_of, plan_of_bench, plan_of_reading, refused_line}
+use Rattle.motion_cli.specs.Run.{Run, run_of}
+use Rattle.motion_cli.specs.declared.run.RunFault.{RunFault}
 use Rattle.motion_cli.specs.declared.status.Status.{Status}
 use Rattle.motion_cli.specs.declared.status.Status.TheVariants as status
 
@@ -54,61 +55,56 @@ pub same-text : (old new : Output) (x y : List ℕ) (r : Result (Unit {0}) Trace
 same-text old new x y r e w = let P : List ℕ → Type 0 = λ t. Writes old new t r in subst P e w
 
 -- a text that is refused has this plan
-pub refused-plan : (name text : List ℕ) (reading : Result BenchState TextRefused) (r : TextRefused) → reading ≡ Err r →
-    record { status = status.TextRefused 1 r.place r.rule; text = refused_line name r } ≡ plan_of_reading name text reading
-refused-plan name text reading r e = sym (ap (plan_of_reading name text) e)
+pub refused-plan : (name : List ℕ) (reading : Result BenchState TextRefused) (r : TextRefused) → reading ≡ Err r →
+    record { status = status.TextRefused 1 r.place r.rule; text = refused_line name r } ≡ plan_of_reading name reading
+refused-plan name reading r e = sym (ap (plan_of_reading name) e)
 
 -- why a text is refused
 pub refused-why : (reading : Result BenchState TextRefused) (f : TextFault) (r : TextRefused) → f ≡ Refused r → ReadsBy reading (Err f) → reading ≡ Err r
 refused-why reading f r e why = let P : TextFault → Type 0 = λ x. ReadsBy reading (Err x) in subst P e why
 
--- what the drives took at the end
-pub drives-are : (b : BenchState) (k : KernelState) (shown answers : List DriveIn) (drives : List DriveEndRow) (cycles : ℕ) →
-    run_at k answers ≡ run_of b → cycles ≡ cycles_of k.history → shown ≡ answers →
-    drives ≡ map (λ (d : DriveIn). record { taken = cycles; state = OperationEnabled; actual = d.actual }) shown → drives ≡ drives_of (run_of b)
-unfolding drives_of
-drives-are b k shown answers drives cycles r n a d =
-    let rows : ℕ → List DriveIn → List DriveEndRow = λ m xs. map (λ (x : DriveIn). record { taken = m; state = OperationEnabled; actual = x.actual }) xs in
-    d ∙ (λ t. rows (n t) (a t)) ∙ ap drives_of r
-
--- the trace that is written is that of the bench
-pub trace-is : (b : BenchState) (s : Setup) (k : KernelState) (es : List Entry) (answers : List DriveIn) (drives : List DriveEndRow) →
-    s ≡ b.config → es ≡ k.history → run_at k answers ≡ run_of b → drives ≡ drives_of (run_of b) →
-    trace_text One Bench s es drives ≡ bench_trace b
-trace-is b s k es answers drives config e r d =
-    let history : es ≡ (run_of b).history = e ∙ ap (λ (x : Run). x.history) r in
-    λ t. trace_text One Bench (config t) (history t) (d t)
-
--- a run whose trace was written is legal
-pub runs-written : (bench : BenchState) (written : Result (Unit {0}) TraceFault) (s : Status) →
-    s ≡ status_by status.Ok written → IfOk written (λ u. IsLegalRun bench) → RunsBy (λ b. b ≡ bench) s
-runs-written bench (Ok u) s e legal = λ b h ok. subst IsLegalRun (sym h) legal
-runs-written bench (Err fault.WriteFault) s e legal = λ b h ok. absurd (cc)
-runs-written bench (Err fault.OutOfMemory) s e legal = λ b h ok. absurd (cc)
-
--- what is read is the one bench
-pub runs-read : (reading : Result BenchState TextRefused) (bench : BenchState) (s : Status) → reading ≡ Ok bench → RunsBy (λ b. b ≡ bench) s → RunsBy (λ b. reading ≡ Ok b) s
-runs-read reading bench s r runs = λ b h ok. let same : b ≡ bench = let e : Ok b ≡ Ok bench = sym h ∙ r in cc in runs b same ok
-
--- a text that is refused has no run
-pub runs-none : (reading : Result BenchState TextRefused) (r : TextRefused) (s : Status) → reading ≡ Err r → RunsBy (λ b. reading ≡ Ok b) s
-runs-none reading r s e = λ b h ok. let bad : Ok b ≡ Err r = sym h ∙ e in absurd (cc)
-
--- where the status is another nothing is said of the run
-pub runs-other : (IsRead : BenchState → Type 0) (s : Status) → (s ≡ status.Ok → ⊥) → RunsBy IsRead s
-runs-other IsRead s e = λ b h ok. absurd (e ok)
-
-whatever : (written : Result (Unit {0}) TraceFault) (P : Type 0) → P → IfOk written (λ u. P)
-whatever (Ok u) P p = p
-whatever (Err e) P p = tt
+-- the trace of a run that was written is that of its bench, and the status is that of the run
+pub bench-ends : (old new : Output) (b : BenchState) (k : KernelState) (drives : List DriveSim) (ending : Result (Unit {0}) RunFault) (written : Result (Unit {0}) TraceFault) →
+    run_at k drives ending ≡ run_of b →
+    Writes old new (trace_text b.version Bench b.config k.history (map (drive_end (cycles_of k.history)) drives)) written →
+    EndsBy old new (plan_of_bench b) (status_by (status_of ending) written)
+bench-ends old new b k drives ending written e w = record {
+  written = written;
+  writes = same-text old new _ _ written (ap (λ (r : Run). trace_text b.version Bench b.config r.history (drive_ends r)) e) w;
+  status = ap (λ (r : Run). status_by (status_of r.ending) written) e;
+}
 
 -- the run that a kernel made of a bench is legal, as the kernel's history is
-pub legal-run : (b : BenchState) (k : KernelState) (answers : List DriveIn) (written : Result (Unit {0}) TraceFault) → k.config ≡ b.config → run_at k answers ≡ run_of b →
-    IsLegal k.config k.history → KeepsLaws k.config k.history → IfOk written (λ u. IsLegalRun b)
-legal-run b k answers written c r legal laws =
+pub legal-run : (b : BenchState) (k : KernelState) (drives : List DriveSim) (ending : Result (Unit {0}) RunFault) → k.config ≡ b.config → run_at k drives ending ≡ run_of b →
+    IsLegal k.config k.history → KeepsLaws k.config k.history → IsLegalRun b
+legal-run b k drives ending c r legal laws =
     let h : k.history ≡ (run_of b).history = ap (λ (x : Run). x.history) r in
     let L : Setup → Type 0 = λ s. IsLegal s k.history in
     let M : List Entry → Type 0 = λ es. IsLegal b.config es in
     let N : Setup → Type 0 = λ s. KeepsLaws s k.history in
     let O : List Entry → Type 0 = λ es. KeepsLaws b.config es in
-    whatever written (IsLegalRun b) (record { legal = subst M h (subst L c legal); laws = subst O h (subst N c laws) })
+    record { legal = subst M h (subst L c legal); laws = subst O h (subst N c laws) }
+
+-- it is the one bench
+pub runs-bench : (bench : BenchState) (s : Status) → IsLegalRun bench → RunsBy (λ b. b ≡ bench) s
+runs-bench bench s legal = λ b h t. subst IsLegalRun (sym h) legal
+
+held : (v : TraceVersion) (s : Setup) → (v ≡ One → All BrakesAsItSpeedsUp s.axes) → CanHold v s
+held One s h = h refl
+held Two s h = tt
+
+-- a bench of version 1 can be told in it
+pub can-hold : (b : BenchState) → IsBench b → CanHold b.version b.config
+can-hold b is = held b.version b.config is.braking
+
+-- what is read is the one bench
+pub runs-read : (reading : Result BenchState TextRefused) (bench : BenchState) (s : Status) → reading ≡ Ok bench → RunsBy (λ b. b ≡ bench) s → RunsBy (λ b. reading ≡ Ok b) s
+runs-read reading bench s r runs = λ b h t. let same : b ≡ bench = let e : Ok b ≡ Ok bench = sym h ∙ r in cc in runs b same t
+
+-- a text that is refused has no run
+pub runs-none : (reading : Result BenchState TextRefused) (r : TextRefused) (s : Status) → reading ≡ Err r → RunsBy (λ b. reading ≡ Ok b) s
+runs-none reading r s e = λ b h t. let bad : Ok b ≡ Err r = sym h ∙ e in absurd (cc)
+
+-- where the status stands for no trace nothing is said of the run
+pub runs-other : (IsRead : BenchState → Type 0) (s : Status) → is_traced s ≡ false → RunsBy IsRead s
+runs-other IsRead s e = λ b h t. absurd (let bad : true ≡ false = sym t ∙ e in cc)

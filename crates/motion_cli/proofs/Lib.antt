@@ -1,3 +1,6 @@
 pub mod EndLaws
 pub mod RunLaws
-pub mod ReadyLaws
+pub mod DriveLaws
+pub mod StepLaws
+pub mod Ways
+pub mod CauseLaws

@@ -1,143 +1,122 @@
--- The run of a bench, a line after another.
-use Rattle.std.specs.Prelude.{◌≡◌, refl, ℕ, zero, suc, ◌+◌, ◌-◌, ◌<◌, ◌≤◌, List, [], ◌∷◌, ◌++◌, false, length, map, drop, slice_index_or}
+-- The run of a bench, an event after another.
+use Rattle.std.specs.Prelude.{◌≡◌, refl, ℕ, zero, suc, ◌+◌, ◌-◌, ◌<◌, false, IsSomeAnd, Result, Ok, Err, List, [], ◌∷◌, ◌++◌, length, drop, replicate, slice_get, slice_index_or}
+use Rattle.std.specs.List.{flat_map}
 use Rattle.std.proofs.Common.{◌∙◌, sym, ap, subst, arith}
-use Rattle.std.proofs.lemmas.List.{drop_more, length-map}
-use Rattle.std.proofs.lemmas.List.Sums.{sum_by-cons}
-use Rattle.std.proofs.lemmas.Simd.{map-map}
-use Rattle.axis_state.specs.declared.definition.AxisRow.{AxisRow}
-use Rattle.motion_cli.specs.Ready as bench
-use Rattle.motion_cli.specs.Ready.{entries_of, cycles_of_lines}
+use Rattle.std.proofs.lemmas.List.{drop_more}
 use Rattle.bench_text.specs.declared.bench.BenchLine.{BenchLine}
-use Rattle.bench_text.specs.declared.bench.BenchLine.TheVariants.{Call, Cycles, End}
-use Rattle.cia402_machine.specs.declared.drive.DriveIn.{DriveIn}
-use Rattle.cia402_machine.specs.declared.drive.DriveOut.{DriveOut}
-use Rattle.motion_history.specs.Entries.{CyclesAddUp, Entry, cycle, cycles_of}
+use Rattle.drive_sim.specs.Sim.{DriveSim}
+use Rattle.axis_state.specs.declared.definition.AxisDef.{AxisDef}
 use Rattle.motion_history.specs.Setup.{Setup, IsSetup}
-use Rattle.motion_kernel.specs.Cycles as machine
-use Rattle.motion_kernel.specs.KernelState.{KernelState, state_of}
-use Rattle.motion_kernel.specs.Histories.{machine_after}
-use Rattle.motion_cli.specs.Drives.{opening_answer, answer_to}
+use Rattle.motion_history.specs.declared.config.BlockDef.{BlockDef}
+use Rattle.motion_history.specs.declared.drives.DriveDef.{DriveDef}
+use Rattle.motion_kernel.specs.KernelState.{KernelState}
+use Rattle.motion_cli.specs.Drives.{drives_at_opening}
 use Rattle.motion_cli.specs.Going.{IsGoing}
-use Rattle.motion_cli.specs.Run.{Run, cycled, cycled_often, made, made_all}
+use Rattle.motion_cli.specs.Run.{Event, Run, a_cycle, events_of, is_cycle, made, made_all, next_of, room_for, tried}
+use Rattle.motion_cli.specs.declared.run.RunFault.{RunFault}
 
--- the entry of a cycle in which the drives gave these answers
-abbrev pub entry_of : Setup → List Entry → List DriveIn → Entry
-entry_of s es ins =
-    let rows = machine.cycled s (machine_after s es) ins in
-    cycle (cycles_of es + 1) rows.axes rows.groups
+-- a run of a kernel and the drives
+abbrev pub run_at : KernelState → List DriveSim → Result (Unit {0}) RunFault → Run
+run_at k drives ending = record { history = k.history; drives = drives; ending = ending }
 
--- a cycle of the kernel whose outputs the drives take and answer
-pub cycled-is : (k k2 : KernelState) (ins answers : List DriveIn) (outs : List DriveOut) →
-    k2 ≡ record k { history = k.history ++ entry_of k.config k.history ins ∷ [] } →
-    outs ≡ map (λ (r : AxisRow). r.output) (machine.cycled k.config (state_of k) ins).axes → answers ≡ map answer_to outs →
-    record { history = k2.history; answers = answers } ≡ cycled k.config (record { history = k.history; answers = ins })
-unfolding cycled
-cycled-is k k2 ins answers outs h o a =
-    let out : AxisRow → DriveOut = λ r. r.output in
-    let e : answers ≡ map (λ (row : AxisRow). answer_to row.output) (machine.cycled k.config (state_of k) ins).axes = a ∙ ap (map answer_to) o ∙ map-map answer_to out _ in
-    λ t. record { history = (h t).history; answers = e t }
+-- an event is made, or ends the run, by the room for it
+pub made-by : (s : Setup) (e : Event) (r : Run) (w : Result (Unit {0}) RunFault) → r.ending ≡ Ok tt → w ≡ room_for s r.history (is_cycle e) → tried s e r w ≡ made s e r
+unfolding made
+made-by s e r w o h = ap (tried s e r) h ∙ sym (ap (next_of s e r) o)
 
--- a run goes on after a cycle
-pub going-on : (k k2 : KernelState) (ins answers : List DriveIn) → IsGoing k ins → k2.config ≡ k.config → k2.stopped ≡ k.stopped →
-    length answers ≡ length ins → IsGoing k2 answers
-going-on k k2 ins answers g c o l = record {
-  drives = l ∙ g.drives ∙ ap (λ s. length s.axes) (sym c);
-  few = rw c g.few;
-  runs = o ∙ g.runs;
+-- events and then more
+pub made_all-append : (s : Setup) (es more : List Event) (r : Run) → made_all s (es ++ more) r ≡ made_all s more (made_all s es r)
+unfolding made_all
+made_all-append s [] more r = refl
+made_all-append s (e ∷ es) more r = made_all-append s es more (made s e r)
+
+made-ended : (s : Setup) (e : Event) (r : Run) (f : RunFault) → r.ending ≡ Err f → made s e r ≡ r
+unfolding made
+made-ended s e r f h = ap (next_of s e r) h
+
+-- a list of one event is that event
+pub one-made : (s : Setup) (e : Event) (r : Run) → made s e r ≡ made_all s (e ∷ []) r
+unfolding made_all
+one-made s e r = refl
+
+-- a run that ended stays
+pub ended-stays : (s : Setup) (es : List Event) (r : Run) (f : RunFault) → r.ending ≡ Err f → made_all s es r ≡ r
+unfolding made_all
+ended-stays s [] r f h = refl
+ended-stays s (e ∷ es) r f h = ap (made_all s es) (made-ended s e r f h) ∙ ended-stays s es r f h
+
+-- what a loop of a run keeps: it goes on, and the events that are left lead to the whole
+pub record IsUnderWay (s : Setup) (k : KernelState) (drives : List DriveSim) (left : List Event) (whole : Run) : Type 0 where
+  pub config : k.config ≡ s
+  pub going : IsGoing k drives
+  pub so_far : made_all s left (run_at k drives (Ok tt)) ≡ whole
+
+further : (s : Setup) (k : KernelState) (drives : List DriveSim) (now rest : List Event) (whole r : Run) →
+    IsUnderWay s k drives (now ++ rest) whole → r ≡ made_all k.config now (run_at k drives (Ok tt)) → made_all s rest r ≡ whole
+further s k drives now rest whole r is e =
+    ap (made_all s rest) (e ∙ ap (λ x. made_all x now (run_at k drives (Ok tt))) is.config)
+    ∙ sym (made_all-append s now rest (run_at k drives (Ok tt))) ∙ is.so_far
+
+-- some events further it is still under way
+pub goes-on : (s : Setup) (k k2 : KernelState) (drives drives2 : List DriveSim) (now rest : List Event) (whole : Run) →
+    IsUnderWay s k drives (now ++ rest) whole → k2.config ≡ k.config → run_at k2 drives2 (Ok tt) ≡ made_all k.config now (run_at k drives (Ok tt)) →
+    IsGoing k2 drives2 → IsUnderWay s k2 drives2 rest whole
+goes-on s k k2 drives drives2 now rest whole is c e g = record {
+  config = c ∙ is.config;
+  going = g;
+  so_far = further s k drives now rest whole (run_at k2 drives2 (Ok tt)) is e;
 }
 
--- what a loop of a run keeps: it goes on, there is room for the rest, and the rest leads to the
--- whole
-pub record IsUnderWay (k : KernelState) (answers : List DriveIn) (more_entries more_cycles : ℕ) (rest whole : Run) : Type 0 where
-  pub going : IsGoing k answers
-  pub room : length k.history + more_entries ≤ k.config.entries
-  pub cycles : cycles_of k.history + more_cycles ≤ k.config.cycles
-  pub so_far : rest ≡ whole
+-- where these events end the run, this is the whole
+pub stops : (s : Setup) (k k2 : KernelState) (drives drives2 : List DriveSim) (now rest : List Event) (whole : Run) (f : RunFault) →
+    IsUnderWay s k drives (now ++ rest) whole → run_at k2 drives2 (Err f) ≡ made_all k.config now (run_at k drives (Ok tt)) →
+    run_at k2 drives2 (Err f) ≡ whole
+stops s k k2 drives drives2 now rest whole f is e =
+    sym (ended-stays s rest (run_at k2 drives2 (Err f)) f refl) ∙ further s k drives now rest whole (run_at k2 drives2 (Err f)) is e
 
--- a run of a kernel and the drives' answers
-abbrev pub run_at : KernelState → List DriveIn → Run
-run_at k answers = record { history = k.history; answers = answers }
+-- the cycles that are left: one, and the others
+pub cycles_left : (n i : ℕ) → i < n → replicate (n - i) a_cycle ≡ a_cycle ∷ replicate (n - (i + 1)) a_cycle
+cycles_left n i l = let one : n - i ≡ suc (n - (i + 1)) = omega arith in ap (λ m. replicate m a_cycle) one
 
-length_more : (es : List Entry) (e : Entry) → length (es ++ e ∷ []) ≡ length es + 1
-length_more [] e = refl
-length_more (d ∷ es) e = let h = length_more es e in omega arith
+-- the lines that are left: those of one, and of the others
+pub lines_left : (ls : List BenchLine) (i : ℕ) (d : BenchLine) → i < length ls →
+    flat_map events_of (drop i ls) ≡ events_of (slice_index_or ls i d) ++ flat_map events_of (drop (i + 1) ls)
+lines_left ls i d l = ap (flat_map events_of) (drop_more ls i d l)
 
--- a cycle further, the rest is one less
-pub cycle-further : CyclesAddUp → (s : Setup) (k k2 : KernelState) (answers answers2 : List DriveIn) (n i : ℕ) (whole : Run) → i < n →
-    IsUnderWay k answers (n - i) (n - i) (cycled_often s (n - i) (run_at k answers)) whole →
-    k.config ≡ s → k2.config ≡ k.config → run_at k2 answers2 ≡ cycled k.config (run_at k answers) → IsGoing k2 answers2 →
-    IsUnderWay k2 answers2 (n - (i + 1)) (n - (i + 1)) (cycled_often s (n - (i + 1)) (run_at k2 answers2)) whole
-unfolding cycled
-cycle-further add s k k2 answers answers2 n i whole l before c c2 e g =
-    let left = n - (i + 1) in
-    let P : ℕ → Type 0 = λ m. IsUnderWay k answers m m (cycled_often s m (run_at k answers)) whole in
-    let one : n - i ≡ suc left = omega arith in
-    let u : P (suc left) = subst P one before in
-    let h : k2.history ≡ k.history ++ entry_of k.config k.history answers ∷ [] = ap (λ (r : Run). r.history) e in
-    let x : length k2.history ≡ length k.history + 1 = ap length h ∙ length_more k.history _ in
-    let y : cycles_of k2.history ≡ cycles_of k.history + 1 = ap cycles_of h ∙ add k.history _ in
-    let a = u.room in
-    let b = u.cycles in
-    record {
-      going = g;
-      room = rw (x, c2) (omega arith);
-      cycles = rw (y, c2) (omega arith);
-      so_far = ap (cycled_often s left) (e ∙ ap (λ t. cycled t (run_at k answers)) c) ∙ u.so_far;
-    }
+-- a cycle of those that are left
+pub a-cycle-left : (s : Setup) (k : KernelState) (drives : List DriveSim) (n i : ℕ) (whole : Run) → i < n →
+    IsUnderWay s k drives (replicate (n - i) a_cycle) whole → IsUnderWay s k drives ((a_cycle ∷ []) ++ replicate (n - (i + 1)) a_cycle) whole
+a-cycle-left s k drives n i whole l is = let P : List Event → Type 0 = λ es. IsUnderWay s k drives es whole in subst P (cycles_left n i l) is
 
-length_often : (s : Setup) (n : ℕ) (r : Run) → length (cycled_often s n r).history ≡ length r.history + n
-unfolding cycled
-length_often s zero r = omega arith
-length_often s (suc n) r = let h = length_often s n (cycled s r) in let e = length_more r.history (entry_of s r.history r.answers) in omega arith
+-- a line of those that are left
+pub a-line-left : (s : Setup) (k : KernelState) (drives : List DriveSim) (ls : List BenchLine) (i : ℕ) (d : BenchLine) (whole : Run) → i < length ls →
+    IsUnderWay s k drives (flat_map events_of (drop i ls)) whole →
+    IsUnderWay s k drives (events_of (slice_index_or ls i d) ++ flat_map events_of (drop (i + 1) ls)) whole
+a-line-left s k drives ls i d whole l is = let P : List Event → Type 0 = λ es. IsUnderWay s k drives es whole in subst P (lines_left ls i d l) is
 
-cycles_often : CyclesAddUp → (s : Setup) (n : ℕ) (r : Run) → cycles_of (cycled_often s n r).history ≡ cycles_of r.history + n
-unfolding cycled
-cycles_often add s zero r = omega arith
-cycles_often add s (suc n) r = let h = cycles_often add s n (cycled s r) in let e = add r.history (entry_of s r.history r.answers) in omega arith
+-- the task of a block that is there
+task-here : (bs : List BlockDef) (k : ℕ) (d : BlockDef) → k < length bs → IsSomeAnd (slice_get bs k) (λ b. b.task ≡ (slice_index_or bs k d).task)
+task-here [] k d l = absurd (omega arith)
+task-here (b ∷ bs) zero d l = refl
+task-here (b ∷ bs) (suc k) d l = task-here bs k d (omega arith)
 
--- how long the history is after a line
-length-made : (s : Setup) (l : BenchLine) (r : Run) → length (made s l r).history ≡ length r.history + bench.entry_count l
-unfolding made
-length-made s (Call k i) r = length_more r.history _
-length-made s (Cycles n) r = length_often s n r
-length-made s (End t) r = length_more r.history _
-
--- how many cycles it has after a line
-cycles-made : CyclesAddUp → (s : Setup) (l : BenchLine) (r : Run) → cycles_of (made s l r).history ≡ cycles_of r.history + bench.cycle_count l
-unfolding made
-cycles-made add s (Call k i) r = add r.history _
-cycles-made add s (Cycles n) r = cycles_often add s n r
-cycles-made add s (End t) r = add r.history _
-
--- a line further, the rest is that much less
-pub line-further : CyclesAddUp → (s : Setup) (k k2 : KernelState) (answers answers2 : List DriveIn) (lines : List BenchLine) (i : ℕ) (d : BenchLine) (whole : Run) → i < length lines →
-    IsUnderWay k answers (entries_of (drop i lines)) (cycles_of_lines (drop i lines)) (made_all s (drop i lines) (run_at k answers)) whole →
-    k.config ≡ s → k2.config ≡ k.config → run_at k2 answers2 ≡ made k.config (slice_index_or lines i d) (run_at k answers) → IsGoing k2 answers2 →
-    let rest = drop (i + 1) lines in
-    IsUnderWay k2 answers2 (entries_of rest) (cycles_of_lines rest) (made_all s rest (run_at k2 answers2)) whole
-line-further add s k k2 answers answers2 lines i d whole at before c c2 e g =
-    let l = slice_index_or lines i d in
-    let ls = drop (i + 1) lines in
-    let P : List BenchLine → Type 0 = λ m. IsUnderWay k answers (entries_of m) (cycles_of_lines m) (made_all s m (run_at k answers)) whole in
-    let u : P (l ∷ ls) = subst P (drop_more lines i d at) before in
-    let h : k2.history ≡ (made k.config l (run_at k answers)).history = ap (λ (r : Run). r.history) e in
-    let n : length k2.history ≡ length k.history + bench.entry_count l = ap length h ∙ length-made k.config l (run_at k answers) in
-    let m : cycles_of k2.history ≡ cycles_of k.history + bench.cycle_count l = ap cycles_of h ∙ cycles-made add k.config l (run_at k answers) in
-    let p = sum_by-cons bench.entry_count l ls in
-    let q = sum_by-cons bench.cycle_count l ls in
-    let a : length k.history + (bench.entry_count l + entries_of ls) ≤ k.config.entries = let w = u.room in omega (arith, p, w) in
-    let b : cycles_of k.history + (bench.cycle_count l + cycles_of_lines ls) ≤ k.config.cycles = let w = u.cycles in omega (arith, q, w) in
-    record {
-      going = g;
-      room = rw (n, c2) (omega (arith, a));
-      cycles = rw (m, c2) (omega (arith, b));
-      so_far = ap (made_all s ls) (e ∙ ap (λ t. made t l (run_at k answers)) c) ∙ u.so_far;
-    }
+pub task-at : (bs cs : List BlockDef) (k : ℕ) (d : BlockDef) → cs ≡ bs → k < length bs → IsSomeAnd (slice_get bs k) (λ b. b.task ≡ (slice_index_or cs k d).task)
+task-at bs cs k d e l =
+    let P : List BlockDef → Type 0 = λ x. IsSomeAnd (slice_get bs k) (λ b. b.task ≡ (slice_index_or x k d).task) in
+    subst P (sym e) (task-here bs k d l)
 
 -- a run begins with a drive for each axis
-pub going-first : (k : KernelState) (s : Setup) (answers : List DriveIn) → IsSetup s → k.config ≡ s → k.stopped ≡ false → answers ≡ map opening_answer s.axes → IsGoing k answers
-going-first k s answers h c o a = rw (a, c) (record {
-  drives = length-map s.axes opening_answer;
-  few = h.within.sizes.axes;
-  runs = o;
-})
+length-opening : (xs : List AxisDef) (ds : List DriveDef) → length ds ≡ length xs → length (drives_at_opening xs ds) ≡ length xs
+length-opening [] ds e = refl
+length-opening (x ∷ xs) [] e = absurd (omega arith)
+length-opening (x ∷ xs) (d ∷ ds) e = ap suc (length-opening xs ds (omega arith))
+
+pub going-first : (k : KernelState) (s : Setup) (xs : List AxisDef) (ds : List DriveDef) (drives : List DriveSim) → IsSetup s → k.config ≡ s → k.stopped ≡ false →
+    drives ≡ drives_at_opening xs ds → xs ≡ s.axes → length ds ≡ length s.axes → IsGoing k drives
+going-first k s xs ds drives h c o e x l =
+    let count : length drives ≡ length xs = ap length e ∙ length-opening xs ds (l ∙ ap length (sym x)) in
+    rw c (record {
+      each = count ∙ ap length x;
+      few = h.within.sizes.axes;
+      runs = o;
+    })

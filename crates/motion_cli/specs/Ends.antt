@@ -1,22 +1,24 @@
 -- What the program writes, and the status that it ends with.
-use Rattle.std.specs.Prelude.{◌≡◌, ℕ, ◌^◌, ◌≤◌, ◌⊎◌, codes, decimal, if◌then◌else◌, Option, Some, None, Result, Ok, Err, List, [], ◌∷◌, ◌++◌, length}
+use Rattle.std.specs.Prelude.{◌≡◌, ℕ, ◌^◌, ◌≤◌, ◌⊎◌, Bool, true, false, codes, decimal, Option, Some, None, Result, Ok, Err, List, [], ◌∷◌, ◌++◌, length, map}
 use Rattle.std.proofs.Common.{Vec, Global}
 use Rattle.std.specs.declared.alloc.AllocError.{AllocError}
 use Rattle.bench_text.specs.BenchState.{BenchState}
 use Rattle.bench_text.specs.Reading.{bench_of}
-use Rattle.line_text.specs.Lines.{lines_of}
+use Rattle.motion_history.specs.Entries.{cycles_of}
 use Rattle.motion_kernel.specs.Laws.{KeepsLaws}
 use Rattle.motion_history.specs.declared.refused.TextRefused.{TextRefused}
 use Rattle.motion_kernel.specs.Histories.{IsLegal}
 use Rattle.outside.specs.Told.{FileMap, HasFile, LacksFile, IsLonger}
 use Rattle.trace_text.specs.Trace.{trace_text}
 use Rattle.trace_text.specs.Writes.{Output, Writes}
-use Rattle.motion_history.specs.declared.refused.TraceVersion.TheVariants.{One}
 use Rattle.trace_text.specs.declared.write.Command.TheVariants.{Bench}
 use Rattle.trace_text.specs.declared.write.TraceFault.{TraceFault}
 use Rattle.trace_text.specs.declared.write.TraceFault.TheVariants as fault
-use Rattle.motion_cli.specs.Ready.{is_ready, more_line}
-use Rattle.motion_cli.specs.Run.{run_of, drives_of}
+use Rattle.trace_text.specs.declared.write.DriveEndRow.{DriveEndRow}
+use Rattle.motion_cli.specs.Drives.{drive_end}
+use Rattle.motion_cli.specs.Run.{Run, run_of}
+use Rattle.motion_cli.specs.declared.run.RunFault.{RunFault}
+use Rattle.motion_cli.specs.declared.run.RunFault.TheVariants.{CyclesOver, HistoryFull}
 use Rattle.motion_cli.specs.declared.status.Status.{Status}
 use Rattle.motion_cli.specs.declared.status.Status.TheVariants as status
 
@@ -45,30 +47,28 @@ too_long_line name = codes "too long " ++ name ++ codes "\n"
 abbrev pub refused_line : List ℕ → TextRefused → List ℕ
 refused_line name r = codes "refused " ++ name ++ codes " " ++ decimal r.place ++ codes " " ++ (r.rule.letter ∷ []) ++ decimal r.rule.number ++ codes "\n"
 
--- the trace of a bench: that of its run. This project's profile
+-- the status that a run ends with. This project's profile
+abbrev pub status_of : Result (Unit {0}) RunFault → Status
+status_of (Ok u) = status.Ok
+status_of (Err CyclesOver) = status.CyclesOver
+status_of (Err HistoryFull) = status.HistoryFull
+
+-- what the drives took by the end of a run
+abbrev pub drive_ends : Run → List DriveEndRow
+drive_ends r = map (drive_end (cycles_of r.history)) r.drives
+
+-- the trace of a bench: that of its run, in the version of the bench. This project's profile
 abbrev pub bench_trace : BenchState → List ℕ
-bench_trace b = trace_text One Bench b.config (run_of b).history (drives_of (run_of b))
+bench_trace b = trace_text b.version Bench b.config (run_of b).history (drive_ends (run_of b))
 
--- the line that tells which line of a bench asks for more than the program does so far. This
--- project's profile
-abbrev pub not_yet_line : List ℕ → ℕ → List ℕ
-not_yet_line name line = codes "not yet " ++ name ++ codes " " ++ decimal line ++ codes "\n"
-
--- what a bench that the program doesn't run yet leads to. Interim
-abbrev pub not_yet_plan : List ℕ → List ℕ → Plan
-not_yet_plan name text =
-    let line = more_line 0 (lines_of text) in
-    record { status = status.NotYet line; text = not_yet_line name line }
-
--- what a bench leads to: its trace, where the program runs it so far
-abbrev pub plan_of_bench : List ℕ → List ℕ → BenchState → Plan
-plan_of_bench name text b =
-    if is_ready b then record { status = status.Ok; text = bench_trace b } else not_yet_plan name text
+-- what a bench leads to: the trace of its run, as far as it went
+abbrev pub plan_of_bench : BenchState → Plan
+plan_of_bench b = record { status = status_of (run_of b).ending; text = bench_trace b }
 
 -- what a reading of the file's text leads to. This project's profile
-abbrev pub plan_of_reading : List ℕ → List ℕ → Result BenchState TextRefused → Plan
-plan_of_reading name text (Ok b) = plan_of_bench name text b
-plan_of_reading name text (Err r) = record {
+abbrev pub plan_of_reading : List ℕ → Result BenchState TextRefused → Plan
+plan_of_reading name (Ok b) = plan_of_bench b
+plan_of_reading name (Err r) = record {
   status = status.TextRefused 1 r.place r.rule;
   text = refused_line name r;
 }
@@ -93,10 +93,9 @@ IsFound told rose name (Content bytes) = HasFile told name bytes × (length byte
 abbrev pub plan_of : List ℕ → Found → Plan
 plan_of name Unread = record { status = status.ReadFault 1; text = unread_line name }
 plan_of name Longer = record { status = status.TooLong 1; text = too_long_line name }
-plan_of name (Content bytes) = plan_of_reading name bytes (bench_of bytes)
+plan_of name (Content bytes) = plan_of_reading name (bench_of bytes)
 
--- the run of a bench has a legal history, which keeps the laws of the machine. This
--- project's profile
+-- the history of a bench's run is legal, and keeps the laws of the machine. This project's profile
 pub record IsLegalRun (b : BenchState) : Type 0 where
   pub legal : IsLegal b.config (run_of b).history
   pub laws : KeepsLaws b.config (run_of b).history
@@ -107,9 +106,17 @@ IsBenchIn Unread b = ⊥
 IsBenchIn Longer b = ⊥
 IsBenchIn (Content bytes) b = bench_of bytes ≡ Ok b
 
--- where the status is Ok, the run of the bench that was read is legal. This project's profile
+-- the statuses that stand for a trace. This project's profile
+abbrev pub is_traced : Status → Bool
+is_traced status.Ok = true
+is_traced status.CyclesOver = true
+is_traced status.HistoryFull = true
+is_traced _ = false
+
+-- where the status stands for a trace, the run of the bench that was read is legal. This project's
+-- profile
 abbrev pub RunsBy : (BenchState → Type 0) → Status → Type 0
-RunsBy IsRead s = (b : BenchState) → IsRead b → s ≡ status.Ok → IsLegalRun b
+RunsBy IsRead s = (b : BenchState) → IsRead b → is_traced s ≡ true → IsLegalRun b
 
 -- the status by what became of the writing. This project's profile
 abbrev pub status_by : Status → Result (Unit {0}) TraceFault → Status

@@ -1,9 +1,10 @@
-pub mod Ready
 pub mod Drives
 pub mod Run
 pub mod Going
 pub mod WordList
 pub mod Asked
 pub mod Ends
+pub mod Headline
+pub mod Causes
 pub mod Exits
 pub mod Args

@@ -1,74 +1,83 @@
-// The drives of a bench: each is in Operation enabled and stands at its last target.
+// The drives of a bench: a simulated one for each axis.
 
 ghost use Rattle.std.specs.Prelude.{◌≡◌, IsTrue, IfOk, length, map};
-ghost use Rattle.std.specs.List.{list_all};
+ghost use Rattle.std.specs.List.{All, list_all};
+ghost use Rattle.bench_text.specs.BenchState.{IsDrive};
+ghost use Rattle.drive_sim.specs.Sim.{DriveSim};
+ghost use Rattle.drive_sim.specs.Steps.{answer_of};
 ghost use Rattle.motion_history.specs.Ranges.{is_axis};
 ghost use Rattle.motion_cli.specs.Drives as spec;
-ghost use Rattle.cia402_machine.specs.declared.drive.DriveIn.{DriveIn};
 
 use axis_state::{AxisDef, setpoints_have_counts, target_count};
-use cia402_machine::{CYCLIC_SYNCHRONOUS_POSITION, DriveIn, DriveOut, DriveState};
-use motion_history::axes_are_in_range;
+use cia402_machine::{DriveIn, DriveOut, DriveState, state_of, statuswords_are_read_back};
+use drive_sim::Drive;
+use motion_history::{DriveDef, OutOfMemory, axes_are_in_range};
 use std::alloc::{AllocError, Global};
 use trace_text::DriveEndRow;
 
-/// The statusword of Operation enabled (object 6041h).
-const OPERATION_ENABLED: u16 = 0x0037;
-
-// What a drive answers before the first cycle.
-fn opening_answer(axis: &AxisDef) -> DriveIn
-    requires { IsTrue (is_axis axis.now) }
-    ensures { result ≡ spec.opening_answer axis.now }
+// The drive of an axis at opening.
+#[tactic(auto, unfolding(crate::specs::Drives::drive_at_opening))]
+fn open_drive(alloc: Global, axis: &AxisDef, def: &DriveDef) -> Result<Drive, OutOfMemory>
+    requires axis { IsTrue (is_axis axis.now) }
+    requires drive { IsDrive def.now }
+    ensures { IfOk result (λ drive. drive ≡ spec.drive_at_opening axis.now def.now) }
 {
     axes_are_in_range();
     setpoints_have_counts();
-    DriveIn {
-        statusword: OPERATION_ENABLED,
-        mode_display: CYCLIC_SYNCHRONOUS_POSITION,
-        actual: target_count(axis.start, 0, axis.inc),
+    let count = target_count(axis.start, 0, axis.inc);
+    Drive::open(alloc, def.lag, def.faults.as_slice(), count, axis.ready)
+}
+
+/// The drives of some axes at opening.
+pub fn open_drives(
+    alloc: Global,
+    axes: &[AxisDef],
+    defs: &[DriveDef],
+) -> Result<Vec<Drive>, OutOfMemory>
+    requires axes { IsTrue (list_all is_axis axes.now) }
+    requires drives { All IsDrive defs.now }
+    requires each { length defs.now ≡ length axes.now }
+    ensures { IfOk result (λ drives. drives.items ≡ spec.drives_at_opening axes.now defs.now) }
+{
+    let mut drives = Vec::new(alloc);
+    for (i, axis) in axes.iter().enumerate() {
+        let drive = open_drive(alloc, axis, &defs[i])?;
+        let Ok(()) = drives.push(drive) else {
+            return Err(OutOfMemory);
+        };
+    }
+    Ok(drives)
+}
+
+/// What the drives answer.
+pub fn answer_all(drives: &[Drive], answers: &mut [DriveIn])
+    requires { length answers.old ≡ length drives.now }
+    ensures { answers.new ≡ map answer_of drives.now }
+{
+    for (i, drive) in drives.iter().enumerate() {
+        answers[i] = drive.answer();
     }
 }
 
-/// What the drives answer before the first cycle.
-pub fn opening_answers(alloc: Global, axes: &[AxisDef]) -> Result<Vec<DriveIn>, AllocError>
-    requires { IsTrue (list_all is_axis axes.now) }
-    ensures { IfOk result (λ v. v.items ≡ map spec.opening_answer axes.now) }
+/// Each drive makes a step with its output.
+pub fn step_all(drives: &mut [Drive], outs: &[DriveOut])
+    requires { length outs.now ≡ length drives.old }
+    ensures { drives.new ≡ spec.drives_stepped 0 drives.old outs.now }
 {
-    let mut answers = Vec::new(alloc);
-    for axis in axes {
-        answers.push(opening_answer(axis))?;
-    }
-    Ok(answers)
-}
-
-// What a drive answers to an output.
-fn answer_to(output: &DriveOut) -> DriveIn
-    ensures { result ≡ spec.answer_to output.now }
-{
-    DriveIn {
-        statusword: OPERATION_ENABLED,
-        mode_display: CYCLIC_SYNCHRONOUS_POSITION,
-        actual: output.target,
-    }
-}
-
-/// The drives take their outputs and answer.
-pub fn answer(outputs: &[DriveOut], answers: &mut [DriveIn])
-    requires { length answers.old ≡ length outputs.now }
-    ensures { answers.new ≡ map spec.answer_to outputs.now }
-{
-    for (i, answer) in answers.iter_mut().enumerate() {
-        *answer = answer_to(&outputs[i]);
+    for (i, drive) in drives.iter_mut().enumerate() {
+        drive.step(&outs[i]);
     }
 }
 
 // What a drive took at the end, by the cycles that there were.
-fn end_row(cycles: u32, answer: &DriveIn) -> DriveEndRow
-    ensures { result ≡ record { taken = cycles; state = DriveState.OperationEnabled; actual = answer.now.actual } }
+fn end_row(cycles: u32, drive: &Drive) -> DriveEndRow
+    ensures { result ≡ spec.drive_end cycles drive.now }
 {
+    statuswords_are_read_back();
+    let answer = drive.answer();
     DriveEndRow {
         taken: cycles,
-        state: DriveState::OperationEnabled,
+        state: state_of(answer.statusword).unwrap_or(DriveState::NotReady),
         actual: answer.actual,
     }
 }
@@ -77,16 +86,12 @@ fn end_row(cycles: u32, answer: &DriveIn) -> DriveEndRow
 pub fn end_rows(
     alloc: Global,
     cycles: u32,
-    answers: &[DriveIn],
+    drives: &[Drive],
 ) -> Result<Vec<DriveEndRow>, AllocError>
-    ensures { IfOk result (λ v. v.items ≡ map (λ (d : DriveIn). record {
-      taken = cycles;
-      state = DriveState.OperationEnabled;
-      actual = d.actual;
-    }) answers.now) }
+    ensures { IfOk result (λ v. v.items ≡ map (spec.drive_end cycles) drives.now) }
 {
-    answers
+    drives
         .iter()
-        .map(|answer| end_row(cycles, answer))
+        .map(|drive| end_row(cycles, drive))
         .collect(alloc)
 }

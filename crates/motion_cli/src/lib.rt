@@ -5,7 +5,6 @@
 mod drives;
 mod lines;
 mod program;
-mod ready;
 mod run;
 mod status;
 mod words;

@@ -21,19 +21,6 @@ pub fn named_line(alloc: Global, beginning: &[u8], name: &str) -> Result<Vec<u8>
     Ok(line)
 }
 
-/// The line that tells which line of a bench asks for more than the program does so far.
-pub fn not_yet_line(alloc: Global, name: &str, line: u64) -> Result<Vec<u8>, AllocError>
-    ensures { IfOk result (λ told. told.items ≡ spec.not_yet_line name.now line) }
-{
-    let mut number = Buffer::new();
-    let mut told = Vec::from_slice(alloc, b"not yet ".as_slice())?;
-    told.extend_from_slice(name.as_bytes())?;
-    told.extend_from_slice(b" ")?;
-    told.extend_from_slice(number.format(line).as_bytes())?;
-    told.extend_from_slice(b"\n")?;
-    Ok(told)
-}
-
 /// The line that tells where a text is refused, and by which rule.
 pub fn refused_line(alloc: Global, name: &str, refused: &TextRefused) -> Result<Vec<u8>, AllocError>
     ensures { IfOk result (λ line. line.items ≡ spec.refused_line name.now refused.now) }

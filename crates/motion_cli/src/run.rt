@@ -1,125 +1,218 @@
-// The run of a bench: its lines one after another on a kernel, with the drives in step.
+// The run of a bench: its events one after another on a kernel, with the drives in step.
 
-ghost use Rattle.std.specs.Prelude.{◌≡◌, ◌+◌, ◌<◌, ◌≤◌, ◌++◌, ◌∷◌, [], IfOk, length, All, false};
-ghost use Rattle.motion_cli.specs.Ready.{IsReady, IsReadyLine, entry_count, cycle_count, entries_of, cycles_of_lines};
-ghost use Rattle.motion_history.specs.Entries.{call, cycles_of};
-ghost use Rattle.motion_history.specs.Ready.{IsReadyCall};
-ghost use Rattle.motion_kernel.specs.Calls.{reply_of};
-ghost use Rattle.motion_kernel.specs.KernelState.{state_of};
+ghost use Rattle.std.specs.Prelude.{◌≡◌, ◌<◌, IfOk, IsTrue, OnOk, Ok, List, length, All, false, replicate};
+ghost use Rattle.std.specs.List.{flat_map};
+ghost use Rattle.bench_text.specs.BenchState.{IsLineOf};
+ghost use Rattle.drive_sim.specs.Sim.{DriveSim};
+ghost use Rattle.motion_history.specs.Calls.{IsCall};
+ghost use Rattle.motion_history.specs.Entries.{cycles_of};
 ghost use Rattle.motion_cli.specs.Run as spec;
 ghost use Rattle.motion_cli.specs.Going.{IsGoing};
 
-use crate::drives::{answer, opening_answers};
+use crate::drives::{answer_all, open_drives, step_all};
 use bench_text::{Bench, BenchLine};
 use cia402_machine::{DriveIn, DriveOut};
+use drive_sim::Drive;
 use fb_outputs::Inputs;
-use motion_history::{MOST_AXES, OutOfMemory, cycles_add_up};
+use motion_history::{MOST_AXES, OutOfMemory};
 use motion_kernel::Kernel;
 use std::alloc::Global;
 
-/// An output before it is written.
+/// Why an event of a bench can't be made.
+#[derive(Clone, Copy, Debug, PartialEq, Eq)]
+pub enum RunFault {
+    /// It is a cycle, and none is left.
+    CyclesOver,
+    /// The history has no room left.
+    HistoryFull,
+}
+
+/// A bench that was run: its kernel, its drives, and whether all its events were made.
+#[derive(Drop)]
+pub struct Ran {
+    pub kernel: Kernel,
+    pub drives: Vec<Drive>,
+    pub ending: Result<(), RunFault>,
+}
+
+/// An answer before it is given.
+const NO_ANSWER: DriveIn = DriveIn {
+    statusword: 0,
+    mode_display: 0,
+    actual: 0,
+};
+
+/// An output before it is given.
 const NO_OUTPUT: DriveOut = DriveOut {
     controlword: 0,
     mode: 0,
     target: 0,
 };
 
-// A cycle of the kernel and the drives.
+// Whether there is room for an event: for a cycle, cycles first, then entries.
+#[tactic(auto, unfolding(crate::specs::Run::room_for))]
+fn room_for(kernel: &Kernel, is_cycle: bool) -> Result<(), RunFault>
+    requires { kernel.now.stopped ≡ false }
+    ensures value { result ≡ spec.room_for kernel.now.config kernel.now.history is_cycle }
+    ensures room { OnOk result (length kernel.now.history < kernel.now.config.entries) }
+    ensures cycle { OnOk result (IsTrue is_cycle →
+        cycles_of kernel.now.history < kernel.now.config.cycles) }
+{
+    if is_cycle && kernel.cycles_left() == 0 {
+        Err(RunFault::CyclesOver)
+    } else if kernel.room_left() == 0 {
+        Err(RunFault::HistoryFull)
+    } else {
+        Ok(())
+    }
+}
+
+// A cycle of the kernel and the drives, for which there is room.
 #[tactic(auto, unfolding(crate::specs::Run::cycled))]
-fn make_cycle(kernel: &mut Kernel, answers: &mut [DriveIn])
+fn cycle(kernel: &mut Kernel, drives: &mut [Drive])
     requires room { length kernel.old.history < kernel.old.config.entries }
     requires cycle { cycles_of kernel.old.history < kernel.old.config.cycles }
-    requires going { IsGoing kernel.old answers.old }
+    requires going { IsGoing kernel.old drives.old }
     ensures config { kernel.new.config ≡ kernel.old.config }
-    ensures made { record { history = kernel.new.history; answers = answers.new } ≡
-        spec.cycled kernel.old.config (record { history = kernel.old.history; answers = answers.old }) }
-    ensures going { IsGoing kernel.new answers.new }
+    ensures made { record { history = kernel.new.history; drives = drives.new; ending = Ok tt } ≡
+        spec.cycled kernel.old.config (record { history = kernel.old.history; drives = drives.old; ending = Ok tt }) }
+    ensures going { IsGoing kernel.new drives.new }
 {
-    let mut room = [NO_OUTPUT; MOST_AXES];
-    let outs = &mut room[..answers.len()];
+    let mut answers = [NO_ANSWER; MOST_AXES];
+    let answers = &mut answers[..drives.len()];
+    let mut outs = [NO_OUTPUT; MOST_AXES];
+    let outs = &mut outs[..drives.len()];
+    answer_all(drives, answers);
     kernel.cycle(answers, outs);
-    answer(outs, answers);
+    step_all(drives, outs);
+}
+
+// A cycle.
+fn make_cycle(kernel: &mut Kernel, drives: &mut [Drive]) -> Result<(), RunFault>
+    requires going { IsGoing kernel.old drives.old }
+    ensures config { kernel.new.config ≡ kernel.old.config }
+    ensures made { record { history = kernel.new.history; drives = drives.new; ending = result } ≡
+        spec.made kernel.old.config spec.a_cycle (record { history = kernel.old.history; drives = drives.old; ending = Ok tt }) }
+    ensures going { IsGoing kernel.new drives.new }
+{
+    match room_for(kernel, true) {
+        Ok(()) => {}
+        Err(fault) => return Err(fault),
+    }
+    cycle(kernel, drives);
+    Ok(())
 }
 
 // So many cycles.
-fn make_cycles(kernel: &mut Kernel, answers: &mut [DriveIn], count: u32)
-    requires room { length kernel.old.history + count ≤ kernel.old.config.entries }
-    requires cycles { cycles_of kernel.old.history + count ≤ kernel.old.config.cycles }
-    requires going { IsGoing kernel.old answers.old }
+#[tactic(auto, unfolding(crate::specs::Run::made_all))]
+fn make_cycles(kernel: &mut Kernel, drives: &mut [Drive], count: u32) -> Result<(), RunFault>
+    requires going { IsGoing kernel.old drives.old }
     ensures config { kernel.new.config ≡ kernel.old.config }
-    ensures made { record { history = kernel.new.history; answers = answers.new } ≡
-        spec.cycled_often kernel.old.config count (record { history = kernel.old.history; answers = answers.old }) }
-    ensures going { IsGoing kernel.new answers.new }
+    ensures made { record { history = kernel.new.history; drives = drives.new; ending = result } ≡
+        spec.made_all kernel.old.config (replicate count spec.a_cycle)
+        (record { history = kernel.old.history; drives = drives.old; ending = Ok tt }) }
+    ensures going { IsGoing kernel.new drives.new }
 {
     for _ in 0..count {
-        cycles_add_up();
-        make_cycle(kernel, answers);
+        match make_cycle(kernel, drives) {
+            Ok(()) => {}
+            Err(fault) => return Err(fault),
+        }
     }
+    Ok(())
 }
 
 // A call of a block, in its task.
-fn make_call(kernel: &mut Kernel, instance: u16, inputs: &Inputs)
-    requires room { length kernel.old.history < kernel.old.config.entries }
+fn make_call(kernel: &mut Kernel, instance: u16, inputs: &Inputs) -> Result<(), RunFault>
     requires runs { kernel.old.stopped ≡ false }
-    requires call { IsReadyCall kernel.old.config instance inputs.now }
-    ensures { kernel.new ≡ record kernel.old {
-      history = kernel.old.history ++
-          call instance inputs.now (reply_of kernel.old.config (state_of kernel.old) instance inputs.now) ∷ [];
-    } }
+    requires call { IsCall kernel.old.config instance inputs.now }
+    ensures config { kernel.new.config ≡ kernel.old.config }
+    ensures runs { kernel.new.stopped ≡ false }
+    ensures made { (drives : List DriveSim) → record { history = kernel.new.history; drives = drives; ending = result } ≡
+        spec.made kernel.old.config (spec.a_call instance inputs.now)
+        (record { history = kernel.old.history; drives = drives; ending = Ok tt }) }
 {
+    match room_for(kernel, false) {
+        Ok(()) => {}
+        Err(fault) => return Err(fault),
+    }
     let task = kernel.config().blocks()[instance as usize].task;
     kernel.call(task, instance, inputs);
+    Ok(())
 }
 
-// A line of a bench.
-#[tactic(auto, unfolding(crate::specs::Run::made))]
-fn make_line(kernel: &mut Kernel, answers: &mut [DriveIn], line: &BenchLine)
-    requires line { IsReadyLine kernel.old.config line.now }
-    requires room { length kernel.old.history + entry_count line.now ≤ kernel.old.config.entries }
-    requires cycles { cycles_of kernel.old.history + cycle_count line.now ≤ kernel.old.config.cycles }
-    requires going { IsGoing kernel.old answers.old }
+// The end of a task.
+fn make_end(kernel: &mut Kernel, task: u8) -> Result<(), RunFault>
+    requires runs { kernel.old.stopped ≡ false }
+    requires task { task < length kernel.old.config.tasks }
     ensures config { kernel.new.config ≡ kernel.old.config }
-    ensures made { record { history = kernel.new.history; answers = answers.new } ≡
-        spec.made kernel.old.config line.now (record { history = kernel.old.history; answers = answers.old }) }
-    ensures going { IsGoing kernel.new answers.new }
+    ensures runs { kernel.new.stopped ≡ false }
+    ensures made { (drives : List DriveSim) → record { history = kernel.new.history; drives = drives; ending = result } ≡
+        spec.made kernel.old.config (spec.an_end task)
+        (record { history = kernel.old.history; drives = drives; ending = Ok tt }) }
+{
+    match room_for(kernel, false) {
+        Ok(()) => {}
+        Err(fault) => return Err(fault),
+    }
+    kernel.end(task);
+    Ok(())
+}
+
+// The events of a line.
+#[tactic(auto, unfolding(crate::specs::Run::events_of, crate::specs::Run::made_all))]
+fn make_line(kernel: &mut Kernel, drives: &mut [Drive], line: &BenchLine) -> Result<(), RunFault>
+    requires line { IsLineOf kernel.old.config line.now }
+    requires going { IsGoing kernel.old drives.old }
+    ensures config { kernel.new.config ≡ kernel.old.config }
+    ensures made { record { history = kernel.new.history; drives = drives.new; ending = result } ≡
+        spec.made_all kernel.old.config (spec.events_of line.now)
+        (record { history = kernel.old.history; drives = drives.old; ending = Ok tt }) }
+    ensures going { IsGoing kernel.new drives.new }
 {
     match line {
         BenchLine::Call { instance, inputs } => make_call(kernel, *instance, inputs),
-        BenchLine::Cycles { count } => make_cycles(kernel, answers, *count),
-        BenchLine::End { task } => kernel.end(*task),
+        BenchLine::Cycles { count } => make_cycles(kernel, drives, *count),
+        BenchLine::End { task } => make_end(kernel, *task),
     }
 }
 
-// The lines of a bench, one after another.
-fn make_all(kernel: &mut Kernel, answers: &mut [DriveIn], lines: &[BenchLine])
-    requires lines { All (IsReadyLine kernel.old.config) lines.now }
-    requires room { length kernel.old.history + entries_of lines.now ≤ kernel.old.config.entries }
-    requires cycles { cycles_of kernel.old.history + cycles_of_lines lines.now ≤ kernel.old.config.cycles }
-    requires going { IsGoing kernel.old answers.old }
+// The events of lines, one after another.
+#[tactic(auto, unfolding(crate::specs::Run::made_all))]
+fn make_all(kernel: &mut Kernel, drives: &mut [Drive], lines: &[BenchLine]) -> Result<(), RunFault>
+    requires lines { All (IsLineOf kernel.old.config) lines.now }
+    requires going { IsGoing kernel.old drives.old }
     ensures config { kernel.new.config ≡ kernel.old.config }
-    ensures made { record { history = kernel.new.history; answers = answers.new } ≡
-        spec.made_all kernel.old.config lines.now (record { history = kernel.old.history; answers = answers.old }) }
-    ensures going { IsGoing kernel.new answers.new }
+    ensures made { record { history = kernel.new.history; drives = drives.new; ending = result } ≡
+        spec.made_all kernel.old.config (flat_map spec.events_of lines.now)
+        (record { history = kernel.old.history; drives = drives.old; ending = Ok tt }) }
+    ensures going { IsGoing kernel.new drives.new }
 {
     for line in lines {
-        cycles_add_up();
-        make_line(kernel, answers, line);
+        match make_line(kernel, drives, line) {
+            Ok(()) => {}
+            Err(fault) => return Err(fault),
+        }
     }
+    Ok(())
 }
 
-/// The run of a bench: the kernel after all its lines, and what the drives answer then.
+/// Runs a bench: its events one after another, until one can't be made.
 #[tactic(auto, unfolding(crate::specs::Run::run_of))]
-pub fn run(alloc: Global, bench: &Bench) -> Result<(Kernel, Vec<DriveIn>), OutOfMemory>
-    requires { IsReady bench.now }
-    ensures made { IfOk result (λ r. record { history = r.0.history; answers = r.1.items } ≡ spec.run_of bench.now) }
-    ensures config { IfOk result (λ r. r.0.config ≡ bench.now.config) }
-    ensures going { IfOk result (λ r. IsGoing r.0 r.1.items) }
+pub fn run(alloc: Global, bench: &Bench) -> Result<Ran, OutOfMemory>
+    ensures made { IfOk result (λ r. record { history = r.kernel.history; drives = r.drives.items; ending = r.ending } ≡ spec.run_of bench.now) }
+    ensures config { IfOk result (λ r. r.kernel.config ≡ bench.now.config) }
+    ensures going { IfOk result (λ r. IsGoing r.kernel r.drives.items) }
 {
     let config = bench.config();
-    let mut answers = opening_answers(alloc, config.axes())?;
+    let mut drives = open_drives(alloc, config.axes(), bench.drives().as_slice())?;
     let Ok(mut kernel) = Kernel::open(alloc, config.copy(alloc)?) else {
         return Err(OutOfMemory);
     };
-    make_all(&mut kernel, answers.as_mut_slice(), bench.lines());
-    Ok((kernel, answers))
+    let ending = make_all(&mut kernel, drives.as_mut_slice(), bench.lines());
+    Ok(Ran {
+        kernel,
+        drives,
+        ending,
+    })
 }

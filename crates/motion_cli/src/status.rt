@@ -19,8 +19,6 @@ pub enum Status {
     /// The text of the file is refused: at its first place that breaks a rule, by the first rule
     /// there.
     TextRefused { word: u8, place: u64, rule: Rule },
-    /// A line of the bench asks for more than the program does so far. Interim.
-    NotYet { line: u64 },
     /// The file isn't there, or reading it failed.
     ReadFault { word: u8 },
     /// The file is longer than 16 MiB.
@@ -46,7 +44,7 @@ impl Status {
             Status::Ok | Status::Legal { .. } => 0,
             Status::Illegal { .. } => 1,
             Status::Usage => 2,
-            Status::TextRefused { .. } | Status::NotYet { .. } => 3,
+            Status::TextRefused { .. } => 3,
             Status::ReadFault { .. } => 4,
             Status::TooLong { .. } => 5,
             Status::WriteFault => 6,

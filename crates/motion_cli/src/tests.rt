@@ -217,64 +217,6 @@ fn tells_why_a_file_gives_no_trace(rt: HostRuntime) -> Result<(), Fail> {
     Ok(())
 }
 
-// What stands behind the name of a bench that the program doesn't run yet, and the line that is told.
-#[test]
-fn names_the_line_that_asks_for_more(rt: HostRuntime) -> Result<(), Fail> {
-    let cases: [(&[u8], u64, &[u8]); 8] = [
-        (
-            b"motion-bench 2\nlimit 9 9\naxis X 0 50 10 4 4 1 0 ready\ntask t\nblock M t MoveAbsolute X\ngo",
-            1,
-            b"not yet b 1\n",
-        ),
-        (
-            b"motion-bench 1\nlimit 9 9\naxis X 0 50 10 4 1 0\ntask t\nblock M t MoveAbsolute X\ngo",
-            3,
-            b"not yet b 3\n",
-        ),
-        (
-            b"motion-bench 1\nlimit 9 9\naxis X 0 50 10 4 1 0 ready\ndrive X 1\ntask t\nblock M t MoveAbsolute X\ngo",
-            4,
-            b"not yet b 4\n",
-        ),
-        (
-            b"motion-bench 1\nlimit 9 9\naxis X 0 50 10 4 1 0 ready\ntable 0:0 1:1\ntask t\nblock M t MoveAbsolute X\ngo",
-            4,
-            b"not yet b 4\n",
-        ),
-        (
-            b"motion-bench 1\nlimit 9 9\naxis X 0 50 10 4 1 0 ready\naxis Y 0 50 10 4 1 0 ready\ngroup G X Y\ntask t\nblock M t MoveAbsolute X\ngo",
-            5,
-            b"not yet b 5\n",
-        ),
-        (
-            b"motion-bench 1\nlimit 9 9\naxis X 0 50 10 4 1 0 ready\ntask t\nblock M t Halt X\ngo",
-            5,
-            b"not yet b 5\n",
-        ),
-        (
-            b"motion-bench 1\nlimit 9 9\naxis X 0 50 10 4 1 0 ready\ntask t\nblock M t MoveAbsolute X\ngo\ncall M on mode=aborting\ncall M on mode=buffered\ncycle",
-            8,
-            b"not yet b 8\n",
-        ),
-        (
-            b"motion-bench 1\nlimit 9 9\naxis X 0 50 10 4 1 0 ready\ntask t\nblock M t MoveAbsolute X\ngo\ncycle 10\n# no room\n",
-            8,
-            b"not yet b 8\n",
-        ),
-    ];
-    for (text, line, told) in cases {
-        let mut files = files(&rt, &[])?;
-        files.put("b", text)?;
-        let mut out = MemorySink::new(rt.alloc(), &[], u32::MAX)?;
-        assert_eq!(rt;
-            status(&rt, &["bench", "b"], &mut files, &mut out)?,
-            Status::NotYet { line }
-        );
-        assert_eq!(rt; out.bytes(), told);
-    }
-    Ok(())
-}
-
 #[test]
 fn refuses_a_byte_more_than_16_mib(rt: HostRuntime) -> Result<(), Fail> {
     let mut files = files(&rt, &[])?;

@@ -1,9 +1,12 @@
--- The lines of a bench, one after another.
-use Rattle.std.proofs.Common.{◌∙◌}
-use Rattle.motion_cli.proofs.RunLaws.{line-further}
+-- Line after line, or up to the one that ends the run.
+use Rattle.motion_cli.proofs.RunLaws.{a-line-left, goes-on, stops}
 use Rattle.motion_cli.proofs.run.make_all.Goals as goal
+
+pub returns-in-Err-clause-made : goal.returns-in-Err-clause-made
+returns-in-Err-clause-made c =
+    stops _ c.loop-line.kernel c.make_line.new.kernel _ _ _ _ _ c.in-Err.fault (a-line-left _ _ _ _ c.loop-line.line-index _ _ c.loop-line-test.true c.loop-line.invariant) c.in-Err.ensures.made
 
 pub loop-line-preserved : goal.loop-line-preserved
 loop-line-preserved c =
-    let e = c.make_line.ensures in
-    (e.config ∙ c.loop-line.invariant.0, line-further c.cycles_add_up.ensures.more _ _ _ _ _ _ _ _ _ c.loop-line-test.true c.loop-line.invariant.1 c.loop-line.invariant.0 e.config e.made e.going)
+    goes-on _ c.loop-line.kernel c.make_line.new.kernel _ _ _ _ _ (a-line-left _ _ _ _ c.loop-line.line-index _ _ c.loop-line-test.true c.loop-line.invariant)
+    c.make_line.ensures.config c.in-Ok.ensures.made c.make_line.ensures.going

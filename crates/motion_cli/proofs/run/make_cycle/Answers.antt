@@ -1,12 +1,12 @@
--- A cycle of the kernel and the drives.
-use Rattle.std.proofs.Common.{ap}
-use Rattle.motion_kernel.specs.KernelState.{KernelState}
-use Rattle.motion_cli.proofs.RunLaws.{cycled-is, going-on}
+-- There is a cycle and room for it, or it ends the run.
+use Rattle.std.specs.Prelude.{Ok, Err}
+use Rattle.std.proofs.Common.{◌∙◌, refl}
+use Rattle.motion_cli.specs.Run.{a_cycle}
+use Rattle.motion_cli.proofs.RunLaws.{made-by, run_at}
 use Rattle.motion_cli.proofs.run.make_cycle.Goals as goal
 
-pub returns-clause-made : goal.returns-clause-made
-returns-clause-made c = cycled-is _ _ _ _ _ c.cycle.ensures.after c.cycle.ensures.outs c.answer.ensures
+pub returns-in-Err-clause-made : goal.returns-in-Err-clause-made
+returns-in-Err-clause-made c = made-by _ a_cycle (run_at c.args.kernel.now c.args.drives.now (Ok tt)) (Err c.in-Err.fault) refl c.in-Err.ensures.value
 
-pub returns-clause-going : goal.returns-clause-going
-returns-clause-going c =
-    going-on _ _ _ _ c.requires.going (ap (λ (k : KernelState). k.config) c.cycle.ensures.after) (ap (λ (k : KernelState). k.stopped) c.cycle.ensures.after) c.answer.auto.answers
+pub returns-clause-made : goal.returns-clause-made
+returns-clause-made c = c.cycle.ensures.made ∙ made-by _ a_cycle (run_at c.args.kernel.now c.args.drives.now (Ok tt)) (Ok tt) refl c.in-Ok.ensures.value

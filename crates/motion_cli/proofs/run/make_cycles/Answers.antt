@@ -1,9 +1,15 @@
--- So many cycles.
+-- So many cycles, or up to the one that ends the run.
+use Rattle.std.specs.Prelude.{[], ◌∷◌}
 use Rattle.std.proofs.Common.{◌∙◌}
-use Rattle.motion_cli.proofs.RunLaws.{cycle-further}
+use Rattle.motion_cli.specs.Run.{a_cycle}
+use Rattle.motion_cli.proofs.RunLaws.{a-cycle-left, goes-on, one-made, stops}
 use Rattle.motion_cli.proofs.run.make_cycles.Goals as goal
+
+pub returns-in-Err-clause-made : goal.returns-in-Err-clause-made
+returns-in-Err-clause-made c =
+    stops _ c.loop.kernel c.make_cycle.new.kernel _ _ (a_cycle ∷ []) _ _ c.in-Err.fault (a-cycle-left _ _ _ c.args.count c.loop.counter _ c.loop-test.true c.loop.invariant) (c.in-Err.ensures.made ∙ one-made _ _ _)
 
 pub loop-preserved : goal.loop-preserved
 loop-preserved c =
-    let e = c.make_cycle.ensures in
-    (e.config ∙ c.loop.invariant.0, cycle-further c.cycles_add_up.ensures.more _ _ _ _ _ _ _ _ c.loop-test.true c.loop.invariant.1 c.loop.invariant.0 e.config e.made e.going)
+    goes-on _ c.loop.kernel c.make_cycle.new.kernel _ _ (a_cycle ∷ []) _ _ (a-cycle-left _ _ _ c.args.count c.loop.counter _ c.loop-test.true c.loop.invariant)
+    c.make_cycle.ensures.config (c.in-Ok.ensures.made ∙ one-made _ _ _) c.make_cycle.ensures.going

@@ -1,11 +1,11 @@
-use Rattle.std.proofs.Common.{◌≡◌, ◌-◌}
-use Rattle.motion_cli.specs.Run as spec
+use Rattle.std.specs.Prelude.{Ok}
+use Rattle.std.proofs.Common.{◌-◌, replicate}
+use Rattle.motion_cli.specs.Run.{a_cycle, made_all}
 use Rattle.motion_cli.proofs.RunLaws.{IsUnderWay, run_at}
 use Rattle.motion_cli.proofs.run.make_cycles.Given as goal
 
 abbrev pub invariant-loop : goal.invariant-loop
 invariant-loop l =
     let s = l.initial.kernel.config in
-    (l.kernel.config ≡ s) ×
-    IsUnderWay l.kernel l.answers (l.count - l.counter) (l.count - l.counter) (spec.cycled_often s (l.count - l.counter) (run_at l.kernel l.answers))
-    (spec.cycled_often s l.count (run_at l.initial.kernel l.initial.answers))
+    IsUnderWay s l.kernel l.drives (replicate (l.count - l.counter) a_cycle)
+    (made_all s (replicate l.count a_cycle) (run_at l.initial.kernel l.initial.drives (Ok tt)))
