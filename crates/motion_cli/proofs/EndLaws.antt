@@ -20,7 +20,7 @@ use Rattle.trace_text.specs.Writes.{Output, Writes, WritesPrefix}
 use Rattle.trace_text.specs.declared.write.Command.TheVariants.{Bench}
 use Rattle.trace_text.specs.declared.write.TraceFault.{TraceFault}
 use Rattle.trace_text.specs.declared.write.TraceFault.TheVariants as fault
-use Rattle.motion_cli.proofs.RunLaws.{run_at}
+use Rattle.motion_cli.specs.Going.{run_at}
 use Rattle.motion_cli.specs.Drives.{drive_end}
 use Rattle.motion_cli.specs.Ends.{Plan, EndsBy, EndsEarly, IsLegalRun, RunsBy, Says, drive_ends, is_traced, status_by, status_of, plan_of_bench, plan_of_reading, refused_line}
 use Rattle.motion_cli.specs.Run.{Run, run_of}

@@ -11,13 +11,9 @@ use Rattle.motion_history.specs.declared.config.BlockDef.{BlockDef}
 use Rattle.motion_history.specs.declared.drives.DriveDef.{DriveDef}
 use Rattle.motion_kernel.specs.KernelState.{KernelState}
 use Rattle.motion_cli.specs.Drives.{drives_at_opening}
-use Rattle.motion_cli.specs.Going.{IsGoing}
+use Rattle.motion_cli.specs.Going.{IsGoing, run_at}
 use Rattle.motion_cli.specs.Run.{Event, Run, a_cycle, events_of, is_cycle, made, made_all, next_of, room_for, tried}
 use Rattle.motion_cli.specs.declared.run.RunFault.{RunFault}
-
--- a run of a kernel and the drives
-abbrev pub run_at : KernelState → List DriveSim → Result (Unit {0}) RunFault → Run
-run_at k drives ending = record { history = k.history; drives = drives; ending = ending }
 
 -- an event is made, or ends the run, by the room for it
 pub made-by : (s : Setup) (e : Event) (r : Run) (w : Result (Unit {0}) RunFault) → r.ending ≡ Ok tt → w ≡ room_for s r.history (is_cycle e) → tried s e r w ≡ made s e r

@@ -9,5 +9,6 @@ is_file (c ∷ cs) = not (nat_eq c 45)
 
 -- the file of the words `bench FILE`. This project's profile
 unfoldable pub bench_file : List (List ℕ) → Option (List ℕ)
-bench_file (command ∷ file ∷ []) = if bytes_eq command (codes "bench") && is_file file then Some file else None
+bench_file (command ∷ file ∷ []) =
+    if bytes_eq command (codes "bench") && is_file file then Some file else None
 bench_file _ = None

@@ -57,4 +57,3 @@ pub record HasRoom (text : List ℕ) : Type 0 where
   pub reading : bench_of text ≡ Ok bench
   pub room : length (events_in bench) ≤ bench.config.entries
   pub cycles : cycles_in (events_in bench) ≤ bench.config.cycles
-

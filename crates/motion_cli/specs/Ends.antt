@@ -45,7 +45,9 @@ too_long_line name = codes "too long " ++ name ++ codes "\n"
 
 -- the line that tells where a text is refused, and by which rule. This project's profile
 abbrev pub refused_line : List ℕ → TextRefused → List ℕ
-refused_line name r = codes "refused " ++ name ++ codes " " ++ decimal r.place ++ codes " " ++ (r.rule.letter ∷ []) ++ decimal r.rule.number ++ codes "\n"
+refused_line name r =
+    codes "refused " ++ name ++ codes " " ++ decimal r.place ++ codes " " ++ (r.rule.letter ∷ []) ++
+    decimal r.rule.number ++ codes "\n"
 
 -- the status that a run ends with. This project's profile
 abbrev pub status_of : Result (Unit {0}) RunFault → Status
@@ -138,7 +140,8 @@ pub record EndsEarly (old new : Output) (s : Status) : Type 0 where
   pub output : new ≡ old
 
 -- it ended by what a read of the file found, or early. This project's profile
-pub record EndsByFile (told : Option FileMap) (rose : Type 0) (name : List ℕ) (old new : Output) (s : Status) : Type 0 where
+pub record EndsByFile (told : Option FileMap) (rose : Type 0) (name : List ℕ) (old new : Output)
+    (s : Status) : Type 0 where
   pub found : Found
   pub is_found : IsFound told rose name found
   pub ends : EndsBy old new (plan_of name found) s

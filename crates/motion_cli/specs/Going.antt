@@ -1,7 +1,13 @@
--- What a run keeps while it goes on.
-use Rattle.std.specs.Prelude.{◌≡◌, ◌≤◌, false, List, length}
+-- The run that a kernel and its drives are at, and what it keeps while it goes on.
+use Rattle.std.specs.Prelude.{◌≡◌, ◌≤◌, false, Result, List, length}
 use Rattle.drive_sim.specs.Sim.{DriveSim}
 use Rattle.motion_kernel.specs.KernelState.{KernelState}
+use Rattle.motion_cli.specs.Run.{Run}
+use Rattle.motion_cli.specs.declared.run.RunFault.{RunFault}
+
+-- the run at which a kernel and its drives are, which ended so
+abbrev pub run_at : KernelState → List DriveSim → Result (Unit {0}) RunFault → Run
+run_at k drives ending = record { history = k.history; drives = drives; ending = ending }
 
 -- each axis has a drive, and there are at most 16; and the kernel was not stopped. This project's
 -- profile

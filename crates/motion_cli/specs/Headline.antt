@@ -22,15 +22,19 @@ use Rattle.motion_cli.specs.Run.{run_of}
 abbrev pub drives_of : BenchState → List Entry → List DriveSim
 drives_of b es = drives_after 0 (drives_at_opening b.config.axes b.drives) es
 
--- the rows of each cycle are the machine's with the answers of the drives after the cycles before it
+-- the rows of each cycle are the machine's with the answers of the drives after the cycles before
+-- it
 abbrev pub TakesAnswers : BenchState → List Entry → Type 0
-TakesAnswers b es = (before more : List Entry) (n : ℕ) (rows : List AxisRow) (grows : List GroupRow) →
+TakesAnswers b es =
+    (before more : List Entry) (n : ℕ) (rows : List AxisRow) (grows : List GroupRow) →
     es ≡ before ++ cycle n rows grows ∷ more →
-    rows ≡ (cycled b.config (machine_after b.config before) (map answer_of (drives_of b before))).axes
+    rows ≡ (cycled b.config (machine_after b.config before)
+    (map answer_of (drives_of b before))).axes
 
 -- the trace that was written is that of a bench: of the one history that the events of its file
 -- make, one after another, up to the first for which there is no cycle or no room left
-pub record Headline (files : Option FileMap) (asked : Option (List ℕ)) (old new : Option (List ℕ)) : Type 0 where
+pub record Headline (files : Option FileMap) (asked : Option (List ℕ)) (old new : Option (List ℕ))
+    : Type 0 where
   -- the words ask for a file, whose text is a bench
   pub name : List ℕ
   pub text : List ℕ

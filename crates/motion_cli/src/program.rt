@@ -74,7 +74,8 @@ fn top_of_words<F: Files, K: Sink>(
         (Rose (F.count files.old) (F.count files.new)) (asked.bench_file all)
         (record { count = K.count out.old; told = K.told out.old })
         (record { count = K.count out.new; told = K.told out.new }) result) }
-    ensures memory { OnErr words (EndsEarly (record { count = K.count out.old; told = K.told out.old })
+    ensures memory { OnErr words (EndsEarly
+        (record { count = K.count out.old; told = K.told out.old })
         (record { count = K.count out.new; told = K.told out.new }) result) }
 {
     match words {
@@ -137,7 +138,8 @@ fn dispatch<F: Files, K: Sink>(alloc: Global, words: &Words, files: &mut F, out:
 // Says a line, with this status where it is written.
 fn say_all<K: Sink>(line: &[u8], status: Status, out: &mut K) -> Status
     ensures { EndsBy (record { count = K.count out.old; told = K.told out.old })
-        (record { count = K.count out.new; told = K.told out.new }) (record { status = status; text = line.now }) result }
+        (record { count = K.count out.new; told = K.told out.new })
+        (record { status = status; text = line.now }) result }
 {
     parts_are_beginnings();
     match write_all(out, line) {
@@ -242,7 +244,12 @@ fn status_by(status: Status, written: Result<(), TraceFault>) -> Status
 }
 
 // Writes the trace of a bench that was run.
-fn write_run<K: Sink>(alloc: Global, bench: &Bench, ran: &Ran, out: &mut K) -> Result<(), TraceFault>
+fn write_run<K: Sink>(
+    alloc: Global,
+    bench: &Bench,
+    ran: &Ran,
+    out: &mut K,
+) -> Result<(), TraceFault>
     requires config { ran.now.kernel.config ≡ bench.now.config }
     requires each { length ran.now.drives.items ≡ length bench.now.config.axes }
     ensures legal { IsLegal ran.now.kernel.config ran.now.kernel.history }

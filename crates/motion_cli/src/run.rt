@@ -1,13 +1,14 @@
 // The run of a bench: its events one after another on a kernel, with the drives in step.
 
-ghost use Rattle.std.specs.Prelude.{◌≡◌, ◌<◌, IfOk, IsTrue, OnOk, Ok, List, length, All, false, replicate};
+ghost use Rattle.std.specs.Prelude.{◌≡◌, ◌<◌, IfOk, IsTrue, OnOk, Ok, List, length, All};
+ghost use Rattle.std.specs.Prelude.{false, replicate};
 ghost use Rattle.std.specs.List.{flat_map};
 ghost use Rattle.bench_text.specs.BenchState.{IsLineOf};
 ghost use Rattle.drive_sim.specs.Sim.{DriveSim};
 ghost use Rattle.motion_history.specs.Calls.{IsCall};
 ghost use Rattle.motion_history.specs.Entries.{cycles_of};
 ghost use Rattle.motion_cli.specs.Run as spec;
-ghost use Rattle.motion_cli.specs.Going.{IsGoing};
+ghost use Rattle.motion_cli.specs.Going.{IsGoing, run_at};
 
 use crate::drives::{answer_all, open_drives, step_all};
 use bench_text::{Bench, BenchLine};
@@ -74,8 +75,8 @@ fn cycle(kernel: &mut Kernel, drives: &mut [Drive])
     requires cycle { cycles_of kernel.old.history < kernel.old.config.cycles }
     requires going { IsGoing kernel.old drives.old }
     ensures config { kernel.new.config ≡ kernel.old.config }
-    ensures made { record { history = kernel.new.history; drives = drives.new; ending = Ok tt } ≡
-        spec.cycled kernel.old.config (record { history = kernel.old.history; drives = drives.old; ending = Ok tt }) }
+    ensures made { run_at kernel.new drives.new (Ok tt) ≡
+        spec.cycled kernel.old.config (run_at kernel.old drives.old (Ok tt)) }
     ensures going { IsGoing kernel.new drives.new }
 {
     let mut answers = [NO_ANSWER; MOST_AXES];
@@ -91,8 +92,8 @@ fn cycle(kernel: &mut Kernel, drives: &mut [Drive])
 fn make_cycle(kernel: &mut Kernel, drives: &mut [Drive]) -> Result<(), RunFault>
     requires going { IsGoing kernel.old drives.old }
     ensures config { kernel.new.config ≡ kernel.old.config }
-    ensures made { record { history = kernel.new.history; drives = drives.new; ending = result } ≡
-        spec.made kernel.old.config spec.a_cycle (record { history = kernel.old.history; drives = drives.old; ending = Ok tt }) }
+    ensures made { run_at kernel.new drives.new result ≡
+        spec.made kernel.old.config spec.a_cycle (run_at kernel.old drives.old (Ok tt)) }
     ensures going { IsGoing kernel.new drives.new }
 {
     match room_for(kernel, true) {
@@ -108,9 +109,9 @@ fn make_cycle(kernel: &mut Kernel, drives: &mut [Drive]) -> Result<(), RunFault>
 fn make_cycles(kernel: &mut Kernel, drives: &mut [Drive], count: u32) -> Result<(), RunFault>
     requires going { IsGoing kernel.old drives.old }
     ensures config { kernel.new.config ≡ kernel.old.config }
-    ensures made { record { history = kernel.new.history; drives = drives.new; ending = result } ≡
+    ensures made { run_at kernel.new drives.new result ≡
         spec.made_all kernel.old.config (replicate count spec.a_cycle)
-        (record { history = kernel.old.history; drives = drives.old; ending = Ok tt }) }
+        (run_at kernel.old drives.old (Ok tt)) }
     ensures going { IsGoing kernel.new drives.new }
 {
     for _ in 0..count {
@@ -128,9 +129,9 @@ fn make_call(kernel: &mut Kernel, instance: u16, inputs: &Inputs) -> Result<(), 
     requires call { IsCall kernel.old.config instance inputs.now }
     ensures config { kernel.new.config ≡ kernel.old.config }
     ensures runs { kernel.new.stopped ≡ false }
-    ensures made { (drives : List DriveSim) → record { history = kernel.new.history; drives = drives; ending = result } ≡
+    ensures made { (drives : List DriveSim) → run_at kernel.new drives result ≡
         spec.made kernel.old.config (spec.a_call instance inputs.now)
-        (record { history = kernel.old.history; drives = drives; ending = Ok tt }) }
+        (run_at kernel.old drives (Ok tt)) }
 {
     match room_for(kernel, false) {
         Ok(()) => {}
@@ -147,9 +148,9 @@ fn make_end(kernel: &mut Kernel, task: u8) -> Result<(), RunFault>
     requires task { task < length kernel.old.config.tasks }
     ensures config { kernel.new.config ≡ kernel.old.config }
     ensures runs { kernel.new.stopped ≡ false }
-    ensures made { (drives : List DriveSim) → record { history = kernel.new.history; drives = drives; ending = result } ≡
+    ensures made { (drives : List DriveSim) → run_at kernel.new drives result ≡
         spec.made kernel.old.config (spec.an_end task)
-        (record { history = kernel.old.history; drives = drives; ending = Ok tt }) }
+        (run_at kernel.old drives (Ok tt)) }
 {
     match room_for(kernel, false) {
         Ok(()) => {}
@@ -165,9 +166,9 @@ fn make_line(kernel: &mut Kernel, drives: &mut [Drive], line: &BenchLine) -> Res
     requires line { IsLineOf kernel.old.config line.now }
     requires going { IsGoing kernel.old drives.old }
     ensures config { kernel.new.config ≡ kernel.old.config }
-    ensures made { record { history = kernel.new.history; drives = drives.new; ending = result } ≡
+    ensures made { run_at kernel.new drives.new result ≡
         spec.made_all kernel.old.config (spec.events_of line.now)
-        (record { history = kernel.old.history; drives = drives.old; ending = Ok tt }) }
+        (run_at kernel.old drives.old (Ok tt)) }
     ensures going { IsGoing kernel.new drives.new }
 {
     match line {
@@ -183,9 +184,9 @@ fn make_all(kernel: &mut Kernel, drives: &mut [Drive], lines: &[BenchLine]) -> R
     requires lines { All (IsLineOf kernel.old.config) lines.now }
     requires going { IsGoing kernel.old drives.old }
     ensures config { kernel.new.config ≡ kernel.old.config }
-    ensures made { record { history = kernel.new.history; drives = drives.new; ending = result } ≡
+    ensures made { run_at kernel.new drives.new result ≡
         spec.made_all kernel.old.config (flat_map spec.events_of lines.now)
-        (record { history = kernel.old.history; drives = drives.old; ending = Ok tt }) }
+        (run_at kernel.old drives.old (Ok tt)) }
     ensures going { IsGoing kernel.new drives.new }
 {
     for line in lines {
@@ -200,7 +201,8 @@ fn make_all(kernel: &mut Kernel, drives: &mut [Drive], lines: &[BenchLine]) -> R
 /// Runs a bench: its events one after another, until one can't be made.
 #[tactic(auto, unfolding(crate::specs::Run::run_of))]
 pub fn run(alloc: Global, bench: &Bench) -> Result<Ran, OutOfMemory>
-    ensures made { IfOk result (λ r. record { history = r.kernel.history; drives = r.drives.items; ending = r.ending } ≡ spec.run_of bench.now) }
+    ensures made { IfOk result (λ r.
+        run_at r.kernel r.drives.items r.ending ≡ spec.run_of bench.now) }
     ensures config { IfOk result (λ r. r.kernel.config ≡ bench.now.config) }
     ensures going { IfOk result (λ r. IsGoing r.kernel r.drives.items) }
 {

@@ -1,4 +1,6 @@
 // What no clause says: whole runs of the program in memory, byte for byte.
+mod rows;
+
 use crate::*;
 use motion_history::Rule;
 use outside::{MemoryFiles, MemorySink};
@@ -103,6 +105,15 @@ fn files(rt: &HostRuntime, fails: &[u32]) -> Result<MemoryFiles, Fail> {
     Ok(files)
 }
 
+// How the program ends on a bench, and what it writes.
+fn run_of(rt: &HostRuntime, bench: &[u8]) -> Result<(Status, Vec<u8>), Fail> {
+    let mut files = files(rt, &[])?;
+    files.put("b", bench)?;
+    let mut out = MemorySink::new(rt.alloc(), &[], u32::MAX)?;
+    let ended = status(rt, &["bench", "b"], &mut files, &mut out)?;
+    Ok((ended, Vec::from_slice(rt.alloc(), out.bytes())?))
+}
+
 #[test]
 fn writes_the_trace_of_a_move(rt: HostRuntime) -> Result<(), Fail> {
     let cases: [(&str, &[u8]); 2] = [
@@ -120,6 +131,68 @@ fn writes_the_trace_of_a_move(rt: HostRuntime) -> Result<(), Fail> {
     Ok(())
 }
 
+// Power, a drive's fault, a gear, a blend, a group, and a version.
+#[test]
+fn writes_the_traces_of_worked_benches(rt: HostRuntime) -> Result<(), Fail> {
+    let cases: [(&[u8], &[u8]); 6] = [
+        (rows::POWER_ON, rows::POWER_ON_TRACE),
+        (rows::DRIVE_FAULT, rows::DRIVE_FAULT_TRACE),
+        (rows::GEAR, rows::GEAR_TRACE),
+        (rows::BLENDING, rows::BLENDING_TRACE),
+        (rows::MEMBER_FAULT, rows::MEMBER_FAULT_TRACE),
+        (rows::VERSION_TWO, rows::VERSION_TWO_TRACE),
+    ];
+    for (bench, trace) in cases {
+        let (ended, told) = run_of(&rt, bench)?;
+        assert_eq!(rt; ended, Status::Ok);
+        assert_eq!(rt; told.as_slice(), trace);
+    }
+    Ok(())
+}
+
+#[test]
+fn writes_the_trace_so_far(rt: HostRuntime) -> Result<(), Fail> {
+    let cases: [(&[u8], Status, &[u8]); 2] = [
+        (
+            rows::CYCLES_OVER,
+            Status::CyclesOver,
+            rows::CYCLES_OVER_TRACE,
+        ),
+        (
+            rows::HISTORY_FULL,
+            Status::HistoryFull,
+            rows::HISTORY_FULL_TRACE,
+        ),
+    ];
+    for (bench, wanted, trace) in cases {
+        let (ended, told) = run_of(&rt, bench)?;
+        assert_eq!(rt; ended, wanted);
+        assert_eq!(rt; told.as_slice(), trace);
+    }
+    Ok(())
+}
+
+// A cycle for which neither is left, and a call for which no entry is: the call comes second.
+#[test]
+fn looks_for_cycles_before_room(rt: HostRuntime) -> Result<(), Fail> {
+    let machine =
+        b"axis X 0 50 10 4 1 0 ready\ntask main\nblock M main MoveAbsolute X\ngo\ncycle\n";
+    let cases: [(&[u8], &[u8], Status); 3] = [
+        (b"limit 1 1\n", b"cycle\ncall M off\n", Status::CyclesOver),
+        (b"limit 2 1\n", b"cycle\ncall M off\n", Status::HistoryFull),
+        (b"limit 1 1\n", b"call M off\ncycle\n", Status::HistoryFull),
+    ];
+    for (limit, events, wanted) in cases {
+        let mut bench = Vec::from_slice(rt.alloc(), b"motion-bench 1\n".as_slice())?;
+        bench.extend_from_slice(limit)?;
+        bench.extend_from_slice(machine.as_slice())?;
+        bench.extend_from_slice(events)?;
+        let (ended, _) = run_of(&rt, bench.as_slice())?;
+        assert_eq!(rt; ended, wanted);
+    }
+    Ok(())
+}
+
 #[test]
 fn writes_a_byte_at_a_time(rt: HostRuntime) -> Result<(), Fail> {
     let mut out = MemorySink::new(rt.alloc(), &[], 1)?;
@@ -133,11 +206,16 @@ fn writes_a_byte_at_a_time(rt: HostRuntime) -> Result<(), Fail> {
 
 #[test]
 fn tells_the_words_that_it_takes(rt: HostRuntime) -> Result<(), Fail> {
-    let cases: [&[&str]; 8] = [
+    let cases: [&[&str]; 13] = [
         &[],
         &["bench"],
         &["bench", ""],
         &["bench", "-"],
+        &["bench", "-one_move"],
+        &["bench", "--", "one_move"],
+        &["-bench", "one_move"],
+        &["check", "one_move"],
+        &["gen", "7"],
         &["bench", "one_move", "one_move"],
         &["Bench", "one_move"],
         &["run", "one_move", "one_move"],
@@ -214,6 +292,76 @@ fn tells_why_a_file_gives_no_trace(rt: HostRuntime) -> Result<(), Fail> {
         );
         assert_eq!(rt; out.bytes(), line);
     }
+    Ok(())
+}
+
+// The bench of a move with another line in the place of one.
+fn with_line(rt: &HostRuntime, number: u64, line: &[u8]) -> Result<Vec<u8>, Fail> {
+    let mut text = Vec::new(rt.alloc());
+    let mut at = 1;
+    for byte in ONE_MOVE {
+        if at != number {
+            text.push(*byte)?;
+        }
+        if *byte == b'\n' {
+            if at == number {
+                text.extend_from_slice(line)?;
+                text.push(b'\n')?;
+            }
+            at += 1;
+        }
+    }
+    Ok(text)
+}
+
+#[test]
+fn refuses_damaged_benches(rt: HostRuntime) -> Result<(), Fail> {
+    let cases: [(u64, &[u8], &[u8]); 7] = [
+        (1, b"motion-bench", b"refused b 1 B2\n"),
+        (3, b"axis X 0 50 10", b"refused b 3 B4\n"),
+        (4, b"task\0main", b"refused b 4 B1\n"),
+        (6, b"", b"refused b 7 B3\n"),
+        (7, b"cal", b"refused b 7 B3\n"),
+        (7, b"call M on pos=", b"refused b 7 B7\n"),
+        (10, b"end mai", b"refused b 10 B6\n"),
+    ];
+    for (number, line, told) in cases {
+        let (ended, line_told) = run_of(&rt, with_line(&rt, number, line)?.as_slice())?;
+        assert_eq!(rt; ended.exit(), 3);
+        assert_eq!(rt; line_told.as_slice(), told);
+    }
+    Ok(())
+}
+
+#[test]
+fn refuses_a_bench_without_an_end(rt: HostRuntime) -> Result<(), Fail> {
+    let cases: [(&[u8], &[u8]); 2] = [
+        (b"", b"refused b 1 B10\n"),
+        (
+            b"motion-bench 1
+limit 20 40
+axis X 0 50 10 4 1 0 ready
+task main
+block M main MoveAbsolute X
+",
+            b"refused b 5 B10\n",
+        ),
+    ];
+    for (text, told) in cases {
+        let (ended, line_told) = run_of(&rt, text)?;
+        assert_eq!(rt; ended.exit(), 3);
+        assert_eq!(rt; line_told.as_slice(), told);
+    }
+    Ok(())
+}
+
+#[test]
+fn reads_a_file_of_16_mib(rt: HostRuntime) -> Result<(), Fail> {
+    let mut long = Vec::new(rt.alloc());
+    long.resize(16_777_216, b'#')?;
+    let (ended, told) = run_of(&rt, long.as_slice())?;
+    assert_eq!(rt; ended.exit(), 3);
+    assert_eq!(rt; told.as_slice(), b"refused b 1 B10\n".as_slice());
     Ok(())
 }
 

@@ -2,7 +2,8 @@ use Rattle.std.specs.Prelude.{Ok}
 use Rattle.std.specs.List.{flat_map}
 use Rattle.std.proofs.Common.{drop}
 use Rattle.motion_cli.specs.Run.{events_of, made_all}
-use Rattle.motion_cli.proofs.RunLaws.{IsUnderWay, run_at}
+use Rattle.motion_cli.proofs.RunLaws.{IsUnderWay}
+use Rattle.motion_cli.specs.Going.{run_at}
 use Rattle.motion_cli.proofs.run.make_all.Given as goal
 
 abbrev pub invariant-loop-line : goal.invariant-loop-line

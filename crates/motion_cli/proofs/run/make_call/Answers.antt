@@ -6,7 +6,8 @@ use Rattle.motion_history.specs.Entries.{Entry, call}
 use Rattle.motion_history.specs.Setup.{Setup}
 use Rattle.motion_kernel.specs.KernelState.{KernelState}
 use Rattle.motion_cli.specs.Run.{Run, a_call}
-use Rattle.motion_cli.proofs.RunLaws.{made-by, run_at, task-at}
+use Rattle.motion_cli.proofs.RunLaws.{made-by, task-at}
+use Rattle.motion_cli.specs.Going.{run_at}
 use Rattle.motion_cli.proofs.run.make_call.Goals as goal
 
 pub returns-in-Err-clause-made : goal.returns-in-Err-clause-made
@@ -21,7 +22,7 @@ pub returns-clause-made : goal.returns-clause-made
 returns-clause-made c = λ drives.
     let history = c.args.kernel.now.history in
     let made = ap (λ (k : KernelState). k.history) c.call.ensures.after
-        ∙ ap (λ (o : Outputs). history ++ call c.args.instance c.args.inputs.now o ∷ []) c.call.ensures.reply in
+    ∙ ap (λ (o : Outputs). history ++ call c.args.instance c.args.inputs.now o ∷ []) c.call.ensures.reply in
     let run : List Entry → Run = λ h. record { history = h; drives = drives; ending = Ok tt } in
     ap run made
     ∙ made-by _ (a_call c.args.instance c.args.inputs.now) (run_at c.args.kernel.now drives (Ok tt)) (Ok tt) refl c.in-Ok.ensures.value

@@ -2,7 +2,8 @@
 use Rattle.std.specs.Prelude.{Ok, Err}
 use Rattle.std.proofs.Common.{◌∙◌, refl}
 use Rattle.motion_cli.specs.Run.{a_cycle}
-use Rattle.motion_cli.proofs.RunLaws.{made-by, run_at}
+use Rattle.motion_cli.proofs.RunLaws.{made-by}
+use Rattle.motion_cli.specs.Going.{run_at}
 use Rattle.motion_cli.proofs.run.make_cycle.Goals as goal
 
 pub returns-in-Err-clause-made : goal.returns-in-Err-clause-made

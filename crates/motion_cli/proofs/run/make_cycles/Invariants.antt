@@ -1,7 +1,8 @@
 use Rattle.std.specs.Prelude.{Ok}
 use Rattle.std.proofs.Common.{◌-◌, replicate}
 use Rattle.motion_cli.specs.Run.{a_cycle, made_all}
-use Rattle.motion_cli.proofs.RunLaws.{IsUnderWay, run_at}
+use Rattle.motion_cli.proofs.RunLaws.{IsUnderWay}
+use Rattle.motion_cli.specs.Going.{run_at}
 use Rattle.motion_cli.proofs.run.make_cycles.Given as goal
 
 abbrev pub invariant-loop : goal.invariant-loop

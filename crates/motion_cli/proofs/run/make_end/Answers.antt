@@ -3,7 +3,8 @@ use Rattle.std.specs.Prelude.{Ok, Err}
 use Rattle.std.proofs.Common.{◌∙◌, refl, ap}
 use Rattle.motion_kernel.specs.KernelState.{KernelState}
 use Rattle.motion_cli.specs.Run.{an_end}
-use Rattle.motion_cli.proofs.RunLaws.{made-by, run_at}
+use Rattle.motion_cli.proofs.RunLaws.{made-by}
+use Rattle.motion_cli.specs.Going.{run_at}
 use Rattle.motion_cli.proofs.run.make_end.Goals as goal
 
 pub returns-in-Err-clause-made : goal.returns-in-Err-clause-made
