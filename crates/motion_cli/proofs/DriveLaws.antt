@@ -19,29 +19,36 @@ use Rattle.motion_cli.specs.Drives.{drive_at_opening, drives_after, drives_at_op
 
 -- the output of a row that may not be there
 output-at : (rows : List AxisRow) (n : ℕ) →
-    slice_index_or (map (λ (r : AxisRow). r.output) rows) n no_row.output ≡ (slice_index_or rows n no_row).output
+    slice_index_or (map (λ (r : AxisRow). r.output) rows) n no_row.output ≡
+    (slice_index_or rows n no_row).output
 output-at [] n = refl
 output-at (r ∷ rows) zero = refl
 output-at (r ∷ rows) (suc n) = output-at rows n
 
 -- a cycle more is an output more of each axis
 outputs-more : (n : ℕ) (es : List Entry) (c : ℕ) (rows : List AxisRow) (grows : List GroupRow) →
-    outputs_in n (es ++ cycle c rows grows ∷ []) ≡ outputs_in n es ++ slice_index_or (map (λ (r : AxisRow). r.output) rows) n no_row.output ∷ []
+    outputs_in n (es ++ cycle c rows grows ∷ []) ≡
+    outputs_in n es ++ slice_index_or (map (λ (r : AxisRow). r.output) rows) n no_row.output ∷ []
 outputs-more n [] c rows grows = ap (λ o. o ∷ []) (sym (output-at rows n))
 outputs-more n (call k i o ∷ es) c rows grows = outputs-more n es c rows grows
-outputs-more n (cycle m axes groups ∷ es) c rows grows = ap (λ os. (slice_index_or axes n no_row).output ∷ os) (outputs-more n es c rows grows)
+outputs-more n (cycle m axes groups ∷ es) c rows grows =
+    ap (λ os. (slice_index_or axes n no_row).output ∷ os) (outputs-more n es c rows grows)
 outputs-more n (end_of t ∷ es) c rows grows = outputs-more n es c rows grows
 
-drive_after-more : (d : DriveSim) (outs : List DriveOut) (o : DriveOut) → drive_after d (outs ++ o ∷ []) ≡ drive_stepped (drive_after d outs) o
+drive_after-more : (d : DriveSim) (outs : List DriveOut) (o : DriveOut) →
+    drive_after d (outs ++ o ∷ []) ≡ drive_stepped (drive_after d outs) o
 drive_after-more d [] o = refl
 drive_after-more d (x ∷ outs) o = drive_after-more (drive_stepped d x) outs o
 
 -- after a cycle more each drive is a step further
-pub drives-more : (n : ℕ) (ds : List DriveSim) (es : List Entry) (c : ℕ) (rows : List AxisRow) (grows : List GroupRow) →
-    drives_after n ds (es ++ cycle c rows grows ∷ []) ≡ drives_stepped n (drives_after n ds es) (map (λ (r : AxisRow). r.output) rows)
+pub drives-more : (n : ℕ) (ds : List DriveSim) (es : List Entry) (c : ℕ) (rows : List AxisRow)
+    (grows : List GroupRow) →
+    drives_after n ds (es ++ cycle c rows grows ∷ []) ≡
+    drives_stepped n (drives_after n ds es) (map (λ (r : AxisRow). r.output) rows)
 drives-more n [] es c rows grows = refl
 drives-more n (d ∷ ds) es c rows grows =
-    let head = ap (drive_after d) (outputs-more n es c rows grows) ∙ drive_after-more d (outputs_in n es) _ in
+    let head = ap (drive_after d) (outputs-more n es c rows grows) ∙
+    drive_after-more d (outputs_in n es) _ in
     let tail = drives-more (suc n) ds es c rows grows in
     λ i. head i ∷ tail i
 
@@ -49,16 +56,19 @@ drives-more n (d ∷ ds) es c rows grows =
 pub record IsNoCycle (e : Entry) : Type 0 where
   pub same : (n : ℕ) (es : List Entry) → outputs_in n (es ++ e ∷ []) ≡ outputs_in n es
 
-outputs-same : (e : Entry) → ((n : ℕ) → rows_in n (e ∷ []) ≡ []) → (n : ℕ) (es : List Entry) → outputs_in n (es ++ e ∷ []) ≡ outputs_in n es
+outputs-same : (e : Entry) → ((n : ℕ) → rows_in n (e ∷ []) ≡ []) → (n : ℕ) (es : List Entry) →
+    outputs_in n (es ++ e ∷ []) ≡ outputs_in n es
 outputs-same e none n [] = ap (map (λ (r : AxisRow). r.output)) (none n)
 outputs-same e none n (call k i o ∷ es) = outputs-same e none n es
-outputs-same e none n (cycle m axes groups ∷ es) = ap (λ os. (slice_index_or axes n no_row).output ∷ os) (outputs-same e none n es)
+outputs-same e none n (cycle m axes groups ∷ es) =
+    ap (λ os. (slice_index_or axes n no_row).output ∷ os) (outputs-same e none n es)
 outputs-same e none n (end_of t ∷ es) = outputs-same e none n es
 
 pub no-cycle : (e : Entry) → ((n : ℕ) → rows_in n (e ∷ []) ≡ []) → IsNoCycle e
 no-cycle e none = record { same = outputs-same e none }
 
-pub drives-same : (e : Entry) → IsNoCycle e → (n : ℕ) (ds : List DriveSim) (es : List Entry) → drives_after n ds (es ++ e ∷ []) ≡ drives_after n ds es
+pub drives-same : (e : Entry) → IsNoCycle e → (n : ℕ) (ds : List DriveSim) (es : List Entry) →
+    drives_after n ds (es ++ e ∷ []) ≡ drives_after n ds es
 drives-same e none n [] es = refl
 drives-same e none n (d ∷ ds) es =
     let head = ap (drive_after d) (none.same n es) in
@@ -71,21 +81,28 @@ drives-first n [] = refl
 drives-first n (d ∷ ds) = ap (λ t. d ∷ t) (drives-first (suc n) ds)
 
 -- one drive more makes its step
-stepped-next : (n : ℕ) (ds : List DriveSim) (outs : List DriveOut) (i k : ℕ) (d : DriveSim) → i < length ds → k ≡ n + i →
-    drives_stepped n (take (suc i) ds) outs ≡ drives_stepped n (take i ds) outs ++ drive_stepped (slice_index_or ds i d) (slice_index_or outs k no_row.output) ∷ []
+stepped-next : (n : ℕ) (ds : List DriveSim) (outs : List DriveOut) (i k : ℕ) (d : DriveSim) →
+    i < length ds → k ≡ n + i →
+    drives_stepped n (take (suc i) ds) outs ≡ drives_stepped n (take i ds) outs ++ drive_stepped
+    (slice_index_or ds i d) (slice_index_or outs k no_row.output) ∷ []
 stepped-next n [] outs i k d l e = absurd (omega arith)
 stepped-next n (x ∷ ds) outs zero k d l e =
-    let same : n ≡ k = omega arith in ap (λ m. drive_stepped x (slice_index_or outs m no_row.output) ∷ []) same
+    let same : n ≡
+    k = omega arith in ap (λ m. drive_stepped x (slice_index_or outs m no_row.output) ∷ []) same
 stepped-next n (x ∷ ds) outs (suc i) k d l e =
-    ap (λ t. drive_stepped x (slice_index_or outs n no_row.output) ∷ t) (stepped-next (suc n) ds outs i k d (omega arith) (omega arith))
+    ap (λ t. drive_stepped x (slice_index_or outs n no_row.output) ∷ t)
+    (stepped-next (suc n) ds outs i k d (omega arith) (omega arith))
 
 -- one drive more is opened
-opening-next : (xs : List AxisDef) (ds : List DriveDef) (i : ℕ) (a : AxisDef) (d : DriveDef) → i < length xs → i < length ds →
-    drives_at_opening (take (suc i) xs) (take (suc i) ds) ≡ drives_at_opening (take i xs) (take i ds) ++ drive_at_opening (slice_index_or xs i a) (slice_index_or ds i d) ∷ []
+opening-next : (xs : List AxisDef) (ds : List DriveDef) (i : ℕ) (a : AxisDef) (d : DriveDef) →
+    i < length xs → i < length ds →
+    drives_at_opening (take (suc i) xs) (take (suc i) ds) ≡ drives_at_opening (take i xs)
+    (take i ds) ++ drive_at_opening (slice_index_or xs i a) (slice_index_or ds i d) ∷ []
 opening-next [] ds i a d l m = absurd (omega arith)
 opening-next (x ∷ xs) [] i a d l m = absurd (omega arith)
 opening-next (x ∷ xs) (y ∷ ds) zero a d l m = refl
-opening-next (x ∷ xs) (y ∷ ds) (suc i) a d l m = ap (λ t. drive_at_opening x y ∷ t) (opening-next xs ds i a d (omega arith) (omega arith))
+opening-next (x ∷ xs) (y ∷ ds) (suc i) a d l m =
+    ap (λ t. drive_at_opening x y ∷ t) (opening-next xs ds i a d (omega arith) (omega arith))
 
 -- fault steps that rise
 pub rises : (n : ℕ) (steps : List ℕ) → rise_above n steps ≡ true → RisesAbove n steps
@@ -94,30 +111,39 @@ rises n (step ∷ steps) h =
     let parts = and_parts (nat_lt n step) (rise_above step steps) h in
     (ltb-true _ _ parts.0, rises step steps parts.1)
 
-length-stepped : (n : ℕ) (ds : List DriveSim) (outs : List DriveOut) → length (drives_stepped n ds outs) ≡ length ds
+length-stepped : (n : ℕ) (ds : List DriveSim) (outs : List DriveOut) →
+    length (drives_stepped n ds outs) ≡ length ds
 length-stepped n [] outs = refl
 length-stepped n (d ∷ ds) outs = ap suc (length-stepped (suc n) ds outs)
 
 -- a loop in which each drive makes its step
-pub stepped-over : (ds xs : List DriveSim) (outs : List DriveOut) (i : ℕ) (x : DriveSim) → i < length ds →
+pub stepped-over : (ds xs : List DriveSim) (outs : List DriveOut) (i : ℕ) (x : DriveSim) →
+    i < length ds →
     xs ≡ drives_stepped 0 (take i ds) outs ++ drop i ds →
-    slice_set xs i (drive_stepped (slice_index_or xs i x) (slice_index_or outs i no_row.output)) ≡ drives_stepped 0 (take (i + 1) ds) outs ++ drop (i + 1) ds
+    slice_set xs i (drive_stepped (slice_index_or xs i x) (slice_index_or outs i no_row.output)) ≡
+    drives_stepped 0 (take (i + 1) ds) outs ++ drop (i + 1) ds
 stepped-over ds xs outs i x l e =
     let done = drives_stepped 0 (take i ds) outs in
     let rest = drop (i + 1) ds in
     let y = slice_index_or ds i x in
     let o = slice_index_or outs i no_row.output in
-    let count : length done ≡ i = length-stepped 0 (take i ds) outs ∙ length-take-le i ds (omega arith) in
+    let count : length done ≡ i = length-stepped 0 (take i ds) outs ∙
+    length-take-le i ds (omega arith) in
     let whole : xs ≡ done ++ y ∷ rest = e ∙ ap (λ t. done ++ t) (drop_more ds i x l) in
-    let here : slice_index_or xs i x ≡ y = ap (λ t. slice_index_or t i x) whole ∙ get_or_at done y rest x i count in
+    let here : slice_index_or xs i x ≡ y = ap (λ t. slice_index_or t i x) whole ∙
+    get_or_at done y rest x i count in
     let next : suc i ≡ i + 1 = omega arith in
-    (λ t. slice_set (whole t) i (drive_stepped (here t) o)) ∙ set_at done y rest (drive_stepped y o) i count
+    (λ t. slice_set (whole t) i (drive_stepped (here t) o)) ∙
+    set_at done y rest (drive_stepped y o) i count
     ∙ sym (append_assoc done (drive_stepped y o ∷ []) rest)
-    ∙ ap (λ t. t ++ rest) (sym (stepped-next 0 ds outs i i x l (omega arith)) ∙ ap (λ k. drives_stepped 0 (take k ds) outs) next)
+    ∙ ap (λ t. t ++ rest) (sym (stepped-next 0 ds outs i i x l (omega arith)) ∙ ap (λ k.
+    drives_stepped 0 (take k ds) outs) next)
 
 -- a loop in which each drive is opened
-pub opened-over : (xs : List AxisDef) (ds : List DriveDef) (drives : List DriveSim) (i : ℕ) (a : AxisDef) (d : DriveDef) → i < length xs → i < length ds →
-    drives ≡ drives_at_opening (take i xs) (take i ds) → a ≡ slice_index_or xs i a → d ≡ slice_index_or ds i d →
+pub opened-over : (xs : List AxisDef) (ds : List DriveDef) (drives : List DriveSim) (i : ℕ)
+    (a : AxisDef) (d : DriveDef) → i < length xs → i < length ds →
+    drives ≡ drives_at_opening (take i xs) (take i ds) → a ≡ slice_index_or xs i a →
+    d ≡ slice_index_or ds i d →
     drives ++ drive_at_opening a d ∷ [] ≡ drives_at_opening (take (i + 1) xs) (take (i + 1) ds)
 opened-over xs ds drives i a d l m e ia id =
     let next : suc i ≡ i + 1 = omega arith in

@@ -33,7 +33,8 @@ abbrev pub NothingIsABeginning : Type 0
 NothingIsABeginning = (told : Option (List ℕ)) (text : List ℕ) → WritesPrefix told told text
 
 -- memory that runs out before anything is written is a cause to end by any plan
-pub early : NothingIsABeginning → (old new : Output) (plan : Plan) (s : Status) → EndsEarly old new s → EndsBy old new plan s
+pub early : NothingIsABeginning → (old new : Output) (plan : Plan) (s : Status) →
+    EndsEarly old new s → EndsBy old new plan s
 early none old new plan s e = rw e.output (record {
   written = Err fault.OutOfMemory;
   writes = (refl, none old.told plan.text);
@@ -41,41 +42,56 @@ early none old new plan s e = rw e.output (record {
 })
 
 -- a line that is the text of a plan
-pub said : NothingIsABeginning → (old new : Output) (line : Result (Vec ℕ Global) AllocError) (text : List ℕ) (s r : Status) → IfOk line (λ v. v.items ≡ text) →
+pub said : NothingIsABeginning →
+    (old new : Output) (line : Result (Vec ℕ Global) AllocError) (text : List ℕ) (s r : Status) →
+    IfOk line (λ v. v.items ≡ text) →
     Says old new line s r → EndsBy old new (record { status = s; text = text }) r
-said none old new (Ok v) text s r e w = let P : List ℕ → Type 0 = λ t. EndsBy old new (record { status = s; text = t }) r in subst P e w
+said none old new (Ok v) text s r e w =
+    let P : List ℕ → Type 0 = λ t. EndsBy old new (record { status = s; text = t }) r in subst P e w
 said none old new (Err x) text s r e w = early none old new (record { status = s; text = text }) r w
 
 -- the same plan
-pub same-plan : (old new : Output) (p q : Plan) (s : Status) → p ≡ q → EndsBy old new p s → EndsBy old new q s
+pub same-plan : (old new : Output) (p q : Plan) (s : Status) → p ≡ q → EndsBy old new p s →
+    EndsBy old new q s
 same-plan old new p q s e w = let P : Plan → Type 0 = λ x. EndsBy old new x s in subst P e w
 
 -- the same text
-pub same-text : (old new : Output) (x y : List ℕ) (r : Result (Unit {0}) TraceFault) → x ≡ y → Writes old new x r → Writes old new y r
+pub same-text : (old new : Output) (x y : List ℕ) (r : Result (Unit {0}) TraceFault) → x ≡ y →
+    Writes old new x r → Writes old new y r
 same-text old new x y r e w = let P : List ℕ → Type 0 = λ t. Writes old new t r in subst P e w
 
 -- a text that is refused has this plan
-pub refused-plan : (name : List ℕ) (reading : Result BenchState TextRefused) (r : TextRefused) → reading ≡ Err r →
-    record { status = status.TextRefused 1 r.place r.rule; text = refused_line name r } ≡ plan_of_reading name reading
+pub refused-plan : (name : List ℕ) (reading : Result BenchState TextRefused) (r : TextRefused) →
+    reading ≡ Err r →
+    record { status = status.TextRefused 1 r.place r.rule; text = refused_line name r } ≡
+    plan_of_reading name reading
 refused-plan name reading r e = sym (ap (plan_of_reading name) e)
 
 -- why a text is refused
-pub refused-why : (reading : Result BenchState TextRefused) (f : TextFault) (r : TextRefused) → f ≡ Refused r → ReadsBy reading (Err f) → reading ≡ Err r
-refused-why reading f r e why = let P : TextFault → Type 0 = λ x. ReadsBy reading (Err x) in subst P e why
+pub refused-why : (reading : Result BenchState TextRefused) (f : TextFault) (r : TextRefused) →
+    f ≡ Refused r → ReadsBy reading (Err f) → reading ≡ Err r
+refused-why reading f r e why =
+    let P : TextFault → Type 0 = λ x. ReadsBy reading (Err x) in subst P e why
 
 -- the trace of a run that was written is that of its bench, and the status is that of the run
-pub bench-ends : (old new : Output) (b : BenchState) (k : KernelState) (drives : List DriveSim) (ending : Result (Unit {0}) RunFault) (written : Result (Unit {0}) TraceFault) →
+pub bench-ends : (old new : Output) (b : BenchState) (k : KernelState) (drives : List DriveSim)
+    (ending : Result (Unit {0}) RunFault) (written : Result (Unit {0}) TraceFault) →
     run_at k drives ending ≡ run_of b →
-    Writes old new (trace_text b.version Bench b.config k.history (map (drive_end (cycles_of k.history)) drives)) written →
+    Writes old new
+    (trace_text b.version Bench b.config k.history (map (drive_end (cycles_of k.history)) drives))
+    written →
     EndsBy old new (plan_of_bench b) (status_by (status_of ending) written)
 bench-ends old new b k drives ending written e w = record {
   written = written;
-  writes = same-text old new _ _ written (ap (λ (r : Run). trace_text b.version Bench b.config r.history (drive_ends r)) e) w;
+  writes = same-text old new _ _ written
+      (ap (λ (r : Run). trace_text b.version Bench b.config r.history (drive_ends r)) e) w;
   status = ap (λ (r : Run). status_by (status_of r.ending) written) e;
 }
 
 -- the run that a kernel made of a bench is legal, as the kernel's history is
-pub legal-run : (b : BenchState) (k : KernelState) (drives : List DriveSim) (ending : Result (Unit {0}) RunFault) → k.config ≡ b.config → run_at k drives ending ≡ run_of b →
+pub legal-run : (b : BenchState) (k : KernelState) (drives : List DriveSim)
+    (ending : Result (Unit {0}) RunFault) → k.config ≡ b.config →
+    run_at k drives ending ≡ run_of b →
     IsLegal k.config k.history → KeepsLaws k.config k.history → IsLegalRun b
 legal-run b k drives ending c r legal laws =
     let h : k.history ≡ (run_of b).history = ap (λ (x : Run). x.history) r in
@@ -98,11 +114,14 @@ pub can-hold : (b : BenchState) → IsBench b → CanHold b.version b.config
 can-hold b is = held b.version b.config is.braking
 
 -- what is read is the one bench
-pub runs-read : (reading : Result BenchState TextRefused) (bench : BenchState) (s : Status) → reading ≡ Ok bench → RunsBy (λ b. b ≡ bench) s → RunsBy (λ b. reading ≡ Ok b) s
-runs-read reading bench s r runs = λ b h t. let same : b ≡ bench = let e : Ok b ≡ Ok bench = sym h ∙ r in cc in runs b same t
+pub runs-read : (reading : Result BenchState TextRefused) (bench : BenchState) (s : Status) →
+    reading ≡ Ok bench → RunsBy (λ b. b ≡ bench) s → RunsBy (λ b. reading ≡ Ok b) s
+runs-read reading bench s r runs =
+    λ b h t. let same : b ≡ bench = let e : Ok b ≡ Ok bench = sym h ∙ r in cc in runs b same t
 
 -- a text that is refused has no run
-pub runs-none : (reading : Result BenchState TextRefused) (r : TextRefused) (s : Status) → reading ≡ Err r → RunsBy (λ b. reading ≡ Ok b) s
+pub runs-none : (reading : Result BenchState TextRefused) (r : TextRefused) (s : Status) →
+    reading ≡ Err r → RunsBy (λ b. reading ≡ Ok b) s
 runs-none reading r s e = λ b h t. let bad : Ok b ≡ Err r = sym h ∙ e in absurd (cc)
 
 -- where the status stands for no trace nothing is said of the run

@@ -10,9 +10,19 @@ pub returns-in-Ok : goal.returns-in-Ok
 returns-in-Ok g c =
     inl (record {
       found = Content c.read_all.new.into.items;
-      is_found = (c.in-Ok.ensures.whole, let w = c.in-Ok.ensures.within in omega (arith, w, c.read_all.new.into.ok));
-      ends = same-plan _ _ _ _ _ (ap (λ t. plan_of c.args.name.now (Content t)) c.as_slice.ensures.value) c.run_text.ensures.ends;
-      runs = let P : List ℕ → Type 0 = λ t. RunsBy (λ b. bench_of t ≡ Ok b) c.run_text.result in subst P c.as_slice.ensures.value c.run_text.ensures.runs;
+      is_found = (
+        c.in-Ok.ensures.whole,
+        let w = c.in-Ok.ensures.within in omega (
+          arith,
+          w,
+          c.read_all.new.into.ok,
+        ),
+      );
+      ends = same-plan _ _ _ _ _
+          (ap (λ t. plan_of c.args.name.now (Content t)) c.as_slice.ensures.value)
+          c.run_text.ensures.ends;
+      runs = let P : List ℕ → Type 0 = λ t. RunsBy (λ b. bench_of t ≡ Ok b) c.run_text.result in
+          subst P c.as_slice.ensures.value c.run_text.ensures.runs;
     })
 
 pub returns-in-Err-Failed : goal.returns-in-Err-Failed

@@ -8,7 +8,8 @@ use Rattle.motion_cli.proofs.program.run_text.Goals as goal
 pub returns-in-Ok : goal.returns-in-Ok
 returns-in-Ok g c = record {
   runs = runs-read _ _ _ c.in-Ok.ensures.exact c.run_bench.ensures.runs;
-  ends = same-plan _ _ _ _ _ (sym (ap (plan_of_reading c.args.name.now) c.in-Ok.ensures.exact)) c.run_bench.ensures.ends;
+  ends = same-plan _ _ _ _ _ (sym (ap (plan_of_reading c.args.name.now) c.in-Ok.ensures.exact))
+      c.run_bench.ensures.ends;
 }
 
 pub returns-in-Err-Refused : goal.returns-in-Err-Refused
@@ -16,11 +17,13 @@ returns-in-Err-Refused g c =
     let why = refused-why _ _ _ c.in-Err-Refused.field-0-is c.in-Err-Refused.ensures.exact in
     record {
       runs = runs-none _ _ _ why;
-      ends = same-plan _ _ _ _ _ (refused-plan c.args.name.now _ c.in-Err-Refused.refused why) (said c.parts_are_beginnings.ensures.none _ _ _ _ _ _ c.refused_line.ensures c.say.ensures);
+      ends = same-plan _ _ _ _ _ (refused-plan c.args.name.now _ c.in-Err-Refused.refused why)
+          (said c.parts_are_beginnings.ensures.none _ _ _ _ _ _ c.refused_line.ensures c.say.ensures);
     }
 
 pub returns-in-Err-OutOfMemory : goal.returns-in-Err-OutOfMemory
 returns-in-Err-OutOfMemory g c = record {
   runs = runs-other _ status.OutOfMemory refl;
-  ends = early c.parts_are_beginnings.ensures.none _ _ _ _ (record { status = refl; output = refl });
+  ends = early c.parts_are_beginnings.ensures.none _ _ _ _
+      (record { status = refl; output = refl });
 }

@@ -4,11 +4,21 @@ use Rattle.trace_text.specs.declared.write.TraceFault.TheVariants as fault
 use Rattle.motion_cli.proofs.program.say_all.Goals as goal
 
 pub returns-in-Ok : goal.returns-in-Ok
-returns-in-Ok g c = record { written = Ok tt; writes = (c.in-Ok.ensures.appended, c.in-Ok.ensures.kept); status = refl }
+returns-in-Ok g c =
+    record {
+      written = Ok tt;
+      writes = (c.in-Ok.ensures.appended, c.in-Ok.ensures.kept);
+      status =
+          refl;
+    }
 
 pub returns-in-Err : goal.returns-in-Err
 returns-in-Err g c = record {
   written = Err fault.WriteFault;
-  writes = (c.in-Err.ensures.failed, c.parts_are_beginnings.ensures.part _ _ _ c.in-Err.ensures.part);
+  writes = (
+    c.in-Err.ensures.failed,
+    c.parts_are_beginnings.ensures.part _ _ _
+        c.in-Err.ensures.part,
+  );
   status = refl;
 }

@@ -12,17 +12,21 @@ use Rattle.motion_cli.proofs.run.make_call.Goals as goal
 
 pub returns-in-Err-clause-made : goal.returns-in-Err-clause-made
 returns-in-Err-clause-made c = λ drives.
-    made-by _ (a_call c.args.instance c.args.inputs.now) (run_at c.args.kernel.now drives (Ok tt)) (Err c.in-Err.fault) refl c.in-Err.ensures.value
+    made-by _ (a_call c.args.instance c.args.inputs.now) (run_at c.args.kernel.now drives (Ok tt))
+    (Err c.in-Err.fault) refl c.in-Err.ensures.value
 
 pub call-requires-clause-task : goal.call-requires-clause-task
 call-requires-clause-task c =
-    task-at _ _ c.args.instance _ (c.blocks-2.ensures ∙ ap (λ (s : Setup). s.blocks) c.config.ensures) c.requires.call.there
+    task-at _ _ c.args.instance _
+    (c.blocks-2.ensures ∙ ap (λ (s : Setup). s.blocks) c.config.ensures) c.requires.call.there
 
 pub returns-clause-made : goal.returns-clause-made
 returns-clause-made c = λ drives.
     let history = c.args.kernel.now.history in
     let made = ap (λ (k : KernelState). k.history) c.call.ensures.after
-    ∙ ap (λ (o : Outputs). history ++ call c.args.instance c.args.inputs.now o ∷ []) c.call.ensures.reply in
+    ∙ ap (λ (o : Outputs). history ++ call c.args.instance c.args.inputs.now o ∷ [])
+    c.call.ensures.reply in
     let run : List Entry → Run = λ h. record { history = h; drives = drives; ending = Ok tt } in
     ap run made
-    ∙ made-by _ (a_call c.args.instance c.args.inputs.now) (run_at c.args.kernel.now drives (Ok tt)) (Ok tt) refl c.in-Ok.ensures.value
+    ∙ made-by _ (a_call c.args.instance c.args.inputs.now) (run_at c.args.kernel.now drives (Ok tt))
+    (Ok tt) refl c.in-Ok.ensures.value

@@ -7,7 +7,11 @@ use Rattle.motion_cli.specs.Going.{run_at}
 use Rattle.motion_cli.proofs.run.make_cycle.Goals as goal
 
 pub returns-in-Err-clause-made : goal.returns-in-Err-clause-made
-returns-in-Err-clause-made c = made-by _ a_cycle (run_at c.args.kernel.now c.args.drives.now (Ok tt)) (Err c.in-Err.fault) refl c.in-Err.ensures.value
+returns-in-Err-clause-made c =
+    made-by _ a_cycle (run_at c.args.kernel.now c.args.drives.now (Ok tt)) (Err c.in-Err.fault) refl
+    c.in-Err.ensures.value
 
 pub returns-clause-made : goal.returns-clause-made
-returns-clause-made c = c.cycle.ensures.made ∙ made-by _ a_cycle (run_at c.args.kernel.now c.args.drives.now (Ok tt)) (Ok tt) refl c.in-Ok.ensures.value
+returns-clause-made c =
+    c.cycle.ensures.made ∙ made-by _ a_cycle (run_at c.args.kernel.now c.args.drives.now (Ok tt))
+    (Ok tt) refl c.in-Ok.ensures.value

@@ -9,9 +9,11 @@ use Rattle.motion_cli.proofs.run.make_end.Goals as goal
 
 pub returns-in-Err-clause-made : goal.returns-in-Err-clause-made
 returns-in-Err-clause-made c = λ drives.
-    made-by _ (an_end c.args.task) (run_at c.args.kernel.now drives (Ok tt)) (Err c.in-Err.fault) refl c.in-Err.ensures.value
+    made-by _ (an_end c.args.task) (run_at c.args.kernel.now drives (Ok tt)) (Err c.in-Err.fault)
+    refl c.in-Err.ensures.value
 
 pub returns-clause-made : goal.returns-clause-made
 returns-clause-made c = λ drives.
     ap (λ (k : KernelState). run_at k drives (Ok tt)) c.end.ensures
-    ∙ made-by _ (an_end c.args.task) (run_at c.args.kernel.now drives (Ok tt)) (Ok tt) refl c.in-Ok.ensures.value
+    ∙ made-by _ (an_end c.args.task) (run_at c.args.kernel.now drives (Ok tt)) (Ok tt) refl
+    c.in-Ok.ensures.value

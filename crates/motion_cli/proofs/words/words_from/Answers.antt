@@ -13,6 +13,10 @@ use Rattle.motion_cli.proofs.words.words_from.Goals as goal
 pub returns : goal.returns
 returns c =
     let source = c.skip.ensures.source in
-    let all = YieldsList-from_vec {Z = Global} {s = skip_source c.skip.result} (into_iter_items c.args.args) (ap into_iter_items source) (ap into_iter_len source ∙ c.args.args.rest.ok.0) in
-    let texts = items_from_collect {Z = Global} {E = AllocError} (Ok c.in_ok-texts.texts) c.in_ok-texts.ensures.ran (YieldsList-from_skip {s = c.skip.result} 1 all c.skip.ensures.count) in
+    let all = YieldsList-from_vec {Z = Global} {s = skip_source c.skip.result}
+    (into_iter_items c.args.args) (ap into_iter_items source)
+    (ap into_iter_len source ∙ c.args.args.rest.ok.0) in
+    let texts = items_from_collect {Z = Global} {E = AllocError} (Ok c.in_ok-texts.texts)
+    c.in_ok-texts.ensures.ran (YieldsList-from_skip {s = c.skip.result} 1 all c.skip.ensures.count)
+    in
     ap (map string_bytes) texts ∙ sym (drop-map string_bytes 1 (into_iter_items c.args.args))
