@@ -14,3 +14,13 @@ mod SameLists
 mod RowLaws
 mod Eleven
 mod RecordLoop
+mod Plain
+mod PartsBack
+mod NamesBack
+mod FieldsBack
+mod ItemsBack
+mod CallsBack
+mod Leads
+mod MachineBack
+mod EntriesBack
+mod TraceBack

@@ -17,4 +17,5 @@ pub mod RowFields
 pub mod Rows
 pub mod Reading
 pub mod RowRanges
+pub mod Writable
 pub mod ReadBack

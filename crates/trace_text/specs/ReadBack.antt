@@ -11,7 +11,9 @@ use Rattle.trace_text.specs.Calls.{cycle_meaning}
 use Rattle.trace_text.specs.Records.{cycle_fields, drive_fields, grow_fields, padded, row_fields}
 use Rattle.trace_text.specs.RowRanges.{IsDriveEnd, IsGroupRow, IsReported, IsRow, found_place, found_row}
 use Rattle.trace_text.specs.Rows.{drive_meaning, grow_meaning, row_meaning}
+use Rattle.trace_text.specs.Reading.{trace_of}
 use Rattle.trace_text.specs.Trace.{trace_records, trace_text}
+use Rattle.trace_text.specs.Writable.{IsHeld, found_trace}
 use Rattle.trace_text.specs.declared.write.Command.{Command}
 use Rattle.trace_text.specs.declared.write.DriveEndRow.{DriveEndRow}
 
@@ -38,3 +40,16 @@ pub record AreRowsReadBack : Type 0 where
       grow_meaning s n (drop 1 (padded (grow_fields s n r))) ≡ Ok r
   pub drives : (s : Setup) (n : ℕ) (d : DriveEndRow) → IsDriveEnd d →
       drive_meaning s n (drop 1 (padded (drive_fields s n d))) ≡ Ok d
+
+-- the text of a history that a version can hold is read as the whole trace: its version, who made
+-- it, its machine, its entries with each row without its offset, and what its drives took
+abbrev pub TracesAreReadBack : Type 0
+TracesAreReadBack = (v : TraceVersion) (c : Command) (s : Setup) (es : List Entry) (ds : List DriveEndRow) →
+    IsHeld v s es ds → trace_of (trace_text v c s es ds) ≡ Ok (found_trace v c s es ds)
+
+-- so texts that are the same are those of the same trace: two histories of one machine with the same
+-- text in one version differ in the offsets of rows alone
+abbrev pub TextsTellTraces : Type 0
+TextsTellTraces = (v w : TraceVersion) (c d : Command) (s t : Setup) (es others : List Entry) (ds ends : List DriveEndRow) →
+    IsHeld v s es ds → IsHeld w t others ends → trace_text v c s es ds ≡ trace_text w d t others ends →
+    found_trace v c s es ds ≡ found_trace w d t others ends

@@ -2,9 +2,12 @@
 
 ghost use Rattle.std.specs.Prelude.{List, ℕ, Option};
 ghost use Rattle.outside.specs.Told.{AppendsPart};
-ghost use Rattle.trace_text.specs.ReadBack.{AreRowsReadBack, RecordsAreReadBack, TextsTellRecords};
+ghost use Rattle.trace_text.specs.ReadBack.{AreRowsReadBack, RecordsAreReadBack, TextsTellRecords, TextsTellTraces, TracesAreReadBack};
 ghost use Rattle.trace_text.specs.Writes.{WritesPrefix};
 
+use cam_table::cam_tables_are_told;
+use fb_outputs::names_are_read_back;
+use motion_history::axes_are_in_range;
 use trace_columns::columns_are_read_back;
 
 /// Nothing of a text is a beginning of it, and so is a part of it that was taken. Nothing runs.
@@ -28,4 +31,17 @@ pub fn rows_are_read_back()
     ensures { AreRowsReadBack }
 {
     columns_are_read_back();
+}
+
+/// The text of a history that a version can hold is read as the trace of which it was made: its
+/// version, who made it, its machine, its entries with each row without its offset, and what its
+/// drives took. So texts that are the same are those of the same trace. Nothing runs.
+pub fn traces_are_read_back()
+    ensures read { TracesAreReadBack }
+    ensures told { TextsTellTraces }
+{
+    columns_are_read_back();
+    names_are_read_back();
+    axes_are_in_range();
+    cam_tables_are_told();
 }

@@ -24,7 +24,9 @@ mod tests;
 mod trace;
 mod write;
 
-pub use laws::{parts_are_beginnings, records_are_read_back, rows_are_read_back};
+pub use laws::{
+    parts_are_beginnings, records_are_read_back, rows_are_read_back, traces_are_read_back,
+};
 pub use motion_history::{Config, History, OutOfMemory, TextFault, TextRefused, TraceVersion};
 pub use read::read_trace;
 pub use trace::Trace;
