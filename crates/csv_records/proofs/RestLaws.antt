@@ -1,15 +1,16 @@
 -- What is left of a text's records.
-use Rattle.std.specs.Prelude.{◌≡◌, refl, ℕ, zero, suc, ◌<◌, ◌≤◌, ◌==◌, false, Option, Some, None, List, [], ◌∷◌, length}
+use Rattle.std.specs.Prelude.{◌≡◌, refl, ℕ, zero, suc, ◌<◌, ◌≤◌, Option, Some, None, All, List, [], ◌∷◌, length}
 use Rattle.std.specs.List.{AllByRecursion, flat_map}
 use Rattle.std.proofs.Common.{◌∙◌, sym, ap, arith, add-one, inl, inr}
 use Rattle.std.proofs.lemmas.Bool.{cases_Bool}
+use Rattle.std.proofs.lemmas.List.Elements.{recursion_from_All}
 use Rattle.csv.specs.Machine.{Read, next_record, step, is_end, fields_after, field_after}
 use Rattle.csv.specs.Reading.{default_config, records_from, records_next, strip_bom}
 use Rattle.csv.specs.Writing.{default_writer, row_text}
 use Rattle.csv.specs.declared.parser.State.{State}
 use Rattle.csv.specs.declared.parser.State.TheVariants as st
 use Rattle.csv.proofs.RoundTrip.{read-write}
-use Rattle.csv_records.specs.Records.{records_of, rest_from}
+use Rattle.csv_records.specs.Records.{records_of, rest_from, text_of}
 
 some-same : {X : Type 0} (x y : X) → Some x ≡ Some y → x ≡ y
 some-same x y e = cc e
@@ -125,9 +126,9 @@ rest-written ((x ∷ xs) ∷ rows) a =
     rest-more st.StartRecord _ (x ∷ xs, st.StartRecord, flat_map (row_text default_writer) rows) (read-write (x ∷ xs) (flat_map (row_text default_writer) rows)) ∙
     ap (λ t. (x ∷ xs) ∷ t) (rest-written rows a.1)
 
--- a text that begins with another byte has no byte order mark
-pub strip-plain : (b : ℕ) (xs : List ℕ) → (b == 239) ≡ false → strip_bom (b ∷ xs) ≡ b ∷ xs
-unfolding strip_bom
-strip-plain b [] n = refl
-strip-plain b (c ∷ []) n = refl
-strip-plain b (c ∷ d ∷ xs) n = rw n refl
+-- and are the records of its text
+pub records-written : (rows : List (List (List ℕ))) → All (λ row. 1 ≤ length row) rows → strip_bom (text_of rows) ≡ text_of rows →
+    records_of (text_of rows) ≡ rows
+unfolding text_of
+records-written rows some plain =
+    records-rest (text_of rows) ∙ ap (rest_from st.StartRecord) plain ∙ rest-written rows (recursion_from_All (λ row. 1 ≤ length row) rows some)

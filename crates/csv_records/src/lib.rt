@@ -4,7 +4,7 @@
 
 ghost use Rattle.std.specs.Prelude.{◌≡◌, [], List, ℕ, IfOk, slice_index_or};
 ghost use Rattle.csv.specs.Records.{fields_of};
-ghost use Rattle.csv_records.specs.Records.{IsReading, TakesNext, records_of, slice_left};
+ghost use Rattle.csv_records.specs.Records.{IsReading, RecordsAreReadBack, TakesNext, records_of, slice_left};
 
 use csv::{ByteRecord, Reader, ReaderBuilder};
 use out_of_memory::OutOfMemory;
@@ -40,3 +40,9 @@ pub fn field(row: &ByteRecord, place: usize) -> &[u8]
         None => b"",
     }
 }
+
+/// Records of one field or more, written in the default form, are those that are read of their
+/// text. Nothing runs.
+pub fn written_records_are_read_back()
+    ensures { RecordsAreReadBack }
+{}
