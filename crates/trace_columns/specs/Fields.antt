@@ -18,7 +18,9 @@ hex_digit n = if nat_lt n 10 then 48 + n else 87 + n
 
 -- a word is four hexadecimal digits. This project's profile
 unfoldable pub hex_text : ℕ → List ℕ
-hex_text w = hex_digit (w / 4096) ∷ hex_digit (w / 256 % 16) ∷ hex_digit (w / 16 % 16) ∷ hex_digit (w % 16) ∷ []
+hex_text w =
+    hex_digit (w / 4096) ∷ hex_digit (w / 256 % 16) ∷ hex_digit (w / 16 % 16) ∷ hex_digit (w % 16) ∷
+    []
 
 -- a letter where the output is true
 abbrev pub letter_where : Bool → ℕ → List ℕ

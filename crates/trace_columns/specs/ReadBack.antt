@@ -10,8 +10,8 @@ use Rattle.motion_numbers.specs.declared.TheConstants.{MOST_NUMBER}
 use Rattle.trace_columns.specs.Columns.{axis_state_of, drive_state_of, flag_of, group_state_of, hex_of, number_of, outputs_of, size_limited_of, unsigned_of, wide_number_of}
 use Rattle.trace_columns.specs.Fields.{axis_state_text, drive_state_text, flag_text, group_state_text, hex_text, outputs_text}
 
--- each column reads what is written of its values: numbers of 64 bits and less, numbers that are not
--- negative, words, truth values, outputs with their ErrorID, and states
+-- each column reads what is written of its values: numbers of 64 bits and less, numbers that are
+-- not negative, words, truth values, outputs with their ErrorID, and states
 pub record AreReadBack : Type 0 where
   pub wide : (z : ℤ) → FitsSigned w64 z → wide_number_of (signed_decimal z) ≡ Some z
   pub numbers : (least most z : ℤ) → FitsSigned w64 z → least ≤ℤ z → z ≤ℤ most →

@@ -17,7 +17,7 @@ use Rattle.trace_text.specs.Rows.{answer_of, drive_meaning, given_of, grow_meani
 use Rattle.trace_text.specs.Calls.{cycle_meaning}
 use Rattle.trace_text.specs.Rules.{are_empty}
 use Rattle.trace_text.specs.declared.write.DriveEndRow.{DriveEndRow}
-use Rattle.trace_columns.proofs.NumberLaws.{bytes-same}
+use Rattle.trace_text.proofs.NamesBack.{bytes-same}
 
 answer-back : AreReadBack → (r : AxisRow) → IsRow r →
     answer_of (hex_text r.input.statusword ∷ signed_decimal r.input.actual ∷ signed_decimal r.input.mode_display ∷ []) ≡ Ok r.input

@@ -7,6 +7,7 @@ use Rattle.std.proofs.lemmas.Int.{ints}
 use Rattle.std.proofs.lemmas.List.Elements.{All-from_get_or, recursion_from_All}
 use Rattle.axis_state.specs.declared.definition.AxisDef.{AxisDef}
 use Rattle.cam_table.specs.CamTable.{IsCamTable, is_cam_table, size_of}
+use Rattle.csv_records.specs.Records.{RecordsAreReadBack}
 use Rattle.fb_outputs.specs.Names.{AreNamed}
 use Rattle.motion_history.specs.AxisRanges.{AreAxisRanges}
 use Rattle.motion_history.specs.Ranges.{is_axis}
@@ -24,6 +25,7 @@ use Rattle.trace_text.proofs.NamesBack.{each-both}
 
 -- the laws of the crates below
 pub record Given : Type 0 where
+  pub records : RecordsAreReadBack
   pub back : AreReadBack
   pub named : AreNamed
   pub ranges : (d : AxisDef) → IsTrue (is_axis d) → AreAxisRanges d

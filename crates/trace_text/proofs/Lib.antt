@@ -9,7 +9,7 @@ mod Shown
 mod Each
 mod Results
 mod Tables
-mod Positions
+mod Zeros
 mod SameLists
 mod RowLaws
 mod Eleven

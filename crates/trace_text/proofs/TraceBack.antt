@@ -57,7 +57,7 @@ pub trace-back : Given → (v : TraceVersion) (c : Command) (s : Setup) (es : Li
     trace_of (trace_text v c s es ds) ≡ Ok (found_trace v c s es ds)
 unfolding trace_of
 trace-back g v c s es ds h =
-    rw (trace-written v c s es ds, read-of v c s es ds h.as_many (to-end g v c s es ds h)) refl
+    rw (trace-written g.records v c s es ds, read-of v c s es ds h.as_many (to-end g v c s es ds h)) refl
 
 ok-same : {A E : Type 0} (r : Result A E) (x y : A) → r ≡ Ok x → r ≡ Ok y → x ≡ y
 ok-same r x y p q = let e : Ok x ≡ Ok y = sym p ∙ q in cc e

@@ -147,7 +147,8 @@ call_by s name inputs reply = do
 
 -- a call: its block, its inputs, its outputs and the ErrorID
 unfoldable pub call_meaning : Setup → List (List ℕ) → Result FoundEntry ℕ
-call_meaning s (name ∷ execute ∷ positions ∷ velocity ∷ acceleration ∷ deceleration ∷ jerk ∷ mode ∷ follow ∷ outputs ∷ error_id ∷ []) =
+call_meaning s (name ∷ execute ∷ positions ∷ velocity ∷ acceleration ∷ deceleration ∷ jerk ∷
+    mode ∷ follow ∷ outputs ∷ error_id ∷ []) =
     call_by s name (record {
       execute = execute;
       positions = positions;

@@ -3,8 +3,8 @@ use Rattle.std.specs.Prelude.{ℕ, List}
 use Rattle.line_text.specs.Texts.{texts}
 use Rattle.trace_text.specs.declared.call.InputFields.{InputFields}
 
--- Execute, the positions, the velocity with the acceleration, the deceleration and the jerk, and the
--- buffer mode with what the axis follows
+-- Execute, the positions, the velocity with the acceleration, the deceleration and the jerk, and
+-- the buffer mode with what the axis follows
 pub record InputTexts : Type 0 where
   pub execute : List ℕ
   pub positions : List ℕ

@@ -19,17 +19,19 @@ use Rattle.trace_text.specs.declared.write.DriveEndRow.{DriveEndRow}
 
 -- the records of a trace's text are those of which it was made, field by field
 abbrev pub RecordsAreReadBack : Type 0
-RecordsAreReadBack = (v : TraceVersion) (c : Command) (s : Setup) (es : List Entry) (ds : List DriveEndRow) →
+RecordsAreReadBack = (v : TraceVersion) (c : Command) (s : Setup) (es : List Entry)
+    (ds : List DriveEndRow) →
     records_of (trace_text v c s es ds) ≡ map padded (trace_records v c s es ds)
 
 -- so texts that are the same have the same records
 abbrev pub TextsTellRecords : Type 0
-TextsTellRecords = (v : TraceVersion) (c : Command) (s : Setup) (es others : List Entry) (ds : List DriveEndRow) →
+TextsTellRecords = (v : TraceVersion) (c : Command) (s : Setup) (es others : List Entry)
+    (ds : List DriveEndRow) →
     trace_text v c s es ds ≡ trace_text v c s others ds →
     map padded (trace_records v c s es ds) ≡ map padded (trace_records v c s others ds)
 
--- the records of cycles, of their rows and of what the drives took are read as what was written, each
--- row without its offset, in both versions
+-- the records of cycles, of their rows and of what the drives took are read as what was written,
+-- each row without its offset, in both versions
 pub record AreRowsReadBack : Type 0 where
   pub cycles : (n : ℕ) → 1 ≤ n → n ≤ 2 ^ 32 - 1 →
       cycle_meaning (drop 1 (padded (cycle_fields n))) ≡ Ok n
@@ -44,12 +46,14 @@ pub record AreRowsReadBack : Type 0 where
 -- the text of a history that a version can hold is read as the whole trace: its version, who made
 -- it, its machine, its entries with each row without its offset, and what its drives took
 abbrev pub TracesAreReadBack : Type 0
-TracesAreReadBack = (v : TraceVersion) (c : Command) (s : Setup) (es : List Entry) (ds : List DriveEndRow) →
+TracesAreReadBack = (v : TraceVersion) (c : Command) (s : Setup) (es : List Entry)
+    (ds : List DriveEndRow) →
     IsHeld v s es ds → trace_of (trace_text v c s es ds) ≡ Ok (found_trace v c s es ds)
 
--- so texts that are the same are those of the same trace: two histories of one machine with the same
--- text in one version differ in the offsets of rows alone
+-- so texts that are the same are those of the same trace: two histories of one machine with the
+-- same text in one version differ in the offsets of rows alone
 abbrev pub TextsTellTraces : Type 0
-TextsTellTraces = (v w : TraceVersion) (c d : Command) (s t : Setup) (es others : List Entry) (ds ends : List DriveEndRow) →
-    IsHeld v s es ds → IsHeld w t others ends → trace_text v c s es ds ≡ trace_text w d t others ends →
+TextsTellTraces = (v w : TraceVersion) (c d : Command) (s t : Setup) (es others : List Entry)
+    (ds ends : List DriveEndRow) → IsHeld v s es ds → IsHeld w t others ends →
+    trace_text v c s es ds ≡ trace_text w d t others ends →
     found_trace v c s es ds ≡ found_trace w d t others ends

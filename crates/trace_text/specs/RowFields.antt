@@ -3,8 +3,8 @@ use Rattle.std.specs.Prelude.{ℕ, List}
 use Rattle.line_text.specs.Texts.{texts}
 use Rattle.trace_text.specs.declared.row.RowFields.{RowFields}
 
--- the fields of the axis, of what its drive answered, of what the axis shows, of what the drive was given, and of
--- the place that it reported
+-- the fields of the axis, of what its drive answered, of what the axis shows, of what the drive was
+-- given, and of the place that it reported
 pub record RowTexts : Type 0 where
   pub name : List ℕ
   pub answer : List (List ℕ)

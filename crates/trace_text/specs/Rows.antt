@@ -83,8 +83,10 @@ row_by v s n fields = do
   )
 
 -- the row of the axis of a number
-unfoldable pub row_meaning : TraceVersion → Setup → ℕ → List (List ℕ) → Result (AxisRow × Option ℤ) ℕ
-row_meaning v s n (axis ∷ statusword ∷ actual ∷ mode_display ∷ state ∷ error ∷ driven ∷ setpoint ∷ controlword ∷ target ∷ place ∷ []) =
+unfoldable pub row_meaning : TraceVersion → Setup → ℕ → List (List ℕ) →
+    Result (AxisRow × Option ℤ) ℕ
+row_meaning v s n (axis ∷ statusword ∷ actual ∷ mode_display ∷ state ∷ error ∷ driven ∷
+    setpoint ∷ controlword ∷ target ∷ place ∷ []) =
     row_by v s n (record {
       name = axis;
       answer = statusword ∷ actual ∷ mode_display ∷ [];

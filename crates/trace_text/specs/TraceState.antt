@@ -35,4 +35,5 @@ entries_of t = map entry_of t.found
 
 -- the place that the drive of an axis reported in the entry at a place
 abbrev pub place_at : TraceState → ℕ → ℕ → Option ℤ
-place_at t place axis = option_and_then (λ e. slice_get (places_of e) axis) (slice_get t.found place)
+place_at t place axis =
+    option_and_then (λ e. slice_get (places_of e) axis) (slice_get t.found place)

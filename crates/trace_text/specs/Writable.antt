@@ -28,8 +28,8 @@ pub record IsMachine (s : Setup) : Type 0 where
   pub setup : IsSetup s
   pub arrays : All (λ (g : GroupDef). length g.axes ≡ MOST_MEMBERS) s.groups
 
--- a call is one of the machine, the array of its positions has its length, and the number of its cam
--- table and its ErrorID have 16 bits
+-- a call is one of the machine, the array of its positions has its length, and the number of its
+-- cam table and its ErrorID have 16 bits
 pub record IsWritableCall (s : Setup) (k : ℕ) (i : Inputs) (o : Outputs) : Type 0 where
   pub call : IsCall s k i
   pub positions : length i.positions ≡ MOST_MEMBERS
@@ -42,7 +42,8 @@ pub record IsRowOf (d : AxisDef) (r : AxisRow) : Type 0 where
   pub place : IsReported d r
 
 -- a cycle has a number from 1 of 32 bits, and a row for each axis and each group
-pub record IsWritableCycle (s : Setup) (n : ℕ) (rows : List AxisRow) (groups : List GroupRow) : Type 0 where
+pub record IsWritableCycle (s : Setup) (n : ℕ) (rows : List AxisRow) (groups : List GroupRow)
+    : Type 0 where
   pub some : 1 ≤ n
   pub few : n < 2 ^ 32
   pub axes : AllZip IsRowOf s.axes rows
@@ -57,7 +58,8 @@ IsWritable s (end_of task) = task < length s.tasks
 
 -- a history with what its drives took, which a trace of this version can hold: one item for each
 -- drive
-pub record IsHeld (v : TraceVersion) (s : Setup) (es : List Entry) (ds : List DriveEndRow) : Type 0 where
+pub record IsHeld (v : TraceVersion) (s : Setup) (es : List Entry) (ds : List DriveEndRow)
+    : Type 0 where
   pub machine : IsMachine s
   pub version : CanHold v s
   pub entries : All (IsWritable s) es

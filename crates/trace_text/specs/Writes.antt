@@ -23,10 +23,13 @@ pub record Output : Type 0 where
 -- faults rose; where a text isn't written whole, its first bytes are. This project's profile
 abbrev pub Writes : Output → Output → List ℕ → Result (Unit {0}) TraceFault → Type 0
 Writes old new text (Ok u) = Appends old.told new.told text × (new.count ≡ old.count)
-Writes old new text (Err fault.WriteFault) = Rose old.count new.count × WritesPrefix old.told new.told text
-Writes old new text (Err fault.OutOfMemory) = (new.count ≡ old.count) × WritesPrefix old.told new.told text
+Writes old new text (Err fault.WriteFault) =
+    Rose old.count new.count × WritesPrefix old.told new.told text
+Writes old new text (Err fault.OutOfMemory) =
+    (new.count ≡ old.count) × WritesPrefix old.told new.told text
 
 -- the same of a piece for which there may have been no memory: nothing was written then
-abbrev pub WritesPiece : Output → Output → Result (Vec ℕ Global) OutOfMemory → Result (Unit {0}) TraceFault → Type 0
+abbrev pub WritesPiece : Output → Output → Result (Vec ℕ Global) OutOfMemory →
+    Result (Unit {0}) TraceFault → Type 0
 WritesPiece old new (Ok v) r = Writes old new v.items r
 WritesPiece old new (Err e) r = (r ≡ Err fault.OutOfMemory) × (new ≡ old)

@@ -1,23 +1,23 @@
 // The calls, cycles and ends of a trace, read from its records.
 
-ghost use Rattle.std.specs.Prelude.{◌≡◌, ◌≤◌, pos};
-ghost use Rattle.line_text.specs.Reading.{Gives, each_of};
+ghost use Rattle.std.specs.Prelude.{◌≡◌, pos};
+ghost use Rattle.line_text.specs.Reading.{Gives};
 ghost use Rattle.line_text.specs.Texts.{texts};
-ghost use Rattle.motion_history.specs.Calls as calls;
 ghost use Rattle.trace_text.specs.Calls as spec;
 ghost use Rattle.trace_text.specs.InputFields.{fields_of};
-ghost use Rattle.trace_text.specs.Items as items;
 
+use crate::follow::follow_of;
 use crate::found::FoundEntry;
-use crate::item::{axis_named, number, parts_of};
+use crate::item::number;
 use crate::name::{block_at, task_at};
+use crate::positions::positions_of;
 use crate::rule::{NO_VALUE, are_empty, broken_unless, is_empty, value};
 use command_pool::{BlockKind, BufferMode};
 use fb_outputs::{Input, Inputs, Outputs, mode_named, takes};
 use line_text::LineFault;
-use motion_history::{BlockDef, Builder, MOST_MEMBERS};
+use motion_history::{BlockDef, Builder};
 use std::alloc::Global;
-use trace_columns::{flag_of, halves_of, outputs_of, unsigned_of, word_of};
+use trace_columns::{flag_of, outputs_of, unsigned_of, word_of};
 
 /// What an axis follows.
 #[derive(Clone, Copy)]
@@ -57,14 +57,6 @@ pub struct InputFields<'a> {
     /// BufferMode, and what the axis follows.
     pub last: &'a [&'a [u8]],
 }
-
-/// What an axis follows that follows none.
-const NO_MASTER: Followed = Followed {
-    master: 0,
-    numerator: 1,
-    denominator: 1,
-    table: 0,
-};
 
 /// The call of a record.
 #[tactic(auto, unfolding(crate::specs::Calls::call_meaning))]
@@ -210,8 +202,8 @@ fn input_of(kind: BlockKind, input: Input, text: &[u8]) -> Result<i64, LineFault
     }
 }
 
-// The value of a field that isn't used.
-fn unused<T: Copy>(text: &[u8], default: T) -> Result<T, LineFault>
+/// The value of a field that isn't used.
+pub fn unused<T: Copy>(text: &[u8], default: T) -> Result<T, LineFault>
     ensures { Gives (λ x. x) (spec.unused text.now default) result }
 {
     if is_empty(text) {
@@ -231,136 +223,6 @@ fn mode_of(kind: BlockKind, text: &[u8]) -> Result<BufferMode, LineFault>
     } else {
         unused(text, BufferMode::Aborting)
     }
-}
-
-// On how many axes a block acts.
-fn axes_of(machine: &Builder, block: &BlockDef) -> usize
-    ensures value { result ≡ calls.axes_of machine.now block.now }
-    ensures few { result ≤ MOST_MEMBERS }
-{
-    if !block.kind.acts_on_group() {
-        return 1;
-    }
-    match machine.groups().get(block.object as usize) {
-        Some(group) => group.count as usize,
-        None => 0,
-    }
-}
-
-// The positions of a call, where its kind takes them.
-#[tactic(auto, unfolding(crate::specs::Calls::positions_of))]
-fn positions_of(
-    alloc: Global,
-    machine: &Builder,
-    block: &BlockDef,
-    text: &[u8],
-) -> Result<[i64; MOST_MEMBERS], LineFault>
-    ensures { Gives (λ p. p) (spec.positions_of machine.now block.now text.now) result }
-{
-    if takes(block.kind, Input::Position) {
-        joined_positions(alloc, axes_of(machine, block), text)
-    } else {
-        no_positions(text)
-    }
-}
-
-// Positions that are not taken.
-fn no_positions(text: &[u8]) -> Result<[i64; MOST_MEMBERS], LineFault>
-    ensures { Gives (λ p. p) (spec.unused text.now spec.no_positions) result }
-{
-    broken_unless(is_empty(text), NO_VALUE)?;
-    Ok([0; MOST_MEMBERS])
-}
-
-// So many positions, joined by semicolons.
-#[tactic(auto, unfolding(crate::specs::Calls::joined_positions))]
-fn joined_positions(
-    alloc: Global,
-    axes: usize,
-    text: &[u8],
-) -> Result<[i64; MOST_MEMBERS], LineFault>
-    requires { axes ≤ MOST_MEMBERS }
-    ensures { Gives (λ p. p) (spec.joined_positions axes text.now) result }
-{
-    let Ok(parts) = parts_of(alloc, text) else {
-        return Err(LineFault::OutOfMemory);
-    };
-    let places = numbers(alloc, parts.as_slice())?;
-    broken_unless(places.len() == axes, NO_VALUE)?;
-    let mut positions = [0; MOST_MEMBERS];
-    positions[..axes].copy_from_slice(places.as_slice());
-    Ok(positions)
-}
-
-// The numbers that fields are.
-fn numbers(alloc: Global, fields: &[&[u8]]) -> Result<Vec<i64>, LineFault>
-    ensures { Gives (λ v. v.items) (each_of items.number (texts fields.now)) result }
-{
-    let mut numbers = Vec::new(alloc);
-    for field in fields {
-        let number = number(field)?;
-        let Ok(()) = numbers.push(number) else {
-            return Err(LineFault::OutOfMemory);
-        };
-    }
-    Ok(numbers)
-}
-
-// What an axis follows, by the kind.
-#[tactic(auto, unfolding(crate::specs::Calls::follow_of))]
-fn follow_of(machine: &Builder, kind: BlockKind, text: &[u8]) -> Result<Followed, LineFault>
-    ensures { Gives (λ f. f) (spec.follow_of machine.now kind text.now) result }
-{
-    match kind {
-        BlockKind::GearIn => gear_of(machine, text),
-        BlockKind::CamIn => cam_of(machine, text),
-        _ => unused(text, NO_MASTER),
-    }
-}
-
-// The parts of a field before its first colon and behind it.
-#[tactic(auto, unfolding(crate::specs::Calls::halves))]
-fn halves(text: &[u8]) -> Result<(&[u8], &[u8]), LineFault>
-    ensures { Gives (λ h. (h.0.now, h.1.now)) (spec.halves text.now) result }
-{
-    match halves_of(text) {
-        Some(halves) => Ok(halves),
-        None => Err(LineFault::Rule(NO_VALUE)),
-    }
-}
-
-// The master of a gear, its numerator and its denominator.
-#[tactic(auto, unfolding(crate::specs::Calls::gear_of))]
-fn gear_of(machine: &Builder, text: &[u8]) -> Result<Followed, LineFault>
-    ensures { Gives (λ f. f) (spec.gear_of machine.now text.now) result }
-{
-    let (master, ratio) = halves(text)?;
-    let master = axis_named(machine, master)?;
-    let (numerator, denominator) = halves(ratio)?;
-    let numerator = number(numerator)?;
-    let denominator = number(denominator)?;
-    Ok(Followed {
-        master,
-        numerator,
-        denominator,
-        table: 0,
-    })
-}
-
-// The master of a cam and the number of its table.
-#[tactic(auto, unfolding(crate::specs::Calls::cam_of))]
-fn cam_of(machine: &Builder, text: &[u8]) -> Result<Followed, LineFault>
-    ensures { Gives (λ f. f) (spec.cam_of machine.now text.now) result }
-{
-    let (master, table) = halves(text)?;
-    let master = axis_named(machine, master)?;
-    let table = value(word_of(table))?;
-    Ok(Followed {
-        master,
-        numerator: 1,
-        denominator: 1,
-        table,
-    })
 }
 
 /// The number of the cycle of a record.

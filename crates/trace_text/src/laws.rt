@@ -6,6 +6,7 @@ ghost use Rattle.trace_text.specs.ReadBack.{AreRowsReadBack, RecordsAreReadBack,
 ghost use Rattle.trace_text.specs.Writes.{WritesPrefix};
 
 use cam_table::cam_tables_are_told;
+use csv_records::written_records_are_read_back;
 use fb_outputs::names_are_read_back;
 use motion_history::axes_are_in_range;
 use trace_columns::columns_are_read_back;
@@ -22,7 +23,9 @@ pub fn parts_are_beginnings()
 pub fn records_are_read_back()
     ensures records { RecordsAreReadBack }
     ensures told { TextsTellRecords }
-{}
+{
+    written_records_are_read_back();
+}
 
 /// What is written of a cycle's number, of a row and of what a drive took is read as it: for every
 /// row of the ranges of its columns, without its offset, with the place that its drive reported in
@@ -40,6 +43,7 @@ pub fn traces_are_read_back()
     ensures read { TracesAreReadBack }
     ensures told { TextsTellTraces }
 {
+    written_records_are_read_back();
     columns_are_read_back();
     names_are_read_back();
     axes_are_in_range();

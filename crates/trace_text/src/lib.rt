@@ -4,16 +4,24 @@
 
 mod call;
 mod calls;
+mod cycle_rows;
 mod entries;
 mod fields;
+mod follow;
 mod found;
 mod head;
+mod here;
 mod item;
+mod item_reader;
 mod kind;
 mod laws;
+mod list_item;
 mod machine;
+mod machine_record;
 mod name;
 mod parts;
+mod pieces;
+mod positions;
 mod read;
 mod reader;
 mod records;

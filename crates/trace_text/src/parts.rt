@@ -121,8 +121,8 @@ pub fn positions_text(
     numbers_text(alloc, &inputs.positions[..axes])
 }
 
-/// What an axis follows: its master with the gear's numerator and denominator, or with the number of
-/// the cam table.
+/// What an axis follows: its master with the gear's numerator and denominator, or with the number
+/// of the cam table.
 #[tactic(auto, unfolding(crate::specs::Records::follow_text))]
 pub fn follow_text(
     alloc: Global,

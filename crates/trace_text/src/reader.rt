@@ -4,7 +4,6 @@ ghost use Rattle.std.specs.Prelude.{◌≡◌, ℕ, Ok, Result};
 ghost use Rattle.line_text.specs.Reading.{Gives, Takes};
 ghost use Rattle.line_text.specs.Texts.{texts};
 ghost use Rattle.trace_text.specs.Calls as calls;
-ghost use Rattle.trace_text.specs.Kinds as kinds;
 ghost use Rattle.trace_text.specs.Reading as spec;
 ghost use Rattle.trace_text.specs.SoFar.{SoFar};
 ghost use Rattle.trace_text.specs.declared.found.FoundEntry.{FoundEntry};
@@ -12,8 +11,8 @@ ghost use Rattle.trace_text.specs.declared.found.FoundEntry.{FoundEntry};
 use crate::call::{call_of, cycle_of, end_of};
 use crate::found::{FoundCycle, FoundEntry};
 use crate::head::{command_of, is_header, version_of};
-use crate::item::{add_axis, add_block, add_group, add_table, add_task, set_room, whole};
-use crate::kind::{Kind, Stage, is_stage, kind_of, rank_of};
+use crate::item::{set_room, whole};
+use crate::kind::{Kind, Stage, is_stage, kind_of};
 use crate::row::{drive_of, grow_of, row_of};
 use crate::rule::{NO_HEADER, NOT_TWELVE, OUT_OF_PLACE, broken_unless, value};
 use crate::write::{Command, DriveEndRow};
@@ -55,8 +54,8 @@ impl Model for TraceReader {
 }
 
 impl TraceReader {
-    /// Takes the twelve fields of a record. Where a rule is broken or memory runs out, the reader is
-    /// given up.
+    /// Takes the twelve fields of a record. Where a rule is broken or memory runs out, the reader
+    /// is given up.
     #[tactic(auto, unfolding(crate::specs::Reading::twelve_meaning))]
     pub fn read_fields(&mut self, fields: &[&[u8]]) -> Result<(), LineFault>
         ensures { Takes (spec.twelve_meaning self.old (texts fields.now)) self.new result }
@@ -115,61 +114,6 @@ impl TraceReader {
         self.read_kind(kind, fields)
     }
 
-    // Whether a record of a kind may stand here.
-    #[tactic(auto, unfolding(crate::specs::Kinds::is_here))]
-    fn is_here(&self, kind: Kind) -> bool
-        ensures { result ≡ kinds.is_here self.now kind }
-    {
-        match kind {
-            Kind::Axis | Kind::Group | Kind::Table | Kind::Task | Kind::Block => {
-                self.is_item_here(kind)
-            }
-            Kind::Call | Kind::Cycle | Kind::End => self.is_entry_here(),
-            Kind::Row => self.is_row_here(),
-            Kind::Grow => self.is_group_row_here(),
-            Kind::Drive => self.is_drive_here(),
-        }
-    }
-
-    // Whether an item of a kind may stand here.
-    fn is_item_here(&self, kind: Kind) -> bool
-        ensures { result ≡ kinds.is_item_here self.now kind }
-    {
-        is_stage(self.stage, Stage::Machine) && rank_of(self.last) <= rank_of(kind)
-    }
-
-    // Whether an entry may begin here.
-    fn is_entry_here(&self) -> bool
-        ensures { result ≡ kinds.is_entry_here self.now }
-    {
-        is_stage(self.stage, Stage::Machine) || is_stage(self.stage, Stage::Entries)
-    }
-
-    // Whether a row of an axis may stand here.
-    #[tactic(auto, unfolding(crate::specs::Kinds::is_here))]
-    fn is_row_here(&self) -> bool
-        ensures { result ≡ kinds.is_here self.now Kind.Row }
-    {
-        is_stage(self.stage, Stage::Rows) && self.cycle.axes() < self.machine.axes().len()
-    }
-
-    // Whether a row of a group may stand here.
-    #[tactic(auto, unfolding(crate::specs::Kinds::is_here))]
-    fn is_group_row_here(&self) -> bool
-        ensures { result ≡ kinds.is_here self.now Kind.Grow }
-    {
-        is_stage(self.stage, Stage::Rows) && self.machine.axes().len() <= self.cycle.axes()
-    }
-
-    // Whether what a drive took may stand here.
-    #[tactic(auto, unfolding(crate::specs::Kinds::is_here))]
-    fn is_drive_here(&self) -> bool
-        ensures { result ≡ kinds.is_here self.now Kind.Drive }
-    {
-        (self.is_entry_here() || is_stage(self.stage, Stage::Drives))
-            && self.drives.len() < self.machine.axes().len()
-    }
-
     // Takes the fields behind the kind.
     #[tactic(auto, unfolding(crate::specs::Reading::fields_meaning))]
     fn read_kind(&mut self, kind: Kind, fields: &[&[u8]]) -> Result<(), LineFault>
@@ -188,56 +132,6 @@ impl TraceReader {
             Kind::End => self.read_end(fields),
             Kind::Drive => self.read_drive(fields),
         }
-    }
-
-    // Takes an axis.
-    #[tactic(auto, unfolding(crate::specs::Reading::fields_meaning))]
-    fn read_axis(&mut self, fields: &[&[u8]]) -> Result<(), LineFault>
-        ensures { Takes (spec.fields_meaning self.old Kind.Axis (texts fields.now)) self.new result }
-    {
-        add_axis(&mut self.machine, self.version, fields)?;
-        self.last = Kind::Axis;
-        Ok(())
-    }
-
-    // Takes a group.
-    #[tactic(auto, unfolding(crate::specs::Reading::fields_meaning))]
-    fn read_group(&mut self, fields: &[&[u8]]) -> Result<(), LineFault>
-        ensures { Takes (spec.fields_meaning self.old Kind.Group (texts fields.now)) self.new result }
-    {
-        add_group(self.alloc, &mut self.machine, fields)?;
-        self.last = Kind::Group;
-        Ok(())
-    }
-
-    // Takes a cam table.
-    #[tactic(auto, unfolding(crate::specs::Reading::fields_meaning))]
-    fn read_table(&mut self, fields: &[&[u8]]) -> Result<(), LineFault>
-        ensures { Takes (spec.fields_meaning self.old Kind.Table (texts fields.now)) self.new result }
-    {
-        add_table(self.alloc, &mut self.machine, fields)?;
-        self.last = Kind::Table;
-        Ok(())
-    }
-
-    // Takes a task.
-    #[tactic(auto, unfolding(crate::specs::Reading::fields_meaning))]
-    fn read_task(&mut self, fields: &[&[u8]]) -> Result<(), LineFault>
-        ensures { Takes (spec.fields_meaning self.old Kind.Task (texts fields.now)) self.new result }
-    {
-        add_task(&mut self.machine, fields)?;
-        self.last = Kind::Task;
-        Ok(())
-    }
-
-    // Takes a block.
-    #[tactic(auto, unfolding(crate::specs::Reading::fields_meaning))]
-    fn read_block(&mut self, fields: &[&[u8]]) -> Result<(), LineFault>
-        ensures { Takes (spec.fields_meaning self.old Kind.Block (texts fields.now)) self.new result }
-    {
-        add_block(&mut self.machine, fields)?;
-        self.last = Kind::Block;
-        Ok(())
     }
 
     // Takes a call.
@@ -275,7 +169,8 @@ impl TraceReader {
     // Takes the beginning of a cycle.
     #[tactic(auto, unfolding(crate::specs::Reading::fields_meaning, crate::specs::Reading::with_cycle))]
     fn read_cycle(&mut self, fields: &[&[u8]]) -> Result<(), LineFault>
-        ensures { Takes (spec.fields_meaning self.old Kind.Cycle (texts fields.now)) self.new result }
+        ensures { Takes (spec.fields_meaning self.old Kind.Cycle (texts fields.now))
+            self.new result }
     {
         let number = cycle_of(fields)?;
         whole(&self.machine)?;
@@ -336,7 +231,8 @@ impl TraceReader {
     // Takes what the next drive took.
     #[tactic(auto, unfolding(crate::specs::Reading::fields_meaning, crate::specs::Reading::drives_meaning))]
     fn read_drive(&mut self, fields: &[&[u8]]) -> Result<(), LineFault>
-        ensures { Takes (spec.fields_meaning self.old Kind.Drive (texts fields.now)) self.new result }
+        ensures { Takes (spec.fields_meaning self.old Kind.Drive (texts fields.now))
+            self.new result }
     {
         let drive = drive_of(&self.machine, self.drives.len(), fields)?;
         whole(&self.machine)?;

@@ -63,8 +63,8 @@ impl Trace {
         self.found.len() as u64
     }
 
-    /// The entry at a place counted from 0, with the cycle number found. In its rows every offset is
-    /// 0, and every mode given is 8.
+    /// The entry at a place counted from 0, with the cycle number found. In its rows every offset
+    /// is 0, and every mode given is 8.
     pub fn look(&self, place: u64) -> Option<EntryLook<'_>>
         ensures { option_map told result ≡ slice_get (entries_of self.now) place }
     {
@@ -81,8 +81,8 @@ impl Trace {
         self.drives.as_slice()
     }
 
-    /// The place that the drive of an axis reported in the entry at a place counted from 0, as found,
-    /// in internal units. There is none in version 1, nor where the entry is no cycle.
+    /// The place that the drive of an axis reported in the entry at a place counted from 0, as
+    /// found, in internal units. There is none in version 1, nor where the entry is no cycle.
     pub fn actual_of(&self, place: u64, axis: u8) -> Option<i64>
         ensures { result ≡ place_at self.now place axis }
     {

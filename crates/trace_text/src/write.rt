@@ -1,23 +1,16 @@
 // Writing a trace.
 
-ghost use Rattle.std.specs.Prelude.{◌≡◌, ◌+◌, ◌<◌, ◌^◌, IfOk, OnOk, length, take, drop, slice_get};
-ghost use Rattle.std.specs.Option.{option_to_list};
+ghost use Rattle.std.specs.Prelude.{◌≡◌, ◌+◌, ◌<◌, ◌^◌, length, take, drop};
 ghost use Rattle.std.specs.List.{flat_map};
-ghost use Rattle.std.specs.Io.KnownBytes.{Appends};
-ghost use Rattle.csv.specs.Writing.{text_written};
-ghost use Rattle.trace_text.specs.Between.{IsBetween};
 ghost use Rattle.trace_text.specs.Writes.{Output, Writes, WritesPiece};
 ghost use Rattle.trace_text.specs.Parts.{all_text, machine_text, drives_text, entry_text};
 ghost use Rattle.trace_text.specs.Trace.{CanHold, trace_text};
 
-use crate::entries::{write_drives, write_entry};
-use crate::machine::write_machine;
+use crate::pieces::{drives_piece, entries_piece, machine_piece};
 use cia402_machine::DriveState;
-use csv::{Writer, WriterBuilder};
 use motion_history::{Config, History, OutOfMemory, TraceVersion};
 use outside::{Sink, SinkFailed, write_all};
 use std::alloc::Global;
-use std::io::Write;
 
 /// Who made a trace.
 #[derive(Clone, Copy, Debug, PartialEq, Eq)]
@@ -46,112 +39,6 @@ pub enum TraceFault {
 /// How many entries are written at a time.
 const PIECE: u64 = 1000;
 
-// The text of the machine part.
-fn machine_piece(
-    alloc: Global,
-    version: TraceVersion,
-    command: Command,
-    config: &Config,
-) -> Result<Vec<u8>, OutOfMemory>
-    ensures { IfOk result (λ v. v.items ≡ machine_text version command config.now) }
-{
-    let mut wtr = WriterBuilder::new().from_writer(Vec::new(alloc));
-    write_machine(alloc, &mut wtr, version, command, config)?;
-    match wtr.into_inner() {
-        Ok(text) => Ok(text),
-        Err(e) => {
-            let _ = e.into_error();
-            Err(OutOfMemory)
-        }
-    }
-}
-
-// The text of what the drives took.
-fn drives_piece(
-    alloc: Global,
-    config: &Config,
-    drives: &[DriveEndRow],
-) -> Result<Vec<u8>, OutOfMemory>
-    ensures { IfOk result (λ v. v.items ≡ drives_text config.now drives.now) }
-{
-    let mut wtr = WriterBuilder::new().from_writer(Vec::new(alloc));
-    write_drives(&mut wtr, config, drives)?;
-    match wtr.into_inner() {
-        Ok(text) => Ok(text),
-        Err(e) => {
-            let _ = e.into_error();
-            Err(OutOfMemory)
-        }
-    }
-}
-
-// Writes the entry at a place, if it is there.
-fn write_entry_at<W: Write + Drop>(
-    alloc: Global,
-    wtr: &mut Writer<W>,
-    version: TraceVersion,
-    config: &Config,
-    history: &History,
-    place: u64,
-) -> Result<(), OutOfMemory>
-    requires { IsBetween wtr.old }
-    ensures text { OnOk result (Appends (text_written W.contents wtr.old)
-        (text_written W.contents wtr.new)
-        (flat_map (entry_text version config.now) (option_to_list (slice_get history.now.entries place)))) }
-    ensures between { OnOk result (IsBetween wtr.new) }
-{
-    match history.look(place) {
-        Some(entry) => write_entry(alloc, wtr, version, config, &entry),
-        None => Ok(()),
-    }
-}
-
-// Writes so many entries from a place on.
-fn write_entries<W: Write + Drop>(
-    alloc: Global,
-    wtr: &mut Writer<W>,
-    version: TraceVersion,
-    config: &Config,
-    history: &History,
-    from: u64,
-    count: u64,
-) -> Result<(), OutOfMemory>
-    requires between { IsBetween wtr.old }
-    requires fits { from + count < 2 ^ 64 }
-    ensures text { OnOk result (Appends (text_written W.contents wtr.old)
-        (text_written W.contents wtr.new)
-        (flat_map (entry_text version config.now) (take count (drop from history.now.entries)))) }
-    ensures between { OnOk result (IsBetween wtr.new) }
-{
-    for i in 0..count {
-        write_entry_at(alloc, wtr, version, config, history, from + i)?;
-    }
-    Ok(())
-}
-
-// The text of so many entries from a place on.
-fn entries_piece(
-    alloc: Global,
-    version: TraceVersion,
-    config: &Config,
-    history: &History,
-    from: u64,
-    count: u64,
-) -> Result<Vec<u8>, OutOfMemory>
-    requires { from + count < 2 ^ 64 }
-    ensures { IfOk result (λ v. v.items ≡ flat_map (entry_text version config.now) (take count (drop from history.now.entries))) }
-{
-    let mut wtr = WriterBuilder::new().from_writer(Vec::new(alloc));
-    write_entries(alloc, &mut wtr, version, config, history, from, count)?;
-    match wtr.into_inner() {
-        Ok(text) => Ok(text),
-        Err(e) => {
-            let _ = e.into_error();
-            Err(OutOfMemory)
-        }
-    }
-}
-
 // Puts a piece of a text into the output, if there was memory for it.
 fn put<K: Sink>(piece: Result<Vec<u8>, OutOfMemory>, out: &mut K) -> Result<(), TraceFault>
     ensures { WritesPiece (record { count = K.count out.old; told = K.told out.old })
@@ -175,7 +62,8 @@ fn put_machine<K: Sink>(
     out: &mut K,
 ) -> Result<(), TraceFault>
     ensures { Writes (record { count = K.count out.old; told = K.told out.old })
-        (record { count = K.count out.new; told = K.told out.new }) (machine_text version command config.now) result }
+        (record { count = K.count out.new; told = K.told out.new })
+        (machine_text version command config.now) result }
 {
     put(machine_piece(alloc, version, command, config), out)
 }
@@ -188,7 +76,8 @@ fn put_drives<K: Sink>(
     out: &mut K,
 ) -> Result<(), TraceFault>
     ensures { Writes (record { count = K.count out.old; told = K.told out.old })
-        (record { count = K.count out.new; told = K.told out.new }) (drives_text config.now drives.now) result }
+        (record { count = K.count out.new; told = K.told out.new })
+        (drives_text config.now drives.now) result }
 {
     put(drives_piece(alloc, config, drives), out)
 }
@@ -206,7 +95,8 @@ fn put_entries<K: Sink>(
     requires { from + count < 2 ^ 64 }
     ensures { Writes (record { count = K.count out.old; told = K.told out.old })
         (record { count = K.count out.new; told = K.told out.new })
-        (flat_map (entry_text version config.now) (take count (drop from history.now.entries))) result }
+        (flat_map (entry_text version config.now) (take count (drop from history.now.entries)))
+        result }
 {
     put(
         entries_piece(alloc, version, config, history, from, count),
@@ -264,8 +154,8 @@ fn put_all<K: Sink>(
 }
 
 /// Writes the trace of a history of this configuration and of what its drives took, one item per
-/// axis. Version One gives no braking limit: each is the axis's `amax`. Where the trace isn't written
-/// whole, its first bytes are.
+/// axis. Version One gives no braking limit: each is the axis's `amax`. Where the trace isn't
+/// written whole, its first bytes are.
 #[tactic(auto, using(crate::proofs::Texts::trace_parts))]
 pub fn write_trace<K: Sink>(
     alloc: Global,

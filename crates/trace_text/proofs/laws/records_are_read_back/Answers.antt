@@ -5,8 +5,9 @@ use Rattle.trace_text.proofs.RecordLaws.{trace-written}
 use Rattle.trace_text.proofs.laws.records_are_read_back.Goals as goal
 
 pub returns-clause-records : goal.returns-clause-records
-returns-clause-records c = trace-written
+returns-clause-records c = trace-written c.written_records_are_read_back.ensures
 
 pub returns-clause-told : goal.returns-clause-told
 returns-clause-told c = λ v m s es others ds same.
-    sym (trace-written v m s es ds) ∙ ap records_of same ∙ trace-written v m s others ds
+    let law = c.written_records_are_read_back.ensures in
+    sym (trace-written law v m s es ds) ∙ ap records_of same ∙ trace-written law v m s others ds

@@ -4,6 +4,7 @@ use Rattle.trace_text.proofs.laws.traces_are_read_back.Goals as goal
 
 pub returns-clause-read : goal.returns-clause-read
 returns-clause-read c = trace-back (record {
+  records = c.written_records_are_read_back.ensures;
   back = c.columns_are_read_back.ensures;
   named = c.names_are_read_back.ensures.named;
   ranges = c.axes_are_in_range.ensures.ranges;
@@ -12,6 +13,7 @@ returns-clause-read c = trace-back (record {
 
 pub returns-clause-told : goal.returns-clause-told
 returns-clause-told c = texts-tell (record {
+  records = c.written_records_are_read_back.ensures;
   back = c.columns_are_read_back.ensures;
   named = c.names_are_read_back.ensures.named;
   ranges = c.axes_are_in_range.ensures.ranges;

@@ -4,7 +4,7 @@ use Rattle.cam_table.specs.CamTable.{IsCamTable}
 use Rattle.line_text.specs.Texts.{texts}
 use Rattle.motion_history.specs.Faults.{IsTableFault}
 use Rattle.trace_text.proofs.Tables.{table-made, table-refused}
-use Rattle.trace_text.proofs.item.add_points.Goals as goal
+use Rattle.trace_text.proofs.list_item.add_points.Goals as goal
 
 pub returns-in-Ok : goal.returns-in-Ok
 returns-in-Ok c =

@@ -1,7 +1,7 @@
 -- One more was written.
 use Rattle.std.proofs.Common.{arith}
 use Rattle.trace_text.proofs.Numbered.{numbered-appended}
-use Rattle.trace_text.proofs.entries.write_grows.Goals as goal
+use Rattle.trace_text.proofs.cycle_rows.write_grows.Goals as goal
 
 pub loop-i-preserved : goal.loop-i-preserved
 loop-i-preserved g c = record {

@@ -3,7 +3,7 @@ use Rattle.std.proofs.lemmas.Result.{err_from_is_err_and}
 use Rattle.trace_text.specs.Items.{axis_named}
 use Rattle.line_text.specs.Texts.{texts}
 use Rattle.trace_text.proofs.Each.{read-more, read-stops, word_at}
-use Rattle.trace_text.proofs.item.axes_named.Goals as goal
+use Rattle.trace_text.proofs.list_item.axes_named.Goals as goal
 
 pub returns-in_err-axis : goal.returns-in_err-axis
 returns-in_err-axis c =

@@ -5,7 +5,7 @@ use Rattle.std.proofs.lemmas.Result.{err_from_is_err_and}
 use Rattle.trace_text.specs.Items.{number}
 use Rattle.line_text.specs.Texts.{texts}
 use Rattle.trace_text.proofs.Each.{read-more, read-stops, word_at}
-use Rattle.trace_text.proofs.call.numbers.Goals as goal
+use Rattle.trace_text.proofs.positions.numbers.Goals as goal
 
 pub returns-in_err-number : goal.returns-in_err-number
 returns-in_err-number c =

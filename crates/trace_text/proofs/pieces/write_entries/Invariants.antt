@@ -4,7 +4,7 @@ use Rattle.std.specs.Io.KnownBytes.{Appends}
 use Rattle.csv.specs.Writing.{text_written}
 use Rattle.trace_text.specs.Between.{IsBetween}
 use Rattle.trace_text.specs.Parts.{entry_text}
-use Rattle.trace_text.proofs.write.write_entries.Given as goal
+use Rattle.trace_text.proofs.pieces.write_entries.Given as goal
 
 abbrev pub invariant-loop-i : goal.invariant-loop-i
 invariant-loop-i g l = record {

@@ -3,7 +3,7 @@ use Rattle.std.proofs.lemmas.Result.{err_from_is_err_and}
 use Rattle.trace_text.specs.Items.{point}
 use Rattle.line_text.specs.Texts.{texts}
 use Rattle.trace_text.proofs.Each.{read-more, read-stops, word_at}
-use Rattle.trace_text.proofs.item.points.Goals as goal
+use Rattle.trace_text.proofs.list_item.points.Goals as goal
 
 pub returns-in_err-point : goal.returns-in_err-point
 returns-in_err-point c =

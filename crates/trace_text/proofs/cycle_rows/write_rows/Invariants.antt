@@ -4,7 +4,7 @@ use Rattle.csv.specs.Writing.{text_written}
 use Rattle.trace_text.specs.Between.{IsBetween}
 use Rattle.trace_text.specs.Records.{row_fields}
 use Rattle.trace_text.specs.Trace.{numbered, text_of}
-use Rattle.trace_text.proofs.entries.write_rows.Given as goal
+use Rattle.trace_text.proofs.cycle_rows.write_rows.Given as goal
 
 abbrev pub invariant-loop-i : goal.invariant-loop-i
 invariant-loop-i g l = record {

@@ -1,6 +1,6 @@
 -- One more entry was written.
 use Rattle.trace_text.proofs.Numbered.{from-appended}
-use Rattle.trace_text.proofs.write.write_entries.Goals as goal
+use Rattle.trace_text.proofs.pieces.write_entries.Goals as goal
 
 pub loop-i-preserved : goal.loop-i-preserved
 loop-i-preserved g c = record {

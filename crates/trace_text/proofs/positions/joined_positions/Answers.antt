@@ -1,7 +1,7 @@
 -- The positions stand in front of zeros.
 use Rattle.std.proofs.Common.{◌≡◌, ◌∙◌, length}
-use Rattle.trace_text.proofs.Positions.{positions_are}
-use Rattle.trace_text.proofs.call.joined_positions.Goals as goal
+use Rattle.trace_text.proofs.Zeros.{positions_are}
+use Rattle.trace_text.proofs.positions.joined_positions.Goals as goal
 
 pub returns : goal.returns
 returns c =

@@ -4,7 +4,7 @@ use Rattle.std.specs.Int.{w128}
 use Rattle.std.proofs.Common.{arith, ◌∙◌, to_z, of_z, w32, w64, FitsSigned, to_z-of_z}
 use Rattle.std.proofs.lemmas.Int.{ints, unsigned_abs-mul}
 use Rattle.std.proofs.lemmas.Nat.{mul-le}
-use Rattle.trace_text.proofs.entries.counted_place.Goals as goal
+use Rattle.trace_text.proofs.cycle_rows.counted_place.Goals as goal
 
 sized : (c : goal.After-from-3) → unsigned_abs (c.args.count *ℤ c.args.inc) ≤ 2147483648 * 9223372036854775808
 sized c =
