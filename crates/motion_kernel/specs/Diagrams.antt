@@ -21,8 +21,8 @@ pub record GroupGoesBy (most : ℕ) (s t : GroupState) : Type 0 where
   pub few : length events ≤ most
   pub lead : Lead s events t
 
--- by how many rows an axis goes in an entry at most: in a cycle by its drive's answer, by its
--- command's end or its path's, and by a Reset
+-- by how many rows an axis goes in an entry at most: in a cycle by its drive's answer, by its step,
+-- and by a Reset
 abbrev pub most_rows_of_axis : Entry → ℕ
 most_rows_of_axis (call k i reply) = 1
 most_rows_of_axis (cycle n rows grows) = 3
