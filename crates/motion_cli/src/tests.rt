@@ -298,7 +298,7 @@ fn tells_why_a_file_gives_no_trace(rt: HostRuntime) -> Result<(), Fail> {
 // The bench of a move with another line in the place of one.
 fn with_line(rt: &HostRuntime, number: u64, line: &[u8]) -> Result<Vec<u8>, Fail> {
     let mut text = Vec::new(rt.alloc());
-    let mut at = 1;
+    let mut at: u64 = 1;
     for byte in ONE_MOVE {
         if at != number {
             text.push(*byte)?;
@@ -308,7 +308,7 @@ fn with_line(rt: &HostRuntime, number: u64, line: &[u8]) -> Result<Vec<u8>, Fail
                 text.extend_from_slice(line)?;
                 text.push(b'\n')?;
             }
-            at += 1;
+            at = at.saturating_add(1);
         }
     }
     Ok(text)
