@@ -18,7 +18,8 @@ returns-in-Err-Refused g c =
     record {
       runs = runs-none _ _ _ why;
       ends = same-plan _ _ _ _ _ (refused-plan c.args.name.now _ c.in-Err-Refused.refused why)
-          (said c.parts_are_beginnings.ensures.none _ _ _ _ _ _ c.refused_line.ensures c.say.ensures);
+          (said c.parts_are_beginnings.ensures.none _ _ _ _ _ _ c.refused_line.ensures
+          c.say.ensures);
     }
 
 pub returns-in-Err-OutOfMemory : goal.returns-in-Err-OutOfMemory
