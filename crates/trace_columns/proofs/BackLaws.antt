@@ -1,8 +1,8 @@
 -- What is written of a value is read as this value.
-use Rattle.std.specs.Prelude.{◌≡◌, refl, ℕ, zero, suc, ◌+◌, ◌-◌, ◌*◌, ◌/◌, ◌%◌, ◌^◌, ◌<◌, ◌≤◌, ◌==◌, ℤ, pos, negsuc, neg_ℤ, int_le, ◌≤ℤ◌, nat_lt, Bool, true, false, ◌&&◌, Some, decimal, if◌then◌else◌, List, [], ◌∷◌, slice_index_or}
+use Rattle.std.specs.Prelude.{◌≡◌, refl, ℕ, zero, suc, ◌/◌, ◌%◌, ◌^◌, ◌<◌, ◌≤◌, ◌==◌, ℤ, pos, negsuc, neg_ℤ, int_le, ◌≤ℤ◌, Bool, true, false, ◌&&◌, Some, decimal, List, slice_index_or}
 use Rattle.std.specs.Fmt.{signed_decimal}
-use Rattle.std.specs.Str.Parse.{digits_value, signed_digits_value, starts_with_minus, without_leading_sign}
-use Rattle.std.proofs.Common.{◌∙◌, sym, ap, subst, arith, w64, FitsSigned, inl, inr, lit<}
+use Rattle.std.specs.Str.Parse.{digits_value, signed_digits_value}
+use Rattle.std.proofs.Common.{◌∙◌, ap, arith, w64, FitsSigned}
 use Rattle.std.proofs.lemmas.Bool.{ne_eqb}
 use Rattle.std.proofs.lemmas.Fmt.{decimal_digit, decimal_is_IsNumeral, first_decimal}
 use Rattle.std.proofs.lemmas.Int.{ints}

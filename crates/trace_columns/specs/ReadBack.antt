@@ -1,13 +1,12 @@
 -- What is written of a value is read as this value. This project's profile.
-use Rattle.std.specs.Prelude.{◌≡◌, ℕ, ◌^◌, ◌<◌, ◌≤◌, ℤ, pos, Bool, Some, decimal, unsigned_abs, ◌≤ℤ◌}
+use Rattle.std.specs.Prelude.{◌≡◌, ℕ, ◌^◌, ◌<◌, ◌≤◌, ℤ, Bool, Some, decimal, ◌≤ℤ◌}
 use Rattle.std.specs.Fmt.{signed_decimal}
 use Rattle.std.proofs.Common.{FitsSigned, w64}
 use Rattle.axis_state.specs.declared.state.AxisState.{AxisState}
 use Rattle.cia402_machine.specs.declared.drive.DriveState.{DriveState}
 use Rattle.fb_outputs.specs.declared.outputs.Outputs.{Outputs}
 use Rattle.group_state.specs.declared.state.GroupState.{GroupState}
-use Rattle.motion_numbers.specs.declared.TheConstants.{MOST_NUMBER}
-use Rattle.trace_columns.specs.Columns.{axis_state_of, drive_state_of, flag_of, group_state_of, hex_of, number_of, outputs_of, size_limited_of, unsigned_of, wide_number_of}
+use Rattle.trace_columns.specs.Columns.{axis_state_of, drive_state_of, flag_of, group_state_of, hex_of, number_of, outputs_of, unsigned_of, wide_number_of}
 use Rattle.trace_columns.specs.Fields.{axis_state_text, drive_state_text, flag_text, group_state_text, hex_text, outputs_text}
 
 -- each column reads what is written of its values: numbers of 64 bits and less, numbers that are

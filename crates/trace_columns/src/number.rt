@@ -1,6 +1,6 @@
 // The numbers of a trace, as a writer spells them.
 
-ghost use Rattle.std.specs.Prelude.{◌≡◌, ◌≤◌, ◌<◌, ◌-◌, ◌^◌, ◌≤ℤ◌, pos, neg_ℤ, unsigned_abs, IfSome, length};
+ghost use Rattle.std.specs.Prelude.{◌≡◌, ◌≤◌, ◌<◌, ◌-◌, ◌^◌, ◌≤ℤ◌, pos, neg_ℤ, unsigned_abs, IfSome, true, length, decimal, slice_index_or};
 ghost use Rattle.std.specs.Fmt.{signed_decimal};
 ghost use Rattle.std.specs.List.{position};
 ghost use Rattle.std.specs.Option.{option_map};
@@ -16,6 +16,47 @@ const MOST: i64 = MOST_NUMBER as i64;
 
 /// The number of 64 bits that a field is, in decimal without needless zeros, and without a plus.
 pub fn wide_number_of(text: &[u8]) -> Option<i64>
+    ensures { result ≡ spec.wide_number_of text.now }
+{
+    match digits_of(text) {
+        Some(number) => Some(number as i64),
+        None => parsed_number_of(text),
+    }
+}
+
+// The number that a field of at most 18 digits is, without a sign and needless zeros.
+fn digits_of(text: &[u8]) -> Option<u64>
+    ensures spelled { IfSome result (λ n. decimal n ≡ text.now) }
+    ensures small { IfSome result (λ n. n < 10 ^ 18) }
+{
+    if !may_be_digits(text) {
+        return None;
+    }
+    let mut number = 0u64;
+    for byte in text {
+        if *byte < b'0' || b'9' < *byte {
+            return None;
+        }
+        number = number * 10 + u64::from(*byte - b'0');
+    }
+    Some(number)
+}
+
+// Whether a field has 1 to 18 bytes, and more than one only where the first is not 0.
+fn may_be_digits(text: &[u8]) -> bool
+    ensures some { result ≡ true → 1 ≤ length text.now }
+    ensures few { result ≡ true → length text.now ≤ 18 }
+    ensures first { result ≡ true → slice_index_or text.now 0 0 ≡ 48 → length text.now ≡ 1 }
+{
+    match text {
+        [] => false,
+        [_] => true,
+        [first, ..] => text.len() <= 18 && *first != b'0',
+    }
+}
+
+// The number of 64 bits that a field is, of any spelling.
+fn parsed_number_of(text: &[u8]) -> Option<i64>
     ensures { result ≡ spec.wide_number_of text.now }
 {
     let Ok(word) = str::from_utf8(text) else {
