@@ -65,7 +65,7 @@ pub record LinesLead : Type 0 where
   pub places : (members : GroupLook) (c : Core) (q : OnPath) (axis : ℕ) →
       path_taken members c ≡ Some q → axis < q.way.count → q.way.count ≤ 6 →
       length members.setpoints ≡ 6 → coordinate_of (step_of members c).places axis ≡ place_on q.way
-          axis q.motion.place
+      axis q.motion.place
   pub done : (members : GroupLook) (c : Core) (w : Wanted) → IsCoreKept (limits_in members) c →
       c.group.active ≡ Some w →
       (cycle_fate members c).ends ≡ Some finish.Done → IsDoneOn members c w
@@ -77,7 +77,7 @@ abbrev pub PathsAreFollowed : Type 0
 PathsAreFollowed = (look : AxisLook) (c : axis_cores.Core) → axis.IsCoreKept c →
     axis.IsLook c.axis look → is_on_path c.axis ≡ true →
     nat_eq (answer_error_of c.axis look.input) 0 ≡ true →
-        GoesAlong c.axis look (core_after_cycle look c)
+    GoesAlong c.axis look (core_after_cycle look c)
 
 pub record DoneLaws : Type 0 where
   pub groups : GroupLaws
@@ -145,7 +145,7 @@ toward_by laws c h = record {
   power_off = laws.lines.power_off c h;
   command = λ owner w jerk members x e looks made kept.
       laws.lines.command w jerk members x
-          (subst IsGoing (sym e) (laws.lines.detach owner c.group c.path h));
+      (subst IsGoing (sym e) (laws.lines.detach owner c.group c.path h));
 }
 
 toward_lasts : DoneLaws → IsLasting IsGoing
@@ -160,11 +160,11 @@ toward_after : DoneLaws → (s : Setup) (cycles : ℕ) (m : Machine) (e : Entry)
     IsGoing (group_core_at m j) → IsGoing (group_core_at (after s m e) j)
 toward_after laws s cycles m (call k i reply) j whole h is l goes =
     by_call (λ f x. IsGoing x) s m k i j (toward_by laws (group_core_at m j) goes) (there s m j h l)
-        (λ b e. laws.groups.may_call s k b i m whole e is.0 h) h
+    (λ b e. laws.groups.may_call s k b i m whole e is.0 h) h
 toward_after laws s cycles m (cycle c rows grows) j whole h is l goes =
     by_cycle IsGoing (toward_lasts laws) s m (inputs_of rows) j h l
-        (λ looking. laws.lines.cycle (look_of_group s m (inputs_of rows) j)
-        (group_core_at m j) goes)
+    (λ looking. laws.lines.cycle (look_of_group s m (inputs_of rows) j)
+    (group_core_at m j) goes)
 toward_after laws s cycles m (end_of task) j whole h is l goes = goes
 
 toward_kept : DoneLaws → (s : Setup) (cycles : ℕ) (m : Machine) (es : List Entry) (j : ℕ) →
@@ -175,7 +175,7 @@ toward_kept laws s cycles m (e ∷ es) j whole h f l goes =
     let sizes = h.sized in
     let size = sizes.groups in
     toward_kept laws s (cycles + cycle_count e) (after s m e) es j whole
-        (kept_after laws.groups s cycles m e whole h f.0) f.1 l
+    (kept_after laws.groups s cycles m e whole h f.0) f.1 l
     (toward_after laws s cycles m e j whole h f.0 (omega arith) goes)
 
 nowhere : (active : Option Wanted) (o : Option OnPath) → o ≡ None → IsToward active o
@@ -190,9 +190,9 @@ pub toward_here : DoneLaws → (s : Setup) (es : List Entry) (j : ℕ) → IsSet
 toward_here laws s es j setup whole f l =
     let m = machine_at_opening s in
     let off : (group_at m j).path ≡ None =
-        ap (λ g. g.path) (get_or-map group_at_opening s.groups j no_def no_group l) in
+    ap (λ g. g.path) (get_or-map group_at_opening s.groups j no_def no_group l) in
     toward_kept laws s 0 m es j whole (laws.groups.machines.opened s setup whole) f l
-        (nowhere (group_at m j).group.active (group_at m j).path off)
+    (nowhere (group_at m j).group.active (group_at m j).path off)
 
 -- what an axis of a group looks at
 look_input : (s : Setup) (around : Surroundings) (m : Machine) (n : ℕ) →
@@ -209,10 +209,10 @@ look_path s around m n = refl
 at_end : DoneLaws → (s : Setup) (m : Machine) (ins : List DriveIn) (j place : ℕ) (w : Wanted) →
     IsMachineKept s m → j < length m.groups → place < length (members_at s j) →
     IsGoing (group_core_at m j) → (group_at m j).group.active ≡ Some w →
-        IsDoneOn (look_of_group s m ins j) (group_core_at m j) w →
+    IsDoneOn (look_of_group s m ins j) (group_core_at m j) w →
     let a = axis_at (after_cycle s m ins) (member_at (members_at s j) place) in
     (a.previous ≡ a.setpoint) × (w.kind ≡ kind.MoveLinearAbsolute →
-        a.setpoint ≡ coordinate_of w.targets place)
+    a.setpoint ≡ coordinate_of w.targets place)
 at_end laws s m ins j place w h l k goes active done =
     let members = members_at s j in
     let n = member_at members place in
@@ -239,42 +239,42 @@ at_end laws s m ins j place w h l k goes active done =
     let stands = (a.placed.on on).stands in
     let its = (a.placed.on on).on in
     let fine : error_of_group s m ins j ≡ 0 = sym one.error ∙ ap (λ (y : GroupLook). y.error) is
-        ∙ done.fine in
+    ∙ done.fine in
     let none = none_fails m.axes ins members place fine k in
     let alright : nat_eq (answer_error_of (axis_at m n) look.input) 0 ≡ true =
     subst (λ y. nat_eq (answer_error_of (axis_at m n) y) 0 ≡ true)
-        (sym (look_input s (around_in s ins m) _ n)) none in
+    (sym (look_input s (around_in s ins m) _ n)) none in
     let along = laws.follows look (axis_core_at m n) through.kept through.fits on alright in
     let step : step_at (around_in s ins m).steps j ≡ step_of seen x =
-        one.step ∙ ap (λ y. step_of y x) is in
+    one.step ∙ ap (λ y. step_of y x) is in
     let asked : look.path ≡ Some (coordinate_of (step_of seen x).places place) =
     look_path s (around_in s ins m) _ n ∙ ap (λ o. place_asked o (around_in s ins m).steps) a.found
     ∙ ap (λ y. Some (coordinate_of y.places place)) step in
     let six : length seen.setpoints ≡ 6 = ap (λ (y : GroupLook). length y.setpoints) (sym is)
-        ∙ fits.six in
+    ∙ fits.six in
     let wide : done.after.way.count ≡ done.before.way.count = ap (λ y. y.count) way in
     let at = laws.lines.places seen x done.after place done.takes (omega arith) (omega arith) six in
     let there_is : Some (core_after_cycle look (axis_core_at m n)).axis.setpoint ≡ Some
-        (coordinate_of (step_of seen x).places place) = sym along.place ∙ asked in
+    (coordinate_of (step_of seen x).places place) = sym along.place ∙ asked in
     let now : (core_after_cycle look (axis_core_at m n)).axis.setpoint ≡ coordinate_of
-        (step_of seen x).places place = cc in
+    (step_of seen x).places place = cc in
     let setpoint : (axis_at (after_cycle s m ins) n).setpoint ≡ place_on done.after.way place
-        done.after.motion.place =
+    done.after.motion.place =
     ap (λ (y : Axis). y.setpoint) through.after ∙ now ∙ at in
     let before_is : Some (a.placed.on on).path ≡ Some done.before = sym its ∙ done.path in
     let it : (a.placed.on on).path ≡ done.before = cc in
     let stood : (axis_at m n).setpoint ≡ place_on done.before.way place done.before.motion.place =
-        stands.now_is ∙ ap (λ (p : OnPath). place_on p.way place p.motion.place) it in
+    stands.now_is ∙ ap (λ (p : OnPath). place_on p.way place p.motion.place) it in
     let previous : (axis_at (after_cycle s m ins) n).previous ≡ place_on done.after.way place
-        done.after.motion.previous =
+    done.after.motion.previous =
     ap (λ (y : Axis). y.previous) through.after ∙ along.previous ∙ stood
     ∙ ap (λ y. place_on y place done.before.motion.place) (sym way) ∙ ap
-        (place_on done.after.way place) (sym same.previous) in (
+    (place_on done.after.way place) (sym same.previous) in (
       previous ∙ ap (place_on done.after.way place) (sym done.rests) ∙ sym setpoint,
       λ line. setpoint ∙ ap (λ y. place_on y place done.after.motion.place) way ∙ ap
           (place_on done.before.way place) (done.ends line)
           ∙ laws.lines.ends (map (limits_of s) members) (group_at m j).group.axes done.before path
-              place (omega arith)
+          place (omega arith)
           ∙ ap (λ ts. coordinate_of ts place) (goes w done.before active line done.path),
     )
 
@@ -283,16 +283,16 @@ pub done_there : DoneLaws →
     (s : Setup) (cycles : ℕ) (m : Machine) (e : Entry) (j : ℕ) (w : Wanted) → AreWhole s →
     IsMachineKept s m → IsOf s cycles m e → j < length m.groups →
     IsGoing (group_core_at m j) → (group_at m j).group.active ≡ Some w →
-        (group_fate s m e j).ends ≡ Some finish.Done → AreAtEnd s (after s m e) j w
+    (group_fate s m e j).ends ≡ Some finish.Done → AreAtEnd s (after s m e) j w
 done_there laws s cycles m (call k i reply) j w whole h is l goes active done =
     absurd (by_call (λ f x. IsNotDone f) s m k i j (not_done_by (group_core_at m j))
-        (there s m j h l) (λ b e. laws.groups.may_call s k b i m whole e is.0 h) h done)
+    (there s m j h l) (λ b e. laws.groups.may_call s k b i m whole e is.0 h) h done)
 done_there laws s cycles m (cycle c rows grows) j w whole h is l goes active done =
     let ins = inputs_of rows in
     let stepped = have_stepped s m ins (length m.groups) h (omega arith) in
     let one = stepped.each j l in
     let kept = subst (λ y. IsCoreKept (limits_in y) (group_core_at m j)) one.is one.looking.kept in
     λ place b. at_end laws s m ins j place w h l b goes active
-        (laws.lines.done (look_of_group s m ins j) (group_core_at m j) w kept active done)
+    (laws.lines.done (look_of_group s m ins j) (group_core_at m j) w kept active done)
 done_there laws s cycles m (end_of task) j w whole h is l goes active done =
     absurd (going_not_done done)
