@@ -1,0 +1,440 @@
+"""Reads a trace of `motion`, versions 1 and 2, as a stream in constant memory.
+
+    trace = Trace(lines_of("run.trace"))
+    trace.machine                       # the version, axes with their limits, groups, blocks
+    for cycle in trace.cycles():        # one Cycle after another
+        cycle.number, cycle.calls, cycle.rows["X"].setpoint, cycle.groups["G"].state
+    trace.last_calls, trace.drives      # behind the last cycle; there once cycles() has ended
+
+All numbers are whole numbers in an axis's internal units, per cycle; counts of a drive are in its
+increments. A text that is no trace ends the reading with a TraceError, which names the record.
+What is read stands in docs/formats.md, "A trace". Ranges of numbers are not tested but for their
+digits, nor whether the history is one that the machine would have made.
+"""
+
+import csv
+import os
+import re
+import sys
+import time
+from typing import Callable, NamedTuple, Optional
+
+LONGEST_LINE = 1 << 18      # characters; a cam table of 4,096 points has less
+SECONDS_OF_SILENCE = 2.0    # between two lines of progress
+
+AXIS_STATES = ("Disabled", "Standstill", "Homing", "Stopping", "DiscreteMotion",
+               "ContinuousMotion", "SynchronizedMotion", "ErrorStop")
+GROUP_STATES = ("GroupDisabled", "GroupStandby", "GroupMoving", "GroupStopping", "GroupErrorStop")
+DRIVE_STATES = ("NotReady", "SwitchOnDisabled", "ReadyToSwitchOn", "SwitchedOn",
+                "OperationEnabled", "QuickStopActive", "FaultReactionActive", "Fault")
+BUFFER_MODES = ("aborting", "buffered", "blendingLow", "blendingPrevious", "blendingNext",
+                "blendingHigh")
+BLOCK_KINDS = ("Power", "Reset", "Home", "Stop", "Halt", "MoveAbsolute", "MoveRelative",
+               "MoveVelocity", "GearIn", "GearOut", "CamIn", "CamOut", "GroupEnable",
+               "GroupDisable", "GroupReset", "GroupStop", "GroupHalt", "MoveLinearAbsolute",
+               "MoveCircularAbsolute")
+
+
+class TraceError(Exception):
+    """A text is no trace, from this record on (counted from 1; 0 of an empty text)."""
+
+    def __init__(self, record: int, reason: str):
+        super().__init__(f"record {record}: {reason}")
+        self.record = record
+
+
+class ReadFault(Exception):
+    """A file couldn't be read."""
+
+
+# What a trace tells, with its fields in the order of the record.
+
+class Header(NamedTuple):
+    version: int
+    maker: str              # bench or run
+    cycles: int             # the most cycles
+    entries: int            # the most entries of the history
+
+
+class Axis(NamedTuple):
+    name: str
+    lo: int
+    hi: int
+    vmax: int
+    amax: int
+    dmax: int               # in version 1 as amax
+    inc: int                # internal units in an increment of the drive
+    start: int
+    ready: bool
+
+
+class Group(NamedTuple):
+    name: str
+    axes: tuple             # names
+
+
+class Block(NamedTuple):
+    name: str
+    task: str
+    kind: str
+    on: str                 # an axis or a group
+
+
+class Call(NamedTuple):
+    """A call of a block; an input that the block's kind doesn't take is None."""
+    block: str
+    execute: bool
+    positions: Optional[tuple]
+    velocity: Optional[int]
+    acceleration: Optional[int]
+    deceleration: Optional[int]
+    jerk: Optional[int]
+    mode: Optional[str]
+    follow: Optional[str]   # MASTER:NUM:DEN or MASTER:TABLE
+    outputs: str            # the letters of B A D C E R that are true
+    error: int
+
+
+class Row(NamedTuple):
+    """What an axis and its drive tell each other in a cycle."""
+    axis: str
+    statusword: int
+    actual: int             # increments
+    mode: int
+    state: str
+    error: int
+    driven: bool
+    setpoint: int
+    controlword: int
+    target: int             # increments
+    place: Optional[int]    # that the drive reported, in internal units; None in version 1
+
+
+class GroupRow(NamedTuple):
+    group: str
+    state: str
+    error: int
+
+
+class Drive(NamedTuple):
+    axis: str
+    taken: int              # setpoints that the drive took
+    state: str
+    actual: int             # increments
+
+
+class Machine(NamedTuple):
+    version: int
+    maker: str
+    axes: list
+    groups: list
+    tables: list            # of lists of points (x, y)
+    tasks: list             # of names
+    blocks: list
+
+
+class Cycle(NamedTuple):
+    number: int
+    calls: list             # since the cycle before
+    ends: list              # tasks that ended since the cycle before
+    rows: dict              # by the name of the axis
+    groups: dict            # rows of groups, by the name of the group
+    record: int             # where it begins
+
+
+# The columns: how a value is spelled, what it is in words, and how it is read.
+
+class Column(NamedTuple):
+    pattern: str
+    words: str
+    value: Callable
+
+
+def one_of(*values):
+    """The column of these words."""
+    return Column("|".join(values), "one of " + ", ".join(values), sys.intern)
+
+
+def optional(column):
+    """The column whose values may be left out, which gives None."""
+    return Column("|" + column.pattern, column.words + ", or nothing",
+                  lambda text: column.value(text) if text else None)
+
+
+def joined(column):
+    """The column of one value or more, joined by semicolons, which gives a tuple."""
+    item = f"(?:{column.pattern})"
+    return Column(f"{item}(?:;{item})*", f"{column.words}, one or more joined by ;",
+                  lambda text: tuple(map(column.value, text.split(";"))))
+
+
+DIGITS = "0|-?[1-9][0-9]{0,18}"
+NAME = Column("[A-Za-z][A-Za-z0-9_]{0,15}", "a name", sys.intern)
+NUMBER = Column(DIGITS, "a whole number", int)
+COUNT = Column("0|[1-9][0-9]{0,9}", "a whole number from 0", int)
+WORD = Column("[0-9a-f]{4}", "four hexadecimal digits", lambda text: int(text, 16))
+TRUTH = Column("[01]", "0 or 1", "1".__eq__)
+POINT = Column(f"(?:{DIGITS}):(?:{DIGITS})", "X:Y",
+               lambda text: tuple(map(int, text.split(":"))))
+FOLLOWED = Column(f"{NAME.pattern}:(?:{DIGITS})(?::(?:{DIGITS}))?", "MASTER:NUM:DEN or "
+                  "MASTER:TABLE", str)
+OUTPUTS = Column("B?A?D?C?E?R?", "letters of B A D C E R in this order", sys.intern)
+
+AXIS = [("name", NAME)] + [(name, NUMBER) for name in ("lo", "hi", "vmax", "amax")]
+AXIS_END = [("inc", NUMBER), ("start", NUMBER), ("ready", TRUTH)]
+ROW = [("axis", NAME), ("statusword", WORD), ("actual position", NUMBER), ("mode", NUMBER),
+       ("state", one_of(*AXIS_STATES)), ("ErrorID", COUNT), ("driven", TRUTH),
+       ("setpoint", NUMBER), ("controlword", WORD), ("target", NUMBER)]
+FORMS = {
+    "trace": [("version", one_of("1", "2")), ("maker", one_of("bench", "run")),
+              ("cycles", COUNT), ("entries", COUNT)],
+    "group": [("name", NAME), ("axes", joined(NAME))],
+    "table": [("points", joined(POINT))],
+    "task": [("name", NAME)],
+    "block": [("name", NAME), ("task", NAME), ("kind", one_of(*BLOCK_KINDS)),
+              ("axis or group", NAME)],
+    "call": [("block", NAME), ("Execute", TRUTH), ("positions", optional(joined(NUMBER))),
+             ("velocity", optional(NUMBER)), ("acceleration", optional(NUMBER)),
+             ("deceleration", optional(NUMBER)), ("jerk", optional(NUMBER)),
+             ("mode", optional(one_of(*BUFFER_MODES))), ("follow", optional(FOLLOWED)),
+             ("outputs", OUTPUTS), ("ErrorID", COUNT)],
+    "cycle": [("number", COUNT)],
+    "grow": [("group", NAME), ("state", one_of(*GROUP_STATES)), ("ErrorID", COUNT)],
+    "end": [("task", NAME)],
+    "drive": [("axis", NAME), ("setpoints taken", COUNT), ("state", one_of(*DRIVE_STATES)),
+              ("actual position", NUMBER)],
+}
+FORMS_OF_VERSION = {
+    1: {"axis": AXIS + AXIS_END, "row": ROW},
+    2: {"axis": AXIS + [("dmax", NUMBER)] + AXIS_END, "row": ROW + [("place", NUMBER)]},
+}
+HEADER = "kind,a,b,c,d,e,f,g,h,i,j,k".split(",")
+ITEMS = ("axis", "group", "table", "task", "block")
+
+
+class Form:
+    """The form of the records of one kind: reads their values, or says which field has none."""
+
+    def __init__(self, kind, columns):
+        self.kind, self.columns = kind, columns
+        self.values = [column.value for _, column in columns]
+        self.pattern = re.compile(
+            ",".join([kind] + [f"({column.pattern})" for _, column in columns])
+            + "," * (11 - len(columns)))
+
+    def read(self, number, record):
+        """The values of a record of twelve fields."""
+        match = self.pattern.fullmatch(",".join(record))
+        if match is None:
+            raise TraceError(number, f"{self.kind}: {self.fault(record)}")
+        return [value(text) for value, text in zip(self.values, match.groups())]
+
+    def fault(self, record):
+        """What is wrong with a record that isn't of this form."""
+        for (name, column), text in zip(self.columns, record[1:]):
+            if not re.fullmatch(column.pattern, text):
+                return f"the {name} is {text!a}, and not {column.words}"
+        return "a field that isn't used is filled"
+
+
+class Trace:
+    """A trace that is read from lines of text: the machine at once, the cycles one by one."""
+
+    def __init__(self, lines):
+        self._records = csv.reader(lines)
+        csv.field_size_limit(LONGEST_LINE)
+        self._number = 0
+        self._forms = {kind: Form(kind, columns) for kind, columns in FORMS.items()}
+        self.last_calls, self.last_ends, self.drives = [], [], []
+        self._advance()
+        if self._kind() != "kind" or self._record != HEADER:
+            raise self._error(f"the first record isn't the header {','.join(HEADER)}")
+        self._advance()
+        self.header = self._read_header()
+        self.machine = self._read_machine()
+
+    # Records
+
+    def _advance(self):
+        """Goes to the next record; None behind the last one. Blank lines are no records."""
+        try:
+            self._record = next(filter(None, self._records), None)
+        except csv.Error as error:
+            raise TraceError(self._number + 1, str(error)) from None
+        if self._record is None:
+            return
+        self._number += 1
+        if len(self._record) != 12:
+            raise self._error(f"it has {len(self._record)} fields, and not twelve")
+
+    def _error(self, reason):
+        return TraceError(self._number, reason)
+
+    def _kind(self):
+        """The kind of the record that stands next."""
+        if self._record is None:
+            raise self._error("the text ends too early, behind this record" if self._number
+                              else "the text is empty")
+        return self._record[0]
+
+    def _take(self, kind):
+        """The values of the record that stands next, which has to be of this kind."""
+        if self._kind() != kind:
+            raise self._error(f"a record {self._record[0]!a} stands where a {kind} belongs")
+        values = self._forms[kind].read(self._number, self._record)
+        self._advance()
+        return values
+
+    # The machine
+
+    def _read_header(self):
+        version, maker, cycles, entries = self._take("trace")
+        header = Header(int(version), maker, cycles, entries)
+        for kind, columns in FORMS_OF_VERSION[header.version].items():
+            self._forms[kind] = Form(kind, columns)
+        return header
+
+    def _read_machine(self):
+        """The items, in their order; there are an axis, a task and a block at least."""
+        machine = Machine(self.header.version, self.header.maker, [], [], [], [], [])
+        lists = dict(zip(ITEMS, machine[2:]))
+        for kind in ITEMS:
+            while self._kind() == kind:
+                number = self._number
+                self._add_item(number, kind, self._take(kind), machine, lists[kind])
+        for kind in ("axis", "task", "block"):
+            if not lists[kind]:
+                raise self._error(f"a machine without {kind} stands before this record")
+        return machine
+
+    def _add_item(self, number, kind, values, machine, items):
+        """Adds an item whose name is new and which names what is there."""
+        item = self._item_of(kind, values)
+        if kind != "table":
+            name = item if kind == "task" else item.name
+            if name in names_of(machine):
+                raise TraceError(number, f"{kind}: the name {name} is used already")
+        for name, known in names_told(kind, item, machine):
+            if name not in known:
+                raise TraceError(number, f"{kind}: there is no {name} on which it could be")
+        items.append(item)
+
+    def _item_of(self, kind, values):
+        if kind == "axis":
+            if self.header.version == 1:
+                values.insert(5, values[4])
+            return Axis(*values)
+        if kind == "group":
+            return Group(*values)
+        if kind == "block":
+            return Block(*values)
+        return list(values[0]) if kind == "table" else values[0]
+
+    # Entries
+
+    def cycles(self):
+        """Gives each cycle as a Cycle; behind the last one the drives' records are read."""
+        blocks = {block.name for block in self.machine.blocks}
+        calls, ends = [], []
+        while True:
+            kind = self._kind()
+            if kind == "cycle":
+                yield self._read_cycle(calls, ends)
+                calls, ends = [], []
+            elif kind == "call":
+                calls.append(self._read_call(blocks))
+            elif kind == "end":
+                ends.append(self._read_end())
+            else:
+                break
+        self.last_calls, self.last_ends = calls, ends
+        self._read_drives()
+
+    def _read_call(self, blocks):
+        number = self._number
+        call = Call(*self._take("call"))
+        if call.block not in blocks:
+            raise TraceError(number, f"call: there is no block {call.block}")
+        return call
+
+    def _read_end(self):
+        number = self._number
+        task, = self._take("end")
+        if task not in self.machine.tasks:
+            raise TraceError(number, f"end: there is no task {task}")
+        return task
+
+    def _read_cycle(self, calls, ends):
+        """A cycle, with a row for each axis and each group, in their order."""
+        record = self._number
+        number, = self._take("cycle")
+        rows = {axis.name: self._take_row(axis.name) for axis in self.machine.axes}
+        groups = {group.name: GroupRow(*self._take_of("grow", group.name))
+                  for group in self.machine.groups}
+        return Cycle(number, calls, ends, rows, groups, record)
+
+    def _take_row(self, axis):
+        values = self._take_of("row", axis)
+        if self.header.version == 1:
+            values.append(None)
+        return Row(*values)
+
+    def _take_of(self, kind, name):
+        """The values of the record of this kind that belongs to this axis or group."""
+        number = self._number
+        values = self._take(kind)
+        if values[0] != name:
+            raise TraceError(number, f"{kind}: it is of {values[0]}, and not of {name}")
+        return values
+
+    def _read_drives(self):
+        for axis in self.machine.axes:
+            self.drives.append(Drive(*self._take_of("drive", axis.name)))
+        if self._record is not None:
+            raise self._error(f"a record {self._record[0]!a} stands behind the drives")
+
+
+def names_of(machine):
+    """The names that are used so far."""
+    return ({item.name for items in (machine.axes, machine.groups, machine.blocks)
+             for item in items} | set(machine.tasks))
+
+
+def names_told(kind, item, machine):
+    """What an item names, each with the names that are there for it."""
+    axes = [axis.name for axis in machine.axes]
+    if kind == "group":
+        return [(name, axes) for name in item.axes]
+    if kind == "block":
+        groups = [group.name for group in machine.groups]
+        acts_on_group = item.kind.startswith("Group") or item.kind.endswith("arAbsolute")
+        return [(item.task, machine.tasks), (item.on, groups if acts_on_group else axes)]
+    return []
+
+
+def lines_of(name, progress=sys.stderr):
+    """The lines of a file, or of the standard input where the name is `-`. Where reading takes
+    longer than two seconds, what was read so far is told on `progress` every two seconds. Raises
+    ReadFault where the file can't be read, TraceError where a line is too long for any record."""
+    try:
+        source = 0 if name == "-" else name
+        with open(source, encoding="utf-8-sig", errors="surrogateescape", newline="") as file:
+            yield from bounded_lines(file, name, progress)
+    except OSError as error:
+        raise ReadFault(f"cannot read {name}: {error.strerror}") from None
+
+
+def bounded_lines(file, name, progress):
+    """The lines of an open file, with its progress."""
+    total = os.fstat(file.fileno()).st_size
+    told, read, count = time.monotonic(), 0, 0
+    while line := file.readline(LONGEST_LINE):
+        count += 1
+        read += len(line)
+        if len(line) == LONGEST_LINE:
+            raise TraceError(count, "the line is too long")
+        if count % 4096 == 0 and time.monotonic() - told > SECONDS_OF_SILENCE:
+            told = time.monotonic()
+            of_total = f" of {total / 1e6:.0f}" if total else ""
+            print(f"{name}: {read / 1e6:.0f}{of_total} MB read", file=progress, flush=True)
+        yield line
