@@ -49,13 +49,6 @@ class ReadFault(Exception):
 
 # What a trace tells, with its fields in the order of the record.
 
-class Header(NamedTuple):
-    version: int
-    maker: str              # bench or run
-    cycles: int             # the most cycles
-    entries: int            # the most entries of the history
-
-
 class Axis(NamedTuple):
     name: str
     lo: int
@@ -124,8 +117,10 @@ class Drive(NamedTuple):
 
 
 class Machine(NamedTuple):
-    version: int
-    maker: str
+    version: int            # of the trace: 1 or 2
+    maker: str              # bench or run
+    cycles: int             # the most cycles
+    entries: int            # the most entries of the history
     axes: list
     groups: list
     tables: list            # of lists of points (x, y)
@@ -212,6 +207,11 @@ HEADER = "kind,a,b,c,d,e,f,g,h,i,j,k".split(",")
 ITEMS = ("axis", "group", "table", "task", "block")
 
 
+def shown(text):
+    """A field in quotes, of which at most 40 characters are shown."""
+    return ascii(text if len(text) <= 40 else text[:40] + "..")
+
+
 class Form:
     """The form of the records of one kind: reads their values, or says which field has none."""
 
@@ -233,7 +233,7 @@ class Form:
         """What is wrong with a record that isn't of this form."""
         for (name, column), text in zip(self.columns, record[1:]):
             if not re.fullmatch(column.pattern, text):
-                return f"the {name} is {text!a}, and not {column.words}"
+                return f"the {name} is {shown(text)}, and not {column.words}"
         return "a field that isn't used is filled"
 
 
@@ -241,94 +241,91 @@ class Trace:
     """A trace that is read from lines of text: the machine at once, the cycles one by one."""
 
     def __init__(self, lines):
-        self._records = csv.reader(lines)
         csv.field_size_limit(LONGEST_LINE)
-        self._number = 0
+        self._records = filter(None, csv.reader(lines))     # blank lines are no records
+        self._number = 0                                    # of the record that stands next
+        self._taken = 0                                     # of the one that was taken last
         self._forms = {kind: Form(kind, columns) for kind, columns in FORMS.items()}
         self.last_calls, self.last_ends, self.drives = [], [], []
         self._advance()
         if self._kind() != "kind" or self._record != HEADER:
-            raise self._error(f"the first record isn't the header {','.join(HEADER)}")
+            raise self._misplaced(f"the header {','.join(HEADER)}")
         self._advance()
-        self.header = self._read_header()
         self.machine = self._read_machine()
 
     # Records
 
     def _advance(self):
-        """Goes to the next record; None behind the last one. Blank lines are no records."""
+        """Goes to the next record; None behind the last one."""
         try:
-            self._record = next(filter(None, self._records), None)
+            self._record = next(self._records, None)
         except csv.Error as error:
             raise TraceError(self._number + 1, str(error)) from None
         if self._record is None:
             return
         self._number += 1
         if len(self._record) != 12:
-            raise self._error(f"it has {len(self._record)} fields, and not twelve")
-
-    def _error(self, reason):
-        return TraceError(self._number, reason)
+            raise TraceError(self._number, f"it has {len(self._record)} fields, and not twelve")
 
     def _kind(self):
         """The kind of the record that stands next."""
         if self._record is None:
-            raise self._error("the text ends too early, behind this record" if self._number
-                              else "the text is empty")
+            reason = "the text ends too early, behind this record"
+            raise TraceError(self._number, reason if self._number else "the text is empty")
         return self._record[0]
+
+    def _misplaced(self, wanted):
+        """The refusal of the record that stands next, where another was wanted."""
+        return TraceError(self._number,
+                          f"{shown(self._record[0])} stands in the place of {wanted}")
 
     def _take(self, kind):
         """The values of the record that stands next, which has to be of this kind."""
         if self._kind() != kind:
-            raise self._error(f"a record {self._record[0]!a} stands where a {kind} belongs")
+            raise self._misplaced(f"a record {kind}")
         values = self._forms[kind].read(self._number, self._record)
+        self._taken = self._number
         self._advance()
         return values
 
-    # The machine
+    def _take_of(self, kind, name):
+        """The same of a record that has to belong to this axis or group."""
+        values = self._take(kind)
+        if values[0] != name:
+            raise self._refused(f"{kind}: it is of {values[0]}, and not of {name}")
+        return values
 
-    def _read_header(self):
-        version, maker, cycles, entries = self._take("trace")
-        header = Header(int(version), maker, cycles, entries)
-        for kind, columns in FORMS_OF_VERSION[header.version].items():
-            self._forms[kind] = Form(kind, columns)
-        return header
+    def _refused(self, reason):
+        """The refusal of the record that was taken last."""
+        return TraceError(self._taken, reason)
+
+    # The machine
 
     def _read_machine(self):
         """The items, in their order; there are an axis, a task and a block at least."""
-        machine = Machine(self.header.version, self.header.maker, [], [], [], [], [])
-        lists = dict(zip(ITEMS, machine[2:]))
-        for kind in ITEMS:
+        version, *others = self._take("trace")
+        for kind, columns in FORMS_OF_VERSION[int(version)].items():
+            self._forms[kind] = Form(kind, columns)
+        machine = Machine(int(version), *others, [], [], [], [], [])
+        for kind, items in zip(ITEMS, machine[4:]):
             while self._kind() == kind:
-                number = self._number
-                self._add_item(number, kind, self._take(kind), machine, lists[kind])
-        for kind in ("axis", "task", "block"):
-            if not lists[kind]:
-                raise self._error(f"a machine without {kind} stands before this record")
+                items.append(self._take_item(kind, machine))
+        for kind, items in zip(ITEMS, machine[4:]):
+            if kind in ("axis", "task", "block") and not items:
+                raise self._misplaced(f"a record {kind}, of which the machine has none")
         return machine
 
-    def _add_item(self, number, kind, values, machine, items):
-        """Adds an item whose name is new and which names what is there."""
-        item = self._item_of(kind, values)
+    def _take_item(self, kind, machine):
+        """The next item of the machine, whose name is new and which names what is there."""
+        item = item_of(kind, self._take(kind), machine.version)
         if kind != "table":
             name = item if kind == "task" else item.name
             if name in names_of(machine):
-                raise TraceError(number, f"{kind}: the name {name} is used already")
+                raise self._refused(f"{kind}: the name {name} is used already")
         for name, known in names_told(kind, item, machine):
             if name not in known:
-                raise TraceError(number, f"{kind}: there is no {name} on which it could be")
-        items.append(item)
-
-    def _item_of(self, kind, values):
-        if kind == "axis":
-            if self.header.version == 1:
-                values.insert(5, values[4])
-            return Axis(*values)
-        if kind == "group":
-            return Group(*values)
-        if kind == "block":
-            return Block(*values)
-        return list(values[0]) if kind == "table" else values[0]
+                raise self._refused(f"{kind}: it names {name}, which isn't there for it")
+        return item
 
     # Entries
 
@@ -342,32 +339,27 @@ class Trace:
                 yield self._read_cycle(calls, ends)
                 calls, ends = [], []
             elif kind == "call":
-                calls.append(self._read_call(blocks))
+                calls.append(Call(*self._take_known("call", blocks)))
             elif kind == "end":
-                ends.append(self._read_end())
-            else:
+                ends += self._take_known("end", self.machine.tasks)
+            elif kind == "drive":
                 break
+            else:
+                raise self._misplaced("a record call, cycle, end or drive")
         self.last_calls, self.last_ends = calls, ends
         self._read_drives()
 
-    def _read_call(self, blocks):
-        number = self._number
-        call = Call(*self._take("call"))
-        if call.block not in blocks:
-            raise TraceError(number, f"call: there is no block {call.block}")
-        return call
-
-    def _read_end(self):
-        number = self._number
-        task, = self._take("end")
-        if task not in self.machine.tasks:
-            raise TraceError(number, f"end: there is no task {task}")
-        return task
+    def _take_known(self, kind, names):
+        """The values of a record whose block or task is one of these."""
+        values = self._take(kind)
+        if values[0] not in names:
+            raise self._refused(f"{kind}: there is no {values[0]}")
+        return values
 
     def _read_cycle(self, calls, ends):
         """A cycle, with a row for each axis and each group, in their order."""
-        record = self._number
         number, = self._take("cycle")
+        record = self._taken
         rows = {axis.name: self._take_row(axis.name) for axis in self.machine.axes}
         groups = {group.name: GroupRow(*self._take_of("grow", group.name))
                   for group in self.machine.groups}
@@ -375,23 +367,27 @@ class Trace:
 
     def _take_row(self, axis):
         values = self._take_of("row", axis)
-        if self.header.version == 1:
+        if self.machine.version == 1:
             values.append(None)
         return Row(*values)
-
-    def _take_of(self, kind, name):
-        """The values of the record of this kind that belongs to this axis or group."""
-        number = self._number
-        values = self._take(kind)
-        if values[0] != name:
-            raise TraceError(number, f"{kind}: it is of {values[0]}, and not of {name}")
-        return values
 
     def _read_drives(self):
         for axis in self.machine.axes:
             self.drives.append(Drive(*self._take_of("drive", axis.name)))
         if self._record is not None:
-            raise self._error(f"a record {self._record[0]!a} stands behind the drives")
+            raise self._misplaced("the end, behind the drives")
+
+
+def item_of(kind, values, version):
+    """The item of the machine that a record's values are."""
+    if kind == "axis":
+        dmax = [] if version == 2 else [values[4]]
+        return Axis(*values[:5], *dmax, *values[5:])
+    if kind == "group":
+        return Group(*values)
+    if kind == "block":
+        return Block(*values)
+    return list(values[0]) if kind == "table" else values[0]
 
 
 def names_of(machine):
