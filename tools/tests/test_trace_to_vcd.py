@@ -1,0 +1,132 @@
+"""Tests of the dumps for waveform viewers."""
+
+import io
+import shutil
+import subprocess
+import tempfile
+import unittest
+
+from tool_runner import CELL, EXAMPLES, HOMED, changed, run
+from motion_trace import Trace
+from vcd_checker import Dump, Fault
+
+CYCLE = 1_000_000       # nanoseconds, of a cycle of 1,000 microseconds
+
+
+def dump_of(path, *words, text=""):
+    """The dump of a trace that is written with a cycle of 1 ms."""
+    status, output, faults = run("trace_to_vcd", path, "--cycle-us", "1000", *words, text=text)
+    assert (status, faults) == (0, ""), faults
+    return Dump(output)
+
+
+class Dumping(unittest.TestCase):
+
+    def compare_rows(self, trace, dump):
+        """Each row of a trace stands in its dump, at the end of its cycle."""
+        for cycle in trace.cycles():
+            time = cycle.number * CYCLE
+            for name, row in cycle.rows.items():
+                wanted = row._asdict()
+                del wanted["axis"]
+                told = {field: dump.at(time, f"motion.{name}.{field}") for field in wanted}
+                self.assertEqual(told, wanted)
+            for name, row in cycle.groups.items():
+                self.assertEqual((dump.at(time, f"motion.{name}.state"),
+                                  dump.at(time, f"motion.{name}.error")), row[1:])
+
+    def test_rows_of_every_example(self):
+        for path in EXAMPLES.glob("*/*.trace"):
+            with self.subTest(path=path.name), open(path, encoding="ascii") as file:
+                self.compare_rows(Trace(file), dump_of(path))
+
+    def test_rows_of_version_2(self):
+        self.compare_rows(Trace(io.StringIO(HOMED)), dump_of("-", text=HOMED))
+
+    def test_timescale_and_times(self):
+        dump = dump_of("-", text=HOMED)
+        self.assertEqual(dump.timescale, "1 ns")
+        self.assertEqual((dump.times[0], dump.times[-1]), (0, 6 * CYCLE))
+        self.assertEqual(dump.at(0, "motion.A.setpoint"), 6)
+
+    def test_calls_are_events_between_cycles(self):
+        dump = dump_of("-", text=HOMED)
+        self.assertEqual(dump.events, [
+            (500000, "motion.main.M.call"), (3333333, "motion.main.M.call"),
+            (3666666, "motion.main.H.call"), (5500000, "motion.main.H.call")])
+        self.assertEqual(dump.at(500000, "motion.main.M.execute"), 1)
+        self.assertEqual(dump.at(500000, "motion.main.M.done"), 0)
+        self.assertEqual(dump.at(3333333, "motion.main.M.done"), 1)
+        self.assertEqual(dump.at(3333333, "motion.main.M.execute"), 0)
+
+    def test_errors_of_calls(self):
+        dump = dump_of(CELL)
+        time = next(time for time, name in dump.events
+                    if name == "motion.main.GEAR.call" and dump.at(time, name[:-4] + "error"))
+        self.assertEqual(dump.at(time, "motion.main.GEAR.error_id"), 101)
+
+    def test_velocities_and_user_units(self):
+        dump = dump_of("-", "--scale", "A=0.001mm", text=HOMED)
+        motion = [[dump.at(k * CYCLE, f"motion.A.{name}")
+                   for name in ("setpoint", "velocity", "acceleration", "place")]
+                  for k in range(1, 6)]
+        self.assertEqual(motion, [[.008, 2, 2000, .006], [.01, 2, 0, .008], [.01, 0, -2000, .01],
+                                  [.006, 0, 0, .006], [.006, 0, 0, .006]])
+
+    def test_numbers_below_zero(self):
+        text = HOMED.replace("1,10,000f,5,10", "1,10,000f,-5,10")
+        self.assertEqual(dump_of("-", text=text).at(3 * CYCLE, "motion.A.target"), -5)
+
+    def test_more_variables_than_characters(self):
+        blocks = "".join(f"block,M{i},main,MoveAbsolute,A,,,,,,,\n" for i in range(250))
+        dump = dump_of("-", text=changed("block,H", blocks + "block,H"))
+        self.assertEqual(len(dump.variables), 12 + 9 * 252)
+
+    @unittest.skipUnless(shutil.which("vcd2fst"), "vcd2fst, of GTKWave, isn't installed")
+    def test_gtkwave_reads_it(self):
+        _, output, _ = run("trace_to_vcd", CELL, "--cycle-us", "1000")
+        with tempfile.TemporaryDirectory() as folder:
+            with open(f"{folder}/cell.vcd", "w", encoding="ascii") as file:
+                file.write(output)
+            subprocess.run(["vcd2fst", f"{folder}/cell.vcd", f"{folder}/cell.fst"], check=True)
+            back = subprocess.run(["fst2vcd", f"{folder}/cell.fst"], check=True,
+                                  capture_output=True, encoding="ascii").stdout
+        self.assertIn("sSynchronizedMotion", back)
+
+
+class Refusing(unittest.TestCase):
+
+    def test_no_cycle_length(self):
+        status, _, faults = run("trace_to_vcd", CELL)
+        self.assertEqual(status, 2)
+        self.assertIn("--cycle-us", faults)
+
+    def test_cycles_that_do_not_rise(self):
+        status, _, faults = run("trace_to_vcd", "-", "--cycle-us", "1000",
+                                text=changed("cycle,3,", "cycle,2,"))
+        self.assertEqual((status, faults), (3, "trace_to_vcd: refused -: record 12: cycle 2 "
+                                               "stands behind cycle 2\n"))
+
+    def test_beginning_of_a_bad_trace_is_a_dump(self):
+        status, output, _ = run("trace_to_vcd", "-", "--cycle-us", "1000",
+                                text=changed("row,A,0037,4,", "row,A,0037,4.5,"))
+        self.assertEqual(status, 3)
+        self.assertEqual(Dump(output).times, [0, 500000, CYCLE])
+
+
+class Checking(unittest.TestCase):
+
+    def test_the_checker_refuses_what_is_no_dump(self):
+        _, output, _ = run("trace_to_vcd", "-", "--cycle-us", "1000", text=HOMED)
+        for old, new in (("$timescale 1 ns", "$timescale 2 ns"), ("$upscope $end\n", ""),
+                         ("#1000000\n", "#0\n"), ("r8 !", "r8!"), ("$var real", "$var reel"),
+                         ("b110111 ", "b10000000000000000 "), ("sStandstill ", "sStand still "),
+                         ("real 64 \" ", "real 64 ! "), ("$enddefinitions", "$end")):
+            with self.subTest(old=old):
+                self.assertIn(old, output)
+                with self.assertRaises((Fault, ValueError)):
+                    Dump(output.replace(old, new, 1))
+
+
+if __name__ == "__main__":
+    unittest.main()
