@@ -102,7 +102,8 @@ class Marks:
 
 @dataclass
 class Axis:
-    """An axis: its limits in internal units per cycle, and its cycles."""
+    """An axis: its limits in internal units per cycle, and its cycles. `origin` is its setpoint
+    before the first of them."""
 
     name: str
     lo: int
@@ -112,6 +113,8 @@ class Axis:
     dmax: int
     increment: int
     position: int
+    driven: bool
+    origin: int = 0
     lane: Lane = None
     marks: Marks = field(default_factory=Marks)
     velocity: int = 0
@@ -235,9 +238,12 @@ def read_axis(trace, number, fields):
     if trace.version == 1:
         numbers.insert(4, numbers[3])
     lo, hi, vmax, amax, dmax, increment, start = numbers
-    wanted(lo < hi and min(vmax, amax, dmax, increment) > 0, number, "limits out of their range")
+    ready = fields[8 if trace.version == 1 else 9]
+    wanted(lo < hi and min(vmax, amax, dmax, increment) > 0 and ready in ("0", "1"), number,
+           "limits out of their range")
     name = fresh(trace, number, fields[1])
-    trace.axes[name] = Axis(name, lo, hi, vmax, amax, dmax, increment, start, Lane(trace.limit))
+    trace.axes[name] = Axis(name, lo, hi, vmax, amax, dmax, increment, start, ready == "1",
+                            start, Lane(trace.limit))
 
 
 def read_group(trace, number, fields):
@@ -310,20 +316,37 @@ def awaited(trace, number, name):
 
 
 def read_row(trace, number, fields):
-    """The row of an axis: its velocity is the step of the setpoint from the row before, its
-    acceleration the change of the velocity. Where Home moved the coordinate there is no step."""
-    _, name, _, actual, _, state, error, _, setpoint, _, _, place = fields
+    """The row of an axis: where the axis is driven, and was in the row before, its velocity is the
+    step of the setpoint and its acceleration the change of that; else both are 0. Where Home moved
+    the coordinate there is no step."""
+    _, name, _, actual, _, state, error, driven, setpoint, _, _, place = fields
     awaited(trace, number, name)
     axis, setpoint = trace.axes.get(name), int(setpoint)
     wanted(axis is not None and state in AXIS_BITS, number, f"no axis state '{state}'")
-    velocity = 0 if axis.homed else setpoint - axis.position
-    reported = setpoint
-    if place or not axis.has_home:
-        reported, axis.has_reported = int(place or actual) * (1 if place else axis.increment), True
+    wanted(driven in ("0", "1"), number, f"driven is '{driven}'")
+    if axis.homed:
+        axis.position = setpoint
+    if trace.cycle == trace.first:
+        axis.origin = axis.position
+    goes_on = axis.driven and driven == "1"
+    velocity = setpoint - axis.position if goes_on else 0
+    acceleration = velocity - axis.velocity if goes_on else 0
     if trace.shown():
-        axis.lane.add(trace.cycle - trace.first, setpoint, velocity, velocity - axis.velocity,
-                      reported, AXIS_BITS[state], int(error))
-    axis.position, axis.velocity, axis.homed = setpoint, velocity, False
+        axis.lane.add(trace.cycle - trace.first, setpoint, velocity, acceleration,
+                      reported_place(axis, actual, place, setpoint), AXIS_BITS[state], int(error))
+    axis.position, axis.velocity, axis.homed, axis.driven = setpoint, velocity, False, driven == "1"
+
+
+def reported_place(axis, actual, place, setpoint):
+    """The place that the drive reported, in internal units. Version 1 has it in increments, without
+    the offset of a Home: there it is told of axes without a Home alone."""
+    if place:
+        axis.has_reported = True
+        return int(place)
+    if axis.has_home:
+        return setpoint
+    axis.has_reported = True
+    return int(actual) * axis.increment
 
 
 def read_grow(trace, number, fields):
