@@ -1,2 +1,62 @@
-def page(*_):
-    return ""
+"""The picture of a trace as one HTML file with zoom and a cursor, which loads nothing from outside."""
+
+import json
+from html import escape
+from pathlib import Path
+
+from trace_plot_reader import AXIS_STATES, GROUP_STATES
+from trace_plot_style import DARK, LIGHT, STATE_COLOURS
+from trace_plot_svg import PANELS, SHAPES, limits_of, spans, states_seen
+
+TEMPLATE = Path(__file__).with_name("trace_plot_page.html")
+LINES = (("position", 0), ("velocity", 2), ("acceleration", 4), ("reported", 6))
+
+
+def page(trace, units, title, whole=False):
+    """The text of the page: the template with its colours, its title and its numbers."""
+    text = TEMPLATE.read_text(encoding="utf-8")
+    data = json.dumps(page_data(trace, units, whole), separators=(",", ":"), ensure_ascii=False)
+    for mark, words in (("/*LIGHT*/", variables(LIGHT)), ("/*DARK*/", variables(DARK)),
+                        ("<!--TITLE-->", escape(title)), ("/*DATA*/", data.replace("<", "\\u003c"))):
+        text = text.replace(mark, words)
+    return text
+
+
+def variables(theme):
+    """A theme as CSS variables."""
+    return "".join(f"--{name}:{colour};" for name, colour in theme.items())
+
+
+def page_data(trace, units, whole):
+    """What the page's script draws."""
+    factor, name = units.of_time(trace.first + trace.cycles)
+    owners = [(owner, GROUP_STATES) for owner in trace.groups.values()]
+    owners += [(owner, AXIS_STATES) for owner in trace.axes.values()]
+    return {"first": trace.first, "cycles": trace.cycles, "timeFactor": factor, "timeName": name,
+            "whole": whole, "colours": STATE_COLOURS, "shapes": SHAPES,
+            "states": states_seen(trace),
+            "sections": [section(trace, units, owner, states) for owner, states in owners]}
+
+
+def section(trace, units, owner, states):
+    """An axis or a group: its states as spans, its marks, and the panels and lines of an axis."""
+    lane = owner.lane
+    columns = [(place * lane.width, min((place + 1) * lane.width, trace.cycles), column)
+               for place, column in enumerate(lane.columns)]
+    found = {"width": lane.width, "marks": owner.marks.in_order(), "strip": [
+        [start, end, *key] for start, end, key in spans(columns, lambda column: (
+            states[column[8].bit_length() - 1], column[9]))]}
+    if not hasattr(owner, "increment"):
+        return {**found, "title": f"Group {owner.name}: {', '.join(owner.members)}", "panels": []}
+    told = units.of_axis(owner.name)
+    panels = [{"name": name, "factor": told[name][0], "unit": told[name][1], "height": height,
+               "limits": limits_of(owner, name)} for name, _, height in PANELS]
+    return {**found, "title": f"Axis {owner.name}", "origin": owner.origin, "panels": panels,
+            "lines": {name: ends(lane, place) for name, place in LINES
+                      if name != "reported" or owner.has_reported}}
+
+
+def ends(lane, place):
+    """The least and the greatest values of a line, one list where no column has more than a cycle."""
+    return [[column[part] for column in lane.columns]
+            for part in ((place,) if lane.width == 1 else (place, place + 1))]

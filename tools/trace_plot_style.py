@@ -60,8 +60,13 @@ def read_scale(word):
 
 
 def number_text(value):
-    """A number as it is told."""
-    return f"{value + 0.0:.10g}" if value else "0"
+    """A number as it is told, with a power of ten where it has more than seven places."""
+    text = f"{value:.10g}" if value else "0"
+    if len(text.lstrip("-")) <= 7:
+        return text
+    digits, power = f"{value:.4e}".split("e")
+    short = f"{digits.rstrip('0').rstrip('.')}e{int(power)}"
+    return short if len(short) < len(text) else text
 
 
 def ticks(low, high, count):
@@ -73,12 +78,12 @@ def ticks(low, high, count):
 
 
 def view(least, greatest, limits, whole=False):
-    """From where to where a panel shows: the values, and each limit that leaves them a third of
-    the height, or all limits; where nothing moves, all limits too."""
+    """From where to where a panel shows: the values, and each limit that leaves them a quarter
+    of the height, or all limits; where nothing moves, all limits too."""
     low, high, moved = least, greatest, greatest - least
     for limit in sorted(limits, key=lambda limit: max(least - limit, limit - greatest)):
         wide = max(high, limit) - min(low, limit)
-        if whole or not moved or wide <= 3 * moved:
+        if whole or not moved or wide <= 4 * moved:
             low, high = min(low, limit), max(high, limit)
     margin = max((high - low) * 0.07, 1e-12)
     return low - margin, high + margin

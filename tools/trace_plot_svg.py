@@ -6,7 +6,7 @@ from xml.sax.saxutils import escape
 from trace_plot_reader import AXIS_STATES, GROUP_STATES, join
 from trace_plot_style import DARK, LIGHT, STATE_COLOURS, number_text, ticks, view
 
-LEFT, RIGHT, ROW, STRIP, GAP = 96, 140, 16, 18, 8
+LEFT, RIGHT, ROW, STRIP, GAP = 96, 150, 16, 18, 8
 PANELS = (("position", 0, 120), ("velocity", 2, 84), ("acceleration", 4, 84))
 KINDS = ("Call", "Done", "CommandAborted", "Error")
 SHAPES = {"Call": "m-5 -4h10l-5 9z", "Done": "m-4.5 0a4.5 4.5 0 1 0 9 0a4.5 4.5 0 1 0 -9 0z",
@@ -188,14 +188,15 @@ def thinned(sheet, lane):
 
 def draw_marks(sheet, owner):
     """The calls and their results, with labels where there is room; tells where they stand."""
-    placed, ends = [], []
-    for cycles, kind, label, count, told in owner.marks.in_order():
+    placed, ends, marks = [], [], owner.marks.in_order()
+    rows = LABEL_ROWS if len(marks) <= GUIDES else 1
+    for cycles, kind, label, count, told in marks:
         x = sheet.x(cycles - sheet.trace.first + 1)
         words = label + (f" and {count - 1} more" if count > 1 else "")
         left = x + 16 + 6.9 * len(words) > sheet.width
         wide = 10 + 6.9 * len(words)
-        row = place_row(ends, x - wide if left else x - 6, x + 8 if left else x + wide)
-        placed.append((x, kind, words if row < LABEL_ROWS else "", left, row,
+        row = place_row(ends, rows, x - wide if left else x - 6, x + 8 if left else x + wide)
+        placed.append((x, kind, words if row < rows else "", left, row,
                        f"behind cycle {cycles}: {told}" + words[len(label):]))
     for x, kind, words, left, row, told in placed:
         y = sheet.y + ROW * row + ROW / 2
@@ -206,16 +207,16 @@ def draw_marks(sheet, owner):
     return sorted({(x, kind) for x, kind, *_ in placed})
 
 
-def place_row(ends, start, end):
+def place_row(ends, rows, start, end):
     """The first row that is free from a place on; labels that find none have the one below."""
-    for row in range(LABEL_ROWS):
+    for row in range(rows):
         if row == len(ends):
             ends.append(end)
             return row
         if ends[row] <= start:
             ends[row] = end
             return row
-    return LABEL_ROWS
+    return rows
 
 
 def draw_shape(sheet, kind, x, y, told):
