@@ -33,7 +33,8 @@ def page_data(trace, units, whole):
     owners = [(owner, GROUP_STATES) for owner in trace.groups.values()]
     owners += [(owner, AXIS_STATES) for owner in trace.axes.values()]
     return {"first": trace.first, "cycles": trace.cycles, "timeFactor": factor, "timeName": name,
-            "whole": whole, "colours": STATE_COLOURS, "shapes": SHAPES,
+            "whole": whole, "width": max(owner.lane.width for owner, _ in owners),
+            "colours": STATE_COLOURS, "shapes": SHAPES,
             "states": states_seen(trace),
             "sections": [section(trace, units, owner, states) for owner, states in owners]}
 

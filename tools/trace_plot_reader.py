@@ -6,6 +6,7 @@ integers in an axis's internal units, per cycle. A record that can't be read rai
 """
 
 import csv
+import re
 from dataclasses import dataclass, field
 
 HEADER = "kind,a,b,c,d,e,f,g,h,i,j,k".split(",")
@@ -15,6 +16,7 @@ GROUP_STATES = ("GroupDisabled", "GroupStandby", "GroupHoming", "GroupMoving", "
                 "GroupErrorStop")
 RESULTS = (("E", "Error"), ("C", "CommandAborted"), ("D", "Done"))
 ORDER = ("axis", "group", "table", "task", "block", "entry", "drive")
+NAME = re.compile(r"[A-Za-z][A-Za-z0-9_]{0,15}")
 MARKS = 256
 PROGRESS = 1_000_000
 
@@ -225,9 +227,10 @@ def known(names, name, number):
 
 
 def fresh(trace, number, name):
-    """A name that is not used yet."""
+    """A name, which is not used yet."""
     used = (trace.axes, trace.groups, trace.tasks, trace.blocks)
-    wanted(name and not any(name in names for names in used), number, f"'{name}' is used")
+    wanted(NAME.fullmatch(name), number, f"'{name}' is no name")
+    wanted(not any(name in names for names in used), number, f"'{name}' is used")
     return name
 
 
