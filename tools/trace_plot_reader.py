@@ -337,7 +337,8 @@ def read_row(trace, number, fields):
     if trace.shown():
         axis.lane.add(trace.cycle - trace.first, setpoint, velocity, acceleration,
                       reported_place(axis, actual, place, setpoint), AXIS_BITS[state], int(error))
-    axis.position, axis.velocity, axis.homed, axis.driven = setpoint, velocity, False, driven == "1"
+    axis.position, axis.velocity = setpoint, velocity
+    axis.homed, axis.driven = state == "Homing", driven == "1"
 
 
 def reported_place(axis, actual, place, setpoint):

@@ -1,0 +1,232 @@
+"""Tests of tools/trace_plot: what is read, what is thinned, what is refused, and the pictures."""
+
+import io
+import json
+import re
+import subprocess
+import sys
+import unittest
+from pathlib import Path
+from xml.etree import ElementTree
+
+TOOLS = Path(__file__).resolve().parent.parent
+EXAMPLES = TOOLS.parent / "examples"
+sys.path.insert(0, str(TOOLS))
+
+import trace_plot_reader as reader  # noqa: E402
+import trace_plot_style as style  # noqa: E402
+
+HEAD = ["kind,a,b,c,d,e,f,g,h,i,j,k", "trace,2,bench,1000,2000,,,,,,,",
+        "axis,X,-50,500,10,4,8,2,0,1,,", "task,main,,,,,,,,,,", "block,M,main,MoveAbsolute,X,,,,,,,"]
+END = ["end,main,,,,,,,,,,", "drive,X,1,OperationEnabled,0,,,,,,,"]
+
+
+def row(cycle, setpoint, driven=1, state="DiscreteMotion", error=0, place=0):
+    """A cycle of one axis X."""
+    return [f"cycle,{cycle},,,,,,,,,,",
+            f"row,X,0037,0,8,{state},{error},{driven},{setpoint},000f,0,{place}"]
+
+
+def call(outputs, execute=1, error=0, block="M"):
+    """A call of a block."""
+    return [f"call,{block},{execute},20,6,2,2,0,aborting,,{outputs},{error}"]
+
+
+def read(*parts, head=None, **options):
+    """The trace of records."""
+    lines = [*(head or HEAD), *(line for part in parts for line in part), *END]
+    return reader.read_trace(io.StringIO("\n".join(lines) + "\n"), **options)
+
+
+def plot(*arguments, text=None):
+    """The tool's exit status, output and complaint."""
+    ran = subprocess.run([sys.executable, "-B", TOOLS / "trace_plot", *arguments], input=text,
+                         capture_output=True, check=False)
+    return ran.returncode, ran.stdout, ran.stderr.decode()
+
+
+class Reading(unittest.TestCase):
+    """What is taken from the records."""
+
+    def test_steps(self):
+        lane = read(row(1, 2), row(2, 6), row(3, 3)).axes["X"].lane
+        self.assertEqual([column[0] for column in lane.columns], [2, 6, 3])
+        self.assertEqual([column[2] for column in lane.columns], [2, 4, -3])
+        self.assertEqual([column[4] for column in lane.columns], [2, 2, -7])
+
+    def test_no_step_while_not_driven(self):
+        lane = read(row(1, 2), row(2, 9, driven=0, state="ErrorStop", error=101), row(3, 4),
+                    row(4, 6)).axes["X"].lane
+        self.assertEqual([column[2] for column in lane.columns], [2, 0, 0, 2])
+        self.assertEqual([column[9] for column in lane.columns], [0, 101, 0, 0])
+
+    def test_home_is_no_step(self):
+        head = HEAD + ["block,H,main,Home,X,,,,,,,"]
+        axis = read(["call,H,1,30,,,,,,,BA,0"], row(1, 30, state="Standstill"), row(2, 31),
+                    head=head).axes["X"]
+        self.assertEqual([column[2] for column in axis.lane.columns], [0, 1])
+        self.assertEqual(axis.origin, 30)
+
+    def test_version_one(self):
+        head = [HEAD[0], "trace,1,bench,1000,2000,,,,,,,", "axis,X,-50,500,10,4,2,0,1,,,", *HEAD[3:]]
+        axis = read(["cycle,1,,,,,,,,,,", "row,X,0037,3,8,DiscreteMotion,0,1,2,000f,1,"],
+                    head=head).axes["X"]
+        self.assertEqual((axis.amax, axis.dmax, axis.increment), (4, 4, 2))
+        self.assertEqual(axis.lane.columns[0][6], 6)
+
+    def test_reported_place(self):
+        axis = read(row(1, 2, place=-3)).axes["X"]
+        self.assertTrue(axis.has_reported)
+        self.assertEqual(axis.lane.columns[0][6:8], [-3, -3])
+
+    def test_marks(self):
+        trace = read(call("BA"), row(1, 2), call("BA"), row(2, 4), call("D"), call("D"),
+                     call("", execute=0), call("E", error=6))
+        marks = [mark[:3] for mark in trace.axes["X"].marks.in_order()]
+        self.assertEqual(marks, [(0, "Call", "M"), (2, "Done", "M Done"), (2, "Error", "M Error 6")])
+
+    def test_window(self):
+        trace = read(*(row(cycle, 2 * cycle) for cycle in range(1, 9)), first=3, last=5)
+        self.assertEqual(trace.cycles, 3)
+        self.assertEqual([column[0] for column in trace.axes["X"].lane.columns], [6, 8, 10])
+        self.assertEqual(trace.axes["X"].origin, 4)
+
+    def test_quotes_and_line_ends(self):
+        text = "\r\n".join(HEAD + row(1, 2) + END).replace("DiscreteMotion", '"DiscreteMotion"')
+        trace = reader.read_trace(io.StringIO(text.replace("task", "\r\ntask"), newline=""))
+        self.assertEqual(trace.cycles, 1)
+
+
+class Thinning(unittest.TestCase):
+    """The least and the greatest values are kept, in little room."""
+
+    def test_columns(self):
+        places = [(37 * cycle * cycle) % 401 for cycle in range(1000)]
+        lane = read(*(row(place + 1, value) for place, value in enumerate(places)),
+                    limit=100).axes["X"].lane
+        self.assertEqual((lane.width, len(lane.columns)), (16, 63))
+        for place, column in enumerate(lane.columns):
+            values = places[16 * place:16 * place + 16]
+            self.assertEqual(column[:2], [min(values), max(values)])
+
+    def test_marks(self):
+        parts = [part for cycle in range(1, 3001)
+                 for part in (call("BA"), call("", execute=0), row(cycle, 2))]
+        marks = read(*parts).axes["X"].marks.in_order()
+        self.assertLessEqual(len(marks), reader.MARKS)
+        self.assertEqual(sum(mark[3] for mark in marks), 3000)
+
+    def test_states(self):
+        parts = [row(cycle, 0, state="ErrorStop" if cycle == 7 else "Standstill",
+                     error=101 if cycle == 7 else 0) for cycle in range(1, 65)]
+        columns = read(*parts, limit=16).axes["X"].lane.columns
+        self.assertEqual([column[9] for column in columns], [0, 101] + [0] * 14)
+
+
+class Refusals(unittest.TestCase):
+    """A bad record is told by its number."""
+
+    def refused(self, lines, record):
+        with self.assertRaisesRegex(reader.TraceError, f"^record {record}: "):
+            reader.read_trace(io.StringIO("".join(line + "\n" for line in lines)))
+
+    def test_records(self):
+        for place, line in ((0, "kind"), (1, "trace,3,bench,1,1,,,,,,,"), (2, "axis,X"),
+                            (2, "axis,2X,-50,500,10,4,8,2,0,1,,"), (3, "task,X,,,,,,,,,,"),
+                            (4, "block,M,main,MoveAbsolute,Z,,,,,,,"), (5, "cycle,2,,,,,,,,,,"),
+                            (6, "row,X,0037,0,8,Nowhere,0,1,2,000f,0,0"),
+                            (6, "row,Y,0037,0,8,Standstill,0,1,2,000f,0,0"),
+                            (6, "row,X,0037,0,8,Standstill,0,1,two,000f,0,0"),
+                            (6, "end,main,,,,,,,,,,"), (7, "end,other,,,,,,,,,,"),
+                            (7, "call,N,1,,,,,,,,B,0"), (7, "what,,,,,,,,,,,"),
+                            (8, "drive,Y,1,OperationEnabled,0,,,,,,,")):
+            lines = HEAD + row(1, 2) + END
+            lines[place] = line
+            self.refused(lines, place + 1)
+
+    def test_too_early(self):
+        self.refused([], 0)
+        self.refused(HEAD, 5)
+        self.refused(HEAD + row(1, 2) + END[:1], 8)
+
+    def test_behind_the_drives(self):
+        self.refused(HEAD + row(1, 2) + END + ["end,main,,,,,,,,,,"], 10)
+
+    def test_statuses(self):
+        status, _, told = plot("-", text="\n".join(HEAD[:4] + ["a,b"]).encode())
+        self.assertEqual((status, told), (1, "trace_plot: -: record 5: 2 fields in place of twelve\n"))
+        self.assertEqual(plot("-", text=b"\xff\xfe\n")[0], 1)
+        self.assertEqual(plot("no_such_file")[0], 1)
+        cell = EXAMPLES / "cell" / "cell.trace"
+        for words in (("--scale", "X=mm"), ("--scale", "Q=1mm"), ("--from", "0"), ("--width", "1"),
+                      ("--from", "5", "--to", "4"), ("--columns", "1"), ("--cycle-us", "-1")):
+            self.assertEqual(plot(cell, *words)[0], 2, words)
+
+
+class Units(unittest.TestCase):
+    """Units, numbers and scales."""
+
+    def test_units(self):
+        units = style.Units(1000, dict([style.read_scale("X=0.001mm"), style.read_scale("0.1°")]))
+        self.assertEqual(units.of_axis("X")["velocity"], (0.001 / 0.001, "mm/s"))
+        self.assertEqual(units.of_axis("Y")["position"], (0.1, "°"))
+        self.assertEqual(style.Units().of_axis("X")["acceleration"], (1.0, "units/cycle²"))
+        self.assertRaises(ValueError, style.read_scale, "X=")
+        self.assertRaises(ValueError, style.read_scale, "X=0mm")
+
+    def test_numbers(self):
+        self.assertEqual([style.number_text(value) for value in (0, -5, 0.25, 1e6, 4e8, 123456789)],
+                         ["0", "-5", "0.25", "1000000", "4e8", "1.2346e8"])
+
+    def test_ticks(self):
+        self.assertEqual(style.ticks(-1, 31, 4), [0, 10, 20, 30])
+
+    def test_view(self):
+        low, high = style.view(0, 30, [0, 200])
+        self.assertTrue(low < 0 and 30 < high < 200)
+        self.assertGreater(style.view(0, 60, [0, 200])[1], 200)
+        self.assertGreater(style.view(0, 30, [0, 200], whole=True)[1], 200)
+        low, high = style.view(5, 5, [0, 200])
+        self.assertTrue(low < 0 and high > 200)
+
+
+class Pictures(unittest.TestCase):
+    """The SVG and the page."""
+
+    def test_stored(self):
+        for name in ("first-move", "cell"):
+            trace = EXAMPLES / name / f"{name}.trace"
+            self.assertEqual(plot(trace)[1], trace.with_suffix(".svg").read_bytes(), name)
+
+    def test_svg(self):
+        for options in ((), ("--dark", "--cycle-us", "1000", "--scale", "X=0.001mm", "--title", "A<&b")):
+            status, text, _ = plot(EXAMPLES / "cell" / "cell.trace", *options)
+            self.assertEqual(status, 0)
+            words = "".join(ElementTree.fromstring(text).itertext())
+            for wanted in ("GroupMoving", "ErrorStop 101", "GEAR Error 101", "SECOND Done", "Axis FEEDER"):
+                self.assertIn(wanted, words)
+            self.assertEqual("mm/s²" in words, bool(options))
+
+    def test_page(self):
+        status, text, _ = plot("--html", "--title", "</script>", EXAMPLES / "cell" / "cell.trace")
+        text = text.decode()
+        self.assertEqual(status, 0)
+        self.assertEqual(text.count("</script>"), 1)
+        self.assertNotRegex(text, r"https?://|src=|href=")
+        data = json.loads(re.search(r"^const data = (.*);$", text, re.MULTILINE)[1])
+        self.assertEqual([section["title"] for section in data["sections"]],
+                         ["Group PORTAL: X, Y", "Axis X", "Axis Y", "Axis BELT", "Axis FEEDER"])
+        self.assertEqual(data["sections"][3]["lines"]["velocity"],
+                         [[2, 4, 6, 6, 6, 6, 6, 4, 3, 3, 3, 3, 3, 3, 2, 0, 0]])
+
+    def test_long_trace(self):
+        lines = HEAD + [line for cycle in range(1, 20001) for line in row(cycle, cycle % 300)] + END
+        text = "\n".join(lines).encode()
+        status, picture, _ = plot("-", text=text)
+        self.assertEqual(status, 0)
+        self.assertLess(len(picture), 150_000)
+        self.assertEqual(picture, plot("-", text=text)[1])
+
+
+if __name__ == "__main__":
+    unittest.main()
