@@ -36,9 +36,11 @@ class Units:
     scales: dict = field(default_factory=dict)
 
     def of_axis(self, name):
-        """For positions, velocities and accelerations of an axis: the factor and the unit."""
-        factor, unit = self.scales.get(name, self.scales.get("", (1.0, "units")))
-        seconds, per = (self.cycle_us / 1e6, "s") if self.cycle_us else (1.0, "cycle")
+        """For positions, velocities and accelerations of an axis: the factor and the unit. An axis
+        without a scale is told in internal units per cycle, also where the cycle's length is given."""
+        scale = self.scales.get(name, self.scales.get(""))
+        factor, unit = scale or (1.0, "units")
+        seconds, per = (self.cycle_us / 1e6, "s") if scale and self.cycle_us else (1.0, "cycle")
         return {"position": (factor, unit), "velocity": (factor / seconds, f"{unit}/{per}"),
                 "acceleration": (factor / seconds / seconds, f"{unit}/{per}²")}
 

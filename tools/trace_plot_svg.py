@@ -12,7 +12,7 @@ KINDS = ("Call", "Done", "CommandAborted", "Error")
 SHAPES = {"Call": "m-5 -4h10l-5 9z", "Done": "m-4.5 0a4.5 4.5 0 1 0 9 0a4.5 4.5 0 1 0 -9 0z",
           "CommandAborted": "m0 -5.5l5.5 5.5l-5.5 5.5l-5.5 -5.5z",
           "Error": "m-5 -3l2 -2l3 3l3 -3l2 2l-3 3l3 3l-2 2l-3 -3l-3 3l-2 -2l3 -3z"}
-LABEL_ROWS, GUIDES = 4, 40
+LABEL_ROWS, GUIDES = 6, 40
 FONT = "font-family:'DejaVu Sans',Verdana,Arial,sans-serif"
 
 
@@ -163,7 +163,6 @@ def draw_section(sheet, owner, states, title):
     if hasattr(owner, "increment"):
         for name, place, height in PANELS:
             draw_panel(sheet, owner, columns, name, place, height)
-            draw_errors(sheet, columns, sheet.y - height, height, name == "position")
     if len(guides) <= GUIDES and sheet.y > top:
         for x, kind in guides:
             sheet.path(f"M{num(x)} {num(top)}V{num(sheet.y)}", f'class="g{kind}"')
@@ -252,14 +251,23 @@ def draw_strip(sheet, columns, states):
     sheet.y += STRIP
 
 
-def draw_errors(sheet, columns, top, height, named):
+def errors(sheet, columns):
+    """The spans with an error: from where on, how wide, and its number."""
+    return [(sheet.x(start), sheet.x(end) - sheet.x(start), error)
+            for start, end, error in spans(columns, lambda column: column[9]) if error]
+
+
+def draw_errors(sheet, columns, height):
     """The spans with an error, hatched."""
-    for start, end, error in spans(columns, lambda column: column[9]):
-        if error:
-            wide = sheet.x(end) - sheet.x(start)
-            sheet.box(sheet.x(start), top, wide, height, 'fill="url(#hatch)"', f"error {error}")
-            if wide > 60 and named:
-                sheet.text(sheet.x(start) + 5, top + 14, f"error {error}", "", "error")
+    for x, wide, error in errors(sheet, columns):
+        sheet.box(x, sheet.y, max(wide, 1), height, 'fill="url(#hatch)"', f"error {error}")
+
+
+def name_errors(sheet, columns):
+    """The numbers of the errors, where there is room for them."""
+    for x, wide, error in errors(sheet, columns):
+        if wide > 60:
+            sheet.text(x + 5, sheet.y + 14, f"error {error}", "", "error")
 
 
 def limits_of(axis, name):
@@ -291,7 +299,10 @@ def draw_panel(sheet, axis, columns, name, place, height):
     draw_grid(sheet, (low * factor, high * factor), lambda value: to_y(value / factor), height)
     draw_limits(sheet, limits, (low, high), to_y, factor)
     draw_names(sheet, name, unit, height)
+    draw_errors(sheet, columns, height)
     draw_lines(sheet, axis, columns, name, place, to_y)
+    if name == "position":
+        name_errors(sheet, columns)
     sheet.box(LEFT, sheet.y, sheet.plot, height, 'class="frame"')
     sheet.y += height
 

@@ -170,6 +170,7 @@ class Units(unittest.TestCase):
         units = style.Units(1000, dict([style.read_scale("X=0.001mm"), style.read_scale("0.1°")]))
         self.assertEqual(units.of_axis("X")["velocity"], (0.001 / 0.001, "mm/s"))
         self.assertEqual(units.of_axis("Y")["position"], (0.1, "°"))
+        self.assertEqual(style.Units(1000).of_axis("X")["velocity"], (1.0, "units/cycle"))
         self.assertEqual(style.Units().of_axis("X")["acceleration"], (1.0, "units/cycle²"))
         self.assertRaises(ValueError, style.read_scale, "X=")
         self.assertRaises(ValueError, style.read_scale, "X=0mm")
