@@ -1,4 +1,4 @@
-"""The picture of a trace as one HTML file with zoom and a cursor, which loads nothing from outside."""
+"""The picture of a trace as one HTML file with zoom and a cursor, loading nothing."""
 
 import json
 from html import escape
@@ -17,7 +17,8 @@ def page(trace, units, title, whole=False):
     text = TEMPLATE.read_text(encoding="utf-8")
     data = json.dumps(page_data(trace, units, whole), separators=(",", ":"), ensure_ascii=False)
     for mark, words in (("/*LIGHT*/", variables(LIGHT)), ("/*DARK*/", variables(DARK)),
-                        ("<!--TITLE-->", escape(title)), ("/*DATA*/", data.replace("<", "\\u003c"))):
+                        ("<!--TITLE-->", escape(title)),
+                        ("/*DATA*/", data.replace("<", "\\u003c"))):
         text = text.replace(mark, words)
     return text
 
@@ -58,6 +59,6 @@ def section(trace, units, owner, states):
 
 
 def ends(lane, place):
-    """The least and the greatest values of a line, one list where no column has more than a cycle."""
+    """The least and the greatest values of a line, one list where each column is a cycle."""
     return [[column[part] for column in lane.columns]
             for part in ((place,) if lane.width == 1 else (place, place + 1))]

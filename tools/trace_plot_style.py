@@ -37,7 +37,7 @@ class Units:
 
     def of_axis(self, name):
         """For positions, velocities and accelerations of an axis: the factor and the unit. An axis
-        without a scale is told in internal units per cycle, also where the cycle's length is given."""
+        without a scale is told in internal units per cycle, whatever the cycle's length."""
         scale = self.scales.get(name, self.scales.get(""))
         factor, unit = scale or (1.0, "units")
         seconds, per = (self.cycle_us / 1e6, "s") if scale and self.cycle_us else (1.0, "cycle")

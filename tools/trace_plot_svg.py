@@ -90,8 +90,8 @@ def style_sheet(theme):
             f".grid{{stroke:{theme['grid']}}}.zero{{stroke:{theme['limit']};stroke-width:.7}}"
             f".limit{{stroke:{theme['limit']};stroke-dasharray:6 4}}{marks}"
             ".gCall,.gDone,.gCommandAborted,.gError{stroke-dasharray:2 3;opacity:.55}"
-            f".frame{{fill:none;stroke:{theme['limit']}}}.error{{fill:{theme['error']};font-weight:bold;"
-            f"stroke:{theme['page']};stroke-width:4px;paint-order:stroke}}")
+            f".frame{{fill:none;stroke:{theme['limit']}}}.error{{fill:{theme['error']};"
+            f"font-weight:bold;stroke:{theme['page']};stroke-width:4px;paint-order:stroke}}")
 
 
 def hatching(theme):
@@ -170,7 +170,7 @@ def draw_section(sheet, owner, states, title):
 
 
 def thinned(sheet, lane):
-    """The columns of a lane, at most one for each pixel: from and to which cycle, and the column."""
+    """The columns of a lane, one for each pixel: from and to which cycle, and the column."""
     found, last = [], -1
     for place, column in enumerate(lane.columns):
         start = place * lane.width
@@ -246,7 +246,8 @@ def draw_strip(sheet, columns, states):
         sheet.box(x, sheet.y, wide, STRIP, f'fill="{STATE_COLOURS[name]}"', told)
         if wide > 7.2 * len(words) + 4:
             fill = "#ffffff" if name in ("ContinuousMotion",) else "#101418"
-            sheet.put(f'<text x="{num(x + 5)}" y="{num(sheet.y + 13)}" fill="{fill}">{words}</text>')
+            sheet.put(f'<text x="{num(x + 5)}" y="{num(sheet.y + 13)}" fill="{fill}">'
+                      f'{words}</text>')
     sheet.text(LEFT - 8, sheet.y + 13, "state", ' text-anchor="end"', "muted")
     sheet.y += STRIP
 
@@ -319,7 +320,7 @@ def draw_grid(sheet, shown, to_y, height):
     """The grid lines, with the numbers of the caller's units at the left."""
     for value in ticks(*shown, height / 17):
         y = to_y(value)
-        sheet.path(f"M{LEFT} {num(y)}h{sheet.plot}", 'class="zero"' if not value else 'class="grid"')
+        sheet.path(f"M{LEFT} {num(y)}h{sheet.plot}", f'class="{"grid" if value else "zero"}"')
         sheet.text(LEFT - 8, y + 4, number_text(value), ' text-anchor="end"', "muted")
     for cycles, _ in time_ticks(sheet):
         sheet.path(f"M{num(sheet.x(cycles))} {num(sheet.y)}v{height}", 'class="grid"')
@@ -383,7 +384,7 @@ def range_line(sheet, columns, place, to_y, whole=False):
 
 
 def time_ticks(sheet):
-    """Where the time axis has its numbers, as cycles from the beginning of the picture, and these."""
+    """Where the time axis has its numbers, as cycles behind the beginning, and these."""
     factor, _ = sheet.units.of_time(sheet.trace.first + sheet.trace.cycles)
     before = sheet.trace.first - 1
     marks = ticks(before * factor, (before + max(sheet.trace.cycles, 1)) * factor, sheet.plot / 90)

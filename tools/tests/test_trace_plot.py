@@ -17,7 +17,8 @@ import trace_plot_reader as reader  # noqa: E402
 import trace_plot_style as style  # noqa: E402
 
 HEAD = ["kind,a,b,c,d,e,f,g,h,i,j,k", "trace,2,bench,1000,2000,,,,,,,",
-        "axis,X,-50,500,10,4,8,2,0,1,,", "task,main,,,,,,,,,,", "block,M,main,MoveAbsolute,X,,,,,,,"]
+        "axis,X,-50,500,10,4,8,2,0,1,,", "task,main,,,,,,,,,,",
+        "block,M,main,MoveAbsolute,X,,,,,,,"]
 END = ["end,main,,,,,,,,,,", "drive,X,1,OperationEnabled,0,,,,,,,"]
 
 
@@ -68,7 +69,8 @@ class Reading(unittest.TestCase):
         self.assertEqual(axis.origin, 30)
 
     def test_version_one(self):
-        head = [HEAD[0], "trace,1,bench,1000,2000,,,,,,,", "axis,X,-50,500,10,4,2,0,1,,,", *HEAD[3:]]
+        head = [HEAD[0], "trace,1,bench,1000,2000,,,,,,,", "axis,X,-50,500,10,4,2,0,1,,,",
+                *HEAD[3:]]
         axis = read(["cycle,1,,,,,,,,,,", "row,X,0037,3,8,DiscreteMotion,0,1,2,000f,1,"],
                     head=head).axes["X"]
         self.assertEqual((axis.amax, axis.dmax, axis.increment), (4, 4, 2))
@@ -83,7 +85,8 @@ class Reading(unittest.TestCase):
         trace = read(call("BA"), row(1, 2), call("BA"), row(2, 4), call("D"), call("D"),
                      call("", execute=0), call("E", error=6))
         marks = [mark[:3] for mark in trace.axes["X"].marks.in_order()]
-        self.assertEqual(marks, [(0, "Call", "M"), (2, "Done", "M Done"), (2, "Error", "M Error 6")])
+        self.assertEqual(marks, [(0, "Call", "M"), (2, "Done", "M Done"),
+                                 (2, "Error", "M Error 6")])
 
     def test_window(self):
         trace = read(*(row(cycle, 2 * cycle) for cycle in range(1, 9)), first=3, last=5)
@@ -154,7 +157,8 @@ class Refusals(unittest.TestCase):
 
     def test_statuses(self):
         status, _, told = plot("-", text="\n".join(HEAD[:4] + ["a,b"]).encode())
-        self.assertEqual((status, told), (1, "trace_plot: -: record 5: 2 fields in place of twelve\n"))
+        self.assertEqual((status, told),
+                         (1, "trace_plot: -: record 5: 2 fields in place of twelve\n"))
         self.assertEqual(plot("-", text=b"\xff\xfe\n")[0], 1)
         self.assertEqual(plot("no_such_file")[0], 1)
         cell = EXAMPLES / "cell" / "cell.trace"
@@ -200,11 +204,13 @@ class Pictures(unittest.TestCase):
             self.assertEqual(plot(trace)[1], trace.with_suffix(".svg").read_bytes(), name)
 
     def test_svg(self):
-        for options in ((), ("--dark", "--cycle-us", "1000", "--scale", "X=0.001mm", "--title", "A<&b")):
+        for options in ((), ("--dark", "--cycle-us", "1000", "--scale", "X=0.001mm", "--title",
+                             "A<&b")):
             status, text, _ = plot(EXAMPLES / "cell" / "cell.trace", *options)
             self.assertEqual(status, 0)
             words = "".join(ElementTree.fromstring(text).itertext())
-            for wanted in ("GroupMoving", "ErrorStop 101", "GEAR Error 101", "SECOND Done", "Axis FEEDER"):
+            for wanted in ("GroupMoving", "ErrorStop 101", "GEAR Error 101", "SECOND Done",
+                           "Axis FEEDER"):
                 self.assertIn(wanted, words)
             self.assertEqual("mm/s²" in words, bool(options))
 
@@ -227,6 +233,19 @@ class Pictures(unittest.TestCase):
         self.assertEqual(status, 0)
         self.assertLess(len(picture), 150_000)
         self.assertEqual(picture, plot("-", text=text)[1])
+
+    def test_no_peak_is_lost(self):
+        lines = HEAD + [line for cycle in range(1, 20001)
+                        for line in row(cycle, 400 if cycle == 12345 else 0)] + END
+        _, picture, _ = plot("-", text="\n".join(lines).encode())
+        path = re.findall(r'<path d="([^"]*)" class="position"', picture.decode())[-1]
+        heights = [float(point.split()[1]) for point in re.split("[ML]", path)[1:]]
+        self.assertEqual(heights.count(min(heights)), 1)
+        self.assertGreater(max(heights) - min(heights), 60)
+
+    def test_no_cycle(self):
+        for options in ((), ("--html",)):
+            self.assertEqual(plot("-", *options, text="\n".join(HEAD + END).encode())[0], 0)
 
 
 if __name__ == "__main__":
