@@ -262,7 +262,7 @@ group_active_left : (k j : ℕ) (active : Option Wanted) → nat_eq k j ≡ fals
 group_active_left k j None d = refl
 group_active_left k j (Some w) d = without_other k j w.owner d
 
-active_left : (j k : ℕ) (m : Machine) (o : Object) → nat_eq k j ≡ false → IsThere m o → active_at
+pub active_left : (j k : ℕ) (m : Machine) (o : Object) → nat_eq k j ≡ false → IsThere m o → active_at
     (without_owner k m) j o ≡ active_at m j o
 unfolding axis_without_owner group_without
 active_left j k m (an_axis n) d l = ap (active_of j) (axis_disowned k n m l) ∙ axis_active_left k j
@@ -929,7 +929,7 @@ groups_done s m (suc n) is h l same j k b e = elim (cases_eq j n) [
 ]
 
 -- an owner by its count
-found_in : (k : ℕ) (o : Option ℕ) → 0 < is_owner k o → o ≡ Some k
+pub found_in : (k : ℕ) (o : Option ℕ) → 0 < is_owner k o → o ≡ Some k
 found_in k None l = let n = none_owned k in absurd (omega arith)
 found_in k (Some j) l = elim (cases_Bool (nat_eq j k)) [
   | inl e ↦ ap Some (eqb-true j k e)

@@ -50,4 +50,8 @@ pub mod RefusalLaws
 pub mod ReplyLaws
 pub mod SizeLaws
 pub mod StoppableLaws
+pub mod ToldCalls
+pub mod ToldCycles
+pub mod ToldEvents
+pub mod ToldLaws
 pub mod WaitingLaws

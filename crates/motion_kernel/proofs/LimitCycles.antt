@@ -33,7 +33,7 @@ abbrev before_axis : Setup → Surroundings → Machine → ℕ → Machine
 before_axis s around m n = (axes_cycled s n around m).machine
 
 -- an axis is as it was until its own cycle
-not_yet : (s : Setup) (n : ℕ) (around : Surroundings) (m : Machine) (k : ℕ) → n ≤ k → axis_core_at (axes_cycled s n around m).machine k ≡ axis_core_at m k
+pub not_yet : (s : Setup) (n : ℕ) (around : Surroundings) (m : Machine) (k : ℕ) → n ≤ k → axis_core_at (axes_cycled s n around m).machine k ≡ axis_core_at m k
 unfolding axes_cycled
 not_yet s zero around m k l = refl
 not_yet s (suc n) around m k l =

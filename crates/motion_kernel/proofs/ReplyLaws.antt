@@ -417,7 +417,7 @@ unfolding called
 executed s m k i b at l = executed_where s (slice_get s.blocks k) k i m b at l
 
 -- what happens to an instance leaves its kind
-kind_after : (i : InstanceState) (hs : List Happening) → (after_all i hs).kind ≡ i.kind
+pub kind_after : (i : InstanceState) (hs : List Happening) → (after_all i hs).kind ≡ i.kind
 kind_after i [] = refl
 kind_after i (replies.call execute ∷ hs) = kind_after (instance.called i execute) hs
 kind_after i (replies.start active ∷ hs) = kind_after (started i active) hs
@@ -451,7 +451,7 @@ reply_of_block laws s m k i b all l at =
     (called_of_blocks s m k i all k b at) (executed s m k i b at l)
 
 -- and so each reply of a history
-replay_of_blocks : (s : Setup) (m : Machine) (es : List Entry) → AreOfBlocks s m.instances →
+pub replay_of_blocks : (s : Setup) (m : Machine) (es : List Entry) → AreOfBlocks s m.instances →
     AreOfBlocks s (replay s m es).instances
 replay_of_blocks s m [] h = h
 replay_of_blocks s m (call k i reply ∷ es) h = replay_of_blocks s (after_call s m k i) es

@@ -14,6 +14,7 @@ use Rattle.motion_kernel.specs.Histories.{machine_after}
 use Rattle.motion_kernel.specs.Machine.{Machine, axis_at, group_at}
 use Rattle.motion_kernel.specs.MachineKept.{limits_of}
 use Rattle.motion_kernel.specs.Members.{members_at}
+use Rattle.motion_kernel.specs.Results.{ResultsAreTold}
 
 -- an axis can be stopped within its limits, where it is driven
 abbrev pub IsAxisStoppable : Setup → Machine → ℕ → Type 0
@@ -34,10 +35,12 @@ pub record IsSafe (s : Setup) (m : Machine) : Type 0 where
   pub waiting : (list : ℕ) → length (queue_of m.queues list) ≤ 8
 
 -- each row keeps its axis's limits; the machine is safe after every entry; every entry keeps the
--- laws of entries; and the commands that lead an axis or a group to an end come there in time
+-- laws of entries; the commands that lead an axis or a group to an end come there in time; and each
+-- end is told to the instance whose command it was
 pub record KeepsLaws (s : Setup) (es : List Entry) : Type 0 where
   pub limits : KeepTheirLimits s es
   pub safe : (made more : List Entry) → es ≡ made ++ more → IsSafe s (machine_after s made)
   pub entries : KeepsEntries s es
   pub moves : MovesArrive s es
   pub paths : PathsEnd s es
+  pub results : ResultsAreTold s es

@@ -22,6 +22,7 @@ pub mod AxisFates
 pub mod Arrivals
 pub mod GroupFates
 pub mod GroupArrivals
+pub mod Results
 pub mod Laws
 pub mod KernelState
 pub mod KernelKept

@@ -17,4 +17,5 @@ returns c s es setup whole legal = record {
   entries = c.entries_keep_their_laws.ensures s es setup whole legal;
   moves = c.moves_arrive_in_time.ensures.moves s es setup whole legal;
   paths = c.paths_end_in_time.ensures.paths s es setup whole legal;
+  results = c.results_are_told.ensures.results s es setup whole legal;
 }
