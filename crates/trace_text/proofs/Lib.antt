@@ -24,3 +24,5 @@ mod Leads
 mod MachineBack
 mod EntriesBack
 mod TraceBack
+mod InputsKept
+mod ReadingKept

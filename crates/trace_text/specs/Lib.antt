@@ -9,6 +9,7 @@ pub mod Names
 pub mod Items
 pub mod Found
 pub mod TraceState
+pub mod TraceKept
 pub mod SoFar
 pub mod Kinds
 pub mod InputFields

@@ -43,9 +43,9 @@ fn is_just_below(lo: i64, inc: i64, counted: i128) -> bool
     i128::from(lo) - i128::from(inc) < counted && counted < i128::from(lo)
 }
 
-// The place that the drive of an axis reports.
+/// The place that the drive of an axis reports in a row, in internal units.
 #[tactic(auto, unfolding(axis_state::specs::Counts::place_of))]
-fn reported_place(axis: &AxisDef, row: &AxisRow) -> i128
+pub fn reported_place(axis: &AxisDef, row: &AxisRow) -> i128
     ensures { result ≡ spec.reported_place axis.now row.now }
 {
     let counted = counted_place(row.input.actual, axis.inc, row.offset);

@@ -32,10 +32,12 @@ mod tests;
 mod trace;
 mod write;
 
+pub use cycle_rows::reported_place;
 pub use laws::{
     parts_are_beginnings, records_are_read_back, rows_are_read_back, traces_are_read_back,
 };
 pub use motion_history::{Config, History, OutOfMemory, TextFault, TextRefused, TraceVersion};
+pub use pieces::entry_piece;
 pub use read::read_trace;
 pub use trace::Trace;
 pub use write::{Command, DriveEndRow, TraceFault, write_trace};

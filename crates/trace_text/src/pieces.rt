@@ -5,6 +5,7 @@ ghost use Rattle.std.specs.Option.{option_to_list};
 ghost use Rattle.std.specs.List.{flat_map};
 ghost use Rattle.std.specs.Io.KnownBytes.{Appends};
 ghost use Rattle.csv.specs.Writing.{text_written};
+ghost use Rattle.motion_history.specs.Looks.{told};
 ghost use Rattle.trace_text.specs.Between.{IsBetween};
 ghost use Rattle.trace_text.specs.Parts.{machine_text, drives_text, entry_text};
 
@@ -12,7 +13,7 @@ use crate::entries::{write_drives, write_entry};
 use crate::machine::write_machine;
 use crate::write::{Command, DriveEndRow};
 use csv::{Writer, WriterBuilder};
-use motion_history::{Config, History, OutOfMemory, TraceVersion};
+use motion_history::{Config, EntryLook, History, OutOfMemory, TraceVersion};
 use std::alloc::Global;
 use std::io::Write;
 
@@ -46,6 +47,26 @@ pub fn drives_piece(
 {
     let mut wtr = WriterBuilder::new().from_writer(Vec::new(alloc));
     write_drives(&mut wtr, config, drives)?;
+    match wtr.into_inner() {
+        Ok(text) => Ok(text),
+        Err(e) => {
+            let _ = e.into_error();
+            Err(OutOfMemory)
+        }
+    }
+}
+
+/// The text of an entry.
+pub fn entry_piece(
+    alloc: Global,
+    version: TraceVersion,
+    config: &Config,
+    entry: &EntryLook<'_>,
+) -> Result<Vec<u8>, OutOfMemory>
+    ensures { IfOk result (λ v. v.items ≡ entry_text version config.now (told entry.now)) }
+{
+    let mut wtr = WriterBuilder::new().from_writer(Vec::new(alloc));
+    write_entry(alloc, &mut wtr, version, config, entry)?;
     match wtr.into_inner() {
         Ok(text) => Ok(text),
         Err(e) => {

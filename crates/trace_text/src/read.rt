@@ -1,12 +1,14 @@
 // Reading a trace.
 
-ghost use Rattle.std.specs.Prelude.{◌≡◌, IfErr, IfOk, length};
+ghost use Rattle.std.specs.Prelude.{◌≡◌, IfErr, IfOk, Ok, length};
 ghost use Rattle.csv.specs.Records.{fields_of};
 ghost use Rattle.csv_records.specs.Records.{records_of};
 ghost use Rattle.line_text.specs.Reading.{Takes, at_line};
 ghost use Rattle.line_text.specs.Texts.{texts};
 ghost use Rattle.trace_text.specs.Reading as spec;
 ghost use Rattle.trace_text.specs.Reading.{ReadsBy, TakesRecords};
+ghost use Rattle.trace_text.specs.TraceKept.{IsTraceKept};
+ghost use Rattle.trace_text.specs.TraceState.{TraceState};
 
 use crate::found::FoundCycle;
 use crate::kind::{Kind, Stage, is_stage};
@@ -131,6 +133,7 @@ fn fields_in(row: &ByteRecord) -> [&[u8]; FIELDS]
 // The trace at the end of the text.
 #[tactic(auto, unfolding(crate::specs::Reading::ending))]
 fn trace_of(reader: TraceReader, last: u64) -> Result<Trace, TextFault>
+    requires { (t : TraceState) → spec.ending reader ≡ Ok t → IsTraceKept t }
     ensures { ReadsBy (spec.refused_by (at_line last (spec.ending reader))) result }
 {
     if !is_ended(&reader) {

@@ -3,6 +3,7 @@
 ghost use Rattle.std.specs.Prelude.{◌≡◌, length, slice_get};
 ghost use Rattle.std.specs.Option.{option_copied, option_map};
 ghost use Rattle.motion_history.specs.Looks.{told};
+ghost use Rattle.trace_text.specs.TraceKept.{IsTraceKept};
 ghost use Rattle.trace_text.specs.TraceState.{entries_of, place_at};
 
 use crate::found::FoundEntry;
@@ -32,6 +33,16 @@ impl Model for Trace {
       found = t.found.items;
       drives = t.drives.items;
     } };
+
+    ghost use Rattle.trace_text.specs.TraceKept.{IsTraceKept};
+
+    ghost invariant = { λ t. IsTraceKept (record {
+      version = t.version;
+      command = t.command;
+      config = t.config;
+      found = t.found.items;
+      drives = t.drives.items;
+    }) };
 }
 
 impl Trace {
@@ -58,7 +69,8 @@ impl Trace {
 
     /// How many entries it has.
     pub fn entries(&self) -> u64
-        ensures { result ≡ length (entries_of self.now) }
+        ensures count { result ≡ length (entries_of self.now) }
+        ensures kept { IsTraceKept self.now }
     {
         self.found.len() as u64
     }
@@ -76,7 +88,8 @@ impl Trace {
 
     /// What the drives took, in the order of their axes.
     pub fn drives(&self) -> &[DriveEndRow]
-        ensures { result.now ≡ self.now.drives }
+        ensures items { result.now ≡ self.now.drives }
+        ensures each { length result.now ≡ length self.now.config.axes }
     {
         self.drives.as_slice()
     }

@@ -1,0 +1,8 @@
+-- What is read keeps what every trace does.
+use Rattle.std.proofs.Common.{◌∙◌, sym}
+use Rattle.trace_text.proofs.ReadingKept.{made-kept}
+use Rattle.trace_text.proofs.read.trace_of.Goals as goal
+
+pub invariant_of-result : goal.invariant_of-result
+invariant_of-result c =
+    made-kept c.args.reader _ c.in-Ok.config (sym c.reader.view_is) c.requires (sym c.is_ended.ensures ∙ c.if-not-is_ended.false) c.in-Ok.ensures.ok
