@@ -1,0 +1,4 @@
+mod Moves
+mod Rooms
+pub mod Totals
+mod Turns

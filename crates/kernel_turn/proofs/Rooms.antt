@@ -1,0 +1,8 @@
+-- What a kernel has room for.
+use Rattle.std.proofs.Common.{◌≤◌, Bool, true, false, ℕ, arith}
+use Rattle.std.specs.Prelude.{if◌then◌else◌}
+
+-- no kernel has more entries than its room, whether it was stopped or not
+pub within_room : (stopped : Bool) (made room : ℕ) → made ≤ room → made ≤ (if stopped then made else room)
+within_room true made room few = omega arith
+within_room false made room few = few

@@ -1,0 +1,21 @@
+use Rattle.std.proofs.Common.{rules, ◌≡◌, subst}
+use Rattle.motion_kernel.specs.KernelState.{KernelState}
+use Rattle.motion_history.specs.Entries.{end_of}
+use Rattle.kernel_turn.specs.Events.{EndTold}
+use Rattle.kernel_turn.proofs.Turns.{found_by, grows_of, lawful_after, makes_same, turn_taken}
+use Rattle.kernel_turn.proofs.kernel_turn.KernelTurn.turn_end.Goals as goal
+
+pub pass_on-requires-clause-grows : goal.pass_on-requires-clause-grows
+pass_on-requires-clause-grows g c =
+    let same : c.deref_mut.result.now ≡ c.take-kernel.result = search rules in
+    (c.take-kernel.result, found_by _ _ _ c.take-kernel.ensures.holds, grows_of _ _ _ _ (makes_same (λ k. end_of c.args.task) _ _ _ _ same c.try_end-turn.ensures.makes))
+
+pub returns-clause-answer : goal.returns-clause-answer
+returns-clause-answer g c =
+    let same : c.deref_mut.result.now ≡ c.take-kernel.result = search rules in
+    (c.take-kernel.result, c.try_end-turn.new.kernel, turn_taken _ _ _ _ _ _ _ _ _ _ c.pass.view_is (search rules) c.take-kernel.ensures.holds (makes_same (λ k. end_of c.args.task) _ _ _ _ same c.try_end-turn.ensures.makes) c.pass_on.ensures.passed, subst (λ (k : KernelState). EndTold k c.try_end-turn.result) same c.try_end-turn.ensures.told)
+
+pub returns-clause-lawful : goal.returns-clause-lawful
+returns-clause-lawful g c =
+    let same : c.deref_mut.result.now ≡ c.take-kernel.result = search rules in
+    lawful_after _ _ _ _ _ _ _ c.take-kernel.ensures.holds (makes_same (λ k. end_of c.args.task) _ _ _ _ same c.try_end-turn.ensures.makes) c.pass_on.ensures.passed c.pass_on.ensures.lawful

@@ -1,0 +1,11 @@
+pub mod Times
+pub mod PassView
+pub mod Views
+pub mod Rule
+pub mod Steps
+pub mod PassState
+pub mod Events
+pub mod Turns
+pub mod Inside
+pub mod PassKept
+pub mod Standing

@@ -1,0 +1,138 @@
+-- What a pass knows after a turn. This project's profile.
+use Rattle.std.specs.Prelude.{◌≡◌, ℕ, suc, ◌-◌, ◌⊎◌, List, [], ◌∷◌, ◌++◌, length, true, false, ◌||◌}
+use mathlib.Core.List.{IsPrefix}
+use Rattle.atomic_table.specs.Seated.{TableId}
+use Rattle.cia402_machine.specs.declared.drive.DriveIn.{DriveIn}
+use Rattle.cia402_machine.specs.declared.drive.DriveOut.{DriveOut}
+use Rattle.fb_outputs.specs.declared.inputs.Inputs.{Inputs}
+use Rattle.fb_outputs.specs.declared.outputs.Outputs.{Outputs}
+use Rattle.motion_history.specs.Entries.{Entry, end_of}
+use Rattle.motion_history.specs.Setup.{Setup}
+use Rattle.motion_kernel.specs.Histories.{IsLegal}
+use Rattle.motion_kernel.specs.KernelState.{KernelState}
+use Rattle.motion_kernel.specs.Laws.{KeepsLaws}
+use Rattle.kernel_turn.specs.Events.{CallTold, CycleTold, EndTold, Makes, call_of, cycle_of}
+use Rattle.kernel_turn.specs.PassState.{PassState}
+use Rattle.kernel_turn.specs.Times.{times, once_below}
+use Rattle.kernel_turn.specs.declared.turn.Turn.{Turn}
+use Rattle.kernel_turn.specs.declared.turn.Turn.TheVariants.{Made, Full, Early}
+
+-- the opening pass at first
+abbrev pub opening_pass : TableId → Setup → PassState
+opening_pass table s = record {
+  table = table;
+  opening = true;
+  config = s;
+  seen = [];
+  own = [];
+  made_stop = false;
+  met_stop = false;
+  out = 0;
+}
+
+-- the opening pass after one more was split from it
+abbrev pub pass_after_split : PassState → PassState
+pass_after_split p = record p { out = suc p.out }
+
+-- a new pass has seen what the opening pass has, and has done nothing yet
+abbrev pub split_pass : PassState → PassState
+split_pass p = record p { opening = false; own = []; made_stop = false; met_stop = false; out = 0 }
+
+-- a pass that has taken another in: a history that begins with what each had seen, the tickets of
+-- both and the marks of either
+pub record IsJoined (old other new : PassState) : Type 0 where
+  pub begins : IsPrefix old.seen new.seen
+  pub begins_other : IsPrefix other.seen new.seen
+  pub pass : new ≡ record old {
+    seen = new.seen;
+    own = old.own ++ other.own;
+    made_stop = old.made_stop || other.made_stop;
+    met_stop = old.met_stop || other.met_stop;
+    out = old.out - 1;
+  }
+
+-- the kernel that a pass finds has its configuration, and a history that begins with what it has
+-- seen
+pub record IsFound (p : PassState) (k : KernelState) : Type 0 where
+  pub begins : IsPrefix p.seen k.history
+  pub config : k.config ≡ p.config
+
+-- the tickets of a turn: that of its entry, if it made one
+module _ {T : Type 0} where
+  abbrev pub tickets_of : Turn T → List ℕ
+  tickets_of (Made ticket cycles answer) = ticket ∷ []
+  tickets_of (Full entries cycles) = []
+  tickets_of (Early quiet cycles) = []
+
+-- a pass after a turn with these tickets that found the kernel as f and left it as g
+abbrev pub pass_after : PassState → KernelState → KernelState → List ℕ → PassState
+pass_after p f g tickets = record p {
+  seen = g.history;
+  own = p.own ++ tickets;
+  met_stop = p.met_stop || f.stopped;
+}
+
+-- a pass after a turn that stopped the kernel
+abbrev pub pass_after_stop : PassState → KernelState → PassState
+pass_after_stop p f =
+    record p { seen = f.history; made_stop = true; met_stop = p.met_stop || f.stopped }
+
+module _ {T : Type 0} where
+  -- a turn found the kernel as f, made this entry or none, and left it as g
+  pub record TakesTurn (old new : PassState) (f g : KernelState) (e : Entry) (turn : Turn T)
+      : Type 0 where
+    pub found : IsFound old f
+    pub makes : Makes f g e turn
+    pub pass : new ≡ pass_after old f g (tickets_of turn)
+
+-- what a turn that calls a block answers
+abbrev pub CallAnswered : ℕ → ℕ → Inputs → PassState → PassState → Turn Outputs → Type 0
+CallAnswered after b i old new turn = (f g : KernelState) ×
+    TakesTurn old new f g (call_of f b i) turn × CallTold after b i f turn
+
+-- what a turn that goes through a cycle answers
+abbrev pub CycleAnswered : List DriveIn → List DriveOut → List DriveOut → PassState → PassState →
+    Turn ℕ → Type 0
+CycleAnswered ins before outs old new turn = (f g : KernelState) ×
+    TakesTurn old new f g (cycle_of f ins) turn × CycleTold ins before outs f g turn
+
+-- what a turn that ends a task answers
+module _ {T : Type 0} where
+  abbrev pub EndAnswered : ℕ → PassState → PassState → Turn T → Type 0
+  EndAnswered task old new turn =
+      (f g : KernelState) × TakesTurn old new f g (end_of task) turn × EndTold f turn
+
+-- it is the same pass of the same lock
+pub record IsSamePass (old new : PassState) : Type 0 where
+  pub table : new.table ≡ old.table
+  pub opening : new.opening ≡ old.opening
+  pub config : new.config ≡ old.config
+  pub out : new.out ≡ old.out
+
+-- a history is legal, and keeps the machine's laws
+pub record IsLawful (s : Setup) (es : List Entry) : Type 0 where
+  pub legal : IsLegal s es
+  pub laws : KeepsLaws s es
+
+-- the entries of a Full for want of room are the configured number, unless the pass has then met a
+-- stop
+module _ {T : Type 0} where
+  abbrev pub FullOfEntries : PassState → Turn T → Type 0
+  FullOfEntries new (Full entries cycles) =
+      new.met_stop ≡ false → entries ≡ new.config.entries
+  FullOfEntries new turn = Unit {0}
+
+  -- a Full of a cycle may also come as the cycles are the configured number
+  abbrev pub FullOfEither : PassState → Turn T → Type 0
+  FullOfEither new (Full entries cycles) = new.met_stop ≡ false →
+      (entries ≡ new.config.entries) ⊎ (cycles ≡ new.config.cycles)
+  FullOfEither new turn = Unit {0}
+
+-- at closing the kernel has the pass's configuration and a history that begins with what the pass
+-- has seen; the own tickets are all that were given, each once; and a pass that has met a stop has
+-- made one
+pub record IsClosed (p : PassState) (k : KernelState) : Type 0 where
+  pub begins : IsPrefix p.seen k.history
+  pub config : k.config ≡ p.config
+  pub tickets : (x : ℕ) → times x p.own ≡ once_below x (length k.history)
+  pub stop : k.stopped || p.met_stop ≡ true → p.made_stop ≡ true

@@ -1,0 +1,22 @@
+//! Over threads: each call, cycle and end of a task takes the kernel in its turn, by tickets, and
+//! its reply stands at its ticket's place in the one history.
+#![tactic(auto)]
+
+mod events;
+mod housed;
+mod kernel_turn;
+mod pass;
+mod rule;
+mod steps;
+#[cfg(test)]
+mod tests;
+mod turn;
+
+pub use kernel_turn::KernelTurn;
+pub use motion_kernel::{DriveIn, DriveOut, Inputs, Kernel, Outputs};
+pub use out_of_memory::OutOfMemory;
+pub use pass::Pass;
+pub use turn::Turn;
+
+/// How many passes may be out at a time.
+pub const MOST_OUT: u64 = 1_000;

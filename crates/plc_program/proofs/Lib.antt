@@ -1,0 +1,10 @@
+pub mod Results
+pub mod Texts
+pub mod Each
+pub mod Positions
+pub mod Given
+pub mod Calls
+pub mod Lists
+pub mod Growth
+pub mod Kept
+pub mod SpelledPrograms

@@ -1,0 +1,14 @@
+-- Words and where they lie in memory.
+use Rattle.std.proofs.Common.{◌≡◌, ℕ, Bool, List, [], ◌∷◌, Bor, refl, ap}
+use Rattle.std.specs.Prelude.{◌&&◌}
+use Rattle.std.specs.List.{list_all}
+use Rattle.line_text.specs.Texts.{texts}
+
+-- what stands for a word that is not there
+abbrev pub nowhere : Bor (List ℕ)
+nowhere = record { ref_ptr = (0, 0); now = [] }
+
+-- a test of all words
+pub list_all-texts : (p : List ℕ → Bool) (words : List (Bor (List ℕ))) → list_all (λ w. p w.now) words ≡ list_all p (texts words)
+list_all-texts p [] = refl
+list_all-texts p (w ∷ words) = ap (λ b. p w.now && b) (list_all-texts p words)

@@ -1,0 +1,13 @@
+pub mod Programs
+pub mod Forms
+pub mod Rules
+pub mod Quantities
+pub mod SoFar
+pub mod Named
+pub mod Keys
+pub mod Given
+pub mod Calls
+pub mod Lines
+pub mod Reading
+pub mod Spelled
+pub mod UnderWay

@@ -1,0 +1,74 @@
+-- The lines of a program but its calls: tasks, blocks, waits and repeats. This project's profile.
+use Rattle.std.specs.Prelude.{ℕ, codes, Option, Result, Ok, Err, List, [], ◌∷◌, ◌++◌}
+use Rattle.std.specs.List.{find}
+use Rattle.std.specs.Option.{ok_or}
+use Rattle.std.specs.Str.{bytes_eq}
+use Rattle.line_text.specs.Reading.{◌>>=◌}
+use Rattle.motion_history.specs.Faults.{block_fault, name_fault, task_fault}
+use Rattle.motion_history.specs.Setup.{Setup}
+use Rattle.plc_program.specs.Named.{block_named, kind_of, object_named}
+use Rattle.plc_program.specs.Programs.{is_called}
+use Rattle.plc_program.specs.Quantities.{in_range, number}
+use Rattle.plc_program.specs.Rules.{broken_by, broken_unless}
+use Rattle.plc_program.specs.SoFar.{SoFar, task_of}
+use Rattle.plc_program.specs.declared.program.Flag.{Flag}
+use Rattle.plc_program.specs.declared.program.Flag.TheVariants.{Busy, Active, Done, Aborted, Error, Reached}
+use Rattle.plc_program.specs.declared.program.Instruction.{Instruction}
+use Rattle.plc_program.specs.declared.program.Instruction.TheVariants.{Wait, Repeat}
+use Rattle.plc_program.specs.declared.program.TheConstants.{MOST_TIMES}
+use Rattle.plc_program.specs.declared.rule.TheConstants.{NO_VALUE, OUT_OF_RANGE, WRONG_COUNT}
+use Rattle.plc_program.specs.declared.wait.TheConstants.{FLAGS}
+
+-- `task NAME`
+unfoldable pub task_meaning : Setup → List (List ℕ) → Result Setup ℕ
+task_meaning s (name ∷ []) = do
+  _ ← broken_by (task_fault s name)
+  Ok (record s { tasks = s.tasks ++ name ∷ [] })
+task_meaning s _ = Err WRONG_COUNT
+
+-- `block NAME KIND AXIS-OR-GROUP`, a block of this task
+unfoldable pub block_meaning : Setup → ℕ → List (List ℕ) → Result Setup ℕ
+block_meaning s task (name ∷ of_kind ∷ of_object ∷ []) = do
+  _ ← broken_by (name_fault s name)
+  kind ← kind_of of_kind
+  object ← object_named s kind of_object
+  _ ← broken_by (block_fault s name task kind object)
+  Ok (record s {
+    blocks = s.blocks ++ record {
+      name = name;
+      task = task;
+      kind = kind;
+      object = object;
+    } ∷ [];
+  })
+block_meaning s task _ = Err WRONG_COUNT
+
+-- the name of each flag
+unfoldable pub flag_name : Flag → List ℕ
+flag_name Busy = codes "busy"
+flag_name Active = codes "active"
+flag_name Done = codes "done"
+flag_name Aborted = codes "aborted"
+flag_name Error = codes "error"
+flag_name Reached = codes "reached"
+
+-- the flag of this name
+unfoldable pub flag_named : List ℕ → Option Flag
+flag_named name = find (λ f. bytes_eq (flag_name f) name) FLAGS
+
+-- `wait BLOCK FLAG`, behind a call of the block in its task
+unfoldable pub wait_meaning : SoFar → List (List ℕ) → Result Instruction ℕ
+wait_meaning s (name ∷ word ∷ []) = do
+  k ← block_named s.setup (task_of s) name
+  flag ← ok_or (flag_named word) NO_VALUE
+  _ ← broken_unless (is_called k s.lines) OUT_OF_RANGE
+  Ok (Wait k flag)
+wait_meaning s _ = Err WRONG_COUNT
+
+-- `repeat N`
+unfoldable pub repeat_meaning : List (List ℕ) → Result Instruction ℕ
+repeat_meaning (word ∷ []) = do
+  n ← number word
+  count ← in_range 1 MOST_TIMES n
+  Ok (Repeat count)
+repeat_meaning _ = Err WRONG_COUNT

@@ -1,0 +1,154 @@
+-- What a program's lines and its text mean. This project's profile.
+use Rattle.std.specs.Prelude.{◌≡◌, ℕ, ◌==◌, Bool, true, false, not, ◌&&◌, if◌then◌else◌, codes, nat_lt, Result, Ok, Err, List, [], ◌∷◌, ◌++◌, length}
+use Rattle.std.specs.Option.{ok_or}
+use Rattle.line_text.specs.Reading.{◌>>=◌, Meaning, reading_of}
+use Rattle.line_text.specs.Texts.{says}
+use Rattle.line_text.specs.declared.reader.LineRefused.{LineRefused}
+use Rattle.motion_history.specs.Faults.{whole_fault}
+use Rattle.motion_history.specs.Setup.{Setup}
+use Rattle.motion_history.specs.declared.refused.TextFault.{TextFault}
+use Rattle.motion_history.specs.declared.refused.TextFault.TheVariants.{Refused, OutOfMemory}
+use Rattle.motion_history.specs.declared.refused.TextRefused.{TextRefused}
+use Rattle.plc_program.specs.Calls.{call_meaning}
+use Rattle.plc_program.specs.Forms.{form_of, is_counted}
+use Rattle.plc_program.specs.Lines.{block_meaning, repeat_meaning, task_meaning, wait_meaning}
+use Rattle.plc_program.specs.Rules.{broken_by, broken_unless}
+use Rattle.plc_program.specs.SoFar.{SoFar, has_task, task_of, tasks_of}
+use Rattle.plc_program.specs.declared.form.Form.{Form}
+use Rattle.plc_program.specs.declared.form.Form.TheVariants as form
+use Rattle.plc_program.specs.declared.program.Instruction.{Instruction}
+use Rattle.plc_program.specs.declared.program.Instruction.TheVariants.{Call, Wait, Repeat, Again}
+use Rattle.plc_program.specs.declared.program.TheConstants.{MOST_INSTRUCTIONS}
+use Rattle.plc_program.specs.declared.rule.TheConstants.{NO_VERSION, NOT_WHOLE, OUT_OF_PLACE, TOO_MANY, WRONG_COUNT}
+
+-- a program before its first line, for this machine
+unfoldable pub opening : ℕ → Setup → SoFar
+opening cycle_us s = record {
+  cycle_us = cycle_us;
+  begun = false;
+  setup = s;
+  before = [];
+  lines = [];
+  repeating = false;
+}
+
+-- a program begins with the word `motion-program`
+unfoldable pub is_program : List ℕ → Bool
+is_program word = says word (codes "motion-program")
+
+-- its version is 1
+unfoldable pub is_one : List ℕ → Bool
+is_one number = says number (codes "1")
+
+-- `motion-program 1`
+unfoldable pub is_version : List (List ℕ) → Bool
+is_version (word ∷ number ∷ []) = is_program word && is_one number
+is_version _ = false
+
+-- the first line tells the version
+unfoldable pub version_meaning : SoFar → List (List ℕ) → Result SoFar ℕ
+version_meaning s words = do
+  _ ← broken_unless (is_version words) NO_VERSION
+  Ok (record s { begun = true })
+
+-- whether a line of each form may stand here
+unfoldable pub may_stand : SoFar → Form → Bool
+may_stand s form.Task = not s.repeating
+may_stand s form.Block = has_task s && (length s.lines == 0)
+may_stand s form.Call = has_task s
+may_stand s form.Wait = has_task s
+may_stand s form.Repeat = has_task s && not s.repeating
+may_stand s form.Again = has_task s && s.repeating
+
+-- the form of a line by its first word, where it may stand and with as many words behind it as it
+-- has
+unfoldable pub form_in : SoFar → List ℕ → List (List ℕ) → Result Form ℕ
+form_in s first words = do
+  form ← ok_or (form_of first) OUT_OF_PLACE
+  _ ← broken_unless (may_stand s form) OUT_OF_PLACE
+  _ ← broken_unless (is_counted form (length words)) WRONG_COUNT
+  Ok form
+
+-- `task ..` ends the task before, and begins another
+unfoldable pub tasks_meaning : SoFar → List (List ℕ) → Result SoFar ℕ
+tasks_meaning s words = do
+  t ← task_meaning s.setup words
+  Ok (record s { setup = t; before = tasks_of s; lines = [] })
+
+-- `block ..` adds a block of the task
+unfoldable pub blocks_meaning : SoFar → List (List ℕ) → Result SoFar ℕ
+blocks_meaning s words = do
+  t ← block_meaning s.setup (task_of s) words
+  Ok (record s { setup = t })
+
+-- whether a task stands inside a repeat behind a line
+abbrev pub is_repeating : Bool → Instruction → Bool
+is_repeating inside (Call k i) = inside
+is_repeating inside (Wait k flag) = inside
+is_repeating inside (Repeat count) = true
+is_repeating inside Again = false
+
+-- the task with one instruction more, where it may have it
+unfoldable pub line_added : SoFar → Instruction → Result SoFar ℕ
+line_added s line = do
+  _ ← broken_unless (nat_lt (length s.lines) MOST_INSTRUCTIONS) TOO_MANY
+  Ok (record s { lines = s.lines ++ line ∷ []; repeating = is_repeating s.repeating line })
+
+-- the task with the instruction of a line
+abbrev pub with_line : SoFar → Result Instruction ℕ → Result SoFar ℕ
+with_line s line = do
+  l ← line
+  line_added s l
+
+-- what the words behind the first mean in a line of each form
+unfoldable pub words_meaning : SoFar → Form → List (List ℕ) → Result SoFar ℕ
+words_meaning s form.Task words = tasks_meaning s words
+words_meaning s form.Block words = blocks_meaning s words
+words_meaning s form.Call words = with_line s (call_meaning s words)
+words_meaning s form.Wait words = with_line s (wait_meaning s words)
+words_meaning s form.Repeat words = with_line s (repeat_meaning words)
+words_meaning s form.Again words = line_added s Again
+
+-- what a line means behind the first
+unfoldable pub later_meaning : SoFar → List (List ℕ) → Result SoFar ℕ
+later_meaning s (first ∷ words) = do
+  form ← form_in s first words
+  words_meaning s form words
+later_meaning s [] = Ok s
+
+-- what a line means where a program stands
+unfoldable pub meaning : Meaning SoFar
+meaning s words = if s.begun then later_meaning s words else version_meaning s words
+
+-- what is read: the lines of each task, and the machine with the tasks and their blocks
+pub record Outcome : Type 0 where
+  pub program : List (List Instruction)
+  pub setup : Setup
+
+-- the program at the end of the text: the machine is whole, and no repeat is open
+unfoldable pub ending : SoFar → Result Outcome ℕ
+ending s = do
+  _ ← broken_by (whole_fault s.setup)
+  _ ← broken_unless (not s.repeating) NOT_WHOLE
+  Ok (record { program = tasks_of s; setup = s.setup })
+
+-- a rule of a program is told by the letter P
+abbrev pub told_as : LineRefused → TextRefused
+told_as r = record { place = r.line; rule = record { letter = 80; number = r.rule } }
+
+-- a reading whose refusal is told so
+abbrev pub refused_by : {A : Type 0} → Result A LineRefused → Result A TextRefused
+refused_by (Ok x) = Ok x
+refused_by (Err r) = Err (told_as r)
+
+-- the program that a text is for this machine, or the first line that breaks a rule and the first
+-- rule that it breaks
+unfoldable pub program_of : ℕ → Setup → List ℕ → Result Outcome TextRefused
+program_of cycle_us s text = refused_by (reading_of meaning ending (opening cycle_us s) text)
+
+-- the answer, and what the machine is now, are this reading: the program, or the refusal; or memory
+-- ran out
+abbrev pub ReadsBy : Result Outcome TextRefused → Result (List (List Instruction)) TextFault → Setup → Type 0
+ReadsBy reading (Ok program) s = reading ≡ Ok (record { program = program; setup = s })
+ReadsBy reading (Err (Refused r)) s = reading ≡ Err r
+ReadsBy reading (Err OutOfMemory) s = Unit {0}

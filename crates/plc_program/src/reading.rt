@@ -1,0 +1,158 @@
+// Reading a program.
+
+ghost use Rattle.std.specs.Prelude.{◌≡◌, ◌≤◌, [], List, IfOk, OnOk, Ok, length};
+ghost use Rattle.line_text.specs.Reading.{at_line};
+ghost use Rattle.motion_history.specs.Setup.{Setup};
+ghost use Rattle.plc_program.specs.Programs.{AddsTasks, IsProgramOf};
+ghost use Rattle.plc_program.specs.Quantities.{IsCycle};
+ghost use Rattle.plc_program.specs.Reading as spec;
+ghost use Rattle.plc_program.specs.Reading.{ReadsBy};
+ghost use Rattle.plc_program.specs.Spelled.{IsProgramText};
+ghost use Rattle.plc_program.specs.UnderWay.{IsSoFar};
+ghost use Rattle.plc_program.specs.declared.program.Instruction.{Instruction};
+
+use crate::item::is_whole;
+use crate::program::Program;
+use crate::reader::ProgramReader;
+use crate::rule::NOT_WHOLE;
+use fixed_units::reads_what_is_spelled;
+use line_text::{LineRefused, LinesFault, lines_are_spelled, numbers_are_small, read_lines};
+use motion_history::{Builder, Rule, TextFault, TextRefused};
+use std::alloc::Global;
+use std::mem;
+
+/// The program that a text is for a machine whose cycle is 100 to 100,000 microseconds long; the
+/// machine gets its tasks and blocks. A text that is none is refused at its first line that breaks
+/// a rule, by the first rule that it breaks: P1 to P10. The machine may then hold some of the
+/// text's tasks and blocks. It takes memory for the words of one line at a time, besides the
+/// program.
+pub fn read_program(
+    alloc: Global,
+    text: &[u8],
+    config: &mut Builder,
+    cycle_us: u32,
+) -> Result<Program, TextFault>
+    requires tasks { config.old.tasks ≡ [] }
+    requires cycle { IsCycle cycle_us }
+    // What is read is a program of the text.
+    ensures found { IfOk result
+        (λ p. IsProgramText cycle_us config.old text.now p config.new) }
+    // A program of the text is read, unless memory runs out.
+    ensures only { (program : List (List Instruction)) → (after : Setup) →
+        IsProgramText cycle_us config.old text.now program after →
+        ReadsBy (Ok (record { program = program; setup = after })) result config.new }
+    // A text that has none is refused so.
+    ensures exact { ReadsBy (spec.program_of cycle_us config.old text.now) result config.new }
+    // What is read are tasks of the machine, and the machine is whole.
+    ensures program { IfOk result (IsProgramOf config.new) }
+    // Nothing else of the machine changes.
+    ensures adds { OnOk result (AddsTasks config.old config.new) }
+{
+    lines_are_spelled();
+    read(alloc, text, config, cycle_us)
+}
+
+// The program that a text is.
+fn read(
+    alloc: Global,
+    text: &[u8],
+    config: &mut Builder,
+    cycle_us: u32,
+) -> Result<Program, TextFault>
+    requires tasks { config.old.tasks ≡ [] }
+    requires cycle { IsCycle cycle_us }
+    ensures exact { ReadsBy (spec.program_of cycle_us config.old text.now) result config.new }
+    ensures program { IfOk result (IsProgramOf config.new) }
+    ensures adds { OnOk result (AddsTasks config.old config.new) }
+{
+    let Ok(empty) = Builder::open(alloc, 1, 1) else {
+        return Err(TextFault::OutOfMemory);
+    };
+    let machine = mem::replace(config, empty);
+    let (machine, program) = read_text(alloc, text, machine, cycle_us);
+    *config = machine;
+    program
+}
+
+// A program before its first line.
+#[tactic(auto, unfolding(crate::specs::Reading::opening))]
+fn opened(alloc: Global, machine: Builder, cycle_us: u32) -> ProgramReader
+    requires { IsCycle cycle_us }
+    ensures { result ≡ spec.opening cycle_us machine }
+{
+    ProgramReader {
+        alloc,
+        cycle_us,
+        begun: false,
+        machine,
+        before: Vec::new(alloc),
+        lines: Vec::new(alloc),
+        repeating: false,
+    }
+}
+
+// The program that a text is, and its machine.
+#[tactic(auto, unfolding(crate::specs::Reading::program_of, line_text::specs::Reading::reading_of))]
+fn read_text(
+    alloc: Global,
+    text: &[u8],
+    machine: Builder,
+    cycle_us: u32,
+) -> (Builder, Result<Program, TextFault>)
+    requires tasks { machine.tasks ≡ [] }
+    requires cycle { IsCycle cycle_us }
+    ensures exact { ReadsBy (spec.program_of cycle_us machine text.now) result.1 result.0 }
+    ensures program { IfOk result.1 (IsProgramOf result.0) }
+    ensures adds { OnOk result.1 (AddsTasks machine result.0) }
+{
+    numbers_are_small();
+    reads_what_is_spelled();
+    let mut reader = opened(alloc, machine, cycle_us);
+    match read_lines(alloc, text, &mut reader) {
+        Ok(last) => program_of(reader, last),
+        Err(LinesFault::Refused(refused)) => (reader.machine, Err(refused_by(refused))),
+        Err(LinesFault::OutOfMemory) => (reader.machine, Err(TextFault::OutOfMemory)),
+    }
+}
+
+// How a text is refused at this place.
+fn refused_by(refused: LineRefused) -> TextFault
+    ensures { result ≡ TextFault.Refused (spec.told_as refused) }
+{
+    TextFault::Refused(TextRefused {
+        place: refused.line,
+        rule: Rule {
+            letter: b'P',
+            number: refused.rule,
+        },
+    })
+}
+
+// The program at the end of the text, and its machine.
+#[tactic(auto, unfolding(crate::specs::Reading::ending))]
+fn program_of(reader: ProgramReader, last: u64) -> (Builder, Result<Program, TextFault>)
+    requires { (first : Setup) × IsSoFar first reader }
+    ensures exact { ReadsBy (spec.refused_by (at_line last (spec.ending reader))) result.1 result.0 }
+    ensures program { IfOk result.1 (IsProgramOf result.0) }
+    ensures machine { result.0 ≡ reader.setup }
+{
+    let ProgramReader {
+        machine,
+        before,
+        lines,
+        repeating,
+        ..
+    } = reader;
+    if !is_whole(&machine) || repeating {
+        let refused = LineRefused {
+            line: last,
+            rule: NOT_WHOLE,
+        };
+        return (machine, Err(refused_by(refused)));
+    }
+    let mut tasks = before;
+    let Ok(()) = tasks.push(lines) else {
+        return (machine, Err(TextFault::OutOfMemory));
+    };
+    (machine, Ok(Program { tasks }))
+}

@@ -1,0 +1,95 @@
+// The waits and repeats of a program.
+
+ghost use Rattle.std.specs.Prelude.{◌≡◌, ◌≤◌, IfOk};
+ghost use Rattle.line_text.specs.Reading.{Gives};
+ghost use Rattle.line_text.specs.Texts.{texts};
+ghost use Rattle.plc_program.specs.Lines as spec;
+ghost use Rattle.plc_program.specs.Programs as programs;
+
+use crate::name::block_named;
+use crate::program::{Flag, Instruction, MOST_TIMES};
+use crate::quantity::{in_range, number};
+use crate::reader::ProgramReader;
+use crate::rule::{NO_VALUE, OUT_OF_RANGE, WRONG_COUNT, broken_unless};
+use line_text::LineFault;
+
+/// The flags, in the order of a block's outputs.
+const FLAGS: [Flag; 6] = [
+    Flag::Busy,
+    Flag::Active,
+    Flag::Done,
+    Flag::Aborted,
+    Flag::Error,
+    Flag::Reached,
+];
+
+// The name of a flag.
+#[tactic(auto, unfolding(crate::specs::Lines::flag_name))]
+fn flag_name(flag: Flag) -> &'static str
+    ensures { result.now ≡ spec.flag_name flag }
+{
+    match flag {
+        Flag::Busy => "busy",
+        Flag::Active => "active",
+        Flag::Done => "done",
+        Flag::Aborted => "aborted",
+        Flag::Error => "error",
+        Flag::Reached => "reached",
+    }
+}
+
+// The flag of this name.
+fn flag_named(name: &[u8]) -> Option<Flag>
+    ensures { result ≡ spec.flag_named name.now }
+{
+    FLAGS
+        .iter()
+        .find(|flag| flag_name(**flag).as_bytes() == name)
+        .copied()
+}
+
+// Whether an instruction calls the block with inputs of its own.
+fn is_call_of(block: u16, line: &Instruction) -> bool
+    ensures { result ≡ programs.is_call_of block line.now }
+{
+    match line {
+        Instruction::Call { instance, .. } => *instance == block,
+        _ => false,
+    }
+}
+
+// Whether one of the instructions does.
+fn is_called(block: u16, lines: &[Instruction]) -> bool
+    ensures { result ≡ programs.is_called block lines.now }
+{
+    lines.iter().any(|line| is_call_of(block, line))
+}
+
+/// The wait of a line.
+#[tactic(auto, unfolding(crate::specs::Lines::wait_meaning))]
+pub fn wait_of(reader: &ProgramReader, words: &[&[u8]]) -> Result<Instruction, LineFault>
+    ensures { Gives (λ l. l) (spec.wait_meaning reader.now (texts words.now)) result }
+{
+    let [name, flag] = words else {
+        return Err(LineFault::Rule(WRONG_COUNT));
+    };
+    let instance = block_named(&reader.machine, reader.task(), name)?;
+    let Some(flag) = flag_named(flag) else {
+        return Err(LineFault::Rule(NO_VALUE));
+    };
+    broken_unless(is_called(instance, reader.lines.as_slice()), OUT_OF_RANGE)?;
+    Ok(Instruction::Wait { instance, flag })
+}
+
+/// The repeat of a line.
+#[tactic(auto, unfolding(crate::specs::Lines::repeat_meaning))]
+pub fn repeat_of(words: &[&[u8]]) -> Result<Instruction, LineFault>
+    ensures { Gives (λ l. l) (spec.repeat_meaning (texts words.now)) result }
+{
+    let [count] = words else {
+        return Err(LineFault::Rule(WRONG_COUNT));
+    };
+    let count = number(count)?;
+    let count = in_range(1, MOST_TIMES, count)?;
+    Ok(Instruction::Repeat { count })
+}

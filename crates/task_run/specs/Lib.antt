@@ -1,0 +1,4 @@
+pub mod Written
+pub mod Tasks
+pub mod Standing
+pub mod Runs

@@ -1,0 +1,17 @@
+pub mod SameRecords
+pub mod Ahead
+pub mod Numbered
+pub mod Fields
+pub mod EntryTexts
+pub mod RowLaws
+pub mod Equal
+pub mod Firsts
+pub mod CycleLaws
+pub mod Machines
+pub mod FoundLaws
+pub mod DriveLaws
+pub mod EntryLaws
+pub mod ReplayLaws
+pub mod LegalLaws
+pub mod VerdictLaws
+pub mod OneHistory

@@ -1,0 +1,16 @@
+-- The replay up to its stop, or to its end.
+use Rattle.trace_check.proofs.LegalLaws.{illegal-drive, illegal-entry, legal-kernel}
+use Rattle.trace_check.proofs.replaying.kernel_of.Goals as goal
+
+pub returns-in-Err : goal.returns-in-Err
+returns-in-Err c = illegal-entry c.args.trace.now _ c.replay_entries.new.kernel c.entries.ensures.kept c.in-Err.ensures
+
+pub returns-in-Ok-check_drives : goal.returns-in-Ok-check_drives
+returns-in-Ok-check_drives c =
+    legal-kernel c.args.trace.now c.replay_entries.new.kernel c.in-Ok-replay_entries.place c.cycles_made.result c.in-Ok-replay_entries.ensures
+    c.cycles_made.ensures.cycles c.in-Ok-check_drives.ensures.taken c.cycles_made.ensures.legal
+
+pub returns-in-Err-check_drives : goal.returns-in-Err-check_drives
+returns-in-Err-check_drives c =
+    illegal-drive c.args.trace.now _ c.replay_entries.new.kernel c.in-Ok-replay_entries.place c.cycles_made.result c.entries.ensures.kept c.in-Ok-replay_entries.ensures
+    c.cycles_made.ensures.cycles c.in-Err-check_drives.ensures.compared

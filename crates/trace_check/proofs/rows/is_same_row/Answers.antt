@@ -1,0 +1,7 @@
+-- What the comparison has told.
+use Rattle.std.proofs.Common.{◌∙◌, sym}
+use Rattle.trace_check.proofs.Equal.{same-row}
+use Rattle.trace_check.proofs.rows.is_same_row.Goals as goal
+
+pub returns : goal.returns
+returns c = λ yes. same-row _ _ (sym c.eq.ensures ∙ yes)

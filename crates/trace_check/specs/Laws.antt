@@ -1,0 +1,38 @@
+-- What is known of all legal traces. This project's profile.
+use Rattle.std.specs.Prelude.{◌≡◌, Ok, List}
+use Rattle.motion_history.specs.Entries.{Entry}
+use Rattle.motion_history.specs.Setup.{Setup}
+use Rattle.motion_history.specs.declared.refused.TraceVersion.{TraceVersion}
+use Rattle.motion_history.specs.declared.refused.TraceVersion.TheVariants.{Two}
+use Rattle.motion_kernel.specs.Histories.{IsLegal}
+use Rattle.trace_text.specs.Reading.{trace_of}
+use Rattle.trace_text.specs.Trace.{trace_text}
+use Rattle.trace_text.specs.TraceState.{TraceState}
+use Rattle.trace_text.specs.Writable.{IsHeld, found_trace}
+use Rattle.trace_text.specs.declared.write.Command.{Command}
+use Rattle.trace_text.specs.declared.write.DriveEndRow.{DriveEndRow}
+use Rattle.trace_check.specs.Legal.{IsLegalTrace, IsTraceOf}
+
+-- a trace is that of at most one legal history
+abbrev pub TracesTellHistories : Type 0
+TracesTellHistories = (t : TraceState) (es others : List Entry) → IsLegal t.config es →
+    IsLegal t.config others → IsTraceOf t es → IsTraceOf t others → es ≡ others
+
+-- so two legal histories of one configuration have different texts of one version that can hold
+-- both
+abbrev pub TextsTellHistories : Type 0
+TextsTellHistories = (v : TraceVersion) (c : Command) (s : Setup) (es others : List Entry)
+    (ds ends : List DriveEndRow) → IsHeld v s es ds → IsHeld v s others ends → IsLegal s es →
+    IsLegal s others → trace_text v c s es ds ≡ trace_text v c s others ends → es ≡ others
+
+-- the text of version 2 of a legal trace's history, where it can be held, is read as a legal trace
+-- of the same machine, history and drives
+pub record IsMigrated (t : TraceState) (es : List Entry) : Type 0 where
+  pub read : trace_of (trace_text Two t.command t.config es t.drives) ≡
+      Ok (found_trace Two t.command t.config es t.drives)
+  pub legal : IsLegalTrace (found_trace Two t.command t.config es t.drives)
+  pub same : IsTraceOf (found_trace Two t.command t.config es t.drives) es
+
+abbrev pub MigratedTracesAreLegal : Type 0
+MigratedTracesAreLegal = (t : TraceState) (es : List Entry) → IsLegal t.config es →
+    IsTraceOf t es → IsHeld Two t.config es t.drives → IsMigrated t es

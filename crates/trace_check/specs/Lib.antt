@@ -1,0 +1,11 @@
+pub mod FoundRecords
+pub mod Replays
+pub mod Events
+pub mod Differences
+pub mod Rows
+pub mod Legal
+pub mod Stops
+pub mod Progress
+pub mod Outcomes
+pub mod Verdicts
+pub mod Laws

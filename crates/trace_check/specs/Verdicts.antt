@@ -1,0 +1,15 @@
+-- The verdict on a trace. This project's profile.
+use Rattle.std.specs.Prelude.{ℕ, Option, Some, None, length}
+use Rattle.trace_text.specs.TraceState.{TraceState, entries_of}
+use Rattle.trace_check.specs.Progress.{difference_in}
+use Rattle.trace_check.specs.declared.difference.Difference.{Difference}
+use Rattle.trace_check.specs.declared.verdict.Verdict.{Verdict}
+use Rattle.trace_check.specs.declared.verdict.Verdict.TheVariants as verdict
+
+-- the verdict: legal with so many entries where no record differs, else the first that does
+abbrev pub verdict_by : ℕ → Option Difference → Verdict
+verdict_by entries None = verdict.Legal entries
+verdict_by entries (Some d) = verdict.IllegalAt d.place d.expected d.found
+
+unfoldable pub verdict_of : TraceState → Verdict
+verdict_of t = verdict_by (length (entries_of t)) (difference_in t)

@@ -1,0 +1,23 @@
+//! Replays a trace on the kernel and judges it: legal, or the first record that differs.
+#![tactic(auto)]
+
+mod difference;
+mod drives;
+mod entry;
+mod laws;
+mod making;
+mod record;
+mod replaying;
+mod rows;
+#[cfg(test)]
+mod tests;
+mod texts;
+mod verdict;
+
+pub use difference::Difference;
+pub use laws::{migrated_traces_are_legal, traces_tell_their_history};
+pub use motion_kernel::Kernel;
+pub use record::Record;
+pub use replaying::{Replayed, replay};
+pub use trace_text::{OutOfMemory, Trace, read_trace};
+pub use verdict::{Verdict, check};

@@ -1,0 +1,94 @@
+// The events of a trace, made on the kernel.
+
+ghost use Rattle.std.specs.Prelude.{◌≡◌, ◌+◌, ◌<◌, ◌++◌, ◌∷◌, [], IsTrue, false, length};
+ghost use Rattle.motion_history.specs.Entries.{cycles_of};
+ghost use Rattle.motion_history.specs.Looks.{told};
+ghost use Rattle.motion_kernel.specs.Histories.{inputs_of};
+ghost use Rattle.trace_check.specs.Events.{IsEvent};
+ghost use Rattle.trace_check.specs.Replays as spec;
+ghost use Rattle.trace_check.specs.Replays.{cycle_made, with_made};
+
+use axis_state::AxisRow;
+use cia402_machine::{DriveIn, DriveOut};
+use motion_history::{EntryLook, MOST_AXES};
+use motion_kernel::Kernel;
+
+/// An answer before it is given.
+const NO_ANSWER: DriveIn = DriveIn {
+    statusword: 0,
+    mode_display: 0,
+    actual: 0,
+};
+
+/// An output before it is given.
+const NO_OUTPUT: DriveOut = DriveOut {
+    controlword: 0,
+    mode: 0,
+    target: 0,
+};
+
+/// Whether the history has room for an entry more, and where it is a cycle also for that.
+pub fn has_room(kernel: &Kernel, entry: &EntryLook<'_>) -> bool
+    requires { kernel.now.stopped ≡ false }
+    ensures { result ≡ spec.has_room kernel.now.config kernel.now.history (told entry.now) }
+{
+    if kernel.room_left() == 0 {
+        return false;
+    }
+    match entry {
+        EntryLook::Cycle { .. } => kernel.cycles_left() != 0,
+        _ => true,
+    }
+}
+
+// The answers that the rows of a cycle show.
+fn take_answers(rows: &[AxisRow], answers: &mut [DriveIn])
+    requires { length answers.old ≡ length rows.now }
+    ensures { answers.new ≡ inputs_of rows.now }
+{
+    for (i, row) in rows.iter().enumerate() {
+        answers[i] = row.input;
+    }
+}
+
+// Goes through a cycle with the answers that these rows show.
+fn make_cycle(kernel: &mut Kernel, rows: &[AxisRow])
+    requires room { length kernel.old.history < kernel.old.config.entries }
+    requires cycle { cycles_of kernel.old.history < kernel.old.config.cycles }
+    requires runs { kernel.old.stopped ≡ false }
+    requires rows { length rows.now ≡ length kernel.old.config.axes }
+    ensures { kernel.new ≡ record kernel.old {
+      history = kernel.old.history ++
+          cycle_made kernel.old.config kernel.old.history (inputs_of rows.now) ∷ [];
+    } }
+{
+    let mut answers = [NO_ANSWER; MOST_AXES];
+    let answers = &mut answers[..kernel.config().axes().len()];
+    let mut outs = [NO_OUTPUT; MOST_AXES];
+    let outs = &mut outs[..answers.len()];
+    take_answers(rows, answers);
+    kernel.cycle(answers, outs);
+}
+
+/// Makes the event of an entry, for which there is room.
+pub fn make(kernel: &mut Kernel, entry: &EntryLook<'_>)
+    requires runs { kernel.old.stopped ≡ false }
+    requires room { IsTrue (spec.has_room kernel.old.config kernel.old.history (told entry.now)) }
+    requires event { IsEvent kernel.old.config (told entry.now) }
+    ensures { kernel.new ≡ record kernel.old {
+      history = with_made kernel.old.config kernel.old.history (told entry.now);
+    } }
+{
+    match entry {
+        EntryLook::Call {
+            instance,
+            inputs,
+            ..
+        } => {
+            let task = kernel.config().blocks()[*instance as usize].task;
+            kernel.call(task, *instance, inputs);
+        }
+        EntryLook::Cycle { axes, .. } => make_cycle(kernel, axes),
+        EntryLook::End { task } => kernel.end(*task),
+    }
+}
