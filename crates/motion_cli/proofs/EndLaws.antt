@@ -1,9 +1,9 @@
 -- How the program ends, from what its parts did.
-use Rattle.std.specs.Prelude.{◌≡◌, refl, ℕ, true, false, Option, Result, Ok, Err, List, map, All, IfOk}
+use Rattle.std.specs.Prelude.{◌≡◌, ◌≢◌, ◌↔◌, refl, ℕ, Bool, true, false, Option, Some, None, Result, Ok, Err, List, length, map, All, IfOk}
 use Rattle.std.specs.declared.alloc.AllocError.{AllocError}
 use Rattle.std.proofs.Common.{Vec, Global, ◌∙◌, sym, ap, subst}
 use Rattle.bench_text.specs.BenchState.{BenchState, BrakesAsItSpeedsUp, IsBench}
-use Rattle.bench_text.specs.Reading.{ReadsBy}
+use Rattle.bench_text.specs.Reading.{ReadsBy, bench_of}
 use Rattle.drive_sim.specs.Sim.{DriveSim}
 use Rattle.motion_history.specs.Entries.{Entry, cycles_of}
 use Rattle.motion_history.specs.Setup.{Setup}
@@ -15,18 +15,30 @@ use Rattle.motion_history.specs.declared.refused.TraceVersion.TheVariants.{One, 
 use Rattle.motion_kernel.specs.Histories.{IsLegal}
 use Rattle.motion_kernel.specs.KernelState.{KernelState}
 use Rattle.motion_kernel.specs.Laws.{KeepsLaws}
+use Rattle.trace_check.specs.Legal.{IsLegalTrace}
+use Rattle.trace_check.specs.Progress.{difference_in}
+use Rattle.trace_check.specs.Verdicts.{verdict_by, verdict_of}
+use Rattle.trace_check.specs.declared.verdict.Verdict.{Verdict}
+use Rattle.trace_check.specs.declared.verdict.Verdict.TheVariants as verdict
+use Rattle.trace_text.specs.Reading.{trace_of}
+use Rattle.trace_check.specs.declared.difference.Difference.{Difference}
 use Rattle.trace_text.specs.Trace.{CanHold, trace_text}
+use Rattle.trace_text.specs.TraceState.{TraceState, entries_of}
 use Rattle.trace_text.specs.Writes.{Output, Writes, WritesPrefix}
-use Rattle.trace_text.specs.declared.write.Command.TheVariants.{Bench}
+use Rattle.trace_text.specs.declared.write.Command.TheVariants as command
 use Rattle.trace_text.specs.declared.write.TraceFault.{TraceFault}
 use Rattle.trace_text.specs.declared.write.TraceFault.TheVariants as fault
 use Rattle.motion_cli.specs.Going.{run_at}
 use Rattle.motion_cli.specs.Drives.{drive_end}
-use Rattle.motion_cli.specs.Ends.{Plan, EndsBy, EndsEarly, IsLegalRun, RunsBy, Says, drive_ends, is_traced, status_by, status_of, plan_of_bench, plan_of_reading, refused_line}
+use Rattle.motion_cli.specs.Asked.{Request}
+use Rattle.motion_cli.specs.Ends.{EndsBy, EndsEarly, IsBenchIn, IsLegalRun, IsTraceIn, JudgesBy, RunsBy, Says, is_traced, status_by, tells_illegal}
+use Rattle.motion_cli.specs.Plans.{Content, Plan, drive_ends, judged_plan, migrated_plan, plan_of_bench, plan_of_check, plan_of_migrate, plan_of_reading, refused_plan, status_of}
 use Rattle.motion_cli.specs.Run.{Run, run_of}
 use Rattle.motion_cli.specs.declared.run.RunFault.{RunFault}
 use Rattle.motion_cli.specs.declared.status.Status.{Status}
 use Rattle.motion_cli.specs.declared.status.Status.TheVariants as status
+use Rattle.motion_cli.specs.declared.words.Job.{Job}
+use Rattle.motion_cli.specs.declared.words.Job.TheVariants.{Bench}
 
 -- nothing of a text is a beginning of it
 abbrev pub NothingIsABeginning : Type 0
@@ -61,11 +73,10 @@ pub same-text : (old new : Output) (x y : List ℕ) (r : Result (Unit {0}) Trace
 same-text old new x y r e w = let P : List ℕ → Type 0 = λ t. Writes old new t r in subst P e w
 
 -- a text that is refused has this plan
-pub refused-plan : (name : List ℕ) (reading : Result BenchState TextRefused) (r : TextRefused) →
-    reading ≡ Err r →
-    record { status = status.TextRefused 1 r.place r.rule; text = refused_line name r } ≡
-    plan_of_reading name reading
-refused-plan name reading r e = sym (ap (plan_of_reading name) e)
+pub refusing : {A : Type 0} (plan : A → Plan) (name : List ℕ) (reading : Result A TextRefused)
+    (r : TextRefused) → reading ≡ Err r →
+    refused_plan name r ≡ plan_of_reading plan name reading
+refusing plan name reading r e = sym (ap (plan_of_reading plan name) e)
 
 -- why a text is refused
 pub refused-why : (reading : Result BenchState TextRefused) (f : TextFault) (r : TextRefused) →
@@ -78,13 +89,13 @@ pub bench-ends : (old new : Output) (b : BenchState) (k : KernelState) (drives :
     (ending : Result (Unit {0}) RunFault) (written : Result (Unit {0}) TraceFault) →
     run_at k drives ending ≡ run_of b →
     Writes old new
-    (trace_text b.version Bench b.config k.history (map (drive_end (cycles_of k.history)) drives))
+    (trace_text b.version command.Bench b.config k.history (map (drive_end (cycles_of k.history)) drives))
     written →
     EndsBy old new (plan_of_bench b) (status_by (status_of ending) written)
 bench-ends old new b k drives ending written e w = record {
   written = written;
   writes = same-text old new _ _ written
-      (ap (λ (r : Run). trace_text b.version Bench b.config r.history (drive_ends r)) e) w;
+      (ap (λ (r : Run). trace_text b.version command.Bench b.config r.history (drive_ends r)) e) w;
   status = ap (λ (r : Run). status_by (status_of r.ending) written) e;
 }
 
@@ -127,3 +138,94 @@ runs-none reading r s e = λ b h t. let bad : Ok b ≡ Err r = sym h ∙ e in ab
 -- where the status stands for no trace nothing is said of the run
 pub runs-other : (IsRead : BenchState → Type 0) (s : Status) → is_traced s ≡ false → RunsBy IsRead s
 runs-other IsRead s e = λ b h t. absurd (let bad : true ≡ false = sym t ∙ e in cc)
+
+-- a bench that is in the content of a file is the one that was run
+pub runs-content : (r : Request) (text : List ℕ) (s : Status) →
+    RunsBy (λ b. (r.job ≡ Bench) × (bench_of text ≡ Ok b)) s →
+    RunsBy (IsBenchIn r (Content text)) s
+runs-content r text s runs =
+    λ b h t. let same : h.text ≡ text = let e : Content text ≡ Content h.text = h.content in cc in
+    runs b (h.job, ap bench_of (sym same) ∙ h.reading) t
+
+-- a trace is not a bench that was to be run
+pub runs-no-bench : (job : Job) (IsRead : BenchState → Type 0) (s : Status) →
+    job ≢ Bench → RunsBy (λ b. (job ≡ Bench) × IsRead b) s
+runs-no-bench job IsRead s other = λ b h t. absurd (other h.0)
+
+-- a trace that was replayed has this plan
+pub checked : (t : TraceState) (o : Option Difference) → difference_in t ≡ o →
+    plan_of_check t ≡ judged_plan (length (entries_of t)) o
+checked t o e = ap (judged_plan (length (entries_of t))) e
+
+pub migrating : (t : TraceState) (o : Option Difference) → difference_in t ≡ o →
+    plan_of_migrate t ≡ migrated_plan t o
+migrating t o e = ap (migrated_plan t) e
+
+-- what a status that was said isn't
+not-by : (test : Status → Bool) → test status.WriteFault ≡ false →
+    test status.OutOfMemory ≡ false → (p s : Status) (w : Result (Unit {0}) TraceFault) →
+    test p ≡ false → s ≡ status_by p w → test s ≡ false
+not-by test f o p s (Ok u) n e = ap test e ∙ n
+not-by test f o p s (Err fault.WriteFault) n e = ap test e ∙ f
+not-by test f o p s (Err fault.OutOfMemory) n e = ap test e ∙ o
+
+pub said-not : (test : Status → Bool) → test status.WriteFault ≡ false →
+    test status.OutOfMemory ≡ false → (old new : Output)
+    (line : Result (Vec ℕ Global) AllocError) (p s : Status) → test p ≡ false →
+    Says old new line p s → test s ≡ false
+said-not test f o old new (Ok v) p s n e = not-by test f o p s e.written n e.status
+said-not test f o old new (Err x) p s n e = ap test e.status ∙ o
+
+-- a trace that is in the content of a file is the one that was judged
+pub judges-content : (r : Request) (text : List ℕ) (s : Status) →
+    JudgesBy (λ t. (r.job ≢ Bench) × (trace_of text ≡ Ok t)) s →
+    JudgesBy (IsTraceIn r (Content text)) s
+judges-content r text s judges =
+    λ t h. let same : h.text ≡ text = let e : Content text ≡ Content h.text = h.content in cc in
+    judges t (h.job, ap trace_of (sym same) ∙ h.reading)
+
+-- what is read is the one trace
+pub judges-read : (reading : Result TraceState TextRefused) (trace : TraceState) (s : Status) →
+    reading ≡ Ok trace → JudgesBy (λ t. t ≡ trace) s → JudgesBy (λ t. reading ≡ Ok t) s
+judges-read reading trace s r judges =
+    λ t h. judges t (let e : Ok t ≡ Ok trace = sym h ∙ r in cc)
+
+-- the verdict by the first record that differs
+legal-by : (n entries : ℕ) (o : Option Difference) → verdict.Legal entries ≡ verdict_by n o →
+    (o ≡ None) × (entries ≡ n)
+legal-by n entries None e = (refl, let same : entries ≡ n = cc in same)
+legal-by n entries (Some d) e = absurd (cc)
+
+pub legal-of : (t : TraceState) (entries : ℕ) → verdict.Legal entries ≡ verdict_of t →
+    (difference_in t ≡ None) × (entries ≡ length (entries_of t))
+unfolding verdict_of
+legal-of t entries e = legal-by (length (entries_of t)) entries (difference_in t) e
+
+illegal-by : (n place : ℕ) (x y : List (List ℕ)) (o : Option Difference) →
+    verdict.IllegalAt place x y ≡ verdict_by n o →
+    o ≡ Some (record { place = place; expected = x; found = y })
+illegal-by n place x y None e = absurd (cc)
+illegal-by n place x y (Some d) e =
+    let p : d.place ≡ place = cc in
+    let a : d.expected ≡ x = cc in
+    let b : d.found ≡ y = cc in
+    λ i. Some (record { place = p i; expected = a i; found = b i })
+
+pub illegal-of : (t : TraceState) (place : ℕ) (x y : List (List ℕ)) →
+    verdict.IllegalAt place x y ≡ verdict_of t →
+    difference_in t ≡ Some (record { place = place; expected = x; found = y })
+unfolding verdict_of
+illegal-of t place x y e = illegal-by (length (entries_of t)) place x y (difference_in t) e
+
+-- a trace that was found legal
+pub judges-legal : (t : TraceState) (v : Verdict) (entries : ℕ) (s : Status) →
+    v ≡ verdict.Legal entries → v ≡ verdict_of t →
+    ((v ≡ verdict.Legal (length (entries_of t))) ↔ IsLegalTrace t) → tells_illegal s ≡ false →
+    JudgesBy (λ x. x ≡ t) s
+judges-legal t v entries s is e legal n =
+    let count = (legal-of t entries (sym is ∙ e)).1 in
+    let fair : IsLegalTrace t = legal.0 (is ∙ ap verdict.Legal count) in
+    λ x same. record {
+      legal = λ h. subst IsLegalTrace (sym same) fair;
+      illegal = λ h. absurd (let bad : true ≡ false = sym h ∙ n in cc);
+    }

@@ -1,6 +1,8 @@
 pub mod EndLaws
+pub mod Joined
 pub mod RunLaws
 pub mod DriveLaws
 pub mod StepLaws
-pub mod Ways
+pub mod Outcomes
 pub mod CauseLaws
+pub mod HeadlineLaws

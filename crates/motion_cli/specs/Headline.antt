@@ -1,5 +1,5 @@
--- What a trace that the program writes stands for.
-use Rattle.std.specs.Prelude.{◌≡◌, ℕ, Option, Some, Ok, List, ◌∷◌, ◌++◌, map}
+-- What the traces that the program writes stand for.
+use Rattle.std.specs.Prelude.{◌≡◌, ℕ, Option, Ok, List, ◌∷◌, ◌++◌, map}
 use Rattle.std.specs.Io.KnownBytes.{Appends}
 use Rattle.axis_state.specs.declared.definition.AxisRow.{AxisRow}
 use Rattle.bench_text.specs.BenchState.{BenchState}
@@ -8,11 +8,15 @@ use Rattle.drive_sim.specs.Sim.{DriveSim}
 use Rattle.drive_sim.specs.Steps.{answer_of}
 use Rattle.group_state.specs.declared.state.GroupRow.{GroupRow}
 use Rattle.motion_history.specs.Entries.{Entry, cycle, cycles_of}
+use Rattle.motion_history.specs.declared.refused.TraceVersion.TheVariants.{Two}
 use Rattle.motion_kernel.specs.Cycles.{cycled}
 use Rattle.motion_kernel.specs.Histories.{IsLegal, machine_after}
 use Rattle.motion_kernel.specs.Laws.{KeepsLaws}
 use Rattle.outside.specs.Told.{FileMap, HasFile}
+use Rattle.trace_check.specs.Legal.{IsTraceOf}
+use Rattle.trace_text.specs.Reading.{trace_of}
 use Rattle.trace_text.specs.Trace.{trace_text}
+use Rattle.trace_text.specs.TraceState.{TraceState}
 use Rattle.trace_text.specs.declared.write.Command.TheVariants.{Bench}
 use Rattle.trace_text.specs.declared.write.DriveEndRow.{DriveEndRow}
 use Rattle.motion_cli.specs.Drives.{drive_end, drives_after, drives_at_opening}
@@ -33,13 +37,11 @@ TakesAnswers b es =
 
 -- the trace that was written is that of a bench: of the one history that the events of its file
 -- make, one after another, up to the first for which there is no cycle or no room left
-pub record Headline (files : Option FileMap) (asked : Option (List ℕ)) (old new : Option (List ℕ))
+pub record Headline (files : Option FileMap) (name : List ℕ) (old new : Option (List ℕ))
     : Type 0 where
-  -- the words ask for a file, whose text is a bench
-  pub name : List ℕ
+  -- the text of the file that was asked for is a bench
   pub text : List ℕ
   pub bench : BenchState
-  pub asked_for : asked ≡ Some name
   pub file : HasFile files name text
   pub reading : bench_of text ≡ Ok bench
   -- the file's events make this history, in which the drives answer in step
@@ -54,3 +56,19 @@ pub record Headline (files : Option FileMap) (asked : Option (List ℕ)) (old ne
   pub taken : drives ≡ map (drive_end (cycles_of history)) (drives_of bench history)
   -- what was written is the text of all this, in the bench's version
   pub written : Appends old new (trace_text bench.version Bench bench.config history drives)
+
+-- the trace that was written is the one that was read, in version 2: that of the same history,
+-- which is legal
+pub record Migrated (files : Option FileMap) (name : List ℕ) (old new : Option (List ℕ))
+    : Type 0 where
+  -- the text of the file that was asked for is a trace
+  pub text : List ℕ
+  pub trace : TraceState
+  pub file : HasFile files name text
+  pub reading : trace_of text ≡ Ok trace
+  -- it is the trace of this history, of which each reply and each row is the PLCopen machine's
+  pub history : List Entry
+  pub is : IsTraceOf trace history
+  pub legal : IsLegal trace.config history
+  -- what was written is its text in version 2, with what the drives took
+  pub written : Appends old new (trace_text Two trace.command trace.config history trace.drives)

@@ -3,6 +3,7 @@ pub mod Run
 pub mod Going
 pub mod WordList
 pub mod Asked
+pub mod Plans
 pub mod Ends
 pub mod Headline
 pub mod Causes

@@ -2,17 +2,21 @@
 //! ends with.
 #![tactic(auto)]
 
+mod benches;
 mod drives;
 mod lines;
 mod program;
 mod run;
+mod say;
+mod serve;
 mod status;
+mod traces;
 mod words;
 
 pub use outside::{Files, OutOfMemory, Sink};
 pub use program::{top, top_of_args};
 pub use status::Status;
-pub use words::{Words, words_from};
+pub use words::{Job, Words, words_from};
 
 #[cfg(test)]
 mod tests;

@@ -21,7 +21,7 @@ pub enum Status {
     TextRefused { word: u8, place: u64, rule: Rule },
     /// The file isn't there, or reading it failed.
     ReadFault { word: u8 },
-    /// The file is longer than 16 MiB.
+    /// The file is longer than 16 MiB, or than 256 MiB where it is to be a trace.
     TooLong { word: u8 },
     /// Writing failed.
     WriteFault,

@@ -1,5 +1,6 @@
 // What no clause says: whole runs of the program in memory, byte for byte.
 mod rows;
+mod traces;
 
 use crate::*;
 use motion_history::Rule;
@@ -80,7 +81,8 @@ call M on
 end main
 ";
 
-const USAGE: &[u8] = b"usage: motion bench FILE | run CONFIG PROGRAM | check TRACE | gen SEED\n";
+const USAGE: &[u8] =
+    b"usage: motion bench FILE | run CONFIG PROGRAM | check TRACE | gen SEED | migrate TRACE\n";
 
 // How the program ends on these words and files.
 fn status(
@@ -105,13 +107,18 @@ fn files(rt: &HostRuntime, fails: &[u32]) -> Result<MemoryFiles, Fail> {
     Ok(files)
 }
 
+// How the program ends where a job is asked with a text, and what it writes.
+fn ended(rt: &HostRuntime, job: &str, name: &str, text: &[u8]) -> Result<(Status, Vec<u8>), Fail> {
+    let mut files = files(rt, &[])?;
+    files.put(name, text)?;
+    let mut out = MemorySink::new(rt.alloc(), &[], u32::MAX)?;
+    let ended = status(rt, &[job, name], &mut files, &mut out)?;
+    Ok((ended, Vec::from_slice(rt.alloc(), out.bytes())?))
+}
+
 // How the program ends on a bench, and what it writes.
 fn run_of(rt: &HostRuntime, bench: &[u8]) -> Result<(Status, Vec<u8>), Fail> {
-    let mut files = files(rt, &[])?;
-    files.put("b", bench)?;
-    let mut out = MemorySink::new(rt.alloc(), &[], u32::MAX)?;
-    let ended = status(rt, &["bench", "b"], &mut files, &mut out)?;
-    Ok((ended, Vec::from_slice(rt.alloc(), out.bytes())?))
+    ended(rt, "bench", "b", bench)
 }
 
 #[test]
@@ -206,7 +213,7 @@ fn writes_a_byte_at_a_time(rt: HostRuntime) -> Result<(), Fail> {
 
 #[test]
 fn tells_the_words_that_it_takes(rt: HostRuntime) -> Result<(), Fail> {
-    let cases: [&[&str]; 13] = [
+    let cases: [&[&str]; 17] = [
         &[],
         &["bench"],
         &["bench", ""],
@@ -214,7 +221,11 @@ fn tells_the_words_that_it_takes(rt: HostRuntime) -> Result<(), Fail> {
         &["bench", "-one_move"],
         &["bench", "--", "one_move"],
         &["-bench", "one_move"],
-        &["check", "one_move"],
+        &["check"],
+        &["check", "-"],
+        &["check", "one_move", "one_move"],
+        &["migrate"],
+        &["migrate", "-one_move"],
         &["gen", "7"],
         &["bench", "one_move", "one_move"],
         &["Bench", "one_move"],
@@ -295,23 +306,23 @@ fn tells_why_a_file_gives_no_trace(rt: HostRuntime) -> Result<(), Fail> {
     Ok(())
 }
 
-// The bench of a move with another line in the place of one.
-fn with_line(rt: &HostRuntime, number: u64, line: &[u8]) -> Result<Vec<u8>, Fail> {
-    let mut text = Vec::new(rt.alloc());
+// A text with another line in the place of one.
+fn with_line(rt: &HostRuntime, text: &[u8], number: u64, line: &[u8]) -> Result<Vec<u8>, Fail> {
+    let mut changed = Vec::new(rt.alloc());
     let mut at: u64 = 1;
-    for byte in ONE_MOVE {
+    for byte in text {
         if at != number {
-            text.push(*byte)?;
+            changed.push(*byte)?;
         }
         if *byte == b'\n' {
             if at == number {
-                text.extend_from_slice(line)?;
-                text.push(b'\n')?;
+                changed.extend_from_slice(line)?;
+                changed.push(b'\n')?;
             }
             at = at.saturating_add(1);
         }
     }
-    Ok(text)
+    Ok(changed)
 }
 
 #[test]
@@ -326,7 +337,7 @@ fn refuses_damaged_benches(rt: HostRuntime) -> Result<(), Fail> {
         (10, b"end mai", b"refused b 10 B6\n"),
     ];
     for (number, line, told) in cases {
-        let (ended, line_told) = run_of(&rt, with_line(&rt, number, line)?.as_slice())?;
+        let (ended, line_told) = run_of(&rt, with_line(&rt, ONE_MOVE, number, line)?.as_slice())?;
         assert_eq!(rt; ended.exit(), 3);
         assert_eq!(rt; line_told.as_slice(), told);
     }

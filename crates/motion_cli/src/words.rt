@@ -1,6 +1,7 @@
 // The words of a call of the program.
 
-ghost use Rattle.std.specs.Prelude.{◌≡◌, ◌++◌, ◌∷◌, [], IfOk, OnErr, OnOk, option_map};
+ghost use Rattle.std.specs.Prelude.{◌≡◌, ◌++◌, ◌∷◌, [], IfOk, OnErr, OnOk};
+ghost use Rattle.std.specs.Option.{option_map};
 ghost use Rattle.motion_cli.specs.Args.{words_of};
 ghost use Rattle.motion_cli.specs.Asked as spec;
 
@@ -8,6 +9,17 @@ use crate::OutOfMemory;
 use std::alloc::{AllocError, Global};
 use std::env::Args;
 use std::marker::Model;
+
+/// What the program does with a file.
+#[derive(Clone, Copy, Debug, PartialEq, Eq)]
+pub enum Job {
+    /// Runs a bench, and writes its trace.
+    Bench,
+    /// Replays a trace, and tells whether it is legal.
+    Check,
+    /// Replays a trace, and writes it in version 2.
+    Migrate,
+}
 
 /// The words with which the program is called, without its own name. Contracts see them as a list
 /// of texts.
@@ -65,16 +77,34 @@ pub fn words_from(alloc: Global, args: Args) -> Result<Words, OutOfMemory>
     Ok(Words { alloc, texts })
 }
 
-/// The file of the words `bench FILE`.
-#[tactic(auto, unfolding(crate::specs::Asked::bench_file))]
-pub fn bench_file(words: &Words) -> Option<&str>
-    ensures { option_map (λ file. file.now) result ≡ spec.bench_file words.now }
+/// What the words ask for: the job and its file.
+#[tactic(auto, unfolding(crate::specs::Asked::request_of))]
+pub fn request(words: &Words) -> Option<(Job, &str)>
+    ensures { option_map (λ r. record { job = r.0; name = r.1.now }) result ≡
+        spec.request_of words.now }
 {
     match words.texts.as_slice() {
-        [command, file] if command.as_str() == "bench" && is_file(file.as_str()) => Some(
-            file.as_str(),
-        ),
+        [word, file] if is_file(file.as_str()) => match first_word(word.as_str()) {
+            Some(job) => Some((job, file.as_str())),
+            None => None,
+        },
         _ => None,
+    }
+}
+
+// What the first word asks for.
+#[tactic(auto, unfolding(crate::specs::Asked::job_of))]
+fn first_word(word: &str) -> Option<Job>
+    ensures { result ≡ spec.job_of word.now }
+{
+    if word == "bench" {
+        Some(Job::Bench)
+    } else if word == "check" {
+        Some(Job::Check)
+    } else if word == "migrate" {
+        Some(Job::Migrate)
+    } else {
+        None
     }
 }
 

@@ -1,0 +1,43 @@
+-- A trace was written in version 2, or there was no memory for it.
+use Rattle.std.specs.Prelude.{None, length}
+use Rattle.std.proofs.Common.{◌∙◌, ap, refl, subst, sym}
+use Rattle.motion_history.specs.Setup.{Setup}
+use Rattle.motion_history.specs.declared.refused.TraceVersion.TheVariants.{Two}
+use Rattle.trace_check.specs.Outcomes.{IsReplayed}
+use Rattle.trace_text.specs.Trace.{trace_text}
+use Rattle.trace_text.specs.Writes.{Output}
+use Rattle.motion_cli.proofs.EndLaws.{early, migrating, same-plan, same-text}
+use Rattle.motion_cli.proofs.HeadlineLaws.{history_is}
+use Rattle.motion_cli.proofs.traces.migrate_trace.Goals as goal
+
+pub write_trace-written-requires-clause-drives : goal.write_trace-written-requires-clause-drives
+write_trace-written-requires-clause-drives g c =
+    c.drives.ensures.each
+    ∙ ap (λ (s : Setup). length s.axes) (sym c.config.ensures)
+
+pub returns-in-Ok-Legal-clause-ends : goal.returns-in-Ok-Legal-clause-ends
+returns-in-Ok-Legal-clause-ends g c =
+    let t = c.args.trace.now in
+    let is = subst (IsReplayed t) c.in-Ok-Legal.field-0-is c.in-Ok-Legal.ensures in
+    let history = c.history.ensures.entries
+    ∙ history_is t c.in-Ok-Legal.kernel.history is.1.legal is.1.is in
+    let old : Output = record {
+      count = g.K.Sink.count c.args.out.now;
+      told = g.K.Sink.told c.args.out.now;
+    } in
+    let new : Output = record {
+      count = g.K.Sink.count c.write_trace-written.new.out;
+      told = g.K.Sink.told c.write_trace-written.new.out;
+    } in
+    same-plan old new _ _ _ (sym (migrating t None is.0))
+    (record {
+      written = c.write_trace-written.result;
+      writes = same-text old new _ _ c.write_trace-written.result
+          (λ i. trace_text Two (c.command.ensures i) (c.config.ensures i) (history i)
+          (c.drives.ensures.items i)) c.write_trace-written.ensures;
+      status = c.status_by.ensures;
+    })
+
+pub returns-in-Err-clause-ends : goal.returns-in-Err-clause-ends
+returns-in-Err-clause-ends g c =
+    early c.parts_are_beginnings.ensures.none _ _ _ _ (record { status = refl; output = refl })
