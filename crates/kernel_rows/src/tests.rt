@@ -1,3 +1,4 @@
 mod answers;
 mod machine;
 mod play;
+mod turns;
