@@ -1,6 +1,7 @@
 -- Numbers of few digits, digit by digit.
-use Rattle.std.specs.Prelude.{◌≡◌, refl, ℕ, ◌+◌, ◌-◌, ◌*◌, ◌^◌, ◌<◌, ◌≤◌, pos, Some, Bool, true, false, nat_lt, decimal, List, [], ◌∷◌, length, take, slice_index_or}
+use Rattle.std.specs.Prelude.{◌≡◌, refl, ℕ, zero, suc, ◌+◌, ◌-◌, ◌*◌, ◌^◌, ◌<◌, ◌≤◌, ℤ, pos, neg_ℤ, Option, Some, None, IfSome, Bool, true, false, nat_lt, decimal, List, [], ◌∷◌, length, take, slice_index_or}
 use Rattle.std.specs.Char.{digit_value}
+use Rattle.std.specs.Fmt.{signed_decimal}
 use Rattle.std.specs.Str.Parse.{AllDigits, digits_value}
 use Rattle.std.proofs.Common.{◌∙◌, sym, ap, subst, arith}
 use Rattle.std.proofs.lemmas.Bool.{lt-ltb, ltb-true}
@@ -67,3 +68,17 @@ all_small text number is few =
 -- what they spell is the number of the field
 pub short-back : (text : List ℕ) (n : ℕ) → decimal n ≡ text → n < 10 ^ 18 → Some (pos n) ≡ wide_number_of text
 short-back text n e small = sym (rw (← e) (wide-back (pos n) (omega (arith, ints, small))))
+
+-- and behind a minus they spell the negative one
+minus_before : (n : ℕ) → 0 < n → signed_decimal (neg_ℤ (pos n)) ≡ 45 ∷ decimal n
+minus_before zero l = absurd (omega (arith, l))
+minus_before (suc n) l = refl
+
+negative-back : (text : List ℕ) (n : ℕ) → decimal n ≡ text → n < 10 ^ 18 → 0 < n → Some (neg_ℤ (pos n)) ≡ wide_number_of (45 ∷ text)
+negative-back text n e small some =
+    sym (rw (← e, ← minus_before n some) (wide-back (neg_ℤ (pos n)) (omega (arith, ints, small))))
+
+pub negatives-back : (o : Option ℤ) (text : List ℕ) (n : ℕ) → decimal n ≡ text → n < 10 ^ 18 → IfSome o (λ z. z ≡ neg_ℤ (pos n)) → IfSome o (λ z. 0 < n) →
+    IfSome o (λ z. Some z ≡ wide_number_of (45 ∷ text))
+negatives-back None text n e small is some = tt
+negatives-back (Some z) text n e small is some = ap Some is ∙ negative-back text n e small some

@@ -1,6 +1,6 @@
 // The numbers of a trace, as a writer spells them.
 
-ghost use Rattle.std.specs.Prelude.{◌≡◌, ◌≤◌, ◌<◌, ◌-◌, ◌^◌, ◌≤ℤ◌, pos, neg_ℤ, unsigned_abs, IfSome, true, length, decimal, slice_index_or};
+ghost use Rattle.std.specs.Prelude.{◌≡◌, ◌≤◌, ◌<◌, ◌-◌, ◌^◌, ◌≤ℤ◌, pos, neg_ℤ, unsigned_abs, IfSome, Some, true, length, decimal, slice_index_or};
 ghost use Rattle.std.specs.Fmt.{signed_decimal};
 ghost use Rattle.std.specs.List.{position};
 ghost use Rattle.std.specs.Option.{option_map};
@@ -18,10 +18,34 @@ const MOST: i64 = MOST_NUMBER as i64;
 pub fn wide_number_of(text: &[u8]) -> Option<i64>
     ensures { result ≡ spec.wide_number_of text.now }
 {
-    match digits_of(text) {
-        Some(number) => Some(number as i64),
+    match short_number_of(text) {
+        Some(number) => Some(number),
         None => parsed_number_of(text),
     }
+}
+
+// The number that a field of at most 18 digits is, behind a minus or not, as it is spelled.
+fn short_number_of(text: &[u8]) -> Option<i64>
+    ensures { IfSome result (λ z. Some z ≡ spec.wide_number_of text.now) }
+{
+    let (first, size) = text.split_first()?;
+    if *first == b'-' {
+        negative(digits_of(size)?)
+    } else {
+        Some(digits_of(text)? as i64)
+    }
+}
+
+// The negative number of a size, where that is not 0.
+fn negative(size: u64) -> Option<i64>
+    requires { size < 10 ^ 18 }
+    ensures some { IfSome result (λ z. z ≡ neg_ℤ (pos size)) }
+    ensures least { IfSome result (λ _. 0 < size) }
+{
+    if size == 0 {
+        return None;
+    }
+    Some(-(size as i64))
 }
 
 // The number that a field of at most 18 digits is, without a sign and needless zeros.
