@@ -55,3 +55,4 @@ pub mod ToldCycles
 pub mod ToldEvents
 pub mod ToldLaws
 pub mod WaitingLaws
+pub mod CountLaws

@@ -5,7 +5,7 @@ use Rattle.std.proofs.lemmas.Int.{ints}
 use Rattle.std.proofs.lemmas.List.{get_or-map, length-map}
 use Rattle.std.proofs.lemmas.List.Elements.{All-get_or}
 use Rattle.axis_core.specs.Cycles.{axis_at_opening}
-use Rattle.axis_core.specs.Rows.{spell_of}
+use Rattle.axis_core.specs.Rows.{Stays, spell_of}
 use Rattle.axis_core.specs.declared.axis.Axis.{Axis}
 use Rattle.axis_state.specs.Counts.{IsCount}
 use Rattle.axis_state.specs.Spells.{KeepsLimits, KeepsRow, Spell, opening_spell}
@@ -25,7 +25,7 @@ use Rattle.motion_kernel.specs.Histories.{Follows, IsCycleOf, IsLegal, inputs_of
 use Rattle.motion_kernel.specs.Machine.{Machine, axis_at, machine_at_opening, no_axis}
 use Rattle.motion_kernel.specs.MachineKept.{AreWhole, IsMachineKept, limits_of, no_def}
 use Rattle.motion_kernel.specs.Ready.{MayGoOn}
-use Rattle.motion_kernel.proofs.LimitCalls.{CallsMoveNoAxis, call_stays}
+use Rattle.motion_kernel.proofs.LimitCalls.{CallsMoveNoAxis, call_left, calls_leave_places}
 use Rattle.motion_kernel.proofs.LimitCycles.{RowsKeepSpells, cycle_keeps}
 
 -- machines_stay_kept
@@ -78,7 +78,7 @@ rows_keep laws s cycles m (call k i reply ∷ es) whole h f n l =
     let next = laws.machines.call s m k i whole f.0.0 h in
     let more = rows_keep laws s (cycles + cycle_count (call k i reply)) (after_call s m k i) es whole next f.1 n l in
     let P : Option Spell → Type 0 = λ t. KeepsLimits (limits_of s n) t (rows_in n es) in
-    subst P (call_stays laws.calls s m k i n).spell more
+    subst P (call_left Stays (calls_leave_places laws.calls) s m k i n).spell more
 rows_keep laws s cycles m (cycle c rows grows ∷ es) whole h f n l =
     let next = kept_by_cycle laws.machines s m rows grows h f.0.1 in
     let sizes = h.sized in

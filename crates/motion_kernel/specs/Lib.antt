@@ -26,3 +26,4 @@ pub mod Results
 pub mod Laws
 pub mod KernelState
 pub mod KernelKept
+pub mod Counted

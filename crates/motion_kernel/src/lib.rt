@@ -7,6 +7,7 @@ mod arrival_laws;
 mod asking;
 mod axis_calls;
 mod calls;
+mod count_laws;
 mod cycles;
 mod cycling;
 mod diagram_laws;
@@ -31,6 +32,7 @@ mod tasks;
 mod telling;
 
 pub use arrival_laws::{moves_arrive_in_time, paths_end_in_time};
+pub use count_laws::rows_are_counted;
 pub use diagram_laws::states_follow_the_diagrams;
 pub use entry_laws::entries_keep_their_laws;
 pub use history_laws::histories_keep_their_laws;

@@ -1,0 +1,23 @@
+// The counts of the rows of legal histories: the contract of a function that does nothing.
+
+ghost use Rattle.std.specs.Prelude.{List};
+ghost use Rattle.motion_history.specs.Entries.{Entry};
+ghost use Rattle.motion_history.specs.Setup.{Setup, IsSetup};
+ghost use Rattle.motion_kernel.specs.Counted.{RowsAreCounted};
+ghost use Rattle.motion_kernel.specs.Histories.{IsLegal};
+ghost use Rattle.motion_kernel.specs.MachineKept.{AreWhole};
+
+use crate::laws::machines_stay_kept;
+use axis_core::axes_keep_their_definitions;
+
+/// In every cycle of a legal history, with the offset of each row every place within the limits of
+/// its axis has a count of 32 bits in the increments of its drive, and what its drive reported is
+/// one (IEC 61800-7-201, objects 607Ah and 6064h). So a Home never moves an axis out of the counts
+/// of its drive, and the place that a drive reports has 64 bits.
+pub fn rows_are_counted()
+    ensures { (s : Setup) (es : List Entry) → IsSetup s → AreWhole s → IsLegal s es →
+        RowsAreCounted s es }
+{
+    machines_stay_kept();
+    axes_keep_their_definitions();
+}
