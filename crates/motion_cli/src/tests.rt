@@ -1,5 +1,6 @@
 // What no clause says: whole runs of the program in memory, byte for byte.
 mod rows;
+mod states;
 mod traces;
 
 use crate::*;

@@ -3,6 +3,7 @@
 use crate::Record;
 use std::alloc::{AllocError, Global};
 
+mod digits;
 mod verdicts;
 
 /// A move of the axis X from 0 to 20.

@@ -24,22 +24,22 @@ const EIGHT: &[u8] = b"motion-bench 1
 limit 200 2000
 axis A 0 1000 10 4 1 0 ready
 axis B 0 1000 10 4 1 0 ready
-task T0
-task T1
-task T2
-task T3
-task T4
-task T5
-task T6
-task T7
-block B0 T0 MoveAbsolute A
-block B1 T1 MoveAbsolute B
-block B2 T2 MoveVelocity A
-block B3 T3 MoveRelative B
-block B4 T4 Halt A
-block B5 T5 GearIn B
-block B6 T6 Stop A
-block B7 T7 Power B
+task one
+task two
+task three
+task four
+task five
+task six
+task seven
+task eight
+block B0 one MoveAbsolute A
+block B1 two MoveAbsolute B
+block B2 three MoveVelocity A
+block B3 four MoveRelative B
+block B4 five Halt A
+block B5 six GearIn B
+block B6 seven Stop A
+block B7 eight Power B
 go
 call B0 on pos=300 vel=6 acc=2 dec=2
 call B0 off
