@@ -158,7 +158,7 @@ class Refusals(unittest.TestCase):
     def test_statuses(self):
         status, _, told = plot("-", text="\n".join(HEAD[:4] + ["a,b"]).encode())
         self.assertEqual((status, told),
-                         (1, "trace_plot: -: record 5: 2 fields in place of twelve\n"))
+                         (1, "trace_plot: -: record 5: it has 2 fields, and not twelve\n"))
         self.assertEqual(plot("-", text=b"\xff\xfe\n")[0], 1)
         self.assertEqual(plot("no_such_file")[0], 1)
         cell = EXAMPLES / "cell" / "cell.trace"
