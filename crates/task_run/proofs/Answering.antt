@@ -1,6 +1,9 @@
 -- A reply leads on.
 use Rattle.std.proofs.Common.{◌≡◌, ℕ, Bool, true, false, Option, Some, None, List, [], ◌∷◌, ◌++◌, refl, sym, ◌∙◌, subst}
-use Rattle.std.specs.Prelude.{cond, slice_get}
+use Rattle.std.specs.Prelude.{cond, is_some, slice_get}
+use Rattle.std.specs.List.{Contains}
+use Rattle.std.proofs.lemmas.List.Elements.{All-from_recursion}
+use Rattle.plc_program.specs.Programs.{IsProgram, IsTask}
 use Rattle.fb_outputs.specs.declared.outputs.Outputs.{Outputs}
 use Rattle.plc_program.specs.declared.program.Instruction.{Instruction}
 use Rattle.task_run.specs.Runs.{IsRun, is_settled, lines_of}
@@ -13,6 +16,7 @@ use Rattle.task_run.specs.declared.run.Next.{Next}
 use Rattle.task_run.specs.declared.run.Next.TheVariants.{Call, Rest, End}
 use Rattle.task_run.specs.declared.place.Place.{Place}
 use Rattle.task_run.specs.declared.run.TaskRun.{TaskRun}
+use Rattle.task_run.proofs.Called.{passed-contained, wait-called}
 use Rattle.task_run.proofs.Places.{IsBefore, before, ended}
 use Rattle.task_run.proofs.Settled.{is-plain}
 
@@ -85,3 +89,32 @@ next-wait program run s k flag n stirs at r is =
 pub next-end : (program : List (List Instruction)) (run : TaskRun) (s : TaskState) → run.resting ≡ false →
     ((l : Instruction) → slice_get (lines_of program run) run.place.line ≡ Some l → ⊥) → IsRun program run s → End ≡ next_of s
 next-end program run s stirs none r = next-is s End [] (sym r.rests ∙ stirs) (run-ended program run s none r) refl
+
+-- ---- which call comes next
+
+-- the lines of a run are a task
+pub task-of : (program : List (List Instruction)) (run : TaskRun) (s : TaskState) → IsProgram program → IsRun program run s → IsTask (lines_of program run)
+task-of program run s is r = All-from_recursion IsTask program is.tasks run.task [] r.within
+
+call-by-is : (j k : ℕ) (o : Option Inputs) (i : Inputs) → call_by j o ≡ Call k i → (j ≡ k) × (o ≡ Some i)
+call-by-is j k None i h = absurd (cc)
+call-by-is j k (Some m) i h = (cc, cc)
+
+call-by-end : (j : ℕ) (o : Option Inputs) → call_by j o ≡ End → is_some o ≡ true → {A : Type 0} → A
+call-by-end j None h some {A} = absurd (cc)
+call-by-end j (Some m) h some {A} = absurd (cc)
+
+-- the call of a wait is one of the lines
+pub wait-line : (program : List (List Instruction)) (run : TaskRun) (s : TaskState) (j : ℕ) (n : Next) (k : ℕ) (i : Inputs) → IsProgram program → IsRun program run s →
+    n ≡ call_by j (last_call j s.passed) → n ≡ Call k i → Contains (lines_of program run) (lines.Call k i)
+wait-line program run s j n k i is r by h =
+    let call = call-by-is j k (last_call j s.passed) i (sym by ∙ h) in
+    subst (λ m. Contains (lines_of program run) (lines.Call m i)) call.0
+    (passed-contained j (lines_of program run) run.place s.passed s.to_come i (task-of program run s is r) r.stands call.1)
+
+-- a wait has a call
+pub wait-goes-on : (program : List (List Instruction)) (run : TaskRun) (s : TaskState) (j : ℕ) (flag : Flag) (n : Next) → IsProgram program →
+    slice_get (lines_of program run) run.place.line ≡ Some (lines.Wait j flag) → IsRun program run s → n ≡ call_by j (last_call j s.passed) → n ≡ End → {A : Type 0} → A
+wait-goes-on program run s j flag n is at r by h {A} =
+    call-by-end j (last_call j s.passed) (sym by ∙ h)
+    (wait-called (lines_of program run) run.place j flag s.passed s.to_come (task-of program run s is r) at r.stands)

@@ -121,7 +121,7 @@ last-outside k lines line p t task s =
     rw (s.split, s.line_is, s.passed_is, take-front s.front s.back) (sym (last-written k s.front counted s.closed))
 
 -- what is passed in a repeat
-inside-front : (lines : List Instruction) (line : ℕ) (pass : Pass) (p t : List Instruction) (k : ℕ) → IsTask lines → (s : IsInside lines line pass p t) →
+pub inside-front : (lines : List Instruction) (line : ℕ) (pass : Pass) (p t : List Instruction) (k : ℕ) → IsTask lines → (s : IsInside lines line pass p t) →
     last_call k p ≡ later_of (last_call k s.front) (later_of (last_call k (times pass.made (s.run ++ s.still))) (last_call k s.run))
 inside-front lines line pass p t k task s =
     let tail = Repeat s.count ∷ (s.run ++ (s.still ++ (Again ∷ s.behind))) in
@@ -131,7 +131,7 @@ inside-front lines line pass p t k task s =
     ∙ ap (λ c. later_of (last_call k s.front) c) (last-join k (times pass.made (s.run ++ s.still)) s.run)
 
 -- the lines before this one
-inside-take : (lines : List Instruction) (line : ℕ) (pass : Pass) (p t : List Instruction) (s : IsInside lines line pass p t) → take line lines ≡ s.front ++ (Repeat s.count ∷ s.run)
+pub inside-take : (lines : List Instruction) (line : ℕ) (pass : Pass) (p t : List Instruction) (s : IsInside lines line pass p t) → take line lines ≡ s.front ++ (Repeat s.count ∷ s.run)
 inside-take lines line pass p t s =
     let tail = s.still ++ (Again ∷ s.behind) in
     let front = s.front ++ (Repeat s.count ∷ s.run) in

@@ -2,5 +2,8 @@ pub mod Lists
 pub mod Writing
 pub mod Places
 pub mod LastCalls
+pub mod Called
 pub mod Settled
 pub mod Answering
+pub mod Running
+pub mod OwnLines

@@ -1,6 +1,7 @@
 // The run of a task's program.
 
-ghost use Rattle.std.specs.Prelude.{◌≡◌, ◌<◌, [], ℕ, List, IfOk, IsErr, length, slice_index_or};
+ghost use Rattle.std.specs.Prelude.{◌≡◌, ◌<◌, [], ℕ, List, length};
+ghost use Rattle.std.specs.List.{Contains};
 ghost use Rattle.fb_outputs.specs.declared.inputs.Inputs.{Inputs};
 ghost use Rattle.plc_program.specs.declared.program.Instruction.{Instruction};
 ghost use Rattle.task_run.specs.Tasks as spec;
@@ -10,7 +11,6 @@ use crate::last::last_call;
 use crate::outputs::is_passed;
 use crate::place::{Place, line_at, moved, settled};
 use fb_outputs::{Inputs, Outputs};
-use out_of_memory::OutOfMemory;
 use plc_program::{Instruction, Program};
 
 /// What a task does next.
@@ -37,22 +37,21 @@ impl TaskRun {
     ghost use Rattle.task_run.specs.Runs.{IsRun, lines_of};
 
     /// A run at the beginning of a task of this program.
-    pub fn open(program: &Program, task: u8) -> Result<TaskRun, OutOfMemory>
+    pub fn open(program: &Program, task: u8) -> TaskRun
         requires { task < length program.now }
-        ensures task { IfOk result (λ run. run.task ≡ task) }
-        ensures run { IfOk result
-            (λ run. IsRun program.now run (spec.first_state (lines_of program.now run))) }
+        ensures task { result.task ≡ task }
+        ensures run { IsRun program.now result (spec.first_state (lines_of program.now result)) }
     {
         let lines = program.lines(task);
         let first = Place {
             line: 0,
             pass: None,
         };
-        Ok(TaskRun {
+        TaskRun {
             task,
             place: settled(lines, first),
             resting: false,
-        })
+        }
     }
 
     /// What the task does next: its call, a rest, or nothing, at its end. The program is the one
@@ -60,7 +59,13 @@ impl TaskRun {
     #[tactic(auto, unfolding(crate::specs::Tasks::next_of))]
     pub fn next(&self, program: &Program) -> Next
         requires { (s : TaskState) × IsRun program.now self.now s }
-        ensures { (s : TaskState) → IsRun program.now self.now s → result ≡ spec.next_of s }
+        ensures next { (s : TaskState) → IsRun program.now self.now s → result ≡ spec.next_of s }
+        // A call stands in the task's lines; a wait's is the last call of its block.
+        ensures line { (instance : ℕ) → (inputs : Inputs) → result ≡ Next.Call instance inputs →
+            Contains (lines_of program.now self.now) (Instruction.Call instance inputs) }
+        // The end comes behind the last line alone.
+        ensures ended { result ≡ Next.End → (s : TaskState) → IsRun program.now self.now s →
+            s.to_come ≡ [] }
     {
         if self.resting {
             return Next::Rest;
@@ -80,8 +85,9 @@ impl TaskRun {
     #[tactic(auto, unfolding(crate::specs::Tasks::state_after))]
     pub fn answered(&mut self, program: &Program, outputs: &Outputs)
         requires { (s : TaskState) × IsRun program.now self.old s }
-        ensures { (s : TaskState) → IsRun program.now self.old s →
+        ensures run { (s : TaskState) → IsRun program.now self.old s →
             IsRun program.now self.new (spec.state_after s outputs.now) }
+        ensures task { self.new.task ≡ self.old.task }
     {
         let lines = program.lines(self.task);
         self.resting = false;
@@ -97,9 +103,10 @@ impl TaskRun {
 
     /// Ends the rest that `next` gave: the number of cycles has grown.
     pub fn rested(&mut self, program: &Program)
-        requires run { (s : TaskState) × IsRun program.now self.old s }
-        ensures { (s : TaskState) → IsRun program.now self.old s →
+        requires { (s : TaskState) × IsRun program.now self.old s }
+        ensures run { (s : TaskState) → IsRun program.now self.old s →
             IsRun program.now self.new (spec.state_rested s) }
+        ensures task { self.new.task ≡ self.old.task }
     {
         self.resting = false;
     }

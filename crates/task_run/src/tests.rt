@@ -1,6 +1,7 @@
 // Runs of tasks: their calls, rests and ends.
 
-ghost use Rattle.std.specs.Prelude.{◌≡◌, [], IfSome};
+ghost use Rattle.std.specs.Prelude.{◌≡◌, [], IfOk, IfSome};
+ghost use Rattle.plc_program.specs.Programs.{IsProgramOf};
 ghost use Rattle.task_run.specs.Runs.{IsRun};
 ghost use Rattle.task_run.specs.Tasks.{TaskState};
 
@@ -10,6 +11,8 @@ use motion_history::{Builder, Limits};
 use plc_program::{Program, read_program};
 use std::alloc::Global;
 use std::test::Fail;
+
+mod callers;
 
 const LIMITS: Limits = Limits {
     lo: -10_000_000_000,
@@ -32,11 +35,17 @@ fn machine(alloc: Global) -> Option<Builder>
     Some(builder)
 }
 
-// The program of a text.
-fn program_of(alloc: Global, text: &[u8]) -> Result<Program, Fail> {
+// The program of these lines of a task, behind its blocks, and its machine.
+fn program_of(alloc: Global, lines: &[u8]) -> Result<(Program, Builder), Fail>
+    ensures { IfOk result (λ r. IsProgramOf r.1 r.0) }
+{
+    let mut text = Vec::from_slice(alloc, TOP)?;
+    text.extend_from_slice(lines)?;
     let mut builder = machine(alloc).ok_or("a machine")?;
-    let program = read_program(alloc, text, &mut builder, 1000);
-    Ok(program.ok().ok_or("a program")?)
+    match read_program(alloc, text.as_slice(), &mut builder, 1000) {
+        Ok(program) => Ok((program, builder)),
+        Err(_) => Err("a program".into()),
+    }
 }
 
 // The outputs with this flag alone, by a letter.
@@ -101,9 +110,7 @@ fn events_of(alloc: Global, program: &Program, replies: &[u8]) -> Vec<u8> {
     if program.tasks() == 0 {
         return events;
     }
-    let Ok(mut run) = TaskRun::open(program, 0) else {
-        return events;
-    };
+    let mut run = TaskRun::open(program, 0);
     for reply in replies {
         step(&mut run, program, *reply, &mut events);
     }
@@ -156,9 +163,7 @@ fn runs_tasks(rt: HostRuntime) -> Result<(), Fail> {
         ),
     ];
     for (lines, replies, wanted) in cases {
-        let mut text = Vec::from_slice(rt.alloc(), TOP)?;
-        text.extend_from_slice(lines)?;
-        let program = program_of(rt.alloc(), text.as_slice())?;
+        let (program, _) = program_of(rt.alloc(), lines)?;
         let events = events_of(rt.alloc(), &program, replies);
         assert_eq!(rt; events.as_slice(), wanted, "{lines:?}");
     }
