@@ -35,7 +35,7 @@ told-is fs n e x h at =
     cc p
 
 event-of : (v : TraceVersion) (s : Setup) (e : FoundEntry) → IsEntryRead v s e → IsEvent s (entry_of e)
-event-of v s (found.Call k i o) h = h
+event-of v s (found.Call k i o) h = h.call
 event-of v s (found.Cycle c) h = h.axes
 event-of v s (found.End task) h = h
 

@@ -2,7 +2,6 @@ pub mod SameRecords
 pub mod Ahead
 pub mod Numbered
 pub mod Fields
-pub mod EntryTexts
 pub mod RowLaws
 pub mod Equal
 pub mod Firsts
@@ -14,4 +13,5 @@ pub mod EntryLaws
 pub mod ReplayLaws
 pub mod LegalLaws
 pub mod VerdictLaws
+pub mod HeldLaws
 pub mod OneHistory

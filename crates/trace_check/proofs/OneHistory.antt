@@ -12,6 +12,7 @@ use Rattle.trace_text.specs.RowRanges.{found_row}
 use Rattle.trace_text.specs.TraceState.{TraceState, entry_of}
 use Rattle.trace_text.specs.Writable.{found_entry}
 use Rattle.trace_check.specs.Laws.{MigratedTracesAreLegal, TextsTellHistories, TracesTellHistories}
+use Rattle.trace_check.proofs.HeldLaws.{Laws, trace-held}
 use Rattle.trace_check.proofs.LegalLaws.{same-inputs}
 
 same-of : (v : TraceVersion) (s : Setup) (c : ℕ) (m : Machine) (x y : Entry) → IsOf s c m x → IsOf s c m y → found_entry v s x ≡ found_entry v s y → x ≡ y
@@ -51,9 +52,9 @@ pub texts-tell : TextsTellTraces → TextsTellHistories
 texts-tell law v c s es others ds ends h k legal other same =
     one v s 0 (machine_at_opening s) es others legal.follows other.follows (ap (λ (t : TraceState). t.found) (law v v c c s s es others ds ends h k same))
 
-pub migrated : TracesAreReadBack → MigratedTracesAreLegal
-migrated law t es legal is held = record {
-  read = law Two t.command t.config es t.drives held;
+pub migrated : TracesAreReadBack → Laws → MigratedTracesAreLegal
+migrated law g t es kept legal is = record {
+  read = law Two t.command t.config es t.drives (trace-held g t es kept legal is);
   legal = record { history = es; legal = legal; is = record { found = refl; taken = is.taken } };
   same = record { found = refl; taken = is.taken };
 }

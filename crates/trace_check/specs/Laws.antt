@@ -7,6 +7,7 @@ use Rattle.motion_history.specs.declared.refused.TraceVersion.TheVariants.{Two}
 use Rattle.motion_kernel.specs.Histories.{IsLegal}
 use Rattle.trace_text.specs.Reading.{trace_of}
 use Rattle.trace_text.specs.Trace.{trace_text}
+use Rattle.trace_text.specs.TraceKept.{IsTraceKept}
 use Rattle.trace_text.specs.TraceState.{TraceState}
 use Rattle.trace_text.specs.Writable.{IsHeld, found_trace}
 use Rattle.trace_text.specs.declared.write.Command.{Command}
@@ -25,14 +26,15 @@ TextsTellHistories = (v : TraceVersion) (c : Command) (s : Setup) (es others : L
     (ds ends : List DriveEndRow) → IsHeld v s es ds → IsHeld v s others ends → IsLegal s es →
     IsLegal s others → trace_text v c s es ds ≡ trace_text v c s others ends → es ≡ others
 
--- the text of version 2 of a legal trace's history, where it can be held, is read as a legal trace
--- of the same machine, history and drives
+-- the text of version 2 of a trace's legal history is read as a legal trace of the same machine,
+-- history and drives
 pub record IsMigrated (t : TraceState) (es : List Entry) : Type 0 where
   pub read : trace_of (trace_text Two t.command t.config es t.drives) ≡
       Ok (found_trace Two t.command t.config es t.drives)
   pub legal : IsLegalTrace (found_trace Two t.command t.config es t.drives)
   pub same : IsTraceOf (found_trace Two t.command t.config es t.drives) es
 
+-- so it is with every legal trace that was read
 abbrev pub MigratedTracesAreLegal : Type 0
-MigratedTracesAreLegal = (t : TraceState) (es : List Entry) → IsLegal t.config es →
-    IsTraceOf t es → IsHeld Two t.config es t.drives → IsMigrated t es
+MigratedTracesAreLegal = (t : TraceState) (es : List Entry) → IsTraceKept t →
+    IsLegal t.config es → IsTraceOf t es → IsMigrated t es

@@ -2,6 +2,9 @@
 
 ghost use Rattle.trace_check.specs.Laws.{MigratedTracesAreLegal, TextsTellHistories, TracesTellHistories};
 
+use axis_state::{counts_are_read_back, offsets_are_small};
+use motion_history::configurations_are_sound;
+use motion_kernel::rows_are_counted;
 use trace_text::traces_are_read_back;
 
 /// A trace is that of at most one legal history, offsets too. So two legal histories of one
@@ -13,10 +16,14 @@ pub fn traces_tell_their_history()
     traces_are_read_back();
 }
 
-/// The text of version 2 of a legal trace's history, where that version can hold it, is read as a
-/// legal trace: of the same machine, the same history and the same drives. Nothing runs.
+/// The text of version 2 of the history of a legal trace that was read is read as a legal trace: of
+/// the same machine, the same history and the same drives. Nothing runs.
 pub fn migrated_traces_are_legal()
     ensures { MigratedTracesAreLegal }
 {
     traces_are_read_back();
+    configurations_are_sound();
+    offsets_are_small();
+    counts_are_read_back();
+    rows_are_counted();
 }

@@ -13,11 +13,11 @@ ghost use Rattle.trace_text.specs.TraceKept.{IsTraceKept};
 
 use crate::record::Record;
 use csv::ByteRecord;
-use csv_records::{next_record, open_records, written_records_are_read_back};
+use csv_records::{next_record, open_records};
 use itoa::Buffer;
 use motion_history::{Config, EntryLook, OutOfMemory, TraceVersion};
 use std::alloc::Global;
-use trace_text::{Trace, entry_piece};
+use trace_text::{Trace, entry_piece, records_are_read_back};
 
 // The record at a place of a text, counted from 0. It is there, and has twelve fields.
 fn record_at(alloc: Global, text: &[u8], place: usize) -> Result<Record, OutOfMemory>
@@ -48,7 +48,7 @@ pub fn entry_record(
         option_map padded (slice_get (entry_records version config.now (told entry.now)) place) ≡
         Some r) }
 {
-    written_records_are_read_back();
+    records_are_read_back();
     let text = entry_piece(alloc, version, config, entry)?;
     record_at(alloc, text.as_slice(), place)
 }

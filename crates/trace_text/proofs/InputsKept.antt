@@ -1,9 +1,11 @@
 -- The inputs of a call that is read are those of its block's kind.
-use Rattle.std.proofs.Common.{◌≡◌, ℕ, zero, suc, ◌+◌, ◌-◌, ◌<◌, ◌≤◌, ℤ, Bool, true, false, Option, Some, None, Result, Ok, Err, List, [], ◌∷◌, ◌++◌, length, refl, sym, ◌∙◌, ap, subst, arith, inl, inr, lit≤}
-use Rattle.std.specs.Prelude.{pos, neg_ℤ, int_le, ◌&&◌, ◌==◌, cond, nat_lt, option_and_then, replicate, slice_get, slice_index_or, unsigned_abs}
+use Rattle.std.proofs.Common.{◌≡◌, ℕ, zero, suc, ◌-◌, ◌<◌, ◌≤◌, ℤ, Bool, true, false, Some, None, Ok, Err, List, [], ◌∷◌, ◌++◌, length, refl, sym, ◌∙◌, subst, arith, inl, inr, lit<, lit≤}
+use Rattle.std.specs.Prelude.{pos, neg_ℤ, ◌^◌, ◌≤ℤ◌, ◌==◌, nat_lt, replicate, slice_get, slice_index_or, unsigned_abs}
 use Rattle.std.specs.List.{AllByRecursion, position, position_or_len}
 use Rattle.std.proofs.lemmas.Bool.{cases_Bool, eqb-true, ltb-true}
 use Rattle.std.proofs.lemmas.Int.{ints}
+use Rattle.std.proofs.lemmas.List.{length-append, length-replicate}
+use Rattle.command_pool.specs.Kinds.{acts_on_group}
 use Rattle.command_pool.specs.declared.kind.BlockKind.{BlockKind}
 use Rattle.command_pool.specs.declared.kind.BlockKind.TheVariants.{GearIn, CamIn}
 use Rattle.command_pool.specs.declared.kind.BufferMode.{BufferMode}
@@ -12,26 +14,31 @@ use Rattle.fb_outputs.specs.Inputs.{AreInputs, IsTaken, takes}
 use Rattle.fb_outputs.specs.declared.inputs.Input.{Input}
 use Rattle.fb_outputs.specs.declared.inputs.Input.TheVariants.{Position, Velocity, Acceleration, Deceleration, Jerk, Mode, Master, Numerator, Denominator, Table}
 use Rattle.fb_outputs.specs.declared.inputs.Inputs.{Inputs}
+use Rattle.fb_outputs.specs.declared.outputs.Outputs.{Outputs}
 use Rattle.line_text.specs.Reading.{◌>>=◌, each_of}
-use Rattle.motion_history.specs.Calls.{IsCall, axes_of}
+use Rattle.motion_history.specs.Calls.{axes_of, count_in}
 use Rattle.motion_history.specs.Setup.{Setup}
 use Rattle.motion_history.specs.declared.config.BlockDef.{BlockDef}
+use Rattle.motion_history.specs.declared.config.GroupDef.{GroupDef}
 use Rattle.motion_history.specs.declared.refused.TraceVersion.{TraceVersion}
 use Rattle.motion_history.specs.declared.sizes.TheConstants.{MOST_MEMBERS}
 use Rattle.motion_numbers.specs.declared.TheConstants.{MOST_NUMBER}
-use Rattle.trace_columns.specs.Columns.{between, flag_of, halves_of, number_of, size_limited_of, unsigned_of, wide_number_of}
+use Rattle.trace_columns.specs.Columns.{flag_of, outputs_of, size_limited_of, unsigned_of}
 use Rattle.trace_text.specs.Calls.{call_by, call_meaning, cam_of, end_meaning, follow_of, gear_of, halves, input_of, inputs_of, joined_positions, last_of, mode_of, no_master, no_positions, positions_of, rates_of, reply_of, unused}
 use Rattle.trace_text.specs.InputFields.{InputTexts}
 use Rattle.trace_text.specs.Items.{axis_named, number, parts_of}
 use Rattle.trace_text.specs.Names.{axis_at, block_at, task_at}
 use Rattle.trace_text.specs.Rules.{are_empty, broken_unless, is_empty, value}
 use Rattle.trace_text.specs.TraceKept.{IsEntryRead}
+use Rattle.trace_text.specs.Writable.{IsWritableCall}
 use Rattle.trace_text.specs.declared.call.Followed.{Followed}
 use Rattle.trace_text.specs.declared.call.Last.{Last}
 use Rattle.trace_text.specs.declared.call.Rates.{Rates}
 use Rattle.trace_text.specs.declared.found.FoundEntry.{FoundEntry}
 use Rattle.trace_text.specs.declared.found.FoundEntry.TheVariants as found
 use Rattle.trace_text.specs.declared.rule.TheConstants.{NO_VALUE}
+use Rattle.trace_text.proofs.ColumnRanges.{number-range, outputs-id, unsigned-range}
+use Rattle.trace_text.proofs.ItemsKept.{HasArrays, IsArray}
 use Rattle.trace_text.proofs.Results.{bind_ok, holds, ok_is}
 use Rattle.trace_text.proofs.Results as results
 
@@ -40,28 +47,13 @@ IsSmall z = unsigned_abs z ≤ MOST_NUMBER
 
 -- ---- numbers
 
-opt-both : {A B : Type 0} (o : Option A) (f : A → Option B) (y : B) → option_and_then f o ≡ Some y → (x : A) × (o ≡ Some x) × (f x ≡ Some y)
-opt-both None f y h = absurd (cc h)
-opt-both (Some x) f y h = (x, refl, h)
-
-if-some : {A : Type 0} (b : Bool) (x y : A) → cond b (Some x) None ≡ Some y → (b ≡ true) × (x ≡ y)
-if-some true x y h = (refl, cc h)
-if-some false x y h = absurd (cc h)
-
-both : (a b : Bool) → (a && b) ≡ true → (a ≡ true) × (b ≡ true)
-both true b h = (refl, h)
-both false b h = absurd (cc h)
+small-between : (z : ℤ) → neg_ℤ (pos MOST_NUMBER) ≤ℤ z → z ≤ℤ pos MOST_NUMBER → IsSmall z
+small-between z low high = omega (arith, ints, low, high)
 
 size-limited : (text : List ℕ) (z : ℤ) → size_limited_of text ≡ Some z → IsSmall z
-unfolding number_of
 size-limited text z h =
-    let w = opt-both (wide_number_of text) (between (neg_ℤ (pos MOST_NUMBER)) (pos MOST_NUMBER)) z h in
-    let t = if-some (int_le (neg_ℤ (pos MOST_NUMBER)) w.0 && int_le w.0 (pos MOST_NUMBER)) w.0 z w.2 in
-    let b = both (int_le (neg_ℤ (pos MOST_NUMBER)) w.0) (int_le w.0 (pos MOST_NUMBER)) t.0 in
-    let low = b.0 in
-    let high = b.1 in
-    let small : IsSmall w.0 = omega (arith, ints, low, high) in
-    subst IsSmall t.1 small
+    let r = number-range (neg_ℤ (pos MOST_NUMBER)) (pos MOST_NUMBER) text z h in
+    small-between z r.0 r.1
 
 number-small : (text : List ℕ) (z : ℤ) → number text ≡ Ok z → IsSmall z
 unfolding number
@@ -117,13 +109,32 @@ zero-behind [] k n h = zeros-at k n
 zero-behind (z ∷ zs) k zero h = absurd (omega arith)
 zero-behind (z ∷ zs) k (suc n) h = zero-behind zs k n (omega arith)
 
+-- a block acts on no more axes than a group has
+count-few : (gs : List GroupDef) (n : ℕ) → AllByRecursion IsArray gs → count_in (slice_get gs n) ≤ MOST_MEMBERS
+count-few [] n h = lit≤ tt
+count-few (g ∷ gs) zero h = h.0.few
+count-few (g ∷ gs) (suc n) h = count-few gs n h.1
+
+axes-few : (s : Setup) (b : BlockDef) → HasArrays s → axes_of s b ≤ MOST_MEMBERS
+axes-few s b h = elim (cases_Bool (acts_on_group b.kind)) [
+  | inl passes ↦ rw passes (count-few s.groups b.object h)
+  | inr fails ↦ rw fails (lit≤ tt)
+]
+
 record ArePositions (takes : Bool) (axes : ℕ) (ps : List ℤ) : Type 0 where
+  long : length ps ≡ MOST_MEMBERS
   each : (n : ℕ) → IsTaken takes (pos 0) (slice_index_or ps n (pos 0))
   few : (n : ℕ) → axes ≤ n → slice_index_or ps n (pos 0) ≡ pos 0
 
-joined-are : (axes : ℕ) (text : List ℕ) (ps : List ℤ) → joined_positions axes text ≡ Ok ps → ArePositions true axes ps
+padded-long : (zs : List ℤ) → length zs ≤ MOST_MEMBERS → length (zs ++ replicate (MOST_MEMBERS - length zs) (pos 0)) ≡ MOST_MEMBERS
+padded-long zs few =
+    let long = length-append zs (replicate (MOST_MEMBERS - length zs) (pos 0)) in
+    let zeros : length (replicate (MOST_MEMBERS - length zs) (pos 0)) ≡ MOST_MEMBERS - length zs = length-replicate (MOST_MEMBERS - length zs) (pos 0) in
+    omega (arith, long, zeros, few)
+
+joined-are : (axes : ℕ) (text : List ℕ) (ps : List ℤ) → axes ≤ MOST_MEMBERS → joined_positions axes text ≡ Ok ps → ArePositions true axes ps
 unfolding joined_positions
-joined-are axes text ps h =
+joined-are axes text ps room h =
     let places = bind_ok (each_of number (parts_of text)) _ ps h in
     let counted = bind_ok (broken_unless (length places.0 == axes) NO_VALUE) _ ps places.2 in
     let many : length places.0 ≡ axes = eqb-true _ _ (holds (length places.0 == axes) NO_VALUE counted.0 counted.1) in
@@ -131,22 +142,24 @@ joined-are axes text ps h =
     let is : all ≡ ps = ok_is (Ok all) all ps refl counted.2 in
     let small = each-small (parts_of text) places.0 places.1 in
     subst (λ qs. ArePositions true axes qs) is (record {
+      long = padded-long places.0 (omega (arith, many, room));
       each = λ n. record { left_out = λ fails. absurd (cc fails); size = small-at places.0 (MOST_MEMBERS - length places.0) n small };
       few = λ n m. zero-behind places.0 (MOST_MEMBERS - length places.0) n (omega (arith, many, m));
     })
 
 none-are : (axes : ℕ) → ArePositions false axes no_positions
 none-are axes = record {
+  long = length-replicate MOST_MEMBERS (pos 0);
   each = λ n. record { left_out = λ fails. zeros-at MOST_MEMBERS n; size = let zero' : IsSmall (pos 0) = lit≤ tt in subst IsSmall (sym (zeros-at MOST_MEMBERS n)) zero' };
   few = λ n h. zeros-at MOST_MEMBERS n;
 }
 
-positions-are : (s : Setup) (b : BlockDef) (text : List ℕ) (ps : List ℤ) → positions_of s b text ≡ Ok ps → ArePositions (takes b.kind Position) (axes_of s b) ps
+positions-are : (s : Setup) (b : BlockDef) (text : List ℕ) (ps : List ℤ) → HasArrays s → positions_of s b text ≡ Ok ps → ArePositions (takes b.kind Position) (axes_of s b) ps
 unfolding positions_of
-positions-are s b text ps h = elim (cases_Bool (takes b.kind Position)) [
+positions-are s b text ps arrays h = elim (cases_Bool (takes b.kind Position)) [
   | inl passes ↦
       let e : joined_positions (axes_of s b) text ≡ Ok ps = rw passes at h in
-      rw passes (joined-are (axes_of s b) text ps e)
+      rw passes (joined-are (axes_of s b) text ps (axes-few s b arrays) e)
   | inr fails ↦
       let e : unused text no_positions ≡ Ok ps = rw fails at h in
       rw fails (subst (λ qs. ArePositions false (axes_of s b) qs) (unused-is text no_positions ps e) (none-are (axes_of s b)))
@@ -182,6 +195,7 @@ record IsFollowed (s : Setup) (k : BlockKind) (f : Followed) : Type 0 where
   numerator : IsTaken (takes k Numerator) (pos 1) f.numerator
   denominator : IsTaken (takes k Denominator) (pos 1) f.denominator
   table : takes k Table ≡ false → f.table ≡ 0
+  word : f.table < 2 ^ 16
 
 one-taken : (t : Bool) → IsTaken t (pos 1) (pos 1)
 one-taken t = record { left_out = λ fails. refl; size = lit≤ tt }
@@ -202,6 +216,7 @@ gear-followed s text f h =
       numerator = record { left_out = λ fails. absurd (cc fails); size = number-small ratio.0.0 n.0 n.1 };
       denominator = record { left_out = λ fails. absurd (cc fails); size = number-small ratio.0.1 d.0 d.1 };
       table = λ fails. refl;
+      word = lit< tt;
     })
 
 cam-followed : (s : Setup) (text : List ℕ) (f : Followed) → cam_of s text ≡ Ok f → IsFollowed s CamIn f
@@ -211,6 +226,7 @@ cam-followed s text f h =
     let master = bind_ok (axis_named s parts.0.0) _ f parts.2 in
     let table = bind_ok (value (unsigned_of 0 65535 parts.0.1)) _ f master.2 in
     let r : Followed = record { master = master.0; numerator = pos 1; denominator = pos 1; table = table.0 } in
+    let few = (unsigned-range 0 65535 parts.0.1 table.0 (results.found (unsigned_of 0 65535 parts.0.1) NO_VALUE table.0 table.1)).1 in
     let is : r ≡ f = ok_is (Ok r) r f refl table.2 in
     subst (λ x. IsFollowed s CamIn x) is (record {
       there = axis-within s parts.0.0 master.0 master.1;
@@ -218,6 +234,7 @@ cam-followed s text f h =
       numerator = one-taken _;
       denominator = one-taken _;
       table = λ fails. absurd (cc fails);
+      word = omega (arith, few);
     })
 
 none-followed : (s : Setup) (k : BlockKind) (text : List ℕ) (f : Followed) → 1 ≤ length s.axes → unused text no_master ≡ Ok f → IsFollowed s k f
@@ -228,6 +245,7 @@ none-followed s k text f some h =
       numerator = one-taken _;
       denominator = one-taken _;
       table = λ fails. refl;
+      word = lit< tt;
     })
 
 followed : (s : Setup) (k : BlockKind) (text : List ℕ) (f : Followed) → 1 ≤ length s.axes → follow_of s k text ≡ Ok f → IsFollowed s k f
@@ -276,10 +294,12 @@ last-is s k _ l some h = absurd (cc h)
 record AreFit (s : Setup) (b : BlockDef) (i : Inputs) : Type 0 where
   inputs : AreInputs b.kind (axes_of s b) i
   master : i.master < length s.axes
+  long : length i.positions ≡ MOST_MEMBERS
+  word : i.table < 2 ^ 16
 
-inputs-fit : (s : Setup) (b : BlockDef) (fields : InputTexts) (i : Inputs) → 1 ≤ length s.axes → inputs_of s b fields ≡ Ok i → AreFit s b i
+inputs-fit : (s : Setup) (b : BlockDef) (fields : InputTexts) (i : Inputs) → 1 ≤ length s.axes → HasArrays s → inputs_of s b fields ≡ Ok i → AreFit s b i
 unfolding inputs_of
-inputs-fit s b fields i some h =
+inputs-fit s b fields i some arrays h =
     let e = bind_ok (value (flag_of fields.execute)) _ i h in
     let p = bind_ok (positions_of s b fields.positions) _ i e.2 in
     let r = bind_ok (rates_of b.kind fields.rates) _ i p.2 in
@@ -298,7 +318,7 @@ inputs-fit s b fields i some h =
       table = l.0.followed.table;
     } in
     let is : x ≡ i = ok_is (Ok x) x i refl l.2 in
-    let positions = positions-are s b fields.positions p.0 p.1 in
+    let positions = positions-are s b fields.positions p.0 arrays p.1 in
     let rates = rates-are b.kind fields.rates r.0 r.1 in
     let last = last-is s b.kind fields.last l.0 some l.1 in
     subst (λ y. AreFit s b y) is (record {
@@ -316,31 +336,48 @@ inputs-fit s b fields i some h =
         table = last.followed.table;
       };
       master = last.followed.there;
+      long = positions.long;
+      word = last.followed.word;
     })
 
-call-by : (s : Setup) (name : List ℕ) (inputs : InputTexts) (reply : List (List ℕ)) (e : FoundEntry) → 1 ≤ length s.axes → call_by s name inputs reply ≡ Ok e → (v : TraceVersion) → IsEntryRead v s e
+reply-word : (fields : List (List ℕ)) (o : Outputs) → reply_of fields ≡ Ok o → o.error_id < 2 ^ 16
+unfolding reply_of
+reply-word (outputs ∷ error_id ∷ []) o h =
+    let id = bind_ok (value (unsigned_of 0 65535 error_id)) _ o h in
+    let few = (unsigned-range 0 65535 error_id id.0 (results.found (unsigned_of 0 65535 error_id) NO_VALUE id.0 id.1)).1 in
+    let is = outputs-id outputs id.0 o (results.found (outputs_of outputs id.0) NO_VALUE o id.2) in
+    subst (λ n. n < 2 ^ 16) is (omega (arith, few))
+reply-word _ o h = absurd (cc h)
+
+call-by : (s : Setup) (name : List ℕ) (inputs : InputTexts) (reply : List (List ℕ)) (e : FoundEntry) → 1 ≤ length s.axes → HasArrays s → call_by s name inputs reply ≡ Ok e → (v : TraceVersion) → IsEntryRead v s e
 unfolding call_by
-call-by s name inputs reply e some h v =
+call-by s name inputs reply e some arrays h v =
     let k = bind_ok (value (block_at s name)) _ e h in
     let b = bind_ok (value (slice_get s.blocks k.0)) _ e k.2 in
     let i = bind_ok (inputs_of s b.0 inputs) _ e b.2 in
     let o = bind_ok (reply_of reply) _ e i.2 in
     let is : found.Call k.0 i.0 o.0 ≡ e = ok_is (Ok (found.Call k.0 i.0 o.0)) (found.Call k.0 i.0 o.0) e refl o.2 in
-    let fit = inputs-fit s b.0 inputs i.0 some i.1 in
+    let fit = inputs-fit s b.0 inputs i.0 some arrays i.1 in
     let at : slice_get s.blocks k.0 ≡ Some b.0 = results.found (slice_get s.blocks k.0) NO_VALUE b.0 b.1 in
     let P : BlockDef → Type 0 = λ d. AreInputs d.kind (axes_of s d) i.0 in
-    subst (λ q. IsEntryRead v s q) is (record {
-      there = block-within s name k.0 (results.found (block_at s name) NO_VALUE k.0 k.1);
-      inputs = λ d other. let same : b.0 ≡ d = let x : Some b.0 ≡ Some d = sym at ∙ other in cc in subst P same fit.inputs;
-      master = fit.master;
-    })
+    let made : IsWritableCall s k.0 i.0 o.0 = record {
+      call = record {
+        there = block-within s name k.0 (results.found (block_at s name) NO_VALUE k.0 k.1);
+        inputs = λ d other. let same : b.0 ≡ d = let x : Some b.0 ≡ Some d = sym at ∙ other in cc in subst P same fit.inputs;
+        master = fit.master;
+      };
+      positions = fit.long;
+      table = fit.word;
+      error = reply-word reply o.0 o.1;
+    } in
+    subst (λ q. IsEntryRead v s q) is made
 
 -- a call that is read is one of its machine
-pub call-read : (s : Setup) (fields : List (List ℕ)) (e : FoundEntry) → 1 ≤ length s.axes → call_meaning s fields ≡ Ok e → (v : TraceVersion) → IsEntryRead v s e
+pub call-read : (s : Setup) (fields : List (List ℕ)) (e : FoundEntry) → 1 ≤ length s.axes → HasArrays s → call_meaning s fields ≡ Ok e → (v : TraceVersion) → IsEntryRead v s e
 unfolding call_meaning
-call-read s (name ∷ execute ∷ positions ∷ velocity ∷ acceleration ∷ deceleration ∷ jerk ∷ mode ∷ follow ∷ outputs ∷ error_id ∷ []) e some h v =
-    call-by s name _ (outputs ∷ error_id ∷ []) e some h v
-call-read s _ e some h v = absurd (cc h)
+call-read s (name ∷ execute ∷ positions ∷ velocity ∷ acceleration ∷ deceleration ∷ jerk ∷ mode ∷ follow ∷ outputs ∷ error_id ∷ []) e some arrays h v =
+    call-by s name _ (outputs ∷ error_id ∷ []) e some arrays h v
+call-read s _ e some arrays h v = absurd (cc h)
 
 -- so is the end of a task
 pub end-read : (s : Setup) (fields : List (List ℕ)) (e : FoundEntry) → end_meaning s fields ≡ Ok e → (v : TraceVersion) → IsEntryRead v s e

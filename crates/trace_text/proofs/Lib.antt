@@ -24,5 +24,8 @@ mod Leads
 mod MachineBack
 mod EntriesBack
 mod TraceBack
+mod ColumnRanges
+mod ItemsKept
+mod RowsKept
 mod InputsKept
 mod ReadingKept

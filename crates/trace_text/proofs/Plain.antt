@@ -17,6 +17,11 @@ pub each-push : {X : Type 0} (P : X → Type 0) (xs : List X) (x : X) → AllByR
 each-push P [] x h p = (p, tt)
 each-push P (y ∷ xs) x h p = (h.0, each-push P xs x h.1 p)
 
+-- two texts, one behind the other
+pub each-append : {X : Type 0} (P : X → Type 0) (xs ys : List X) → AllByRecursion P xs → AllByRecursion P ys → AllByRecursion P (xs ++ ys)
+each-append P [] ys h k = k
+each-append P (x ∷ xs) ys h k = (h.0, each-append P xs ys h.1 k)
+
 pub each-weaker : {X : Type 0} (P Q : X → Type 0) → ((x : X) → P x → Q x) → (xs : List X) → AllByRecursion P xs → AllByRecursion Q xs
 each-weaker P Q w [] h = tt
 each-weaker P Q w (x ∷ xs) h = (w x h.0, each-weaker P Q w xs h.1)

@@ -1,34 +1,29 @@
 -- What always holds of a trace that is read.
-use Rattle.std.proofs.Common.{◌≡◌, ℕ, zero, suc, ◌+◌, ◌<◌, ◌≤◌, ℤ, Bool, true, false, Option, Some, None, Result, Ok, Err, List, [], ◌∷◌, ◌++◌, length, refl, sym, ◌∙◌, ap, subst, arith, inl, inr}
-use Rattle.std.specs.Prelude.{pos, ◌&&◌, ◌||◌, ◌==◌, codes, cond, nat_le, nat_lt}
-use Rattle.std.specs.Str.{bytes_eq}
+use Rattle.std.proofs.Common.{FitsSigned, w64, ◌^◌, ◌≡◌, ℕ, ◌+◌, ◌<◌, ◌≤◌, Bool, true, false, Some, None, Result, Ok, Err, List, [], ◌∷◌, ◌++◌, length, refl, sym, ◌∙◌, ap, subst, arith, inl, inr}
+use Rattle.std.specs.Prelude.{◌&&◌, ◌||◌, ◌==◌, codes, cond, nat_le}
 use Rattle.line_text.specs.Texts.{says}
-use Rattle.trace_columns.specs.Columns.{hex_of, wide_number_of}
 use Rattle.trace_text.specs.declared.records.TheConstants.{FIELDS}
 use Rattle.trace_text.proofs.ItemsBack.{unless_true}
 use Rattle.std.specs.List.{AllByRecursion}
 use Rattle.std.specs.Option.{ok_or, option_to_list}
-use Rattle.std.proofs.lemmas.Bool.{cases_Bool, eqb-true, leb-false, leb-true, ltb-true}
+use Rattle.std.proofs.lemmas.Bool.{and_parts, cases_Bool, eqb-true, leb-false, leb-true, ltb-true}
 use Rattle.std.proofs.lemmas.List.{length-append}
-use Rattle.axis_state.specs.declared.definition.AxisRow.{AxisRow}
-use Rattle.cia402_machine.specs.declared.drive.DriveOut.{DriveOut}
-use Rattle.group_state.specs.declared.state.GroupRow.{GroupRow}
-use Rattle.line_text.specs.Reading.{◌>>=◌, at_line}
-use Rattle.line_text.specs.declared.reader.LineRefused.{LineRefused}
+use Rattle.std.proofs.lemmas.List.Elements.{All-from_recursion}
+use Rattle.line_text.specs.Reading.{at_line}
 use Rattle.motion_history.specs.Faults.{whole_fault}
-use Rattle.motion_history.specs.Setup.{Setup}
+use Rattle.motion_history.specs.Setup.{IsSetup, Setup}
+use Rattle.motion_history.specs.declared.config.GroupDef.{GroupDef}
 use Rattle.motion_history.specs.declared.fault.ConfigFault.TheVariants.{TooFew}
 use Rattle.motion_history.specs.declared.refused.TraceVersion.{TraceVersion}
 use Rattle.motion_history.specs.declared.refused.TraceVersion.TheVariants.{One, Two}
-use Rattle.trace_text.specs.Calls.{call_meaning, cycle_meaning, end_meaning, unused}
+use Rattle.trace_text.specs.Calls.{call_meaning, cycle_meaning, end_meaning}
 use Rattle.trace_text.specs.Found.{CycleFound}
 use Rattle.trace_text.specs.Items.{axis_meaning, block_meaning, group_meaning, table_meaning, task_meaning, room_meaning, whole}
-use Rattle.trace_text.specs.Kinds.{is_entry_here, is_here, is_item_here, is_stage, kind_of}
-use Rattle.trace_text.specs.Reading.{are_same, command_of, cycle_after, drives_meaning, ending, fields_meaning, grows_meaning, header_meaning, is_ended, is_whole_cycle, later_meaning, meaning, no_cycle, opening, reading_of, records_meaning, rows_meaning, trace_meaning, trace_of, twelve_meaning, version_of, with_cycle, with_entry, with_item}
-use Rattle.trace_text.specs.Records.{axis_name, header_fields}
-use Rattle.trace_text.specs.RowFields.{RowTexts}
-use Rattle.trace_text.specs.Rows.{answer_of, count_of, drive_meaning, given_of, grow_meaning, place_meaning, row_by, row_meaning, shown_of}
-use Rattle.trace_text.specs.Rules.{broken_unless, is_empty, value}
+use Rattle.trace_text.specs.Kinds.{is_entry_here, is_here, is_stage, kind_of}
+use Rattle.trace_text.specs.Reading.{are_same, command_of, cycle_after, drives_meaning, ending, fields_meaning, grows_meaning, header_meaning, is_ended, is_whole_cycle, later_meaning, meaning, opening, records_meaning, rows_meaning, trace_meaning, twelve_meaning, version_of, with_cycle, with_entry, with_item}
+use Rattle.trace_text.specs.Records.{header_fields}
+use Rattle.trace_text.specs.Rows.{drive_meaning, grow_meaning, row_meaning}
+use Rattle.trace_text.specs.Rules.{broken_unless, value}
 use Rattle.trace_text.specs.SoFar.{SoFar}
 use Rattle.trace_text.specs.TraceKept.{IsCycleRead, IsEntryRead, IsRowRead, IsTraceKept, places_with}
 use Rattle.trace_text.specs.TraceState.{TraceState}
@@ -38,8 +33,13 @@ use Rattle.trace_text.specs.declared.kind.Kind.{Kind}
 use Rattle.trace_text.specs.declared.kind.Kind.TheVariants as kind
 use Rattle.trace_text.specs.declared.kind.Stage.{Stage}
 use Rattle.trace_text.specs.declared.kind.Stage.TheVariants as stage
-use Rattle.trace_text.specs.declared.rule.TheConstants.{NOT_TWELVE, NO_HEADER, NO_VALUE, OUT_OF_PLACE, TOO_SHORT}
+use Rattle.trace_text.specs.declared.rule.TheConstants.{NOT_TWELVE, NO_HEADER, OUT_OF_PLACE, TOO_SHORT}
+use Rattle.trace_text.specs.RowRanges.{IsDriveEnd, IsGroupRow}
+use Rattle.motion_history.specs.declared.sizes.TheConstants.{MOST_MEMBERS}
 use Rattle.trace_text.proofs.InputsKept.{call-read, end-read}
+use Rattle.trace_text.proofs.ItemsKept.{HasArrays, IsArray, axis-kept, block-kept, group-kept, room-kept, table-kept, task-kept}
+use Rattle.trace_text.proofs.Plain.{each-append, each-push, each-weaker}
+use Rattle.trace_text.proofs.RowsKept.{cycle-read, drive-read, grow-read, row-read}
 use Rattle.trace_text.proofs.Results.{bind_ok, faultless, holds, ok_is}
 
 -- the entries that were read
@@ -51,7 +51,11 @@ record IsPart (v : TraceVersion) (s : Setup) (c : CycleFound) : Type 0 where
   axes : length c.axes ≤ length s.axes
   groups : length c.groups ≤ length s.groups
   places : length c.places ≡ places_with v (length c.axes)
+  some : 1 ≤ c.number
+  few : c.number < 2 ^ 32
   rows : AllByRecursion IsRowRead c.axes
+  group_rows : AllByRecursion IsGroupRow c.groups
+  wide : AllByRecursion (FitsSigned w64) c.places
 
 record IsOpen (v : TraceVersion) (s : Setup) (c : CycleFound) : Type 0 where
   part : IsPart v s c
@@ -70,8 +74,11 @@ KeptAt stage.Entries s = AreRead s
 KeptAt stage.Rows s = InRows s
 KeptAt stage.Drives s = AreRead s
 
-abbrev Kept : SoFar → Type 0
-Kept s = KeptAt s.stage s
+-- what holds behind every record
+record Kept (s : SoFar) : Type 0 where
+  stage : KeptAt s.stage s
+  arrays : HasArrays s.setup
+  drives : AllByRecursion IsDriveEnd s.drives
 
 none-read : (s : SoFar) → s.found ≡ [] → AreRead s
 none-read s e = subst (λ fs. AllByRecursion (IsEntryRead s.version s.setup) fs) (sym e) tt
@@ -126,10 +133,6 @@ still-rows stage.Machine s is h = absurd (cc is)
 still-rows stage.Entries s is h = absurd (cc is)
 still-rows stage.Drives s is h = absurd (cc is)
 
-both : (a b : Bool) → (a && b) ≡ true → (a ≡ true) × (b ≡ true)
-both true b h = (refl, h)
-both false b h = absurd (cc h)
-
 whole-fault : (b : Bool) → cond b None (Some TooFew) ≡ None → b ≡ true
 whole-fault true h = refl
 whole-fault false h = absurd (cc h)
@@ -138,28 +141,24 @@ some-axis : (s : Setup) (u : Unit {0}) → whole s ≡ Ok u → 1 ≤ length s.a
 some-axis s u h =
     let none = faultless (whole_fault s) u h in
     let tests = whole-fault _ none in
-    leb-true 1 (length s.axes) (both _ _ (both _ _ tests).0).0
-
-each-more : {X : Type 0} (P : X → Type 0) (xs : List X) (x : X) → AllByRecursion P xs → P x → AllByRecursion P (xs ++ x ∷ [])
-each-more P [] x h here = (here, tt)
-each-more P (y ∷ xs) x h here = (h.0, each-more P xs x h.1 here)
+    leb-true 1 (length s.axes) (and_parts _ _ (and_parts _ _ tests).0).0
 
 -- ---- records
 
-item-kept : (s t : SoFar) (k : Kind) (setup : Result Setup ℕ) → is_stage s.stage stage.Machine ≡ true → Kept s → with_item s k setup ≡ Ok t → Kept t
-item-kept s t k setup is h e =
+item-kept : (s t : SoFar) (k : Kind) (setup : Result Setup ℕ) → is_stage s.stage stage.Machine ≡ true → Kept s → ((u : Setup) → setup ≡ Ok u → HasArrays u) → with_item s k setup ≡ Ok t → Kept t
+item-kept s t k setup is h arrays e =
     let x = bind_ok setup _ t e in
     let y : SoFar = record s { last = k; setup = x.0 } in
-    let none : y.found ≡ [] = in-machine s.stage s is h in
-    subst Kept (ok_is (Ok y) y t refl x.2) (still-machine s.stage y is none)
+    let none : y.found ≡ [] = in-machine s.stage s is h.stage in
+    subst Kept (ok_is (Ok y) y t refl x.2) (record { stage = still-machine s.stage y is none; arrays = arrays x.0 x.1; drives = h.drives })
 
-entry-kept : (s t : SoFar) (entry : Result FoundEntry ℕ) → is_entry_here s ≡ true → Kept s → ((e : FoundEntry) → 1 ≤ length s.setup.axes → entry ≡ Ok e → IsEntryRead s.version s.setup e) → with_entry s entry ≡ Ok t → Kept t
+entry-kept : (s t : SoFar) (entry : Result FoundEntry ℕ) → is_entry_here s ≡ true → Kept s → ((e : FoundEntry) → 1 ≤ length s.setup.axes → HasArrays s.setup → entry ≡ Ok e → IsEntryRead s.version s.setup e) → with_entry s entry ≡ Ok t → Kept t
 entry-kept s t entry is h read e =
     let x = bind_ok entry _ t e in
     let w = bind_ok (whole s.setup) _ t x.2 in
     let y : SoFar = record s { stage = stage.Entries; found = s.found ++ x.0 ∷ [] } in
-    let all : AreRead y = each-more (IsEntryRead s.version s.setup) s.found x.0 (in-entries s.stage s is h) (read x.0 (some-axis s.setup w.0 w.1) x.1) in
-    subst Kept (ok_is (Ok y) y t refl w.2) all
+    let all : AreRead y = each-push (IsEntryRead s.version s.setup) s.found x.0 (in-entries s.stage s is h.stage) (read x.0 (some-axis s.setup w.0 w.1) h.arrays x.1) in
+    subst Kept (ok_is (Ok y) y t refl w.2) (record { stage = all; arrays = h.arrays; drives = h.drives })
 
 fails-places : (v : TraceVersion) → 0 ≡ places_with v 0
 fails-places One = refl
@@ -168,91 +167,48 @@ fails-places Two = refl
 not-whole : (n : ℕ) (b : Bool) → 1 ≤ n → (nat_le n 0 && b) ≡ false
 not-whole n b h = rw (unless_true (nat_le n 0) (λ e. let l : n ≤ 0 = leb-true n 0 e in omega (arith, h, l))) refl
 
-begun : (v : TraceVersion) (s : Setup) (n : ℕ) → 1 ≤ length s.axes → IsOpen v s (record { number = n; axes = []; groups = []; places = [] })
-begun v s n some = record {
-  part = record { axes = omega arith; groups = omega arith; places = fails-places v; rows = tt };
+begun : (v : TraceVersion) (s : Setup) (n : ℕ) → 1 ≤ length s.axes → 1 ≤ n → n < 2 ^ 32 → IsOpen v s (record { number = n; axes = []; groups = []; places = [] })
+begun v s n some from few = record {
+  part = record { axes = omega arith; groups = omega arith; places = fails-places v; some = from; few = few; rows = tt; group_rows = tt; wide = tt };
   open' = not-whole (length s.axes) (nat_le (length s.groups) 0) some;
 }
 
-cycle-kept : (s t : SoFar) (number : Result ℕ ℕ) → is_entry_here s ≡ true → Kept s → with_cycle s number ≡ Ok t → Kept t
+cycle-kept : (s t : SoFar) (number : Result ℕ ℕ) → is_entry_here s ≡ true → Kept s → ((n : ℕ) → number ≡ Ok n → (1 ≤ n) × (n < 2 ^ 32)) → with_cycle s number ≡ Ok t → Kept t
 unfolding with_cycle
-cycle-kept s t number is h e =
+cycle-kept s t number is h range e =
     let n = bind_ok number _ t e in
     let w = bind_ok (whole s.setup) _ t n.2 in
     let y : SoFar = record s { stage = stage.Rows; cycle = record { number = n.0; axes = []; groups = []; places = [] } } in
-    let rows : InRows y = record { read = in-entries s.stage s is h; cycle = begun s.version s.setup n.0 (some-axis s.setup w.0 w.1) } in
-    subst Kept (ok_is (Ok y) y t refl w.2) rows
+    let rows : InRows y = record { read = in-entries s.stage s is h.stage; cycle = let r = range n.0 n.1 in begun s.version s.setup n.0 (some-axis s.setup w.0 w.1) r.0 r.1 } in
+    subst Kept (ok_is (Ok y) y t refl w.2) (record { stage = rows; arrays = h.arrays; drives = h.drives })
 
 -- a row more
-after-kept : (s : SoFar) (c : CycleFound) → is_stage s.stage stage.Rows ≡ true → AreRead s → IsPart s.version s.setup c → Kept (cycle_after s c)
+after-kept : (s : SoFar) (c : CycleFound) → is_stage s.stage stage.Rows ≡ true → Kept s → AreRead s → IsPart s.version s.setup c → Kept (cycle_after s c)
 unfolding cycle_after
-after-kept s c is read part = elim (cases_Bool (is_whole_cycle s.setup c)) [
+after-kept s c is h read part = elim (cases_Bool (is_whole_cycle s.setup c)) [
   | inl passes ↦
-      let tests = both _ _ passes in
+      let tests = and_parts _ _ passes in
       let a : length s.setup.axes ≤ length c.axes = leb-true (length s.setup.axes) (length c.axes) tests.0 in
       let b : length s.setup.groups ≤ length c.groups = leb-true (length s.setup.groups) (length c.groups) tests.1 in
       let pa = part.axes in
       let pb = part.groups in
       let axes : length c.axes ≡ length s.setup.axes = omega (arith, a, pa) in
       let groups : length c.groups ≡ length s.setup.groups = omega (arith, b, pb) in
-      let here : IsCycleRead s.version s.setup c = record { axes = axes; groups = groups; places = part.places ∙ ap (places_with s.version) axes; rows = part.rows } in
-      rw passes (each-more (IsEntryRead s.version s.setup) s.found (found.Cycle c) read here)
-  | inr fails ↦ rw fails (still-rows s.stage (record s { cycle = c }) is (record { read = read; cycle = record { part = part; open' = fails } }))
+      let here : IsCycleRead s.version s.setup c = record {
+        some = part.some;
+        few = part.few;
+        axes = axes;
+        groups = groups;
+        places = part.places ∙ ap (places_with s.version) axes;
+        rows = part.rows;
+        group_rows = part.group_rows;
+        wide = part.wide;
+      } in
+      rw passes (record { stage = each-push (IsEntryRead s.version s.setup) s.found (found.Cycle c) read here; arrays = h.arrays; drives = h.drives })
+  | inr fails ↦
+      let rows : InRows (record s { cycle = c }) = record { read = read; cycle = record { part = part; open' = fails } } in
+      rw fails (record { stage = still-rows s.stage (record s { cycle = c }) is rows; arrays = h.arrays; drives = h.drives })
 ]
-
--- a row that is read, and how many places stand with it
-record IsRead (v : TraceVersion) (r : AxisRow × Option ℤ) : Type 0 where
-  row : IsRowRead r.0
-  place : length (option_to_list r.1) ≡ places_with v 1
-
-place-read : (v : TraceVersion) (text : List ℕ) (p : Option ℤ) → place_meaning v text ≡ Ok p → length (option_to_list p) ≡ places_with v 1
-unfolding place_meaning
-place-read One text p h =
-    let e = bind_ok (broken_unless (is_empty text) NO_VALUE) (λ u. Ok None) p h in
-    let is : None ≡ p = ok_is (Ok None) None p refl e.2 in
-    rw (← is) refl
-place-read Two text p h =
-    let z = bind_ok (value (wide_number_of text)) (λ x. Ok (Some x)) p h in
-    let is : Some z.0 ≡ p = ok_is (Ok (Some z.0)) (Some z.0) p refl z.2 in
-    rw (← is) refl
-
-given-mode : (fields : List (List ℕ)) (o : DriveOut) → given_of fields ≡ Ok o → o.mode ≡ pos 8
-unfolding given_of
-given-mode (controlword ∷ target ∷ []) o h =
-    let w = bind_ok (value (hex_of controlword)) (λ x. count_of target >>= λ t. Ok (record { controlword = x; mode = pos 8; target = t })) o h in
-    let t = bind_ok (count_of target) (λ t. Ok (record { controlword = w.0; mode = pos 8; target = t })) o w.2 in
-    ap (λ (x : DriveOut). x.mode) (sym (ok_is (Ok (record { controlword = w.0; mode = pos 8; target = t.0 })) (record { controlword = w.0; mode = pos 8; target = t.0 }) o refl t.2))
-given-mode _ o h = absurd (cc h)
-
-row-by-read : (v : TraceVersion) (s : Setup) (n : ℕ) (fields : RowTexts) (r : AxisRow × Option ℤ) → row_by v s n fields ≡ Ok r → IsRead v r
-unfolding row_by
-row-by-read v s n fields r h =
-    let named = bind_ok (broken_unless (bytes_eq (axis_name s n) fields.name) NO_VALUE) _ r h in
-    let input = bind_ok (answer_of fields.answer) _ r named.2 in
-    let shown = bind_ok (shown_of fields.shown) _ r input.2 in
-    let output = bind_ok (given_of fields.given) _ r shown.2 in
-    let place = bind_ok (place_meaning v fields.place) _ r output.2 in
-    let x : AxisRow × Option ℤ = (
-      record {
-        input = input.0;
-        state = shown.0.state;
-        error = shown.0.error;
-        driven = shown.0.driven;
-        setpoint = shown.0.setpoint;
-        offset = pos 0;
-        output = output.0;
-      },
-      place.0,
-    ) in
-    subst (IsRead v) (ok_is (Ok x) x r refl place.2) (record {
-      row = record { offset = refl; mode = given-mode fields.given output.0 output.1 };
-      place = place-read v fields.place place.0 place.1;
-    })
-
-row-read : (v : TraceVersion) (s : Setup) (n : ℕ) (fields : List (List ℕ)) (r : AxisRow × Option ℤ) → row_meaning v s n fields ≡ Ok r → IsRead v r
-unfolding row_meaning
-row-read v s n (axis ∷ statusword ∷ actual ∷ mode_display ∷ state ∷ error ∷ driven ∷ setpoint ∷ controlword ∷ target ∷ place ∷ []) r h = row-by-read v s n _ r h
-row-read v s n _ r h = absurd (cc h)
 
 more-places : (v : TraceVersion) (n : ℕ) → places_with v n + places_with v 1 ≡ places_with v (n + 1)
 more-places One n = refl
@@ -262,7 +218,7 @@ rows-kept : (s t : SoFar) (fields : List (List ℕ)) → is_stage s.stage stage.
 unfolding rows_meaning
 rows-kept s t fields is few h e =
     let r = bind_ok (row_meaning s.version s.setup (length s.cycle.axes) fields) _ t e in
-    let now = in-rows s.stage s is h in
+    let now = in-rows s.stage s is h.stage in
     let row = row-read s.version s.setup (length s.cycle.axes) fields r.0 r.1 in
     let c : CycleFound = record s.cycle { axes = s.cycle.axes ++ r.0.0 ∷ []; places = s.cycle.places ++ option_to_list r.0.1 } in
     let long : length (s.cycle.axes ++ r.0.0 ∷ []) ≡ length s.cycle.axes + 1 = length-append s.cycle.axes (r.0.0 ∷ []) in
@@ -270,10 +226,14 @@ rows-kept s t fields is few h e =
     let part : IsPart s.version s.setup c = record {
       axes = omega (arith, long, few);
       groups = now.cycle.part.groups;
-      places = places ∙ ap (λ k. k + length (option_to_list r.0.1)) now.cycle.part.places ∙ ap (λ k. places_with s.version (length s.cycle.axes) + k) row.place ∙ more-places s.version (length s.cycle.axes) ∙ ap (places_with s.version) (sym long);
-      rows = each-more IsRowRead s.cycle.axes r.0.0 now.cycle.part.rows row.row;
+      places = places ∙ ap (λ k. k + length (option_to_list r.0.1)) now.cycle.part.places ∙ ap (λ k. places_with s.version (length s.cycle.axes) + k) row.places.count ∙ more-places s.version (length s.cycle.axes) ∙ ap (places_with s.version) (sym long);
+      some = now.cycle.part.some;
+      few = now.cycle.part.few;
+      rows = each-push IsRowRead s.cycle.axes r.0.0 now.cycle.part.rows row.row;
+      group_rows = now.cycle.part.group_rows;
+      wide = each-append (FitsSigned w64) s.cycle.places (option_to_list r.0.1) now.cycle.part.wide row.places.wide;
     } in
-    subst Kept (ok_is (Ok (cycle_after s c)) (cycle_after s c) t refl r.2) (after-kept s c is now.read part)
+    subst Kept (ok_is (Ok (cycle_after s c)) (cycle_after s c) t refl r.2) (after-kept s c is h now.read part)
 
 few-groups : (a b : Bool) → (a && b) ≡ false → a ≡ true → b ≡ false
 few-groups true b h e = h
@@ -283,7 +243,7 @@ grows-kept : (s t : SoFar) (fields : List (List ℕ)) → is_stage s.stage stage
 unfolding grows_meaning
 grows-kept s t fields is many h e =
     let r = bind_ok (grow_meaning s.setup (length s.cycle.groups) fields) _ t e in
-    let now = in-rows s.stage s is h in
+    let now = in-rows s.stage s is h.stage in
     let c : CycleFound = record s.cycle { groups = s.cycle.groups ++ r.0 ∷ [] } in
     let long : length (s.cycle.groups ++ r.0 ∷ []) ≡ length s.cycle.groups + 1 = length-append s.cycle.groups (r.0 ∷ []) in
     let less : nat_le (length s.setup.groups) (length s.cycle.groups) ≡ false = few-groups _ _ now.cycle.open' many in
@@ -292,9 +252,13 @@ grows-kept s t fields is many h e =
       axes = now.cycle.part.axes;
       groups = omega (arith, long, few);
       places = now.cycle.part.places;
+      some = now.cycle.part.some;
+      few = now.cycle.part.few;
       rows = now.cycle.part.rows;
+      group_rows = each-push IsGroupRow s.cycle.groups r.0 now.cycle.part.group_rows (grow-read s.setup (length s.cycle.groups) fields r.0 r.1);
+      wide = now.cycle.part.wide;
     } in
-    subst Kept (ok_is (Ok (cycle_after s c)) (cycle_after s c) t refl r.2) (after-kept s c is now.read part)
+    subst Kept (ok_is (Ok (cycle_after s c)) (cycle_after s c) t refl r.2) (after-kept s c is h now.read part)
 
 drives-kept : (s t : SoFar) (fields : List (List ℕ)) → Kept s → drives_meaning s fields ≡ Ok t → Kept t
 unfolding drives_meaning
@@ -302,21 +266,22 @@ drives-kept s t fields h e =
     let d = bind_ok (drive_meaning s.setup (length s.drives) fields) _ t e in
     let w = bind_ok (whole s.setup) _ t d.2 in
     let y : SoFar = record s { stage = stage.Drives; drives = s.drives ++ d.0 ∷ [] } in
-    let all : AreRead y = in-drives s.stage s h in
-    subst Kept (ok_is (Ok y) y t refl w.2) all
+    let all : AreRead y = in-drives s.stage s h.stage in
+    let drives = each-push IsDriveEnd s.drives d.0 h.drives (drive-read s.setup (length s.drives) fields d.0 d.1) in
+    subst Kept (ok_is (Ok y) y t refl w.2) (record { stage = all; arrays = h.arrays; drives = drives })
 
 fields-kept : (s t : SoFar) (k : Kind) (fields : List (List ℕ)) → is_here s k ≡ true → Kept s → fields_meaning s k fields ≡ Ok t → Kept t
 unfolding fields_meaning is_here
-fields-kept s t kind.Axis fields is h e = item-kept s t kind.Axis (axis_meaning s.version s.setup fields) (both _ _ is).0 h e
-fields-kept s t kind.Group fields is h e = item-kept s t kind.Group (group_meaning s.setup fields) (both _ _ is).0 h e
-fields-kept s t kind.Table fields is h e = item-kept s t kind.Table (table_meaning s.setup fields) (both _ _ is).0 h e
-fields-kept s t kind.Task fields is h e = item-kept s t kind.Task (task_meaning s.setup fields) (both _ _ is).0 h e
-fields-kept s t kind.Block fields is h e = item-kept s t kind.Block (block_meaning s.setup fields) (both _ _ is).0 h e
-fields-kept s t kind.Call fields is h e = entry-kept s t (call_meaning s.setup fields) is h (λ x some r. call-read s.setup fields x some r s.version) e
-fields-kept s t kind.Cycle fields is h e = cycle-kept s t (cycle_meaning fields) is h e
-fields-kept s t kind.Row fields is h e = let b = both _ _ is in rows-kept s t fields b.0 (ltb-true _ _ b.1) h e
-fields-kept s t kind.Grow fields is h e = let b = both _ _ is in grows-kept s t fields b.0 b.1 h e
-fields-kept s t kind.End fields is h e = entry-kept s t (end_meaning s.setup fields) is h (λ x some r. end-read s.setup fields x r s.version) e
+fields-kept s t kind.Axis fields is h e = item-kept s t kind.Axis (axis_meaning s.version s.setup fields) (and_parts _ _ is).0 h (λ u x. axis-kept s.version s.setup u fields h.arrays x) e
+fields-kept s t kind.Group fields is h e = item-kept s t kind.Group (group_meaning s.setup fields) (and_parts _ _ is).0 h (λ u x. group-kept s.setup u fields h.arrays x) e
+fields-kept s t kind.Table fields is h e = item-kept s t kind.Table (table_meaning s.setup fields) (and_parts _ _ is).0 h (λ u x. table-kept s.setup u fields h.arrays x) e
+fields-kept s t kind.Task fields is h e = item-kept s t kind.Task (task_meaning s.setup fields) (and_parts _ _ is).0 h (λ u x. task-kept s.setup u fields h.arrays x) e
+fields-kept s t kind.Block fields is h e = item-kept s t kind.Block (block_meaning s.setup fields) (and_parts _ _ is).0 h (λ u x. block-kept s.setup u fields h.arrays x) e
+fields-kept s t kind.Call fields is h e = entry-kept s t (call_meaning s.setup fields) is h (λ x some arrays r. call-read s.setup fields x some arrays r s.version) e
+fields-kept s t kind.Cycle fields is h e = cycle-kept s t (cycle_meaning fields) is h (λ n x. cycle-read fields n x) e
+fields-kept s t kind.Row fields is h e = let b = and_parts _ _ is in rows-kept s t fields b.0 (ltb-true _ _ b.1) h e
+fields-kept s t kind.Grow fields is h e = let b = and_parts _ _ is in grows-kept s t fields b.0 b.1 h e
+fields-kept s t kind.End fields is h e = entry-kept s t (end_meaning s.setup fields) is h (λ x some arrays r. end-read s.setup fields x r s.version) e
 fields-kept s t kind.Drive fields is h e = drives-kept s t fields h e
 
 later-kept : (s t : SoFar) (fields : List (List ℕ)) → Kept s → later_meaning s fields ≡ Ok t → Kept t
@@ -327,25 +292,23 @@ later-kept s t (first ∷ fields) h e =
     let here = bind_ok (broken_unless (is_here s k.0) OUT_OF_PLACE) _ t k.2 in
     fields-kept s t k.0 fields (holds (is_here s k.0) OUT_OF_PLACE here.0 here.1) h here.2
 
-header-kept : (s t : SoFar) (fields : List (List ℕ)) → s.found ≡ [] → header_meaning s fields ≡ Ok t → Kept t
+header-kept : (s t : SoFar) (fields : List (List ℕ)) → Kept s → s.found ≡ [] → header_meaning s fields ≡ Ok t → Kept t
 unfolding header_meaning
-header-kept s t fields none e =
+header-kept s t fields h none e =
     let b = bind_ok (broken_unless (are_same fields header_fields) NO_HEADER) _ t e in
     let y : SoFar = record s { stage = stage.Room } in
-    let h : y.found ≡ [] = none in
-    subst Kept (ok_is (Ok y) y t refl b.2) h
+    subst Kept (ok_is (Ok y) y t refl b.2) (record { stage = none; arrays = h.arrays; drives = h.drives })
 
-room-kept : (s t : SoFar) (fields : List (List ℕ)) → s.found ≡ [] → trace_meaning s fields ≡ Ok t → Kept t
+opened-kept : (s t : SoFar) (fields : List (List ℕ)) → Kept s → s.found ≡ [] → trace_meaning s fields ≡ Ok t → Kept t
 unfolding trace_meaning
-room-kept s t (first ∷ version ∷ made_by ∷ room) none e =
+opened-kept s t (first ∷ version ∷ made_by ∷ room) h none e =
     let b = bind_ok (broken_unless (says first (codes "trace")) NO_HEADER) _ t e in
     let v = bind_ok (ok_or (version_of version) NO_HEADER) _ t b.2 in
     let c = bind_ok (value (command_of made_by)) _ t v.2 in
     let u = bind_ok (room_meaning s.setup room) _ t c.2 in
     let y : SoFar = record s { stage = stage.Machine; version = v.0; command = c.0; setup = u.0 } in
-    let h : y.found ≡ [] = none in
-    subst Kept (ok_is (Ok y) y t refl u.2) h
-room-kept s t _ none e = absurd (cc e)
+    subst Kept (ok_is (Ok y) y t refl u.2) (record { stage = none; arrays = room-kept s.setup u.0 room h.arrays u.1; drives = h.drives })
+opened-kept s t _ h none e = absurd (cc e)
 
 in-header : (st : Stage) (s : SoFar) → is_stage st stage.Header ≡ true → KeptAt st s → s.found ≡ []
 in-header stage.Header s is h = h
@@ -366,9 +329,9 @@ in-room stage.Drives s is h = absurd (cc is)
 twelve-kept : (s t : SoFar) (fields : List (List ℕ)) → Kept s → twelve_meaning s fields ≡ Ok t → Kept t
 unfolding twelve_meaning
 twelve-kept s t fields h e = elim (cases_Bool (is_stage s.stage stage.Header)) [
-  | inl passes ↦ let x : header_meaning s fields ≡ Ok t = rw passes at e in header-kept s t fields (in-header s.stage s passes h) x
+  | inl passes ↦ let x : header_meaning s fields ≡ Ok t = rw passes at e in header-kept s t fields h (in-header s.stage s passes h.stage) x
   | inr fails ↦ elim (cases_Bool (is_stage s.stage stage.Room)) [
-    | inl passes ↦ let x : trace_meaning s fields ≡ Ok t = rw (fails, passes) at e in room-kept s t fields (in-room s.stage s passes h) x
+    | inl passes ↦ let x : trace_meaning s fields ≡ Ok t = rw (fails, passes) at e in opened-kept s t fields h (in-room s.stage s passes h.stage) x
     | inr none ↦ let x : later_meaning s fields ≡ Ok t = rw (fails, none) at e in later-kept s t fields h x
   ]
 ]
@@ -389,29 +352,36 @@ records-kept n s t (first ∷ more) h e =
 
 opening-kept : Kept opening
 unfolding opening
-opening-kept = refl
+opening-kept = record { stage = refl; arrays = tt; drives = tt }
 
-ended-kept : (s : SoFar) (t : TraceState) → Kept s → ending s ≡ Ok t → IsTraceKept t
+ended-kept : (s : SoFar) (t : TraceState) → Kept s → ending s ≡ Ok t → IsSetup t.config → IsTraceKept t
 unfolding ending
-ended-kept s t h e =
+ended-kept s t h e whole =
     let b = bind_ok (broken_unless (is_ended s) TOO_SHORT) _ t e in
-    let tests = both _ _ (holds (is_ended s) TOO_SHORT b.0 b.1) in
+    let tests = and_parts _ _ (holds (is_ended s) TOO_SHORT b.0 b.1) in
     let y : TraceState = record { version = s.version; command = s.command; config = s.setup; found = s.found; drives = s.drives } in
-    subst IsTraceKept (ok_is (Ok y) y t refl b.2) (record { entries = in-drives s.stage s h; drives = eqb-true _ _ tests.1 })
+    let is : y ≡ t = ok_is (Ok y) y t refl b.2 in
+    let setup : IsSetup y.config = subst (λ (x : TraceState). IsSetup x.config) (sym is) whole in
+    subst IsTraceKept is (record {
+      machine = record { setup = setup; arrays = All-from_recursion (λ (g : GroupDef). length g.axes ≡ MOST_MEMBERS) s.setup.groups (each-weaker IsArray (λ g. length g.axes ≡ MOST_MEMBERS) (λ g a. a.long) s.setup.groups h.arrays) };
+      entries = in-drives s.stage s h.stage;
+      as_many = eqb-true _ _ tests.1;
+      drives = All-from_recursion IsDriveEnd s.drives h.drives;
+    })
 
 -- the reader that took the records of a text
 reader-kept : (s : SoFar) (records : List (List (List ℕ))) → records_meaning 0 opening records ≡ Ok s → Kept s
 reader-kept s records e = records-kept 0 opening s records opening-kept e
 
 -- the trace at the end
-pub trace-kept : (s : SoFar) (records : List (List (List ℕ))) (t : TraceState) → records_meaning 0 opening records ≡ Ok s → ending s ≡ Ok t → IsTraceKept t
-trace-kept s records t e h = ended-kept s t (reader-kept s records e) h
+pub trace-kept : (s : SoFar) (records : List (List (List ℕ))) (t : TraceState) → records_meaning 0 opening records ≡ Ok s → ending s ≡ Ok t → IsSetup t.config → IsTraceKept t
+trace-kept s records t e h whole = ended-kept s t (reader-kept s records e) h whole
 
 -- the trace that is made at the end
-pub made-kept : (s r : SoFar) (config : Setup) → s ≡ r → ((t : TraceState) → ending s ≡ Ok t → IsTraceKept t) → is_ended s ≡ true → config ≡ r.setup →
+pub made-kept : (s r : SoFar) (config : Setup) → s ≡ r → ((t : TraceState) → ending s ≡ Ok t → IsSetup t.config → IsTraceKept t) → is_ended s ≡ true → config ≡ r.setup → IsSetup config →
     IsTraceKept (record { version = r.version; command = r.command; config = config; found = r.found; drives = r.drives })
 unfolding ending
-made-kept s r config same kept ended is =
-    let P : SoFar → Type 0 = λ x. ((t : TraceState) → ending x ≡ Ok t → IsTraceKept t) × (is_ended x ≡ true) in
+made-kept s r config same kept ended is setup =
+    let P : SoFar → Type 0 = λ x. ((t : TraceState) → ending x ≡ Ok t → IsSetup t.config → IsTraceKept t) × (is_ended x ≡ true) in
     let q = subst P same (kept, ended) in
-    q.0 (record { version = r.version; command = r.command; config = config; found = r.found; drives = r.drives }) (rw (q.1, is) refl)
+    q.0 (record { version = r.version; command = r.command; config = config; found = r.found; drives = r.drives }) (rw (q.1, is) refl) setup

@@ -1,5 +1,5 @@
 -- The records of a text that was written.
-use Rattle.std.specs.Prelude.{◌≡◌, refl, ℕ, ◌≤◌, List, [], ◌∷◌, ◌++◌, length, map}
+use Rattle.std.specs.Prelude.{◌≡◌, refl, ℕ, ◌≤◌, ◌==◌, false, Option, Some, None, List, [], ◌∷◌, ◌++◌, length, map}
 use Rattle.std.specs.List.{AllByRecursion, flat_map}
 use Rattle.std.proofs.Common.{◌∙◌, ap, arith}
 use Rattle.std.proofs.lemmas.List.Elements.{All-from_recursion}
@@ -7,13 +7,18 @@ use Rattle.csv.specs.Reading.{strip_bom}
 use Rattle.csv.specs.Writing.{default_writer, row_text}
 use Rattle.csv_records.specs.Records as csv
 use Rattle.csv_records.specs.Records.{RecordsAreReadBack, records_of}
-use Rattle.motion_history.specs.Entries.{Entry}
+use Rattle.fb_outputs.specs.declared.inputs.Inputs.{Inputs}
+use Rattle.fb_outputs.specs.declared.outputs.Outputs.{Outputs}
+use Rattle.motion_history.specs.Entries.{Entry, call, cycle, end_of}
 use Rattle.motion_history.specs.Setup.{Setup}
+use Rattle.motion_history.specs.declared.config.BlockDef.{BlockDef}
 use Rattle.motion_history.specs.declared.refused.TraceVersion.{TraceVersion}
+use Rattle.trace_text.specs.Parts.{entry_text}
+use Rattle.trace_text.specs.ReadBack.{EntriesAreReadBack}
 use Rattle.trace_text.specs.declared.write.Command.{Command}
 use Rattle.trace_text.specs.declared.write.DriveEndRow.{DriveEndRow}
-use Rattle.trace_text.specs.Records.{header_fields, padded, record_text}
-use Rattle.trace_text.specs.Trace.{text_of, trace_records, trace_text, machine_records}
+use Rattle.trace_text.specs.Records.{call_fields_of, header_fields, padded, record_text}
+use Rattle.trace_text.specs.Trace.{entry_records, text_of, trace_records, trace_text, machine_records}
 
 padded-some : (fields : List (List ℕ)) → 1 ≤ length (padded fields)
 padded-some [] = omega arith
@@ -33,25 +38,44 @@ text-padded : (rs : List (List (List ℕ))) → text_of rs ≡ csv.text_of (map 
 unfolding text_of csv.text_of
 text-padded rs = texts-padded rs
 
--- a text that begins with the letter k has no byte order mark
-no-mark : (text : List ℕ) → strip_bom (107 ∷ text) ≡ 107 ∷ text
+-- records of which the text has no byte order mark are those of their text
+plain-records : RecordsAreReadBack → (rs : List (List (List ℕ))) → strip_bom (csv.text_of (map padded rs)) ≡ csv.text_of (map padded rs) → records_of (text_of rs) ≡ map padded rs
+plain-records law rs plain = ap records_of (text-padded rs) ∙ law (map padded rs) (All-from_recursion (λ r. 1 ≤ length r) (map padded rs) (all-some rs)) plain
+
+-- a text that begins with another byte than a byte order mark has none
+no-mark : (b : ℕ) (text : List ℕ) → (b == 239) ≡ false → strip_bom (b ∷ text) ≡ b ∷ text
 unfolding strip_bom
-no-mark [] = refl
-no-mark (b ∷ []) = refl
-no-mark (b ∷ c ∷ text) = refl
+no-mark b [] h = refl
+no-mark b (c ∷ []) h = refl
+no-mark b (c ∷ d ∷ text) h = rw h refl
 
 header-plain : (rs : List (List (List ℕ))) → strip_bom (csv.text_of (map padded (header_fields ∷ rs))) ≡ csv.text_of (map padded (header_fields ∷ rs))
 unfolding csv.text_of
-header-plain rs = no-mark _
+header-plain rs = no-mark 107 _ refl
 
--- a text that begins with the header has the records of which it was made
-written-records : RecordsAreReadBack → (rs : List (List (List ℕ))) → records_of (text_of (header_fields ∷ rs)) ≡ map padded (header_fields ∷ rs)
-written-records law rs =
-    ap records_of (text-padded (header_fields ∷ rs)) ∙
-    law (map padded (header_fields ∷ rs)) (All-from_recursion (λ r. 1 ≤ length r) (map padded (header_fields ∷ rs)) (all-some (header_fields ∷ rs))) (header-plain rs)
+-- a text that begins with the header
+header-written : RecordsAreReadBack → (rs : List (List (List ℕ))) → records_of (text_of (header_fields ∷ rs)) ≡ map padded (header_fields ∷ rs)
+header-written law rs = plain-records law (header_fields ∷ rs) (header-plain rs)
+
+call-plain : (s : Setup) (b : Option BlockDef) (i : Inputs) (o : Outputs) →
+    strip_bom (csv.text_of (map padded (call_fields_of s b i o ∷ []))) ≡ csv.text_of (map padded (call_fields_of s b i o ∷ []))
+unfolding csv.text_of call_fields_of
+call-plain s None i o = no-mark 99 _ refl
+call-plain s (Some b) i o = no-mark 99 _ refl
+
+entry-plain : (v : TraceVersion) (s : Setup) (e : Entry) → strip_bom (csv.text_of (map padded (entry_records v s e))) ≡ csv.text_of (map padded (entry_records v s e))
+unfolding csv.text_of entry_records
+entry-plain v s (call k i o) = call-plain s _ i o
+entry-plain v s (cycle n rows grows) = no-mark 99 _ refl
+entry-plain v s (end_of task) = no-mark 101 _ refl
 
 -- the records of a trace's text are those that were written
 pub trace-written : RecordsAreReadBack → (v : TraceVersion) (c : Command) (s : Setup) (es : List Entry) (ds : List DriveEndRow) →
     records_of (trace_text v c s es ds) ≡ map padded (trace_records v c s es ds)
 unfolding trace_text trace_records machine_records
-trace-written law v c s es ds = written-records law _
+trace-written law v c s es ds = header-written law _
+
+-- so are the records of an entry's text
+pub entry-written : RecordsAreReadBack → EntriesAreReadBack
+unfolding entry_text
+entry-written law v s e = plain-records law (entry_records v s e) (entry-plain v s e)

@@ -12,7 +12,8 @@ use Rattle.trace_text.specs.Records.{cycle_fields, drive_fields, grow_fields, pa
 use Rattle.trace_text.specs.RowRanges.{IsDriveEnd, IsGroupRow, IsReported, IsRow, found_place, found_row}
 use Rattle.trace_text.specs.Rows.{drive_meaning, grow_meaning, row_meaning}
 use Rattle.trace_text.specs.Reading.{trace_of}
-use Rattle.trace_text.specs.Trace.{trace_records, trace_text}
+use Rattle.trace_text.specs.Parts.{entry_text}
+use Rattle.trace_text.specs.Trace.{entry_records, trace_records, trace_text}
 use Rattle.trace_text.specs.Writable.{IsHeld, found_trace}
 use Rattle.trace_text.specs.declared.write.Command.{Command}
 use Rattle.trace_text.specs.declared.write.DriveEndRow.{DriveEndRow}
@@ -22,6 +23,11 @@ abbrev pub RecordsAreReadBack : Type 0
 RecordsAreReadBack = (v : TraceVersion) (c : Command) (s : Setup) (es : List Entry)
     (ds : List DriveEndRow) →
     records_of (trace_text v c s es ds) ≡ map padded (trace_records v c s es ds)
+
+-- so are those of an entry's text
+abbrev pub EntriesAreReadBack : Type 0
+EntriesAreReadBack = (v : TraceVersion) (s : Setup) (e : Entry) →
+    records_of (entry_text v s e) ≡ map padded (entry_records v s e)
 
 -- so texts that are the same have the same records
 abbrev pub TextsTellRecords : Type 0

@@ -2,7 +2,7 @@
 
 ghost use Rattle.std.specs.Prelude.{List, ℕ, Option};
 ghost use Rattle.outside.specs.Told.{AppendsPart};
-ghost use Rattle.trace_text.specs.ReadBack.{AreRowsReadBack, RecordsAreReadBack, TextsTellRecords, TextsTellTraces, TracesAreReadBack};
+ghost use Rattle.trace_text.specs.ReadBack.{AreRowsReadBack, EntriesAreReadBack, RecordsAreReadBack, TextsTellRecords, TextsTellTraces, TracesAreReadBack};
 ghost use Rattle.trace_text.specs.Writes.{WritesPrefix};
 
 use cam_table::cam_tables_are_told;
@@ -18,10 +18,11 @@ pub fn parts_are_beginnings()
         AppendsPart old new text → WritesPrefix old new text }
 {}
 
-/// The records of a trace's text are those of which it was made, field by field; so texts that are
-/// the same have the same records. Nothing runs.
+/// The records of a trace's text are those of which it was made, field by field, and so are those
+/// of an entry's text; so texts that are the same have the same records. Nothing runs.
 pub fn records_are_read_back()
     ensures records { RecordsAreReadBack }
+    ensures entries { EntriesAreReadBack }
     ensures told { TextsTellRecords }
 {
     written_records_are_read_back();

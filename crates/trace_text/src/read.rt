@@ -5,6 +5,7 @@ ghost use Rattle.csv.specs.Records.{fields_of};
 ghost use Rattle.csv_records.specs.Records.{records_of};
 ghost use Rattle.line_text.specs.Reading.{Takes, at_line};
 ghost use Rattle.line_text.specs.Texts.{texts};
+ghost use Rattle.motion_history.specs.Setup.{IsSetup};
 ghost use Rattle.trace_text.specs.Reading as spec;
 ghost use Rattle.trace_text.specs.Reading.{ReadsBy, TakesRecords};
 ghost use Rattle.trace_text.specs.TraceKept.{IsTraceKept};
@@ -28,7 +29,8 @@ use std::alloc::Global;
 /// time, besides the trace.
 #[tactic(auto, unfolding(crate::specs::Reading::trace_of, crate::specs::Reading::reading_of))]
 pub fn read_trace(alloc: Global, text: &[u8]) -> Result<Trace, TextFault>
-    ensures { ReadsBy (spec.trace_of text.now) result }
+    ensures reading { ReadsBy (spec.trace_of text.now) result }
+    ensures kept { IfOk result (λ t. IsTraceKept t) }
 {
     let mut reader = opened(alloc)?;
     match read_records(alloc, text, &mut reader) {
@@ -133,8 +135,9 @@ fn fields_in(row: &ByteRecord) -> [&[u8]; FIELDS]
 // The trace at the end of the text.
 #[tactic(auto, unfolding(crate::specs::Reading::ending))]
 fn trace_of(reader: TraceReader, last: u64) -> Result<Trace, TextFault>
-    requires { (t : TraceState) → spec.ending reader ≡ Ok t → IsTraceKept t }
-    ensures { ReadsBy (spec.refused_by (at_line last (spec.ending reader))) result }
+    requires { (t : TraceState) → spec.ending reader ≡ Ok t → IsSetup t.config → IsTraceKept t }
+    ensures reading { ReadsBy (spec.refused_by (at_line last (spec.ending reader))) result }
+    ensures kept { IfOk result (λ t. IsTraceKept t) }
 {
     if !is_ended(&reader) {
         return Err(refused_by(LineRefused {

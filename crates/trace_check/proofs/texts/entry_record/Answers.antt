@@ -5,7 +5,6 @@ use Rattle.motion_history.specs.Looks.{told}
 use Rattle.csv_records.specs.Records.{records_of}
 use Rattle.trace_text.specs.Records.{padded}
 use Rattle.trace_text.specs.Trace.{entry_records}
-use Rattle.trace_check.proofs.EntryTexts.{entry-read}
 use Rattle.trace_check.proofs.Numbered.{get-map}
 use Rattle.trace_check.proofs.texts.entry_record.Goals as goal
 
@@ -14,6 +13,6 @@ returns c =
     let records = entry_records c.args.version c.args.config.now (told c.args.entry.now) in
     subst (λ o. IfOk c.record_at.result (λ r. o ≡ Some r))
     (ap (λ t. slice_get (records_of t) c.args.place) (c.as_slice.ensures.value ∙ c.in_ok-text.ensures) ∙
-    ap (λ rs. slice_get rs c.args.place) (entry-read c.written_records_are_read_back.ensures c.args.version c.args.config.now (told c.args.entry.now)) ∙
+    ap (λ rs. slice_get rs c.args.place) (c.records_are_read_back.ensures.entries c.args.version c.args.config.now (told c.args.entry.now)) ∙
     get-map padded records c.args.place)
     c.record_at.ensures
