@@ -48,6 +48,34 @@ impl Model for Bench {
 }
 
 impl Bench {
+    /// The bench of these parts, which are whole.
+    pub fn new(
+        version: TraceVersion,
+        config: Config,
+        drives: DriveDefs,
+        lines: Vec<BenchLine>,
+    ) -> Bench
+        requires { IsBench (record {
+          version = version;
+          config = config;
+          drives = drives;
+          lines = lines.items;
+        }) }
+        ensures { result ≡ record {
+          version = version;
+          config = config;
+          drives = drives;
+          lines = lines.items;
+        } }
+    {
+        Bench {
+            version,
+            config,
+            drives,
+            lines,
+        }
+    }
+
     /// Its version, 1 or 2.
     pub fn version(&self) -> TraceVersion
         ensures { result ≡ self.now.version }

@@ -1,0 +1,5 @@
+pub mod Draws
+pub mod Machine
+pub mod Rounds
+pub mod Load
+pub mod Counts
