@@ -31,7 +31,7 @@ use Rattle.trace_text.specs.declared.write.TraceFault.TheVariants as fault
 use Rattle.motion_cli.specs.Going.{run_at}
 use Rattle.motion_cli.specs.Drives.{drive_end}
 use Rattle.motion_cli.specs.Asked.{Request}
-use Rattle.motion_cli.specs.Ends.{EndsBy, EndsEarly, IsBenchIn, IsLegalRun, IsTraceIn, JudgesBy, RunsBy, Says, is_traced, status_by, tells_illegal}
+use Rattle.motion_cli.specs.Ends.{EndsBy, EndsEarly, IsBenchIn, IsLegalRun, IsReadAgain, IsTraceIn, JudgesBy, RunsBy, Says, is_traced, status_by, tells_illegal}
 use Rattle.motion_cli.specs.Plans.{Content, Plan, drive_ends, judged_plan, migrated_plan, plan_of_bench, plan_of_check, plan_of_migrate, plan_of_reading, refused_plan, status_of}
 use Rattle.motion_cli.specs.Run.{Run, run_of}
 use Rattle.motion_cli.specs.declared.run.RunFault.{RunFault}
@@ -162,7 +162,7 @@ pub migrating : (t : TraceState) (o : Option Difference) → difference_in t ≡
 migrating t o e = ap (migrated_plan t) e
 
 -- what a status that was said isn't
-not-by : (test : Status → Bool) → test status.WriteFault ≡ false →
+pub not-by : (test : Status → Bool) → test status.WriteFault ≡ false →
     test status.OutOfMemory ≡ false → (p s : Status) (w : Result (Unit {0}) TraceFault) →
     test p ≡ false → s ≡ status_by p w → test s ≡ false
 not-by test f o p s (Ok u) n e = ap test e ∙ n
@@ -217,15 +217,21 @@ pub illegal-of : (t : TraceState) (place : ℕ) (x y : List (List ℕ)) →
 unfolding verdict_of
 illegal-of t place x y e = illegal-by (length (entries_of t)) place x y (difference_in t) e
 
+-- a legal trace is not told to be illegal
+pub judges-fair : (t : TraceState) (s : Status) → IsLegalTrace t → IsReadAgain t →
+    tells_illegal s ≡ false → JudgesBy (λ x. x ≡ t) s
+judges-fair t s fair again n = λ x same. record {
+  legal = λ h. subst IsLegalTrace (sym same) fair;
+  again = λ h. subst IsReadAgain (sym same) again;
+  illegal = λ h. absurd (let bad : true ≡ false = sym h ∙ n in cc);
+}
+
 -- a trace that was found legal
 pub judges-legal : (t : TraceState) (v : Verdict) (entries : ℕ) (s : Status) →
     v ≡ verdict.Legal entries → v ≡ verdict_of t →
-    ((v ≡ verdict.Legal (length (entries_of t))) ↔ IsLegalTrace t) → tells_illegal s ≡ false →
-    JudgesBy (λ x. x ≡ t) s
-judges-legal t v entries s is e legal n =
+    ((v ≡ verdict.Legal (length (entries_of t))) ↔ IsLegalTrace t) → IsReadAgain t →
+    tells_illegal s ≡ false → JudgesBy (λ x. x ≡ t) s
+judges-legal t v entries s is e legal again n =
     let count = (legal-of t entries (sym is ∙ e)).1 in
     let fair : IsLegalTrace t = legal.0 (is ∙ ap verdict.Legal count) in
-    λ x same. record {
-      legal = λ h. subst IsLegalTrace (sym same) fair;
-      illegal = λ h. absurd (let bad : true ≡ false = sym h ∙ n in cc);
-    }
+    judges-fair t s fair again n

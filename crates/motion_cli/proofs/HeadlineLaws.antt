@@ -192,12 +192,13 @@ migrated_text told name text old new s t (Some d) file is e judged h =
     let bad = untraced_fault (status.Illegal d.place) s e.written e.status (ap is_traced h) in
     absurd (cc)
 migrated_text told name text old new s t None file is e judged h =
-    let legal = (judged t (record {
+    let told = judged t (record {
       job = λ x. absurd (cc);
       text = text;
       content = refl;
       reading = is;
-    })).legal (ap tells_legal h) in
+    }) in
+    let legal = told.legal (ap tells_legal h) in
     let written = traced_writes old new (migrated t) status.Ok s e.written e.writes e.status
     (ap is_traced h) in
     record {
@@ -211,6 +212,7 @@ migrated_text told name text old new s t None file is e judged h =
       written = subst (λ es. Appends old.told new.told
           (trace_text Two t.command t.config es t.drives))
           (sym (history_is t legal.history legal.legal legal.is)) written;
+      again = told.again (ap tells_legal h) legal.history legal.legal legal.is;
     }
 
 read_migrated : (told : Option FileMap) (name text : List ℕ) (old new : Output) (s : Status)

@@ -6,3 +6,7 @@ pub mod StepLaws
 pub mod Outcomes
 pub mod CauseLaws
 pub mod HeadlineLaws
+pub mod LoadLaws
+pub mod LoadEnds
+pub mod SeedLaws
+pub mod TallyLaws

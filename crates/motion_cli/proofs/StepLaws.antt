@@ -165,7 +165,7 @@ length_more : (es : List Entry) (e : Entry) → length (es ++ e ∷ []) ≡ leng
 length_more [] e = refl
 length_more (d ∷ es) e = let h = length_more es e in omega arith
 
-length-happened : (s : Setup) (e : Event) (r : Run) →
+pub length-happened : (s : Setup) (e : Event) (r : Run) →
     length (happened s e r).history ≡ length r.history + 1
 unfolding cycled
 length-happened s (a_call k i) r = length_more r.history _
@@ -179,7 +179,7 @@ cycles-happened add s (a_call k i) r = add r.history _
 cycles-happened add s a_cycle r = add r.history _
 cycles-happened add s (an_end t) r = add r.history _
 
-ending-happened : (s : Setup) (e : Event) (r : Run) → (happened s e r).ending ≡ r.ending
+pub ending-happened : (s : Setup) (e : Event) (r : Run) → (happened s e r).ending ≡ r.ending
 unfolding cycled
 ending-happened s (a_call k i) r = refl
 ending-happened s a_cycle r = refl

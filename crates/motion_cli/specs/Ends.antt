@@ -4,10 +4,12 @@ use Rattle.std.proofs.Common.{Vec, Global}
 use Rattle.std.specs.declared.alloc.AllocError.{AllocError}
 use Rattle.bench_text.specs.BenchState.{BenchState}
 use Rattle.bench_text.specs.Reading.{bench_of}
+use Rattle.motion_history.specs.Entries.{Entry}
 use Rattle.motion_kernel.specs.Histories.{IsLegal}
 use Rattle.motion_kernel.specs.Laws.{KeepsLaws}
 use Rattle.outside.specs.Told.{FileMap, HasFile, IsLonger, LacksFile}
-use Rattle.trace_check.specs.Legal.{IsLegalTrace}
+use Rattle.trace_check.specs.Laws.{IsMigrated}
+use Rattle.trace_check.specs.Legal.{IsLegalTrace, IsTraceOf}
 use Rattle.trace_text.specs.Reading.{trace_of}
 use Rattle.trace_text.specs.TraceState.{TraceState}
 use Rattle.trace_text.specs.Writes.{Output, Writes}
@@ -67,9 +69,16 @@ abbrev pub tells_illegal : Status → Bool
 tells_illegal (status.Illegal place) = true
 tells_illegal _ = false
 
--- a trace is legal where the status tells so, and isn't where it tells that
+-- the text of version 2 of a trace's legal history is read as a legal trace of the same machine,
+-- history and drives
+abbrev pub IsReadAgain : TraceState → Type 0
+IsReadAgain t = (es : List Entry) → IsLegal t.config es → IsTraceOf t es → IsMigrated t es
+
+-- a trace is legal where the status tells so, and its history is read again; it isn't legal where
+-- it tells that
 pub record IsJudged (s : Status) (t : TraceState) : Type 0 where
   pub legal : tells_legal s ≡ true → IsLegalTrace t
+  pub again : tells_legal s ≡ true → IsReadAgain t
   pub illegal : tells_illegal s ≡ true → ¬ IsLegalTrace t
 
 -- so it is with a trace that was read

@@ -13,6 +13,7 @@ use Rattle.motion_kernel.specs.Cycles.{cycled}
 use Rattle.motion_kernel.specs.Histories.{IsLegal, machine_after}
 use Rattle.motion_kernel.specs.Laws.{KeepsLaws}
 use Rattle.outside.specs.Told.{FileMap, HasFile}
+use Rattle.trace_check.specs.Laws.{IsMigrated}
 use Rattle.trace_check.specs.Legal.{IsTraceOf}
 use Rattle.trace_text.specs.Reading.{trace_of}
 use Rattle.trace_text.specs.Trace.{trace_text}
@@ -72,3 +73,5 @@ pub record Migrated (files : Option FileMap) (name : List ℕ) (old new : Option
   pub legal : IsLegal trace.config history
   -- what was written is its text in version 2, with what the drives took
   pub written : Appends old new (trace_text Two trace.command trace.config history trace.drives)
+  -- and this text is read as a legal trace of the same machine, history and drives
+  pub again : IsMigrated trace history

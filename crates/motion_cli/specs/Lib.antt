@@ -9,3 +9,5 @@ pub mod Headline
 pub mod Causes
 pub mod Exits
 pub mod Args
+pub mod Seeds
+pub mod Loads

@@ -5,9 +5,11 @@
 mod benches;
 mod drives;
 mod lines;
+mod load;
 mod program;
 mod run;
 mod say;
+mod seed;
 mod serve;
 mod status;
 mod traces;

@@ -1,23 +1,27 @@
 // The top call of the program.
 
-ghost use Rattle.std.specs.Prelude.{◌≡◌, ◌≢◌, ◌⊎◌, ℕ, List, true, false, Some, None, Ok, Err, IfErr, IfOk, OnErr};
+ghost use Rattle.std.specs.Prelude.{◌≡◌, ◌≢◌, ◌⊎◌, ℕ, List, true, false, Some, None, Ok, Err, IfErr, IfOk, IsSome, OnErr};
 ghost use Rattle.std.specs.IoError.{error_kind};
 ghost use Rattle.motion_cli.specs.Args.{words_of};
 ghost use Rattle.motion_cli.specs.Asked.{request_of};
 ghost use Rattle.motion_cli.specs.Causes.{Asks, AsksInVain, ComesExactly, HasRoom, IsChecked, IsDone, IsIllegal, IsRefused, IsThere, IsTooLong, RunsTo, is_fault};
 ghost use Rattle.motion_cli.specs.Ends.{Ends, EndsBy, EndsEarly, is_traced};
 ghost use Rattle.motion_cli.specs.Headline.{Headline, Migrated};
+ghost use Rattle.motion_cli.specs.Loads.{EndsByWords, LoadLine};
 ghost use Rattle.motion_cli.specs.Plans.{usage_plan};
+ghost use Rattle.motion_cli.specs.Seeds.{seed_of};
 ghost use Rattle.motion_history.specs.declared.refused.TextRefused.{TextRefused};
 ghost use Rattle.outside.specs.Faults.{Rose};
 ghost use Rattle.outside.specs.Told.{FileMap};
 
 use crate::lines::USAGE;
+use crate::load::run_load;
 use crate::run::RunFault;
 use crate::say::say_all;
 use crate::serve::serve;
 use crate::status::Status;
-use crate::words::{Job, Words, request, words_from};
+use crate::words::{Job, Words, request, seed, words_from};
+use load_gen::loads_fill_their_room;
 use motion_history::cycles_add_up;
 use outside::{Files, OutOfMemory, Sink};
 use std::alloc::Global;
@@ -32,8 +36,8 @@ pub fn top_of_args<F: Files, K: Sink>(
     files: &mut F,
     out: &mut K,
 ) -> Status
-    ensures words { IfOk args (λ all. Ends (F.told files.old)
-        (Rose (F.count files.old) (F.count files.new)) (request_of (words_of all))
+    ensures words { IfOk args (λ all. EndsByWords (F.told files.old)
+        (Rose (F.count files.old) (F.count files.new)) (words_of all)
         (record { count = K.count out.old; told = K.told out.old })
         (record { count = K.count out.new; told = K.told out.new }) result ⊎
         EndsEarly (record { count = K.count out.old; told = K.told out.old })
@@ -59,8 +63,8 @@ fn top_of_words<F: Files, K: Sink>(
     files: &mut F,
     out: &mut K,
 ) -> Status
-    ensures words { IfOk words (λ all. Ends (F.told files.old)
-        (Rose (F.count files.old) (F.count files.new)) (request_of all)
+    ensures words { IfOk words (λ all. EndsByWords (F.told files.old)
+        (Rose (F.count files.old) (F.count files.new)) all
         (record { count = K.count out.old; told = K.told out.old })
         (record { count = K.count out.new; told = K.told out.new }) result) }
     ensures memory { OnErr words (EndsEarly
@@ -77,12 +81,15 @@ fn top_of_words<F: Files, K: Sink>(
 ///
 /// Where it answers Ok, CyclesOver or HistoryFull to `bench`, what was written is the trace of a
 /// bench, as the headline says; where it answers Ok to `migrate`, the trace that was read, in
-/// version 2. Each status comes of its cause; and where the file is there and no count of faults
-/// rose, no fault comes but want of memory.
+/// version 2; where it answers Ok to `gen`, the line of the load that the seed generates. Each
+/// status comes of its cause; and where the file is there and no count of faults rose, no fault
+/// comes but want of memory.
 pub fn top<F: Files, K: Sink>(alloc: Global, words: &Words, files: &mut F, out: &mut K) -> Status
-    ensures ends { Ends (F.told files.old) (Rose (F.count files.old) (F.count files.new))
-        (request_of words.now) (record { count = K.count out.old; told = K.told out.old })
+    ensures ends { EndsByWords (F.told files.old) (Rose (F.count files.old) (F.count files.new))
+        words.now (record { count = K.count out.old; told = K.told out.old })
         (record { count = K.count out.new; told = K.told out.new }) result }
+    ensures load { (seed : ℕ) → seed_of words.now ≡ Some seed → result ≡ Status.Ok →
+        LoadLine seed (K.told out.old) (K.told out.new) }
     ensures headline { (name : List ℕ) →
         request_of words.now ≡ Some (record { job = Job.Bench; name = name }) →
         is_traced result ≡ true →
@@ -90,7 +97,8 @@ pub fn top<F: Files, K: Sink>(alloc: Global, words: &Words, files: &mut F, out: 
     ensures migrated { (name : List ℕ) →
         request_of words.now ≡ Some (record { job = Job.Migrate; name = name }) →
         result ≡ Status.Ok → Migrated (F.told files.old) name (K.told out.old) (K.told out.new) }
-    ensures usage { ComesExactly result Status.Usage (request_of words.now ≡ None) }
+    ensures usage { ComesExactly result Status.Usage
+        ((request_of words.now ≡ None) × (seed_of words.now ≡ None)) }
     ensures read_fault { (word : ℕ) → result ≡ Status.ReadFault word →
         Rose (F.count files.old) (F.count files.new) ⊎
         AsksInVain (F.told files.old) (request_of words.now) }
@@ -106,7 +114,8 @@ pub fn top<F: Files, K: Sink>(alloc: Global, words: &Words, files: &mut F, out: 
         ComesExactly result Status.HistoryFull
         (Asks (RunsTo (Err RunFault.HistoryFull)) map (request_of words.now)) }
     ensures ok { (map : FileMap) → F.told files.old ≡ Some map →
-        ComesExactly result Status.Ok (Asks IsDone map (request_of words.now)) }
+        ComesExactly result Status.Ok
+        (Asks IsDone map (request_of words.now) ⊎ IsSome (seed_of words.now)) }
     ensures legal { (map : FileMap) (entries : ℕ) → F.told files.old ≡ Some map →
         ComesExactly result (Status.Legal entries)
         (Asks (IsChecked entries) map (request_of words.now)) }
@@ -126,12 +135,30 @@ pub fn top<F: Files, K: Sink>(alloc: Global, words: &Words, files: &mut F, out: 
         (result ≡ Status.Ok) ⊎ (result ≡ Status.OutOfMemory) }
 {
     cycles_add_up();
+    loads_fill_their_room();
     dispatch(alloc, words, files, out)
 }
 
 // Does what the words ask for.
 fn dispatch<F: Files, K: Sink>(alloc: Global, words: &Words, files: &mut F, out: &mut K) -> Status
-    ensures ends { Ends (F.told files.old) (Rose (F.count files.old) (F.count files.new))
+    ensures { EndsByWords (F.told files.old) (Rose (F.count files.old) (F.count files.new))
+        words.now (record { count = K.count out.old; told = K.told out.old })
+        (record { count = K.count out.new; told = K.told out.new }) result }
+{
+    match seed(words) {
+        Some(number) => run_load(alloc, number, out),
+        None => serve_words(alloc, words, files, out),
+    }
+}
+
+// Does what the words ask for, if it is to be done with a file.
+fn serve_words<F: Files, K: Sink>(
+    alloc: Global,
+    words: &Words,
+    files: &mut F,
+    out: &mut K,
+) -> Status
+    ensures { Ends (F.told files.old) (Rose (F.count files.old) (F.count files.new))
         (request_of words.now) (record { count = K.count out.old; told = K.told out.old })
         (record { count = K.count out.new; told = K.told out.new }) result }
 {

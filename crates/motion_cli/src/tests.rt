@@ -1,4 +1,5 @@
 // What no clause says: whole runs of the program in memory, byte for byte.
+mod loads;
 mod rows;
 mod states;
 mod traces;
@@ -214,7 +215,7 @@ fn writes_a_byte_at_a_time(rt: HostRuntime) -> Result<(), Fail> {
 
 #[test]
 fn tells_the_words_that_it_takes(rt: HostRuntime) -> Result<(), Fail> {
-    let cases: [&[&str]; 17] = [
+    let cases: [&[&str]; 18] = [
         &[],
         &["bench"],
         &["bench", ""],
@@ -227,7 +228,8 @@ fn tells_the_words_that_it_takes(rt: HostRuntime) -> Result<(), Fail> {
         &["check", "one_move", "one_move"],
         &["migrate"],
         &["migrate", "-one_move"],
-        &["gen", "7"],
+        &["gen"],
+        &["gen", "7", "7"],
         &["bench", "one_move", "one_move"],
         &["Bench", "one_move"],
         &["run", "one_move", "one_move"],

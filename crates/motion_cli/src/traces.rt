@@ -4,6 +4,7 @@ ghost use Rattle.std.specs.Prelude.{◌≡◌, Ok, false};
 ghost use Rattle.motion_cli.specs.Ends.{EndsBy, JudgesBy, tells_legal};
 ghost use Rattle.motion_cli.specs.Plans.{illegal_plan, plan_of_check, plan_of_migrate, plan_of_reading};
 ghost use Rattle.trace_text.specs.Reading.{trace_of};
+ghost use Rattle.trace_text.specs.TraceKept.{IsTraceKept};
 
 use crate::benches::status_by;
 use crate::lines::{illegal_lines, legal_line};
@@ -12,7 +13,7 @@ use crate::status::Status;
 use motion_history::{OutOfMemory, TextFault, TraceVersion};
 use outside::Sink;
 use std::alloc::Global;
-use trace_check::{Difference, Replayed, Trace, Verdict, check, replay};
+use trace_check::{Difference, Replayed, Trace, Verdict, check, migrated_traces_are_legal, replay};
 use trace_text::{parts_are_beginnings, read_trace, write_trace};
 
 /// Tells whether the trace that a text is is legal.
@@ -32,12 +33,14 @@ pub fn check_text<K: Sink>(alloc: Global, name: &str, text: &[u8], out: &mut K) 
 
 // Tells whether a trace is legal.
 fn check_trace<K: Sink>(alloc: Global, trace: &Trace, out: &mut K) -> Status
+    requires { IsTraceKept trace.now }
     ensures judged { JudgesBy (λ t. t ≡ trace.now) result }
     ensures ends { EndsBy (record { count = K.count out.old; told = K.told out.old })
         (record { count = K.count out.new; told = K.told out.new })
         (plan_of_check trace.now) result }
 {
     parts_are_beginnings();
+    migrated_traces_are_legal();
     match check(alloc, trace) {
         Ok(Verdict::Legal { entries }) => {
             say(legal_line(alloc, entries), Status::Legal { entries }, out)
@@ -77,12 +80,14 @@ pub fn migrate_text<K: Sink>(alloc: Global, name: &str, text: &[u8], out: &mut K
 
 // Writes a trace in version 2, if it is legal.
 fn migrate_trace<K: Sink>(alloc: Global, trace: &Trace, out: &mut K) -> Status
+    requires { IsTraceKept trace.now }
     ensures judged { JudgesBy (λ t. t ≡ trace.now) result }
     ensures ends { EndsBy (record { count = K.count out.old; told = K.told out.old })
         (record { count = K.count out.new; told = K.told out.new })
         (plan_of_migrate trace.now) result }
 {
     parts_are_beginnings();
+    migrated_traces_are_legal();
     match replay(alloc, trace) {
         Ok(Replayed::Legal(kernel)) => {
             let written = write_trace(

@@ -4,8 +4,10 @@ ghost use Rattle.std.specs.Prelude.{◌≡◌, ◌++◌, ◌∷◌, [], IfOk, On
 ghost use Rattle.std.specs.Option.{option_map};
 ghost use Rattle.motion_cli.specs.Args.{words_of};
 ghost use Rattle.motion_cli.specs.Asked as spec;
+ghost use Rattle.motion_cli.specs.Seeds as seeds;
 
 use crate::OutOfMemory;
+use crate::seed::seed_in;
 use std::alloc::{AllocError, Global};
 use std::env::Args;
 use std::marker::Model;
@@ -88,6 +90,17 @@ pub fn request(words: &Words) -> Option<(Job, &str)>
             Some(job) => Some((job, file.as_str())),
             None => None,
         },
+        _ => None,
+    }
+}
+
+/// The seed of the load that the words ask for: they are `gen` and the seed.
+#[tactic(auto, unfolding(crate::specs::Seeds::seed_of))]
+pub fn seed(words: &Words) -> Option<u32>
+    ensures { result ≡ seeds.seed_of words.now }
+{
+    match words.texts.as_slice() {
+        [word, seed] if word.as_str() == "gen" => seed_in(seed.as_str()),
         _ => None,
     }
 }

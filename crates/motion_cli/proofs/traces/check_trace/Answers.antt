@@ -14,6 +14,7 @@ returns-in-Ok-Legal g c =
     record {
       judged = judges-legal t c.in-Ok-Legal.field-0 c.in-Ok-Legal.entries c.say.result
           c.in-Ok-Legal.field-0-is c.in-Ok-Legal.ensures.verdict c.in-Ok-Legal.ensures.legal
+          (λ es. c.migrated_traces_are_legal.ensures t es c.requires)
           (said-not tells_illegal refl refl _ _ _ _ _ refl c.say.ensures);
       ends = same-plan _ _ _ _ _ (ap (λ n. judged_plan n None) is.1 ∙ sym (checked t None is.0))
           (said c.parts_are_beginnings.ensures.none _ _ _ _ _ _ c.legal_line.ensures

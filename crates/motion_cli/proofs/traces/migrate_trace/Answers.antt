@@ -3,10 +3,13 @@ use Rattle.std.specs.Prelude.{None, length}
 use Rattle.std.proofs.Common.{◌∙◌, ap, refl, subst, sym}
 use Rattle.motion_history.specs.Setup.{Setup}
 use Rattle.motion_history.specs.declared.refused.TraceVersion.TheVariants.{Two}
+use Rattle.trace_check.specs.Legal.{IsLegalTrace}
 use Rattle.trace_check.specs.Outcomes.{IsReplayed}
 use Rattle.trace_text.specs.Trace.{trace_text}
 use Rattle.trace_text.specs.Writes.{Output}
-use Rattle.motion_cli.proofs.EndLaws.{early, migrating, same-plan, same-text}
+use Rattle.motion_cli.specs.Ends.{tells_illegal}
+use Rattle.motion_cli.specs.declared.status.Status.TheVariants as status
+use Rattle.motion_cli.proofs.EndLaws.{early, judges-fair, migrating, not-by, same-plan, same-text}
 use Rattle.motion_cli.proofs.HeadlineLaws.{history_is}
 use Rattle.motion_cli.proofs.traces.migrate_trace.Goals as goal
 
@@ -14,6 +17,19 @@ pub write_trace-written-requires-clause-drives : goal.write_trace-written-requir
 write_trace-written-requires-clause-drives g c =
     c.drives.ensures.each
     ∙ ap (λ (s : Setup). length s.axes) (sym c.config.ensures)
+
+pub returns-in-Ok-Legal-clause-judged : goal.returns-in-Ok-Legal-clause-judged
+returns-in-Ok-Legal-clause-judged g c =
+    let t = c.args.trace.now in
+    let is = subst (IsReplayed t) c.in-Ok-Legal.field-0-is c.in-Ok-Legal.ensures in
+    let fair : IsLegalTrace t = record {
+      history = c.in-Ok-Legal.kernel.history;
+      legal = is.1.legal;
+      is = is.1.is;
+    } in
+    judges-fair t c.status_by.result fair (λ es. c.migrated_traces_are_legal.ensures t es c.requires)
+    (not-by tells_illegal refl refl status.Ok c.status_by.result c.write_trace-written.result refl
+    c.status_by.ensures)
 
 pub returns-in-Ok-Legal-clause-ends : goal.returns-in-Ok-Legal-clause-ends
 returns-in-Ok-Legal-clause-ends g c =

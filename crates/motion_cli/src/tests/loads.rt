@@ -1,0 +1,54 @@
+// Generated loads: the lines that another program wrote, and words that ask for none.
+
+use super::{USAGE, files};
+use crate::Status;
+use outside::MemorySink;
+use std::test::Fail;
+
+const FIRST: &[u8] = b"gen 1 entries 14001 refused 502 done 10 sum 3347031955\n";
+
+const SEVENTH: &[u8] = b"gen 7 entries 14001 refused 508 done 13 sum 2528229435\n";
+
+#[test]
+fn writes_the_lines_of_loads(rt: HostRuntime) -> Result<(), Fail> {
+    let cases: [(&str, &[u8]); 4] = [
+        ("1", FIRST),
+        ("1", FIRST),
+        ("7", SEVENTH),
+        ("0000000000000007", SEVENTH),
+    ];
+    for (seed, line) in cases {
+        let mut out = MemorySink::new(rt.alloc(), &[], u32::MAX)?;
+        let ended = super::status(&rt, &["gen", seed], &mut files(&rt, &[])?, &mut out)?;
+        assert_eq!(rt; ended, Status::Ok, "{seed}");
+        assert_eq!(rt; out.bytes(), line, "{seed}");
+    }
+    Ok(())
+}
+
+#[test]
+fn takes_seeds_of_32_bits(rt: HostRuntime) -> Result<(), Fail> {
+    let mut out = MemorySink::new(rt.alloc(), &[], u32::MAX)?;
+    let ended = super::status(&rt, &["gen", "4294967295"], &mut files(&rt, &[])?, &mut out)?;
+    assert_eq!(rt; ended, Status::Ok);
+    assert!(rt;
+        out.bytes()
+            .starts_with(b"gen 4294967295 entries 14001 refused ")
+    );
+    for seed in ["4294967296", "-1", "+7", "7x", ""] {
+        let mut out = MemorySink::new(rt.alloc(), &[], u32::MAX)?;
+        let ended = super::status(&rt, &["gen", seed], &mut files(&rt, &[])?, &mut out)?;
+        assert_eq!(rt; ended, Status::Usage, "{seed}");
+        assert_eq!(rt; out.bytes(), USAGE, "{seed}");
+    }
+    Ok(())
+}
+
+#[test]
+fn tells_where_a_line_is_not_written(rt: HostRuntime) -> Result<(), Fail> {
+    let mut out = MemorySink::new(rt.alloc(), &[1], u32::MAX)?;
+    let ended = super::status(&rt, &["gen", "1"], &mut files(&rt, &[])?, &mut out)?;
+    assert_eq!(rt; ended, Status::WriteFault);
+    assert_eq!(rt; out.bytes(), b"".as_slice());
+    Ok(())
+}
