@@ -1,4 +1,5 @@
 // What no clause says: whole runs of the program in memory, byte for byte.
+mod failures;
 mod loads;
 mod rows;
 mod states;
@@ -395,21 +396,3 @@ fn refuses_a_byte_more_than_16_mib(rt: HostRuntime) -> Result<(), Fail> {
 }
 
 // A trace of one move takes three writes: the machine, its history and what the drives took.
-#[test]
-fn writes_a_beginning_where_a_write_fails(rt: HostRuntime) -> Result<(), Fail> {
-    for write in 1..=3 {
-        let mut out = MemorySink::new(rt.alloc(), &[write], u32::MAX)?;
-        assert_eq!(rt;
-            status(&rt, &["bench", "one_move"], &mut files(&rt, &[])?, &mut out)?,
-            Status::WriteFault
-        );
-        assert!(rt; ONE_MOVE_TRACE.starts_with(out.bytes()), "write {write}");
-        assert!(rt; out.bytes().len() < ONE_MOVE_TRACE.len(), "write {write}");
-    }
-    let mut out = MemorySink::new(rt.alloc(), &[4], u32::MAX)?;
-    assert_eq!(rt;
-        status(&rt, &["bench", "one_move"], &mut files(&rt, &[])?, &mut out)?,
-        Status::Ok
-    );
-    Ok(())
-}

@@ -43,12 +43,3 @@ fn takes_seeds_of_32_bits(rt: HostRuntime) -> Result<(), Fail> {
     }
     Ok(())
 }
-
-#[test]
-fn tells_where_a_line_is_not_written(rt: HostRuntime) -> Result<(), Fail> {
-    let mut out = MemorySink::new(rt.alloc(), &[1], u32::MAX)?;
-    let ended = super::status(&rt, &["gen", "1"], &mut files(&rt, &[])?, &mut out)?;
-    assert_eq!(rt; ended, Status::WriteFault);
-    assert_eq!(rt; out.bytes(), b"".as_slice());
-    Ok(())
-}

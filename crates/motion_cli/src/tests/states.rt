@@ -37,7 +37,10 @@ const AXIS_KINDS: [(&str, &str); 12] = [
     ("Stop", " dec=2"),
     ("Halt", " dec=2"),
     ("MoveAbsolute", " pos=300 vel=6 acc=2 dec=2 mode=buffered"),
-    ("MoveRelative", " pos=-30 vel=6 acc=2 dec=2 mode=blendingLow"),
+    (
+        "MoveRelative",
+        " pos=-30 vel=6 acc=2 dec=2 mode=blendingLow",
+    ),
     ("MoveVelocity", " vel=-6 acc=2 dec=2"),
     ("GearIn", " acc=2 dec=2 master=Y num=-1 den=3"),
     ("GearOut", ""),
@@ -91,7 +94,8 @@ fn is_legal(rt: &HostRuntime, bench: &str) -> Result<bool, Fail> {
 fn calls_every_kind_in_every_state_of_an_axis(rt: HostRuntime) -> Result<(), Fail> {
     for (axis, events) in AXIS_STATES {
         for (kind, inputs) in AXIS_KINDS {
-            let bench = format!(in rt.alloc(); "motion-bench 1
+            let bench = format!(in rt.alloc();
+                "motion-bench 1
 limit 100 200
 {axis}
 axis Y 0 5000 10 4 1 100 ready
@@ -113,7 +117,8 @@ call KIND on{inputs}
 call STOP on dec=2
 cycle 3
 end main
-")?;
+"
+            )?;
             assert!(rt; is_legal(&rt, bench.as_str())?, "{bench}");
         }
     }
@@ -125,7 +130,8 @@ end main
 fn calls_every_kind_in_every_state_of_a_group(rt: HostRuntime) -> Result<(), Fail> {
     for (drive, events) in GROUP_STATES {
         for (kind, inputs) in GROUP_KINDS {
-            let bench = format!(in rt.alloc(); "motion-bench 1
+            let bench = format!(in rt.alloc();
+                "motion-bench 1
 limit 100 200
 axis X 0 5000 10 4 1 100 ready
 axis Y 0 5000 10 4 1 100 ready
@@ -143,7 +149,8 @@ call KIND on{inputs}
 call STOP on dec=2
 cycle 3
 end main
-")?;
+"
+            )?;
             assert!(rt; is_legal(&rt, bench.as_str())?, "{bench}");
         }
     }
