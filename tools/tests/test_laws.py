@@ -1,0 +1,139 @@
+"""The laws of motion, tried on the traces of examples/ and docs/ by a program of their own: it looks
+for a row or a command that breaks one. They are proved of the kernel (README); here it is seen that
+what they say is what a reader of a trace would ask."""
+
+import os
+import sys
+import unittest
+from pathlib import Path
+
+ROOT = Path(__file__).resolve().parent.parent.parent
+sys.path.insert(0, str(ROOT / "tools"))
+
+from motion_trace import Trace, lines_of  # noqa: E402
+
+FOLDERS = os.environ.get("TRACES", f"{ROOT}/examples/*:{ROOT}/docs/timing")
+
+
+def traces():
+    """The traces of the folders."""
+    for folder in FOLDERS.split(":"):
+        folder = Path(folder)
+        yield from sorted(folder.parent.glob(f"{folder.name}/*.trace"))
+
+
+def way_to_rest(step, deceleration):
+    """How far an axis goes that brakes from a step."""
+    return sum(range(step, 0, -deceleration))
+
+
+class Course:
+    """What a command has promised: to rest, at a target if it has one, in so many cycles."""
+
+    def __init__(self, call, kind, setpoint, velocity):
+        speed, braking = abs(velocity), call.deceleration
+        self.target, self.cycles = None, speed // braking + 1
+        if kind.startswith("Move"):
+            self.target = call.positions[0] + (setpoint if kind == "MoveRelative" else 0)
+            way = abs(self.target - setpoint) + way_to_rest(speed, braking)
+            self.cycles += (-(-call.velocity // call.acceleration) - (-way // call.velocity)
+                            + call.velocity // braking + 3)
+
+
+class Axis:
+    """An axis, row by row: which laws its rows and commands break."""
+
+    def __init__(self, definition):
+        self.limits = definition
+        self.setpoint, self.velocity, self.driven = definition.start, 0, definition.ready
+        self.course, self.homed = None, False
+        self.rows, self.promises, self.broken = 0, 0, []
+
+    def call(self, call, kind, rises):
+        """A call of a block of the axis: a rising edge or a Power ends what was promised."""
+        if kind == "Power" or rises:
+            self.course = None
+        if kind == "Home" and "A" in call.outputs:
+            self.homed = True
+        if rises and "A" in call.outputs and kind in ("MoveAbsolute", "MoveRelative", "Halt", "Stop"):
+            self.course = Course(call, kind, self.setpoint, self.velocity)
+
+    def row(self, row):
+        """The row of a cycle."""
+        step = 0 if self.homed else row.setpoint - self.setpoint
+        if row.driven and self.driven:
+            self.judge(row.setpoint, step)
+        elif row.driven and not self.limits.lo <= row.setpoint <= self.limits.hi:
+            self.broken.append("begins outside")
+        self.velocity = step if row.driven and self.driven else 0
+        self.setpoint, self.driven, self.homed = row.setpoint, row.driven, False
+        self.promised(row.state == "ErrorStop" or not row.driven)
+
+    def judge(self, setpoint, step):
+        """A driven row behind another keeps the limits."""
+        limits, old, new = self.limits, abs(self.velocity), abs(step)
+        slows = step * self.velocity >= 0 and new < old
+        most = limits.dmax if slows else limits.amax
+        if not limits.lo <= setpoint <= limits.hi:
+            self.broken.append("outside")
+        if new > limits.vmax or abs(step - self.velocity) > most:
+            self.broken.append(f"step {step} behind {self.velocity}")
+        self.rows += 1
+
+    def promised(self, is_faulted):
+        """What was promised is kept when its cycles are over."""
+        if self.course is None or is_faulted:
+            self.course = None
+            return
+        self.course.cycles -= 1
+        if self.course.cycles == 0:
+            at = self.setpoint if self.course.target is None else self.course.target
+            if self.velocity != 0 or self.setpoint != at:
+                self.broken.append(f"not at {at} but {self.setpoint} by {self.velocity}")
+            self.promises += 1
+            self.course = None
+
+
+def axes_of(lines):
+    """The axes of a trace behind its last cycle."""
+    trace = Trace(lines)
+    axes = {axis.name: Axis(axis) for axis in trace.machine.axes}
+    blocks = {block.name: block for block in trace.machine.blocks}
+    members = {group.name: group.axes for group in trace.machine.groups}
+    execute = dict.fromkeys(blocks, False)
+    for cycle in trace.cycles():
+        for call in cycle.calls:
+            block = blocks[call.block]
+            rises = call.execute and not execute[call.block]
+            execute[call.block] = call.execute
+            for axis in members.get(block.on, [block.on]):
+                axes[axis].call(call, block.kind, rises)
+        for axis, row in cycle.rows.items():
+            axes[axis].row(row)
+    return axes
+
+
+class Laws(unittest.TestCase):
+    """Limits in every driven row; moves at their targets, and Halts and Stops at rest, in time."""
+
+    def test_no_trace_breaks_a_law(self):
+        rows = promises = 0
+        for name in traces():
+            for axis in axes_of(lines_of(str(name))).values():
+                self.assertEqual(axis.broken, [], f"{name} {axis.limits.name}")
+                rows, promises = rows + axis.rows, promises + axis.promises
+        self.assertGreater(rows, 500)
+        self.assertGreater(promises, 5)
+
+    def test_what_breaks_a_law_is_found(self):
+        text = (ROOT / "docs" / "timing" / "halt.trace").read_text()
+        last = "cycle,8,,,,,,,,,,\nrow,X,0037,24,8,Standstill,0,1,2"
+        for old, new in ((",1,12,000f", ",1,14,000f"), (",1,2,000f", ",1,-1,000f"),
+                         (last + "4", last + "5")):
+            self.assertIn(old, text)
+            axes = axes_of(iter(text.replace(old, new).splitlines(True)))
+            self.assertTrue(axes["X"].broken, old)
+
+
+if __name__ == "__main__":
+    unittest.main()
