@@ -16,6 +16,7 @@ use Rattle.task_run.specs.Standing.{IsInside, IsOutside, is_plain}
 use Rattle.task_run.specs.Tasks.{inputs_in, last_call, later_of}
 use Rattle.task_run.specs.declared.place.Pass.{Pass}
 use Rattle.task_run.proofs.Lists.{all-front}
+use Rattle.task_run.proofs.Places.{plain-back}
 use Rattle.task_run.specs.Written.{Open, times, written_from, written_out}
 
 pub later-assoc : {A : Type 0} (a b c : Option A) → later_of a (later_of b c) ≡ later_of (later_of a b) c
@@ -106,13 +107,6 @@ until-plain (Call k i ∷ still) behind h = ap (λ ls. Call k i ∷ ls) (until-p
 until-plain (Wait k flag ∷ still) behind h = ap (λ ls. Wait k flag ∷ ls) (until-plain still behind h)
 until-plain (Repeat count ∷ still) behind h = absurd (cc)
 until-plain (Again ∷ still) behind h = absurd (cc)
-
-plain-back : (run still : List Instruction) → list_all is_plain (run ++ still) ≡ true → list_all is_plain still ≡ true
-plain-back [] still h = h
-plain-back (Call k i ∷ run) still h = plain-back run still h
-plain-back (Wait k flag ∷ run) still h = plain-back run still h
-plain-back (Repeat count ∷ run) still h = absurd (cc)
-plain-back (Again ∷ run) still h = absurd (cc)
 
 -- outside repeats
 pub last-outside : (k : ℕ) (lines : List Instruction) (line : ℕ) (p t : List Instruction) → IsTask lines → IsOutside lines line p t → last_call k (take line lines) ≡ last_call k p

@@ -34,7 +34,8 @@ at-again (Wait k flag ∷ still) behind h at = absurd (cc)
 at-again (Repeat count ∷ still) behind h at = absurd (cc)
 at-again (Again ∷ still) behind h at = absurd (cc)
 
-plain-back : (run still : List Instruction) → list_all is_plain (run ++ still) ≡ true → list_all is_plain still ≡ true
+-- the lines behind plain ones
+pub plain-back : (run still : List Instruction) → list_all is_plain (run ++ still) ≡ true → list_all is_plain still ≡ true
 plain-back [] still h = h
 plain-back (Call k i ∷ run) still h = plain-back run still h
 plain-back (Wait k flag ∷ run) still h = plain-back run still h
