@@ -27,17 +27,32 @@ def way_to_rest(step, deceleration):
     return sum(range(step, 0, -deceleration))
 
 
+def cycles_bound(call, way, speed):
+    """Within how many cycles a move is done, from a step of this speed."""
+    way += way_to_rest(speed, call.deceleration)
+    return (speed // call.deceleration + 1 - (-call.velocity // call.acceleration)
+            - (-way // call.velocity) + call.velocity // call.deceleration + 3)
+
+
 class Course:
     """What a command has promised: to rest, at a target if it has one, in so many cycles."""
 
     def __init__(self, call, kind, setpoint, velocity):
-        speed, braking = abs(velocity), call.deceleration
-        self.target, self.cycles = None, speed // braking + 1
+        self.call, self.target = call, None
+        self.cycles = abs(velocity) // call.deceleration + 1
         if kind.startswith("Move"):
             self.target = call.positions[0] + (setpoint if kind == "MoveRelative" else 0)
-            way = abs(self.target - setpoint) + way_to_rest(speed, braking)
-            self.cycles += (-(-call.velocity // call.acceleration) - (-way // call.velocity)
-                            + call.velocity // braking + 3)
+            self.cycles = cycles_bound(call, abs(self.target - setpoint), abs(velocity))
+
+
+class Blend:
+    """What a move has promised that is blended into one further on: to be at its target or past it,
+    in the cycles of its braking, and as many as the target is units away, or those of coming back."""
+
+    def __init__(self, course, setpoint, velocity):
+        self.target, speed = course.target, abs(velocity)
+        self.cycles = speed // course.call.deceleration + 1 + max(
+            abs(self.target - setpoint) + 1, cycles_bound(course.call, speed, speed))
 
 
 class Axis:
@@ -46,17 +61,35 @@ class Axis:
     def __init__(self, definition):
         self.limits = definition
         self.setpoint, self.velocity, self.driven = definition.start, 0, definition.ready
-        self.course, self.homed = None, False
-        self.rows, self.promises, self.broken = 0, 0, []
+        self.course, self.blend, self.homed = None, None, False
+        self.active = None      # the course of the active command, where none waits behind it
+        self.rows, self.promises, self.blends, self.broken = 0, 0, 0, []
 
     def call(self, call, kind, rises):
-        """A call of a block of the axis: a rising edge or a Power ends what was promised."""
+        """A call of a block of the axis: a rising edge or a Power ends what was promised, but that a
+        move waits behind a blended one."""
+        if kind == "Power" or rises and "A" in call.outputs:
+            self.blend, self.active = None, None
+        if rises and call.outputs == "B":
+            self.waits(call, kind)
         if kind == "Power" or rises:
             self.course = None
         if kind == "Home" and "A" in call.outputs:
             self.homed = True
         if rises and "A" in call.outputs and kind in ("MoveAbsolute", "MoveRelative", "Halt", "Stop"):
-            self.course = Course(call, kind, self.setpoint, self.velocity)
+            self.course = self.active = Course(call, kind, self.setpoint, self.velocity)
+
+    def waits(self, call, kind):
+        """A command waits behind the active one: a blend applies where its target lies further on."""
+        active, self.active = self.active, None
+        if active is None or active.target is None or kind not in ("MoveAbsolute", "MoveRelative"):
+            return
+        first = active.target
+        second = call.positions[0] + (first if kind == "MoveRelative" else 0)
+        way = (second > first) - (second < first)
+        is_ahead = way * (first - self.setpoint) >= 0 and way * self.velocity >= 0
+        if call.mode.startswith("blending") and way != 0 and is_ahead:
+            self.blend = Blend(active, self.setpoint, self.velocity)
 
     def row(self, row):
         """The row of a cycle."""
@@ -66,8 +99,11 @@ class Axis:
         elif row.driven and not self.limits.lo <= row.setpoint <= self.limits.hi:
             self.broken.append("begins outside")
         self.velocity = step if row.driven and self.driven else 0
-        self.setpoint, self.driven, self.homed = row.setpoint, row.driven, False
-        self.promised(row.state == "ErrorStop" or not row.driven)
+        before, self.setpoint = self.setpoint, row.setpoint
+        self.driven, self.homed = row.driven, False
+        is_faulted = row.state == "ErrorStop" or not row.driven
+        self.promised(is_faulted)
+        self.passes(before, is_faulted)
 
     def judge(self, setpoint, step):
         """A driven row behind another keeps the limits."""
@@ -93,6 +129,19 @@ class Axis:
             self.promises += 1
             self.course = None
 
+    def passes(self, before, is_faulted):
+        """A blended move passes its target before its cycles are over."""
+        if self.blend is None or is_faulted:
+            self.blend = None
+            return
+        self.blend.cycles -= 1
+        is_past = min(before, self.setpoint) <= self.blend.target <= max(before, self.setpoint)
+        if is_past or self.blend.cycles == 0:
+            self.blends += 1
+            if not is_past:
+                self.broken.append(f"hangs before {self.blend.target}")
+            self.blend = None
+
 
 def axes_of(lines):
     """The axes of a trace behind its last cycle."""
@@ -114,16 +163,19 @@ def axes_of(lines):
 
 
 class Laws(unittest.TestCase):
-    """Limits in every driven row; moves at their targets, and Halts and Stops at rest, in time."""
+    """Limits in every driven row; moves at their targets, and Halts and Stops at rest, in time;
+    blended moves past their targets in time."""
 
     def test_no_trace_breaks_a_law(self):
-        rows = promises = 0
+        rows = promises = blends = 0
         for name in traces():
             for axis in axes_of(lines_of(str(name))).values():
                 self.assertEqual(axis.broken, [], f"{name} {axis.limits.name}")
                 rows, promises = rows + axis.rows, promises + axis.promises
+                blends += axis.blends
         self.assertGreater(rows, 500)
         self.assertGreater(promises, 5)
+        self.assertGreater(blends, 1)
 
     def test_what_breaks_a_law_is_found(self):
         text = (ROOT / "docs" / "timing" / "halt.trace").read_text()

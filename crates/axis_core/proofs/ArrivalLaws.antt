@@ -28,7 +28,7 @@ use Rattle.command_pool.specs.Waiting.{last_of, without}
 use Rattle.kin_core.specs.Toward.{toward_zero}
 use Rattle.axis_core.specs.Arrivals as turn
 use Rattle.axis_core.specs.Arrivals.{toward, slowing, Carried, Course, GoesOn, IsAtEnd, IsTurn, IsUnderWay, RunsWithin, Turn, bound_of, course_by, course_of, turn_by, turn_of}
-use Rattle.axis_core.specs.AxisKept.{AreNumbers, IsCoreKept, IsInState, IsMoveWithin, IsReady, IsRunning}
+use Rattle.axis_core.specs.AxisKept.{AreNumbers, AreRatesWithin, IsCoreKept, IsInState, IsMoveWithin, IsReady, IsRunning}
 use Rattle.axis_core.specs.Calls.{active_without, core_after_admission, core_after_command, core_after_verdict, axis_without_owner, core_after_disabling, core_after_power, queue_in, core_with_queued}
 use Rattle.axis_core.specs.Cores.{Core, axis_under, core_after_ending}
 use Rattle.axis_core.specs.Cycles.{Advance, advance_in_cycle, advance_by_progress, advance_without_error, advance_by_command, core_after_answer, axis_after_braking, core_after_cycle, axis_after_progress, axis_after_word, core_after_going_on, core_after_advance, progress_in_cycle, progress_by_step, core_after_step}
@@ -91,7 +91,7 @@ some-run (suc n) course l p q h = omega arith
 some-cycle : (n : ℕ) (course : Course) (a : Axis) → IsUnderWay n course a → 1 ≤ n
 some-cycle n course a u = some-run n course a.limits a.previous a.setpoint u.run
 
-same-int : (x y : ℤ) → x ≡ y → int_eq x y ≡ true
+pub same-int : (x y : ℤ) → x ≡ y → int_eq x y ≡ true
 same-int x y h = (Decides-int_eq x y).1 h
 
 pub wish-move : (k : BlockKind) (a : Axis) (w : Wanted) (next : Option Wanted) (look : AxisLook) → is_move k ≡ true → wish_by k a w next look ≡ move_wish a w next
@@ -523,7 +523,7 @@ pub record PlansEnd : Type 0 where
       IsAtRestWithin (unsigned_abs (now -ℤ before) / unsigned_abs d + 1) limits d before now
 
 -- an active move has a target and rates within the limits
-move-within : (k : BlockKind) (l : Limits) (inc offset setpoint : ℤ) (w : Wanted) → is_move k ≡ true → AreNumbers k l w → IsReady k l inc offset setpoint w → IsMoveWithin l w
+pub move-within : (k : BlockKind) (l : Limits) (inc offset setpoint : ℤ) (w : Wanted) → is_move k ≡ true → AreNumbers k l w → IsReady k l inc offset setpoint w → IsMoveWithin l w
 move-within kind.MoveAbsolute l inc offset setpoint w h n r = n
 move-within kind.MoveRelative l inc offset setpoint w h n r = r
 move-within _ l inc offset setpoint w h n r = absurd (cc)
@@ -532,6 +532,17 @@ halt-within : (k : BlockKind) (l : Limits) (w : Wanted) → is_slowing k ≡ tru
 halt-within kind.Halt l w h n = n
 halt-within kind.Stop l w h n = n
 halt-within _ l w h n = absurd (cc)
+
+-- rates within the limits are in their ranges
+pub rates-within : (l : Limits) (w : Wanted) → AreLimits l → AreRatesWithin l w → AreRates w.rates
+rates-within l w limits r = record {
+  least_velocity = r.velocity.above;
+  most_velocity = let b = r.velocity.below in omega (arith, ints);
+  least_acceleration = r.ramps.acceleration.above;
+  most_acceleration = let b = r.ramps.acceleration.below in omega (arith, ints);
+  least_deceleration = r.ramps.deceleration.above;
+  most_deceleration = let b = r.ramps.deceleration.below in omega (arith, ints);
+}
 
 move-runs : PlansEnd → (a : Axis) (w : Wanted) (target : ℤ) (rates : Rates) → AreLimits a.limits → a.limits.hi ≤ℤ pos MOST_PLACE → IsMoveWithin a.limits w →
     target_of w ≡ target → w.rates ≡ rates → IsKept a.limits a.previous a.setpoint → IsDoneWithin (bound_of (toward target rates) a) a.limits rates target a.previous a.setpoint
@@ -544,14 +555,7 @@ move-runs law a w target rates limits top m goal by_rates kept =
       acceleration = m.rates.ramps.acceleration.below;
       deceleration = m.rates.ramps.deceleration.below;
     } in
-    let are : AreRates w.rates = record {
-      least_velocity = m.rates.velocity.above;
-      most_velocity = let b = m.rates.velocity.below in omega (arith, ints);
-      least_acceleration = m.rates.ramps.acceleration.above;
-      most_acceleration = let b = m.rates.ramps.acceleration.below in omega (arith, ints);
-      least_deceleration = m.rates.ramps.deceleration.above;
-      most_deceleration = let b = m.rates.ramps.deceleration.below in omega (arith, ints);
-    } in
+    let are = rates-within a.limits w limits m.rates in
     let P : ℤ → Type 0 = plan.IsMoveWithin a.limits rates in
     let Q : Rates → Type 0 = λ r. plan.IsMoveWithin a.limits r m.target in
     law.moves a.limits rates target a.previous a.setpoint limits (omega (arith, ints)) (subst AreRates by_rates are) (subst P (fixed ∙ goal) (subst Q by_rates within)) kept

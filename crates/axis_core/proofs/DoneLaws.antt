@@ -30,37 +30,41 @@ use Rattle.axis_core.proofs.ArrivalLaws.{AreAlike, active-runs, advances-by, bot
 use Rattle.axis_core.proofs.Blends.{first_down, first_up}
 use Rattle.axis_core.proofs.KeptRows.{Place, place-ended_by}
 
--- how a cycle goes on an axis with an active command: an error ends that, or it advances
-pub by-cycle : (R : Fate → Axis → Type 0) (look : AxisLook) (c : Core) (w : Wanted) → IsCoreKept c → c.axis.active ≡ Some w →
-    ((f : Fate) (a b : Axis) → AreAlike a b → R f a → R f b) →
-    ((n : ℕ) (a : Axis) → R (replaced (finish.Error n) c.axis.active None) a) →
-    R (moved_fate look c) (core_after_advance look c).axis →
-    R (cycle_fate look c) (core_after_cycle look c).axis
+-- how a cycle goes on an axis with an active command, with the commands that wait: an error ends
+-- that, or it advances
+pub by-cycle : (R : Fate → Axis → List Wanted → Type 0) (look : AxisLook) (c : Core) (w : Wanted) → IsCoreKept c → c.axis.active ≡ Some w →
+    ((f : Fate) (a b : Axis) (ws : List Wanted) → AreAlike a b → R f a ws → R f b ws) →
+    ((n : ℕ) (a : Axis) (ws : List Wanted) → R (replaced (finish.Error n) c.axis.active None) a ws) →
+    R (moved_fate look c) (core_after_advance look c).axis (core_after_advance look c).waiting →
+    R (cycle_fate look c) (core_after_cycle look c).axis (core_after_cycle look c).waiting
 unfolding cycle_fate core_after_cycle
 by-cycle R look c w kept e alike fault moves =
     let runs = active-runs c.axis.state c.axis.driven (is_powered c.axis) c.axis.was_off c.axis.previous c.axis.setpoint c.axis.active w e kept.axis.state in
     let driven = is_driven c.axis look.input in
     let after = core_after_step look driven (core_after_answer look.input c) in
     let a = (core_after_advance look c).axis in
-    let goes : R (moved_fate look c) (core_after_going_on look c).axis = alike (moved_fate look c) a (axis_after_stop look a) (stop-alike look a) moves in
-    alike (cycle_fate look c) after.axis (axis_after_word look.input (reset_axis after.axis.reset look.input after.axis))
+    let ws = (core_after_advance look c).waiting in
+    let goes : R (moved_fate look c) (core_after_going_on look c).axis (core_after_going_on look c).waiting =
+    alike (moved_fate look c) a (axis_after_stop look a) ws (stop-alike look a) moves in
+    alike (cycle_fate look c) after.axis (axis_after_word look.input (reset_axis after.axis.reset look.input after.axis)) after.waiting
     (given-alike look.input after.axis (reset_axis after.axis.reset look.input after.axis) (reset-alike after.axis.reset look.input after.axis))
     (by (nat_eq (answer_error_of c.axis look.input) 0) refl runs.0 runs.1 goes _)
   where
     by : (b : Bool) → nat_eq (answer_error_of c.axis look.input) 0 ≡ b → is_error_stop c.axis.state ≡ false → IsRunning c.axis.driven (is_powered c.axis) →
-        R (moved_fate look c) (core_after_going_on look c).axis → (failed : Core) →
+        R (moved_fate look c) (core_after_going_on look c).axis (core_after_going_on look c).waiting → (failed : Core) →
         R (if b then (if is_driven c.axis look.input && c.axis.driven then moved_fate look c else goes_on) else replaced (finish.Error (answer_error_of c.axis look.input)) c.axis.active None)
         (core_after_step look (is_driven c.axis look.input) (if b then c else failed)).axis
+        (core_after_step look (is_driven c.axis look.input) (if b then c else failed)).waiting
     by true h s r goes failed =
         only-true (is_driven c.axis look.input && c.axis.driven) (moved_fate look c) goes_on (core_after_going_on look c) (record c { axis = axis_at_drive (is_driven c.axis look.input) look.input c.axis })
-        (λ (f : Fate) (d : Core). R f d.axis) (still-driven c.axis look.input s r h) goes
-    by false h s r goes failed = fault (answer_error_of c.axis look.input) _
+        (λ (f : Fate) (d : Core). R f d.axis d.waiting) (still-driven c.axis look.input s r h) goes
+    by false h s r goes failed = fault (answer_error_of c.axis look.input) _ _
 
 -- a blend applies exactly where the test of it holds
 abbrev pub IsTested : Type 0
 IsTested = (first second before now : ℤ) → (blend_applies first second before now ≡ true) ↔ BlendApplies first second before now
 
-where-applies : (b : Bool) (s t : SecondMove) → (if b then Some s else None) ≡ Some t → (b ≡ true) × (s ≡ t)
+pub where-applies : (b : Bool) (s t : SecondMove) → (if b then Some s else None) ≡ Some t → (b ≡ true) × (s ≡ t)
 where-applies true s t h = (refl, (let same : s ≡ t = cc in same))
 where-applies false s t h = absurd (cc)
 
@@ -154,7 +158,7 @@ ending-done true blends o target before ws c h g =
 ending-done false blends o target before ws c h g = absurd (cc)
 
 -- a move takes the step that it wants
-takes-step : (a : Axis) (w : Wanted) (next : Option Wanted) (look : AxisLook) → is_move w.kind ≡ true →
+pub takes-step : (a : Axis) (w : Wanted) (next : Option Wanted) (look : AxisLook) → is_move w.kind ≡ true →
     progress_in_cycle a w next look ≡ Ok (progress_at a w next look (taken_step_in a (move_step_with (blended_with a w next) a w)))
 takes-step a w next look h = ap (λ o. progress_by_step a w next look (step_for_wish a o)) (wish-move w.kind a w next look h)
 
@@ -181,9 +185,9 @@ pub move-done : IsTested → (look : AxisLook) (c : Core) (w : Wanted) → IsCor
     IsMoveDone (blended_with c.axis w (slice_get c.waiting 0)) (target_of w) c.axis.setpoint (core_after_cycle look c).axis
 move-done tested look c w kept e kind =
     let runs = (active-runs c.axis.state c.axis.driven (is_powered c.axis) c.axis.was_off c.axis.previous c.axis.setpoint c.axis.active w e kept.axis.state).0 in
-    by-cycle (EndsDone (blended_with c.axis w (slice_get c.waiting 0)) (target_of w) c.axis.setpoint) look c w kept e
-    (λ f a b s h g. done-alike (blended_with c.axis w (slice_get c.waiting 0)) (target_of w) c.axis.setpoint a b s (h g))
-    (λ n a. faulted n a c.axis.active) (moved-done tested look c w e kind runs)
+    by-cycle (λ f a ws. EndsDone (blended_with c.axis w (slice_get c.waiting 0)) (target_of w) c.axis.setpoint f a) look c w kept e
+    (λ f a b ws s h g. done-alike (blended_with c.axis w (slice_get c.waiting 0)) (target_of w) c.axis.setpoint a b s (h g))
+    (λ n a ws. faulted n a c.axis.active) (moved-done tested look c w e kind runs)
   where
     faulted : (n : ℕ) (a : Axis) (active : Option Wanted) → (replaced (finish.Error n) active None).ends ≡ Some finish.Done → IsMoveDone (blended_with c.axis w (slice_get c.waiting 0)) (target_of w) c.axis.setpoint a
     faulted n a None g = absurd (cc)

@@ -21,6 +21,7 @@ pub mod ToldLaws
 pub mod OwnerLaws
 pub mod ArrivalLaws
 pub mod DoneLaws
+pub mod BlendedLaws
 pub mod ChangeLaws
 pub mod LedLaws
 pub mod WaitingLaws

@@ -60,6 +60,10 @@ turn_by false (Some f) = Some (ended f)
 abbrev pub turn_of : Fate → Option Turn
 turn_of f = turn_by f.blends f.ends
 
+-- the end alone, whether the command is blended or not
+abbrev pub end_turn_of : Fate → Option Turn
+end_turn_of f = turn_by false f.ends
+
 -- what a turn says of the axis: Done, that it is at the end of its course; of a command that is
 -- replaced, faulted or blended, nothing
 abbrev pub IsTurn : Turn → Course → Axis → Type 0

@@ -19,6 +19,7 @@ pub mod Shown
 pub mod Fates
 pub mod Owners
 pub mod Arrivals
+pub mod Blended
 pub mod Changes
 pub mod Led
 pub mod Motions

@@ -5,6 +5,8 @@ ghost use Rattle.command_pool.specs.declared.ending.Finish.TheVariants as finish
 ghost use Rattle.axis_core.specs.blocks.Moves.{is_done_by, blended_with, is_move, target_of};
 ghost use Rattle.command_pool.specs.declared.wanted.Wanted.{Wanted};
 ghost use Rattle.axis_core.specs.Arrivals.{Course, course_of, bound_of, turn_of, IsUnderWay, Carried, IsMoveDone};
+ghost use Rattle.axis_core.specs.Blended.{BlendingCarried, HasStep, IsBlended, IsBlending, cycles_of_blend, cycles_to_cross};
+ghost use Rattle.axis_core.specs.declared.blocks.moves.SecondMove.{SecondMove};
 ghost use Rattle.axis_core.specs.AxisKept.{IsAxisDef, IsCoreKept, IsLook};
 ghost use Rattle.axis_core.specs.Changes.{GoesBy};
 ghost use Rattle.axis_core.specs.Calls.{core_after_command, axis_without_owner, core_after_power};
@@ -33,7 +35,8 @@ ghost use Rattle.axis_core.specs.declared.axis.Axis.{Axis};
 use axis_state::{
     counts_are_read_back, homing_keeps_counts, offsets_are_small, setpoints_have_counts,
 };
-use blend_plan::blends_apply_by_test;
+use blend_laws::first_moves_end;
+use blend_plan::{blend_velocities_are_of_the_moves, blends_apply_by_test};
 use kin_core::{braking_steps_are_only_cut, standing_is_kept, taken_steps_keep};
 use trapezoid_plan::{halts_come_to_rest_in_time, moves_arrive_in_time};
 
@@ -149,6 +152,29 @@ pub fn courses_end_in_time()
 {
     moves_arrive_in_time();
     halts_come_to_rest_in_time();
+}
+
+/// No blended move hangs: it is under way for as many cycles as its bound, and every event carries it on, with fewer cycles
+/// to go, or ends it, Done or aborted or by an error. A blend that has a step crosses within as many cycles as its target
+/// is units away, and one; one without a step brakes before, or comes back from behind its target. The command behind it
+/// stays the first that waits.
+pub fn blended_moves_end_in_time()
+    ensures crosses { (c : Core) (first : Wanted) (second : SecondMove) → IsCoreKept c → IsBlended first second c.axis c.waiting →
+        HasStep first second c.axis → IsBlending (cycles_to_cross first c.axis) c.axis c.waiting }
+    ensures ends { (c : Core) (first : Wanted) (second : SecondMove) → IsCoreKept c → IsBlended first second c.axis c.waiting →
+        IsBlending (cycles_of_blend first c.axis) c.axis c.waiting }
+    ensures command { (n : ℕ) (q : Asked) (c : Core) → IsBlending n c.axis c.waiting →
+        BlendingCarried n 0 (command_fate q c).ends (core_after_command q c).axis (core_after_command q c).waiting }
+    ensures power { (n : ℕ) (enable : Bool) (c : Core) → IsBlending n c.axis c.waiting →
+        BlendingCarried n 0 (power_fate enable c).ends (core_after_power enable c).axis (core_after_power enable c).waiting }
+    ensures detach { (n owner : ℕ) (c : Core) → IsBlending n c.axis c.waiting →
+        IsBlending n (core_without_owner owner c).axis (core_without_owner owner c).waiting }
+    ensures cycle { (n : ℕ) (look : AxisLook) (c : Core) → IsCoreKept c → IsBlending n c.axis c.waiting →
+        BlendingCarried n 1 (cycle_fate look c).ends (core_after_cycle look c).axis (core_after_cycle look c).waiting }
+{
+    first_moves_end();
+    blends_apply_by_test();
+    blend_velocities_are_of_the_moves();
 }
 
 /// A move is Done at its target with step 0, or, where it is blended, by a step of at most the blend velocity that

@@ -1,16 +1,17 @@
 -- A first move whose second one waits to be blended always ends.
-use Rattle.std.proofs.Common.{◌≡◌, ℕ, zero, suc, ◌-◌, false, ℤ, pos, ◌+ℤ◌, ◌-ℤ◌, ◌<ℤ◌, ◌≤ℤ◌, unsigned_abs, arith, ◌∙◌, inl, inr}
+use Rattle.std.proofs.Common.{◌≡◌, ℕ, zero, suc, ◌+◌, ◌-◌, ◌/◌, ◌≤◌, max, false, ℤ, pos, ◌+ℤ◌, ◌-ℤ◌, ◌<ℤ◌, ◌≤ℤ◌, unsigned_abs, arith, ◌∙◌, inl, inr}
 use Rattle.std.proofs.lemmas.Bool.{cases_Bool, cond-true, cond-false, false_from_ne_true, both_ways}
 use Rattle.std.proofs.lemmas.Int.{ints, by_lt_z}
 use Rattle.kin_core.specs.declared.limits.Limits.{Limits}
 use Rattle.kin_core.specs.Toward.{IsTowards}
 use Rattle.motion_numbers.specs.Laws.{AreWays}
 use Rattle.command_pool.specs.declared.rates.Rates.{Rates}
+use Rattle.command_pool.specs.Rates.{AreRates}
 use Rattle.trapezoid_plan.specs.CyclesBound.{cycles_bound_of}
 use Rattle.trapezoid_plan.specs.MoveRun.{IsHeading, HeadsFor, IsDoneWithin, move_taken_of}
 use Rattle.blend_plan.specs.Blends.{BlendApplies, blend_applies}
 use Rattle.blend_plan.specs.BlendRun.{HasBlend, SettlesWithin, CrossesWithin, blend_taken_of, has_crossed}
-use Rattle.blend_laws.specs.FirstMove.{FirstEnds, FirstEndsWithin, first_taken_of}
+use Rattle.blend_laws.specs.FirstMove.{FirstEnds, FirstEndsWithin, crossing_bound_of, first_bound_of, first_taken_of}
 use Rattle.blend_laws.proofs.Given.{IsUnderWay, AreUnderWay, AreMoves, AreBlends}
 
 -- after some number of cycles the first move ends
@@ -180,6 +181,58 @@ module _ (blends : AreBlends) where
         old_step = omega (arith, ints);
       }))))
 
+  -- a blend that has a step ends the first move within its bound
+  pub blend-ends : (limits : Limits) (target1 target2 before now : ℤ) (first second : Rates) (vb : ℤ) →
+      AreUnderWay limits target1 target2 before now first second vb → HasBlend target1 target2 before now first second vb →
+      FirstEndsWithin (crossing_bound_of target1 now) limits target1 target2 before now first second vb
+  unfolding crossing_bound_of
+  blend-ends limits target1 target2 before now first second vb go has =
+      cross-ends _ limits target1 target2 before now first second vb go has (blends.crosses limits target1 target2 before now first second vb go has)
+
+  -- while a blend applies, its first target comes no further away
+  comes-nearer : (limits : Limits) (target1 target2 before now : ℤ) (first second : Rates) (vb : ℤ) →
+      AreUnderWay limits target1 target2 before now first second vb → BlendApplies target1 target2 before now →
+      BlendApplies target1 target2 now (now +ℤ blend_taken_of limits target1 target2 before now first second vb) →
+      crossing_bound_of target1 (now +ℤ blend_taken_of limits target1 target2 before now first second vb) ≤ crossing_bound_of target1 now
+  unfolding crossing_bound_of
+  comes-nearer limits target1 target2 before now first second vb go (inl ahead) (inl next) =
+      omega (arith, ints, ahead.first, next.first, blends.upward limits target1 target2 before now first second vb go ahead)
+  comes-nearer limits target1 target2 before now first second vb go (inl ahead) (inr next) = absurd (omega (arith, ints, ahead.second, next.second))
+  comes-nearer limits target1 target2 before now first second vb go (inr ahead) (inl next) = absurd (omega (arith, ints, ahead.second, next.second))
+  comes-nearer limits target1 target2 before now first second vb go (inr ahead) (inr next) =
+      omega (arith, ints, ahead.first, next.first, blends.downward limits target1 target2 before now first second vb go ahead)
+
+-- what ends within some cycles ends within more
+ends-sooner : (m n : ℕ) (limits : Limits) (target1 target2 before now : ℤ) (first second : Rates) (vb : ℤ) → m ≤ n →
+    FirstEndsWithin m limits target1 target2 before now first second vb → FirstEndsWithin n limits target1 target2 before now first second vb
+ends-sooner zero n limits target1 target2 before now first second vb l ends = absurd ends
+ends-sooner (suc m) zero limits target1 target2 before now first second vb l ends = absurd (omega arith)
+ends-sooner (suc m) (suc n) limits target1 target2 before now first second vb l (inl here) = inl here
+ends-sooner (suc m) (suc n) limits target1 target2 before now first second vb l (inr more) =
+    inr (ends-sooner m n limits target1 target2 now _ first second vb (omega arith) more)
+
+-- a step that leads past the first target leads at most itself past it
+past-short : (target1 target2 before now next : ℤ) → BlendApplies target1 target2 before now → Overshot target1 target2 now next →
+    unsigned_abs (target1 -ℤ next) ≤ unsigned_abs (next -ℤ now)
+past-short target1 target2 before now next (inl ahead) (above order past forward) = omega (arith, ints, ahead.first)
+past-short target1 target2 before now next (inl ahead) (below order past forward) = absurd (omega (arith, ints, ahead.second))
+past-short target1 target2 before now next (inr ahead) (above order past forward) = absurd (omega (arith, ints, ahead.second))
+past-short target1 target2 before now next (inr ahead) (below order past forward) = omega (arith, ints, ahead.first)
+
+module _ (moves : AreMoves) where
+  -- the way back from there takes no more cycles than from as far as the old step
+  back-in-time : (target1 target2 before now : ℤ) (first : Rates) (next : ℤ) → AreRates first → BlendApplies target1 target2 before now →
+      Overshot target1 target2 now next → unsigned_abs (next -ℤ now) ≤ unsigned_abs (now -ℤ before) →
+      cycles_bound_of (target1 -ℤ next) (next -ℤ now) first ≤ cycles_bound_of (now -ℤ before) (now -ℤ before) first
+  back-in-time target1 target2 before now first next ok applies past slower =
+      let short = past-short target1 target2 before now next applies past in
+      moves.grows (target1 -ℤ next) (now -ℤ before) (next -ℤ now) (now -ℤ before) first ok (omega arith) slower
+
+  -- nor does it from a lesser step
+  slower-bound : (before now next : ℤ) (first : Rates) → AreRates first → unsigned_abs (next -ℤ now) ≤ unsigned_abs (now -ℤ before) →
+      cycles_bound_of (next -ℤ now) (next -ℤ now) first ≤ cycles_bound_of (now -ℤ before) (now -ℤ before) first
+  slower-bound before now next first ok slower = moves.grows (next -ℤ now) (now -ℤ before) (next -ℤ now) (now -ℤ before) first ok slower slower
+
 module _ (ways : AreWays) (moves : AreMoves) (blends : AreBlends) where
   back-next : (limits : Limits) (rates : Rates) (target1 target2 before now : ℤ) →
       IsUnderWay limits rates target1 before now → ComesBack rates target1 target2 before now →
@@ -278,6 +331,55 @@ module _ (ways : AreWays) (moves : AreMoves) (blends : AreBlends) where
               (arrives limits target1 target2 now _ first second vb next);
         }
       ]))
+
+  -- the same within a bound: a blend's step or the way back, whichever takes longer, after the braking
+  applying-in-time : (n k most : ℕ) (limits : Limits) (target1 target2 before now : ℤ) (first second : Rates) (vb : ℤ) →
+      AreUnderWay limits target1 target2 before now first second vb → BlendApplies target1 target2 before now →
+      SettlesWithin n limits target1 target2 before now first second vb →
+      crossing_bound_of target1 now ≤ most → cycles_bound_of (now -ℤ before) (now -ℤ before) first ≤ most → n + most ≤ k →
+      FirstEndsWithin k limits target1 target2 before now first second vb
+  applying-in-time zero k most limits target1 target2 before now first second vb go applies settles near back room = absurd settles
+  applying-in-time (suc n) zero most limits target1 target2 before now first second vb go applies settles near back room = absurd (omega arith)
+  applying-in-time (suc n) (suc k) most limits target1 target2 before now first second vb go applies (inl (inl has)) near back room =
+      ends-sooner (crossing_bound_of target1 now) (suc k) limits target1 target2 before now first second vb (omega arith)
+      (blend-ends blends limits target1 target2 before now first second vb go has)
+  applying-in-time (suc n) (suc k) most limits target1 target2 before now first second vb go applies (inl (inr none)) near back room = absurd (none applies)
+  applying-in-time (suc n) (suc k) most limits target1 target2 before now first second vb go applies (inr more) near back room =
+      elim (blends.brakes limits target1 target2 before now first second vb go applies) [
+        | inl has ↦ ends-sooner (crossing_bound_of target1 now) (suc k) limits target1 target2 before now first second vb (omega arith)
+            (blend-ends blends limits target1 target2 before now first second vb go has)
+        | inr slower ↦
+            (let taken : first_taken_of limits target1 target2 before now first second vb ≡ blend_taken_of limits target1 target2 before now first second vb =
+            taken-applying blends limits target1 target2 before now first second vb applies in
+            let next : AreUnderWay limits target1 target2 now (now +ℤ blend_taken_of limits target1 target2 before now first second vb) first second vb =
+            blends.kept limits target1 target2 before now first second vb go in
+            let slow : unsigned_abs ((now +ℤ blend_taken_of limits target1 target2 before now first second vb) -ℤ now) ≤ unsigned_abs (now -ℤ before) =
+            omega (arith, ints, slower) in
+            let least = slower-bound moves before now _ first go.first_ok slow in
+            inr (rw taken (elim (cases_Bool (blend_applies target1 target2 now (now +ℤ blend_taken_of limits target1 target2 before now first second vb))) [
+              | inl holds ↦
+                  (let applying = (blends.by_test target1 target2 now _).0 holds in
+                  let nearer = comes-nearer blends limits target1 target2 before now first second vb go applies applying in
+                  applying-in-time n k most limits target1 target2 now _ first second vb next applying more (omega (arith, nearer)) (omega (arith, least)) (omega arith))
+              | inr fails ↦
+                  (let past = passed blends limits target1 target2 before now first second vb go applies (off-by-test blends target1 target2 now _ fails) in
+                  let sooner = back-in-time moves target1 target2 before now first _ go.first_ok applies past slow in
+                  ends-sooner _ k limits target1 target2 now _ first second vb (omega (arith, sooner))
+                  (overshot-ends _ limits target1 target2 now _ first second vb
+                  (first-of limits target1 target2 now _ first second vb next) past (arrives limits target1 target2 now _ first second vb next)))
+            ])))
+      ]
+
+  -- from where a blend applies
+  pub blend-ends-in-time : (limits : Limits) (target1 target2 before now : ℤ) (first second : Rates) (vb : ℤ) →
+      AreUnderWay limits target1 target2 before now first second vb → BlendApplies target1 target2 before now →
+      FirstEndsWithin (first_bound_of target1 before now first) limits target1 target2 before now first second vb
+  unfolding first_bound_of
+  blend-ends-in-time limits target1 target2 before now first second vb go applies =
+      let most : ℕ = max (crossing_bound_of target1 now) (cycles_bound_of (now -ℤ before) (now -ℤ before) first) in
+      applying-in-time (unsigned_abs (now -ℤ before) / unsigned_abs first.d + 1) _ most
+      limits target1 target2 before now first second vb go applies (blends.settles limits target1 target2 before now first second vb go)
+      (omega arith) (omega arith) (omega arith)
 
   -- the next cycle of a move by itself
   off-next : (limits : Limits) (target1 target2 before now : ℤ) (first second : Rates) (vb : ℤ) →

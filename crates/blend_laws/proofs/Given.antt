@@ -1,5 +1,5 @@
 -- What the laws of moves and of blends say, as far as the laws of both need it.
-use Rattle.std.proofs.Common.{◌≡◌, ◌↔◌, ◌+◌, ◌/◌, true, false, ℤ, pos, neg_ℤ, ◌+ℤ◌, ◌-ℤ◌, ◌<ℤ◌, ◌≤ℤ◌, unsigned_abs}
+use Rattle.std.proofs.Common.{◌≡◌, ◌↔◌, ◌⊎◌, ◌+◌, ◌-◌, ◌/◌, ◌≤◌, true, false, ℤ, pos, neg_ℤ, ◌+ℤ◌, ◌-ℤ◌, ◌<ℤ◌, ◌≤ℤ◌, unsigned_abs}
 use Rattle.kin_core.specs.declared.limits.Limits.{Limits}
 use Rattle.kin_core.specs.Admissible.{AreLimits, IsKept}
 use Rattle.kin_core.specs.Toward.{IsTowards}
@@ -43,6 +43,8 @@ pub record AreMoves : Type 0 where
   pub arrives : (limits : Limits) (rates : Rates) (target before now : ℤ) → IsUnderWay limits rates target before now →
       (limits.hi -ℤ limits.lo) ≤ℤ pos MOST_WAY →
       IsDoneWithin (cycles_bound_of (target -ℤ now) (now -ℤ before) rates) limits rates target before now
+  pub grows : (x y v w : ℤ) (rates : Rates) → AreRates rates → unsigned_abs x ≤ unsigned_abs y → unsigned_abs v ≤ unsigned_abs w →
+      cycles_bound_of x v rates ≤ cycles_bound_of y w rates
   pub forward : (limits : Limits) (rates : Rates) (target before now : ℤ) → IsUnderWay limits rates target before now →
       HeadsAway target before now → before ≤ℤ now → pos 0 ≤ℤ move_taken_of limits rates target before now
   pub backward : (limits : Limits) (rates : Rates) (target before now : ℤ) → IsUnderWay limits rates target before now →
@@ -54,6 +56,10 @@ pub record AreBlends : Type 0 where
   pub settles : (limits : Limits) (target1 target2 before now : ℤ) (first second : Rates) (vb : ℤ) →
       AreUnderWay limits target1 target2 before now first second vb →
       SettlesWithin (unsigned_abs (now -ℤ before) / unsigned_abs first.d + 1) limits target1 target2 before now first second vb
+  pub brakes : (limits : Limits) (target1 target2 before now : ℤ) (first second : Rates) (vb : ℤ) →
+      AreUnderWay limits target1 target2 before now first second vb → BlendApplies target1 target2 before now →
+      HasBlend target1 target2 before now first second vb
+      ⊎ (unsigned_abs (blend_taken_of limits target1 target2 before now first second vb) ≤ unsigned_abs (now -ℤ before) - unsigned_abs first.d)
   pub persists : (limits : Limits) (target1 target2 before now : ℤ) (first second : Rates) (vb : ℤ) →
       AreUnderWay limits target1 target2 before now first second vb → HasBlend target1 target2 before now first second vb →
       has_crossed target1 target2 now second vb (blend_taken_of limits target1 target2 before now first second vb) ≡ false →

@@ -239,6 +239,18 @@ module _ (ways : AreWays) (searches : AreSearches) (toward : AreTowardZero) (ste
         | off none ↦ absurd (none (inr ahead))
       ]
 
+  -- it has a step, or brakes
+  pub has-or-brakes : (limits : Limits) (target1 target2 before now : ℤ) (first second : Rates) (vb : ℤ) →
+      IsBlended limits target1 target2 before now first second vb → BlendApplies target1 target2 before now →
+      HasBlend target1 target2 before now first second vb
+      ⊎ (unsigned_abs (blend_taken_of limits target1 target2 before now first second vb) ≤ unsigned_abs (now -ℤ before) - unsigned_abs first.d)
+  has-or-brakes limits target1 target2 before now first second vb is applies =
+      elim (phase-of ways searches toward limits target1 target2 before now first second vb is) [
+        | full has ↦ inl has
+        | empty brakes ↦ inr (braked-next steps limits target1 target2 before now first second vb is brakes)
+        | off none ↦ absurd (none applies)
+      ]
+
   -- from a step below n decelerations it settles within n cycles
   pub settles : (n : ℕ) (limits : Limits) (target1 target2 before now : ℤ) (first second : Rates) (vb : ℤ) →
       IsBlended limits target1 target2 before now first second vb →

@@ -1,5 +1,5 @@
 // Laws of blends cycle by cycle: each is the contract of a function that does nothing.
-ghost use Rattle.std.specs.Prelude.{◌≡◌, ◌+◌, ◌/◌, ◌↔◌, true, false, ℤ, pos, neg_ℤ, ◌+ℤ◌, ◌-ℤ◌, ◌<ℤ◌, ◌≤ℤ◌, unsigned_abs};
+ghost use Rattle.std.specs.Prelude.{◌≡◌, ◌⊎◌, ◌+◌, ◌-◌, ◌/◌, ◌≤◌, ◌↔◌, true, false, ℤ, pos, neg_ℤ, ◌+ℤ◌, ◌-ℤ◌, ◌<ℤ◌, ◌≤ℤ◌, unsigned_abs};
 ghost use Rattle.kin_core.specs.declared.limits.Limits.{Limits};
 ghost use Rattle.kin_core.specs.Admissible.{AreLimits, IsKept};
 ghost use Rattle.command_pool.specs.declared.rates.Rates.{Rates};
@@ -48,6 +48,23 @@ pub fn blends_settle()
     ways_to_rest();
     searches_find_the_greatest();
     sums_of_ramps();
+    steps_fall_toward_zero();
+    safe_steps_lead_on();
+}
+
+/// A blend that applies has a step, or it brakes: the taken step is smaller than the last one, by the
+/// first deceleration or more.
+pub fn blends_without_steps_brake()
+    ensures { (limits : Limits) (target1 target2 before now vb : ℤ) (first second : Rates) →
+        AreLimits limits → AreRates first → AreRates second →
+        IsBlendWithin limits target1 target2 first second vb → IsKept limits before now →
+        BlendApplies target1 target2 before now →
+        HasBlend target1 target2 before now first second vb
+        ⊎ (unsigned_abs (blend_taken_of limits target1 target2 before now first second vb)
+        ≤ unsigned_abs (now -ℤ before) - unsigned_abs first.d) }
+{
+    ways_to_rest();
+    searches_find_the_greatest();
     steps_fall_toward_zero();
     safe_steps_lead_on();
 }

@@ -20,7 +20,7 @@ pub use command_pool::Rates;
 pub use crossing::crosses;
 pub use endings::{
     blends_go_on_until_they_cross, blends_never_turn_back, blends_settle,
-    crossings_are_told_by_test, crossings_have_the_target_between,
+    blends_without_steps_brake, crossings_are_told_by_test, crossings_have_the_target_between,
 };
 pub use laws::{
     blend_steps_are_greatest, blend_steps_are_safe, blend_velocities_are_of_the_moves,

@@ -4,6 +4,7 @@ mod loads;
 mod rows;
 mod states;
 mod traces;
+mod worked;
 
 use crate::*;
 use motion_history::Rule;

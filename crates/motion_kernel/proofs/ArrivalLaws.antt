@@ -1,12 +1,14 @@
 -- The active commands of axes come to their end in time.
-use Rattle.std.specs.Prelude.{◌≡◌, ◌≢◌, refl, ℕ, zero, suc, ◌+◌, ◌<◌, ◌≤◌, Bool, true, false, Option, Some, None, List, [], ◌∷◌, ◌++◌, length, slice_get}
+use Rattle.std.specs.Prelude.{◌≡◌, ◌≢◌, refl, ℕ, zero, suc, ◌+◌, ◌<◌, ◌≤◌, Bool, true, false, Option, Some, None, List, [], ◌∷◌, ◌++◌, length, map, slice_get}
 use Rattle.std.proofs.Common.{arith, sym, subst, ◌∙◌}
-use Rattle.axis_core.specs.Arrivals.{Carried, Course, toward, slowing, GoesOn, IsMoveDone, IsUnderWay, Turn, bound_of, course_of, turn_of}
+use Rattle.axis_core.specs.Arrivals.{Carried, Course, toward, slowing, GoesOn, IsMoveDone, IsTurn, IsUnderWay, Turn, bound_of, course_of, end_turn_of, turn_by, turn_of}
 use Rattle.axis_core.specs.AxisKept.{IsCoreKept}
+use Rattle.axis_core.specs.Blended.{BlendingCarried, BlendingGoesOn, HasStep, IsBlended, IsBlending, cycles_of_blend, cycles_to_cross}
 use Rattle.axis_core.specs.Calls.{axis_without_owner, core_after_command, core_after_power}
 use Rattle.axis_core.specs.Cores as cores
 use Rattle.axis_core.specs.Cycles.{core_after_cycle}
 use Rattle.axis_core.specs.Fates.{Fate, IsFate, IsSame, admitted_fate, asked_fate, command_fate, cycle_fate, goes_on, joined_fate, power_fate, replaced}
+use Rattle.axis_core.specs.Owners.{core_without_owner}
 use Rattle.axis_core.specs.Refusals.{Asked, refusal_of}
 use Rattle.axis_core.specs.States.{is_error_stop}
 use Rattle.axis_core.specs.blocks.Gear.{velocity_command}
@@ -14,21 +16,24 @@ use Rattle.axis_core.specs.declared.reason.Reason.{Reason}
 use Rattle.axis_core.specs.blocks.Moves.{blended_with, is_move, known_target_of, target_of, with_target}
 use Rattle.axis_core.specs.blocks.Path.{axis_on_path}
 use Rattle.axis_core.specs.declared.axis.Axis.{Axis}
+use Rattle.axis_core.specs.declared.blocks.moves.SecondMove.{SecondMove}
 use Rattle.axis_core.specs.declared.look.AxisLook.{AxisLook}
 use Rattle.cia402_machine.specs.declared.drive.DriveIn.{DriveIn}
-use Rattle.command_pool.specs.Waiting.{last_of}
+use Rattle.command_pool.specs.Waiting.{detached, last_of, queue_of}
+use Rattle.command_pool.specs.declared.ending.Finish.{Finish}
 use Rattle.command_pool.specs.declared.ending.Finish.TheVariants as finish
 use Rattle.command_pool.specs.declared.kind.BlockKind.{BlockKind}
 use Rattle.command_pool.specs.declared.kind.BlockKind.TheVariants as kind
 use Rattle.command_pool.specs.declared.wanted.Wanted.{Wanted}
 use Rattle.motion_history.specs.Entries.{Entry, call, cycle, cycle_count, cycles_of, end_of}
 use Rattle.motion_history.specs.Setup.{Setup, IsSetup}
-use Rattle.motion_kernel.specs.Arrivals.{IsTurnedWithin, KeepsMotion, MovesArrive, Turned, turned_by, turned_in}
+use Rattle.motion_kernel.specs.Arrivals.{IsEndedWithin, IsTurnedWithin, IsWithin, KeepsMotion, MovesArrive, Turned, ended_in, turned_by, turned_by_fates, turned_in}
 use Rattle.motion_kernel.specs.AxisFates.{axis_fate, look_of_axis}
+use Rattle.motion_kernel.specs.Cycles.{after_cycle}
 use Rattle.motion_kernel.specs.Histories.{Follows, IsLegal, IsOf, after, inputs_of, machine_after, replay}
 use Rattle.motion_kernel.specs.Machine.{Machine, axis_at, axis_core_at, machine_at_opening}
 use Rattle.motion_kernel.specs.MachineKept.{AreWhole, IsMachineKept}
-use Rattle.motion_kernel.proofs.ArrivalCalls.{IsByFate, by_call}
+use Rattle.motion_kernel.proofs.ArrivalCalls.{IsByFate, IsThere, by_call}
 use Rattle.motion_kernel.proofs.LimitCycles.{GoesThrough, goes_through}
 use Rattle.motion_kernel.proofs.LimitLaws.{MachinesStayKept}
 use Rattle.motion_kernel.proofs.SizeLaws.{by_if}
@@ -70,11 +75,32 @@ MovesAreDone = (look : AxisLook) (c : cores.Core) (w : Wanted) → IsCoreKept c 
     IsMoveDone (blended_with c.axis w (slice_get c.waiting 0)) (target_of w) c.axis.setpoint
     (core_after_cycle look c).axis
 
+-- axis_core's blended_moves_end_in_time
+pub record BlendsEnd : Type 0 where
+  pub crosses : (c : cores.Core) (w : Wanted) (second : SecondMove) → IsCoreKept c →
+      IsBlended w second c.axis c.waiting → HasStep w second c.axis →
+      IsBlending (cycles_to_cross w c.axis) c.axis c.waiting
+  pub ends : (c : cores.Core) (w : Wanted) (second : SecondMove) → IsCoreKept c →
+      IsBlended w second c.axis c.waiting → IsBlending (cycles_of_blend w c.axis) c.axis c.waiting
+  pub command : (n : ℕ) (q : Asked) (c : cores.Core) → IsBlending n c.axis c.waiting →
+      BlendingCarried n 0 (command_fate q c).ends (core_after_command q c).axis
+      (core_after_command q c).waiting
+  pub power : (n : ℕ) (enable : Bool) (c : cores.Core) → IsBlending n c.axis c.waiting →
+      BlendingCarried n 0 (power_fate enable c).ends (core_after_power enable c).axis
+      (core_after_power enable c).waiting
+  pub detach : (n owner : ℕ) (c : cores.Core) → IsBlending n c.axis c.waiting →
+      IsBlending n (core_without_owner owner c).axis (core_without_owner owner c).waiting
+  pub cycle : (n : ℕ) (look : AxisLook) (c : cores.Core) → IsCoreKept c →
+      IsBlending n c.axis c.waiting →
+      BlendingCarried n 1 (cycle_fate look c).ends (core_after_cycle look c).axis
+      (core_after_cycle look c).waiting
+
 -- the laws on which it rests that moves arrive
 pub record ArrivalLaws : Type 0 where
   pub machines : MachinesStayKept
   pub fates : FatesAreTold
   pub courses : CoursesEnd
+  pub blends : BlendsEnd
   pub moves : MovesAreDone
 
 -- commands that are the same one after another
@@ -111,15 +137,16 @@ chained f a b c s h = record {
   was = λ d e. h.was d (nothing_before a b s e);
 }
 
-fates_by : ArrivalLaws → (a : Axis) → IsByFate a (λ f x. IsFate f a.active x.active)
-fates_by laws a = record {
+fates_by : ArrivalLaws → (a : Axis) (ws : List Wanted) →
+    IsByFate a ws (λ f x us. IsFate f a.active x.active)
+fates_by laws a ws = record {
   rests = stays a.active a.active (as_it_is a.active);
-  path = λ on x h. subst (IsFate goes_on a.active) (sym (laws.fates.path on x)) h;
+  path = λ on x us h. subst (IsFate goes_on a.active) (sym (laws.fates.path on x)) h;
   detach = λ owner. stays a.active (axis_without_owner owner a).active (laws.fates.detach owner a);
-  power = λ enable c e. subst
+  power = λ enable c e _. subst
       (λ (x : Axis). IsFate (power_fate enable c) x.active (core_after_power enable c).axis.active)
       e (laws.fates.power enable c);
-  command = λ owner q c e.
+  command = λ owner q c e _.
       let same = subst (λ (x : Axis). IsSame a.active x.active) (sym e)
       (laws.fates.detach owner a) in
       chained (command_fate q c) a.active c.axis.active (core_after_command q c).axis.active same
@@ -141,11 +168,11 @@ led_on n course on a h = record {
       h.run;
 }
 
-carried_by : ArrivalLaws → (n : ℕ) (course : Course) (a : Axis) → IsUnderWay n course a →
-    IsByFate a (λ f x. Carried n 0 course (turn_of f) x)
-carried_by laws n course a h = record {
+carried_by : ArrivalLaws → (n : ℕ) (course : Course) (a : Axis) (ws : List Wanted) →
+    IsUnderWay n course a → IsByFate a ws (λ f x us. Carried n 0 course (turn_of f) x)
+carried_by laws n course a ws h = record {
   rests = on_it n course a h;
-  path = λ on x g. record {
+  path = λ on x us g. record {
     left = g.left;
     sum = g.sum;
     under_way =
@@ -153,24 +180,69 @@ carried_by laws n course a h = record {
   };
   detach = λ owner. on_it n course (axis_without_owner owner a)
       (laws.courses.detach n course owner a h);
-  power = λ enable c e. laws.courses.power n course enable c
+  power = λ enable c e _. laws.courses.power n course enable c
       (subst (IsUnderWay n course) (sym e) h);
-  command = λ owner q c e. laws.courses.command n course q c
+  command = λ owner q c e _. laws.courses.command n course q c
       (subst (IsUnderWay n course) (sym e) (laws.courses.detach n course owner a h));
 }
+
+-- so is a blended move, with the one behind it
+blend_on_it : (n : ℕ) (a : Axis) (ws : List Wanted) → IsBlending n a ws → BlendingGoesOn n 0 a ws
+blend_on_it n a ws h = record { left = n; sum = omega arith; under_way = h }
+
+blend_led_on : (n : ℕ) (on : Bool) (a : Axis) (ws : List Wanted) → IsBlending n a ws →
+    IsBlending n (axis_on_path on a) ws
+unfolding axis_on_path
+blend_led_on n on a ws h = record {
+  first = h.first;
+  second = h.second;
+  active = h.active;
+  move = h.move;
+  next = h.next;
+  run = h.run;
+}
+
+blended_by : ArrivalLaws → (n : ℕ) (a : Axis) (ws : List Wanted) → IsBlending n a ws →
+    IsByFate a ws (λ f x us. BlendingCarried n 0 f.ends x us)
+blended_by laws n a ws h =
+    let freed : (owner : ℕ) → IsBlending n (axis_without_owner owner a) (map (detached owner) ws) =
+    λ owner. laws.blends.detach n owner (record { axis = a; waiting = ws; notes = [] }) h in
+    record {
+      rests = blend_on_it n a ws h;
+      path = λ on x us g. record {
+        left = g.left;
+        sum = g.sum;
+        under_way = blend_led_on g.left on x us g.under_way;
+      };
+      detach = λ owner. blend_on_it n (axis_without_owner owner a) (map (detached owner) ws)
+          (freed owner);
+      power = λ enable c e w. laws.blends.power n enable c
+          (subst (IsBlending n c.axis) (sym w) (subst (λ x. IsBlending n x ws) (sym e) h));
+      command = λ owner q c e w. laws.blends.command n q c
+          (subst (IsBlending n c.axis) (sym w)
+          (subst (λ x. IsBlending n x (map (detached owner) ws)) (sym e) (freed owner)));
+    }
 
 -- how an axis of a kept machine goes through a cycle of its history
 through : ArrivalLaws → (s : Setup) (m : Machine) (ins : List DriveIn) (n : ℕ) → IsMachineKept s m →
     n < length m.axes → GoesThrough s m ins n (look_of_axis s m ins n)
 through laws s m ins n h l = goes_through s m ins n h (laws.machines.may_go_on s m ins h) l
 
+-- an axis of a kept machine has its list
+is_there : (s : Setup) (m : Machine) (n : ℕ) → IsMachineKept s m → n < length m.axes → IsThere m n
+is_there s m n h l =
+    let sizes = h.sized in
+    let axes = sizes.axes in
+    let lists = sizes.queues in
+    record { axis = l; list = omega arith }
+
 -- what an entry makes of an axis goes with its fate
 fate_shown : ArrivalLaws → (s : Setup) (m : Machine) (e : Entry) (n : ℕ) → IsMachineKept s m →
     n < length m.axes →
     IsFate (axis_fate s m e n) (axis_at m n).active (axis_at (after s m e) n).active
 fate_shown laws s m (call k i reply) n h l =
-    by_call (λ f x. IsFate f (axis_at m n).active x.active) s m k i n (fates_by laws (axis_at m n))
-    l
+    by_call (λ f x us. IsFate f (axis_at m n).active x.active) s m k i n
+    (fates_by laws (axis_at m n) (queue_of m.queues n)) (is_there s m n h l)
 fate_shown laws s m (cycle c rows grows) n h l =
     let look = look_of_axis s m (inputs_of rows) n in
     subst (λ (a : Axis). IsFate (cycle_fate look (axis_core_at m n)) (axis_at m n).active a.active)
@@ -183,8 +255,8 @@ carried_on : ArrivalLaws → (s : Setup) (m : Machine) (e : Entry) (n most : ℕ
     IsUnderWay most course (axis_at m n) → Carried most (cycle_count e) course
     (turn_of (axis_fate s m e n)) (axis_at (after s m e) n)
 carried_on laws s m (call k i reply) n most course h l u =
-    by_call (λ f x. Carried most 0 course (turn_of f) x) s m k i n
-    (carried_by laws most course (axis_at m n) u) l
+    by_call (λ f x us. Carried most 0 course (turn_of f) x) s m k i n
+    (carried_by laws most course (axis_at m n) (queue_of m.queues n) u) (is_there s m n h l)
 carried_on laws s m (cycle c rows grows) n most course h l u =
     let look = look_of_axis s m (inputs_of rows) n in
     let goes = through laws s m (inputs_of rows) n h l in
@@ -192,25 +264,57 @@ carried_on laws s m (cycle c rows grows) n most course h l u =
     (laws.courses.cycle most course look (axis_core_at m n) goes.kept u)
 carried_on laws s m (end_of task) n most course h l u = on_it most course (axis_at m n) u
 
+blended_on : ArrivalLaws → (s : Setup) (m : Machine) (e : Entry) (n most : ℕ) →
+    IsMachineKept s m → n < length m.axes →
+    IsBlending most (axis_at m n) (queue_of m.queues n) → BlendingCarried most (cycle_count e)
+    (axis_fate s m e n).ends (axis_at (after s m e) n) (queue_of (after s m e).queues n)
+blended_on laws s m (call k i reply) n most h l u =
+    by_call (λ f x us. BlendingCarried most 0 f.ends x us) s m k i n
+    (blended_by laws most (axis_at m n) (queue_of m.queues n) u) (is_there s m n h l)
+blended_on laws s m (cycle c rows grows) n most h l u =
+    let look = look_of_axis s m (inputs_of rows) n in
+    let goes = through laws s m (inputs_of rows) n h l in
+    let f = cycle_fate look (axis_core_at m n) in
+    let d = core_after_cycle look (axis_core_at m n) in
+    subst (BlendingCarried most 1 f.ends (axis_at (after_cycle s m (inputs_of rows)) n))
+    (sym goes.waiting)
+    (subst (λ (a : Axis). BlendingCarried most 1 f.ends a d.waiting) (sym goes.after)
+    (laws.blends.cycle most look (axis_core_at m n) goes.kept u))
+blended_on laws s m (end_of task) n most h l u =
+    blend_on_it most (axis_at m n) (queue_of m.queues n) u
+
+-- what is under way in a machine is turned by an entry, or goes on with fewer cycles to go
+record GoesOnIn (U : ℕ → Machine → Type 0) (n c : ℕ) (m : Machine) : Type 0 where
+  left : ℕ
+  sum : c + left ≡ n
+  under_way : U left m
+
+abbrev CarriedIn : (ℕ → Machine → Type 0) → (Turn → Machine → Type 0) → ℕ → ℕ → Option Turn →
+    Machine → Type 0
+CarriedIn U holds n c (Some t) m = (c ≤ n) × holds t m
+CarriedIn U holds n c None m = GoesOnIn U n c m
+
+-- every entry does so
+abbrev IsCarried : Setup → ℕ → (Fate → Option Turn) → (ℕ → Machine → Type 0) →
+    (Turn → Machine → Type 0) → Type 0
+IsCarried s n turn U holds = (m : Machine) (e : Entry) (most : ℕ) → IsMachineKept s m →
+    n < length m.axes → U most m →
+    CarriedIn U holds most (cycle_count e) (turn (axis_fate s m e n)) (after s m e)
+
 -- a turn later
-later_on : (c left most : ℕ) (course : Course) (n : ℕ) (m : Machine) (later : Option Turned) →
-    c + left ≡ most → IsTurnedWithin left course n later →
-    IsTurnedWithin most course n (turned_by None c m later)
-later_on c left most course n m None sum h = h
-later_on c left most course n m (Some t) sum h = let l = h.0 in (omega arith, h.1)
+later_on : (c left most : ℕ) (holds : Turn → Machine → Type 0) (m : Machine)
+    (later : Option Turned) → c + left ≡ most → IsWithin left holds later →
+    IsWithin most holds (turned_by None c m later)
+later_on c left most holds m None sum h = h
+later_on c left most holds m (Some t) sum h = let l = h.0 in (omega arith, h.1)
 
-turns : (most c : ℕ) (course : Course) (n : ℕ) (m : Machine) (later : Option Turned)
-    (t : Option Turn) → Carried most c course t (axis_at m n) →
-    ((left : ℕ) → c + left ≡ most → IsUnderWay left course (axis_at m n) →
-    IsTurnedWithin left course n later) → IsTurnedWithin most course n (turned_by t c m later)
-turns most c course n m later (Some t) h behind = h
-turns most c course n m later None h behind = later_on c h.left most course n m later h.sum
-    (behind h.left h.sum h.under_way)
-
--- no course has no cycles to go
-runs : (course : Course) (a : Axis) → IsUnderWay 0 course a → ⊥
-runs (toward target rates) a h = h.run
-runs (slowing d) a h = h.run
+turns : (U : ℕ → Machine → Type 0) (holds : Turn → Machine → Type 0) (most c : ℕ) (m : Machine)
+    (later : Option Turned) (t : Option Turn) → CarriedIn U holds most c t m →
+    ((left : ℕ) → c + left ≡ most → U left m → IsWithin left holds later) →
+    IsWithin most holds (turned_by t c m later)
+turns U holds most c m later (Some t) h behind = h
+turns U holds most c m later None h behind =
+    later_on c h.left most holds m later h.sum (behind h.left h.sum h.under_way)
 
 -- the machine after an entry is kept, and has as many axes
 kept_after : ArrivalLaws → (s : Setup) (cycles : ℕ) (m : Machine) (e : Entry) → AreWhole s →
@@ -218,21 +322,69 @@ kept_after : ArrivalLaws → (s : Setup) (cycles : ℕ) (m : Machine) (e : Entry
 kept_after laws s cycles m e whole h is = replay_kept laws.machines s cycles m (e ∷ []) whole h
     (is, tt)
 
+-- so what is under way is turned in time
+turned_in_time : ArrivalLaws → (s : Setup) (turn : Fate → Option Turn) (U : ℕ → Machine → Type 0)
+    (holds : Turn → Machine → Type 0) (n : ℕ) → ((m : Machine) → U 0 m → ⊥) →
+    IsCarried s n turn U holds → (cycles : ℕ) (m : Machine) (es : List Entry) (most : ℕ) →
+    AreWhole s → IsMachineKept s m → Follows s cycles m es → n < length s.axes → U most m →
+    most ≤ cycles_of es → IsWithin most holds (turned_by_fates turn s n m es)
+turned_in_time laws s turn U holds n none on cycles m [] zero whole h f l u b = absurd (none m u)
+turned_in_time laws s turn U holds n none on cycles m [] (suc most) whole h f l u b =
+    absurd (omega arith)
+turned_in_time laws s turn U holds n none on cycles m (e ∷ es) most whole h f l u b =
+    let sizes = h.sized in
+    let size = sizes.axes in
+    let next = kept_after laws s cycles m e whole h f.0 in
+    turns U holds most (cycle_count e) (after s m e) (turned_by_fates turn s n (after s m e) es)
+    (turn (axis_fate s m e n)) (on m e most h (omega arith) u)
+    (λ left sum under. turned_in_time laws s turn U holds n none on (cycles + cycle_count e)
+    (after s m e) es left whole next f.1 l under (omega arith))
+
+-- no course has no cycles to go
+runs : (course : Course) (a : Axis) → IsUnderWay 0 course a → ⊥
+runs (toward target rates) a h = h.run
+runs (slowing d) a h = h.run
+
+course_carried : (n c : ℕ) (course : Course) (k : ℕ) (t : Option Turn) (m : Machine) →
+    Carried n c course t (axis_at m k) →
+    CarriedIn (λ left x. IsUnderWay left course (axis_at x k))
+    (λ t x. IsTurn t course (axis_at x k)) n c t m
+course_carried n c course k (Some t) m h = h
+course_carried n c course k None m h =
+    record { left = h.left; sum = h.sum; under_way = h.under_way }
+
 -- a command that is under way is turned in time
 arrives : ArrivalLaws → (s : Setup) (cycles : ℕ) (m : Machine) (es : List Entry) (n most : ℕ)
     (course : Course) → AreWhole s → IsMachineKept s m →
     Follows s cycles m es → n < length s.axes → IsUnderWay most course (axis_at m n) →
     most ≤ cycles_of es → IsTurnedWithin most course n (turned_in s n m es)
-arrives laws s cycles m [] n zero course whole h f l u b = absurd (runs course (axis_at m n) u)
-arrives laws s cycles m [] n (suc most) course whole h f l u b = absurd (omega arith)
-arrives laws s cycles m (e ∷ es) n most course whole h f l u b =
-    let sizes = h.sized in
-    let size = sizes.axes in
-    let next = kept_after laws s cycles m e whole h f.0 in
-    turns most (cycle_count e) course n (after s m e) (turned_in s n (after s m e) es)
-    (turn_of (axis_fate s m e n)) (carried_on laws s m e n most course h (omega arith) u)
-    (λ left sum under. arrives laws s (cycles + cycle_count e) (after s m e) es n left course whole
-    next f.1 l under (omega arith))
+arrives laws s cycles m es n most course whole h f l u b =
+    turned_in_time laws s turn_of (λ left x. IsUnderWay left course (axis_at x n))
+    (λ t x. IsTurn t course (axis_at x n)) n (λ x g. runs course (axis_at x n) g)
+    (λ x e left kept there g. course_carried left (cycle_count e) course n
+    (turn_of (axis_fate s x e n)) (after s x e) (carried_on laws s x e n left course kept there g))
+    cycles m es most whole h f l u b
+
+-- a blended move of an axis is under way in a machine
+abbrev BlendsIn : ℕ → ℕ → Machine → Type 0
+BlendsIn n left m = IsBlending left (axis_at m n) (queue_of m.queues n)
+
+blend_carried : (n most c : ℕ) (f : Option Finish) (m : Machine) →
+    BlendingCarried most c f (axis_at m n) (queue_of m.queues n) →
+    CarriedIn (BlendsIn n) (λ t x. Unit {0}) most c (turn_by false f) m
+blend_carried n most c (Some f) m h = (h, tt)
+blend_carried n most c None m h =
+    record { left = h.left; sum = h.sum; under_way = h.under_way }
+
+-- and ends in time
+blend_ends : ArrivalLaws → (s : Setup) (cycles : ℕ) (m : Machine) (es : List Entry) (n most : ℕ) →
+    AreWhole s → IsMachineKept s m → Follows s cycles m es → n < length s.axes →
+    BlendsIn n most m → most ≤ cycles_of es → IsEndedWithin most (ended_in s n m es)
+blend_ends laws s cycles m es n most whole h f l u b =
+    turned_in_time laws s end_turn_of (BlendsIn n) (λ t x. Unit {0}) n (λ x g. g.run)
+    (λ x e left kept there g. blend_carried n left (cycle_count e) (axis_fate s x e n).ends
+    (after s x e) (blended_on laws s x e n left kept there g))
+    cycles m es most whole h f l u b
 
 -- the entries behind some follow the machine after these
 pub behind : (s : Setup) (cycles : ℕ) (m : Machine) (es fs : List Entry) →
@@ -296,13 +448,13 @@ power_not_done true c = goes_on_not_done
 power_not_done false c = by_if IsNotDone (is_error_stop c.axis.state) _ _ goes_on_not_done
     (replaced_not_done c.axis.active None)
 
-not_done_by : (a : Axis) → IsByFate a (λ f x. IsNotDone f)
-not_done_by a = record {
+not_done_by : (a : Axis) (ws : List Wanted) → IsByFate a ws (λ f x us. IsNotDone f)
+not_done_by a ws = record {
   rests = goes_on_not_done;
-  path = λ on x h. h;
+  path = λ on x us h. h;
   detach = λ owner. goes_on_not_done;
-  power = λ enable c e. power_not_done enable c;
-  command = λ owner q c e. command_not_done q c;
+  power = λ enable c e _. power_not_done enable c;
+  command = λ owner q c e _. command_not_done q c;
 }
 
 -- a move is Done at its target
@@ -312,7 +464,8 @@ done_there : ArrivalLaws → (s : Setup) (m : Machine) (e : Entry) (n : ℕ) (w 
     IsMoveDone (blended_with (axis_at m n) w (slice_get (axis_core_at m n).waiting 0)) (target_of w)
     (axis_at m n).setpoint (axis_at (after s m e) n)
 done_there laws s m (call k i reply) n w h l active move done =
-    absurd (by_call (λ f x. IsNotDone f) s m k i n (not_done_by (axis_at m n)) l done)
+    absurd (by_call (λ f x us. IsNotDone f) s m k i n
+    (not_done_by (axis_at m n) (queue_of m.queues n)) (is_there s m n h l) done)
 done_there laws s m (cycle c rows grows) n w h l active move done =
     let look = look_of_axis s m (inputs_of rows) n in
     let goes = through laws s m (inputs_of rows) n h l in
@@ -343,6 +496,16 @@ motion_kept laws s cycles m e more n whole h f l =
           arrives laws s (cycles + cycle_count e) (after s m e) more n
           (bound_of course (axis_at (after s m e) n)) course whole next f.1 l under most;
       done = λ w active move done. done_there laws s m e n w h here active move done;
+      crosses = λ w second blended has most.
+          blend_ends laws s (cycles + cycle_count e) (after s m e) more n
+          (cycles_to_cross w (axis_at (after s m e) n)) whole next f.1 l
+          (laws.blends.crosses (axis_core_at (after s m e) n) w second (next.axes n there).core
+          blended has) most;
+      ends = λ w second blended most.
+          blend_ends laws s (cycles + cycle_count e) (after s m e) more n
+          (cycles_of_blend w (axis_at (after s m e) n)) whole next f.1 l
+          (laws.blends.ends (axis_core_at (after s m e) n) w second (next.axes n there).core
+          blended) most;
     }
 
 -- and so each entry of a legal history

@@ -1,8 +1,10 @@
 -- When the commands of axes come to their end (PLCopen Motion Control Part 1, Done).
 use Rattle.std.specs.Prelude.{◌≡◌, ℕ, ◌+◌, ◌<◌, ◌≤◌, true, Option, Some, None, option_map, List, [], ◌∷◌, ◌++◌, length, slice_get}
-use Rattle.axis_core.specs.Arrivals.{Course, IsMoveDone, IsTurn, Turn, bound_of, course_of, turn_of}
-use Rattle.axis_core.specs.Fates.{IsFate}
+use Rattle.axis_core.specs.Arrivals.{Course, IsMoveDone, IsTurn, Turn, bound_of, course_of, end_turn_of, turn_of}
+use Rattle.axis_core.specs.Blended.{HasStep, IsBlended, cycles_of_blend, cycles_to_cross}
+use Rattle.axis_core.specs.Fates.{Fate, IsFate}
 use Rattle.axis_core.specs.blocks.Moves.{blended_with, is_move, target_of}
+use Rattle.axis_core.specs.declared.blocks.moves.SecondMove.{SecondMove}
 use Rattle.command_pool.specs.declared.ending.Finish.TheVariants as finish
 use Rattle.command_pool.specs.declared.wanted.Wanted.{Wanted}
 use Rattle.motion_history.specs.Entries.{Entry, cycle_count, cycles_of}
@@ -24,19 +26,35 @@ turned_by (Some t) cycles m later = Some (record { cycles = cycles; turn = t; ma
 turned_by None cycles m later =
     option_map (λ (t : Turned). record t { cycles = cycles + t.cycles }) later
 
--- the first turn of the active command of an axis in some entries, if it has one there
+-- the first turn of the active command of an axis in some entries, if it has one there, where its
+-- fate in each tells of one
+abbrev pub turned_by_fates : (Fate → Option Turn) → Setup → ℕ → Machine → List Entry → Option Turned
+turned_by_fates turn s n m [] = None
+turned_by_fates turn s n m (e ∷ es) =
+    turned_by (turn (axis_fate s m e n)) (cycle_count e) (after s m e)
+    (turned_by_fates turn s n (after s m e) es)
+
 abbrev pub turned_in : Setup → ℕ → Machine → List Entry → Option Turned
-turned_in s n m [] = None
-turned_in s n m (e ∷ es) =
-    turned_by (turn_of (axis_fate s m e n)) (cycle_count e) (after s m e)
-    (turned_in s n (after s m e) es)
+turned_in s n m es = turned_by_fates turn_of s n m es
+
+-- its end, by which it is Done, aborted or faulted: that it is blended is none
+abbrev pub ended_in : Setup → ℕ → Machine → List Entry → Option Turned
+ended_in s n m es = turned_by_fates end_turn_of s n m es
+
+-- there is a turn, within so many cycles, of which this holds
+abbrev pub IsWithin : ℕ → (Turn → Machine → Type 0) → Option Turned → Type 0
+IsWithin most holds None = ⊥
+IsWithin most holds (Some t) = (t.cycles ≤ most) × holds t.turn t.machine
 
 -- there is a turn, within so many cycles; where the command is then Done, the axis is at the end of
 -- its course: at rest, and at the target if it has one
 abbrev pub IsTurnedWithin : ℕ → Course → ℕ → Option Turned → Type 0
-IsTurnedWithin most course n None = ⊥
-IsTurnedWithin most course n (Some t) =
-    (t.cycles ≤ most) × IsTurn t.turn course (axis_at t.machine n)
+IsTurnedWithin most course n turned =
+    IsWithin most (λ (t : Turn) (m : Machine). IsTurn t course (axis_at m n)) turned
+
+-- there is an end, within so many cycles
+abbrev pub IsEndedWithin : ℕ → Option Turned → Type 0
+IsEndedWithin most ended = IsWithin most (λ (t : Turn) (m : Machine). Unit {0}) ended
 
 -- what an entry makes of the active command of an axis, with the entries behind it
 pub record KeepsMotion (s : Setup) (m : Machine) (e : Entry) (more : List Entry) (n : ℕ)
@@ -54,6 +72,19 @@ pub record KeepsMotion (s : Setup) (m : Machine) (e : Entry) (more : List Entry)
       let c = axis_core_at m n in
       IsMoveDone (blended_with c.axis w (slice_get c.waiting 0)) (target_of w) c.axis.setpoint
       (axis_at (after s m e) n)
+  -- a blended move ends, where a step may follow in its blend, within as many cycles as its target
+  -- is units away, and one, where there are so many: it crosses or stands there, or is aborted or
+  -- faulted
+  pub crosses : (w : Wanted) (second : SecondMove) →
+      let c = axis_core_at (after s m e) n in
+      IsBlended w second c.axis c.waiting → HasStep w second c.axis →
+      cycles_to_cross w c.axis ≤ cycles_of more →
+      IsEndedWithin (cycles_to_cross w c.axis) (ended_in s n (after s m e) more)
+  -- and none hangs: each ends within the bound of its blend
+  pub ends : (w : Wanted) (second : SecondMove) →
+      let c = axis_core_at (after s m e) n in
+      IsBlended w second c.axis c.waiting → cycles_of_blend w c.axis ≤ cycles_of more →
+      IsEndedWithin (cycles_of_blend w c.axis) (ended_in s n (after s m e) more)
 
 -- so it is of each entry of a history and each axis
 abbrev pub MovesArrive : Setup → List Entry → Type 0

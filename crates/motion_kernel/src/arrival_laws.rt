@@ -11,7 +11,8 @@ ghost use Rattle.motion_kernel.specs.MachineKept.{AreWhole};
 
 use crate::laws::machines_stay_kept;
 use axis_core::{
-    courses_end_in_time, fates_are_told, moves_are_done_at_their_targets, paths_are_followed,
+    blended_moves_end_in_time, courses_end_in_time, fates_are_told,
+    moves_are_done_at_their_targets, paths_are_followed,
 };
 use group_core::lines_lead_to_their_targets;
 
@@ -23,7 +24,10 @@ use group_core::lines_lead_to_their_targets;
 /// and how it moved; or, for a Halt and a Stop, at rest, within |step| / Deceleration + 1 cycles.
 /// What happens to other axes and blocks, and what the drives answer, changes nothing of that. A
 /// move is Done at its target alone; a blended one there, or by a step of at most the blend
-/// velocity that crosses it.
+/// velocity that crosses it. And no blended move hangs: wherever a blend applies after an entry,
+/// and the history has as many cycles behind it as the blend's bound, the move is Done within
+/// these, or was aborted or faulted; where the blend has a step, its bound is as many cycles as the
+/// target is units away, and one.
 pub fn moves_arrive_in_time()
     ensures moves { (s : Setup) (es : List Entry) → IsSetup s → AreWhole s → IsLegal s es →
         MovesArrive s es }
@@ -31,6 +35,7 @@ pub fn moves_arrive_in_time()
     machines_stay_kept();
     fates_are_told();
     courses_end_in_time();
+    blended_moves_end_in_time();
     moves_are_done_at_their_targets();
 }
 

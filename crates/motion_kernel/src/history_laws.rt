@@ -17,8 +17,8 @@ use crate::result_laws::results_are_told;
 /// axis and each group. Each entry keeps the laws of entries: a refused call changes nothing but its
 /// own instance, each reply tells one result, the states follow their diagrams, and commands are
 /// where their instances show. Each move, Halt and Stop of an axis, and each line, GroupHalt and
-/// GroupStop of a group, comes to its end in time; and each end is told to the instance whose
-/// command it was, and to no other.
+/// GroupStop of a group, comes to its end in time, and no blended move hangs; and each end is told
+/// to the instance whose command it was, and to no other.
 pub fn histories_keep_their_laws()
     ensures { (s : Setup) (es : List Entry) → IsSetup s → AreWhole s → IsLegal s es →
         KeepsLaws s es }

@@ -5,3 +5,4 @@ pub mod TakenMoves
 pub mod Headings
 pub mod Arrivals
 pub mod Rests
+pub mod Bounds

@@ -99,6 +99,15 @@ pub fn moves_arrive_in_time()
     safe_steps_lead_on();
 }
 
+/// A move whose way is no longer and whose step is no faster has no greater bound of cycles.
+pub fn cycles_bounds_grow()
+    ensures { (x y v w : ℤ) (rates : Rates) → AreRates rates →
+        unsigned_abs x ≤ unsigned_abs y → unsigned_abs v ≤ unsigned_abs w →
+        cycles_bound_of x v rates ≤ cycles_bound_of y w rates }
+{
+    ways_to_rest();
+}
+
 /// From every kept pair a halt by a deceleration within the limits has step 0 within the cycles
 /// that the deceleration takes, and one.
 pub fn halts_come_to_rest_in_time()

@@ -15,8 +15,8 @@ pub use command_pool::Rates;
 pub use cycles::cycles_bound;
 pub use halts::halt_step;
 pub use laws::{
-    halts_come_to_rest_in_time, move_steps_are_greatest, move_steps_are_safe, moves_arrive_in_time,
-    moves_head_for_their_targets, moves_that_head_away_brake,
+    cycles_bounds_grow, halts_come_to_rest_in_time, move_steps_are_greatest, move_steps_are_safe,
+    moves_arrive_in_time, moves_head_for_their_targets, moves_that_head_away_brake,
 };
 pub use moves::{move_step, move_step_counted};
 pub use ramp_root::reach;

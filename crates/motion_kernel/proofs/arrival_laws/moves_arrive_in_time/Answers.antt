@@ -28,6 +28,14 @@ laws c = record {
     detach = c.courses_end_in_time.ensures.detach;
     cycle = c.courses_end_in_time.ensures.cycle;
   };
+  blends = record {
+    crosses = c.blended_moves_end_in_time.ensures.crosses;
+    ends = c.blended_moves_end_in_time.ensures.ends;
+    command = c.blended_moves_end_in_time.ensures.command;
+    power = c.blended_moves_end_in_time.ensures.power;
+    detach = c.blended_moves_end_in_time.ensures.detach;
+    cycle = c.blended_moves_end_in_time.ensures.cycle;
+  };
   moves = c.moves_are_done_at_their_targets.ensures;
 }
 
