@@ -1,11 +1,10 @@
 -- A history that is kept in arrays grows at its end.
-use Rattle.std.specs.Prelude.{◌≡◌, ℕ, ◌+◌, ◌-◌, ◌*◌, ◌<◌, ◌≤◌, zero, suc, List, [], ◌∷◌, ◌++◌, drop, length, refl, slice_get, Some}
+use Rattle.std.specs.Prelude.{◌≡◌, ℕ, ◌+◌, ◌-◌, ◌*◌, ◌<◌, ◌≤◌, zero, suc, List, [], ◌∷◌, ◌++◌, drop, length, take, refl, slice_get, Some}
 use Rattle.std.specs.Option.{option_map}
 use Rattle.std.specs.List.{AllByRecursion}
 use Rattle.std.proofs.Common.{◌∙◌, sym, ap, subst, arith}
 use Rattle.std.proofs.Math.Nat.{mul-le-mul_right}
-use Rattle.std.proofs.Math.Seq.{take-length, drop-append_seam}
-use Rattle.std.proofs.lemmas.List.{map-append, length-map, length-drop, drop-append-le, take-append-le}
+use Rattle.std.proofs.lemmas.List.{map-append, length-map, length-drop, drop-append-le, take-append-le, take_all}
 use Rattle.std.proofs.lemmas.Option.{slice_get-map}
 use Rattle.axis_state.specs.declared.definition.AxisRow.{AxisRow}
 use Rattle.group_state.specs.declared.state.GroupRow.{GroupRow}
@@ -67,7 +66,7 @@ add_sub : (made : ℕ) → made + 1 - 1 ≡ made
 add_sub made = omega arith
 
 -- the rows of a cycle that was made stay where they are
-rows_at-more : {X : Type 0} (width n made : ℕ) (rows more : List X) → 1 ≤ n → n ≤ made → length rows ≡ made * width →
+rows_at-more : {X : Type 0} (width n made : ℕ) (rows more : List X) → 1 ≤ n → n ≤ made → made * width ≤ length rows →
     rows_at width n (rows ++ more) ≡ rows_at width n rows
 rows_at-more width n made rows more some there len =
     let whole : n * width ≤ made * width = mul-le-mul_right width there in
@@ -78,12 +77,11 @@ rows_at-more width n made rows more some there len =
     let enough : width ≤ length (drop ((n - 1) * width) rows) = omega arith in
     rw d (take-append-le width _ more enough)
 
--- the rows of the next cycle stand behind all others
-pub rows_at-next : {X : Type 0} (width made : ℕ) (rows more : List X) → length rows ≡ made * width → length more ≡ width →
-    rows_at width (made + 1) (rows ++ more) ≡ more
-rows_at-next width made rows more len same =
-    let first : (made + 1 - 1) * width ≡ length rows = ap (λ k. k * width) (add_sub made) ∙ sym len in
-    rw (first, drop-append_seam rows more, ← same) (take-length more)
+-- the rows of the next cycle are all that stand behind those of the cycles before
+pub rows_at-next : {X : Type 0} (width made : ℕ) (rows : List X) → length (drop (made * width) rows) ≡ width →
+    rows_at width (made + 1) rows ≡ drop (made * width) rows
+rows_at-next width made rows len =
+    ap (λ k. take width (drop (k * width) rows)) (add_sub made) ∙ take_all width (drop (made * width) rows) (omega arith)
 
 -- a store that has what another has, and more behind it
 pub record Extends (s more : Store) (called made : ℕ) : Type 0 where
@@ -94,10 +92,10 @@ pub record Extends (s more : Store) (called made : ℕ) : Type 0 where
   pub few_calls : called ≤ length s.calls
   pub new_axes : List AxisRow
   pub axis_rows : more.axis_rows ≡ s.axis_rows ++ new_axes
-  pub all_axes : length s.axis_rows ≡ made * s.axes
+  pub all_axes : made * s.axes ≤ length s.axis_rows
   pub new_groups : List GroupRow
   pub group_rows : more.group_rows ≡ s.group_rows ++ new_groups
-  pub all_groups : length s.group_rows ≡ made * s.groups
+  pub all_groups : made * s.groups ≤ length s.group_rows
 
 -- an element that is there stays where more stand behind
 slice_get-front : {X : Type 0} (xs ys : List X) (i : ℕ) → i < length xs → slice_get (xs ++ ys) i ≡ slice_get xs i

@@ -28,11 +28,13 @@ abbrev pub CyclesAddUp : Type 0
 CyclesAddUp = (es : List Entry) (e : Entry) →
     cycles_of (es ++ e ∷ []) ≡ cycles_of es + cycle_count e
 
--- a history: the number of its axes and groups, its room for entries and for cycles, and its
--- entries
+-- a history: the number of its axes and groups, its room for entries and for cycles, its entries,
+-- and the rows that a cycle in the making has so far
 pub record HistoryState : Type 0 where
   pub axes : ℕ
   pub groups : ℕ
   pub room : ℕ
   pub cycles : ℕ
   pub entries : List Entry
+  pub rows : List AxisRow
+  pub group_rows : List GroupRow

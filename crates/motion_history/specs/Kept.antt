@@ -1,6 +1,6 @@
 -- How a history is kept: the entries in one array, the calls and the rows of all cycles in three
--- others.
-use Rattle.std.specs.Prelude.{◌≡◌, ◌≤◌, ◌*◌, vec_len, vec_capacity}
+-- others, the last with those of a cycle in the making.
+use Rattle.std.specs.Prelude.{◌≡◌, ◌≤◌, ◌*◌, drop, vec_len, vec_capacity}
 use Rattle.std.specs.List.{AllByRecursion}
 use Rattle.motion_history.specs.declared.history.History.TheInside.{Inside}
 use Rattle.motion_history.specs.Entries.{cycles_of, HistoryState}
@@ -24,6 +24,8 @@ state_of h = record {
   room = h.room;
   cycles = h.most;
   entries = entries_of (store_of h) h.stored.items;
+  rows = drop (h.made * h.axes) h.axis_rows.items;
+  group_rows = drop (h.made * h.groups) h.group_rows.items;
 }
 
 -- the arrays have room for all that may come, and hold what the entries do
@@ -32,9 +34,9 @@ pub record IsKept (h : Inside) : Type 0 where
   pub stored_room : h.room ≤ vec_capacity h.stored
   pub calls : vec_len h.calls ≤ vec_len h.stored
   pub calls_room : h.room ≤ vec_capacity h.calls
-  pub axis_rows : vec_len h.axis_rows ≡ h.made * h.axes
+  pub axis_rows : h.made * h.axes ≤ vec_len h.axis_rows
   pub axis_room : h.most * h.axes ≤ vec_capacity h.axis_rows
-  pub group_rows : vec_len h.group_rows ≡ h.made * h.groups
+  pub group_rows : h.made * h.groups ≤ vec_len h.group_rows
   pub group_room : h.most * h.groups ≤ vec_capacity h.group_rows
   pub made : h.made ≤ h.most
   pub cycles : h.made ≡ cycles_of (entries_of (store_of h) h.stored.items)

@@ -1,6 +1,6 @@
 // The history of a kernel: each call, cycle and end of a task, in room that is reserved at opening.
 
-ghost use Rattle.std.specs.Prelude.{◌≡◌, ◌<◌, ◌≤◌, ◌+◌, ◌-◌, ◌*◌, ◌++◌, ◌∷◌, [], IfOk, length, vec_len, vec_capacity, slice_get};
+ghost use Rattle.std.specs.Prelude.{◌≡◌, ◌<◌, ◌≤◌, ◌+◌, ◌-◌, ◌*◌, ◌++◌, ◌∷◌, [], IfOk, length, slice_get};
 ghost use Rattle.std.specs.Option.{option_map};
 ghost use Rattle.motion_history.specs.Entries.{call, cycle, end_of, cycles_of, HistoryState};
 ghost use Rattle.motion_history.specs.Looks.{told};
@@ -87,6 +87,8 @@ impl History {
           room = config.now.entries;
           cycles = config.now.cycles;
           entries = [];
+          rows = [];
+          group_rows = [];
         }) }
     {
         reserved(alloc, config).map_err(|_| OutOfMemory)
@@ -108,20 +110,38 @@ impl History {
         self.stored.push_reserved(Stored::Call { place });
     }
 
-    /// Adds a cycle with one row per axis and one per group.
-    pub fn record_cycle(&mut self, axes: &[AxisRow], groups: &[GroupRow])
+    /// Adds the row of one axis more to a cycle in the making.
+    pub fn push_row(&mut self, row: AxisRow)
+        requires cycle { cycles_of self.old.entries < self.old.cycles }
+        requires room { length self.old.rows < self.old.axes }
+        ensures { self.new ≡ record self.old { rows = self.old.rows ++ row ∷ [] } }
+    {
+        self.axis_rows.push_reserved(row);
+    }
+
+    /// Adds the row of one group more to a cycle in the making.
+    pub fn push_group_row(&mut self, row: GroupRow)
+        requires cycle { cycles_of self.old.entries < self.old.cycles }
+        requires room { length self.old.group_rows < self.old.groups }
+        ensures { self.new ≡ record self.old { group_rows = self.old.group_rows ++ row ∷ [] } }
+    {
+        self.group_rows.push_reserved(row);
+    }
+
+    /// Adds the cycle in the making, which has one row per axis and one per group.
+    pub fn record_cycle(&mut self)
         requires room { length self.old.entries < self.old.room }
         requires cycle { cycles_of self.old.entries < self.old.cycles }
-        requires axes { length axes.now ≡ self.old.axes }
-        requires groups { length groups.now ≡ self.old.groups }
+        requires axes { length self.old.rows ≡ self.old.axes }
+        requires groups { length self.old.group_rows ≡ self.old.groups }
         ensures { self.new ≡ record self.old {
           entries = self.old.entries ++
-              cycle (cycles_of self.old.entries + 1) axes.now groups.now ∷ [];
+              cycle (cycles_of self.old.entries + 1) self.old.rows self.old.group_rows ∷ [];
+          rows = [];
+          group_rows = [];
         } }
     {
         self.made += 1;
-        extend_within(&mut self.axis_rows, axes);
-        extend_within(&mut self.group_rows, groups);
         self.stored
             .push_reserved(Stored::Cycle { number: self.made });
     }
@@ -202,6 +222,8 @@ fn reserved(alloc: Global, config: &Config) -> Result<History, AllocError>
       room = config.now.entries;
       cycles = config.now.cycles;
       entries = [];
+      rows = [];
+      group_rows = [];
     }) }
 {
     let axes = config.axes().len();
@@ -219,16 +241,6 @@ fn reserved(alloc: Global, config: &Config) -> Result<History, AllocError>
         made: 0,
         most,
     })
-}
-
-// Puts rows behind those that are there, in room that is reserved.
-fn extend_within<T: Copy>(rows: &mut Vec<T>, more: &[T])
-    requires { vec_len rows.old + length more.now ≤ vec_capacity rows.old }
-    ensures items { rows.new.items ≡ rows.old.items ++ more.now }
-    ensures len { vec_len rows.new ≡ vec_len rows.old + length more.now }
-    ensures capacity { vec_capacity rows.old ≤ vec_capacity rows.new }
-{
-    let _ = rows.extend_from_slice(more);
 }
 
 // The rows of a cycle, counted from 1, where each cycle has so many.

@@ -109,11 +109,13 @@ fn tells_each_entry_at_its_place(rt: HostRuntime) -> Result<(), Fail> {
     assert!(rt; config.groups().len() == 0);
     assert!(rt; history.room_left() == 40 && history.cycles_left() == 20);
     history.record_call(0, &CALL, &REPLY);
-    history.record_cycle(&[row_at(2)], &[]);
+    history.push_row(row_at(2));
+    history.record_cycle();
     history.record_end(0);
     assert!(rt; history.room_left() == 37);
     assert!(rt; history.cycles_left() == 19);
-    history.record_cycle(&[row_at(6)], &[]);
+    history.push_row(row_at(6));
+    history.record_cycle();
     assert!(rt; history.room_left() == 36 && history.cycles_left() == 18);
     assert!(rt; is_call(history.look(0)));
     assert!(rt; is_cycle(history.look(1), 1, 2));

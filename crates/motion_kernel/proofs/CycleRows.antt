@@ -42,7 +42,7 @@ unfolding axes_cycled
 rows_count s zero around m = refl
 rows_count s (suc n) around m = one_more (axes_cycled s n around m).rows _ n (rows_count s n around m)
 
-grows_count : (s : Setup) (n : ℕ) (m : Machine) → length (groups_reset s n m).rows ≡ n
+pub grows_count : (s : Setup) (n : ℕ) (m : Machine) → length (groups_reset s n m).rows ≡ n
 unfolding groups_reset
 grows_count s zero m = refl
 grows_count s (suc n) m = one_more (groups_reset s n m).rows _ n (grows_count s n m)

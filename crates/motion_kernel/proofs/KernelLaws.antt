@@ -4,6 +4,7 @@ use Rattle.std.proofs.Common.{arith, ap, sym, subst, ◌∙◌}
 use Rattle.std.proofs.lemmas.List.{length_push}
 use Rattle.motion_history.specs.Entries.{CyclesAddUp, Entry, HistoryState, cycle_count, cycles_of}
 use Rattle.motion_history.specs.Setup.{Setup}
+use Rattle.motion_kernel.specs.Asides.{HasPlaces}
 use Rattle.motion_kernel.specs.Histories.{machine_after, Follows, IsLegal, IsOf, after, replay}
 use Rattle.motion_kernel.specs.KernelKept.{IsKernelKept, told_of}
 use Rattle.motion_kernel.specs.KernelState.{room_of}
@@ -41,9 +42,11 @@ pub kernel_opened : (k : Inside) → machine_of k.parts ≡ machine_at_opening k
   room = k.layout.entries;
   cycles = k.layout.cycles;
   entries = [];
-} → IsMachineKept k.layout (machine_at_opening k.layout) → AreWhole k.layout → AreMarked k.layout [] k.tasks.marks → IsKernelKept k
+  rows = [];
+  group_rows = [];
+} → HasPlaces k.layout k.aside → IsMachineKept k.layout (machine_at_opening k.layout) → AreWhole k.layout → AreMarked k.layout [] k.tasks.marks → IsKernelKept k
 unfolding machine_after
-kernel_opened k machine history kept whole marked =
+kernel_opened k machine history places kept whole marked =
     let none : k.history.entries ≡ [] = ap (λ (h : HistoryState). h.entries) history in
     let P : Machine → Type 0 = IsMachineKept k.layout in
     record {
@@ -56,18 +59,21 @@ kernel_opened k machine history kept whole marked =
         groups = ap (λ (h : HistoryState). h.groups) history;
         room = ap (λ (h : HistoryState). h.room) history;
         cycles = ap (λ (h : HistoryState). h.cycles) history;
+        rows = ap (λ (h : HistoryState). h.rows) history;
+        group_rows = ap (λ (h : HistoryState). h.group_rows) history;
       };
+      places = places;
       tasks = rw none marked;
     }
 
 -- a kernel with one more entry
 pub kernel_more : CyclesAddUp → (k next : Inside) (e : Entry) → IsKernelKept k → next.layout ≡ k.layout →
-    next.history ≡ record k.history { entries = k.history.entries ++ e ∷ [] } →
+    next.history ≡ record k.history { entries = k.history.entries ++ e ∷ [] } → HasPlaces k.layout next.aside →
     machine_of next.parts ≡ after k.layout (machine_of k.parts) e → IsOf k.layout (cycles_of k.history.entries) (machine_of k.parts) e →
     IsMachineKept k.layout (machine_of next.parts) → AreMarked k.layout (k.history.entries ++ e ∷ []) next.tasks.marks →
     length k.history.entries < k.layout.entries → cycles_of k.history.entries + cycle_count e ≤ k.layout.cycles → IsKernelKept next
 unfolding machine_after
-kernel_more add k next e kept layout history step is machine marked room cycles =
+kernel_more add k next e kept layout history places step is machine marked room cycles =
     let s = k.layout in
     let entries : next.history.entries ≡ k.history.entries ++ e ∷ [] = ap (λ (h : HistoryState). h.entries) history in
     let there : replay s (machine_at_opening s) k.history.entries ≡ machine_of k.parts = sym kept.replayed in
@@ -85,7 +91,10 @@ kernel_more add k next e kept layout history step is machine marked room cycles 
         groups = ap (λ (h : HistoryState). h.groups) history ∙ kept.room.groups ∙ ap (λ (x : Setup). length x.groups) (sym layout);
         room = ap (λ (h : HistoryState). h.room) history ∙ kept.room.room ∙ ap (λ (x : Setup). x.entries) (sym layout);
         cycles = ap (λ (h : HistoryState). h.cycles) history ∙ kept.room.cycles ∙ ap (λ (x : Setup). x.cycles) (sym layout);
+        rows = ap (λ (h : HistoryState). h.rows) history ∙ kept.room.rows;
+        group_rows = ap (λ (h : HistoryState). h.group_rows) history ∙ kept.room.group_rows;
       };
+      places = rw layout places;
       tasks = rw (entries, layout) marked;
     }
 

@@ -12,6 +12,7 @@ pub mod GroupDoneLaws
 pub mod GroupEndLaws
 pub mod DiagramLaws
 pub mod EntryLaws
+pub mod FinderLaws
 pub mod GroupParts
 pub mod HolderLaws
 pub mod KeptAxisCalls

@@ -2,6 +2,8 @@ pub mod Machine
 pub mod Members
 pub mod Telling
 pub mod Asking
+pub mod Asides
+pub mod Finders
 pub mod Laid
 pub mod Looks
 pub mod Calls

@@ -1,9 +1,10 @@
 // A cycle: what it makes of the groups, the axes and the instances.
 
-ghost use Rattle.std.specs.Prelude.{◌≡◌, ◌<◌, ℕ, length, map, pos, slice_index_or};
+ghost use Rattle.std.specs.Prelude.{◌≡◌, ◌<◌, ◌++◌, ◌∷◌, [], ℕ, length, map, pos, slice_index_or, slice_set};
 ghost use Rattle.axis_core.specs.declared.axis.Axis.{Axis};
 ghost use Rattle.axis_state.specs.declared.definition.AxisRow.{AxisRow};
 ghost use Rattle.group_core.specs.Cycles as group_spec;
+ghost use Rattle.motion_history.specs.Entries.{cycles_of};
 ghost use Rattle.motion_kernel.specs.Cycles as spec;
 ghost use Rattle.motion_kernel.specs.Looks as looks;
 ghost use Rattle.motion_kernel.specs.Machine.{axis_among, axis_at, group_core_at};
@@ -22,9 +23,10 @@ use crate::parts::Parts;
 use crate::telling::{is_held, tell};
 use axis_core::{AxisCore, AxisLook};
 use axis_state::AxisRow;
-use cia402_machine::DriveIn;
+use cia402_machine::{DriveIn, DriveOut};
 use command_pool::{Follow, Notes};
 use group_core::{GroupRow, GroupStep};
+use motion_history::History;
 
 // The drive's answer for an axis.
 fn answer_at(ins: &[DriveIn], axis: u8) -> DriveIn
@@ -56,6 +58,7 @@ fn first_error(members: &[u8], axes: &[AxisCore], ins: &[DriveIn]) -> u16
 }
 
 // A group takes its step.
+#[inline(never)]
 fn step_group(layout: &Layout, group: u8, ins: &[DriveIn], parts: &mut Parts) -> GroupStep
     requires sized { IsSized layout.now (machine_of parts.old) }
     requires there { group < length layout.now.groups }
@@ -199,23 +202,51 @@ fn cycle_axis(layout: &Layout, around: &Around, axis: u8, parts: &mut Parts) -> 
     row
 }
 
-/// All axes go through the cycle, one after another.
-pub fn cycle_axes(layout: &Layout, around: &Around, parts: &mut Parts, rows: &mut [AxisRow])
+// The row of an axis is the next of the history's, and its drive gets what it tells.
+fn put_row(row: AxisRow, axis: usize, history: &mut History, outs: &mut [DriveOut])
+    requires cycle { cycles_of history.old.entries < history.old.cycles }
+    requires room { length history.old.rows < history.old.axes }
+    requires out { axis < length outs.old }
+    ensures row { history.new ≡ record history.old { rows = history.old.rows ++ row ∷ [] } }
+    ensures out { outs.new ≡ slice_set outs.old axis row.output }
+{
+    outs[axis] = row.output;
+    history.push_row(row);
+}
+
+/// All axes go through the cycle, one after another: their rows are the history's, and their drives
+/// get what these tell.
+pub fn cycle_axes(
+    layout: &Layout,
+    around: &Around,
+    parts: &mut Parts,
+    history: &mut History,
+    outs: &mut [DriveOut],
+)
     requires sized { IsSized layout.now (machine_of parts.old) }
     requires may { MayGoOn layout.now (around_of around.now) (machine_of parts.old) }
-    requires rows { length rows.old ≡ length (machine_of parts.old).axes }
+    requires cycle { cycles_of history.old.entries < history.old.cycles }
+    requires none { history.old.rows ≡ [] }
+    requires rows { history.old.axes ≡ length (machine_of parts.old).axes }
+    requires outs { length outs.old ≡ length (machine_of parts.old).axes }
     ensures after { machine_of parts.new ≡ (spec.axes_cycled layout.now (length
         (machine_of parts.old).axes) (around_of around.now) (machine_of parts.old)).machine }
-    ensures rows { rows.new ≡ (spec.axes_cycled layout.now (length (machine_of parts.old).axes)
-        (around_of around.now) (machine_of parts.old)).rows }
+    ensures rows { history.new ≡ record history.old {
+      rows = (spec.axes_cycled layout.now (length (machine_of parts.old).axes)
+          (around_of around.now) (machine_of parts.old)).rows;
+    } }
+    ensures outs { outs.new ≡ map (λ (r : AxisRow). r.output) (spec.axes_cycled layout.now (length
+        (machine_of parts.old).axes) (around_of around.now) (machine_of parts.old)).rows }
     ensures sized { IsSized layout.now (machine_of parts.new) }
 {
     for axis in 0..parts.axes.len() {
-        rows[axis] = cycle_axis(layout, around, axis as u8, parts);
+        let row = cycle_axis(layout, around, axis as u8, parts);
+        put_row(row, axis, history, outs);
     }
 }
 
 // A pending GroupReset is done, where it may be; the row shows the group after it.
+#[inline(never)]
 fn reset_group(layout: &Layout, group: u8, parts: &mut Parts) -> GroupRow
     requires sized { IsSized layout.now (machine_of parts.old) }
     requires there { group < length layout.now.groups }
@@ -232,17 +263,22 @@ fn reset_group(layout: &Layout, group: u8, parts: &mut Parts) -> GroupRow
     row
 }
 
-/// All groups' pending GroupResets, one after another.
-pub fn reset_groups(layout: &Layout, parts: &mut Parts, rows: &mut [GroupRow])
+/// All groups' pending GroupResets, one after another: their rows are the history's.
+pub fn reset_groups(layout: &Layout, parts: &mut Parts, history: &mut History)
     requires sized { IsSized layout.now (machine_of parts.old) }
-    requires rows { length rows.old ≡ length (machine_of parts.old).groups }
+    requires cycle { cycles_of history.old.entries < history.old.cycles }
+    requires none { history.old.group_rows ≡ [] }
+    requires rows { history.old.groups ≡ length (machine_of parts.old).groups }
     ensures after { machine_of parts.new ≡ (spec.groups_reset layout.now (length
         (machine_of parts.old).groups) (machine_of parts.old)).machine }
-    ensures rows { rows.new ≡ (spec.groups_reset layout.now (length
-        (machine_of parts.old).groups) (machine_of parts.old)).rows }
+    ensures rows { history.new ≡ record history.old {
+      group_rows = (spec.groups_reset layout.now (length (machine_of parts.old).groups)
+          (machine_of parts.old)).rows;
+    } }
     ensures sized { IsSized layout.now (machine_of parts.new) }
 {
     for group in 0..parts.groups.len() {
-        rows[group] = reset_group(layout, group as u8, parts);
+        let row = reset_group(layout, group as u8, parts);
+        history.push_group_row(row);
     }
 }

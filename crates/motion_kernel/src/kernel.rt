@@ -15,20 +15,16 @@ ghost use Rattle.motion_kernel.specs.Tasks.{live_tasks, quiet_tasks};
 
 use crate::answers::counts_have_32_bits;
 use crate::calls::call_block;
-use crate::cycling::{cycle_machine, give};
+use crate::cycling::{Aside, cycle_machine};
 use crate::history_laws::histories_keep_their_laws;
 use crate::laws::machines_stay_kept;
 use crate::layout::Layout;
 use crate::opening::open_parts;
 use crate::parts::Parts;
 use crate::tasks::TaskMarks;
-use axis_state::{AxisRow, AxisState};
 use cia402_machine::{DriveIn, DriveOut};
 use fb_outputs::{Inputs, Outputs};
-use group_core::{GroupRow, GroupState};
-use motion_history::{
-    Config, History, MOST_AXES, MOST_GROUPS, OutOfMemory, configurations_are_sound, cycles_add_up,
-};
+use motion_history::{Config, History, OutOfMemory, configurations_are_sound, cycles_add_up};
 use std::alloc::{AllocError, Global};
 use std::marker::Model;
 
@@ -55,6 +51,7 @@ impl From<OutOfMemory> for OpenFault {
 pub struct Kernel {
     layout: Layout,
     parts: Parts,
+    aside: Aside,
     history: History,
     tasks: TaskMarks,
     stopped: bool,
@@ -80,11 +77,13 @@ impl Kernel {
         machines_stay_kept();
         let layout = Layout::open(alloc, config)?;
         let parts = open_parts(alloc, &layout)?;
+        let aside = Aside::open(alloc, &layout)?;
         let history = History::open(alloc, layout.config())?;
         let tasks = TaskMarks::open();
         Ok(Kernel {
             layout,
             parts,
+            aside,
             history,
             tasks,
             stopped: false,
@@ -129,13 +128,16 @@ impl Kernel {
         cycles_add_up();
         machines_stay_kept();
         counts_have_32_bits(ins);
-        let mut rows = [NO_ROW; MOST_AXES];
-        let rows = &mut rows[..self.layout.config().axes().len()];
-        let mut grows = [NO_GROUP_ROW; MOST_GROUPS];
-        let grows = &mut grows[..self.layout.config().groups().len()];
-        cycle_machine(ins, &self.layout, &mut self.parts, rows, grows);
-        give(rows, outs);
-        self.history.record_cycle(rows, grows);
+        let history = &mut self.history;
+        cycle_machine(
+            ins,
+            &self.layout,
+            &mut self.parts,
+            &mut self.aside,
+            history,
+            outs,
+        );
+        self.history.record_cycle();
         self.tasks.cycle();
     }
 
@@ -206,28 +208,3 @@ impl Kernel {
         &self.history
     }
 }
-
-/// A row before it is written.
-const NO_ROW: AxisRow = AxisRow {
-    input: DriveIn {
-        statusword: 0,
-        mode_display: 0,
-        actual: 0,
-    },
-    state: AxisState::Disabled,
-    error: 0,
-    driven: false,
-    setpoint: 0,
-    offset: 0,
-    output: DriveOut {
-        controlword: 0,
-        mode: 0,
-        target: 0,
-    },
-};
-
-/// A group's row before it is written.
-const NO_GROUP_ROW: GroupRow = GroupRow {
-    state: GroupState::GroupDisabled,
-    error: 0,
-};

@@ -1,20 +1,26 @@
-// The configuration that a kernel was opened with, and in which group each axis is.
+// The configuration that a kernel was opened with, in which group each axis is, and which instances
+// find something at a cycle's end.
 
 ghost use Rattle.std.specs.Prelude.{◌≡◌, ◌<◌, ◌≤◌, ℕ, IfOk, IfSome, length};
 ghost use Rattle.motion_history.specs.Setup.{IsSetup};
+ghost use Rattle.std.specs.List.{AllByRecursion};
+ghost use Rattle.motion_kernel.specs.Finders.{finders_of};
 ghost use Rattle.motion_kernel.specs.Laid.{AreMemberships};
 ghost use Rattle.motion_kernel.specs.Members.{member_at, members_at, membership_of};
 
+use crate::finders::finders_in;
 use crate::members::{Membership, membership_of};
 use motion_history::{BlockDef, CamTable, Config, configurations_are_sound};
 use std::alloc::{AllocError, Global};
 use std::marker::Model;
 
-/// A configuration with the group of each axis. Contracts see it as the configuration's `Setup`.
+/// A configuration with the group of each axis, and the instances that find something at a cycle's
+/// end. Contracts see it as the configuration's `Setup`.
 #[derive(Drop)]
 pub struct Layout {
     config: Config,
     memberships: Vec<Option<Membership>>,
+    finders: Vec<u16>,
 }
 
 impl Model for Layout {
@@ -26,7 +32,7 @@ impl Model for Layout {
 
     ghost view = { λ l. l.config };
 
-    ghost invariant = { λ l. IsLaid l.config l.memberships.items };
+    ghost invariant = { λ l. IsLaid l.config l.memberships.items l.finders.items };
 }
 
 // Where each axis of a configuration stands in its group.
@@ -59,9 +65,11 @@ impl Layout {
         ensures { IfOk result (λ l. l ≡ config) }
     {
         let memberships = memberships_in(alloc, &config)?;
+        let finders = finders_in(alloc, &config)?;
         Ok(Layout {
             config,
             memberships,
+            finders,
         })
     }
 
@@ -89,6 +97,15 @@ impl Layout {
         ensures there { IfSome result (λ at. at.group < length self.now.groups) }
     {
         self.found(axis)
+    }
+
+    /// The instances that find something at a cycle's end.
+    #[tactic(auto, using(crate::proofs::FinderLaws::finders_there))]
+    pub fn finders(&self) -> &[u16]
+        ensures finders { result.now ≡ finders_of self.now }
+        ensures there { AllByRecursion (λ (k : ℕ). k < length self.now.blocks) result.now }
+    {
+        self.finders.as_slice()
     }
 
     /// The axes of a group, in its order.

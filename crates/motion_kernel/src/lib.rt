@@ -12,6 +12,7 @@ mod cycles;
 mod cycling;
 mod diagram_laws;
 mod entry_laws;
+mod finders;
 mod group_calls;
 mod history_laws;
 mod kernel;

@@ -113,7 +113,7 @@ fn tell_found(instance: u16, block: &BlockDef, parts: &mut Parts)
     }
 }
 
-// All instances are.
+// All that find something are.
 fn tell_all_found(layout: &Layout, parts: &mut Parts)
     requires { IsSized layout.now (machine_of parts.old) }
     ensures { machine_of parts.new ≡ record (machine_of parts.old) {
@@ -123,8 +123,12 @@ fn tell_all_found(layout: &Layout, parts: &mut Parts)
     } }
 {
     configurations_are_sound();
-    for (instance, block) in layout.config().blocks().iter().enumerate() {
-        tell_found(instance as u16, block, parts);
+    for instance in layout.finders() {
+        tell_found(
+            *instance,
+            &layout.config().blocks()[*instance as usize],
+            parts,
+        );
     }
 }
 

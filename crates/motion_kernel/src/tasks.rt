@@ -47,9 +47,10 @@ impl TaskMark {
     fn quieten(&mut self)
         ensures { self.new ≡ spec.quieted self.old }
     {
-        if self.is_live() {
-            *self = TaskMark::Quiet;
-        }
+        *self = match *self {
+            TaskMark::Heard | TaskMark::Quiet => TaskMark::Quiet,
+            TaskMark::Ended => *self,
+        };
     }
 }
 

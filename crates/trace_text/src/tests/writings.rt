@@ -1,6 +1,7 @@
 // Histories whose traces are written.
 
-ghost use Rattle.std.specs.Prelude.{◌≡◌, length};
+ghost use Rattle.std.specs.Prelude.{◌≡◌, ◌<◌, [], length};
+ghost use Rattle.motion_history.specs.Entries.{cycles_of};
 
 use super::{BRAKING_LIMIT, ONE_MOVE, ONE_MOVE_MIGRATED};
 use crate::{Trace, TraceVersion, read_trace, write_trace};
@@ -41,8 +42,12 @@ drive,Y,1,SwitchOnDisabled,0,,,,,,,
 fn record(history: &mut History, config: &Config, entry: &EntryLook<'_>)
     requires axes { history.old.axes ≡ length config.now.axes }
     requires groups { history.old.groups ≡ length config.now.groups }
+    requires rows { history.old.rows ≡ [] }
+    requires group_rows { history.old.group_rows ≡ [] }
     ensures axes { history.new.axes ≡ length config.now.axes }
     ensures groups { history.new.groups ≡ length config.now.groups }
+    ensures rows { history.new.rows ≡ [] }
+    ensures group_rows { history.new.group_rows ≡ [] }
 {
     if history.room_left() == 0 {
         return;
@@ -58,18 +63,48 @@ fn record(history: &mut History, config: &Config, entry: &EntryLook<'_>)
     }
 }
 
+// Adds the rows of the axes to a cycle in the making.
+fn push_rows(history: &mut History, rows: &[AxisRow])
+    requires cycle { cycles_of history.old.entries < history.old.cycles }
+    requires none { history.old.rows ≡ [] }
+    requires rows { length rows.now ≡ history.old.axes }
+    ensures { history.new ≡ record history.old { rows = rows.now } }
+{
+    for row in rows {
+        history.push_row(*row);
+    }
+}
+
+// Adds those of the groups.
+fn push_group_rows(history: &mut History, rows: &[GroupRow])
+    requires cycle { cycles_of history.old.entries < history.old.cycles }
+    requires none { history.old.group_rows ≡ [] }
+    requires rows { length rows.now ≡ history.old.groups }
+    ensures { history.new ≡ record history.old { group_rows = rows.now } }
+{
+    for row in rows {
+        history.push_group_row(*row);
+    }
+}
+
 // Adds a cycle to a history of this machine, if it has as many rows.
 fn record_cycle(history: &mut History, config: &Config, axes: &[AxisRow], groups: &[GroupRow])
     requires axes { history.old.axes ≡ length config.now.axes }
     requires groups { history.old.groups ≡ length config.now.groups }
+    requires rows { history.old.rows ≡ [] }
+    requires group_rows { history.old.group_rows ≡ [] }
     ensures axes { history.new.axes ≡ length config.now.axes }
     ensures groups { history.new.groups ≡ length config.now.groups }
+    ensures rows { history.new.rows ≡ [] }
+    ensures group_rows { history.new.group_rows ≡ [] }
 {
     if history.room_left() == 0 || history.cycles_left() == 0 {
         return;
     }
     if axes.len() == config.axes().len() && groups.len() == config.groups().len() {
-        history.record_cycle(axes, groups);
+        push_rows(history, axes);
+        push_group_rows(history, groups);
+        history.record_cycle();
     }
 }
 

@@ -1,7 +1,7 @@
 -- Nothing is kept yet, and there is room for all.
-use Rattle.std.specs.Prelude.{refl, length}
+use Rattle.std.specs.Prelude.{◌*◌, refl, length}
 use Rattle.std.proofs.Common.{arith, ap}
-use Rattle.motion_history.proofs.KeptLemmas.{IsKept-open, state-open}
+use Rattle.motion_history.proofs.KeptLemmas.{IsKept-open, rows-open, state-open}
 use Rattle.motion_history.proofs.history.reserved.Goals as goal
 
 pub invariant_of-result : goal.invariant_of-result
@@ -40,4 +40,6 @@ returns c =
       room = c.entries-room.ensures i;
       cycles = c.cycles-most.ensures i;
       entries = e i;
+      rows = rows-open c.in_ok-with_capacity-3.field-0.items (0 * length c.axes-axes.result.now) c.in_ok-with_capacity-3.ensures.items i;
+      group_rows = rows-open c.in_ok-with_capacity-4.field-0.items (0 * length c.groups-groups.result.now) c.in_ok-with_capacity-4.ensures.items i;
     }

@@ -1,4 +1,5 @@
-use Rattle.std.proofs.Common.{◌≡◌, length, take}
+use Rattle.std.proofs.Common.{◌≡◌, length, map, take}
+use Rattle.axis_state.specs.declared.definition.AxisRow.{AxisRow}
 use Rattle.motion_kernel.specs.Around.{around_of}
 use Rattle.motion_kernel.specs.Cycles as spec
 use Rattle.motion_kernel.specs.MachineKept.{IsSized}
@@ -8,7 +9,8 @@ use Rattle.motion_kernel.proofs.cycles.cycle_axes.Given as goal
 abbrev pub invariant-loop-axis : goal.invariant-loop-axis
 invariant-loop-axis l = record {
   machine : machine_of l.parts ≡ (spec.axes_cycled l.layout l.axis (around_of l.around) (machine_of l.fn.parts)).machine;
-  rows : take l.axis l.rows ≡ (spec.axes_cycled l.layout l.axis (around_of l.around) (machine_of l.fn.parts)).rows;
-  long : length l.rows ≡ length l.fn.rows;
+  rows : l.history ≡ record l.fn.history { rows = (spec.axes_cycled l.layout l.axis (around_of l.around) (machine_of l.fn.parts)).rows };
+  outs : take l.axis l.outs ≡ map (λ (r : AxisRow). r.output) (spec.axes_cycled l.layout l.axis (around_of l.around) (machine_of l.fn.parts)).rows;
+  long : length l.outs ≡ length l.fn.outs;
   sized : IsSized l.layout (machine_of l.parts);
 }

@@ -1,4 +1,4 @@
-use Rattle.std.proofs.Common.{◌≡◌, length, take}
+use Rattle.std.proofs.Common.{◌≡◌}
 use Rattle.motion_kernel.specs.Cycles as spec
 use Rattle.motion_kernel.specs.MachineKept.{IsSized}
 use Rattle.motion_kernel.specs.Seen.{machine_of}
@@ -7,7 +7,6 @@ use Rattle.motion_kernel.proofs.cycles.reset_groups.Given as goal
 abbrev pub invariant-loop-group : goal.invariant-loop-group
 invariant-loop-group l = record {
   machine : machine_of l.parts ≡ (spec.groups_reset l.layout l.group (machine_of l.fn.parts)).machine;
-  rows : take l.group l.rows ≡ (spec.groups_reset l.layout l.group (machine_of l.fn.parts)).rows;
-  long : length l.rows ≡ length l.fn.rows;
+  rows : l.history ≡ record l.fn.history { group_rows = (spec.groups_reset l.layout l.group (machine_of l.fn.parts)).rows };
   sized : IsSized l.layout (machine_of l.parts);
 }

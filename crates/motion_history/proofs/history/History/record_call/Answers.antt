@@ -1,5 +1,5 @@
 -- The call stands at the end of the calls, and its entry at the end of the entries.
-use Rattle.std.specs.Prelude.{◌<◌, vec_len}
+use Rattle.std.specs.Prelude.{◌<◌, refl, vec_len}
 use Rattle.std.proofs.Common.{arith}
 use Rattle.motion_history.specs.Entries.{call}
 use Rattle.motion_history.proofs.KeptLemmas.{IsNext, has-room, call-next, state-then}
@@ -36,4 +36,4 @@ pub invariant_of-self : goal.invariant_of-self
 invariant_of-self c = (next c).kept
 
 pub returns : goal.returns
-returns c = state-then c.self.inside _ _ _ (next c) c.self.view_is
+returns c = state-then c.self.inside _ _ _ (next c) refl refl c.self.view_is

@@ -1,5 +1,5 @@
 -- The entry stands at the end, in room that was there.
-use Rattle.std.specs.Prelude.{◌<◌, vec_len}
+use Rattle.std.specs.Prelude.{◌<◌, refl, vec_len}
 use Rattle.std.proofs.Common.{arith}
 use Rattle.motion_history.specs.Entries.{end_of}
 use Rattle.motion_history.proofs.KeptLemmas.{IsNext, has-room, end-next, state-then}
@@ -19,4 +19,4 @@ pub invariant_of-self : goal.invariant_of-self
 invariant_of-self c = (next c).kept
 
 pub returns : goal.returns
-returns c = state-then c.self.inside _ _ _ (next c) c.self.view_is
+returns c = state-then c.self.inside _ _ _ (next c) refl refl c.self.view_is

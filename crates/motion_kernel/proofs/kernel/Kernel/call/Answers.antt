@@ -36,7 +36,7 @@ invariant_of-self c =
     let few = task_fits s c.args.instance c.args.task c.configurations_are_sound.ensures c.self.invariant.machine.sized.setup task in
     let kept = c.machines_stay_kept.ensures.call s m c.args.instance i c.self.invariant.whole is c.self.invariant.machine in
     kernel_more c.cycles_add_up.ensures.more k (record k { parts = c.call_block-reply.new.parts; history = c.record_call.new.self; tasks = c.hear.new.self }) (call c.args.instance i c.call_block-reply.result)
-    c.self.invariant refl c.record_call.ensures c.call_block-reply.ensures.after (is, c.call_block-reply.ensures.reply)
+    c.self.invariant refl c.record_call.ensures c.self.invariant.places c.call_block-reply.ensures.after (is, c.call_block-reply.ensures.reply)
     (subst (IsMachineKept s) (sym c.call_block-reply.ensures.after) kept)
     (marked_by_task s k.history.entries k.tasks.marks c.hear.new.self.marks c.args.instance i c.call_block-reply.result c.args.task c.self.invariant.tasks task few c.hear.ensures) room (let h = c.self.invariant.legal.cycles in omega arith)
 

@@ -1,14 +1,14 @@
 -- A cycle is one more entry.
-use Rattle.std.proofs.Common.{◌≡◌, ◌∙◌, sym, arith, subst, length, ◌<◌, ◌+◌, ◌++◌, ◌∷◌, []}
+use Rattle.std.proofs.Common.{◌≡◌, ◌∙◌, ap, sym, arith, subst, length, ◌<◌, ◌+◌, ◌++◌, ◌∷◌, []}
 use Rattle.std.specs.Prelude.{refl}
-use Rattle.motion_history.specs.Entries.{cycle, cycles_of}
+use Rattle.motion_history.specs.Entries.{HistoryState, cycle, cycles_of}
 use Rattle.motion_kernel.specs.Cycles.{cycled, no_answer}
 use Rattle.motion_kernel.specs.Histories.{after}
 use Rattle.motion_kernel.specs.KernelState.{KernelState, room_of}
 use Rattle.motion_kernel.specs.MachineKept.{IsMachineKept}
 use Rattle.motion_kernel.specs.Seen.{machine_of}
 use Rattle.motion_kernel.proofs.CycleEntries.{after_is, is_cycle}
-use Rattle.motion_kernel.proofs.CycleRows.{row_count, row_inputs}
+use Rattle.motion_kernel.proofs.CycleRows.{grow_count, row_count, row_inputs}
 use Rattle.motion_kernel.proofs.KernelLaws.{has_room, kernel_more}
 use Rattle.motion_kernel.proofs.MarkLaws.{marked_cycled}
 use Rattle.motion_kernel.proofs.kernel.Kernel.cycle.Goals as goal
@@ -22,6 +22,19 @@ pub cycle_machine-requires-clause-go_on : goal.cycle_machine-requires-clause-go_
 cycle_machine-requires-clause-go_on c =
     let k = c.self.inside in
     c.machines_stay_kept.ensures.may_go_on k.layout (machine_of k.parts) c.args.ins.now c.self.invariant.machine
+
+pub cycle_machine-requires-clause-history : goal.cycle_machine-requires-clause-history
+cycle_machine-requires-clause-history c =
+    let k = c.self.inside in
+    let room = c.self.invariant.room in
+    let left : cycles_of k.history.entries < k.layout.cycles = subst (λ (x : KernelState). cycles_of x.history < x.config.cycles) (sym c.self.view_is) c.requires.cycle in
+    let cycles = room.cycles in
+    record { axes = room.axes; groups = room.groups; cycle = omega arith; rows = room.rows; group_rows = room.group_rows }
+
+pub record_cycle-requires-clause-groups : goal.record_cycle-requires-clause-groups
+record_cycle-requires-clause-groups c =
+    let k = c.self.inside in
+    rw c.cycle_machine.ensures.rows (grow_count k.layout (machine_of k.parts) c.args.ins.now ∙ c.self.invariant.machine.sized.groups ∙ sym c.self.invariant.room.groups)
 
 pub invariant_of-self : goal.invariant_of-self
 invariant_of-self c =
@@ -38,11 +51,15 @@ invariant_of-self c =
     let shown = row_inputs s m ins long in
     let counted = c.counts_have_32_bits.ensures in
     let e = cycle (n + 1) (cycled s m ins).axes (cycled s m ins).groups in
-    let history = c.record_cycle.ensures ∙ (λ i. record k.history {
-      entries = k.history.entries ++ cycle (n + 1) (c.cycle_machine.ensures.rows i) (c.cycle_machine.ensures.grows i) ∷ [];
+    let history = c.record_cycle.ensures
+    ∙ ap (λ (h : HistoryState). record h { entries = h.entries ++ cycle (cycles_of h.entries + 1) h.rows h.group_rows ∷ []; rows = []; group_rows = [] }) c.cycle_machine.ensures.rows
+    ∙ (λ i. record k.history {
+      entries = k.history.entries ++ cycle (n + 1) (cycled s m ins).axes (cycled s m ins).groups ∷ [];
+      rows = sym c.self.invariant.room.rows i;
+      group_rows = sym c.self.invariant.room.group_rows i;
     }) in
     let step : machine_of c.cycle_machine.new.parts ≡ after s m e = c.cycle_machine.ensures.after ∙ sym (after_is s m ins (n + 1) shown) in
     let kept = c.machines_stay_kept.ensures.cycle s m ins c.self.invariant.machine (λ j l. counted j no_answer (omega arith)) in
-    kernel_more c.cycles_add_up.ensures.more k (record k { parts = c.cycle_machine.new.parts; history = c.record_cycle.new.self; tasks = c.cycle.new.self }) e c.self.invariant refl
-    history step (refl, is_cycle s m ins shown (row_count s m ins) counted) (subst (IsMachineKept s) (sym c.cycle_machine.ensures.after) kept)
+    kernel_more c.cycles_add_up.ensures.more k (record k { parts = c.cycle_machine.new.parts; aside = c.cycle_machine.new.aside; history = c.record_cycle.new.self; tasks = c.cycle.new.self }) e c.self.invariant refl
+    history c.cycle_machine.ensures.places step (refl, is_cycle s m ins shown (row_count s m ins) counted) (subst (IsMachineKept s) (sym c.cycle_machine.ensures.after) kept)
     (marked_cycled s k.history.entries k.tasks.marks c.cycle.new.self.marks e c.self.invariant.tasks refl (λ t. refl) c.cycle.ensures) room (omega arith)

@@ -8,5 +8,6 @@ invariant_of-self c = record {
   machine = c.self.invariant.machine;
   whole = c.self.invariant.whole;
   room = c.self.invariant.room;
+  places = c.self.invariant.places;
   tasks = c.self.invariant.tasks;
 }
