@@ -58,12 +58,20 @@ fn digits_of(text: &[u8]) -> Option<u64>
     }
     let mut number = 0u64;
     for byte in text {
-        if *byte < b'0' || b'9' < *byte {
+        let digit = digit_of(*byte);
+        if digit > 9 {
             return None;
         }
-        number = number * 10 + u64::from(*byte - b'0');
+        number = number * 10 + u64::from(digit);
     }
     Some(number)
+}
+
+// The digit that a byte is, or more than 9 where it is none.
+fn digit_of(byte: u8) -> u8
+    ensures { result ≤ 9 → (48 ≤ byte) × (byte ≤ 57) × (result ≡ byte - 48) }
+{
+    byte.wrapping_sub(b'0')
 }
 
 // Whether a field has 1 to 18 bytes, and more than one only where the first is not 0.

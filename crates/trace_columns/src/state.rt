@@ -8,15 +8,15 @@ use axis_state::AxisState;
 use cia402_machine::DriveState;
 use group_state::GroupState;
 
-/// The states of an axis.
+/// The states of an axis; those that come most often stand first.
 const AXIS_STATES: [AxisState; 8] = [
-    AxisState::Disabled,
-    AxisState::Standstill,
-    AxisState::Homing,
-    AxisState::Stopping,
     AxisState::DiscreteMotion,
+    AxisState::Standstill,
     AxisState::ContinuousMotion,
     AxisState::SynchronizedMotion,
+    AxisState::Disabled,
+    AxisState::Homing,
+    AxisState::Stopping,
     AxisState::ErrorStop,
 ];
 

@@ -54,12 +54,12 @@ Writes-stopped old new x y fault.WriteFault w = (w.0, WritesPrefix-more old.told
 Writes-stopped old new x y fault.OutOfMemory w = (w.0, WritesPrefix-more old.told new.told x y w.1)
 
 -- the entries up to a piece's end are those before the piece and those of it
-pub take-piece : {X : Type 0} (es : List X) (n : ℕ) → n * 1000 ≤ length es →
-    take (min ((n + 1) * 1000) (length es)) es ≡ take (min (n * 1000) (length es)) es ++ take (min (length es - n * 1000) 1000) (drop (n * 1000) es)
+pub take-piece : {X : Type 0} (es : List X) (n : ℕ) → n * 200 ≤ length es →
+    take (min ((n + 1) * 200) (length es)) es ≡ take (min (n * 200) (length es)) es ++ take (min (length es - n * 200) 200) (drop (n * 200) es)
 take-piece es n l =
-    let a : min ((n + 1) * 1000) (length es) ≡ n * 1000 + min (length es - n * 1000) 1000 = omega arith in
-    let b : min (n * 1000) (length es) ≡ n * 1000 = omega arith in
-    rw (a, b) (take-add (n * 1000) (min (length es - n * 1000) 1000) es)
+    let a : min ((n + 1) * 200) (length es) ≡ n * 200 + min (length es - n * 200) 200 = omega arith in
+    let b : min (n * 200) (length es) ≡ n * 200 = omega arith in
+    rw (a, b) (take-add (n * 200) (min (length es - n * 200) 200) es)
 
 three : (a b c d : List ℕ) → a ≡ b ++ c → c ≡ d → a ≡ b ++ d
 three a b c d p q = p ∙ ap (λ t. b ++ t) q
@@ -75,38 +75,38 @@ parts f es k m =
     three _ _ _ _ a b ∙ sym (append_assoc (flat_map f (take k es)) (flat_map f (take m (drop k es))) (flat_map f (drop m (drop k es))))
 
 -- the entries are those before a piece, those of it, and those behind it
-pub all-pieces : {X : Type 0} (f : X → List ℕ) (es : List X) (n : ℕ) → n * 1000 ≤ length es →
-    flat_map f es ≡ (flat_map f (take (min (n * 1000) (length es)) es) ++ flat_map f (take (min (length es - n * 1000) 1000) (drop (n * 1000) es))) ++
-    flat_map f (drop (min (length es - n * 1000) 1000) (drop (n * 1000) es))
+pub all-pieces : {X : Type 0} (f : X → List ℕ) (es : List X) (n : ℕ) → n * 200 ≤ length es →
+    flat_map f es ≡ (flat_map f (take (min (n * 200) (length es)) es) ++ flat_map f (take (min (length es - n * 200) 200) (drop (n * 200) es))) ++
+    flat_map f (drop (min (length es - n * 200) 200) (drop (n * 200) es))
 all-pieces f es n l =
-    let b : min (n * 1000) (length es) ≡ n * 1000 = omega arith in
-    rw b (parts f es (n * 1000) (min (length es - n * 1000) 1000))
+    let b : min (n * 200) (length es) ≡ n * 200 = omega arith in
+    rw b (parts f es (n * 200) (min (length es - n * 200) 200))
 
 -- where a piece of the entries isn't written whole, neither are the entries
 pub Writes-piece_stopped : {X : Type 0} (f : X → List ℕ) (es : List X) (n count entries : ℕ) (old mid new : Output) (e : TraceFault) →
-    entries ≡ length es → n < entries / 1000 + 1 → count ≡ min (entries - n * 1000) 1000 →
-    Appends old.told mid.told (flat_map f (take (min (n * 1000) (length es)) es)) → mid.count ≡ old.count →
-    Writes mid new (flat_map f (take count (drop (n * 1000) es))) (Err e) → Writes old new (flat_map f es) (Err e)
+    entries ≡ length es → n < entries / 200 + 1 → count ≡ min (entries - n * 200) 200 →
+    Appends old.told mid.told (flat_map f (take (min (n * 200) (length es)) es)) → mid.count ≡ old.count →
+    Writes mid new (flat_map f (take count (drop (n * 200) es))) (Err e) → Writes old new (flat_map f es) (Err e)
 Writes-piece_stopped f es n count entries old mid new e same l c text kept w =
-    let le : n * 1000 ≤ length es = omega arith in
-    let m : count ≡ min (length es - n * 1000) 1000 = omega arith in
+    let le : n * 200 ≤ length es = omega arith in
+    let m : count ≡ min (length es - n * 200) 200 = omega arith in
     let here = Writes-then old mid new _ _ (Err e) text kept w in
-    let all : flat_map f es ≡ (flat_map f (take (min (n * 1000) (length es)) es) ++ flat_map f (take count (drop (n * 1000) es))) ++ flat_map f (drop count (drop (n * 1000) es)) =
-    all-pieces f es n le ∙ ap (λ k. (flat_map f (take (min (n * 1000) (length es)) es) ++ flat_map f (take k (drop (n * 1000) es))) ++ flat_map f (drop k (drop (n * 1000) es))) (sym m) in
+    let all : flat_map f es ≡ (flat_map f (take (min (n * 200) (length es)) es) ++ flat_map f (take count (drop (n * 200) es))) ++ flat_map f (drop count (drop (n * 200) es)) =
+    all-pieces f es n le ∙ ap (λ k. (flat_map f (take (min (n * 200) (length es)) es) ++ flat_map f (take k (drop (n * 200) es))) ++ flat_map f (drop k (drop (n * 200) es))) (sym m) in
     let P : List ℕ → Type 0 = λ t. Writes old new t (Err e) in
-    subst P (sym all) (Writes-stopped old new _ (flat_map f (drop count (drop (n * 1000) es))) e here)
+    subst P (sym all) (Writes-stopped old new _ (flat_map f (drop count (drop (n * 200) es))) e here)
 
 -- one more piece of the entries is written
 pub Appends-piece : {X : Type 0} (f : X → List ℕ) (es : List X) (n count entries : ℕ) (old mid new : Option (List ℕ)) →
-    entries ≡ length es → n < entries / 1000 + 1 → count ≡ min (entries - n * 1000) 1000 →
-    Appends old mid (flat_map f (take (min (n * 1000) (length es)) es)) → Appends mid new (flat_map f (take count (drop (n * 1000) es))) →
-    Appends old new (flat_map f (take (min ((n + 1) * 1000) (length es)) es))
+    entries ≡ length es → n < entries / 200 + 1 → count ≡ min (entries - n * 200) 200 →
+    Appends old mid (flat_map f (take (min (n * 200) (length es)) es)) → Appends mid new (flat_map f (take count (drop (n * 200) es))) →
+    Appends old new (flat_map f (take (min ((n + 1) * 200) (length es)) es))
 Appends-piece f es n count entries old mid new same l c text more =
-    let le : n * 1000 ≤ length es = omega arith in
-    let m : count ≡ min (length es - n * 1000) 1000 = omega arith in
-    let all : flat_map f (take (min ((n + 1) * 1000) (length es)) es) ≡ flat_map f (take (min (n * 1000) (length es)) es) ++ flat_map f (take count (drop (n * 1000) es)) =
-    ap (flat_map f) (take-piece es n le) ∙ flat_map-append f (take (min (n * 1000) (length es)) es) (take (min (length es - n * 1000) 1000) (drop (n * 1000) es)) ∙
-    ap (λ k. flat_map f (take (min (n * 1000) (length es)) es) ++ flat_map f (take k (drop (n * 1000) es))) (sym m) in
+    let le : n * 200 ≤ length es = omega arith in
+    let m : count ≡ min (length es - n * 200) 200 = omega arith in
+    let all : flat_map f (take (min ((n + 1) * 200) (length es)) es) ≡ flat_map f (take (min (n * 200) (length es)) es) ++ flat_map f (take count (drop (n * 200) es)) =
+    ap (flat_map f) (take-piece es n le) ∙ flat_map-append f (take (min (n * 200) (length es)) es) (take (min (length es - n * 200) 200) (drop (n * 200) es)) ∙
+    ap (λ k. flat_map f (take (min (n * 200) (length es)) es) ++ flat_map f (take k (drop (n * 200) es))) (sym m) in
     let P : List ℕ → Type 0 = Appends old new in
     subst P (sym all) (Appends-trans old mid new _ _ text more)
 

@@ -8,7 +8,7 @@ ghost use Rattle.trace_text.specs.Records.{record_text, cycle_fields, row_fields
 ghost use Rattle.trace_text.specs.Records as spec;
 ghost use Rattle.trace_text.specs.Trace.{numbered, text_of};
 
-use crate::records::{axis_name, group_name, name_text, write_record};
+use crate::records::{axis_name, group_name, name_text, write_record, write_whole};
 use axis_state::{AxisDef, AxisRow};
 use csv::Writer;
 use group_state::GroupRow;
@@ -76,6 +76,7 @@ fn reported_text<'a>(
     }
 }
 
+#[tactic(auto, unfolding(crate::specs::Records::record_text))]
 fn write_row<W: Write + Drop>(
     wtr: &mut Writer<W>,
     version: TraceVersion,
@@ -98,7 +99,7 @@ fn write_row<W: Write + Drop>(
     let controlword = hex_text(row.output.controlword);
     let mut target = Buffer::new();
     let mut reported = Buffer::new();
-    write_record(
+    write_whole(
         wtr,
         &[
             b"row",

@@ -17,6 +17,9 @@ use motion_history::{Config, EntryLook, History, OutOfMemory, TraceVersion};
 use std::alloc::Global;
 use std::io::Write;
 
+/// The room of a piece's bytes before it grows.
+const ROOM: usize = 256 * 1024;
+
 /// The text of the machine part.
 pub fn machine_piece(
     alloc: Global,
@@ -134,7 +137,10 @@ pub fn entries_piece(
     ensures { IfOk result (λ v. v.items ≡
         flat_map (entry_text version config.now) (take count (drop from history.now.entries))) }
 {
-    let mut wtr = WriterBuilder::new().from_writer(Vec::new(alloc));
+    let Ok(room) = Vec::with_capacity(alloc, ROOM) else {
+        return Err(OutOfMemory);
+    };
+    let mut wtr = WriterBuilder::new().from_writer(room);
     write_entries(alloc, &mut wtr, version, config, history, from, count)?;
     match wtr.into_inner() {
         Ok(text) => Ok(text),

@@ -2,7 +2,7 @@
 
 ghost use Rattle.std.specs.Prelude.{◌≡◌, ◌≤◌, length, map, OnOk};
 ghost use Rattle.std.specs.Io.KnownBytes.{Appends};
-ghost use Rattle.csv.specs.Writing.{text_written};
+ghost use Rattle.csv.specs.Writing.{default_writer, row_text, text_written};
 ghost use Rattle.trace_text.specs.Between.{IsBetween};
 ghost use Rattle.trace_text.specs.Records as spec;
 ghost use Rattle.trace_text.specs.Records.{record_text};
@@ -28,8 +28,22 @@ pub fn write_record<W: Write + Drop>(
         (record_text (map (λ f. f.now) fields.now))) }
     ensures between { OnOk result (IsBetween wtr.new) }
 {
-    let all = padded(fields);
-    match wtr.write_fields(&all) {
+    write_whole(wtr, &padded(fields))
+}
+
+/// Writes a record of these twelve fields.
+#[tactic(auto, unfolding(crate::specs::Records::record_text))]
+pub fn write_whole<W: Write + Drop>(
+    wtr: &mut Writer<W>,
+    fields: &[&[u8]; FIELDS],
+) -> Result<(), OutOfMemory>
+    requires { IsBetween wtr.old }
+    ensures text { OnOk result (Appends (text_written W.contents wtr.old)
+        (text_written W.contents wtr.new)
+        (row_text default_writer (map (λ f. f.now) fields.now))) }
+    ensures between { OnOk result (IsBetween wtr.new) }
+{
+    match wtr.write_fields(fields) {
         Ok(()) => Ok(()),
         Err(_) => Err(OutOfMemory),
     }

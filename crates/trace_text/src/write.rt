@@ -37,7 +37,7 @@ pub enum TraceFault {
 }
 
 /// How many entries are written at a time.
-const PIECE: u64 = 1000;
+const PIECE: u64 = 200;
 
 // Puts a piece of a text into the output, if there was memory for it.
 fn put<K: Sink>(piece: Result<Vec<u8>, OutOfMemory>, out: &mut K) -> Result<(), TraceFault>

@@ -14,12 +14,14 @@ overflow_add-number c =
     let few : length c.args.text.now ≤ 18 = c.may_be_digits.ensures.few c.if-not-may_be_digits.false in
     let room : c.loop-byte.number < 10 ^ 17 = room_left c.args.text.now c.loop-byte.byte-index c.loop-byte.number c.loop-byte.invariant c.loop-byte-test.true few in
     let digit = c.from.ensures in
-    let high = c.if-byte-gt57.false in
-    omega (arith, room, digit, high)
+    let small = c.if-digit-gt9.false in
+    omega (arith, room, digit, small)
 
 pub loop-byte-preserved : goal.loop-byte-preserved
 loop-byte-preserved c =
-    rw c.from.ensures (read_more c.args.text.now c.loop-byte.byte-index c.loop-byte.number c.loop-byte.invariant c.loop-byte-test.true c.if-byte-lt48.false c.if-byte-gt57.false)
+    let small = c.if-digit-gt9.false in
+    let digit = c.digit_of-digit.ensures (omega (arith, small)) in
+    rw (c.from.ensures, digit.2) (read_more c.args.text.now c.loop-byte.byte-index c.loop-byte.number c.loop-byte.invariant c.loop-byte-test.true digit.0 digit.1)
 
 pub returns-clause-spelled : goal.returns-clause-spelled
 returns-clause-spelled c =

@@ -7,7 +7,7 @@ use Rattle.trace_text.proofs.write.put_history.Given as goal
 abbrev pub invariant-loop-piece : goal.invariant-loop-piece
 invariant-loop-piece g l = record {
   text : Appends (g.K.Sink.told l.fn.out) (g.K.Sink.told l.out)
-      (flat_map (entry_text l.version l.config) (take (min (l.piece * 1000) (length l.history.entries)) l.history.entries));
+      (flat_map (entry_text l.version l.config) (take (min (l.piece * 200) (length l.history.entries)) l.history.entries));
   kept : g.K.Sink.count l.out ≡ g.K.Sink.count l.fn.out;
   entries : l.entries ≡ length l.history.entries;
 }
