@@ -5,13 +5,16 @@ what they say is what a reader of a trace would ask."""
 import os
 import sys
 import unittest
+from collections import namedtuple
 from pathlib import Path
 
 ROOT = Path(__file__).resolve().parent.parent.parent
 sys.path.insert(0, str(ROOT / "tools"))
 
-from motion_trace import Trace, lines_of  # noqa: E402
+from motion_trace import Call, Trace, lines_of  # noqa: E402
 
+AxisOf = namedtuple("AxisOf", "lo hi vmax amax dmax start ready")
+RowOf = namedtuple("RowOf", "setpoint state driven")
 FOLDERS = os.environ.get("TRACES", f"{ROOT}/examples/*:{ROOT}/docs/timing")
 
 
@@ -45,14 +48,25 @@ class Course:
             self.cycles = cycles_bound(call, abs(self.target - setpoint), abs(velocity))
 
 
-class Blend:
-    """What a move has promised that is blended into one further on: to be at its target or past it,
-    in the cycles of its braking, and as many as the target is units away, or those of coming back."""
+BLEND_VELOCITIES = {"blendingLow": min, "blendingPrevious": lambda first, second: first,
+                    "blendingNext": lambda first, second: second, "blendingHigh": max}
 
-    def __init__(self, course, setpoint, velocity):
+
+class Blend:
+    """What a move has promised that is blended into one further on: to cross its target by a step of
+    at most the blend velocity, or to stand there, in the cycles of its braking, and as many as the
+    target is units away, or those of coming back."""
+
+    def __init__(self, course, call, setpoint, velocity):
         self.target, speed = course.target, abs(velocity)
+        self.most = BLEND_VELOCITIES[call.mode](course.call.velocity, call.velocity)
         self.cycles = speed // course.call.deceleration + 1 + max(
             abs(self.target - setpoint) + 1, cycles_bound(course.call, speed, speed))
+
+    def is_done(self, before, setpoint):
+        """Whether a step crosses the target, or it is 0 there."""
+        is_between = min(before, setpoint) <= self.target <= max(before, setpoint)
+        return is_between and abs(setpoint - before) <= self.most
 
 
 class Axis:
@@ -88,8 +102,8 @@ class Axis:
         second = call.positions[0] + (first if kind == "MoveRelative" else 0)
         way = (second > first) - (second < first)
         is_ahead = way * (first - self.setpoint) >= 0 and way * self.velocity >= 0
-        if call.mode.startswith("blending") and way != 0 and is_ahead:
-            self.blend = Blend(active, self.setpoint, self.velocity)
+        if call.mode in BLEND_VELOCITIES and way != 0 and is_ahead:
+            self.blend = Blend(active, call, self.setpoint, self.velocity)
 
     def row(self, row):
         """The row of a cycle."""
@@ -130,16 +144,16 @@ class Axis:
             self.course = None
 
     def passes(self, before, is_faulted):
-        """A blended move passes its target before its cycles are over."""
+        """A blended move is done with its target before its cycles are over."""
         if self.blend is None or is_faulted:
             self.blend = None
             return
         self.blend.cycles -= 1
-        is_past = min(before, self.setpoint) <= self.blend.target <= max(before, self.setpoint)
-        if is_past or self.blend.cycles == 0:
+        is_done = self.blend.is_done(before, self.setpoint)
+        if is_done or self.blend.cycles == 0:
             self.blends += 1
-            if not is_past:
-                self.broken.append(f"hangs before {self.blend.target}")
+            if not is_done:
+                self.broken.append(f"is not done with {self.blend.target}")
             self.blend = None
 
 
@@ -175,7 +189,7 @@ class Laws(unittest.TestCase):
                 blends += axis.blends
         self.assertGreater(rows, 500)
         self.assertGreater(promises, 5)
-        self.assertGreater(blends, 1)
+        self.assertGreater(blends, 4)
 
     def test_what_breaks_a_law_is_found(self):
         text = (ROOT / "docs" / "timing" / "halt.trace").read_text()
@@ -185,6 +199,20 @@ class Laws(unittest.TestCase):
             self.assertIn(old, text)
             axes = axes_of(iter(text.replace(old, new).splitlines(True)))
             self.assertTrue(axes["X"].broken, old)
+
+    def test_a_blended_move_that_hangs_is_found(self):
+        call = Call("M", True, (20,), 6, 2, 2, 0, "blendingLow", None, "B", 0)
+        first = Course(call, "MoveAbsolute", 12, 6)
+        blend = Blend(first, call._replace(positions=(40,), velocity=3), 12, 6)
+        self.assertEqual((blend.target, blend.most), (20, 3))
+        self.assertTrue(blend.is_done(18, 20) and blend.is_done(20, 20))
+        self.assertFalse(blend.is_done(12, 19) or blend.is_done(17, 21))
+        axis = Axis(AxisOf(-100, 100, 10, 10, 10, 12, True))
+        axis.blend = blend
+        for _ in range(blend.cycles):
+            self.assertEqual(axis.broken, [])
+            axis.row(RowOf(19 if axis.setpoint == 18 else 18, "DiscreteMotion", True))
+        self.assertEqual(axis.broken[-1], "is not done with 20")
 
 
 if __name__ == "__main__":

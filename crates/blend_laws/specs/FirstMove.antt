@@ -31,11 +31,14 @@ FirstEndsWithin (suc n) limits target1 target2 before now first second vb =
     ⊎ FirstEndsWithin n limits target1 target2 now
     (now +ℤ first_taken_of limits target1 target2 before now first second vb) first second vb
 
--- within how many cycles a blend that has a step crosses: as many as the first target is units away, and one. This project's profile
+-- within how many cycles a blend that has a step crosses: as many as the first target is units
+-- away, and one. This project's profile
 unfoldable pub crossing_bound_of : ℤ → ℤ → ℕ
 crossing_bound_of target1 now = unsigned_abs (target1 -ℤ now) + 1
 
--- within how many cycles the first move ends from where a blend applies, with a step or without: it brakes until the blend has one, and crosses; or it brakes past its target, by at most its old step, and comes back to it. This project's profile
+-- within how many cycles the first move ends from where a blend applies, with a step or without: it
+-- brakes until the blend has one, and crosses; or it brakes past its target, at most its old step
+-- in the first cycle, and comes back to it. This project's profile
 unfoldable pub first_bound_of : ℤ → ℤ → ℤ → Rates → ℕ
 first_bound_of target1 before now first =
     unsigned_abs (now -ℤ before) / unsigned_abs first.d + 1

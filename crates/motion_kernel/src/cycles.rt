@@ -57,7 +57,7 @@ fn first_error(members: &[u8], axes: &[AxisCore], ins: &[DriveIn]) -> u16
     0
 }
 
-// A group takes its step.
+// A group takes its step. Out of line it leaves the cycles of machines without groups short.
 #[inline(never)]
 fn step_group(layout: &Layout, group: u8, ins: &[DriveIn], parts: &mut Parts) -> GroupStep
     requires sized { IsSized layout.now (machine_of parts.old) }
@@ -245,7 +245,8 @@ pub fn cycle_axes(
     }
 }
 
-// A pending GroupReset is done, where it may be; the row shows the group after it.
+// A pending GroupReset is done, where it may be; the row shows the group after it. It is out of line
+// as the group's step is.
 #[inline(never)]
 fn reset_group(layout: &Layout, group: u8, parts: &mut Parts) -> GroupRow
     requires sized { IsSized layout.now (machine_of parts.old) }
