@@ -1,6 +1,6 @@
 // The instances that find something at a cycle's end.
 
-ghost use Rattle.std.specs.Prelude.{◌≡◌, IfOk, OnOk, length};
+ghost use Rattle.std.specs.Prelude.{◌≡◌, IfOk, OnOk};
 ghost use Rattle.motion_history.specs.Setup.{IsSetup};
 ghost use Rattle.motion_kernel.specs.Finders as spec;
 
@@ -32,8 +32,7 @@ fn add_finder(finders: &mut Vec<u16>, instance: u16, kind: BlockKind) -> Result<
 /// The instances that find something at a cycle's end.
 pub fn finders_in(alloc: Global, config: &Config) -> Result<Vec<u16>, AllocError>
     requires { IsSetup config.now }
-    ensures { IfOk result (λ v. v.items ≡ spec.finders_among (length config.now.blocks)
-        config.now.blocks) }
+    ensures { IfOk result (λ v. v.items ≡ spec.finders_of config.now) }
 {
     let mut finders = Vec::new(alloc);
     for (instance, block) in config.blocks().iter().enumerate() {

@@ -69,7 +69,8 @@ fn digits_of(text: &[u8]) -> Option<u64>
 
 // The digit that a byte is, or more than 9 where it is none.
 fn digit_of(byte: u8) -> u8
-    ensures { result ≤ 9 → (48 ≤ byte) × (byte ≤ 57) × (result ≡ byte - 48) }
+    ensures digit { 48 ≤ byte → byte ≤ 57 → result ≡ byte - 48 }
+    ensures none { result ≤ 9 → (48 ≤ byte) × (byte ≤ 57) }
 {
     byte.wrapping_sub(b'0')
 }

@@ -20,8 +20,9 @@ overflow_add-number c =
 pub loop-byte-preserved : goal.loop-byte-preserved
 loop-byte-preserved c =
     let small = c.if-digit-gt9.false in
-    let digit = c.digit_of-digit.ensures (omega (arith, small)) in
-    rw (c.from.ensures, digit.2) (read_more c.args.text.now c.loop-byte.byte-index c.loop-byte.number c.loop-byte.invariant c.loop-byte-test.true digit.0 digit.1)
+    let is = c.digit_of-digit.ensures.none (omega (arith, small)) in
+    let digit = c.digit_of-digit.ensures.digit is.0 is.1 in
+    rw (c.from.ensures, digit) (read_more c.args.text.now c.loop-byte.byte-index c.loop-byte.number c.loop-byte.invariant c.loop-byte-test.true is.0 is.1)
 
 pub returns-clause-spelled : goal.returns-clause-spelled
 returns-clause-spelled c =
