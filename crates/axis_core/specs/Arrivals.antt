@@ -1,6 +1,6 @@
 -- Commands that come to their end in time, and what turns them (PLCopen Motion Control Part 1,
 -- Done).
-use Rattle.std.specs.Prelude.{◌≡◌, ◌⊎◌, ℕ, ◌+◌, ◌/◌, ◌≤◌, Bool, true, false, ℤ, pos, ◌-ℤ◌, ◌≤ℤ◌, unsigned_abs, Option, Some, None}
+use Rattle.std.specs.Prelude.{◌≡◌, ◌⊎◌, ℕ, ◌+◌, ◌/◌, ◌≤◌, Bool, true, false, ℤ, pos, ◌-ℤ◌, ◌≤ℤ◌, unsigned_abs, Option, Some, None, option_map}
 use Rattle.command_pool.specs.declared.ending.Finish.{Finish}
 use Rattle.command_pool.specs.declared.ending.Finish.TheVariants as finish
 use Rattle.command_pool.specs.declared.kind.BlockKind.{BlockKind}
@@ -62,7 +62,7 @@ turn_of f = turn_by f.blends f.ends
 
 -- the end alone, whether the command is blended or not
 abbrev pub end_turn_of : Fate → Option Turn
-end_turn_of f = turn_by false f.ends
+end_turn_of f = option_map ended f.ends
 
 -- what a turn says of the axis: Done, that it is at the end of its course; of a command that is
 -- replaced, faulted or blended, nothing

@@ -1,7 +1,7 @@
 -- The active commands of axes come to their end in time.
-use Rattle.std.specs.Prelude.{◌≡◌, ◌≢◌, refl, ℕ, zero, suc, ◌+◌, ◌<◌, ◌≤◌, Bool, true, false, Option, Some, None, List, [], ◌∷◌, ◌++◌, length, map, slice_get}
+use Rattle.std.specs.Prelude.{◌≡◌, ◌≢◌, refl, ℕ, zero, suc, ◌+◌, ◌<◌, ◌≤◌, Bool, true, false, Option, Some, None, option_map, List, [], ◌∷◌, ◌++◌, length, map, slice_get}
 use Rattle.std.proofs.Common.{arith, sym, subst, ◌∙◌}
-use Rattle.axis_core.specs.Arrivals.{Carried, Course, toward, slowing, GoesOn, IsMoveDone, IsTurn, IsUnderWay, Turn, bound_of, course_of, end_turn_of, turn_by, turn_of}
+use Rattle.axis_core.specs.Arrivals.{Carried, Course, toward, slowing, GoesOn, IsMoveDone, IsTurn, IsUnderWay, Turn, bound_of, course_of, end_turn_of, ended, turn_of}
 use Rattle.axis_core.specs.AxisKept.{IsCoreKept}
 use Rattle.axis_core.specs.Blended.{BlendingCarried, BlendingGoesOn, HasStep, IsBlended, IsBlending, cycles_of_blend, cycles_to_cross}
 use Rattle.axis_core.specs.Calls.{axis_without_owner, core_after_command, core_after_power}
@@ -371,7 +371,7 @@ BlendsIn n left m = IsBlending left (axis_at m n) (queue_of m.queues n)
 
 blend_carried : (n most c : ℕ) (f : Option Finish) (m : Machine) →
     BlendingCarried most c f (axis_at m n) (queue_of m.queues n) →
-    CarriedIn (BlendsIn n) (λ t x. Unit {0}) most c (turn_by false f) m
+    CarriedIn (BlendsIn n) (λ t x. Unit {0}) most c (option_map ended f) m
 blend_carried n most c (Some f) m h = (h, tt)
 blend_carried n most c None m h =
     record { left = h.left; sum = h.sum; under_way = h.under_way }
