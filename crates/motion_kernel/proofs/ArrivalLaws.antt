@@ -27,7 +27,7 @@ use Rattle.command_pool.specs.declared.kind.BlockKind.TheVariants as kind
 use Rattle.command_pool.specs.declared.wanted.Wanted.{Wanted}
 use Rattle.motion_history.specs.Entries.{Entry, call, cycle, cycle_count, cycles_of, end_of}
 use Rattle.motion_history.specs.Setup.{Setup, IsSetup}
-use Rattle.motion_kernel.specs.Arrivals.{IsEndedWithin, IsTurnedWithin, IsWithin, KeepsMotion, MovesArrive, Turned, ended_in, turned_by, turned_by_fates, turned_in}
+use Rattle.motion_kernel.specs.Arrivals.{IsMoveEndedWithin, IsTurnedWithin, IsWithin, KeepsMotion, MovesArrive, Turned, move_end_in, turned_by, turned_by_fates, turned_in}
 use Rattle.motion_kernel.specs.AxisFates.{axis_fate, look_of_axis}
 use Rattle.motion_kernel.specs.Cycles.{after_cycle}
 use Rattle.motion_kernel.specs.Histories.{Follows, IsLegal, IsOf, after, inputs_of, machine_after, replay}
@@ -379,7 +379,7 @@ blend_carried n most c None m h =
 -- and ends in time
 blend_ends : ArrivalLaws → (s : Setup) (cycles : ℕ) (m : Machine) (es : List Entry) (n most : ℕ) →
     AreWhole s → IsMachineKept s m → Follows s cycles m es → n < length s.axes →
-    BlendsIn n most m → most ≤ cycles_of es → IsEndedWithin most (ended_in s n m es)
+    BlendsIn n most m → most ≤ cycles_of es → IsMoveEndedWithin most (move_end_in s n m es)
 blend_ends laws s cycles m es n most whole h f l u b =
     turned_in_time laws s end_turn_of (BlendsIn n) (λ t x. Unit {0}) n (λ x g. g.run)
     (λ x e left kept there g. blend_carried n left (cycle_count e) (axis_fate s x e n).ends

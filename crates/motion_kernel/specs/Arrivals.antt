@@ -38,8 +38,8 @@ abbrev pub turned_in : Setup → ℕ → Machine → List Entry → Option Turne
 turned_in s n m es = turned_by_fates turn_of s n m es
 
 -- its end, by which it is Done, aborted or faulted: that it is blended is none
-abbrev pub ended_in : Setup → ℕ → Machine → List Entry → Option Turned
-ended_in s n m es = turned_by_fates end_turn_of s n m es
+abbrev pub move_end_in : Setup → ℕ → Machine → List Entry → Option Turned
+move_end_in s n m es = turned_by_fates end_turn_of s n m es
 
 -- there is a turn, within so many cycles, of which this holds
 abbrev pub IsWithin : ℕ → (Turn → Machine → Type 0) → Option Turned → Type 0
@@ -53,8 +53,8 @@ IsTurnedWithin most course n turned =
     IsWithin most (λ (t : Turn) (m : Machine). IsTurn t course (axis_at m n)) turned
 
 -- there is an end, within so many cycles
-abbrev pub IsEndedWithin : ℕ → Option Turned → Type 0
-IsEndedWithin most ended = IsWithin most (λ (t : Turn) (m : Machine). Unit {0}) ended
+abbrev pub IsMoveEndedWithin : ℕ → Option Turned → Type 0
+IsMoveEndedWithin most ended = IsWithin most (λ (t : Turn) (m : Machine). Unit {0}) ended
 
 -- what an entry makes of the active command of an axis, with the entries behind it
 pub record KeepsMotion (s : Setup) (m : Machine) (e : Entry) (more : List Entry) (n : ℕ)
@@ -79,12 +79,12 @@ pub record KeepsMotion (s : Setup) (m : Machine) (e : Entry) (more : List Entry)
       let c = axis_core_at (after s m e) n in
       IsBlended w second c.axis c.waiting → HasStep w second c.axis →
       cycles_to_cross w c.axis ≤ cycles_of more →
-      IsEndedWithin (cycles_to_cross w c.axis) (ended_in s n (after s m e) more)
+      IsMoveEndedWithin (cycles_to_cross w c.axis) (move_end_in s n (after s m e) more)
   -- and none hangs: each ends within the bound of its blend
   pub ends : (w : Wanted) (second : SecondMove) →
       let c = axis_core_at (after s m e) n in
       IsBlended w second c.axis c.waiting → cycles_of_blend w c.axis ≤ cycles_of more →
-      IsEndedWithin (cycles_of_blend w c.axis) (ended_in s n (after s m e) more)
+      IsMoveEndedWithin (cycles_of_blend w c.axis) (move_end_in s n (after s m e) more)
 
 -- so it is of each entry of a history and each axis
 abbrev pub MovesArrive : Setup → List Entry → Type 0
