@@ -141,24 +141,7 @@ off-carries n course c u =
 -- an owner that is taken away
 owned-course : (k : BlockKind) (w : Wanted) (owner : ℕ) → course_by k (record w { owner = pool.without owner w.owner }) ≡ course_by k w
 owned-course kind.Power w owner = refl
-owned-course kind.Reset w owner = refl
-owned-course kind.Home w owner = refl
-owned-course kind.Stop w owner = refl
-owned-course kind.Halt w owner = refl
-owned-course kind.MoveAbsolute w owner = refl
-owned-course kind.MoveRelative w owner = refl
-owned-course kind.MoveVelocity w owner = refl
-owned-course kind.GearIn w owner = refl
-owned-course kind.GearOut w owner = refl
-owned-course kind.CamIn w owner = refl
-owned-course kind.CamOut w owner = refl
-owned-course kind.GroupEnable w owner = refl
-owned-course kind.GroupDisable w owner = refl
-owned-course kind.GroupReset w owner = refl
-owned-course kind.GroupStop w owner = refl
-owned-course kind.GroupHalt w owner = refl
-owned-course kind.MoveLinearAbsolute w owner = refl
-owned-course kind.MoveCircularAbsolute w owner = refl
+owned-course _ w owner = refl
 
 pub detach-carries : (n : ℕ) (course : Course) (owner : ℕ) (c : Core) → IsUnderWay n course c → IsUnderWay n course (disowned owner c)
 unfolding group_without

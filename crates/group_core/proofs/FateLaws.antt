@@ -89,22 +89,7 @@ admitted-fated : (k : BlockKind) (members : GroupLook) (w : Wanted) (c : Core) â
 admitted-fated kind.GroupStop members w c = replaced-fate finish.Aborted c.group.active (Some w) (Some w) refl
 admitted-fated kind.GroupHalt members w c = replaced-fate finish.Aborted c.group.active (Some w) (Some w) refl
 admitted-fated kind.MoveLinearAbsolute members w c = line-fated members w c
-admitted-fated kind.Power members w c = goes-on-fate c.group.active c.group.active refl
-admitted-fated kind.Reset members w c = goes-on-fate c.group.active c.group.active refl
-admitted-fated kind.Home members w c = goes-on-fate c.group.active c.group.active refl
-admitted-fated kind.Stop members w c = goes-on-fate c.group.active c.group.active refl
-admitted-fated kind.Halt members w c = goes-on-fate c.group.active c.group.active refl
-admitted-fated kind.MoveAbsolute members w c = goes-on-fate c.group.active c.group.active refl
-admitted-fated kind.MoveRelative members w c = goes-on-fate c.group.active c.group.active refl
-admitted-fated kind.MoveVelocity members w c = goes-on-fate c.group.active c.group.active refl
-admitted-fated kind.GearIn members w c = goes-on-fate c.group.active c.group.active refl
-admitted-fated kind.GearOut members w c = goes-on-fate c.group.active c.group.active refl
-admitted-fated kind.CamIn members w c = goes-on-fate c.group.active c.group.active refl
-admitted-fated kind.CamOut members w c = goes-on-fate c.group.active c.group.active refl
-admitted-fated kind.GroupEnable members w c = goes-on-fate c.group.active c.group.active refl
-admitted-fated kind.GroupDisable members w c = goes-on-fate c.group.active c.group.active refl
-admitted-fated kind.GroupReset members w c = goes-on-fate c.group.active c.group.active refl
-admitted-fated kind.MoveCircularAbsolute members w c = goes-on-fate c.group.active c.group.active refl
+admitted-fated _ members w c = goes-on-fate c.group.active c.group.active refl
 
 asked-fated : (o : Option Reason) (members : GroupLook) (w : Wanted) (c : Core) â†’ IsFate (asked_fate o w c) c.group.active (commanded_by o members w c).group.active
 asked-fated None members w c = admitted-fated w.kind members w c

@@ -234,24 +234,7 @@ line-begun-kept laws members setpoints w c axes count limits ws t i =
 -- the deceleration of an active command
 deceleration-of : (k : BlockKind) (w : Wanted) → AreNumbers k w → IsDeceleration w.rates.d
 deceleration-of kind.MoveLinearAbsolute w n = record { least = n.least_deceleration; most = n.most_deceleration }
-deceleration-of kind.Power w n = n
-deceleration-of kind.Reset w n = n
-deceleration-of kind.Home w n = n
-deceleration-of kind.Stop w n = n
-deceleration-of kind.Halt w n = n
-deceleration-of kind.MoveAbsolute w n = n
-deceleration-of kind.MoveRelative w n = n
-deceleration-of kind.MoveVelocity w n = n
-deceleration-of kind.GearIn w n = n
-deceleration-of kind.GearOut w n = n
-deceleration-of kind.CamIn w n = n
-deceleration-of kind.CamOut w n = n
-deceleration-of kind.GroupEnable w n = n
-deceleration-of kind.GroupDisable w n = n
-deceleration-of kind.GroupReset w n = n
-deceleration-of kind.GroupStop w n = n
-deceleration-of kind.GroupHalt w n = n
-deceleration-of kind.MoveCircularAbsolute w n = n
+deceleration-of _ w n = n
 
 -- what brakes the path is active where the command before it was
 braking-active : (s : GroupState) (active : Option Wanted) → s ≡ state.GroupMoving → ((w : Wanted) → active ≡ Some w → IsActive s w) →

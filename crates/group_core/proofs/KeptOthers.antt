@@ -55,24 +55,7 @@ owned-state owner state.GroupHoming p active i = absurd i
 
 numbers-of : (k : BlockKind) (v : Wanted) (owner : ℕ) → AreNumbers k v → AreNumbers k (record v { owner = pool.without owner v.owner })
 numbers-of kind.Power v owner n = n
-numbers-of kind.Reset v owner n = n
-numbers-of kind.Home v owner n = n
-numbers-of kind.Stop v owner n = n
-numbers-of kind.Halt v owner n = n
-numbers-of kind.MoveAbsolute v owner n = n
-numbers-of kind.MoveRelative v owner n = n
-numbers-of kind.MoveVelocity v owner n = n
-numbers-of kind.GearIn v owner n = n
-numbers-of kind.GearOut v owner n = n
-numbers-of kind.CamIn v owner n = n
-numbers-of kind.CamOut v owner n = n
-numbers-of kind.GroupEnable v owner n = n
-numbers-of kind.GroupDisable v owner n = n
-numbers-of kind.GroupReset v owner n = n
-numbers-of kind.GroupStop v owner n = n
-numbers-of kind.GroupHalt v owner n = n
-numbers-of kind.MoveLinearAbsolute v owner n = n
-numbers-of kind.MoveCircularAbsolute v owner n = n
+numbers-of _ v owner n = n
 
 owned-active : (owner : ℕ) (s : GroupState) (active : Option Wanted) → ((w : Wanted) → active ≡ Some w → IsActive s w) → (w : Wanted) → active_without owner active ≡ Some w → IsActive s w
 owned-active owner s None f w h = absurd (cc)

@@ -114,24 +114,7 @@ pub record IsTaken (m after : Motion) : Type 0 where
 taken-by : (k : BlockKind) (w : Wanted) (m : Motion) → IsTaken m (moved_by (step_by k w m) m)
 unfolding move_taken_of halt_taken_of
 taken-by kind.MoveLinearAbsolute w m = record { wanted = _; is = refl }
-taken-by kind.Power w m = record { wanted = _; is = refl }
-taken-by kind.Reset w m = record { wanted = _; is = refl }
-taken-by kind.Home w m = record { wanted = _; is = refl }
-taken-by kind.Stop w m = record { wanted = _; is = refl }
-taken-by kind.Halt w m = record { wanted = _; is = refl }
-taken-by kind.MoveAbsolute w m = record { wanted = _; is = refl }
-taken-by kind.MoveRelative w m = record { wanted = _; is = refl }
-taken-by kind.MoveVelocity w m = record { wanted = _; is = refl }
-taken-by kind.GearIn w m = record { wanted = _; is = refl }
-taken-by kind.GearOut w m = record { wanted = _; is = refl }
-taken-by kind.CamIn w m = record { wanted = _; is = refl }
-taken-by kind.CamOut w m = record { wanted = _; is = refl }
-taken-by kind.GroupEnable w m = record { wanted = _; is = refl }
-taken-by kind.GroupDisable w m = record { wanted = _; is = refl }
-taken-by kind.GroupReset w m = record { wanted = _; is = refl }
-taken-by kind.GroupStop w m = record { wanted = _; is = refl }
-taken-by kind.GroupHalt w m = record { wanted = _; is = refl }
-taken-by kind.MoveCircularAbsolute w m = record { wanted = _; is = refl }
+taken-by _ w m = record { wanted = _; is = refl }
 
 taken-with : (active : Option Wanted) (m : Motion) → IsTaken m (advanced_with active m).motion
 taken-with None m = record { wanted = _; is = refl }

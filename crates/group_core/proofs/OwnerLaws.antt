@@ -136,21 +136,7 @@ sum-admitted kind.GroupReset k members w c =
     let a = told-more k c.notes (replaced_note c.group.reset) in
     let b = told-replaced k c.group.reset in
     omega arith
-sum-admitted kind.Power k members w c = let z = nobody k in omega arith
-sum-admitted kind.Reset k members w c = let z = nobody k in omega arith
-sum-admitted kind.Home k members w c = let z = nobody k in omega arith
-sum-admitted kind.Stop k members w c = let z = nobody k in omega arith
-sum-admitted kind.Halt k members w c = let z = nobody k in omega arith
-sum-admitted kind.MoveAbsolute k members w c = let z = nobody k in omega arith
-sum-admitted kind.MoveRelative k members w c = let z = nobody k in omega arith
-sum-admitted kind.MoveVelocity k members w c = let z = nobody k in omega arith
-sum-admitted kind.GearIn k members w c = let z = nobody k in omega arith
-sum-admitted kind.GearOut k members w c = let z = nobody k in omega arith
-sum-admitted kind.CamIn k members w c = let z = nobody k in omega arith
-sum-admitted kind.CamOut k members w c = let z = nobody k in omega arith
-sum-admitted kind.GroupEnable k members w c = let z = nobody k in omega arith
-sum-admitted kind.GroupDisable k members w c = let z = nobody k in omega arith
-sum-admitted kind.MoveCircularAbsolute k members w c = let z = nobody k in omega arith
+sum-admitted _ k members w c = let z = nobody k in omega arith
 
 sum-asked : (o : Option Reason) (k : ℕ) (members : GroupLook) (w : Wanted) (c : Core) → sum k (commanded_by o members w c) ≡ sum k c + is_owner k (brought o w)
 sum-asked None k members w c = sum-admitted w.kind k members w c

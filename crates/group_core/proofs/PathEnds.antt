@@ -43,24 +43,7 @@ line-done m step f h =
 
 ending-rests : (k : BlockKind) (m : Motion) (step : ℤ) (f : Finish) → ending_by k m step ≡ Some f → step ≡ pos 0
 ending-rests kind.MoveLinearAbsolute m step f h = (line-done m step f h).1
-ending-rests kind.Power m step f h = done-step step f h
-ending-rests kind.Reset m step f h = done-step step f h
-ending-rests kind.Home m step f h = done-step step f h
-ending-rests kind.Stop m step f h = done-step step f h
-ending-rests kind.Halt m step f h = done-step step f h
-ending-rests kind.MoveAbsolute m step f h = done-step step f h
-ending-rests kind.MoveRelative m step f h = done-step step f h
-ending-rests kind.MoveVelocity m step f h = done-step step f h
-ending-rests kind.GearIn m step f h = done-step step f h
-ending-rests kind.GearOut m step f h = done-step step f h
-ending-rests kind.CamIn m step f h = done-step step f h
-ending-rests kind.CamOut m step f h = done-step step f h
-ending-rests kind.GroupEnable m step f h = done-step step f h
-ending-rests kind.GroupDisable m step f h = done-step step f h
-ending-rests kind.GroupReset m step f h = done-step step f h
-ending-rests kind.GroupStop m step f h = done-step step f h
-ending-rests kind.GroupHalt m step f h = done-step step f h
-ending-rests kind.MoveCircularAbsolute m step f h = done-step step f h
+ending-rests _ m step f h = done-step step f h
 
 -- the path stands after this step
 abbrev pub Rests : Motion → Type 0

@@ -85,22 +85,7 @@ admitted-tells : (k : BlockKind) (members : GroupLook) (w : Wanted) (c : Core) â
 admitted-tells kind.GroupStop members w c = tells-replaced finish.Aborted c.group.active (Some w) (halted members w c).notes (all-notes finish.Aborted c)
 admitted-tells kind.GroupHalt members w c = tells-replaced finish.Aborted c.group.active (Some w) (halted members w c).notes (all-notes finish.Aborted c)
 admitted-tells kind.MoveLinearAbsolute members w c = line-tells members w c
-admitted-tells kind.Power members w c = tells-none c.group.active _
-admitted-tells kind.Reset members w c = tells-none c.group.active _
-admitted-tells kind.Home members w c = tells-none c.group.active _
-admitted-tells kind.Stop members w c = tells-none c.group.active _
-admitted-tells kind.Halt members w c = tells-none c.group.active _
-admitted-tells kind.MoveAbsolute members w c = tells-none c.group.active _
-admitted-tells kind.MoveRelative members w c = tells-none c.group.active _
-admitted-tells kind.MoveVelocity members w c = tells-none c.group.active _
-admitted-tells kind.GearIn members w c = tells-none c.group.active _
-admitted-tells kind.GearOut members w c = tells-none c.group.active _
-admitted-tells kind.CamIn members w c = tells-none c.group.active _
-admitted-tells kind.CamOut members w c = tells-none c.group.active _
-admitted-tells kind.GroupEnable members w c = tells-none c.group.active _
-admitted-tells kind.GroupDisable members w c = tells-none c.group.active _
-admitted-tells kind.GroupReset members w c = tells-none c.group.active _
-admitted-tells kind.MoveCircularAbsolute members w c = tells-none c.group.active _
+admitted-tells _ members w c = tells-none c.group.active _
 
 asked-tells : (o : Option Reason) (members : GroupLook) (w : Wanted) (c : Core) â†’ TellsOwner (asked_fate o w c) c.group.active (commanded_by o members w c).notes
 asked-tells None members w c = admitted-tells w.kind members w c

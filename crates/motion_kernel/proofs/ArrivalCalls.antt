@@ -217,24 +217,7 @@ kinds : (P : Fate → Axis → List Wanted → Type 0) (s : Setup) (kind : Block
     (i : Inputs) (m : Machine) (n : ℕ) → IsByFate (axis_at m n) (queue_of m.queues n) P → IsThere m n →
     At P (fate_by_kind s kind e k b i m n) (after_asking s kind e k b i m) n
 kinds P s kind.Power e k b i m n laws l = powers P s b.object i.execute m n laws l
-kinds P s kind.Reset e k b i m n laws l = edges P s e k b i m n laws l
-kinds P s kind.Home e k b i m n laws l = edges P s e k b i m n laws l
-kinds P s kind.Stop e k b i m n laws l = edges P s e k b i m n laws l
-kinds P s kind.Halt e k b i m n laws l = edges P s e k b i m n laws l
-kinds P s kind.MoveAbsolute e k b i m n laws l = edges P s e k b i m n laws l
-kinds P s kind.MoveRelative e k b i m n laws l = edges P s e k b i m n laws l
-kinds P s kind.MoveVelocity e k b i m n laws l = edges P s e k b i m n laws l
-kinds P s kind.GearIn e k b i m n laws l = edges P s e k b i m n laws l
-kinds P s kind.GearOut e k b i m n laws l = edges P s e k b i m n laws l
-kinds P s kind.CamIn e k b i m n laws l = edges P s e k b i m n laws l
-kinds P s kind.CamOut e k b i m n laws l = edges P s e k b i m n laws l
-kinds P s kind.GroupEnable e k b i m n laws l = edges P s e k b i m n laws l
-kinds P s kind.GroupDisable e k b i m n laws l = edges P s e k b i m n laws l
-kinds P s kind.GroupReset e k b i m n laws l = edges P s e k b i m n laws l
-kinds P s kind.GroupStop e k b i m n laws l = edges P s e k b i m n laws l
-kinds P s kind.GroupHalt e k b i m n laws l = edges P s e k b i m n laws l
-kinds P s kind.MoveLinearAbsolute e k b i m n laws l = edges P s e k b i m n laws l
-kinds P s kind.MoveCircularAbsolute e k b i m n laws l = edges P s e k b i m n laws l
+kinds P s _ e k b i m n laws l = edges P s e k b i m n laws l
 
 calls : (P : Fate → Axis → List Wanted → Type 0) (s : Setup) (o : Option BlockDef) (k : ℕ) (i : Inputs)
     (m : Machine) (n : ℕ) → IsByFate (axis_at m n) (queue_of m.queues n) P → IsThere m n →

@@ -416,22 +416,7 @@ admitted_not_done kind.GearOut w c = replaced_not_done c.axis.active
     (Some (velocity_command w c.axis))
 admitted_not_done kind.CamOut w c = replaced_not_done c.axis.active
     (Some (velocity_command w c.axis))
-admitted_not_done kind.Power w c = joined_not_done w c
-admitted_not_done kind.Home w c = joined_not_done w c
-admitted_not_done kind.Stop w c = joined_not_done w c
-admitted_not_done kind.Halt w c = joined_not_done w c
-admitted_not_done kind.MoveAbsolute w c = joined_not_done w c
-admitted_not_done kind.MoveRelative w c = joined_not_done w c
-admitted_not_done kind.MoveVelocity w c = joined_not_done w c
-admitted_not_done kind.GearIn w c = joined_not_done w c
-admitted_not_done kind.CamIn w c = joined_not_done w c
-admitted_not_done kind.GroupEnable w c = joined_not_done w c
-admitted_not_done kind.GroupDisable w c = joined_not_done w c
-admitted_not_done kind.GroupReset w c = joined_not_done w c
-admitted_not_done kind.GroupStop w c = joined_not_done w c
-admitted_not_done kind.GroupHalt w c = joined_not_done w c
-admitted_not_done kind.MoveLinearAbsolute w c = joined_not_done w c
-admitted_not_done kind.MoveCircularAbsolute w c = joined_not_done w c
+admitted_not_done _ w c = joined_not_done w c
 
 asked_not_done : (o : Option Reason) (w : Wanted) (c : cores.Core) → IsNotDone (asked_fate o w c)
 asked_not_done None w c =

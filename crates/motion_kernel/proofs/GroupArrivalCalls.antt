@@ -219,42 +219,12 @@ kinds : (P : Fate → Core → Type 0) (s : Setup) (kind : BlockKind) (e : Edge)
     P (fate_by_kind s kind e k b i m j) (group_core_at (after_asking s kind e k b i m) j)
 kinds P s kind.Power e k b i m j is laws there asked = powers P s b.object i.execute m j laws there
     (asked.axis (acts_alone b.kind is))
-kinds P s kind.Reset e k b i m j is laws there asked = edges P s e k b i m j laws there asked
-    (ap is_power is)
-kinds P s kind.Home e k b i m j is laws there asked = edges P s e k b i m j laws there asked
-    (ap is_power is)
-kinds P s kind.Stop e k b i m j is laws there asked = edges P s e k b i m j laws there asked
-    (ap is_power is)
-kinds P s kind.Halt e k b i m j is laws there asked = edges P s e k b i m j laws there asked
-    (ap is_power is)
-kinds P s kind.MoveAbsolute e k b i m j is laws there asked = edges P s e k b i m j laws there asked
-    (ap is_power is)
-kinds P s kind.MoveRelative e k b i m j is laws there asked = edges P s e k b i m j laws there asked
-    (ap is_power is)
-kinds P s kind.MoveVelocity e k b i m j is laws there asked = edges P s e k b i m j laws there asked
-    (ap is_power is)
-kinds P s kind.GearIn e k b i m j is laws there asked = edges P s e k b i m j laws there asked
-    (ap is_power is)
-kinds P s kind.GearOut e k b i m j is laws there asked = edges P s e k b i m j laws there asked
-    (ap is_power is)
-kinds P s kind.CamIn e k b i m j is laws there asked = edges P s e k b i m j laws there asked
-    (ap is_power is)
-kinds P s kind.CamOut e k b i m j is laws there asked = edges P s e k b i m j laws there asked
-    (ap is_power is)
-kinds P s kind.GroupEnable e k b i m j is laws there asked = edges P s e k b i m j laws there asked
-    (ap is_power is)
-kinds P s kind.GroupDisable e k b i m j is laws there asked = edges P s e k b i m j laws there asked
-    (ap is_power is)
-kinds P s kind.GroupReset e k b i m j is laws there asked = edges P s e k b i m j laws there asked
-    (ap is_power is)
-kinds P s kind.GroupStop e k b i m j is laws there asked = edges P s e k b i m j laws there asked
-    (ap is_power is)
-kinds P s kind.GroupHalt e k b i m j is laws there asked = edges P s e k b i m j laws there asked
-    (ap is_power is)
 kinds P s kind.MoveLinearAbsolute e k b i m j is laws there asked =
     edges P s e k b i m j laws there asked (ap is_power is)
 kinds P s kind.MoveCircularAbsolute e k b i m j is laws there asked =
     edges P s e k b i m j laws there asked (ap is_power is)
+kinds P s _ e k b i m j is laws there asked = edges P s e k b i m j laws there asked
+    (ap is_power is)
 
 calls : (P : Fate → Core → Type 0) (s : Setup) (o : Option BlockDef) (k : ℕ) (i : Inputs)
     (m : Machine) (j : ℕ) → IsByFate (group_core_at m j) P → IsThere m j →

@@ -101,24 +101,7 @@ power_called laws s k b i m at call e h =
 asking_kept : CallLaws → (s : Setup) (kind : BlockKind) (e : Edge) (k : ℕ) (b : BlockDef) (i : Inputs) (m : Machine) → AreWhole s →
     slice_get s.blocks k ≡ Some b → IsCall s k i → b.kind ≡ kind → IsMachineKept s m → IsMachineKept s (after_asking s kind e k b i m)
 asking_kept laws s kind.Power e k b i m whole at call is h = power_called laws s k b i m at call is h
-asking_kept laws s kind.Reset e k b i m whole at call is h = edge_kept laws s e k b i m whole at call (ap is_power is) h
-asking_kept laws s kind.Home e k b i m whole at call is h = edge_kept laws s e k b i m whole at call (ap is_power is) h
-asking_kept laws s kind.Stop e k b i m whole at call is h = edge_kept laws s e k b i m whole at call (ap is_power is) h
-asking_kept laws s kind.Halt e k b i m whole at call is h = edge_kept laws s e k b i m whole at call (ap is_power is) h
-asking_kept laws s kind.MoveAbsolute e k b i m whole at call is h = edge_kept laws s e k b i m whole at call (ap is_power is) h
-asking_kept laws s kind.MoveRelative e k b i m whole at call is h = edge_kept laws s e k b i m whole at call (ap is_power is) h
-asking_kept laws s kind.MoveVelocity e k b i m whole at call is h = edge_kept laws s e k b i m whole at call (ap is_power is) h
-asking_kept laws s kind.GearIn e k b i m whole at call is h = edge_kept laws s e k b i m whole at call (ap is_power is) h
-asking_kept laws s kind.GearOut e k b i m whole at call is h = edge_kept laws s e k b i m whole at call (ap is_power is) h
-asking_kept laws s kind.CamIn e k b i m whole at call is h = edge_kept laws s e k b i m whole at call (ap is_power is) h
-asking_kept laws s kind.CamOut e k b i m whole at call is h = edge_kept laws s e k b i m whole at call (ap is_power is) h
-asking_kept laws s kind.GroupEnable e k b i m whole at call is h = edge_kept laws s e k b i m whole at call (ap is_power is) h
-asking_kept laws s kind.GroupDisable e k b i m whole at call is h = edge_kept laws s e k b i m whole at call (ap is_power is) h
-asking_kept laws s kind.GroupReset e k b i m whole at call is h = edge_kept laws s e k b i m whole at call (ap is_power is) h
-asking_kept laws s kind.GroupStop e k b i m whole at call is h = edge_kept laws s e k b i m whole at call (ap is_power is) h
-asking_kept laws s kind.GroupHalt e k b i m whole at call is h = edge_kept laws s e k b i m whole at call (ap is_power is) h
-asking_kept laws s kind.MoveLinearAbsolute e k b i m whole at call is h = edge_kept laws s e k b i m whole at call (ap is_power is) h
-asking_kept laws s kind.MoveCircularAbsolute e k b i m whole at call is h = edge_kept laws s e k b i m whole at call (ap is_power is) h
+asking_kept laws s _ e k b i m whole at call is h = edge_kept laws s e k b i m whole at call (ap is_power is) h
 
 called_kept_where : CallLaws → (s : Setup) (o : Option BlockDef) (k : ℕ) (i : Inputs) (m : Machine) → AreWhole s → slice_get s.blocks k ≡ o → IsCall s k i →
     IsMachineKept s m → IsMachineKept s (called_where s o k i m)

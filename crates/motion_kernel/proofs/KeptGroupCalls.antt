@@ -51,24 +51,7 @@ use Rattle.motion_kernel.proofs.KeptReady.{IsMemberKept, few_members, limits_sho
 -- a command that becomes active leaves the group where its axes stand within their limits
 begun_within : (k : BlockKind) → is_within (next_of (event_of k)) ≡ true
 begun_within kind.Power = refl
-begun_within kind.Reset = refl
-begun_within kind.Home = refl
-begun_within kind.Stop = refl
-begun_within kind.Halt = refl
-begun_within kind.MoveAbsolute = refl
-begun_within kind.MoveRelative = refl
-begun_within kind.MoveVelocity = refl
-begun_within kind.GearIn = refl
-begun_within kind.GearOut = refl
-begun_within kind.CamIn = refl
-begun_within kind.CamOut = refl
-begun_within kind.GroupEnable = refl
-begun_within kind.GroupDisable = refl
-begun_within kind.GroupReset = refl
-begun_within kind.GroupStop = refl
-begun_within kind.GroupHalt = refl
-begun_within kind.MoveLinearAbsolute = refl
-begun_within kind.MoveCircularAbsolute = refl
+begun_within _ = refl
 
 joined_within : (waits at_once : Bool) (x y z : group_cores.Core) → (not waits && at_once) ≡ true → is_within y.group.state ≡ true →
     is_within (if waits then x else (if at_once then y else z)).group.state ≡ true
@@ -82,25 +65,10 @@ line_within members w c e = search (joined_within, begun_within)
 
 active_within : (k : BlockKind) (members : GroupLook) (w : Wanted) (c : group_cores.Core) → is_active_by k w c ≡ true →
     is_within (admitted_by k members w c).group.state ≡ true
-active_within kind.Power members w c e = absurd (cc)
-active_within kind.Reset members w c e = absurd (cc)
-active_within kind.Home members w c e = absurd (cc)
-active_within kind.Stop members w c e = absurd (cc)
-active_within kind.Halt members w c e = absurd (cc)
-active_within kind.MoveAbsolute members w c e = absurd (cc)
-active_within kind.MoveRelative members w c e = absurd (cc)
-active_within kind.MoveVelocity members w c e = absurd (cc)
-active_within kind.GearIn members w c e = absurd (cc)
-active_within kind.GearOut members w c e = absurd (cc)
-active_within kind.CamIn members w c e = absurd (cc)
-active_within kind.CamOut members w c e = absurd (cc)
-active_within kind.GroupEnable members w c e = absurd (cc)
-active_within kind.GroupDisable members w c e = absurd (cc)
-active_within kind.GroupReset members w c e = absurd (cc)
 active_within kind.GroupStop members w c e = begun_within w.kind
 active_within kind.GroupHalt members w c e = begun_within w.kind
 active_within kind.MoveLinearAbsolute members w c e = line_within members w c e
-active_within kind.MoveCircularAbsolute members w c e = absurd (cc)
+active_within _ members w c e = absurd (cc)
 
 answered_within : (r : Option Reason) (members : GroupLook) (w : Wanted) (c : group_cores.Core) → answer_by r w c ≡ Ok true →
     is_within (commanded_by r members w c).group.state ≡ true
@@ -487,66 +455,15 @@ left_kept laws s m j w jerk h l made disable answer =
 -- where a refused command, or one that waits or is done, leads no axes
 refused_led : (s : Setup) (j : ℕ) (k : BlockKind) (r : Refusal) (m : Machine) → members_led s j k (Err r) m ≡ m
 refused_led s j kind.Power r m = refl
-refused_led s j kind.Reset r m = refl
-refused_led s j kind.Home r m = refl
-refused_led s j kind.Stop r m = refl
-refused_led s j kind.Halt r m = refl
-refused_led s j kind.MoveAbsolute r m = refl
-refused_led s j kind.MoveRelative r m = refl
-refused_led s j kind.MoveVelocity r m = refl
-refused_led s j kind.GearIn r m = refl
-refused_led s j kind.GearOut r m = refl
-refused_led s j kind.CamIn r m = refl
-refused_led s j kind.CamOut r m = refl
-refused_led s j kind.GroupEnable r m = refl
-refused_led s j kind.GroupDisable r m = refl
-refused_led s j kind.GroupReset r m = refl
-refused_led s j kind.GroupStop r m = refl
-refused_led s j kind.GroupHalt r m = refl
-refused_led s j kind.MoveLinearAbsolute r m = refl
-refused_led s j kind.MoveCircularAbsolute r m = refl
+refused_led s j _ r m = refl
 
 waiting_led : (s : Setup) (j : ℕ) (k : BlockKind) (m : Machine) → (k ≡ kind.GroupDisable → ⊥) → members_led s j k (Ok false) m ≡ m
-waiting_led s j kind.Power m h = refl
-waiting_led s j kind.Reset m h = refl
-waiting_led s j kind.Home m h = refl
-waiting_led s j kind.Stop m h = refl
-waiting_led s j kind.Halt m h = refl
-waiting_led s j kind.MoveAbsolute m h = refl
-waiting_led s j kind.MoveRelative m h = refl
-waiting_led s j kind.MoveVelocity m h = refl
-waiting_led s j kind.GearIn m h = refl
-waiting_led s j kind.GearOut m h = refl
-waiting_led s j kind.CamIn m h = refl
-waiting_led s j kind.CamOut m h = refl
-waiting_led s j kind.GroupEnable m h = refl
 waiting_led s j kind.GroupDisable m h = absurd (h refl)
-waiting_led s j kind.GroupReset m h = refl
-waiting_led s j kind.GroupStop m h = refl
-waiting_led s j kind.GroupHalt m h = refl
-waiting_led s j kind.MoveLinearAbsolute m h = refl
-waiting_led s j kind.MoveCircularAbsolute m h = refl
+waiting_led s j _ m h = refl
 
 disable_or : (k : BlockKind) → (k ≡ kind.GroupDisable) ⊎ (k ≡ kind.GroupDisable → ⊥)
-disable_or kind.Power = inr (λ e. cc)
-disable_or kind.Reset = inr (λ e. cc)
-disable_or kind.Home = inr (λ e. cc)
-disable_or kind.Stop = inr (λ e. cc)
-disable_or kind.Halt = inr (λ e. cc)
-disable_or kind.MoveAbsolute = inr (λ e. cc)
-disable_or kind.MoveRelative = inr (λ e. cc)
-disable_or kind.MoveVelocity = inr (λ e. cc)
-disable_or kind.GearIn = inr (λ e. cc)
-disable_or kind.GearOut = inr (λ e. cc)
-disable_or kind.CamIn = inr (λ e. cc)
-disable_or kind.CamOut = inr (λ e. cc)
-disable_or kind.GroupEnable = inr (λ e. cc)
 disable_or kind.GroupDisable = inl refl
-disable_or kind.GroupReset = inr (λ e. cc)
-disable_or kind.GroupStop = inr (λ e. cc)
-disable_or kind.GroupHalt = inr (λ e. cc)
-disable_or kind.MoveLinearAbsolute = inr (λ e. cc)
-disable_or kind.MoveCircularAbsolute = inr (λ e. cc)
+disable_or _ = inr (λ e. cc)
 
 -- the machine is kept once the axes are led
 led_kept_by : CommandLaws → (s : Setup) (m : Machine) (j : ℕ) (w : Wanted) (jerk : ℤ) (answer : Result Bool Refusal) → IsMachineKept s m → j < length m.groups →

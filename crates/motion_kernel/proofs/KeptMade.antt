@@ -27,17 +27,6 @@ use Rattle.motion_kernel.proofs.MemberLaws.{each_of}
 
 axis_kind : (k : BlockKind) → acts_on_group k ≡ false → is_power k ≡ false → is_axis_command k ≡ true
 axis_kind kind.Power g p = absurd (cc)
-axis_kind kind.Reset g p = refl
-axis_kind kind.Home g p = refl
-axis_kind kind.Stop g p = refl
-axis_kind kind.Halt g p = refl
-axis_kind kind.MoveAbsolute g p = refl
-axis_kind kind.MoveRelative g p = refl
-axis_kind kind.MoveVelocity g p = refl
-axis_kind kind.GearIn g p = refl
-axis_kind kind.GearOut g p = refl
-axis_kind kind.CamIn g p = refl
-axis_kind kind.CamOut g p = refl
 axis_kind kind.GroupEnable g p = absurd (cc)
 axis_kind kind.GroupDisable g p = absurd (cc)
 axis_kind kind.GroupReset g p = absurd (cc)
@@ -45,27 +34,12 @@ axis_kind kind.GroupStop g p = absurd (cc)
 axis_kind kind.GroupHalt g p = absurd (cc)
 axis_kind kind.MoveLinearAbsolute g p = absurd (cc)
 axis_kind kind.MoveCircularAbsolute g p = absurd (cc)
+axis_kind _ g p = refl
 
 asked : (k : BlockKind) (w : Wanted) (i : Inputs) → w.targets ≡ i.positions → target_of k i ≡ asked_target k w
-asked kind.Power w i e = refl
-asked kind.Reset w i e = refl
 asked kind.Home w i e = ap (λ ts. Some (slice_index_or ts 0 (pos 0))) (sym e)
-asked kind.Stop w i e = refl
-asked kind.Halt w i e = refl
 asked kind.MoveAbsolute w i e = ap (λ ts. Some (slice_index_or ts 0 (pos 0))) (sym e)
-asked kind.MoveRelative w i e = refl
-asked kind.MoveVelocity w i e = refl
-asked kind.GearIn w i e = refl
-asked kind.GearOut w i e = refl
-asked kind.CamIn w i e = refl
-asked kind.CamOut w i e = refl
-asked kind.GroupEnable w i e = refl
-asked kind.GroupDisable w i e = refl
-asked kind.GroupReset w i e = refl
-asked kind.GroupStop w i e = refl
-asked kind.GroupHalt w i e = refl
-asked kind.MoveLinearAbsolute w i e = refl
-asked kind.MoveCircularAbsolute w i e = refl
+asked _ w i e = refl
 
 axis_mode : (k : BlockKind) → is_axis_command k ≡ true → axis_kinds.may_wait k ≡ false → takes k Mode ≡ false
 axis_mode kind.Power a h = refl
@@ -73,41 +47,17 @@ axis_mode kind.Reset a h = refl
 axis_mode kind.Home a h = refl
 axis_mode kind.Stop a h = refl
 axis_mode kind.Halt a h = refl
-axis_mode kind.MoveAbsolute a h = absurd (cc)
-axis_mode kind.MoveRelative a h = absurd (cc)
-axis_mode kind.MoveVelocity a h = absurd (cc)
-axis_mode kind.GearIn a h = absurd (cc)
 axis_mode kind.GearOut a h = refl
-axis_mode kind.CamIn a h = absurd (cc)
 axis_mode kind.CamOut a h = refl
-axis_mode kind.GroupEnable a h = absurd (cc)
-axis_mode kind.GroupDisable a h = absurd (cc)
-axis_mode kind.GroupReset a h = absurd (cc)
-axis_mode kind.GroupStop a h = absurd (cc)
-axis_mode kind.GroupHalt a h = absurd (cc)
-axis_mode kind.MoveLinearAbsolute a h = absurd (cc)
-axis_mode kind.MoveCircularAbsolute a h = absurd (cc)
+axis_mode _ a h = absurd (cc)
 
 group_mode : (k : BlockKind) → acts_on_group k ≡ true → group_kinds.may_wait k ≡ false → takes k Mode ≡ false
-group_mode kind.Power a h = absurd (cc)
-group_mode kind.Reset a h = absurd (cc)
-group_mode kind.Home a h = absurd (cc)
-group_mode kind.Stop a h = absurd (cc)
-group_mode kind.Halt a h = absurd (cc)
-group_mode kind.MoveAbsolute a h = absurd (cc)
-group_mode kind.MoveRelative a h = absurd (cc)
-group_mode kind.MoveVelocity a h = absurd (cc)
-group_mode kind.GearIn a h = absurd (cc)
-group_mode kind.GearOut a h = absurd (cc)
-group_mode kind.CamIn a h = absurd (cc)
-group_mode kind.CamOut a h = absurd (cc)
 group_mode kind.GroupEnable a h = refl
 group_mode kind.GroupDisable a h = refl
 group_mode kind.GroupReset a h = refl
 group_mode kind.GroupStop a h = refl
 group_mode kind.GroupHalt a h = refl
-group_mode kind.MoveLinearAbsolute a h = absurd (cc)
-group_mode kind.MoveCircularAbsolute a h = absurd (cc)
+group_mode _ a h = absurd (cc)
 
 -- a command of an axis
 pub axis_made : (s : Setup) (k : ℕ) (b : BlockDef) (i : Inputs) → slice_get s.blocks k ≡ Some b → IsCall s k i →

@@ -153,24 +153,7 @@ edge_left R laws s edge.Low k b i m = all_alone R laws m
 
 asking_left : (R : Axis → Axis → Type 0) → CallsLeave R → (s : Setup) (kind : BlockKind) (e : Edge) (k : ℕ) (b : BlockDef) (i : Inputs) (m : Machine) → AllLeft R m (after_asking s kind e k b i m)
 asking_left R laws s kind.Power e k b i m = power_left R laws s b.object i.execute m
-asking_left R laws s kind.Reset e k b i m = edge_left R laws s e k b i m
-asking_left R laws s kind.Home e k b i m = edge_left R laws s e k b i m
-asking_left R laws s kind.Stop e k b i m = edge_left R laws s e k b i m
-asking_left R laws s kind.Halt e k b i m = edge_left R laws s e k b i m
-asking_left R laws s kind.MoveAbsolute e k b i m = edge_left R laws s e k b i m
-asking_left R laws s kind.MoveRelative e k b i m = edge_left R laws s e k b i m
-asking_left R laws s kind.MoveVelocity e k b i m = edge_left R laws s e k b i m
-asking_left R laws s kind.GearIn e k b i m = edge_left R laws s e k b i m
-asking_left R laws s kind.GearOut e k b i m = edge_left R laws s e k b i m
-asking_left R laws s kind.CamIn e k b i m = edge_left R laws s e k b i m
-asking_left R laws s kind.CamOut e k b i m = edge_left R laws s e k b i m
-asking_left R laws s kind.GroupEnable e k b i m = edge_left R laws s e k b i m
-asking_left R laws s kind.GroupDisable e k b i m = edge_left R laws s e k b i m
-asking_left R laws s kind.GroupReset e k b i m = edge_left R laws s e k b i m
-asking_left R laws s kind.GroupStop e k b i m = edge_left R laws s e k b i m
-asking_left R laws s kind.GroupHalt e k b i m = edge_left R laws s e k b i m
-asking_left R laws s kind.MoveLinearAbsolute e k b i m = edge_left R laws s e k b i m
-asking_left R laws s kind.MoveCircularAbsolute e k b i m = edge_left R laws s e k b i m
+asking_left R laws s _ e k b i m = edge_left R laws s e k b i m
 
 called_left : (R : Axis → Axis → Type 0) → CallsLeave R → (s : Setup) (o : Option BlockDef) (k : ℕ) (i : Inputs) (m : Machine) → AllLeft R m (called_where s o k i m)
 called_left R laws s None k i m = all_alone R laws m

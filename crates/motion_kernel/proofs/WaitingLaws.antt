@@ -183,24 +183,7 @@ edge_short laws s edge.Low k b i m kept may other h = h
 asking_short : WaitingLaws → (s : Setup) (kind : BlockKind) (e : Edge) (k : ℕ) (b : BlockDef) (i : Inputs) (m : Machine) → IsMachineKept s m →
     MayCall s k b i m → b.kind ≡ kind → FewWait m → FewWait (after_asking s kind e k b i m)
 asking_short laws s kind.Power e k b i m kept may is h = power_short laws s b.object i.execute m h
-asking_short laws s kind.Reset e k b i m kept may is h = edge_short laws s e k b i m kept may (ap is_power is) h
-asking_short laws s kind.Home e k b i m kept may is h = edge_short laws s e k b i m kept may (ap is_power is) h
-asking_short laws s kind.Stop e k b i m kept may is h = edge_short laws s e k b i m kept may (ap is_power is) h
-asking_short laws s kind.Halt e k b i m kept may is h = edge_short laws s e k b i m kept may (ap is_power is) h
-asking_short laws s kind.MoveAbsolute e k b i m kept may is h = edge_short laws s e k b i m kept may (ap is_power is) h
-asking_short laws s kind.MoveRelative e k b i m kept may is h = edge_short laws s e k b i m kept may (ap is_power is) h
-asking_short laws s kind.MoveVelocity e k b i m kept may is h = edge_short laws s e k b i m kept may (ap is_power is) h
-asking_short laws s kind.GearIn e k b i m kept may is h = edge_short laws s e k b i m kept may (ap is_power is) h
-asking_short laws s kind.GearOut e k b i m kept may is h = edge_short laws s e k b i m kept may (ap is_power is) h
-asking_short laws s kind.CamIn e k b i m kept may is h = edge_short laws s e k b i m kept may (ap is_power is) h
-asking_short laws s kind.CamOut e k b i m kept may is h = edge_short laws s e k b i m kept may (ap is_power is) h
-asking_short laws s kind.GroupEnable e k b i m kept may is h = edge_short laws s e k b i m kept may (ap is_power is) h
-asking_short laws s kind.GroupDisable e k b i m kept may is h = edge_short laws s e k b i m kept may (ap is_power is) h
-asking_short laws s kind.GroupReset e k b i m kept may is h = edge_short laws s e k b i m kept may (ap is_power is) h
-asking_short laws s kind.GroupStop e k b i m kept may is h = edge_short laws s e k b i m kept may (ap is_power is) h
-asking_short laws s kind.GroupHalt e k b i m kept may is h = edge_short laws s e k b i m kept may (ap is_power is) h
-asking_short laws s kind.MoveLinearAbsolute e k b i m kept may is h = edge_short laws s e k b i m kept may (ap is_power is) h
-asking_short laws s kind.MoveCircularAbsolute e k b i m kept may is h = edge_short laws s e k b i m kept may (ap is_power is) h
+asking_short laws s _ e k b i m kept may is h = edge_short laws s e k b i m kept may (ap is_power is) h
 
 called_short : WaitingLaws → (s : Setup) (o : Option BlockDef) (k : ℕ) (i : Inputs) (m : Machine) → AreWhole s → slice_get s.blocks k ≡ o → IsCall s k i →
     IsMachineKept s m → FewWait m → FewWait (called_where s o k i m)
