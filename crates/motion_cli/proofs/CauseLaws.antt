@@ -10,7 +10,7 @@ use Rattle.outside.specs.Told.{FileMap}
 use Rattle.trace_check.specs.Legal.{IsLegalTrace}
 use Rattle.trace_check.specs.Progress.{difference_in}
 use Rattle.trace_check.specs.declared.difference.Difference.{Difference}
-use Rattle.trace_text.specs.Reading.{trace_of}
+use Rattle.trace_text.specs.reading.Reading.{trace_of}
 use Rattle.trace_text.specs.TraceState.{TraceState, entries_of}
 use Rattle.motion_cli.specs.Asked.{Request}
 use Rattle.motion_cli.specs.Causes.{Asks, HasRoom, IsChecked, IsDone, IsIllegal, IsMigrated, IsRefused, IsTooLong, RunsTo, refusal_by, refusal_of}

@@ -20,14 +20,14 @@ use Rattle.trace_check.specs.Progress.{difference_in}
 use Rattle.trace_check.specs.Verdicts.{verdict_by, verdict_of}
 use Rattle.trace_check.specs.declared.verdict.Verdict.{Verdict}
 use Rattle.trace_check.specs.declared.verdict.Verdict.TheVariants as verdict
-use Rattle.trace_text.specs.Reading.{trace_of}
+use Rattle.trace_text.specs.reading.Reading.{trace_of}
 use Rattle.trace_check.specs.declared.difference.Difference.{Difference}
 use Rattle.trace_text.specs.Trace.{CanHold, trace_text}
 use Rattle.trace_text.specs.TraceState.{TraceState, entries_of}
-use Rattle.trace_text.specs.Writes.{Output, Writes, WritesPrefix}
-use Rattle.trace_text.specs.declared.write.Command.TheVariants as command
-use Rattle.trace_text.specs.declared.write.TraceFault.{TraceFault}
-use Rattle.trace_text.specs.declared.write.TraceFault.TheVariants as fault
+use Rattle.trace_text.specs.writing.Writes.{Output, Writes, WritesPrefix}
+use Rattle.trace_text.specs.declared.command.Command.TheVariants as command
+use Rattle.trace_text.specs.declared.writing.write.TraceFault.{TraceFault}
+use Rattle.trace_text.specs.declared.writing.write.TraceFault.TheVariants as fault
 use Rattle.motion_cli.specs.Going.{run_at}
 use Rattle.motion_cli.specs.Drives.{drive_end}
 use Rattle.motion_cli.specs.Asked.{Request}

@@ -21,14 +21,14 @@ use Rattle.cia402_machine.specs.declared.drive.DriveIn.{DriveIn}
 use Rattle.motion_kernel.specs.Cycles.{cycled}
 use Rattle.trace_check.specs.Replays.{cycle_made, made_after}
 use Rattle.trace_check.specs.declared.difference.Difference.{Difference}
-use Rattle.trace_text.specs.Reading.{trace_of}
+use Rattle.trace_text.specs.reading.Reading.{trace_of}
 use Rattle.trace_text.specs.RowRanges.{found_row}
 use Rattle.trace_text.specs.Trace.{trace_text}
 use Rattle.trace_text.specs.TraceState.{TraceState, entry_of}
 use Rattle.trace_text.specs.Writable.{found_entry}
-use Rattle.trace_text.specs.Writes.{Output, Writes}
-use Rattle.trace_text.specs.declared.write.TraceFault.{TraceFault}
-use Rattle.trace_text.specs.declared.write.TraceFault.TheVariants as fault
+use Rattle.trace_text.specs.writing.Writes.{Output, Writes}
+use Rattle.trace_text.specs.declared.writing.write.TraceFault.{TraceFault}
+use Rattle.trace_text.specs.declared.writing.write.TraceFault.TheVariants as fault
 use Rattle.motion_cli.specs.Asked.{Request}
 use Rattle.motion_cli.specs.Drives.{drive_end}
 use Rattle.motion_cli.specs.Ends.{Ends, EndsBy, IsBenchIn, IsFound, IsTraceIn, JudgesBy, RunsBy, is_traced, status_by, tells_legal}

@@ -17,9 +17,9 @@ use Rattle.motion_kernel.specs.KernelState.{KernelState}
 use Rattle.motion_kernel.specs.Laws.{KeepsLaws}
 use Rattle.outside.specs.Faults.{Rose}
 use Rattle.outside.specs.Told.{FileMap}
-use Rattle.trace_text.specs.Writes.{Output, Writes}
-use Rattle.trace_text.specs.declared.write.TraceFault.{TraceFault}
-use Rattle.trace_text.specs.declared.write.TraceFault.TheVariants as fault
+use Rattle.trace_text.specs.writing.Writes.{Output, Writes}
+use Rattle.trace_text.specs.declared.writing.write.TraceFault.{TraceFault}
+use Rattle.trace_text.specs.declared.writing.write.TraceFault.TheVariants as fault
 use Rattle.motion_cli.specs.Asked.{Request, is_file, job_of, request_of}
 use Rattle.motion_cli.specs.Causes.{Asks, ComesExactly, is_fault}
 use Rattle.motion_cli.specs.Ends.{Ends, EndsBy, status_by}

@@ -9,11 +9,11 @@ use Rattle.outside.specs.Told.{FileMap, LacksFile}
 use Rattle.trace_check.specs.Legal.{IsLegalTrace}
 use Rattle.trace_check.specs.Progress.{difference_in}
 use Rattle.trace_check.specs.declared.difference.Difference.{Difference}
-use Rattle.trace_text.specs.Reading.{trace_of}
+use Rattle.trace_text.specs.reading.Reading.{trace_of}
 use Rattle.trace_text.specs.TraceState.{TraceState, entries_of}
-use Rattle.trace_text.specs.Writes.{Output, Writes}
-use Rattle.trace_text.specs.declared.write.TraceFault.{TraceFault}
-use Rattle.trace_text.specs.declared.write.TraceFault.TheVariants as fault
+use Rattle.trace_text.specs.writing.Writes.{Output, Writes}
+use Rattle.trace_text.specs.declared.writing.write.TraceFault.{TraceFault}
+use Rattle.trace_text.specs.declared.writing.write.TraceFault.TheVariants as fault
 use Rattle.motion_cli.specs.Asked.{Request}
 use Rattle.motion_cli.specs.Causes.{Asks, AsksInVain, ComesExactly, is_fault}
 use Rattle.motion_cli.specs.Ends.{EndsBy, EndsByFile, Ends, IsFound, IsJudged, IsTraceIn, JudgesBy, status_by, tells_illegal, tells_legal}

@@ -7,7 +7,7 @@ use Rattle.outside.specs.Told.{FileMap, LacksFile}
 use Rattle.trace_check.specs.Legal.{IsLegalTrace}
 use Rattle.trace_check.specs.Progress.{difference_in}
 use Rattle.trace_check.specs.declared.difference.Difference.{Difference}
-use Rattle.trace_text.specs.Reading.{trace_of}
+use Rattle.trace_text.specs.reading.Reading.{trace_of}
 use Rattle.trace_text.specs.TraceState.{TraceState, entries_of}
 use Rattle.motion_cli.specs.Asked.{Request}
 use Rattle.motion_cli.specs.Plans.{most_of}

@@ -10,7 +10,7 @@ use Rattle.drive_sim.specs.Steps.{drive_stepped, opened}
 use Rattle.motion_history.specs.Columns.{no_row, rows_in}
 use Rattle.motion_history.specs.Entries.{Entry}
 use Rattle.motion_history.specs.declared.drives.DriveDef.{DriveDef}
-use Rattle.trace_text.specs.declared.write.DriveEndRow.{DriveEndRow}
+use Rattle.trace_text.specs.declared.drive_end.DriveEndRow.{DriveEndRow}
 
 -- the drive of an axis at opening: it stands at the axis's start. IEC 61800-7-201, object 6064h
 unfoldable pub drive_at_opening : AxisDef → DriveDef → DriveSim

@@ -10,11 +10,11 @@ use Rattle.motion_kernel.specs.Laws.{KeepsLaws}
 use Rattle.outside.specs.Told.{FileMap, HasFile, IsLonger, LacksFile}
 use Rattle.trace_check.specs.Laws.{IsMigrated}
 use Rattle.trace_check.specs.Legal.{IsLegalTrace, IsTraceOf}
-use Rattle.trace_text.specs.Reading.{trace_of}
+use Rattle.trace_text.specs.reading.Reading.{trace_of}
 use Rattle.trace_text.specs.TraceState.{TraceState}
-use Rattle.trace_text.specs.Writes.{Output, Writes}
-use Rattle.trace_text.specs.declared.write.TraceFault.{TraceFault}
-use Rattle.trace_text.specs.declared.write.TraceFault.TheVariants as fault
+use Rattle.trace_text.specs.writing.Writes.{Output, Writes}
+use Rattle.trace_text.specs.declared.writing.write.TraceFault.{TraceFault}
+use Rattle.trace_text.specs.declared.writing.write.TraceFault.TheVariants as fault
 use Rattle.motion_cli.specs.Asked.{Request}
 use Rattle.motion_cli.specs.Plans.{Content, Found, Longer, Plan, Unread, most_of, plan_of, usage_plan}
 use Rattle.motion_cli.specs.Run.{run_of}

@@ -15,11 +15,11 @@ use Rattle.motion_kernel.specs.Laws.{KeepsLaws}
 use Rattle.outside.specs.Told.{FileMap, HasFile}
 use Rattle.trace_check.specs.Laws.{IsMigrated}
 use Rattle.trace_check.specs.Legal.{IsTraceOf}
-use Rattle.trace_text.specs.Reading.{trace_of}
+use Rattle.trace_text.specs.reading.Reading.{trace_of}
 use Rattle.trace_text.specs.Trace.{trace_text}
 use Rattle.trace_text.specs.TraceState.{TraceState}
-use Rattle.trace_text.specs.declared.write.Command.TheVariants.{Bench}
-use Rattle.trace_text.specs.declared.write.DriveEndRow.{DriveEndRow}
+use Rattle.trace_text.specs.declared.command.Command.TheVariants.{Bench}
+use Rattle.trace_text.specs.declared.drive_end.DriveEndRow.{DriveEndRow}
 use Rattle.motion_cli.specs.Drives.{drive_end, drives_after, drives_at_opening}
 use Rattle.motion_cli.specs.Run.{run_of}
 

@@ -11,7 +11,7 @@ use Rattle.motion_history.specs.Entries.{Entry, call, cycle, end_of}
 use Rattle.motion_kernel.specs.Histories.{IsLegal}
 use Rattle.motion_kernel.specs.Laws.{KeepsLaws}
 use Rattle.outside.specs.Told.{FileMap}
-use Rattle.trace_text.specs.Writes.{Output}
+use Rattle.trace_text.specs.writing.Writes.{Output}
 use Rattle.motion_cli.specs.Asked.{Request, request_of}
 use Rattle.motion_cli.specs.Ends.{Ends, EndsBy, IsLegalRun}
 use Rattle.motion_cli.specs.Headline.{TakesAnswers}

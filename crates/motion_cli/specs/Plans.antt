@@ -11,11 +11,11 @@ use Rattle.motion_history.specs.Setup.{Setup}
 use Rattle.trace_check.specs.Progress.{difference_in}
 use Rattle.trace_check.specs.Replays.{with_made}
 use Rattle.trace_check.specs.declared.difference.Difference.{Difference}
-use Rattle.trace_text.specs.Reading.{trace_of}
+use Rattle.trace_text.specs.reading.Reading.{trace_of}
 use Rattle.trace_text.specs.Trace.{trace_text}
 use Rattle.trace_text.specs.TraceState.{TraceState, entries_of}
-use Rattle.trace_text.specs.declared.write.Command.TheVariants as command
-use Rattle.trace_text.specs.declared.write.DriveEndRow.{DriveEndRow}
+use Rattle.trace_text.specs.declared.command.Command.TheVariants as command
+use Rattle.trace_text.specs.declared.drive_end.DriveEndRow.{DriveEndRow}
 use Rattle.motion_cli.specs.Asked.{Request}
 use Rattle.motion_cli.specs.Drives.{drive_end}
 use Rattle.motion_cli.specs.Run.{Run, run_of}

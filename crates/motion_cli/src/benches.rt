@@ -11,7 +11,7 @@ ghost use Rattle.motion_history.specs.Entries.{cycles_of};
 ghost use Rattle.motion_kernel.specs.Histories.{IsLegal};
 ghost use Rattle.motion_kernel.specs.Laws.{KeepsLaws};
 ghost use Rattle.trace_text.specs.Trace.{trace_text};
-ghost use Rattle.trace_text.specs.Writes.{Writes};
+ghost use Rattle.trace_text.specs.writing.Writes.{Writes};
 
 use crate::drives::end_rows;
 use crate::run::{Ran, RunFault, run};

@@ -6,7 +6,7 @@ ghost use Rattle.motion_cli.specs.Ends.{Ends, EndsBy, JudgesBy, RunsBy};
 ghost use Rattle.motion_cli.specs.Plans as plans;
 ghost use Rattle.motion_cli.specs.Plans.{plan_of_text};
 ghost use Rattle.outside.specs.Faults.{Rose};
-ghost use Rattle.trace_text.specs.Reading.{trace_of};
+ghost use Rattle.trace_text.specs.reading.Reading.{trace_of};
 
 use crate::benches::run_text;
 use crate::lines::named_line;

@@ -3,7 +3,7 @@
 ghost use Rattle.std.specs.Prelude.{◌≡◌, Ok, false};
 ghost use Rattle.motion_cli.specs.Ends.{EndsBy, JudgesBy, tells_legal};
 ghost use Rattle.motion_cli.specs.Plans.{illegal_plan, plan_of_check, plan_of_migrate, plan_of_reading};
-ghost use Rattle.trace_text.specs.Reading.{trace_of};
+ghost use Rattle.trace_text.specs.reading.Reading.{trace_of};
 ghost use Rattle.trace_text.specs.TraceKept.{IsTraceKept};
 
 use crate::benches::status_by;

@@ -9,7 +9,7 @@ use Rattle.std.proofs.lemmas.List.Elements.{All-from_recursion, recursion_from_A
 use Rattle.motion_history.specs.Setup.{Setup}
 use Rattle.trace_text.specs.Records.{drive_fields, padded}
 use Rattle.trace_text.specs.Trace.{drive_records, numbered}
-use Rattle.trace_text.specs.declared.write.DriveEndRow.{DriveEndRow}
+use Rattle.trace_text.specs.declared.drive_end.DriveEndRow.{DriveEndRow}
 use Rattle.cia402_machine.specs.declared.drive.DriveState.TheVariants.{NotReady}
 use Rattle.std.specs.Prelude.{pos, slice_index_or}
 use Rattle.trace_check.specs.Replays.{with_taken}

@@ -5,7 +5,7 @@ use Rattle.std.specs.Option.{option_map}
 use Rattle.std.proofs.lemmas.Bool.{cases_Bool}
 use Rattle.std.proofs.lemmas.Slice.Eq.{bytes_eq-Decides}
 use Rattle.line_text.specs.Texts.{says}
-use Rattle.trace_text.specs.Reading.{are_same}
+use Rattle.trace_text.specs.reading.Reading.{are_same}
 use Rattle.trace_text.specs.Records.{padded}
 use Rattle.trace_check.specs.Differences.{first_difference}
 use Rattle.trace_check.specs.Stops.{StopsAt, Tells}

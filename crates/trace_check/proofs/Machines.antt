@@ -7,7 +7,7 @@ use Rattle.motion_history.specs.Setup.{Setup}
 use Rattle.motion_history.specs.declared.refused.TraceVersion.{TraceVersion}
 use Rattle.trace_text.specs.Records.{axis_name}
 use Rattle.trace_text.specs.Trace.{item_records, machine_records}
-use Rattle.trace_text.specs.declared.write.Command.{Command}
+use Rattle.trace_text.specs.declared.command.Command.{Command}
 
 items-long : (v : TraceVersion) (s : Setup) → length (item_records v s) ≡ length s.axes + length s.groups + length s.tables + length s.tasks + length s.blocks
 unfolding item_records

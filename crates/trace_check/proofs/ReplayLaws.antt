@@ -9,7 +9,7 @@ use Rattle.motion_kernel.specs.KernelState.{KernelState}
 use Rattle.motion_history.specs.Setup.{Setup}
 use Rattle.motion_history.specs.declared.refused.TraceVersion.{TraceVersion}
 use Rattle.trace_text.specs.Trace.{drive_records, machine_records}
-use Rattle.trace_text.specs.declared.write.Command.{Command}
+use Rattle.trace_text.specs.declared.command.Command.{Command}
 use Rattle.trace_text.specs.TraceState.{TraceState, entries_of, entry_of}
 use Rattle.trace_text.specs.Writable.{found_entry}
 use Rattle.trace_text.specs.declared.found.FoundEntry.{FoundEntry}

@@ -2,7 +2,7 @@
 use Rattle.std.proofs.Common.{◌≡◌, ℕ, ◌+◌, ◌<◌, true, false, List, [], length, get_or, drop, refl}
 use Rattle.std.proofs.lemmas.List.{drop_more}
 use Rattle.line_text.specs.Texts.{says}
-use Rattle.trace_text.specs.Reading.{are_same}
+use Rattle.trace_text.specs.reading.Reading.{are_same}
 
 -- the rest decides where two texts are the same
 pub same-more : (xs ys : List (List ℕ)) (i : ℕ) → i < length xs → i < length ys → says (get_or xs i []) (get_or ys i []) ≡ true →

@@ -1,6 +1,6 @@
 -- The first record that differs. This project's profile.
 use Rattle.std.specs.Prelude.{ℕ, ◌+◌, if◌then◌else◌, Option, Some, None, List, ◌∷◌}
-use Rattle.trace_text.specs.Reading.{are_same}
+use Rattle.trace_text.specs.reading.Reading.{are_same}
 use Rattle.trace_text.specs.Records.{padded}
 use Rattle.trace_check.specs.declared.difference.Difference.{Difference}
 

@@ -5,13 +5,13 @@ use Rattle.motion_history.specs.Setup.{Setup}
 use Rattle.motion_history.specs.declared.refused.TraceVersion.{TraceVersion}
 use Rattle.motion_history.specs.declared.refused.TraceVersion.TheVariants.{Two}
 use Rattle.motion_kernel.specs.Histories.{IsLegal}
-use Rattle.trace_text.specs.Reading.{trace_of}
+use Rattle.trace_text.specs.reading.Reading.{trace_of}
 use Rattle.trace_text.specs.Trace.{trace_text}
 use Rattle.trace_text.specs.TraceKept.{IsTraceKept}
 use Rattle.trace_text.specs.TraceState.{TraceState}
 use Rattle.trace_text.specs.Writable.{IsHeld, found_trace}
-use Rattle.trace_text.specs.declared.write.Command.{Command}
-use Rattle.trace_text.specs.declared.write.DriveEndRow.{DriveEndRow}
+use Rattle.trace_text.specs.declared.command.Command.{Command}
+use Rattle.trace_text.specs.declared.drive_end.DriveEndRow.{DriveEndRow}
 use Rattle.trace_check.specs.Legal.{IsLegalTrace, IsTraceOf}
 
 -- a trace is that of at most one legal history

@@ -4,7 +4,7 @@ use Rattle.motion_history.specs.Entries.{Entry, cycles_of}
 use Rattle.motion_kernel.specs.Histories.{IsLegal}
 use Rattle.trace_text.specs.TraceState.{TraceState}
 use Rattle.trace_text.specs.Writable.{found_entry}
-use Rattle.trace_text.specs.declared.write.DriveEndRow.{DriveEndRow}
+use Rattle.trace_text.specs.declared.drive_end.DriveEndRow.{DriveEndRow}
 
 -- a trace is that of a history: its entries are those of the history without the offsets of their
 -- rows, in version 2 with the place that each drive reported by its offset, and each drive took a

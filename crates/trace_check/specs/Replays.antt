@@ -9,7 +9,7 @@ use Rattle.motion_kernel.specs.Cycles.{cycled}
 use Rattle.motion_kernel.specs.Histories.{inputs_of, machine_after}
 use Rattle.trace_text.specs.Trace.{drive_records, entry_records}
 use Rattle.trace_text.specs.TraceState.{TraceState, entries_of}
-use Rattle.trace_text.specs.declared.write.DriveEndRow.{DriveEndRow}
+use Rattle.trace_text.specs.declared.drive_end.DriveEndRow.{DriveEndRow}
 
 -- the cycle that the machine makes behind a history, with these answers of the drives
 abbrev pub cycle_made : Setup → List Entry → List DriveIn → Entry

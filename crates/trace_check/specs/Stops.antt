@@ -1,7 +1,7 @@
 -- What comparing records answers. This project's profile.
 use Rattle.std.specs.Prelude.{◌≡◌, ◌<◌, ◌≤◌, ℕ, false, Some, Result, Ok, Err, List, length}
 use Rattle.motion_kernel.specs.KernelState.{KernelState}
-use Rattle.trace_text.specs.Reading.{are_same}
+use Rattle.trace_text.specs.reading.Reading.{are_same}
 use Rattle.trace_text.specs.TraceState.{TraceState, entry_of}
 use Rattle.trace_text.specs.Writable.{found_entry}
 use Rattle.trace_text.specs.declared.found.FoundEntry.{FoundEntry}

@@ -3,7 +3,7 @@
 ghost use Rattle.std.specs.Prelude.{◌≡◌, ◌<◌, ℕ, [], List, IfOk, length, map, slice_index_or, slice_set};
 ghost use Rattle.csv.specs.Records.{fields_of};
 ghost use Rattle.line_text.specs.Texts.{texts};
-ghost use Rattle.trace_text.specs.Reading as spec;
+ghost use Rattle.trace_text.specs.reading.Reading as spec;
 
 use csv::ByteRecord;
 use csv_records::field;

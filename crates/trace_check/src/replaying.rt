@@ -2,7 +2,7 @@
 
 ghost use Rattle.std.specs.Prelude.{◌≡◌, ◌+◌, ◌≤◌, [], IfOk, false, length};
 ghost use Rattle.trace_text.specs.Trace.{machine_records};
-ghost use Rattle.trace_text.specs.declared.write.Command.{Command};
+ghost use Rattle.trace_text.specs.declared.command.Command.{Command};
 ghost use Rattle.motion_history.specs.Entries.{cycles_of};
 ghost use Rattle.motion_kernel.specs.Histories.{IsLegal};
 ghost use Rattle.motion_history.specs.declared.refused.TraceVersion.{TraceVersion};

@@ -7,16 +7,16 @@ use Rattle.csv_records.specs.Records.{records_of}
 use Rattle.motion_history.specs.Entries.{Entry}
 use Rattle.motion_history.specs.Setup.{Setup}
 use Rattle.motion_history.specs.declared.refused.TraceVersion.{TraceVersion}
-use Rattle.trace_text.specs.Calls.{cycle_meaning}
+use Rattle.trace_text.specs.reading.Events.{cycle_meaning}
 use Rattle.trace_text.specs.Records.{cycle_fields, drive_fields, grow_fields, padded, row_fields}
 use Rattle.trace_text.specs.RowRanges.{IsDriveEnd, IsGroupRow, IsReported, IsRow, found_place, found_row}
-use Rattle.trace_text.specs.Rows.{drive_meaning, grow_meaning, row_meaning}
-use Rattle.trace_text.specs.Reading.{trace_of}
-use Rattle.trace_text.specs.Parts.{entry_text}
+use Rattle.trace_text.specs.reading.Rows.{drive_meaning, grow_meaning, row_meaning}
+use Rattle.trace_text.specs.reading.Reading.{trace_of}
+use Rattle.trace_text.specs.writing.Parts.{entry_text}
 use Rattle.trace_text.specs.Trace.{entry_records, trace_records, trace_text}
 use Rattle.trace_text.specs.Writable.{IsHeld, found_trace}
-use Rattle.trace_text.specs.declared.write.Command.{Command}
-use Rattle.trace_text.specs.declared.write.DriveEndRow.{DriveEndRow}
+use Rattle.trace_text.specs.declared.command.Command.{Command}
+use Rattle.trace_text.specs.declared.drive_end.DriveEndRow.{DriveEndRow}
 
 -- the records of a trace's text are those of which it was made, field by field
 abbrev pub RecordsAreReadBack : Type 0

@@ -8,7 +8,7 @@ use Rattle.group_state.specs.declared.state.GroupRow.{GroupRow}
 use Rattle.motion_history.specs.declared.refused.TraceVersion.{TraceVersion}
 use Rattle.motion_history.specs.declared.refused.TraceVersion.TheVariants.{One, Two}
 use Rattle.trace_text.specs.Records.{reported_place}
-use Rattle.trace_text.specs.declared.write.DriveEndRow.{DriveEndRow}
+use Rattle.trace_text.specs.declared.drive_end.DriveEndRow.{DriveEndRow}
 
 -- a row of an axis has words of 16 bits, positions of 32, a mode of 8, an ErrorID of 16 and a
 -- setpoint of 64, and its drive is given mode 8

@@ -5,8 +5,8 @@ use Rattle.motion_history.specs.Setup.{Setup}
 use Rattle.motion_history.specs.declared.refused.TraceVersion.{TraceVersion}
 use Rattle.trace_text.specs.declared.found.FoundEntry.{FoundEntry}
 use Rattle.trace_text.specs.declared.found.FoundEntry.TheVariants as found
-use Rattle.trace_text.specs.declared.write.Command.{Command}
-use Rattle.trace_text.specs.declared.write.DriveEndRow.{DriveEndRow}
+use Rattle.trace_text.specs.declared.command.Command.{Command}
+use Rattle.trace_text.specs.declared.drive_end.DriveEndRow.{DriveEndRow}
 
 -- a trace: its version, who made it, its machine, its entries as they were found, and what the
 -- drives took

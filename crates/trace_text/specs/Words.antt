@@ -2,8 +2,8 @@
 use Rattle.std.specs.Prelude.{ℕ, List, codes}
 use Rattle.motion_history.specs.declared.refused.TraceVersion.{TraceVersion}
 use Rattle.motion_history.specs.declared.refused.TraceVersion.TheVariants.{One, Two}
-use Rattle.trace_text.specs.declared.write.Command.{Command}
-use Rattle.trace_text.specs.declared.write.Command.TheVariants as command
+use Rattle.trace_text.specs.declared.command.Command.{Command}
+use Rattle.trace_text.specs.declared.command.Command.TheVariants as command
 
 -- the version of a trace
 unfoldable pub version_text : TraceVersion → List ℕ

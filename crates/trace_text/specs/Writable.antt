@@ -20,8 +20,8 @@ use Rattle.trace_text.specs.Trace.{CanHold}
 use Rattle.trace_text.specs.TraceState.{TraceState}
 use Rattle.trace_text.specs.declared.found.FoundEntry.{FoundEntry}
 use Rattle.trace_text.specs.declared.found.FoundEntry.TheVariants as found
-use Rattle.trace_text.specs.declared.write.Command.{Command}
-use Rattle.trace_text.specs.declared.write.DriveEndRow.{DriveEndRow}
+use Rattle.trace_text.specs.declared.command.Command.{Command}
+use Rattle.trace_text.specs.declared.drive_end.DriveEndRow.{DriveEndRow}
 
 -- a configuration has no fault, and the array of each group has its length
 pub record IsMachine (s : Setup) : Type 0 where

@@ -3,7 +3,7 @@
 ghost use Rattle.std.specs.Prelude.{List, ℕ, Option};
 ghost use Rattle.outside.specs.Told.{AppendsPart};
 ghost use Rattle.trace_text.specs.ReadBack.{AreRowsReadBack, EntriesAreReadBack, RecordsAreReadBack, TextsTellRecords, TextsTellTraces, TracesAreReadBack};
-ghost use Rattle.trace_text.specs.Writes.{WritesPrefix};
+ghost use Rattle.trace_text.specs.writing.Writes.{WritesPrefix};
 
 use cam_table::cam_tables_are_told;
 use csv_records::written_records_are_read_back;

@@ -3,7 +3,7 @@
 ghost use Rattle.std.specs.Prelude.{◌≡◌, ◌≤◌, length, map, OnOk};
 ghost use Rattle.std.specs.Io.KnownBytes.{Appends};
 ghost use Rattle.csv.specs.Writing.{default_writer, row_text, text_written};
-ghost use Rattle.trace_text.specs.Between.{IsBetween};
+ghost use Rattle.trace_text.specs.writing.Between.{IsBetween};
 ghost use Rattle.trace_text.specs.Records as spec;
 ghost use Rattle.trace_text.specs.Records.{record_text};
 

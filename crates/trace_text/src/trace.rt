@@ -6,8 +6,9 @@ ghost use Rattle.motion_history.specs.Looks.{told};
 ghost use Rattle.trace_text.specs.TraceKept.{IsTraceKept};
 ghost use Rattle.trace_text.specs.TraceState.{entries_of, place_at};
 
+use crate::command::Command;
+use crate::drive_end::DriveEndRow;
 use crate::found::FoundEntry;
-use crate::write::{Command, DriveEndRow};
 use motion_history::{Config, EntryLook, TraceVersion};
 use std::marker::Model;
 

@@ -11,7 +11,7 @@ use Rattle.motion_cli.specs.Ends.{Ends}
 use Rattle.motion_cli.specs.Loads.{EndsByLoad, EndsByWords}
 use Rattle.motion_cli.specs.Seeds.{seed_of}
 use Rattle.outside.specs.Faults.{Rose}
-use Rattle.trace_text.specs.Writes.{Output}
+use Rattle.trace_text.specs.writing.Writes.{Output}
 use Rattle.motion_cli.specs.declared.run.RunFault.TheVariants.{CyclesOver, HistoryFull}
 use Rattle.motion_cli.specs.declared.status.Status.TheVariants as status
 use Rattle.motion_cli.proofs.program.top.Goals as goal

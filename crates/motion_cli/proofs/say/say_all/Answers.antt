@@ -1,6 +1,6 @@
 -- A line was said, or not.
 use Rattle.std.specs.Prelude.{Ok, Err, refl}
-use Rattle.trace_text.specs.declared.write.TraceFault.TheVariants as fault
+use Rattle.trace_text.specs.declared.writing.write.TraceFault.TheVariants as fault
 use Rattle.motion_cli.proofs.say.say_all.Goals as goal
 
 pub returns-in-Ok : goal.returns-in-Ok

@@ -2,7 +2,7 @@
 use Rattle.std.proofs.Common.{inl, ap, subst, arith}
 use Rattle.std.specs.Prelude.{◌≡◌, ◌≢◌, Err, Ok}
 use Rattle.bench_text.specs.Reading.{bench_of}
-use Rattle.trace_text.specs.Reading.{trace_of}
+use Rattle.trace_text.specs.reading.Reading.{trace_of}
 use Rattle.motion_cli.specs.Asked.{Request}
 use Rattle.motion_cli.specs.Ends.{JudgesBy, RunsBy}
 use Rattle.motion_cli.specs.Plans.{Content, Unread, plan_of}

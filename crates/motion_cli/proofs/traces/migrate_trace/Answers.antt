@@ -6,7 +6,7 @@ use Rattle.motion_history.specs.declared.refused.TraceVersion.TheVariants.{Two}
 use Rattle.trace_check.specs.Legal.{IsLegalTrace}
 use Rattle.trace_check.specs.Outcomes.{IsReplayed}
 use Rattle.trace_text.specs.Trace.{trace_text}
-use Rattle.trace_text.specs.Writes.{Output}
+use Rattle.trace_text.specs.writing.Writes.{Output}
 use Rattle.motion_cli.specs.Ends.{tells_illegal}
 use Rattle.motion_cli.specs.declared.status.Status.TheVariants as status
 use Rattle.motion_cli.proofs.EndLaws.{early, judges-fair, migrating, not-by, same-plan, same-text}

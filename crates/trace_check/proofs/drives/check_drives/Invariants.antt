@@ -1,7 +1,7 @@
 -- The drives so far took a setpoint in each cycle.
 use Rattle.std.proofs.Common.{◌≡◌, ℕ, ◌<◌, Some}
 use Rattle.std.specs.Prelude.{slice_get}
-use Rattle.trace_text.specs.declared.write.DriveEndRow.{DriveEndRow}
+use Rattle.trace_text.specs.declared.drive_end.DriveEndRow.{DriveEndRow}
 use Rattle.trace_check.specs.Replays.{with_taken}
 use Rattle.trace_check.proofs.drives.check_drives.Given as goal
 

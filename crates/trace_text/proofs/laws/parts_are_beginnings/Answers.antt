@@ -1,5 +1,5 @@
 -- Beginnings of a text.
-use Rattle.trace_text.proofs.Writing.{WritesPrefix-none, WritesPrefix-part}
+use Rattle.trace_text.proofs.written.Writing.{WritesPrefix-none, WritesPrefix-part}
 use Rattle.trace_text.proofs.laws.parts_are_beginnings.Goals as goal
 
 pub returns-clause-none : goal.returns-clause-none

@@ -1,7 +1,7 @@
 -- What was written is read back.
 use Rattle.std.proofs.Common.{◌∙◌, sym, ap}
 use Rattle.csv_records.specs.Records.{records_of}
-use Rattle.trace_text.proofs.RecordLaws.{entry-written, trace-written}
+use Rattle.trace_text.proofs.back.RecordLaws.{entry-written, trace-written}
 use Rattle.trace_text.proofs.laws.records_are_read_back.Goals as goal
 
 pub returns-clause-records : goal.returns-clause-records

@@ -1,5 +1,5 @@
 -- Each kind of record by itself.
-use Rattle.trace_text.proofs.EntryLaws.{cycle-back, drive-back, grow-back, row-back}
+use Rattle.trace_text.proofs.back.EntryLaws.{cycle-back, drive-back, grow-back, row-back}
 use Rattle.trace_text.proofs.laws.rows_are_read_back.Goals as goal
 
 pub returns : goal.returns

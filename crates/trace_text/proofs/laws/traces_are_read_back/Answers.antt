@@ -1,5 +1,5 @@
 -- Whole traces.
-use Rattle.trace_text.proofs.TraceBack.{texts-tell, trace-back}
+use Rattle.trace_text.proofs.back.TraceBack.{texts-tell, trace-back}
 use Rattle.trace_text.proofs.laws.traces_are_read_back.Goals as goal
 
 pub returns-clause-read : goal.returns-clause-read

@@ -1,6 +1,6 @@
 -- Empty fields behind those that there are.
 use Rattle.std.specs.Prelude.{refl}
-use Rattle.trace_text.proofs.Padding.{padded-is}
+use Rattle.trace_text.proofs.written.Padding.{padded-is}
 use Rattle.trace_text.proofs.records.padded.Goals as goal
 
 pub returns : goal.returns

@@ -1,0 +1,124 @@
+-- The fields of a machine's items are read back.
+use Rattle.std.specs.Prelude.{◌≡◌, refl, ℕ, ◌+◌, ◌-◌, ◌≤◌, ◌==◌, Bool, true, false, ◌↔◌, ℤ, pos, neg_ℤ, int_le, unsigned_abs, Some, Ok, List, [], ◌∷◌, decimal, IsTrue}
+use Rattle.std.specs.Fmt.{signed_decimal}
+use Rattle.std.specs.List.{AllByRecursion}
+use Rattle.std.proofs.Common.{arith}
+use Rattle.std.proofs.lemmas.Int.{ints}
+use Rattle.std.proofs.lemmas.List.Elements.{All-from_get_or, recursion_from_All}
+use Rattle.axis_state.specs.declared.definition.AxisDef.{AxisDef}
+use Rattle.cam_table.specs.CamTable.{IsCamTable, is_cam_table, size_of}
+use Rattle.csv_records.specs.Records.{RecordsAreReadBack}
+use Rattle.fb_outputs.specs.Names.{AreNamed}
+use Rattle.motion_history.specs.AxisRanges.{AreAxisRanges}
+use Rattle.motion_history.specs.Ranges.{is_axis}
+use Rattle.motion_numbers.specs.declared.TheConstants.{MOST_NUMBER, MOST_PLACE}
+use Rattle.trace_columns.specs.Columns.{size_limited_of, point_of}
+use Rattle.trace_columns.specs.Fields.{flag_text}
+use Rattle.trace_columns.specs.ReadBack.{AreReadBack}
+use Rattle.trace_text.specs.reading.Items.{in_range, limits_of, number, parts_of, placed_of, point}
+use Rattle.trace_text.specs.Records.{point_text, points_text}
+use Rattle.trace_text.specs.reading.Rules.{are_empty}
+use Rattle.line_text.specs.Reading.{each_of}
+use Rattle.trace_text.proofs.back.PartsBack.{each-back, halves-back, texts-back}
+use Rattle.trace_text.proofs.back.Plain.{IsWithout, each-weaker, signed-without}
+use Rattle.trace_text.proofs.back.NamesBack.{each-both}
+
+-- the laws of the crates below
+pub record Given : Type 0 where
+  pub records : RecordsAreReadBack
+  pub back : AreReadBack
+  pub named : AreNamed
+  pub ranges : (d : AxisDef) → IsTrue (is_axis d) → AreAxisRanges d
+  pub tables : (points : List (ℤ × ℤ)) → IsTrue (is_cam_table points) ↔ IsCamTable points
+
+pub unless_false : (b : Bool) → (b ≡ false → ⊥) → b ≡ true
+unless_false true n = refl
+unless_false false n = absurd (n refl)
+
+-- a number that is an input or a limit
+pub limited-back : Given → (z : ℤ) → unsigned_abs z ≤ MOST_NUMBER → size_limited_of (signed_decimal z) ≡ Some z
+limited-back g z small =
+    g.back.numbers (neg_ℤ (pos MOST_NUMBER)) (pos MOST_NUMBER) z (omega (arith, ints, small)) (omega (arith, ints, small)) (omega (arith, ints, small))
+
+pub number-back : Given → (z : ℤ) → unsigned_abs z ≤ MOST_NUMBER → number (signed_decimal z) ≡ Ok z
+unfolding number
+number-back g z small = rw (limited-back g z small) refl
+
+pub count-back : Given → (n : ℕ) → n ≤ MOST_NUMBER → number (decimal n) ≡ Ok (pos n)
+count-back g n small = number-back g (pos n) small
+
+pub in_range-back : (least most n : ℕ) → least ≤ n → n ≤ most → in_range least most (pos n) ≡ Ok n
+unfolding in_range
+in_range-back least most n low high =
+    rw (unless_false (int_le (pos least) (pos n)) (λ e. omega (arith, ints, e, low)), unless_false (int_le (pos n) (pos most)) (λ e. omega (arith, ints, e, high))) refl
+
+-- the limits of an axis
+pub limits-back : Given → (d : AxisDef) → AreAxisRanges d →
+    limits_of (signed_decimal d.limits.lo ∷ signed_decimal d.limits.hi ∷ signed_decimal d.limits.vmax ∷ signed_decimal d.limits.amax ∷ signed_decimal d.limits.dmax ∷ []) ≡ Ok d.limits
+unfolding limits_of
+limits-back g d r =
+    let l = r.limits in
+    let low = l.lo_in_range in
+    let a = l.ordered in
+    let b = l.hi_in_range in
+    let v = l.vmax_positive in
+    let w = l.vmax_in_range in
+    let p = l.amax_positive in
+    let q = l.amax_within_dmax in
+    let m = l.dmax_in_range in
+    let top = r.top in
+    rw (
+      number-back g d.limits.lo (omega (arith, ints, low, a, b, top)),
+      number-back g d.limits.hi (omega (arith, ints, low, a, b, top)),
+      number-back g d.limits.vmax (omega (arith, ints, v, w)),
+      number-back g d.limits.amax (omega (arith, ints, p, q, m)),
+      number-back g d.limits.dmax (omega (arith, ints, p, q, m)),
+    ) refl
+
+-- the increment of an axis, its start and whether it is ready, and two empty fields behind them
+pub placed-back : Given → (d : AxisDef) → AreAxisRanges d → (behind : List (List ℕ)) → are_empty behind ≡ true →
+    placed_of (signed_decimal d.inc ∷ signed_decimal d.start ∷ flag_text d.ready ∷ behind) ≡ Ok (record { inc = d.inc; start = d.start; ready = d.ready })
+unfolding placed_of
+placed-back g d r behind none =
+    let a = r.least in
+    let b = r.most in
+    let l = r.limits.lo_in_range in
+    let t = r.top in
+    let x = r.above in
+    let y = r.below in
+    rw (
+      number-back g d.inc (omega (arith, ints, a, b)),
+      number-back g d.start (omega (arith, ints, l, t, x, y)),
+      g.back.flags d.ready,
+      none,
+    ) refl
+
+-- ---- points of cam tables
+
+point-back : Given → (p : ℤ × ℤ) → size_of p ≤ MOST_PLACE → point (point_text p) ≡ Ok p
+unfolding point point_of point_text
+point-back g p small =
+    rw (
+      halves-back (signed_decimal p.0) (signed_decimal p.1) (signed-without 58 p.0 (omega arith) (omega (arith, small))),
+      limited-back g p.0 (omega (arith, small)),
+      limited-back g p.1 (omega (arith, small)),
+    ) refl
+
+point-without : (p : ℤ × ℤ) → size_of p ≤ MOST_PLACE → IsWithout 59 (point_text p)
+unfolding point_text
+point-without p small =
+    each-both (λ b. (b == 59) ≡ false) (signed_decimal p.0) (58 ∷ signed_decimal p.1) (signed-without 59 p.0 (omega arith) (omega (arith, small)))
+    (refl, signed-without 59 p.1 (omega arith) (omega (arith, small)))
+
+small-points : (points : List (ℤ × ℤ)) → IsCamTable points → AllByRecursion (λ p. size_of p ≤ MOST_PLACE) points
+small-points points is =
+    recursion_from_All (λ p. size_of p ≤ MOST_PLACE) points
+    (All-from_get_or (λ p. size_of p ≤ MOST_PLACE) points (pos 0, pos 0)
+    (λ i l. let same : i + 1 - 1 ≡ i = omega arith in rw same at (is.rows (i + 1) (omega arith) (omega (arith, l))).within))
+
+pub points-back : Given → (points : List (ℤ × ℤ)) → IsCamTable points → each_of point (parts_of (points_text points)) ≡ Ok points
+unfolding points_text
+points-back g points is =
+    let small = small-points points is in
+    rw (texts-back point_text points (let e = is.enough in omega (arith, e)) (each-weaker _ _ point-without points small))
+    (each-back point point_text points (each-weaker _ _ (point-back g) points small))

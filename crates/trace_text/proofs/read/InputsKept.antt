@@ -1,0 +1,392 @@
+-- The inputs of a call that is read are those of its block's kind.
+use Rattle.std.proofs.Common.{◌≡◌, ℕ, zero, suc, ◌-◌, ◌<◌, ◌≤◌, ℤ, Bool, true, false, Some, None, Ok, Err, List, [], ◌∷◌, ◌++◌, length, refl, sym, ◌∙◌, subst, arith, inl, inr, lit<, lit≤}
+use Rattle.std.specs.Prelude.{pos, neg_ℤ, ◌^◌, ◌≤ℤ◌, ◌==◌, nat_lt, replicate, slice_get, slice_index_or, unsigned_abs}
+use Rattle.std.specs.List.{AllByRecursion, position, position_or_len}
+use Rattle.std.proofs.lemmas.Bool.{cases_Bool, eqb-true, ltb-true}
+use Rattle.std.proofs.lemmas.Int.{ints}
+use Rattle.std.proofs.lemmas.List.{length-append, length-replicate}
+use Rattle.command_pool.specs.Kinds.{acts_on_group}
+use Rattle.command_pool.specs.declared.kind.BlockKind.{BlockKind}
+use Rattle.command_pool.specs.declared.kind.BlockKind.TheVariants.{GearIn, CamIn}
+use Rattle.command_pool.specs.declared.kind.BufferMode.{BufferMode}
+use Rattle.command_pool.specs.declared.kind.BufferMode.TheVariants.{Aborting}
+use Rattle.fb_outputs.specs.Inputs.{AreInputs, IsTaken, takes}
+use Rattle.fb_outputs.specs.declared.inputs.Input.{Input}
+use Rattle.fb_outputs.specs.declared.inputs.Input.TheVariants.{Position, Velocity, Acceleration, Deceleration, Jerk, Mode, Master, Numerator, Denominator, Table}
+use Rattle.fb_outputs.specs.declared.inputs.Inputs.{Inputs}
+use Rattle.fb_outputs.specs.declared.outputs.Outputs.{Outputs}
+use Rattle.line_text.specs.Reading.{◌>>=◌, each_of}
+use Rattle.motion_history.specs.Calls.{axes_of, count_in}
+use Rattle.motion_history.specs.Setup.{Setup}
+use Rattle.motion_history.specs.declared.config.BlockDef.{BlockDef}
+use Rattle.motion_history.specs.declared.config.GroupDef.{GroupDef}
+use Rattle.motion_history.specs.declared.refused.TraceVersion.{TraceVersion}
+use Rattle.motion_history.specs.declared.sizes.TheConstants.{MOST_MEMBERS}
+use Rattle.motion_numbers.specs.declared.TheConstants.{MOST_NUMBER}
+use Rattle.trace_columns.specs.Columns.{flag_of, outputs_of, size_limited_of, unsigned_of}
+use Rattle.trace_text.specs.reading.Events.{call_by, call_meaning, end_meaning, reply_of}
+use Rattle.trace_text.specs.reading.Inputs.{cam_of, follow_of, gear_of, halves, input_of, inputs_of, joined_positions, last_of, mode_of, no_master, no_positions, positions_of, rates_of}
+use Rattle.trace_text.specs.reading.Rules.{unused}
+use Rattle.trace_text.specs.reading.InputFields.{InputTexts}
+use Rattle.trace_text.specs.reading.Items.{axis_named, number, parts_of}
+use Rattle.trace_text.specs.reading.Names.{axis_at, block_at, task_at}
+use Rattle.trace_text.specs.reading.Rules.{are_empty, broken_unless, is_empty, value}
+use Rattle.trace_text.specs.TraceKept.{IsEntryRead}
+use Rattle.trace_text.specs.Writable.{IsWritableCall}
+use Rattle.trace_text.specs.declared.reading.inputs.Followed.{Followed}
+use Rattle.trace_text.specs.declared.reading.inputs.Last.{Last}
+use Rattle.trace_text.specs.declared.reading.inputs.Rates.{Rates}
+use Rattle.trace_text.specs.declared.found.FoundEntry.{FoundEntry}
+use Rattle.trace_text.specs.declared.found.FoundEntry.TheVariants as found
+use Rattle.trace_text.specs.declared.reading.rule.TheConstants.{NO_VALUE}
+use Rattle.trace_text.proofs.read.ColumnRanges.{number-range, outputs-id, unsigned-range}
+use Rattle.trace_text.proofs.read.ItemsKept.{HasArrays, IsArray}
+use Rattle.trace_text.proofs.read.Results.{bind_ok, holds, ok_is}
+use Rattle.trace_text.proofs.read.Results as results
+
+abbrev IsSmall : ℤ → Type 0
+IsSmall z = unsigned_abs z ≤ MOST_NUMBER
+
+-- ---- numbers
+
+small-between : (z : ℤ) → neg_ℤ (pos MOST_NUMBER) ≤ℤ z → z ≤ℤ pos MOST_NUMBER → IsSmall z
+small-between z low high = omega (arith, ints, low, high)
+
+size-limited : (text : List ℕ) (z : ℤ) → size_limited_of text ≡ Some z → IsSmall z
+size-limited text z h =
+    let r = number-range (neg_ℤ (pos MOST_NUMBER)) (pos MOST_NUMBER) text z h in
+    small-between z r.0 r.1
+
+number-small : (text : List ℕ) (z : ℤ) → number text ≡ Ok z → IsSmall z
+unfolding number
+number-small text z h = size-limited text z (results.found (size_limited_of text) NO_VALUE z h)
+
+unused-is : {A : Type 0} (text : List ℕ) (default x : A) → unused text default ≡ Ok x → default ≡ x
+unused-is text default x h = elim (cases_Bool (is_empty text)) [
+  | inl none ↦ let e : Ok default ≡ Ok x = rw none at h in ok_is (Ok default) default x refl e
+  | inr some ↦ let e : Err NO_VALUE ≡ Ok x = rw some at h in absurd (cc e)
+]
+
+-- a number that is an input
+input-taken : (k : BlockKind) (input : Input) (text : List ℕ) (z : ℤ) → input_of k input text ≡ Ok z → IsTaken (takes k input) (pos 0) z
+unfolding input_of
+input-taken k input text z h = elim (cases_Bool (takes k input)) [
+  | inl passes ↦
+      let e : number text ≡ Ok z = rw passes at h in
+      record { left_out = λ fails. let x : true ≡ false = sym passes ∙ fails in absurd (cc x); size = number-small text z e }
+  | inr fails ↦
+      let e : unused text (pos 0) ≡ Ok z = rw fails at h in
+      let is : pos 0 ≡ z = unused-is text (pos 0) z e in
+      record { left_out = λ none. sym is; size = subst IsSmall is (lit≤ tt) }
+]
+
+mode-left : (k : BlockKind) (text : List ℕ) (m : BufferMode) → mode_of k text ≡ Ok m → takes k Mode ≡ false → m ≡ Aborting
+unfolding mode_of
+mode-left k text m h fails =
+    let e : unused text Aborting ≡ Ok m = rw fails at h in
+    sym (unused-is text Aborting m e)
+
+-- ---- positions
+
+each-small : (texts : List (List ℕ)) (zs : List ℤ) → each_of number texts ≡ Ok zs → AllByRecursion IsSmall zs
+each-small [] zs h = subst (λ ys. AllByRecursion IsSmall ys) (ok_is (Ok []) [] zs refl h) tt
+each-small (text ∷ texts) zs h =
+    let first = bind_ok (number text) (λ y. each_of number texts >>= λ ys. Ok (y ∷ ys)) zs h in
+    let second = bind_ok (each_of number texts) (λ ys. Ok (first.0 ∷ ys)) zs first.2 in
+    let is : first.0 ∷ second.0 ≡ zs = ok_is (Ok (first.0 ∷ second.0)) (first.0 ∷ second.0) zs refl second.2 in
+    subst (λ ys. AllByRecursion IsSmall ys) is (number-small text first.0 first.1, each-small texts second.0 second.1)
+
+zeros-at : (k n : ℕ) → slice_index_or (replicate k (pos 0)) n (pos 0) ≡ pos 0
+zeros-at zero n = refl
+zeros-at (suc k) zero = refl
+zeros-at (suc k) (suc n) = zeros-at k n
+
+small-at : (zs : List ℤ) (k n : ℕ) → AllByRecursion IsSmall zs → IsSmall (slice_index_or (zs ++ replicate k (pos 0)) n (pos 0))
+small-at [] k n h = let zero' : IsSmall (pos 0) = lit≤ tt in subst IsSmall (sym (zeros-at k n)) zero'
+small-at (z ∷ zs) k zero h = h.0
+small-at (z ∷ zs) k (suc n) h = small-at zs k n h.1
+
+zero-behind : (zs : List ℤ) (k n : ℕ) → length zs ≤ n → slice_index_or (zs ++ replicate k (pos 0)) n (pos 0) ≡ pos 0
+zero-behind [] k n h = zeros-at k n
+zero-behind (z ∷ zs) k zero h = absurd (omega arith)
+zero-behind (z ∷ zs) k (suc n) h = zero-behind zs k n (omega arith)
+
+-- a block acts on no more axes than a group has
+count-few : (gs : List GroupDef) (n : ℕ) → AllByRecursion IsArray gs → count_in (slice_get gs n) ≤ MOST_MEMBERS
+count-few [] n h = lit≤ tt
+count-few (g ∷ gs) zero h = h.0.few
+count-few (g ∷ gs) (suc n) h = count-few gs n h.1
+
+axes-few : (s : Setup) (b : BlockDef) → HasArrays s → axes_of s b ≤ MOST_MEMBERS
+axes-few s b h = elim (cases_Bool (acts_on_group b.kind)) [
+  | inl passes ↦ rw passes (count-few s.groups b.object h)
+  | inr fails ↦ rw fails (lit≤ tt)
+]
+
+record ArePositions (takes : Bool) (axes : ℕ) (ps : List ℤ) : Type 0 where
+  long : length ps ≡ MOST_MEMBERS
+  each : (n : ℕ) → IsTaken takes (pos 0) (slice_index_or ps n (pos 0))
+  few : (n : ℕ) → axes ≤ n → slice_index_or ps n (pos 0) ≡ pos 0
+
+padded-long : (zs : List ℤ) → length zs ≤ MOST_MEMBERS → length (zs ++ replicate (MOST_MEMBERS - length zs) (pos 0)) ≡ MOST_MEMBERS
+padded-long zs few =
+    let long = length-append zs (replicate (MOST_MEMBERS - length zs) (pos 0)) in
+    let zeros : length (replicate (MOST_MEMBERS - length zs) (pos 0)) ≡ MOST_MEMBERS - length zs = length-replicate (MOST_MEMBERS - length zs) (pos 0) in
+    omega (arith, long, zeros, few)
+
+joined-are : (axes : ℕ) (text : List ℕ) (ps : List ℤ) → axes ≤ MOST_MEMBERS → joined_positions axes text ≡ Ok ps → ArePositions true axes ps
+unfolding joined_positions
+joined-are axes text ps room h =
+    let places = bind_ok (each_of number (parts_of text)) _ ps h in
+    let counted = bind_ok (broken_unless (length places.0 == axes) NO_VALUE) _ ps places.2 in
+    let many : length places.0 ≡ axes = eqb-true _ _ (holds (length places.0 == axes) NO_VALUE counted.0 counted.1) in
+    let all : List ℤ = places.0 ++ replicate (MOST_MEMBERS - length places.0) (pos 0) in
+    let is : all ≡ ps = ok_is (Ok all) all ps refl counted.2 in
+    let small = each-small (parts_of text) places.0 places.1 in
+    subst (λ qs. ArePositions true axes qs) is (record {
+      long = padded-long places.0 (omega (arith, many, room));
+      each = λ n. record { left_out = λ fails. absurd (cc fails); size = small-at places.0 (MOST_MEMBERS - length places.0) n small };
+      few = λ n m. zero-behind places.0 (MOST_MEMBERS - length places.0) n (omega (arith, many, m));
+    })
+
+none-are : (axes : ℕ) → ArePositions false axes no_positions
+none-are axes = record {
+  long = length-replicate MOST_MEMBERS (pos 0);
+  each = λ n. record { left_out = λ fails. zeros-at MOST_MEMBERS n; size = let zero' : IsSmall (pos 0) = lit≤ tt in subst IsSmall (sym (zeros-at MOST_MEMBERS n)) zero' };
+  few = λ n h. zeros-at MOST_MEMBERS n;
+}
+
+positions-are : (s : Setup) (b : BlockDef) (text : List ℕ) (ps : List ℤ) → HasArrays s → positions_of s b text ≡ Ok ps → ArePositions (takes b.kind Position) (axes_of s b) ps
+unfolding positions_of
+positions-are s b text ps arrays h = elim (cases_Bool (takes b.kind Position)) [
+  | inl passes ↦
+      let e : joined_positions (axes_of s b) text ≡ Ok ps = rw passes at h in
+      rw passes (joined-are (axes_of s b) text ps (axes-few s b arrays) e)
+  | inr fails ↦
+      let e : unused text no_positions ≡ Ok ps = rw fails at h in
+      rw fails (subst (λ qs. ArePositions false (axes_of s b) qs) (unused-is text no_positions ps e) (none-are (axes_of s b)))
+]
+
+-- ---- what an axis follows
+
+position-within : {X : Type 0} (p : X → Bool) (xs : List X) (i : ℕ) → position p xs ≡ Some i → i < length xs
+position-within p xs i h =
+    elim (cases_Bool (nat_lt (position_or_len p xs) (length xs))) [
+      | inl yet ↦
+          let e : Some (position_or_len p xs) ≡ Some i = rw yet at h in
+          let is : position_or_len p xs ≡ i = cc in
+          subst (λ k. k < length xs) is (ltb-true _ _ yet)
+      | inr none ↦ let e : None ≡ Some i = rw none at h in absurd (cc)
+    ]
+
+axis-within : (s : Setup) (text : List ℕ) (n : ℕ) → axis_named s text ≡ Ok n → n < length s.axes
+unfolding axis_named axis_at
+axis-within s text n h = position-within _ s.axes n (results.found (axis_at s text) NO_VALUE n h)
+
+pub block-within : (s : Setup) (text : List ℕ) (n : ℕ) → block_at s text ≡ Some n → n < length s.blocks
+unfolding block_at
+block-within s text n h = position-within _ s.blocks n h
+
+pub task-within : (s : Setup) (text : List ℕ) (n : ℕ) → task_at s text ≡ Some n → n < length s.tasks
+unfolding task_at
+task-within s text n h = position-within _ s.tasks n h
+
+record IsFollowed (s : Setup) (k : BlockKind) (f : Followed) : Type 0 where
+  there : f.master < length s.axes
+  master : takes k Master ≡ false → f.master ≡ 0
+  numerator : IsTaken (takes k Numerator) (pos 1) f.numerator
+  denominator : IsTaken (takes k Denominator) (pos 1) f.denominator
+  table : takes k Table ≡ false → f.table ≡ 0
+  word : f.table < 2 ^ 16
+
+one-taken : (t : Bool) → IsTaken t (pos 1) (pos 1)
+one-taken t = record { left_out = λ fails. refl; size = lit≤ tt }
+
+gear-followed : (s : Setup) (text : List ℕ) (f : Followed) → gear_of s text ≡ Ok f → IsFollowed s GearIn f
+unfolding gear_of
+gear-followed s text f h =
+    let parts = bind_ok (halves text) _ f h in
+    let master = bind_ok (axis_named s parts.0.0) _ f parts.2 in
+    let ratio = bind_ok (halves parts.0.1) _ f master.2 in
+    let n = bind_ok (number ratio.0.0) _ f ratio.2 in
+    let d = bind_ok (number ratio.0.1) _ f n.2 in
+    let r : Followed = record { master = master.0; numerator = n.0; denominator = d.0; table = 0 } in
+    let is : r ≡ f = ok_is (Ok r) r f refl d.2 in
+    subst (λ x. IsFollowed s GearIn x) is (record {
+      there = axis-within s parts.0.0 master.0 master.1;
+      master = λ fails. absurd (cc fails);
+      numerator = record { left_out = λ fails. absurd (cc fails); size = number-small ratio.0.0 n.0 n.1 };
+      denominator = record { left_out = λ fails. absurd (cc fails); size = number-small ratio.0.1 d.0 d.1 };
+      table = λ fails. refl;
+      word = lit< tt;
+    })
+
+cam-followed : (s : Setup) (text : List ℕ) (f : Followed) → cam_of s text ≡ Ok f → IsFollowed s CamIn f
+unfolding cam_of
+cam-followed s text f h =
+    let parts = bind_ok (halves text) _ f h in
+    let master = bind_ok (axis_named s parts.0.0) _ f parts.2 in
+    let table = bind_ok (value (unsigned_of 0 65535 parts.0.1)) _ f master.2 in
+    let r : Followed = record { master = master.0; numerator = pos 1; denominator = pos 1; table = table.0 } in
+    let few = (unsigned-range 0 65535 parts.0.1 table.0 (results.found (unsigned_of 0 65535 parts.0.1) NO_VALUE table.0 table.1)).1 in
+    let is : r ≡ f = ok_is (Ok r) r f refl table.2 in
+    subst (λ x. IsFollowed s CamIn x) is (record {
+      there = axis-within s parts.0.0 master.0 master.1;
+      master = λ fails. absurd (cc fails);
+      numerator = one-taken _;
+      denominator = one-taken _;
+      table = λ fails. absurd (cc fails);
+      word = omega (arith, few);
+    })
+
+none-followed : (s : Setup) (k : BlockKind) (text : List ℕ) (f : Followed) → 1 ≤ length s.axes → unused text no_master ≡ Ok f → IsFollowed s k f
+none-followed s k text f some h =
+    subst (λ x. IsFollowed s k x) (unused-is text no_master f h) (record {
+      there = some;
+      master = λ fails. refl;
+      numerator = one-taken _;
+      denominator = one-taken _;
+      table = λ fails. refl;
+      word = lit< tt;
+    })
+
+followed : (s : Setup) (k : BlockKind) (text : List ℕ) (f : Followed) → 1 ≤ length s.axes → follow_of s k text ≡ Ok f → IsFollowed s k f
+unfolding follow_of
+followed s GearIn text f some h = gear-followed s text f h
+followed s CamIn text f some h = cam-followed s text f h
+followed s k text f some h = none-followed s k text f some h
+
+-- ---- calls
+
+record AreRates (k : BlockKind) (r : Rates) : Type 0 where
+  velocity : IsTaken (takes k Velocity) (pos 0) r.velocity
+  acceleration : IsTaken (takes k Acceleration) (pos 0) r.acceleration
+  deceleration : IsTaken (takes k Deceleration) (pos 0) r.deceleration
+  jerk : IsTaken (takes k Jerk) (pos 0) r.jerk
+
+rates-are : (k : BlockKind) (fields : List (List ℕ)) (r : Rates) → rates_of k fields ≡ Ok r → AreRates k r
+unfolding rates_of
+rates-are k (velocity ∷ acceleration ∷ deceleration ∷ jerk ∷ []) r h =
+    let v = bind_ok (input_of k Velocity velocity) _ r h in
+    let a = bind_ok (input_of k Acceleration acceleration) _ r v.2 in
+    let d = bind_ok (input_of k Deceleration deceleration) _ r a.2 in
+    let j = bind_ok (input_of k Jerk jerk) _ r d.2 in
+    let x : Rates = record { velocity = v.0; acceleration = a.0; deceleration = d.0; jerk = j.0 } in
+    subst (λ y. AreRates k y) (ok_is (Ok x) x r refl j.2) (record {
+      velocity = input-taken k Velocity velocity v.0 v.1;
+      acceleration = input-taken k Acceleration acceleration a.0 a.1;
+      deceleration = input-taken k Deceleration deceleration d.0 d.1;
+      jerk = input-taken k Jerk jerk j.0 j.1;
+    })
+rates-are k _ r h = absurd (cc h)
+
+record IsLast (s : Setup) (k : BlockKind) (l : Last) : Type 0 where
+  mode : takes k Mode ≡ false → l.mode ≡ Aborting
+  followed : IsFollowed s k l.followed
+
+last-is : (s : Setup) (k : BlockKind) (fields : List (List ℕ)) (l : Last) → 1 ≤ length s.axes → last_of s k fields ≡ Ok l → IsLast s k l
+unfolding last_of
+last-is s k (mode ∷ follow ∷ []) l some h =
+    let m = bind_ok (mode_of k mode) _ l h in
+    let f = bind_ok (follow_of s k follow) _ l m.2 in
+    let x : Last = record { mode = m.0; followed = f.0 } in
+    subst (λ y. IsLast s k y) (ok_is (Ok x) x l refl f.2) (record { mode = mode-left k mode m.0 m.1; followed = followed s k follow f.0 some f.1 })
+last-is s k _ l some h = absurd (cc h)
+
+record AreFit (s : Setup) (b : BlockDef) (i : Inputs) : Type 0 where
+  inputs : AreInputs b.kind (axes_of s b) i
+  master : i.master < length s.axes
+  long : length i.positions ≡ MOST_MEMBERS
+  word : i.table < 2 ^ 16
+
+inputs-fit : (s : Setup) (b : BlockDef) (fields : InputTexts) (i : Inputs) → 1 ≤ length s.axes → HasArrays s → inputs_of s b fields ≡ Ok i → AreFit s b i
+unfolding inputs_of
+inputs-fit s b fields i some arrays h =
+    let e = bind_ok (value (flag_of fields.execute)) _ i h in
+    let p = bind_ok (positions_of s b fields.positions) _ i e.2 in
+    let r = bind_ok (rates_of b.kind fields.rates) _ i p.2 in
+    let l = bind_ok (last_of s b.kind fields.last) _ i r.2 in
+    let x : Inputs = record {
+      execute = e.0;
+      positions = p.0;
+      velocity = r.0.velocity;
+      acceleration = r.0.acceleration;
+      deceleration = r.0.deceleration;
+      jerk = r.0.jerk;
+      mode = l.0.mode;
+      master = l.0.followed.master;
+      numerator = l.0.followed.numerator;
+      denominator = l.0.followed.denominator;
+      table = l.0.followed.table;
+    } in
+    let is : x ≡ i = ok_is (Ok x) x i refl l.2 in
+    let positions = positions-are s b fields.positions p.0 arrays p.1 in
+    let rates = rates-are b.kind fields.rates r.0 r.1 in
+    let last = last-is s b.kind fields.last l.0 some l.1 in
+    subst (λ y. AreFit s b y) is (record {
+      inputs = record {
+        positions = positions.each;
+        few_positions = positions.few;
+        velocity = rates.velocity;
+        acceleration = rates.acceleration;
+        deceleration = rates.deceleration;
+        jerk = rates.jerk;
+        mode = last.mode;
+        master = last.followed.master;
+        numerator = last.followed.numerator;
+        denominator = last.followed.denominator;
+        table = last.followed.table;
+      };
+      master = last.followed.there;
+      long = positions.long;
+      word = last.followed.word;
+    })
+
+reply-word : (fields : List (List ℕ)) (o : Outputs) → reply_of fields ≡ Ok o → o.error_id < 2 ^ 16
+unfolding reply_of
+reply-word (outputs ∷ error_id ∷ []) o h =
+    let id = bind_ok (value (unsigned_of 0 65535 error_id)) _ o h in
+    let few = (unsigned-range 0 65535 error_id id.0 (results.found (unsigned_of 0 65535 error_id) NO_VALUE id.0 id.1)).1 in
+    let is = outputs-id outputs id.0 o (results.found (outputs_of outputs id.0) NO_VALUE o id.2) in
+    subst (λ n. n < 2 ^ 16) is (omega (arith, few))
+reply-word _ o h = absurd (cc h)
+
+call-by : (s : Setup) (name : List ℕ) (inputs : InputTexts) (reply : List (List ℕ)) (e : FoundEntry) → 1 ≤ length s.axes → HasArrays s → call_by s name inputs reply ≡ Ok e → (v : TraceVersion) → IsEntryRead v s e
+unfolding call_by
+call-by s name inputs reply e some arrays h v =
+    let k = bind_ok (value (block_at s name)) _ e h in
+    let b = bind_ok (value (slice_get s.blocks k.0)) _ e k.2 in
+    let i = bind_ok (inputs_of s b.0 inputs) _ e b.2 in
+    let o = bind_ok (reply_of reply) _ e i.2 in
+    let is : found.Call k.0 i.0 o.0 ≡ e = ok_is (Ok (found.Call k.0 i.0 o.0)) (found.Call k.0 i.0 o.0) e refl o.2 in
+    let fit = inputs-fit s b.0 inputs i.0 some arrays i.1 in
+    let at : slice_get s.blocks k.0 ≡ Some b.0 = results.found (slice_get s.blocks k.0) NO_VALUE b.0 b.1 in
+    let P : BlockDef → Type 0 = λ d. AreInputs d.kind (axes_of s d) i.0 in
+    let made : IsWritableCall s k.0 i.0 o.0 = record {
+      call = record {
+        there = block-within s name k.0 (results.found (block_at s name) NO_VALUE k.0 k.1);
+        inputs = λ d other. let same : b.0 ≡ d = let x : Some b.0 ≡ Some d = sym at ∙ other in cc in subst P same fit.inputs;
+        master = fit.master;
+      };
+      positions = fit.long;
+      table = fit.word;
+      error = reply-word reply o.0 o.1;
+    } in
+    subst (λ q. IsEntryRead v s q) is made
+
+-- a call that is read is one of its machine
+pub call-read : (s : Setup) (fields : List (List ℕ)) (e : FoundEntry) → 1 ≤ length s.axes → HasArrays s → call_meaning s fields ≡ Ok e → (v : TraceVersion) → IsEntryRead v s e
+unfolding call_meaning
+call-read s (name ∷ execute ∷ positions ∷ velocity ∷ acceleration ∷ deceleration ∷ jerk ∷ mode ∷ follow ∷ outputs ∷ error_id ∷ []) e some arrays h v =
+    call-by s name _ (outputs ∷ error_id ∷ []) e some arrays h v
+call-read s _ e some arrays h v = absurd (cc h)
+
+-- so is the end of a task
+pub end-read : (s : Setup) (fields : List (List ℕ)) (e : FoundEntry) → end_meaning s fields ≡ Ok e → (v : TraceVersion) → IsEntryRead v s e
+unfolding end_meaning
+end-read s [] e h v = absurd (cc h)
+end-read s (name ∷ behind) e h v =
+    let task = bind_ok (value (task_at s name)) _ e h in
+    let empty = bind_ok (broken_unless (are_empty behind) NO_VALUE) _ e task.2 in
+    let is : found.End task.0 ≡ e = ok_is (Ok (found.End task.0)) (found.End task.0) e refl empty.2 in
+    subst (λ q. IsEntryRead v s q) is (task-within s name task.0 (results.found (task_at s name) NO_VALUE task.0 task.1))

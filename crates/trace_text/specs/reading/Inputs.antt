@@ -1,0 +1,123 @@
+-- The inputs of a call, read from the fields of its record. This project's profile.
+use Rattle.std.specs.Prelude.{ℕ, ℤ, pos, ◌-◌, ◌^◌, ◌==◌, if◌then◌else◌, Result, Ok, Err, List, [], ◌∷◌, ◌++◌, length, replicate, slice_get}
+use Rattle.command_pool.specs.declared.kind.BlockKind.{BlockKind}
+use Rattle.command_pool.specs.declared.kind.BlockKind.TheVariants.{GearIn, CamIn}
+use Rattle.command_pool.specs.declared.kind.BufferMode.{BufferMode}
+use Rattle.command_pool.specs.declared.kind.BufferMode.TheVariants.{Aborting}
+use Rattle.fb_outputs.specs.Inputs.{takes}
+use Rattle.fb_outputs.specs.Names.{mode_named}
+use Rattle.fb_outputs.specs.declared.inputs.Input.{Input}
+use Rattle.fb_outputs.specs.declared.inputs.Input.TheVariants.{Position, Velocity, Acceleration, Deceleration, Jerk, Mode}
+use Rattle.fb_outputs.specs.declared.inputs.Inputs.{Inputs}
+use Rattle.fb_outputs.specs.declared.outputs.Outputs.{Outputs}
+use Rattle.line_text.specs.Reading.{◌>>=◌, each_of}
+use Rattle.motion_history.specs.Calls.{axes_of}
+use Rattle.motion_history.specs.Setup.{Setup}
+use Rattle.motion_history.specs.declared.config.BlockDef.{BlockDef}
+use Rattle.motion_history.specs.declared.sizes.TheConstants.{MOST_MEMBERS}
+use Rattle.trace_columns.specs.Columns.{flag_of, halves_of, outputs_of, unsigned_of}
+use Rattle.trace_text.specs.reading.Items.{axis_named, number, parts_of}
+use Rattle.trace_text.specs.reading.Names.{block_at, task_at}
+use Rattle.trace_text.specs.reading.Rules.{broken_unless, unused, value}
+use Rattle.trace_text.specs.declared.reading.inputs.Followed.{Followed}
+use Rattle.trace_text.specs.declared.reading.inputs.Rates.{Rates}
+use Rattle.trace_text.specs.declared.reading.inputs.Last.{Last}
+use Rattle.trace_text.specs.reading.InputFields.{InputTexts}
+use Rattle.trace_text.specs.declared.found.FoundEntry.{FoundEntry}
+use Rattle.trace_text.specs.declared.found.FoundEntry.TheVariants as found
+use Rattle.trace_text.specs.declared.reading.rule.TheConstants.{NO_VALUE}
+
+-- positions that are not taken
+abbrev pub no_positions : List ℤ
+no_positions = replicate MOST_MEMBERS (pos 0)
+
+-- so many positions, joined by semicolons, and 0 behind them
+unfoldable pub joined_positions : ℕ → List ℕ → Result (List ℤ) ℕ
+joined_positions axes text = do
+  places ← each_of number (parts_of text)
+  _ ← broken_unless (length places == axes) NO_VALUE
+  Ok (places ++ replicate (MOST_MEMBERS - length places) (pos 0))
+
+-- the positions of a call, where its kind takes them
+unfoldable pub positions_of : Setup → BlockDef → List ℕ → Result (List ℤ) ℕ
+positions_of s b text =
+    if takes b.kind Position then joined_positions (axes_of s b) text else unused text no_positions
+
+-- a number that is an input of a kind, where it takes it
+unfoldable pub input_of : BlockKind → Input → List ℕ → Result ℤ ℕ
+input_of k input text = if takes k input then number text else unused text (pos 0)
+
+-- the buffer mode of a call, where its kind takes it
+unfoldable pub mode_of : BlockKind → List ℕ → Result BufferMode ℕ
+mode_of k text = if takes k Mode then value (mode_named text) else unused text Aborting
+
+-- what an axis follows that follows none
+abbrev pub no_master : Followed
+no_master = record { master = 0; numerator = pos 1; denominator = pos 1; table = 0 }
+
+-- the parts before the first colon and behind it; a field without one breaks its rule
+unfoldable pub halves : List ℕ → Result (List ℕ × List ℕ) ℕ
+halves text = value (halves_of text)
+
+-- MASTER:NUM:DEN of a gear
+unfoldable pub gear_of : Setup → List ℕ → Result Followed ℕ
+gear_of s text = do
+  parts ← halves text
+  master ← axis_named s parts.0
+  ratio ← halves parts.1
+  n ← number ratio.0
+  d ← number ratio.1
+  Ok (record { master = master; numerator = n; denominator = d; table = 0 })
+
+-- MASTER:TABLE of a cam
+unfoldable pub cam_of : Setup → List ℕ → Result Followed ℕ
+cam_of s text = do
+  parts ← halves text
+  master ← axis_named s parts.0
+  table ← value (unsigned_of 0 65535 parts.1)
+  Ok (record { master = master; numerator = pos 1; denominator = pos 1; table = table })
+
+-- what an axis follows, by the kind
+unfoldable pub follow_of : Setup → BlockKind → List ℕ → Result Followed ℕ
+follow_of s GearIn text = gear_of s text
+follow_of s CamIn text = cam_of s text
+follow_of s _ text = unused text no_master
+
+-- the velocity of a call, its acceleration, its deceleration and its jerk
+unfoldable pub rates_of : BlockKind → List (List ℕ) → Result Rates ℕ
+rates_of k (velocity ∷ acceleration ∷ deceleration ∷ jerk ∷ []) = do
+  v ← input_of k Velocity velocity
+  a ← input_of k Acceleration acceleration
+  d ← input_of k Deceleration deceleration
+  j ← input_of k Jerk jerk
+  Ok (record { velocity = v; acceleration = a; deceleration = d; jerk = j })
+rates_of k _ = Err NO_VALUE
+
+-- the buffer mode of a call, and what its axis follows
+unfoldable pub last_of : Setup → BlockKind → List (List ℕ) → Result Last ℕ
+last_of s k (mode ∷ follow ∷ []) = do
+  m ← mode_of k mode
+  f ← follow_of s k follow
+  Ok (record { mode = m; followed = f })
+last_of s k _ = Err NO_VALUE
+
+-- the inputs of a call
+unfoldable pub inputs_of : Setup → BlockDef → InputTexts → Result Inputs ℕ
+inputs_of s b fields = do
+  e ← value (flag_of fields.execute)
+  p ← positions_of s b fields.positions
+  r ← rates_of b.kind fields.rates
+  l ← last_of s b.kind fields.last
+  Ok (record {
+    execute = e;
+    positions = p;
+    velocity = r.velocity;
+    acceleration = r.acceleration;
+    deceleration = r.deceleration;
+    jerk = r.jerk;
+    mode = l.mode;
+    master = l.followed.master;
+    numerator = l.followed.numerator;
+    denominator = l.followed.denominator;
+    table = l.followed.table;
+  })

@@ -1,0 +1,227 @@
+// The items of a machine, read from the records of a trace.
+
+ghost use Rattle.std.specs.Prelude.{◌≡◌, ◌≤◌, IfOk, unsigned_abs, if◌then◌else◌, None, Some};
+ghost use Rattle.line_text.specs.Reading.{Gives, Takes};
+ghost use Rattle.line_text.specs.Texts.{texts};
+ghost use Rattle.motion_history.specs.Faults as faults;
+ghost use Rattle.motion_history.specs.declared.fault.ConfigFault.{ConfigFault};
+ghost use Rattle.motion_numbers.specs.declared.TheConstants.{MOST_NUMBER};
+ghost use Rattle.trace_text.specs.reading.Items as spec;
+
+use crate::reading::name::{axis_at, group_at, object_at, task_at};
+use crate::reading::rule::{NO_VALUE, REFUSED, are_empty, broken_unless, refusal_of, value};
+use axis_state::{Limits, is_name};
+use fb_outputs::kind_named;
+use line_text::LineFault;
+use motion_history::{Builder, MOST_CYCLES, MOST_ENTRIES, TraceVersion};
+use std::alloc::{AllocError, Global};
+use trace_columns::{flag_of, number_of};
+
+/// Where an axis stands, in internal units, and whether it is ready.
+#[derive(Clone, Copy)]
+pub struct Placed {
+    pub inc: i64,
+    pub start: i64,
+    pub ready: bool,
+}
+
+/// The parts of a field, between semicolons.
+#[tactic(auto, unfolding(crate::specs::reading::Items::parts_of))]
+pub fn parts_of(alloc: Global, text: &[u8]) -> Result<Vec<&[u8]>, AllocError>
+    ensures { IfOk result (λ v. texts v.items ≡ spec.parts_of text.now) }
+{
+    text.split(|b| *b == b';').collect(alloc)
+}
+
+/// The number that a field is, an input or a limit.
+#[tactic(auto, unfolding(crate::specs::reading::Items::number))]
+pub fn number(text: &[u8]) -> Result<i64, LineFault>
+    ensures value { Gives (λ z. z) (spec.number text.now) result }
+    ensures small { IfOk result (λ z. unsigned_abs z ≤ MOST_NUMBER) }
+{
+    match number_of(text) {
+        Some(number) => Ok(number),
+        None => Err(LineFault::Rule(NO_VALUE)),
+    }
+}
+
+// The number where it lies between two, both included.
+#[tactic(auto, unfolding(crate::specs::reading::Items::in_range))]
+fn in_range(least: u32, most: u32, number: i64) -> Result<u32, LineFault>
+    ensures value { Gives (λ n. n) (spec.in_range least most number) result }
+    ensures least { IfOk result (λ n. least ≤ n) }
+    ensures most { IfOk result (λ n. n ≤ most) }
+{
+    if i64::from(least) <= number && number <= i64::from(most) {
+        Ok(number as u32)
+    } else {
+        Err(LineFault::Rule(REFUSED))
+    }
+}
+
+/// Adds the axis of a record.
+#[tactic(auto, unfolding(crate::specs::reading::Items::axis_meaning))]
+pub fn add_axis(
+    machine: &mut Builder,
+    version: TraceVersion,
+    fields: &[&[u8]],
+) -> Result<(), LineFault>
+    ensures { Takes (spec.axis_meaning version machine.old (texts fields.now)) machine.new result }
+{
+    match version {
+        TraceVersion::One => {
+            let [name, lo, hi, vmax, amax, behind @ ..] = fields else {
+                return Err(LineFault::Rule(NO_VALUE));
+            };
+            place_axis(machine, name, &[lo, hi, vmax, amax, amax], behind)
+        }
+        TraceVersion::Two => {
+            let [name, lo, hi, vmax, amax, dmax, behind @ ..] = fields else {
+                return Err(LineFault::Rule(NO_VALUE));
+            };
+            place_axis(machine, name, &[lo, hi, vmax, amax, dmax], behind)
+        }
+    }
+}
+
+// Adds an axis of this name.
+#[tactic(auto, unfolding(crate::specs::reading::Items::axis_added))]
+fn place_axis(
+    machine: &mut Builder,
+    name: &[u8],
+    limits: &[&[u8]],
+    behind: &[&[u8]],
+) -> Result<(), LineFault>
+    ensures { Takes (spec.axis_added machine.old name.now (texts limits.now) (texts behind.now))
+        machine.new result }
+{
+    broken_unless(is_name(name), NO_VALUE)?;
+    let limits = limits_of(limits)?;
+    let placed = placed_of(behind)?;
+    match machine.axis(name, &limits, placed.inc, placed.start, placed.ready) {
+        Ok(_) => Ok(()),
+        Err(fault) => Err(refusal_of(fault)),
+    }
+}
+
+// The limits of an axis.
+#[tactic(auto, unfolding(crate::specs::reading::Items::limits_of))]
+fn limits_of(fields: &[&[u8]]) -> Result<Limits, LineFault>
+    ensures { Gives (λ l. l) (spec.limits_of (texts fields.now)) result }
+{
+    let [lo, hi, vmax, amax, dmax] = fields else {
+        return Err(LineFault::Rule(NO_VALUE));
+    };
+    let lo = number(lo)?;
+    let hi = number(hi)?;
+    let vmax = number(vmax)?;
+    let amax = number(amax)?;
+    let dmax = number(dmax)?;
+    Ok(Limits {
+        lo,
+        hi,
+        vmax,
+        amax,
+        dmax,
+    })
+}
+
+// Where an axis stands.
+#[tactic(auto, unfolding(crate::specs::reading::Items::placed_of))]
+fn placed_of(fields: &[&[u8]]) -> Result<Placed, LineFault>
+    ensures { Gives (λ p. p) (spec.placed_of (texts fields.now)) result }
+{
+    let [inc, start, ready, unused @ ..] = fields else {
+        return Err(LineFault::Rule(NO_VALUE));
+    };
+    let inc = number(inc)?;
+    let start = number(start)?;
+    let ready = value(flag_of(ready))?;
+    broken_unless(are_empty(unused), NO_VALUE)?;
+    Ok(Placed { inc, start, ready })
+}
+
+/// The number of the axis of this name.
+#[tactic(auto, unfolding(crate::specs::reading::Items::axis_named))]
+pub fn axis_named(machine: &Builder, name: &[u8]) -> Result<u8, LineFault>
+    ensures { Gives (λ n. n) (spec.axis_named machine.now name.now) result }
+{
+    value(axis_at(machine, name))
+}
+
+/// Adds the task of a record.
+#[tactic(auto, unfolding(crate::specs::reading::Items::task_meaning))]
+pub fn add_task(machine: &mut Builder, fields: &[&[u8]]) -> Result<(), LineFault>
+    ensures { Takes (spec.task_meaning machine.old (texts fields.now)) machine.new result }
+{
+    let [name, unused @ ..] = fields else {
+        return Err(LineFault::Rule(NO_VALUE));
+    };
+    broken_unless(is_name(name) && are_empty(unused), NO_VALUE)?;
+    match machine.task(name) {
+        Ok(_) => Ok(()),
+        Err(fault) => Err(refusal_of(fault)),
+    }
+}
+
+// Whether a name is that of an axis or of a group.
+#[tactic(auto, unfolding(crate::specs::reading::Items::is_object))]
+fn is_object(machine: &Builder, name: &[u8]) -> bool
+    ensures { result ≡ spec.is_object machine.now name.now }
+{
+    axis_at(machine, name).is_some() || group_at(machine, name).is_some()
+}
+
+/// Adds the block of a record.
+#[tactic(auto, unfolding(crate::specs::reading::Items::block_meaning))]
+pub fn add_block(machine: &mut Builder, fields: &[&[u8]]) -> Result<(), LineFault>
+    ensures { Takes (spec.block_meaning machine.old (texts fields.now)) machine.new result }
+{
+    let [name, task, kind, object, unused @ ..] = fields else {
+        return Err(LineFault::Rule(NO_VALUE));
+    };
+    broken_unless(is_name(name) && are_empty(unused), NO_VALUE)?;
+    let task = value(task_at(machine, task))?;
+    let kind = value(kind_named(kind))?;
+    broken_unless(is_object(machine, object), NO_VALUE)?;
+    let Some(object) = object_at(machine, kind, object) else {
+        return Err(LineFault::Rule(REFUSED));
+    };
+    match machine.block(name, task, kind, object) {
+        Ok(_) => Ok(()),
+        Err(fault) => Err(refusal_of(fault)),
+    }
+}
+
+/// Gives the history the room of the trace record.
+#[tactic(auto, unfolding(crate::specs::reading::Items::room_meaning))]
+pub fn set_room(machine: &mut Builder, fields: &[&[u8]]) -> Result<(), LineFault>
+    ensures { Takes (spec.room_meaning machine.old (texts fields.now)) machine.new result }
+{
+    let [cycles, entries, unused @ ..] = fields else {
+        return Err(LineFault::Rule(NO_VALUE));
+    };
+    let cycles = number(cycles)?;
+    let entries = number(entries)?;
+    broken_unless(are_empty(unused), NO_VALUE)?;
+    let cycles = in_range(1, MOST_CYCLES, cycles)?;
+    let entries = in_range(1, MOST_ENTRIES, entries)?;
+    match machine.room(cycles, entries) {
+        Ok(()) => Ok(()),
+        Err(fault) => Err(refusal_of(fault)),
+    }
+}
+
+/// Refuses a machine that has no axis, no task or no block.
+pub fn whole(machine: &Builder) -> Result<(), LineFault>
+    ensures { Gives (λ u. u) (spec.whole machine.now) result }
+{
+    broken_unless(is_whole(machine), REFUSED)
+}
+
+// Whether a machine has an axis, a task and a block.
+fn is_whole(machine: &Builder) -> bool
+    ensures { faults.whole_fault machine.now ≡ (if result then None else Some ConfigFault.TooFew) }
+{
+    1 <= machine.axes().len() && 1 <= machine.tasks().len() && 1 <= machine.blocks().len()
+}

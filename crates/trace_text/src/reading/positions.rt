@@ -1,0 +1,89 @@
+// The positions of a call, read from its record.
+
+ghost use Rattle.std.specs.Prelude.{◌≡◌, ◌≤◌};
+ghost use Rattle.line_text.specs.Reading.{Gives, each_of};
+ghost use Rattle.line_text.specs.Texts.{texts};
+ghost use Rattle.motion_history.specs.Calls as calls;
+ghost use Rattle.trace_text.specs.reading.Inputs as spec;
+ghost use Rattle.trace_text.specs.reading.Items as items;
+ghost use Rattle.trace_text.specs.reading.Rules as rules;
+
+use crate::reading::item::{number, parts_of};
+use crate::reading::rule::{NO_VALUE, broken_unless, is_empty};
+use fb_outputs::{Input, takes};
+use line_text::LineFault;
+use motion_history::{BlockDef, Builder, MOST_MEMBERS};
+use std::alloc::Global;
+
+// On how many axes a block acts.
+fn axes_of(machine: &Builder, block: &BlockDef) -> usize
+    ensures value { result ≡ calls.axes_of machine.now block.now }
+    ensures few { result ≤ MOST_MEMBERS }
+{
+    if !block.kind.acts_on_group() {
+        return 1;
+    }
+    match machine.groups().get(block.object as usize) {
+        Some(group) => group.count as usize,
+        None => 0,
+    }
+}
+
+/// The positions of a call, where its kind takes them.
+#[tactic(auto, unfolding(crate::specs::reading::Inputs::positions_of))]
+pub fn positions_of(
+    alloc: Global,
+    machine: &Builder,
+    block: &BlockDef,
+    text: &[u8],
+) -> Result<[i64; MOST_MEMBERS], LineFault>
+    ensures { Gives (λ p. p) (spec.positions_of machine.now block.now text.now) result }
+{
+    if takes(block.kind, Input::Position) {
+        joined_positions(alloc, axes_of(machine, block), text)
+    } else {
+        no_positions(text)
+    }
+}
+
+// Positions that are not taken.
+fn no_positions(text: &[u8]) -> Result<[i64; MOST_MEMBERS], LineFault>
+    ensures { Gives (λ p. p) (rules.unused text.now spec.no_positions) result }
+{
+    broken_unless(is_empty(text), NO_VALUE)?;
+    Ok([0; MOST_MEMBERS])
+}
+
+// So many positions, joined by semicolons.
+#[tactic(auto, unfolding(crate::specs::reading::Inputs::joined_positions))]
+fn joined_positions(
+    alloc: Global,
+    axes: usize,
+    text: &[u8],
+) -> Result<[i64; MOST_MEMBERS], LineFault>
+    requires { axes ≤ MOST_MEMBERS }
+    ensures { Gives (λ p. p) (spec.joined_positions axes text.now) result }
+{
+    let Ok(parts) = parts_of(alloc, text) else {
+        return Err(LineFault::OutOfMemory);
+    };
+    let places = numbers(alloc, parts.as_slice())?;
+    broken_unless(places.len() == axes, NO_VALUE)?;
+    let mut positions = [0; MOST_MEMBERS];
+    positions[..axes].copy_from_slice(places.as_slice());
+    Ok(positions)
+}
+
+// The numbers that fields are.
+fn numbers(alloc: Global, fields: &[&[u8]]) -> Result<Vec<i64>, LineFault>
+    ensures { Gives (λ v. v.items) (each_of items.number (texts fields.now)) result }
+{
+    let mut numbers = Vec::new(alloc);
+    for field in fields {
+        let number = number(field)?;
+        let Ok(()) = numbers.push(number) else {
+            return Err(LineFault::OutOfMemory);
+        };
+    }
+    Ok(numbers)
+}
