@@ -1,0 +1,4 @@
+pub mod Answered
+pub mod Log
+pub mod LineState
+pub mod LineKept
