@@ -3,7 +3,7 @@ use Rattle.std.proofs.Common.{arith}
 use Rattle.std.proofs.lemmas.Int.{ints}
 use Rattle.axis_core.specs.blocks.Moves.{target_of}
 use Rattle.axis_core.proofs.Blends.{first_up, wanted_up}
-use Rattle.axis_core.proofs.blocks.moves.step_up.Goals as goal
+use Rattle.axis_core.proofs.blocks.blends.step_up.Goals as goal
 
 pub blend_step-requires-clause-first_target : goal.blend_step-requires-clause-first_target
 blend_step-requires-clause-first_target c =

@@ -3,7 +3,7 @@ use Rattle.std.proofs.Common.{arith, to_z, of_z, w64, pos, ◌-ℤ◌}
 use Rattle.std.proofs.lemmas.Int.{ints}
 use Rattle.axis_core.specs.blocks.Moves.{target_of}
 use Rattle.axis_core.proofs.Blends.{crossed_down, first_down}
-use Rattle.axis_core.proofs.blocks.moves.crosses_down.Goals as goal
+use Rattle.axis_core.proofs.blocks.blends.crosses_down.Goals as goal
 
 pub crosses-requires-clause-first : goal.crosses-requires-clause-first
 crosses-requires-clause-first c =

@@ -1,6 +1,6 @@
 -- Each event carries a blended move on, or ends it.
 use Rattle.axis_core.proofs.BlendedLaws.{BlendsEnd, blending-commanded, blending-cycled, blending-detached, blending-powered, blends-under-way, crosses-under-way}
-use Rattle.axis_core.proofs.laws.blended_moves_end_in_time.Goals as goal
+use Rattle.axis_core.proofs.course_laws.blended_moves_end_in_time.Goals as goal
 
 law : (c : goal.After-blend_velocities_are_of_the_moves) → BlendsEnd
 law c = record {

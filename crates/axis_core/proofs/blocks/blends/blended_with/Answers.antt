@@ -4,7 +4,7 @@ use Rattle.std.specs.Prelude.{◌≡◌, Bool, true, ℤ}
 use Rattle.std.proofs.Common.{arith, sym, ◌∙◌}
 use Rattle.std.proofs.lemmas.Int.{ints}
 use Rattle.blend_plan.specs.Blends.{blend_applies}
-use Rattle.axis_core.proofs.blocks.moves.blended_with.Goals as goal
+use Rattle.axis_core.proofs.blocks.blends.blended_with.Goals as goal
 
 -- the test of it holds, as it was read
 fits-of : (t u before now t' u' : ℤ) (b : Bool) → b ≡ blend_applies t' u' before now → b ≡ true → t' ≡ t → u' ≡ u →
