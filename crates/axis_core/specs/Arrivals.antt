@@ -29,12 +29,14 @@ course_by kind.Halt w = Some (slowing w.rates.d)
 course_by kind.Stop w = Some (slowing w.rates.d)
 course_by k w = None
 
+-- the course of a command, if it has one
 abbrev pub course_of : Wanted → Option Course
 course_of w = course_by w.kind w
 
 -- how many cycles a course takes at most, from where the axis stands. This project's profile
 abbrev pub bound_of : Course → Axis → ℕ
-bound_of (toward target rates) a = cycles_bound_of (target -ℤ a.setpoint) (a.setpoint -ℤ a.previous) rates
+bound_of (toward target rates) a =
+    cycles_bound_of (target -ℤ a.setpoint) (a.setpoint -ℤ a.previous) rates
 bound_of (slowing d) a = unsigned_abs (a.setpoint -ℤ a.previous) / unsigned_abs d + 1
 
 -- alone, a course comes to its end within n cycles
@@ -52,11 +54,13 @@ pub data Turn : Type 0 where
   ended : Finish → Turn
   blended : Turn
 
+-- the turn by an end, where a move is blended or not
 abbrev pub turn_by : Bool → Option Finish → Option Turn
 turn_by true f = Some blended
 turn_by false None = None
 turn_by false (Some f) = Some (ended f)
 
+-- the turn that a fate brings, if it does
 abbrev pub turn_of : Fate → Option Turn
 turn_of f = turn_by f.blends f.ends
 
@@ -100,4 +104,5 @@ pub record Crosses (velocity place before now : ℤ) : Type 0 where
 -- by at most the blend velocity
 abbrev pub IsMoveDone : Option SecondMove → ℤ → ℤ → Axis → Type 0
 IsMoveDone None target before a = (a.setpoint ≡ target) × (a.previous ≡ target)
-IsMoveDone (Some s) target before a = Crosses s.velocity target before a.setpoint ⊎ ((a.setpoint ≡ target) × (a.previous ≡ target))
+IsMoveDone (Some s) target before a =
+    Crosses s.velocity target before a.setpoint ⊎ ((a.setpoint ≡ target) × (a.previous ≡ target))

@@ -98,7 +98,8 @@ fits s k = false
 
 -- an active command fits the state, and its numbers are within the limits. PLCopen Motion Control
 -- Part 1, the state diagram
-pub record IsActive (s : AxisState) (l : Limits) (inc offset setpoint : ℤ) (w : Wanted) : Type 0 where
+pub record IsActive (s : AxisState) (l : Limits) (inc offset setpoint : ℤ)
+    (w : Wanted) : Type 0 where
   pub fitting : fits s w.kind ≡ true
   pub numbers : AreNumbers w.kind l w
   pub ready : IsReady w.kind l inc offset setpoint w
@@ -117,7 +118,8 @@ pub record IsOff (driven was_off : Bool) (active : Option Wanted) : Type 0 where
 
 -- an axis in Standstill is driven, has step 0 and no command. PLCopen Motion Control Part 1, the
 -- state diagram
-pub record IsStanding (driven powered : Bool) (previous setpoint : ℤ) (active : Option Wanted) : Type 0 where
+pub record IsStanding (driven powered : Bool) (previous setpoint : ℤ)
+    (active : Option Wanted) : Type 0 where
   pub running : IsRunning driven powered
   pub stands : previous ≡ setpoint
   pub idle : active ≡ None
@@ -129,14 +131,20 @@ pub record IsHoming (driven powered : Bool) (previous setpoint : ℤ) : Type 0 w
 
 -- what each state says of the axis. PLCopen Motion Control Part 1, the state diagram
 abbrev pub IsInState : AxisState → Bool → Bool → Bool → ℤ → ℤ → Option Wanted → Type 0
-IsInState state.Disabled driven powered was_off previous setpoint active = IsOff driven was_off active
+IsInState state.Disabled driven powered was_off previous setpoint active =
+    IsOff driven was_off active
 IsInState state.ErrorStop driven powered was_off previous setpoint active = active ≡ None
-IsInState state.Standstill driven powered was_off previous setpoint active = IsStanding driven powered previous setpoint active
-IsInState state.Homing driven powered was_off previous setpoint active = IsHoming driven powered previous setpoint
+IsInState state.Standstill driven powered was_off previous setpoint active =
+    IsStanding driven powered previous setpoint active
+IsInState state.Homing driven powered was_off previous setpoint active =
+    IsHoming driven powered previous setpoint
 IsInState state.Stopping driven powered was_off previous setpoint active = IsRunning driven powered
-IsInState state.DiscreteMotion driven powered was_off previous setpoint active = IsRunning driven powered
-IsInState state.ContinuousMotion driven powered was_off previous setpoint active = IsRunning driven powered
-IsInState state.SynchronizedMotion driven powered was_off previous setpoint active = IsRunning driven powered
+IsInState state.DiscreteMotion driven powered was_off previous setpoint active =
+    IsRunning driven powered
+IsInState state.ContinuousMotion driven powered was_off previous setpoint active =
+    IsRunning driven powered
+IsInState state.SynchronizedMotion driven powered was_off previous setpoint active =
+    IsRunning driven powered
 
 -- an axis that is not driven stands where its drive does. This project's profile
 pub record IsPlaced (previous setpoint : ℤ) : Type 0 where
@@ -164,7 +172,8 @@ pub record IsBased (l : Limits) (inc offset previous setpoint : ℤ) (driven : B
 pub record IsAxisKept (a : Axis) : Type 0 where
   pub base : IsBased a.limits a.inc a.offset a.previous a.setpoint a.driven
   pub state : IsInState a.state a.driven (is_powered a) a.was_off a.previous a.setpoint a.active
-  pub active : (w : Wanted) → a.active ≡ Some w → IsActive a.state a.limits a.inc a.offset a.setpoint w
+  pub active : (w : Wanted) → a.active ≡ Some w →
+      IsActive a.state a.limits a.inc a.offset a.setpoint w
 
 -- a command that waits: its kind takes a mode, and its numbers are within the limits. PLCopen
 -- Motion Control Part 1, BufferMode
@@ -208,9 +217,11 @@ pub record IsAxisDef (d : AxisDef) : Type 0 where
 -- project's profile
 pub record IsLook (a : Axis) (look : AxisLook) : Type 0 where
   pub cam : IsNear look.cam
-  pub place : is_on_path a ≡ true → (place : ℤ) → look.path ≡ Some place → IsSafe a.limits a.previous a.setpoint place
+  pub place : is_on_path a ≡ true → (place : ℤ) → look.path ≡ Some place →
+      IsSafe a.limits a.previous a.setpoint place
   pub given : is_on_path a ≡ true → look.path ≡ None → ⊥
-  pub ends : is_on_path a ≡ true → (place : ℤ) → look.path ≡ Some place → look.path_ends ≡ true → place ≡ a.setpoint
+  pub ends : is_on_path a ≡ true → (place : ℤ) → look.path ≡ Some place → look.path_ends ≡ true →
+      place ≡ a.setpoint
 
 -- the commands that wait for an axis: their numbers are within its limits, and they wait where
 -- commands may. PLCopen Motion Control Part 1, BufferMode

@@ -21,14 +21,16 @@ use Rattle.axis_core.specs.declared.reason.Reason.{Reason}
 
 -- a Reset is pending, in the place of another one. MC_Reset
 abbrev pub core_with_reset : Wanted → Core → Core
-core_with_reset w c = record c { axis = reset_pending w c.axis; notes = c.notes ++ replaced_note c.axis.reset }
+core_with_reset w c =
+    record c { axis = reset_pending w c.axis; notes = c.notes ++ replaced_note c.axis.reset }
 
 -- the gear or the cam is left: its commands are aborted, and a velocity command goes on. MC_GearOut
 -- and MC_CamOut
 abbrev pub core_after_leaving : Wanted → Core → Core
 core_after_leaving w c =
     let aborted = core_after_all_ends finish.Aborted c in
-    record aborted { axis = axis_under_by (Some out_event) (velocity_command w c.axis) aborted.axis }
+    let command = velocity_command w c.axis in
+    record aborted { axis = axis_under_by (Some out_event) command aborted.axis }
 
 -- the axis's active command and those that wait
 abbrev pub queue_in : Core → Commands
@@ -46,7 +48,9 @@ core_with_queued w c = record {
 abbrev pub core_after_joining : Wanted → Core → Core
 core_after_joining w c =
     let after = core_with_queued w c in
-    if is_active_at_once (queue_in c) w then record after { axis = axis_under w after.axis } else after
+    if is_active_at_once (queue_in c) w
+    then record after { axis = axis_under w after.axis }
+    else after
 
 -- a command that is not refused, with its target as far as it is known
 abbrev pub core_after_admission : BlockKind → Wanted → Core → Core
@@ -64,9 +68,11 @@ is_active_by k w c = is_active_at_once (queue_in c) w
 
 -- what a command makes of the axis: nothing where it is refused
 abbrev pub core_after_verdict : Option Reason → Wanted → Core → Core
-core_after_verdict None w c = core_after_admission w.kind (with_target (known_target_of c.axis (last_of c.waiting) w) w) c
+core_after_verdict None w c =
+    core_after_admission w.kind (with_target (known_target_of c.axis (last_of c.waiting) w) w) c
 core_after_verdict (Some reason) w c = c
 
+-- the axis after a command was asked of it
 unfoldable pub core_after_command : Asked → Core → Core
 core_after_command q c = core_after_verdict (refusal_of q) q.wanted c
 
@@ -75,13 +81,16 @@ abbrev pub answer_by : Option Reason → Wanted → Core → Result Bool Refusal
 answer_by None w c = Ok (is_active_by w.kind w c)
 answer_by (Some reason) w c = Err (record { number = number_of reason })
 
+-- whether a command is active at once, or why it is refused
 unfoldable pub answer_of : Asked → Core → Result Bool Refusal
 answer_of q c = answer_by (refusal_of q) q.wanted c
 
 -- power is off: an axis that is not in ErrorStop is Disabled, and its commands are aborted.
 -- MC_Power
 abbrev pub core_after_disabling : Core → Core
-core_after_disabling c = let aborted = core_after_all_ends finish.Aborted c in record aborted { axis = axis_without_power aborted.axis }
+core_after_disabling c =
+    let aborted = core_after_all_ends finish.Aborted c in
+    record aborted { axis = axis_without_power aborted.axis }
 
 -- what a Power makes of the axis. MC_Power
 unfoldable pub core_after_power : Bool → Core → Core
@@ -90,14 +99,21 @@ core_after_power false c =
     let wished = record c { axis = axis_with_wish false c.axis } in
     if is_error_stop c.axis.state then wished else core_after_disabling wished
 
--- an instance loses its active command, its pending Reset and its hold
+-- an active command without this owner
 abbrev pub active_without : ℕ → Option Wanted → Option Wanted
 active_without owner None = None
 active_without owner (Some w) = Some (record w { owner = without owner w.owner })
 
+-- a pending Reset without this owner
 abbrev pub reset_without : ℕ → Option PendingReset → Option PendingReset
 reset_without owner None = None
 reset_without owner (Some p) = Some (record { owner = without owner p.owner })
 
+-- an axis without this owner of its active command, its pending Reset and its hold
 unfoldable pub axis_without_owner : ℕ → Axis → Axis
-axis_without_owner owner a = record a { active = active_without owner a.active; reset = reset_without owner a.reset; hold = without owner a.hold }
+axis_without_owner owner a =
+    record a {
+      active = active_without owner a.active;
+      reset = reset_without owner a.reset;
+      hold = without owner a.hold;
+    }

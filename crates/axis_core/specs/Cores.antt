@@ -53,8 +53,15 @@ state_during k s = next_by (event_of k) s
 
 -- the axis on which a command becomes active by an event
 unfoldable pub axis_under_by : Option AxisEvent → Wanted → Axis → Axis
-axis_under_by e w a = record a { state = next_by e a.state; active = Some w; reached = false; hold = hold_by w.kind w.owner }
+axis_under_by e w a =
+    record a {
+      state = next_by e a.state;
+      active = Some w;
+      reached = false;
+      hold = hold_by w.kind w.owner;
+    }
 
+-- an axis under a command, by the event of its kind
 abbrev pub axis_under : Wanted → Axis → Axis
 axis_under w a = axis_under_by (event_of w.kind) w a
 
@@ -68,12 +75,14 @@ core_after_all_ends f c = record {
 
 -- the axis with an error, apart from its commands. PLCopen Motion Control Part 1, the state diagram
 abbrev pub axis_in_error_stop : ℕ → Axis → Axis
-axis_in_error_stop n a = record a { state = next_of event.Error; error = n; reached = false; hold = None }
+axis_in_error_stop n a =
+    record a { state = next_of event.Error; error = n; reached = false; hold = None }
 
 -- the axis has an error: it is in ErrorStop, and its commands are ended
 unfoldable pub core_after_error : ℕ → Core → Core
 core_after_error n c =
-    let ended = core_after_all_ends (finish.Error n) c in record ended { axis = axis_in_error_stop n ended.axis }
+    let ended = core_after_all_ends (finish.Error n) c in
+    record ended { axis = axis_in_error_stop n ended.axis }
 
 -- the state of an axis whose last command is done. PLCopen Motion Control Part 1, the state diagram
 abbrev pub state_after_last : AxisState → AxisState
@@ -86,7 +95,8 @@ state_after_last s = s
 -- profile
 abbrev pub core_under_from : Wanted → ℤ → Core → Core
 core_under_from w target c =
-    if is_outside c.axis.limits.lo target c.axis.limits.hi then core_after_error 106 (record c { axis = record c.axis { active = Some w } })
+    if is_outside c.axis.limits.lo target c.axis.limits.hi
+    then core_after_error 106 (record c { axis = record c.axis { active = Some w } })
     else record c { axis = axis_under (with_target (Some target) w) c.axis }
 
 -- a command that waited takes over
@@ -96,7 +106,8 @@ core_taken_by k target w c = record c { axis = axis_under w c.axis }
 
 -- the first command that waits takes over; without one the axis settles
 abbrev pub core_after_take_over : List Wanted → Core → Core
-core_after_take_over [] c = record c { axis = record c.axis { state = state_after_last c.axis.state } }
+core_after_take_over [] c =
+    record c { axis = record c.axis { state = state_after_last c.axis.state } }
 core_after_take_over (w ∷ ws) c = core_taken_by w.kind w.target w (record c { waiting = ws })
 
 -- the same of the one command that waits first, if there is one

@@ -20,7 +20,9 @@ is_enabled s = false
 
 -- whether an answer is operational: Operation enabled, in cyclic synchronous position mode
 abbrev pub is_operational : DriveIn → Bool
-is_operational input = is_enabled (state_of_word input.statusword) && int_eq input.mode_display CYCLIC_SYNCHRONOUS_POSITION
+is_operational input =
+    is_enabled (state_of_word input.statusword)
+    && int_eq input.mode_display CYCLIC_SYNCHRONOUS_POSITION
 
 -- whether a drive that reads so reacts to a fault or has one
 abbrev pub reads_fault : Option DriveState → Bool

@@ -10,5 +10,6 @@ abbrev pub look_at : Bool → Option Wanted → Option ActiveLook
 look_at reached None = None
 look_at reached (Some w) = Some (record { owner = w.owner; follow = w.follow; reached = reached })
 
+-- what is told of the active command, if there is one
 abbrev pub active_look_of : Axis → Option ActiveLook
 active_look_of a = look_at a.reached a.active

@@ -20,7 +20,8 @@ pub record TakesStep (step : ℤ) (before after : Axis) : Type 0 where
 -- the taken step of a move: that of its plan alone, or of the blend into a second move
 abbrev pub move_step_taken : Option SecondMove → Axis → Wanted → ℤ
 move_step_taken None a w = move_taken_of a.limits w.rates (target_of w) a.previous a.setpoint
-move_step_taken (Some s) a w = blend_taken_of a.limits (target_of w) s.target a.previous a.setpoint w.rates s.rates s.velocity
+move_step_taken (Some s) a w =
+    blend_taken_of a.limits (target_of w) s.target a.previous a.setpoint w.rates s.rates s.velocity
 
 -- the taken step of a Halt and a Stop
 abbrev pub halt_step_taken : Axis → Wanted → ℤ

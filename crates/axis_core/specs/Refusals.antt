@@ -51,7 +51,8 @@ number_of NotFollowing = 19
 -- whether a target that is known lies outside the limits, or breaks the counts
 abbrev pub is_target_outside : BlockKind → Axis → Option ℤ → Bool
 is_target_outside k a None = false
-is_target_outside k a (Some target) = is_outside a.limits.lo target a.limits.hi || breaks_counts k a target
+is_target_outside k a (Some target) =
+    is_outside a.limits.lo target a.limits.hi || breaks_counts k a target
 
 -- whether a reason to refuse a command holds
 unfoldable pub holds : Reason → Asked → Bool
@@ -60,11 +61,13 @@ holds InErrorStop q = is_error_stop q.axis.state
 holds InStopping q = is_stopping q.axis.state
 holds InHoming q = is_homing q.axis.state
 holds GroupHoldsAxis q = q.held
-holds BadVelocity q = is_outside (least_velocity_of q.wanted.kind q.axis.limits) q.wanted.rates.v q.axis.limits.vmax
+holds BadVelocity q =
+    is_outside (least_velocity_of q.wanted.kind q.axis.limits) q.wanted.rates.v q.axis.limits.vmax
 holds BadAcceleration q = is_outside (pos 1) q.wanted.rates.a q.axis.limits.amax
 holds BadDeceleration q = is_outside (pos 1) q.wanted.rates.d q.axis.limits.dmax
 holds JerkRefused q = not (int_eq q.jerk (pos 0))
-holds TargetOutside q = is_target_outside q.wanted.kind q.axis (known_target_of q.axis q.last q.wanted)
+holds TargetOutside q =
+    is_target_outside q.wanted.kind q.axis (known_target_of q.axis q.last q.wanted)
 holds QueueFull q = not (is_aborting q.wanted.mode) && is_some q.axis.active && (q.waiting == 8)
 holds NotAtRest q = not (is_standstill q.axis.state)
 holds BadRatio q = is_bad_ratio q.wanted.follow

@@ -7,7 +7,10 @@ use Rattle.axis_core.specs.declared.axis.Axis.{Axis}
 -- the spell that an axis is in, if it is driven: its last two setpoints, less the offset. This
 -- project's profile
 abbrev pub spell_of : Axis → Option Spell
-spell_of a = if a.driven then Some (record { before = a.previous -ℤ a.offset; now = a.setpoint -ℤ a.offset }) else None
+spell_of a =
+    if a.driven
+    then Some (record { before = a.previous -ℤ a.offset; now = a.setpoint -ℤ a.offset })
+    else None
 
 -- a row keeps the limits of the axis after the spell before it, where it is driven, and leads on to
 -- the spell after it. This project's profile

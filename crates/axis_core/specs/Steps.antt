@@ -23,12 +23,14 @@ is_safe_step a step = int_eq (taken_step_in a step) step
 
 -- whether a wanted step brakes: it is smaller than the old one, in its direction or 0
 abbrev pub is_braking : ℤ → ℤ → Bool
-is_braking old step = nat_lt (unsigned_abs step) (unsigned_abs old) && (int_eq step (pos 0) || is_same_sign step old)
+is_braking old step =
+    nat_lt (unsigned_abs step) (unsigned_abs old) && (int_eq step (pos 0) || is_same_sign step old)
 
 -- a wanted step of a command that has no target: error 103, SoftLimit, where it is not safe and
 -- brakes not
 abbrev pub wish_within_limits : Axis → ℤ → Result ℤ ℕ
-wish_within_limits a step = if is_braking (old_step_of a) step || is_safe_step a step then Ok step else Err 103
+wish_within_limits a step =
+    if is_braking (old_step_of a) step || is_safe_step a step then Ok step else Err 103
 
 -- a wanted step is taken by the safe one nearest to it; an error stays
 abbrev pub step_for_wish : Axis → Result ℤ ℕ → Result ℤ ℕ

@@ -1,4 +1,5 @@
-// The step of an axis in a cycle: by its command, along its group's path, or to brake after an error.
+// The step of an axis in a cycle: by its command, along its group's path, or to brake after an
+// error.
 
 ghost use Rattle.std.specs.Prelude.{◌≡◌, ℕ, Result, ◌≤◌, ◌+ℤ◌, ◌&&◌, true, false, unsigned_abs, IfOk, IfSome};
 ghost use Rattle.std.specs.Option.{option_copied};
@@ -17,8 +18,8 @@ ghost use Rattle.motion_numbers.specs.Ranges.{IsStep};
 use crate::axis::Axis;
 use crate::blocks::halts::braking_by;
 use crate::blocks::home::home;
-use crate::blocks::moves::target_of;
 use crate::blocks::path::{place_on_path, take_place};
+use crate::blocks::targets::target_of;
 use crate::driving::{answer_error, stand};
 use crate::kinds;
 use crate::look::AxisLook;
@@ -101,7 +102,8 @@ fn home_target(wanted: &Wanted) -> i64
     requires target { IsTarget wanted.now.kind (target_of wanted.now) }
     ensures target { IsTarget wanted.now.kind result }
     ensures same { (made : Result Progress ℕ) (axis : Axis) →
-        spec.advance_by_progress wanted.now.kind result axis made ≡ spec.advance_by_progress wanted.now.kind (target_of wanted.now) axis made }
+        spec.advance_by_progress wanted.now.kind result axis made
+        ≡ spec.advance_by_progress wanted.now.kind (target_of wanted.now) axis made }
 {
     if matches!(wanted.kind, BlockKind::Home) {
         target_of(wanted)
@@ -113,8 +115,10 @@ fn home_target(wanted: &Wanted) -> i64
 // A cycle of an axis that no error stops: by its command, or at rest without one.
 fn obey(axis: &mut Axis, next: Option<&Wanted>, look: &AxisLook) -> Option<Finish>
     requires { MayAdvance axis.old (option_copied next) look.now }
-    ensures axis { axis.new ≡ (spec.advance_by_command axis.old.active (option_copied next.entry) look.now axis.old).axis }
-    ensures ending { result ≡ (spec.advance_by_command axis.old.active (option_copied next.entry) look.now axis.old).ending }
+    ensures axis { axis.new ≡ (spec.advance_by_command axis.old.active
+        (option_copied next.entry) look.now axis.old).axis }
+    ensures ending { result ≡ (spec.advance_by_command axis.old.active
+        (option_copied next.entry) look.now axis.old).ending }
     ensures small { unsigned_abs axis.new.setpoint ≤ MOST_REPORTED }
     ensures state { axis.new.state ≡ axis.old.state }
 {
@@ -132,8 +136,10 @@ fn obey(axis: &mut Axis, next: Option<&Wanted>, look: &AxisLook) -> Option<Finis
 #[tactic(auto, unfolding(crate::specs::Cycles::advance_in_cycle))]
 fn advance(axis: &mut Axis, next: Option<&Wanted>, look: &AxisLook) -> Option<Finish>
     requires { MayAdvance axis.old (option_copied next) look.now }
-    ensures axis { axis.new ≡ (spec.advance_in_cycle (option_copied next.entry) look.now axis.old).axis }
-    ensures ending { result ≡ (spec.advance_in_cycle (option_copied next.entry) look.now axis.old).ending }
+    ensures axis { axis.new ≡ (spec.advance_in_cycle
+        (option_copied next.entry) look.now axis.old).axis }
+    ensures ending { result ≡ (spec.advance_in_cycle
+        (option_copied next.entry) look.now axis.old).ending }
     ensures small { IfSome result (λ f. unsigned_abs axis.new.setpoint ≤ MOST_REPORTED) }
     ensures state { IfSome result (λ f. axis.new.state ≡ axis.old.state) }
     ensures running { IfSome result (λ f. states.is_error_stop axis.old.state ≡ false) }
@@ -160,15 +166,18 @@ fn ending_by_error(error: u16) -> Option<Finish>
     }
 }
 
-/// What a cycle makes of the axis alone, and how its active command ends by it: a driven spell goes on,
-/// or the axis stands where its drive does, with the error that the answer brings.
+/// What a cycle makes of the axis alone, and how its active command ends by it: a driven spell goes
+/// on, or the axis stands where its drive does, with the error that the answer brings.
 #[tactic(auto, using(crate::proofs::DriveAnswers::no_error_where_driven, crate::proofs::Events::error_from))]
 pub fn pass(driven: bool, axis: &mut Axis, next: Option<&Wanted>, look: &AxisLook) -> Option<Finish>
     requires drive { HasDrive axis.old }
     requires driven { driven ≡ drives.is_driven axis.old look.now.input }
-    requires may { (driven && axis.old.driven) ≡ true → MayAdvance axis.old (option_copied next) look.now }
-    ensures axis { axis.new ≡ (spec.advance_or_stand driven (option_copied next.entry) look.now axis.old).axis }
-    ensures ending { result ≡ (spec.advance_or_stand driven (option_copied next.entry) look.now axis.old).ending }
+    requires may { (driven && axis.old.driven) ≡ true →
+        MayAdvance axis.old (option_copied next) look.now }
+    ensures axis { axis.new ≡ (spec.advance_or_stand driven
+        (option_copied next.entry) look.now axis.old).axis }
+    ensures ending { result ≡ (spec.advance_or_stand driven
+        (option_copied next.entry) look.now axis.old).ending }
     ensures small { IfSome result (λ f. unsigned_abs axis.new.setpoint ≤ MOST_REPORTED) }
     ensures state { IfSome result (λ f. axis.new.state ≡ axis.old.state) }
     ensures running { IfSome result (λ f. IsFrom axis.old.state event.Error) }

@@ -1,5 +1,6 @@
-// The function blocks of an axis, one file each.
+// The function blocks of an axis, one file each, and the targets and blends of moves.
 
+pub mod blends;
 pub mod cam;
 pub mod gear;
 pub mod halts;
@@ -8,4 +9,5 @@ pub mod moves;
 pub mod path;
 pub mod power;
 pub mod reset;
+pub mod targets;
 pub mod velocity;

@@ -13,9 +13,9 @@ ghost use Rattle.axis_core.specs.blocks.Moves.{with_target};
 
 use crate::axis::{Axis, PendingReset};
 use crate::blocks::gear::velocity_command;
-use crate::blocks::moves::known_target;
 use crate::blocks::power::{switch_off, wish};
 use crate::blocks::reset::await_reset;
+use crate::blocks::targets::known_target;
 use crate::refusing::{Asking, refusal_of};
 use crate::taking_over::{end_all, enter};
 use axis_state::{AxisEvent, AxisState, axis_next, offsets_are_small};
@@ -28,7 +28,8 @@ fn leave(wanted: &Wanted, axis: &mut Axis, pool: &mut CommandPool, list: u8, not
     requires list { list < length pool.old }
     requires room { length notes.old ≤ 3 }
     requires may { MayLeave axis.old }
-    ensures after { core_at axis.new pool.new list notes.new ≡ spec.core_after_leaving wanted.now (core_at axis.old pool.old list notes.old) }
+    ensures after { core_at axis.new pool.new list notes.new
+        ≡ spec.core_after_leaving wanted.now (core_at axis.old pool.old list notes.old) }
     ensures others { pool.new ≡ slice_set pool.old list (queue_of pool.new list) }
 {
     let velocity = velocity_command(wanted, axis);
@@ -53,7 +54,8 @@ fn join(
     requires begin { MayBegin wanted.kind axis.old.state }
     requires place { is_full (commands axis.old.active pool.old list) wanted ≡ false }
     ensures active { result ≡ is_active_at_once (commands axis.old.active pool.old list) wanted }
-    ensures after { core_at axis.new pool.new list notes.new ≡ spec.core_after_joining wanted (core_at axis.old pool.old list notes.old) }
+    ensures after { core_at axis.new pool.new list notes.new
+        ≡ spec.core_after_joining wanted (core_at axis.old pool.old list notes.old) }
     ensures others { pool.new ≡ slice_set pool.old list (queue_of pool.new list) }
 {
     let (kind, owner) = (wanted.kind, wanted.owner);
@@ -77,7 +79,8 @@ fn admit_command(
     requires list { list < length pool.old }
     requires room { length notes.old ≤ 3 }
     requires may { MayAdmit wanted.kind wanted (core_at axis.old pool.old list notes.old) }
-    ensures active { result ≡ spec.is_active_by wanted.kind wanted (core_at axis.old pool.old list notes.old) }
+    ensures active { result ≡ spec.is_active_by wanted.kind wanted
+        (core_at axis.old pool.old list notes.old) }
     ensures after { core_at axis.new pool.new list notes.new
         ≡ spec.core_after_admission wanted.kind wanted (core_at axis.old pool.old list notes.old) }
     ensures others { pool.new ≡ slice_set pool.old list (queue_of pool.new list) }
@@ -112,10 +115,12 @@ pub fn command(
     requires room { notes.old ≡ [] }
     requires kept { IsCoreKept (core_at axis.old pool.old list notes.old) }
     requires made { IsMade wanted.now }
-    ensures answer { result ≡ spec.answer_of (asked_in (core_at axis.old pool.old list notes.old) list wanted.now jerk held tables)
+    ensures answer { result ≡ spec.answer_of
+        (asked_in (core_at axis.old pool.old list notes.old) list wanted.now jerk held tables)
         (core_at axis.old pool.old list notes.old) }
     ensures after { core_at axis.new pool.new list notes.new
-        ≡ spec.core_after_command (asked_in (core_at axis.old pool.old list notes.old) list wanted.now jerk held tables) (core_at axis.old pool.old list notes.old) }
+        ≡ spec.core_after_command (asked_in (core_at axis.old pool.old list notes.old) list
+        wanted.now jerk held tables) (core_at axis.old pool.old list notes.old) }
     ensures others { pool.new ≡ slice_set pool.old list (queue_of pool.new list) }
     ensures kept { IsCoreKept (core_at axis.new pool.new list notes.new) }
 {
@@ -146,7 +151,8 @@ fn disable(axis: &mut Axis, pool: &mut CommandPool, list: u8, notes: &mut Notes)
     requires list { list < length pool.old }
     requires room { length notes.old ≤ 3 }
     requires state { is_error_stop axis.old.state ≡ false }
-    ensures after { core_at axis.new pool.new list notes.new ≡ spec.core_after_disabling (core_at axis.old pool.old list notes.old) }
+    ensures after { core_at axis.new pool.new list notes.new
+        ≡ spec.core_after_disabling (core_at axis.old pool.old list notes.old) }
     ensures others { pool.new ≡ slice_set pool.old list (queue_of pool.new list) }
 {
     end_all(axis, pool, list, Finish::Aborted, notes);
@@ -158,7 +164,8 @@ fn disable(axis: &mut Axis, pool: &mut CommandPool, list: u8, notes: &mut Notes)
 pub fn power(enable: bool, axis: &mut Axis, pool: &mut CommandPool, list: u8, notes: &mut Notes)
     requires list { list < length pool.old }
     requires room { length notes.old ≤ 3 }
-    ensures after { core_at axis.new pool.new list notes.new ≡ spec.core_after_power enable (core_at axis.old pool.old list notes.old) }
+    ensures after { core_at axis.new pool.new list notes.new
+        ≡ spec.core_after_power enable (core_at axis.old pool.old list notes.old) }
     ensures others { pool.new ≡ slice_set pool.old list (queue_of pool.new list) }
 {
     wish(enable, axis);

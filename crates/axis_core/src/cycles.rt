@@ -83,7 +83,8 @@ fn cycle_axis(look: &AxisLook, axis: &mut Axis, pool: &mut CommandPool, list: u8
     requires room { notes.old ≡ [] }
     requires kept { IsCoreKept (core_at axis.old pool.old list notes.old) }
     requires look { IsLook axis.old look.now }
-    ensures after { core_at axis.new pool.new list notes.new ≡ spec.core_after_cycle look.now (core_at axis.old pool.old list notes.old) }
+    ensures after { core_at axis.new pool.new list notes.new
+        ≡ spec.core_after_cycle look.now (core_at axis.old pool.old list notes.old) }
     ensures others { pool.new ≡ slice_set pool.old list (queue_of pool.new list) }
     ensures kept { IsCoreKept (core_at axis.new pool.new list notes.new) }
     ensures limits { KeepsSpell axis.old (spec.row_shown look.now.input axis.new) axis.new }
@@ -118,7 +119,8 @@ pub fn cycle(
     requires room { notes.old ≡ [] }
     requires kept { IsCoreKept (core_at axis.old pool.old list notes.old) }
     requires look { IsLook axis.old look.now }
-    ensures after { core_at axis.new pool.new list notes.new ≡ spec.core_after_cycle look.now (core_at axis.old pool.old list notes.old) }
+    ensures after { core_at axis.new pool.new list notes.new
+        ≡ spec.core_after_cycle look.now (core_at axis.old pool.old list notes.old) }
     ensures others { pool.new ≡ slice_set pool.old list (queue_of pool.new list) }
     ensures row { result ≡ spec.row_shown look.now.input axis.new }
     ensures kept { IsCoreKept (core_at axis.new pool.new list notes.new) }

@@ -49,7 +49,8 @@ pub fn has_fault(input: &DriveIn) -> bool
 // Where the drive stands.
 fn actual(axis: &Axis, input: &DriveIn) -> i64
     requires { HasDrive axis.now }
-    ensures value { result ≡ place_of axis.now.limits.lo input.now.actual axis.now.offset axis.now.inc }
+    ensures value { result ≡ place_of axis.now.limits.lo input.now.actual axis.now.offset
+        axis.now.inc }
     ensures small { unsigned_abs result ≤ MOST_REPORTED }
 {
     place(axis.limits.lo, input.actual, axis.offset, axis.inc)
@@ -58,7 +59,8 @@ fn actual(axis: &Axis, input: &DriveIn) -> i64
 // Whether the drive stands within the limits.
 fn is_within(axis: &Axis, input: &DriveIn) -> bool
     requires { HasDrive axis.now }
-    ensures { result ≡ not (ranges.is_outside axis.now.limits.lo (spec.actual_of axis.now input.now) axis.now.limits.hi) }
+    ensures { result ≡ not (ranges.is_outside axis.now.limits.lo
+        (spec.actual_of axis.now input.now) axis.now.limits.hi) }
 {
     !is_outside(axis.limits.lo, actual(axis, input), axis.limits.hi)
 }

@@ -77,7 +77,8 @@ pub fn progress(
     requires carried { IsCarried wanted.now.kind wanted.now }
     requires next { IfSome (option_copied next) IsBlendable }
     requires cam { IsNear look.now.cam }
-    ensures value { result ≡ cycles.progress_in_cycle axis.now wanted.now (option_copied next.entry) look.now }
+    ensures value { result ≡ cycles.progress_in_cycle axis.now wanted.now
+        (option_copied next.entry) look.now }
     ensures small { IfOk result (λ p. IsStep p.step) }
 {
     match wanted.kind {

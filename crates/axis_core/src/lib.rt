@@ -6,6 +6,7 @@ mod advancing;
 mod axis;
 mod blocks;
 mod calls;
+mod course_laws;
 mod cycles;
 mod driving;
 mod kinds;
@@ -28,11 +29,14 @@ pub use command_pool::{
     BlockKind, BufferMode, CommandPool, Finish, Follow, Note, Notes, OutOfMemory, Rates, Refusal,
     Wanted,
 };
+pub use course_laws::{
+    blended_moves_end_in_time, courses_end_in_time, moves_are_done_at_their_targets,
+    moves_go_on_by_their_steps,
+};
 pub use laws::{
-    at_most_eight_wait, axes_stay_kept, blended_moves_end_in_time, calls_move_no_axis,
-    courses_end_in_time, ends_are_told_once, errors_stand_in_error_stop, fates_are_told,
-    moves_are_done_at_their_targets, moves_go_on_by_their_steps, moving_axes_have_commands,
-    owners_stay_apart, standing_axes_stay, states_change_by_the_diagram, steps_are_safe,
+    at_most_eight_wait, axes_stay_kept, calls_move_no_axis, ends_are_told_once,
+    errors_stand_in_error_stop, fates_are_told, moving_axes_have_commands, owners_stay_apart,
+    standing_axes_stay, states_change_by_the_diagram, steps_are_safe,
 };
 pub use look::{ActiveLook, AxisLook};
 pub use one_axis::AxisCore;

@@ -8,7 +8,8 @@ use command_pool::Follow;
 pub struct AxisLook {
     /// The drive's answer.
     pub input: DriveIn,
-    /// The master's setpoints at the end of the previous cycle: the one before, and the current one.
+    /// The master's setpoints at the end of the previous cycle: the one before, and the current
+    /// one.
     pub master: (i64, i64),
     /// The position that the cam asks for, at most 10^15 in size.
     pub cam: i64,

@@ -21,8 +21,9 @@ use command_pool::{CommandPool, Notes, Refusal, Wanted};
 use kin_core::{Limits, standing_is_kept};
 use std::marker::Model;
 
-/// One axis: its PLCopen state, its setpoints and its active command; those that wait behind it are in a list of the
-/// pool, which each call is given with the list's number, that of the axis. Contracts see it as an `Axis`.
+/// One axis: its PLCopen state, its setpoints and its active command; those that wait behind it are
+/// in a list of the pool, which each call is given with the list's number, that of the axis.
+/// Contracts see it as an `Axis`.
 #[derive(Drop)]
 pub struct AxisCore {
     axis: Axis,
@@ -53,8 +54,8 @@ impl AxisCore {
         }
     }
 
-    /// Asks a command of the axis, and answers whether it is active, or why it is refused. A Reset, a GearOut and a
-    /// CamOut are never active.
+    /// Asks a command of the axis, and answers whether it is active, or why it is refused. A Reset,
+    /// a GearOut and a CamOut are never active.
     pub fn command(
         &mut self,
         pool: &mut CommandPool,
@@ -69,10 +70,12 @@ impl AxisCore {
         requires room { notes.old ≡ [] }
         requires queue { IsQueueKept self.old (queue_of pool.old list) }
         requires made { IsMade wanted.now }
-        ensures answer { result ≡ commands.answer_of (asked_in (core_at self.old pool.old list notes.old) list wanted.now jerk held tables)
+        ensures answer { result ≡ commands.answer_of
+            (asked_in (core_at self.old pool.old list notes.old) list wanted.now jerk held tables)
             (core_at self.old pool.old list notes.old) }
         ensures after { core_at self.new pool.new list notes.new
-            ≡ commands.core_after_command (asked_in (core_at self.old pool.old list notes.old) list wanted.now jerk held tables) (core_at self.old pool.old list notes.old) }
+            ≡ commands.core_after_command (asked_in (core_at self.old pool.old list notes.old) list
+            wanted.now jerk held tables) (core_at self.old pool.old list notes.old) }
         ensures others { pool.new ≡ slice_set pool.old list (queue_of pool.new list) }
         ensures queue { IsQueueKept self.new (queue_of pool.new list) }
     {
@@ -138,7 +141,8 @@ impl AxisCore {
         requires idle { self.old.active ≡ None }
         requires rest { IsTrue on ⊎ (self.old.previous ≡ self.old.setpoint) }
         ensures after { self.new ≡ path.axis_on_path on self.old }
-        ensures queue { (waiting : List Wanted) → IsQueueKept self.old waiting → IsQueueKept self.new waiting }
+        ensures queue { (waiting : List Wanted) → IsQueueKept self.old waiting →
+            IsQueueKept self.new waiting }
     {
         crate::blocks::path::on_path(on, &mut self.axis);
     }
@@ -152,8 +156,8 @@ impl AxisCore {
         crate::calls::detach(owner, &mut self.axis);
     }
 
-    /// The owner of the active command, what it follows, and whether it is at its velocity, in gear or in sync as of
-    /// the last cycle.
+    /// The owner of the active command, what it follows, and whether it is at its velocity, in gear
+    /// or in sync as of the last cycle.
     pub fn active(&self) -> Option<ActiveLook>
         ensures { result ≡ looks.active_look_of self.now }
     {
@@ -181,8 +185,9 @@ impl AxisCore {
         self.axis.driven
     }
 
-    /// A cycle of the axis: its drive's answer is read, its command takes a step and may end, a pending Reset may be
-    /// done, and its drive gets a controlword and a target. The row shows it after that.
+    /// A cycle of the axis: its drive's answer is read, its command takes a step and may end, a
+    /// pending Reset may be done, and its drive gets a controlword and a target. The row shows it
+    /// after that.
     pub fn cycle(
         &mut self,
         pool: &mut CommandPool,

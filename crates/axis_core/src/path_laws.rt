@@ -25,16 +25,16 @@ pub fn axes_keep_their_definitions()
         KeepsDefinition c.axis (core_after_cycle look c).axis }
 {}
 
-/// An axis that a group holds takes no command but a Reset: its state, setpoints, active command and
-/// those that wait stay as they are.
+/// An axis that a group holds takes no command but a Reset: its state, setpoints, active command
+/// and those that wait stay as they are.
 pub fn held_axes_take_no_command()
     ensures { (q : Asked) (c : Core) → IsMade q.wanted → q.held ≡ true →
         IsLeftAlone c (core_after_command q c) }
 {}
 
-/// An axis on its group's path goes to the place that this gives it in each cycle whose drive answer
-/// brings no error: it follows on, or stands where the path ends, and has no command of its own. It
-/// is on the path after a cycle only where it has gone so, and the path goes on.
+/// An axis on its group's path goes to the place that this gives it in each cycle whose drive
+/// answer brings no error: it follows on, or stands where the path ends, and has no command of its
+/// own. It is on the path after a cycle only where it has gone so, and the path goes on.
 pub fn paths_are_followed()
     ensures follows { (look : AxisLook) (c : Core) → IsCoreKept c → IsLook c.axis look →
         is_on_path c.axis ≡ true → is_on_path (core_after_cycle look c).axis ≡ true →

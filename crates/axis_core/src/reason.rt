@@ -21,7 +21,8 @@ pub enum Reason {
     BadDeceleration,
     /// 9: Jerk is not 0.
     JerkRefused,
-    /// 10: a target that is known in the call is outside the limits; for Home also where the new offset has no counts.
+    /// 10: a target that is known in the call is outside the limits; for Home also where the new
+    /// offset has no counts.
     TargetOutside,
     /// 11: the mode is not aborting, a command is active and eight wait.
     QueueFull,

@@ -9,7 +9,7 @@ use crate::axis::{Axis, MOST_SETPOINT};
 use crate::blocks::cam::is_no_table;
 use crate::blocks::gear::{is_bad_ratio, is_master, is_not_following};
 use crate::blocks::home::breaks_counts;
-use crate::blocks::moves::known_target;
+use crate::blocks::targets::known_target;
 use crate::blocks::velocity::least_velocity;
 use crate::kinds::tests_of;
 use crate::reason::Reason;

@@ -112,7 +112,8 @@ pub fn ends_where(holds: bool, finish: Finish) -> Option<Finish>
 
 /// The first command that waits takes over where the active one has reached what it goes for.
 pub fn gives_way(next: Option<&Wanted>, reached: bool) -> Option<Finish>
-    ensures { result ≡ (if is_some (option_copied next.entry) && reached then Some ending.Aborted else None) }
+    ensures { result ≡ (if is_some (option_copied next.entry) && reached then Some ending.Aborted
+        else None) }
 {
     ends_where(next.is_some() && reached, Finish::Aborted)
 }

@@ -66,7 +66,8 @@ pub fn enter(kind: BlockKind, owner: Option<u16>, axis: &mut Axis)
 pub fn end_all(axis: &mut Axis, pool: &mut CommandPool, list: u8, finish: Finish, notes: &mut Notes)
     requires list { list < length pool.old }
     requires room { length notes.old ≤ 3 }
-    ensures after { core_at axis.new pool.new list notes.new ≡ core_after_all_ends finish (core_at axis.old pool.old list notes.old) }
+    ensures after { core_at axis.new pool.new list notes.new
+        ≡ core_after_all_ends finish (core_at axis.old pool.old list notes.old) }
     ensures others { pool.new ≡ slice_set pool.old list (queue_of pool.new list) }
 {
     abort_all(pool, list, &mut axis.active, finish, notes);
@@ -89,7 +90,8 @@ pub fn fail(number: u16, axis: &mut Axis, pool: &mut CommandPool, list: u8, note
     requires list { list < length pool.old }
     requires room { length notes.old ≤ 3 }
     requires state { IsFrom axis.old.state event.Error }
-    ensures after { core_at axis.new pool.new list notes.new ≡ core_after_error number (core_at axis.old pool.old list notes.old) }
+    ensures after { core_at axis.new pool.new list notes.new
+        ≡ core_after_error number (core_at axis.old pool.old list notes.old) }
     ensures others { pool.new ≡ slice_set pool.old list (queue_of pool.new list) }
 {
     end_all(axis, pool, list, Finish::Error(number), notes);
@@ -107,12 +109,17 @@ fn settled(state: AxisState) -> AxisState
     }
 }
 
-// A command without a fixed target takes over, or has an error where its target lies outside the limits.
+// A command without a fixed target takes over, or has an error where its target lies outside the
+// limits.
 fn begin_from(wanted: &Wanted, target: i64, axis: &mut Axis) -> Option<u16>
     requires { MayBegin wanted.now.kind axis.old.state }
     ensures after { (waiting : List Wanted) (notes : List Note) →
         spec.core_with_error result (record { axis = axis.new; waiting = waiting; notes = notes })
-        ≡ core_under_from wanted.now target (record { axis = axis.old; waiting = waiting; notes = notes }) }
+        ≡ core_under_from wanted.now target (record {
+          axis = axis.old;
+          waiting = waiting;
+          notes = notes;
+        }) }
     ensures state { IfSome result (λ n. axis.new.state ≡ axis.old.state) }
 {
     if is_outside(axis.limits.lo, target, axis.limits.hi) {
@@ -146,7 +153,8 @@ fn begin_waiting(wanted: &Wanted, axis: &mut Axis) -> Option<u16>
     requires position { unsigned_abs (position_of wanted.now) ≤ MOST_NUMBER }
     ensures after { (waiting : List Wanted) (notes : List Note) →
         spec.core_with_error result (record { axis = axis.new; waiting = waiting; notes = notes })
-        ≡ core_taken_by wanted.now.kind wanted.now.target wanted.now (record { axis = axis.old; waiting = waiting; notes = notes }) }
+        ≡ core_taken_by wanted.now.kind wanted.now.target wanted.now
+        (record { axis = axis.old; waiting = waiting; notes = notes }) }
     ensures state { IfSome result (λ n. axis.new.state ≡ axis.old.state) }
 {
     match (wanted.kind, wanted.target) {
@@ -160,11 +168,16 @@ fn begin_waiting(wanted: &Wanted, axis: &mut Axis) -> Option<u16>
 
 // The first command that waits takes over, or has an error; without one the axis settles.
 fn take_over(next: &Option<Wanted>, axis: &mut Axis) -> Option<u16>
-    requires begin { IfSome next.now (λ w. MayBegin w.kind axis.old.state × (unsigned_abs (position_of w) ≤ MOST_NUMBER)) }
+    requires begin { IfSome next.now (λ w. MayBegin w.kind axis.old.state
+        × (unsigned_abs (position_of w) ≤ MOST_NUMBER)) }
     requires setpoint { unsigned_abs axis.old.setpoint ≤ MOST_REPORTED }
     ensures after { (waiting : List Wanted) (notes : List Note) →
         spec.core_with_error result (record { axis = axis.new; waiting = waiting; notes = notes })
-        ≡ spec.core_with_next next.now (record { axis = axis.old; waiting = waiting; notes = notes }) }
+        ≡ spec.core_with_next next.now (record {
+          axis = axis.old;
+          waiting = waiting;
+          notes = notes;
+        }) }
     ensures state { IfSome result (λ n. axis.new.state ≡ axis.old.state) }
 {
     match next {
@@ -197,7 +210,8 @@ fn end(finish: Finish, axis: &mut Axis, pool: &mut CommandPool, list: u8, notes:
     requires state { IsFrom axis.old.state event.Error }
     requires waiting { MayTakeOver axis.old.state (queue_of pool.old list) }
     requires setpoint { unsigned_abs axis.old.setpoint ≤ MOST_REPORTED }
-    ensures after { core_at axis.new pool.new list notes.new ≡ core_after_end finish (core_at axis.old pool.old list notes.old) }
+    ensures after { core_at axis.new pool.new list notes.new
+        ≡ core_after_end finish (core_at axis.old pool.old list notes.old) }
     ensures others { pool.new ≡ slice_set pool.old list (queue_of pool.new list) }
 {
     note_end(axis, finish, notes);
@@ -218,7 +232,8 @@ pub fn end_by(
     requires list { list < length pool.old }
     requires room { length notes.old ≤ 2 }
     requires may { IfSome ending (λ f. MayEnd axis.old (queue_of pool.old list)) }
-    ensures after { core_at axis.new pool.new list notes.new ≡ spec.core_after_ending ending (core_at axis.old pool.old list notes.old) }
+    ensures after { core_at axis.new pool.new list notes.new
+        ≡ spec.core_after_ending ending (core_at axis.old pool.old list notes.old) }
     ensures others { pool.new ≡ slice_set pool.old list (queue_of pool.new list) }
 {
     match ending {

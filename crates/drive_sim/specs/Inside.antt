@@ -4,7 +4,8 @@ use Rattle.drive_sim.specs.Faults.{RisesAbove}
 use Rattle.drive_sim.specs.Sim.{DriveSim}
 use Rattle.drive_sim.specs.declared.drive.Drive.TheInside.{Inside}
 
--- the state that a drive's fields say: its ring has room for one target more than its lag. This project's profile
+-- the state that a drive's fields say: its ring has room for one target more than its lag. This
+-- project's profile
 abbrev pub sim_of : Inside → DriveSim
 sim_of d = record {
   lag = d.kept.capacity - 1;

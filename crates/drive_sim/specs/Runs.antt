@@ -20,6 +20,10 @@ abbrev pub KeepsAll : DriveSim → List DriveOut → Type 0
 KeepsAll sim [] = Unit {0}
 KeepsAll sim (out ∷ outs) = (keeps_target sim out ≡ true) × KeepsAll (drive_stepped sim out) outs
 
--- the target that lies as many targets before the last as a lag says, or another count where there are fewer. This project's profile
+-- the target that lies as many targets before the last as a lag says, or another count where there
+-- are fewer. This project's profile
 abbrev pub lagging : ℕ → List ℤ → ℤ → ℤ
-lagging lag targets count = if nat_lt lag (length targets) then slice_index_or targets (length targets - (lag + 1)) count else count
+lagging lag targets count =
+    if nat_lt lag (length targets)
+    then slice_index_or targets (length targets - (lag + 1)) count
+    else count

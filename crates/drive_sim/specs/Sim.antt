@@ -2,7 +2,9 @@
 use Rattle.std.specs.Prelude.{ℕ, ℤ, List}
 use Rattle.cia402_machine.specs.declared.drive.DriveState.{DriveState}
 
--- a simulated drive: its lag and its fault steps; how many steps it made; its state, last controlword, mode display and actual count; and the last of the targets kept since it is in Operation enabled, as many as the lag and one, the oldest first. This project's profile
+-- a simulated drive: its lag and its fault steps; how many steps it made; its state, last
+-- controlword, mode display and actual count; and the last of the targets kept since it is in
+-- Operation enabled, as many as the lag and one, the oldest first. This project's profile
 pub record DriveSim : Type 0 where
   pub lag : ℕ
   pub faults : List ℕ

@@ -12,7 +12,8 @@ use Rattle.cia402_machine.specs.declared.drive.DriveState.TheVariants.{Operation
 use Rattle.drive_sim.specs.Faults.{has_step}
 use Rattle.drive_sim.specs.Sim.{DriveSim}
 
--- a drive that opens with this lag, these fault steps and this count, ready or not. This project's profile
+-- a drive that opens with this lag, these fault steps and this count, ready or not. This project's
+-- profile
 abbrev pub opened : ℕ → List ℕ → ℤ → Bool → DriveSim
 opened lag faults count true = record {
   lag = lag;
@@ -37,30 +38,42 @@ opened lag faults count false = record {
 
 -- what a drive answers. IEC 61800-7-201, objects 6041h, 6061h and 6064h
 abbrev pub answer_of : DriveSim → DriveIn
-answer_of sim = record { statusword = status_of_state sim.state; mode_display = sim.mode_display; actual = sim.actual }
+answer_of sim =
+    record {
+      statusword = status_of_state sim.state;
+      mode_display = sim.mode_display;
+      actual = sim.actual;
+    }
 
 -- a drive is in Operation enabled. IEC 61800-7-201, the finite state automaton
 abbrev pub is_enabled : DriveState → Bool
 is_enabled OperationEnabled = true
 is_enabled state = false
 
--- the number of the next step, from 1; the count stands still at the end of 64 bits, far behind every fault step. This project's profile
+-- the number of the next step, from 1; the count stands still at the end of 64 bits, far behind
+-- every fault step. This project's profile
 abbrev pub next_step : DriveSim → ℕ
 next_step sim = min (sim.steps + 1) (2 ^ 64 - 1)
 
 -- the state after a step with an output. IEC 61800-7-201, the finite state automaton
 abbrev pub state_after : DriveSim → DriveOut → DriveState
-state_after sim out = drive_step_of sim.state sim.last out.controlword (has_step (next_step sim) sim.faults)
+state_after sim out =
+    drive_step_of sim.state sim.last out.controlword (has_step (next_step sim) sim.faults)
 
--- a step keeps its target: the drive is in Operation enabled before and after it, and the mode is cyclic synchronous position. This project's profile
+-- a step keeps its target: the drive is in Operation enabled before and after it, and the mode is
+-- cyclic synchronous position. This project's profile
 abbrev pub keeps_target : DriveSim → DriveOut → Bool
-keeps_target sim out = is_enabled sim.state && is_enabled (state_after sim out) && int_eq out.mode CYCLIC_SYNCHRONOUS_POSITION
+keeps_target sim out =
+    is_enabled sim.state && is_enabled (state_after sim out)
+    && int_eq out.mode CYCLIC_SYNCHRONOUS_POSITION
 
 -- the kept targets after a step: with the one just kept, or none. This project's profile
 unfoldable pub kept_after : DriveSim → DriveOut → List ℤ
-kept_after sim out = if keeps_target sim out then keep_last (sim.lag + 1) (sim.kept ++ out.target ∷ []) else []
+kept_after sim out =
+    if keeps_target sim out then keep_last (sim.lag + 1) (sim.kept ++ out.target ∷ []) else []
 
--- the actual count by the kept targets: the oldest where they fill the room for them, or the earlier count where there are fewer. This project's profile
+-- the actual count by the kept targets: the oldest where they fill the room for them, or the
+-- earlier count where there are fewer. This project's profile
 unfoldable pub followed : ℕ → List ℤ → ℤ → ℤ
 followed room kept actual = if length kept == room then slice_index_or kept 0 actual else actual
 

@@ -1,4 +1,5 @@
-//! The simulated drive: a drive of CiA 402 in cyclic synchronous position mode that follows its targets with a lag and has faults in given steps.
+//! The simulated drive: a drive of CiA 402 in cyclic synchronous position mode that follows its
+//! targets with a lag and has faults in given steps.
 #![tactic(auto)]
 
 mod drive;

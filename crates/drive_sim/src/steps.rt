@@ -39,7 +39,8 @@ pub fn keeps_target(before: DriveState, after: DriveState, mode: i8) -> bool
 #[tactic(auto, unfolding(crate::specs::Steps::followed))]
 fn keep(kept: &mut HeapCircularBuffer<i32>, target: i32, actual: i32) -> i32
     requires { 1 ≤ kept.old.capacity }
-    ensures kept { kept.new ≡ buffer (keep_last kept.old.capacity (kept.old.items ++ target ∷ [])) kept.old.capacity }
+    ensures kept { kept.new ≡ buffer (keep_last kept.old.capacity (kept.old.items ++ target ∷ []))
+        kept.old.capacity }
     ensures followed { result ≡ spec.followed kept.old.capacity kept.new.items actual }
 {
     kept.push_back(target);
@@ -64,7 +65,9 @@ fn oldest(kept: &HeapCircularBuffer<i32>, count: i32) -> i32
 #[tactic(auto, using(crate::proofs::FaultLemmas::nothing_followed))]
 pub fn followed(kept: &mut HeapCircularBuffer<i32>, keeps: bool, target: i32, actual: i32) -> i32
     requires { 1 ≤ kept.old.capacity }
-    ensures kept { kept.new ≡ buffer (if keeps then keep_last kept.old.capacity (kept.old.items ++ target ∷ []) else []) kept.old.capacity }
+    ensures kept { kept.new ≡ buffer (if keeps
+        then keep_last kept.old.capacity (kept.old.items ++ target ∷ [])
+        else []) kept.old.capacity }
     ensures followed { result ≡ spec.followed kept.old.capacity kept.new.items actual }
 {
     if keeps {

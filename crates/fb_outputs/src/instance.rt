@@ -6,6 +6,7 @@ ghost use Rattle.fb_outputs.specs.Steps.{opened, edge_of, called, started, finis
 ghost use Rattle.fb_outputs.specs.Replies.{IsReply, may_hold};
 
 use crate::outputs::Outputs;
+use crate::reply::outputs_now;
 use command_pool::{BlockKind, Finish};
 use std::marker::Model;
 
@@ -186,84 +187,9 @@ fn without_shown(progress: Progress) -> Progress
     }
 }
 
-// Whether the kind takes Enable at each call.
-fn is_power(kind: BlockKind) -> bool
+/// Whether the kind takes Enable at each call.
+pub fn is_power(kind: BlockKind) -> bool
     ensures { result ≡ spec.is_power kind }
 {
     matches!(kind, BlockKind::Power)
-}
-
-// Whether the kind holds its axis or group while its Execute is true.
-fn is_stop(kind: BlockKind) -> bool
-    ensures { result ≡ spec.is_stop kind }
-{
-    matches!(kind, BlockKind::Stop | BlockKind::GroupStop)
-}
-
-const NOTHING: Outputs = Outputs {
-    busy: false,
-    active: false,
-    done: false,
-    aborted: false,
-    error: false,
-    error_id: 0,
-    reached: false,
-};
-
-// The outputs of an instance.
-fn outputs_now(kind: BlockKind, execute: bool, reached: bool, progress: Progress) -> Outputs
-    ensures { result ≡ outputs_of
-        (record { kind = kind; execute = execute; reached = reached; progress = progress }) }
-{
-    if is_power(kind) {
-        Outputs {
-            busy: execute,
-            reached: execute && reached,
-            ..NOTHING
-        }
-    } else {
-        outputs_by(is_stop(kind), execute, reached, progress)
-    }
-}
-
-// The outputs of a block that is no Power.
-fn outputs_by(stop: bool, execute: bool, reached: bool, progress: Progress) -> Outputs
-    ensures { result ≡ spec.outputs_by stop execute reached progress }
-{
-    match progress {
-        Progress::Idle => NOTHING,
-        Progress::Waiting => Outputs {
-            busy: true,
-            ..NOTHING
-        },
-        Progress::Active => Outputs {
-            busy: true,
-            active: true,
-            reached: !stop && reached,
-            ..NOTHING
-        },
-        Progress::Ended { finish, .. } => result_of(stop && execute && reached, finish),
-    }
-}
-
-// The outputs of a result.
-fn result_of(holds: bool, finish: Finish) -> Outputs
-    ensures { result ≡ spec.result_of holds finish }
-{
-    match finish {
-        Finish::Done => Outputs {
-            active: holds,
-            done: true,
-            ..NOTHING
-        },
-        Finish::Aborted => Outputs {
-            aborted: true,
-            ..NOTHING
-        },
-        Finish::Error(error_id) => Outputs {
-            error: true,
-            error_id,
-            ..NOTHING
-        },
-    }
 }

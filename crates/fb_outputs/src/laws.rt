@@ -1,4 +1,6 @@
-// Laws of the replies of instances and of names in texts: each is the contract of a function that does nothing.
+// Laws of the replies of instances and of names in texts: each is the contract of a function that
+// does nothing.
+
 ghost use Rattle.std.specs.Prelude.{◌≡◌, true, List};
 ghost use Rattle.std.specs.List.{AllByRecursion};
 ghost use Rattle.command_pool.specs.declared.kind.BlockKind.{BlockKind};

@@ -7,6 +7,7 @@ mod instance;
 mod laws;
 mod names;
 mod outputs;
+mod reply;
 #[cfg(test)]
 mod tests;
 

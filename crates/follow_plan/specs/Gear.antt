@@ -3,7 +3,9 @@ use Rattle.std.specs.Prelude.{ℤ, pos, neg_ℤ, ◌+ℤ◌, ◌-ℤ◌, ◌*ℤ
 use Rattle.std.specs.Int.{int_min, int_max}
 use Rattle.follow_plan.specs.Floor.{floor_of}
 
--- the step that a gear n:d asks for, from a master's setpoint m0 to m1: the change of the geared setpoint, which is rounded down. PLCopen Motion Control Part 1, MC_GearIn; the rounding is this project's profile
+-- the step that a gear n:d asks for, from a master's setpoint m0 to m1: the change of the geared
+-- setpoint, which is rounded down. PLCopen Motion Control Part 1, MC_GearIn; the rounding is this
+-- project's profile
 abbrev pub gear_difference_of : ℤ → ℤ → ℤ → ℤ → ℤ
 gear_difference_of m0 m1 n d = floor_of (n *ℤ m1) d -ℤ floor_of (n *ℤ m0) d
 

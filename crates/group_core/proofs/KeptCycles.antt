@@ -19,8 +19,7 @@ use Rattle.kin_core.specs.Taken.{taken_step_of}
 use Rattle.kin_core.specs.Toward.{toward_zero}
 use Rattle.kin_core.specs.declared.limits.Limits.{Limits}
 use Rattle.linear_path.specs.Line.{longest_way_of}
-use Rattle.linear_path.specs.LineIsPath.{line_limits_from, line_limits_to}
-use Rattle.linear_path.specs.LineLaws.{line_between}
+use Rattle.linear_path.proofs.LineIsPath.{line_between, line_limits_from, line_limits_to}
 use Rattle.linear_path.specs.Path.{AreWithin, IsBetween, limits_at}
 use Rattle.group_core.specs.Cores.{Core, ended, ended_by, failed, path_settled, settled, taken_over}
 use Rattle.group_core.specs.Cycles.{Advance, advanced, advanced_with, answered, cycled, ending_of, moved, over_at_rest, path_after, released}

@@ -11,7 +11,7 @@ use Rattle.kin_core.specs.Taken.{taken_step_of}
 use Rattle.kin_core.specs.Toward.{toward_zero}
 use Rattle.kin_core.specs.declared.limits.Limits.{Limits}
 use Rattle.linear_path.specs.Line.{AreInRange, coordinate_of}
-use Rattle.linear_path.specs.LineIsPath.{line_limits_from, line_limits_in_range, line_limits_to}
+use Rattle.linear_path.proofs.LineIsPath.{line_limits_from, line_limits_in_range, line_limits_to}
 use Rattle.linear_path.specs.Path.{AreAxesLimits, limits_at}
 use Rattle.motion_numbers.specs.Ranges.{IsPlace}
 use Rattle.trapezoid_plan.specs.MoveRun.{halt_taken_of, move_taken_of}

@@ -6,7 +6,7 @@ use Rattle.kin_core.specs.Admissible.{AreLimits, IsKept, IsSafe, IsTakenStep}
 use Rattle.kin_core.specs.Taken.{taken_step_of}
 use Rattle.kin_core.specs.declared.limits.Limits.{Limits}
 use Rattle.linear_path.specs.Line.{AreInRange, coordinate_of}
-use Rattle.linear_path.specs.LineIsPath.{line_limits_from, line_limits_to}
+use Rattle.linear_path.proofs.LineIsPath.{line_limits_from, line_limits_to}
 use Rattle.linear_path.specs.Path.{AreAxesLimits, AreWithin, limits_at}
 use Rattle.group_core.specs.Cores.{Core, failed}
 use Rattle.group_core.specs.Cycles.{advanced, answered, path_after, path_taken, step_of}

@@ -10,7 +10,7 @@ use Rattle.kin_core.specs.declared.limits.Limits.{Limits}
 use Rattle.group_state.specs.declared.state.GroupState.{GroupState}
 use Rattle.group_state.specs.declared.state.GroupState.TheVariants as state
 use Rattle.linear_path.specs.Line.{coordinate_of}
-use Rattle.linear_path.specs.LineLaws.{line_begins}
+use Rattle.linear_path.proofs.LineIsPath.{line_begins}
 use Rattle.group_core.specs.Calls.{admitted_by, asked_in, braked_for, commanded, commanded_by, powered_off, queued, waits_for_rest}
 use Rattle.group_core.specs.Cores.{Core, ended_by, failed, line_begun}
 use Rattle.group_core.specs.Cycles.{answered, cycled, ending_of, moved, path_after, released}

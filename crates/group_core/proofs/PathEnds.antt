@@ -13,7 +13,7 @@ use Rattle.command_pool.specs.declared.wanted.Wanted.{Wanted}
 use Rattle.group_state.specs.declared.state.GroupState.{GroupState}
 use Rattle.group_state.specs.declared.state.GroupState.TheVariants as state
 use Rattle.linear_path.specs.Line.{coordinate_of}
-use Rattle.linear_path.specs.LineLaws.{line_begins}
+use Rattle.linear_path.proofs.LineIsPath.{line_begins}
 use Rattle.group_core.specs.Cores.{Core, ended, ended_by, path_settled, taken_over}
 use Rattle.group_core.specs.Cycles.{advanced, advanced_with, answered, cycled, ending_of, moved, path_after, path_taken, released, step_of}
 use Rattle.group_core.specs.GroupKept.{IsCoreKept, IsLook}

@@ -12,8 +12,7 @@ use Rattle.command_pool.specs.declared.kind.BlockKind.TheVariants as kind
 use Rattle.command_pool.specs.declared.wanted.Wanted.{Wanted}
 use Rattle.kin_core.specs.declared.limits.Limits.{Limits}
 use Rattle.linear_path.specs.Line.{coordinate_of, longest_way_of, place_between}
-use Rattle.linear_path.specs.LineIsPath.{line_limits_to}
-use Rattle.linear_path.specs.LineLaws.{line_ends}
+use Rattle.linear_path.proofs.LineIsPath.{line_ends, line_limits_to}
 use Rattle.group_core.specs.Calls.{active_without, admitted_by, asked_in, braked_for, commanded, commanded_by, group_without, line_joined, powered_off, queued, waits_for_rest}
 use Rattle.group_core.specs.Fates.{Fate, cycle_fate, ending_fate, is_failing, replaced}
 use Rattle.group_state.specs.declared.state.GroupState.{GroupState}

@@ -107,6 +107,7 @@ abbrev pub commanded_by : Option Reason → GroupLook → Wanted → Core → Co
 commanded_by None members w c = admitted_by w.kind members w c
 commanded_by (Some reason) members w c = c
 
+-- the group after a command was asked of it
 unfoldable pub commanded : Wanted → ℤ → GroupLook → Core → Core
 commanded w jerk members c = commanded_by (refusal_of (asked_in c w jerk members)) members w c
 
@@ -115,6 +116,7 @@ abbrev pub answer_by : Option Reason → Wanted → Core → Result Bool Refusal
 answer_by None w c = Ok (is_active_by w.kind w c)
 answer_by (Some reason) w c = Err (record { number = number_of reason })
 
+-- whether a command is active at once, or why it is refused
 unfoldable pub answer_of : Wanted → ℤ → GroupLook → Core → Result Bool Refusal
 answer_of w jerk members c = answer_by (refusal_of (asked_in c w jerk members)) w c
 
@@ -122,15 +124,17 @@ answer_of w jerk members c = answer_by (refusal_of (asked_in c w jerk members)) 
 unfoldable pub powered_off : Core → Core
 powered_off c = if may_fail c.group.state then failed 102 c else c
 
--- an instance loses its active command, its pending GroupReset and its hold
+-- an active command without this owner
 abbrev pub active_without : ℕ → Option Wanted → Option Wanted
 active_without owner None = None
 active_without owner (Some w) = Some (record w { owner = without owner w.owner })
 
+-- a pending GroupReset without this owner
 abbrev pub reset_without : ℕ → Option PendingReset → Option PendingReset
 reset_without owner None = None
 reset_without owner (Some p) = Some (record { owner = without owner p.owner })
 
+-- a group without this owner of its active command, its pending GroupReset and its hold
 unfoldable pub group_without : ℕ → Group → Group
 group_without owner g = record g {
   active = active_without owner g.active;

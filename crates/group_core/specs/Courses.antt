@@ -28,6 +28,7 @@ course_by kind.GroupHalt w = Some (slowing w.rates.d)
 course_by kind.GroupStop w = Some (slowing w.rates.d)
 course_by k w = None
 
+-- the course of a command, if it has one
 abbrev pub course_of : Wanted → Option Course
 course_of w = course_by w.kind w
 

@@ -31,7 +31,10 @@ pub record Advance : Type 0 where
 -- the step of the active command; without one the path stands
 abbrev pub advanced_with : Option Wanted → Motion → Advance
 advanced_with None m =
-    record { motion = moved_by (taken_step_of m.limits m.previous m.place (pos 0)) m; ending = None }
+    record {
+      motion = moved_by (taken_step_of m.limits m.previous m.place (pos 0)) m;
+      ending = None;
+    }
 advanced_with (Some w) m =
     let step = step_by w.kind w m in
     record { motion = moved_by step m; ending = ending_by w.kind m step }
@@ -65,9 +68,11 @@ abbrev pub group_released : Bool → Group → Option OnPath → Group
 group_released held g p =
     if leaves_stopping held g p then record g { state = next_of StopReleased; hold = None } else g
 
+-- its path, which is over where the group leaves GroupStopping
 abbrev pub path_released : Bool → Group → Option OnPath → Option OnPath
 path_released held g p = if leaves_stopping held g p then None else p
 
+-- the group that leaves GroupStopping, where it does
 abbrev pub released : Bool → Core → Core
 released held c = record c {
   group = group_released held c.group c.path;
@@ -78,6 +83,7 @@ released held c = record c {
 abbrev pub path_over : Group → Option OnPath → Option OnPath
 path_over g p = if is_error_stop g.state && not (is_moving p) then None else p
 
+-- the group whose path is over, where it is
 abbrev pub over_at_rest : Core → Core
 over_at_rest c = record c { path = path_over c.group c.path }
 
@@ -102,6 +108,7 @@ step_of members c = record {
 unfoldable pub reset_where : GroupLook → Bool → Group → Group
 reset_where members on_path g = reset_by g.reset (states_in members) on_path g
 
+-- the group after the GroupResets of a cycle
 abbrev pub reset_cycled : GroupLook → Core → Core
 reset_cycled members c = record c {
   group = reset_where members (is_some c.path) c.group;
@@ -123,5 +130,6 @@ opened axes = record {
   hold = None;
 }
 
+-- a group of so many axes as it opens
 abbrev pub opening : ℕ → Core
 opening axes = record { group = opened axes; path = None; waiting = []; notes = [] }

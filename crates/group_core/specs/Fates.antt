@@ -52,6 +52,7 @@ abbrev pub asked_fate : Option Reason → Wanted → Core → Fate
 asked_fate None w c = admitted_fate w.kind w c
 asked_fate (Some reason) w c = goes_on
 
+-- what becomes of the active command by a command that is asked
 unfoldable pub command_fate : Wanted → ℤ → GroupLook → Core → Fate
 command_fate w jerk members c = asked_fate (refusal_of (asked_in c w jerk members)) w c
 

@@ -93,7 +93,8 @@ pub record IsPathOf (axes : ℕ) (limits : List Limits) (p : OnPath) : Type 0 wh
   pub starts : AreInRange p.way.starts
   pub targets : AreInRange p.way.targets
   pub within : (axis : ℕ) → axis < axes →
-      AreWithin (limits_at limits axis) (coordinate_of p.way.starts axis) (coordinate_of p.way.targets axis)
+      AreWithin (limits_at limits axis) (coordinate_of p.way.starts axis)
+      (coordinate_of p.way.targets axis)
   pub limits_are : p.motion.limits ≡ limits_on p.way limits
   pub from : pos 0 ≤ℤ p.motion.previous
   pub to : p.motion.previous ≤ℤ p.motion.limits.hi
@@ -122,6 +123,7 @@ pub record IsGroupKept
   pub waiting : AreWaiting g.axes limits ws
   pub queue : (ws ≡ []) ⊎ (g.state ≡ GroupMoving)
 
+-- what always holds of a group, its path and the commands that wait
 abbrev pub IsCoreKept : List Limits → Core → Type 0
 IsCoreKept limits c = IsGroupKept limits c.group c.path c.waiting
 

@@ -46,10 +46,11 @@ number_of GroupStateRefuses = 16
 number_of BlendRefused = 17
 number_of CircularRefused = 18
 
--- the limits and the states of the axes
+-- the limits of the axes
 abbrev pub limits_in : GroupLook → List Limits
 limits_in members = take members.count members.limits
 
+-- the states of the axes
 abbrev pub states_in : GroupLook → List AxisState
 states_in members = take members.count members.states
 

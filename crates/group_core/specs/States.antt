@@ -1,5 +1,5 @@
 -- In which state a group and its axes are (PLCopen Motion Control Part 4 and Part 1).
-use Rattle.std.specs.Prelude.{Bool, true, false, ◌||◌, List, [], ◌∷◌}
+use Rattle.std.specs.Prelude.{Bool, true, false}
 use Rattle.axis_state.specs.declared.state.AxisState.{AxisState}
 use Rattle.axis_state.specs.declared.state.AxisState.TheVariants as axis
 use Rattle.group_state.specs.declared.state.GroupState.{GroupState}
@@ -22,28 +22,27 @@ may_fail state.GroupMoving = true
 may_fail state.GroupStopping = true
 may_fail s = false
 
--- whether an axis is in the state named
+-- whether an axis is Disabled
 abbrev pub is_disabled : AxisState → Bool
 is_disabled axis.Disabled = true
 is_disabled s = false
 
+-- whether an axis is in ErrorStop
 abbrev pub is_in_error_stop : AxisState → Bool
 is_in_error_stop axis.ErrorStop = true
 is_in_error_stop s = false
 
+-- whether an axis is in Stopping
 abbrev pub is_in_stopping : AxisState → Bool
 is_in_stopping axis.Stopping = true
 is_in_stopping s = false
 
+-- whether an axis is in Homing
 abbrev pub is_homing : AxisState → Bool
 is_homing axis.Homing = true
 is_homing s = false
 
+-- whether an axis is not in Standstill
 abbrev pub is_moved : AxisState → Bool
 is_moved axis.Standstill = false
 is_moved s = true
-
--- whether any axis is so
-abbrev pub any_axis : (AxisState → Bool) → List AxisState → Bool
-any_axis test [] = false
-any_axis test (s ∷ ss) = test s || any_axis test ss

@@ -65,6 +65,7 @@ old_step_of m = m.place -ℤ m.previous
 abbrev pub is_running : Motion → Bool
 is_running m = not (int_eq m.place m.previous)
 
+-- whether there is a path that moves
 abbrev pub is_moving : Option OnPath → Bool
 is_moving None = false
 is_moving (Some p) = is_running p.motion

@@ -1,7 +1,6 @@
-// What a command on a group, a Power off of a member and a detachment make of the group.
+// What a command on a group and a Power off of a member make of the group.
 
 ghost use Rattle.std.specs.Prelude.{◌≡◌, ◌<◌, ◌≤◌, [], false, length, slice_set, Option};
-ghost use Rattle.command_pool.specs.Waiting as waiting;
 ghost use Rattle.command_pool.specs.Waiting.{queue_of};
 ghost use Rattle.group_core.specs.Admitting.{MayAdmit, MayHalt, MayJoin};
 ghost use Rattle.group_core.specs.Calls as spec;
@@ -15,7 +14,7 @@ ghost use Rattle.group_core.specs.Tracks.{OnPath};
 use crate::blocks::enable::{disable, enable};
 use crate::blocks::line::braking_for;
 use crate::blocks::reset::await_reset;
-use crate::group::{Group, GroupOnPath, PendingReset, Track};
+use crate::group::{Group, GroupOnPath, Track};
 use crate::look::GroupLook;
 use crate::refusing::{Asking, refusal_of};
 use crate::states::may_fail;
@@ -158,8 +157,8 @@ fn admit_command(
     false
 }
 
-/// Asks a command of the group: it is refused by the first reason of its kind that holds, else it is
-/// admitted, and answered whether it is active.
+/// Asks a command of the group: it is refused by the first reason of its kind that holds, else it
+/// is admitted, and answered whether it is active.
 #[tactic(auto, unfolding(crate::specs::Calls::commanded, crate::specs::Calls::answer_of))]
 pub fn command(
     wanted: &Wanted,
@@ -211,42 +210,4 @@ pub fn power_off(group: &mut Group, pool: &mut CommandPool, list: u8, notes: &mu
     if may_fail(group.state) {
         fail(POWER_OFF, group, pool, list, notes);
     }
-}
-
-// An owner, and None where it is the one that is gone.
-fn without(owner: Option<u16>, gone: u16) -> Option<u16>
-    ensures { result ≡ waiting.without gone owner }
-{
-    match owner {
-        Some(owner) if owner == gone => None,
-        _ => owner,
-    }
-}
-
-// An active command without this owner.
-fn disown(owner: u16, active: &mut Option<Wanted>)
-    ensures { active.new ≡ spec.active_without owner active.old }
-{
-    if let Some(wanted) = active {
-        wanted.owner = without(wanted.owner, owner);
-    }
-}
-
-// A pending GroupReset without this owner.
-fn disown_reset(owner: u16, reset: &mut Option<PendingReset>)
-    ensures { reset.new ≡ spec.reset_without owner reset.old }
-{
-    if let Some(pending) = reset {
-        pending.owner = without(pending.owner, owner);
-    }
-}
-
-/// Takes an owner away from the active command, the pending GroupReset and the hold.
-#[tactic(auto, unfolding(crate::specs::Calls::group_without))]
-pub fn detach(owner: u16, group: &mut Group)
-    ensures { group.new ≡ spec.group_without owner group.old }
-{
-    disown(owner, &mut group.active);
-    disown_reset(owner, &mut group.reset);
-    group.hold = without(group.hold, owner);
 }

@@ -51,11 +51,11 @@ pub fn groups_stay_kept()
     braking_steps_are_only_cut();
 }
 
-/// Each axis keeps its own limits along the path of its group. An axis that stands on the path can be
-/// stopped, and the place that a cycle gives it is a safe step after its setpoints; where the cycle
-/// ends the path, that place is its setpoint. After the cycle it stands on the path that goes on, or on
-/// the next one, which begins there; in a call a path begins only where nothing moves and the axes
-/// stand, and is left only where the axis rests; in a cycle without a path none begins.
+/// Each axis keeps its own limits along the path of its group. An axis that stands on the path can
+/// be stopped, and the place that a cycle gives it is a safe step after its setpoints; where the
+/// cycle ends the path, that place is its setpoint. After the cycle it stands on the path that goes
+/// on, or on the next one, which begins there; in a call a path begins only where nothing moves and
+/// the axes stand, and is left only where the axis rests; in a cycle without a path none begins.
 pub fn members_keep_their_limits()
     ensures safe { (members : GroupLook) (c : Core) (p : OnPath) (axis : ℕ) (before now : ℤ) →
         IsLook c.group members → IsCoreKept (limits_in members) c →
@@ -92,8 +92,8 @@ pub fn members_keep_their_limits()
     taken_steps_keep();
 }
 
-/// A fate is what becomes of the active command of a group: by a command that is asked, a Power off of
-/// a member, an owner that is taken away and a cycle; a GroupReset leaves it as it is.
+/// A fate is what becomes of the active command of a group: by a command that is asked, a Power off
+/// of a member, an owner that is taken away and a cycle; a GroupReset leaves it as it is.
 pub fn fates_are_told()
     ensures command { (w : Wanted) (jerk : ℤ) (members : GroupLook) (c : Core) →
         IsFate (command_fate w jerk members c) c.group.active
@@ -107,11 +107,11 @@ pub fn fates_are_told()
         (reset_where members on_path g).active ≡ g.active }
 {}
 
-/// While no error of a member stops the group, a line goes on by the taken move step of its path, by its
-/// rates cut to those of the path, and is Done exactly where it stands at the end with step 0; a
-/// GroupHalt and a GroupStop, and what brakes a path before an aborting line, brake it by their
-/// Deceleration, and are Done exactly where the step is 0. In GroupErrorStop a path brakes by its dmax,
-/// from the cycle of the error on. A refused command changes nothing.
+/// While no error of a member stops the group, a line goes on by the taken move step of its path,
+/// by its rates cut to those of the path, and is Done exactly where it stands at the end with step
+/// 0; a GroupHalt and a GroupStop, and what brakes a path before an aborting line, brake it by
+/// their Deceleration, and are Done exactly where the step is 0. In GroupErrorStop a path brakes by
+/// its dmax, from the cycle of the error on. A refused command changes nothing.
 pub fn paths_go_on_by_their_steps()
     ensures lines { (members : GroupLook) (c : Core) (p : OnPath) (w : Wanted) →
         IsCoreKept (limits_in members) c → c.group.active ≡ Some w →
@@ -137,11 +137,11 @@ pub fn paths_go_on_by_their_steps()
         commanded w jerk members c ≡ c }
 {}
 
-/// A line, a GroupHalt and a GroupStop, and what brakes a path before an aborting line, come to their
-/// end in time: an active one is under way for as many cycles as its bound, and every event carries it
-/// on, with fewer cycles to go, or ends it: it is Done at the end of its course, replaced or faulted.
-/// In GroupErrorStop a path comes to rest in time too, by its dmax: each cycle leaves it with one cycle
-/// less to go, or it is over.
+/// A line, a GroupHalt and a GroupStop, and what brakes a path before an aborting line, come to
+/// their end in time: an active one is under way for as many cycles as its bound, and every event
+/// carries it on, with fewer cycles to go, or ends it: it is Done at the end of its course,
+/// replaced or faulted. In GroupErrorStop a path comes to rest in time too, by its dmax: each cycle
+/// leaves it with one cycle less to go, or it is over.
 pub fn courses_end_in_time()
     ensures begins { (course : Course) (limits : List Limits) (c : Core) (w : Wanted)
         (p : OnPath) → IsCoreKept limits c → c.group.active ≡ Some w →
@@ -171,9 +171,9 @@ pub fn courses_end_in_time()
     halts_come_to_rest_in_time();
 }
 
-/// The owner of the active command is told how it ends; and each instance is told of each command that
-/// it has no longer, once, and of no other: what it has and what it was told stay the same together,
-/// but for the command that it brings.
+/// The owner of the active command is told how it ends; and each instance is told of each command
+/// that it has no longer, once, and of no other: what it has and what it was told stay the same
+/// together, but for the command that it brings.
 pub fn ends_are_told_once()
     ensures told_command { (w : Wanted) (jerk : ℤ) (members : GroupLook) (c : Core) →
         TellsOwner (command_fate w jerk members c) c.group.active
@@ -197,8 +197,8 @@ pub fn ends_are_told_once()
     ensures left { (j k : ℕ) (c : Core) → nat_eq k j ≡ false → owns j (disowned k c) ≡ owns j c }
 {}
 
-/// A group changes its state by the diagram alone: each call, each cycle and each GroupReset takes at
-/// most one of its rows, from a state of that row; an owner that is taken away changes none.
+/// A group changes its state by the diagram alone: each call, each cycle and each GroupReset takes
+/// at most one of its rows, from a state of that row; an owner that is taken away changes none.
 pub fn states_change_by_the_diagram()
     ensures command { (w : Wanted) (jerk : ℤ) (members : GroupLook) (c : Core) →
         IsMade c.group.axes w →
@@ -226,8 +226,8 @@ pub fn errors_stand_in_error_stop()
         IsShown (reset_where members on_path g) }
 {}
 
-/// At most eight commands wait for a group: a command that is asked keeps that, and a Power off of a
-/// member and a cycle add none.
+/// At most eight commands wait for a group: a command that is asked keeps that, and a Power off of
+/// a member and a cycle add none.
 pub fn at_most_eight_wait()
     ensures command { (w : Wanted) (jerk : ℤ) (members : GroupLook) (c : Core) →
         IsMade c.group.axes w → length c.waiting ≤ 8 →

@@ -11,6 +11,7 @@ mod laws;
 mod look;
 mod moving;
 mod one_group;
+mod owners;
 mod path_laws;
 mod reason;
 mod refusing;

@@ -1,7 +1,6 @@
 // What a call, a cycle and the kernel look at.
 
-ghost use Rattle.std.specs.Prelude.{◌≡◌, ◌≤◌};
-ghost use Rattle.group_core.specs.Refusals as spec;
+ghost use Rattle.std.specs.Prelude.{◌≡◌, ◌≤◌, take};
 
 use axis_state::AxisState;
 use command_pool::Follow;
@@ -44,7 +43,7 @@ pub struct ActiveLook {
 /// The states of the axes.
 pub fn states_in(members: &GroupLook) -> &[AxisState]
     requires { members.now.count ≤ 6 }
-    ensures { result.now ≡ spec.states_in members.now }
+    ensures { result.now ≡ take members.now.count members.now.states }
 {
     &members.states[..members.count as usize]
 }
@@ -52,7 +51,7 @@ pub fn states_in(members: &GroupLook) -> &[AxisState]
 /// The limits of the axes.
 pub fn limits_in(members: &GroupLook) -> &[Limits]
     requires { members.now.count ≤ 6 }
-    ensures { result.now ≡ spec.limits_in members.now }
+    ensures { result.now ≡ take members.now.count members.now.limits }
 {
     &members.limits[..members.count as usize]
 }

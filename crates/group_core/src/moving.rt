@@ -7,7 +7,7 @@ ghost use Rattle.group_core.specs.Cycles as cycles;
 ghost use Rattle.group_core.specs.GroupKept.{AreNumbers, IsDeceleration};
 ghost use Rattle.group_core.specs.Kinds as kinds;
 ghost use Rattle.group_core.specs.Tracks as spec;
-ghost use Rattle.group_core.specs.Tracks.{IsMotionKept, old_step_of, places_of};
+ghost use Rattle.group_core.specs.Tracks.{IsMotionKept, places_of};
 ghost use Rattle.kin_core.specs.Admissible.{AreLimits, IsKept};
 ghost use Rattle.kin_core.specs.Taken.{taken_step_of};
 ghost use Rattle.motion_numbers.specs.Ranges.{IsStep, IsWay};
@@ -25,7 +25,7 @@ use trapezoid_plan::{halt_step, move_step};
 // The step of the last cycle.
 fn old_step(motion: &Motion) -> i64
     requires { IsMotionKept motion.now }
-    ensures value { result ≡ old_step_of motion.now }
+    ensures value { result ≡ motion.now.place -ℤ motion.now.previous }
     ensures small { IsStep result }
 {
     motion.place - motion.previous
@@ -136,7 +136,10 @@ fn move_by(step: i64, motion: &mut Motion)
     requires motion { IsMotionKept motion.old }
     requires step { IsStep step }
     requires kept { IsKept motion.old.limits motion.old.place (motion.old.place +ℤ step) }
-    ensures after { motion.new ≡ spec.moved_by step motion.old }
+    ensures after { motion.new ≡ record motion.old {
+      previous = motion.old.place;
+      place = motion.old.place +ℤ step;
+    } }
     ensures kept { IsMotionKept motion.new }
 {
     let place = motion.place + step;

@@ -92,7 +92,7 @@ impl<P: Path + Drop> GroupCore<P> {
             IsGroupKept limits self.old.group p ws
             → IsGroupKept limits self.new.group p (map (waiting.detached owner) ws) }
     {
-        crate::calls::detach(owner, &mut self.on.group);
+        crate::owners::detach(owner, &mut self.on.group);
     }
 
     /// The owner of the active command; it follows nothing.

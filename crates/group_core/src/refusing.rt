@@ -1,8 +1,9 @@
 // Why a command on a group is refused.
 
-ghost use Rattle.std.specs.Prelude.{◌≡◌, ◌≤◌};
+ghost use Rattle.std.specs.Prelude.{◌≡◌, ◌≤◌, pos};
 ghost use Rattle.group_core.specs.Asking.{asked_of};
 ghost use Rattle.group_core.specs.Refusals as spec;
+ghost use Rattle.motion_numbers.specs.Ranges as ranges;
 
 use crate::group::Group;
 use crate::kinds::{may_come, tests_of};
@@ -27,7 +28,7 @@ pub struct Asking<'a> {
 
 // Whether a rate of a command is outside its range.
 fn is_no_rate(rate: i64) -> bool
-    ensures { result ≡ spec.is_no_rate rate }
+    ensures { result ≡ ranges.is_outside (pos 1) rate (pos MOST_STEP) }
 {
     is_outside(1, rate, MOST_STEP as i64)
 }

@@ -31,72 +31,41 @@ pub fn may_fail(state: GroupState) -> bool
     )
 }
 
-// Whether an axis is Disabled.
-fn is_disabled(state: AxisState) -> bool
-    ensures { result ≡ spec.is_disabled state }
-{
-    matches!(state, AxisState::Disabled)
-}
-
-// Whether an axis is in ErrorStop.
-fn is_in_error_stop(state: AxisState) -> bool
-    ensures { result ≡ spec.is_in_error_stop state }
-{
-    matches!(state, AxisState::ErrorStop)
-}
-
-// Whether an axis is in Stopping.
-fn is_in_stopping(state: AxisState) -> bool
-    ensures { result ≡ spec.is_in_stopping state }
-{
-    matches!(state, AxisState::Stopping)
-}
-
-// Whether an axis is in Homing.
-fn is_homing(state: AxisState) -> bool
-    ensures { result ≡ spec.is_homing state }
-{
-    matches!(state, AxisState::Homing)
-}
-
-// Whether an axis is not in Standstill.
-fn is_moved(state: AxisState) -> bool
-    ensures { result ≡ spec.is_moved state }
-{
-    !matches!(state, AxisState::Standstill)
-}
-
 /// Whether any of some axes is Disabled.
 pub fn any_disabled(axes: &[AxisState]) -> bool
     ensures { result ≡ list_any spec.is_disabled axes.now }
 {
-    axes.iter().any(|state| is_disabled(*state))
+    axes.iter()
+        .any(|state| matches!(state, AxisState::Disabled))
 }
 
 /// Whether any of some axes is in ErrorStop.
 pub fn any_in_error_stop(axes: &[AxisState]) -> bool
     ensures { result ≡ list_any spec.is_in_error_stop axes.now }
 {
-    axes.iter().any(|state| is_in_error_stop(*state))
+    axes.iter()
+        .any(|state| matches!(state, AxisState::ErrorStop))
 }
 
 /// Whether any of some axes is in Stopping.
 pub fn any_in_stopping(axes: &[AxisState]) -> bool
     ensures { result ≡ list_any spec.is_in_stopping axes.now }
 {
-    axes.iter().any(|state| is_in_stopping(*state))
+    axes.iter()
+        .any(|state| matches!(state, AxisState::Stopping))
 }
 
 /// Whether any of some axes is in Homing.
 pub fn any_homing(axes: &[AxisState]) -> bool
     ensures { result ≡ list_any spec.is_homing axes.now }
 {
-    axes.iter().any(|state| is_homing(*state))
+    axes.iter().any(|state| matches!(state, AxisState::Homing))
 }
 
 /// Whether any of some axes is not in Standstill.
 pub fn any_moved(axes: &[AxisState]) -> bool
     ensures { result ≡ list_any spec.is_moved axes.now }
 {
-    axes.iter().any(|state| is_moved(*state))
+    axes.iter()
+        .any(|state| !matches!(state, AxisState::Standstill))
 }

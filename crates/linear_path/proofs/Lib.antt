@@ -1,1 +1,9 @@
-pub mod Stopping
+mod BendLaws
+mod GreatestLaws
+pub mod LineIsPath
+mod LineLaws
+mod LinesKept
+mod PartLaws
+mod RateLaws
+mod ShareLaws
+mod Stopping

@@ -1,10 +1,10 @@
--- What the axes of a path keep.
+-- What the axes of a path keep (this project's profile).
 use Rattle.std.specs.Prelude.{◌≡◌, ℕ, ◌<◌, ℤ, pos, ◌≤ℤ◌, List, length, slice_index_or}
 use Rattle.std.specs.Int.{int_min, int_max}
 use Rattle.kin_core.specs.declared.limits.Limits.{Limits}
 use Rattle.kin_core.specs.Admissible.{AreLimits}
 
--- the limits of a path of length 0: it stands. This project's profile
+-- the limits of a path of length 0: it stands
 abbrev pub standing_limits : Limits
 standing_limits = record { lo = pos 0; hi = pos 0; vmax = pos 1; amax = pos 1; dmax = pos 1 }
 
@@ -16,7 +16,7 @@ no_limits = record { lo = pos 0; hi = pos 0; vmax = pos 0; amax = pos 0; dmax = 
 abbrev pub limits_at : List Limits → ℕ → Limits
 limits_at limits axis = slice_index_or limits axis no_limits
 
--- the limits of an axis are in range, amax from 2. This project's profile
+-- the limits of an axis are in range, amax from 2
 pub record AreAxisLimits (limits : Limits) : Type 0 where
   pub ranges : AreLimits limits
   pub gains : pos 2 ≤ℤ limits.amax

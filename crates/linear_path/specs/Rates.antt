@@ -32,7 +32,8 @@ loss_test starts targets length limits axis =
     keeps_change (way_of starts targets axis) length (unsigned_abs (limits_at limits axis).dmax)
 
 -- velocity, acceleration and deceleration are the greatest that the first n axes allow
-pub record AreGreatestRates (starts targets : List ℤ) (length : ℕ) (limits : List Limits) (n velocity acceleration deceleration : ℕ) : Type 0 where
+pub record AreGreatestRates (starts targets : List ℤ) (length : ℕ) (limits : List Limits)
+    (n velocity acceleration deceleration : ℕ) : Type 0 where
   pub velocity_is : IsGreatestRate n (velocity_test starts targets length limits) velocity
   pub acceleration_is : IsGreatestRate n (gain_test starts targets length limits) acceleration
   pub deceleration_is : IsGreatestRate n (loss_test starts targets length limits) deceleration

@@ -24,4 +24,6 @@ pub fn steps_along_a_path_are_safe<P: Path>()
         IsSafe (P.limits_of path limits) before now next →
         IsSafe (limits_at limits axis) (P.place_of path axis before) (P.place_of path axis now)
         (P.place_of path axis next) }
-{}
+{
+    P::leads_its_axes();
+}

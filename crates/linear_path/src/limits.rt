@@ -73,7 +73,8 @@ fn path_rates(line: &LinePath, length: u64, limits: &[Limits]) -> PathRates
     }
 }
 
-// The greatest rates of the path with which an axis of this way, rounding included, keeps its limits.
+// The greatest rates of the path with which an axis of this way, rounding included, keeps its
+// limits.
 fn axis_rates(way: u64, length: u64, limits: &Limits) -> PathRates
     requires axis { AreAxisLimits limits.now }
     requires longest { way ≤ length }

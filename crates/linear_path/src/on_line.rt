@@ -9,8 +9,6 @@ use crate::path::Path;
 impl Path for LinePath {
     ghost use Rattle.kin_core.specs.declared.limits.Limits.{Limits};
     ghost use Rattle.linear_path.specs.Line.{coordinate_of, longest_way_of, place_between, path_limits_of};
-    ghost use Rattle.linear_path.specs.LineLaws.{line_begins, line_ends, line_between};
-    ghost use Rattle.linear_path.specs.LineIsPath.{line_limits_in_range, line_limits_from, line_limits_to, line_keeps_speed, line_keeps_limits};
 
     ghost length_of = { λ line. pos (longest_way_of line.count line.starts line.targets) };
 
@@ -25,23 +23,6 @@ impl Path for LinePath {
         (longest_way_of line.count line.starts line.targets) (unsigned_abs s) };
 
     ghost limits_of = { λ line limits. path_limits_of line.count line.starts line.targets limits };
-
-    ghost begins_at_the_start = { λ line. line_begins line.count line.starts line.targets };
-
-    ghost ends_at_the_target = { λ line. line_ends line.count line.starts line.targets };
-
-    ghost stays_between = { λ line. line_between line.count line.starts line.targets };
-
-    ghost limits_in_range = { λ line. line_limits_in_range line.count line.starts line.targets
-        line.starts_in_range line.targets_in_range };
-
-    ghost limits_from = { λ line. line_limits_from line.count line.starts line.targets };
-
-    ghost limits_to = { λ line. line_limits_to line.count line.starts line.targets };
-
-    ghost keeps_the_axes_speed = { λ line. line_keeps_speed line.count line.starts line.targets };
-
-    ghost keeps_the_axes_limits = { λ line. line_keeps_limits line.count line.starts line.targets };
 
     fn length(&self) -> i64 {
         self.longest_way() as i64
@@ -59,4 +40,6 @@ impl Path for LinePath {
             s as u64,
         )
     }
+
+    fn leads_its_axes() {}
 }

@@ -42,44 +42,36 @@ pub trait Path {
         ensures value { result ≡ place_of self.now axis s }
         ensures small { IsPlace result };
 
-    // Place 0 is the start.
-    ghost begins_at_the_start: { (path : Self) (axis : ℕ) → axis < count_of path →
-        place_of path axis (pos 0) ≡ start_of path axis };
-
-    // The last place is the target.
-    ghost ends_at_the_target: { (path : Self) (axis : ℕ) → axis < count_of path →
-        place_of path axis (length_of path) ≡ target_of path axis };
-
-    // Every place lies between them.
-    ghost stays_between: { (path : Self) (axis : ℕ) (s : ℤ) → axis < count_of path →
-        pos 0 ≤ℤ s → s ≤ℤ length_of path →
-        IsBetween (start_of path axis) (target_of path axis) (place_of path axis s) };
-
-    // The path's limits are limits, and reach from place 0 to the last one.
-    ghost limits_in_range: { (path : Self) (limits : List Limits) →
-        AreAxesLimits (count_of path) limits → AreLimits (limits_of path limits) };
-
-    ghost limits_from: { (path : Self) (limits : List Limits) →
-        (limits_of path limits).lo ≡ pos 0 };
-
-    ghost limits_to: { (path : Self) (limits : List Limits) →
-        (limits_of path limits).hi ≡ length_of path };
-
-    // A step from place to place within the path's vmax moves each axis within its own.
-    ghost keeps_the_axes_speed: { (path : Self) (limits : List Limits) (axis : ℕ)
-        (before now : ℤ) → AreAxesLimits (count_of path) limits → axis < count_of path →
-        pos 0 ≤ℤ before → before ≤ℤ length_of path → pos 0 ≤ℤ now → now ≤ℤ length_of path →
-        pos (unsigned_abs (now -ℤ before)) ≤ℤ (limits_of path limits).vmax →
-        pos (unsigned_abs (place_of path axis now -ℤ place_of path axis before))
-        ≤ℤ (limits_at limits axis).vmax };
-
-    // Two steps that meet the path's limits move each axis by a step and a change of step within
-    // its own.
-    ghost keeps_the_axes_limits: { (path : Self) (limits : List Limits) (axis : ℕ)
-        (before now next : ℤ) → AreAxesLimits (count_of path) limits → axis < count_of path →
-        AreWithin (limits_at limits axis) (start_of path axis) (target_of path axis) →
-        pos 0 ≤ℤ before → before ≤ℤ length_of path → pos 0 ≤ℤ now → now ≤ℤ length_of path →
-        IsAdmissible (limits_of path limits) before now next →
-        IsAdmissible (limits_at limits axis)
-        (place_of path axis before) (place_of path axis now) (place_of path axis next) };
+    /// What a way leads its axes by, for all ways of the kind: the clauses say it, and nothing
+    /// runs. Place 0 is the start, the last place the target, and every other lies between them.
+    /// The path's limits are limits, and reach from place 0 to the last one; a step within its vmax
+    /// moves each axis within its own, and two steps that meet its limits move each axis by a step
+    /// and a change of step within its own.
+    fn leads_its_axes()
+        ensures begins_at_the_start { (path : Self) (axis : ℕ) → axis < count_of path →
+            place_of path axis (pos 0) ≡ start_of path axis }
+        ensures ends_at_the_target { (path : Self) (axis : ℕ) → axis < count_of path →
+            place_of path axis (length_of path) ≡ target_of path axis }
+        ensures stays_between { (path : Self) (axis : ℕ) (s : ℤ) → axis < count_of path →
+            pos 0 ≤ℤ s → s ≤ℤ length_of path →
+            IsBetween (start_of path axis) (target_of path axis) (place_of path axis s) }
+        ensures limits_in_range { (path : Self) (limits : List Limits) →
+            AreAxesLimits (count_of path) limits → AreLimits (limits_of path limits) }
+        ensures limits_from { (path : Self) (limits : List Limits) →
+            (limits_of path limits).lo ≡ pos 0 }
+        ensures limits_to { (path : Self) (limits : List Limits) →
+            (limits_of path limits).hi ≡ length_of path }
+        ensures keeps_the_axes_speed { (path : Self) (limits : List Limits) (axis : ℕ)
+            (before now : ℤ) → AreAxesLimits (count_of path) limits → axis < count_of path →
+            pos 0 ≤ℤ before → before ≤ℤ length_of path → pos 0 ≤ℤ now → now ≤ℤ length_of path →
+            pos (unsigned_abs (now -ℤ before)) ≤ℤ (limits_of path limits).vmax →
+            pos (unsigned_abs (place_of path axis now -ℤ place_of path axis before))
+            ≤ℤ (limits_at limits axis).vmax }
+        ensures keeps_the_axes_limits { (path : Self) (limits : List Limits) (axis : ℕ)
+            (before now next : ℤ) → AreAxesLimits (count_of path) limits → axis < count_of path →
+            AreWithin (limits_at limits axis) (start_of path axis) (target_of path axis) →
+            pos 0 ≤ℤ before → before ≤ℤ length_of path → pos 0 ≤ℤ now → now ≤ℤ length_of path →
+            IsAdmissible (limits_of path limits) before now next →
+            IsAdmissible (limits_at limits axis) (place_of path axis before)
+            (place_of path axis now) (place_of path axis next) };
 }

@@ -8,9 +8,9 @@ use Rattle.std.proofs.lemmas.List.{map-append, length-map, length-drop, drop-app
 use Rattle.std.proofs.lemmas.Option.{slice_get-map}
 use Rattle.axis_state.specs.declared.definition.AxisRow.{AxisRow}
 use Rattle.group_state.specs.declared.state.GroupRow.{GroupRow}
-use Rattle.motion_history.specs.declared.history.CallMade.{CallMade}
-use Rattle.motion_history.specs.declared.history.Stored.{Stored}
-use Rattle.motion_history.specs.declared.history.Stored.TheVariants as stored
+use Rattle.motion_history.specs.declared.entry.CallMade.{CallMade}
+use Rattle.motion_history.specs.declared.entry.Stored.{Stored}
+use Rattle.motion_history.specs.declared.entry.Stored.TheVariants as stored
 use Rattle.motion_history.specs.Entries.{Entry, call, cycle, end_of, cycle_count, cycles_of}
 use Rattle.motion_history.specs.Stored.{Store, call_entry, entry_of, entries_of, IsMade}
 use Rattle.motion_history.proofs.DistinctLemmas.{each-weaker}

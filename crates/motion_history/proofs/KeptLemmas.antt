@@ -6,9 +6,9 @@ use Rattle.std.proofs.Math.Nat.{mul-le-mul_right}
 use Rattle.std.proofs.lemmas.List.{append-nil, drop-append-le, drop_all, length-drop}
 use Rattle.axis_state.specs.declared.definition.AxisRow.{AxisRow}
 use Rattle.group_state.specs.declared.state.GroupRow.{GroupRow}
-use Rattle.motion_history.specs.declared.history.CallMade.{CallMade}
-use Rattle.motion_history.specs.declared.history.Stored.{Stored}
-use Rattle.motion_history.specs.declared.history.Stored.TheVariants as stored
+use Rattle.motion_history.specs.declared.entry.CallMade.{CallMade}
+use Rattle.motion_history.specs.declared.entry.Stored.{Stored}
+use Rattle.motion_history.specs.declared.entry.Stored.TheVariants as stored
 use Rattle.motion_history.specs.declared.history.History.TheInside.{Inside}
 use Rattle.motion_history.specs.Entries.{Entry, call, cycle, end_of, cycle_count, cycles_of, HistoryState}
 use Rattle.motion_history.specs.Stored.{call_entry, entry_of, entries_of, IsMade, IsThere}

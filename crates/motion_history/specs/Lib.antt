@@ -9,7 +9,6 @@ pub mod Rows
 pub mod Stored
 pub mod Kept
 pub mod Calls
-pub mod Ready
 pub mod AxisRanges
 pub mod Configurations
 pub mod Columns

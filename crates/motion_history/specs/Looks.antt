@@ -1,6 +1,6 @@
 -- What a look at an entry tells.
-use Rattle.motion_history.specs.declared.history.EntryLook.{EntryLook}
-use Rattle.motion_history.specs.declared.history.EntryLook.TheVariants as look
+use Rattle.motion_history.specs.declared.entry.EntryLook.{EntryLook}
+use Rattle.motion_history.specs.declared.entry.EntryLook.TheVariants as look
 use Rattle.motion_history.specs.Entries.{Entry, call, cycle, end_of}
 
 -- the entry that is looked at. This project's profile

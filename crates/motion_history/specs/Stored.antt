@@ -3,9 +3,9 @@
 use Rattle.std.specs.Prelude.{ℕ, ◌<◌, ◌≤◌, ◌*◌, List, Option, Some, None, length, map, slice_get}
 use Rattle.axis_state.specs.declared.definition.AxisRow.{AxisRow}
 use Rattle.group_state.specs.declared.state.GroupRow.{GroupRow}
-use Rattle.motion_history.specs.declared.history.CallMade.{CallMade}
-use Rattle.motion_history.specs.declared.history.Stored.{Stored}
-use Rattle.motion_history.specs.declared.history.Stored.TheVariants as stored
+use Rattle.motion_history.specs.declared.entry.CallMade.{CallMade}
+use Rattle.motion_history.specs.declared.entry.Stored.{Stored}
+use Rattle.motion_history.specs.declared.entry.Stored.TheVariants as stored
 use Rattle.motion_history.specs.Entries.{Entry, call, cycle, end_of}
 use Rattle.motion_history.specs.Rows.{rows_at}
 

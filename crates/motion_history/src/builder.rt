@@ -10,17 +10,18 @@ ghost use Rattle.motion_history.specs.Members as members;
 
 use crate::axes::axis_fault;
 use crate::blocks::{block_fault, task_fault};
-use crate::config::{BlockDef, Config, GroupDef, Items};
+use crate::config::{BlockDef, Config, Items};
 use crate::fault::ConfigFault;
 use crate::groups::{group_fault, group_of};
 use crate::names::name_fault;
-use crate::sizes::{MOST_CYCLES, MOST_ENTRIES, MOST_TABLES};
+use crate::sizes::{MOST_TABLES, is_room};
 use crate::tables::new_table;
 use axis_state::{AxisDef, Limits, Name};
-use cam_table::CamTable;
 use command_pool::BlockKind;
 use std::alloc::Global;
 use std::marker::Model;
+
+mod so_far;
 
 /// A configuration in the making. Contracts see it as the `Setup` that it has so far.
 #[derive(Drop)]
@@ -232,68 +233,6 @@ impl Builder {
             Err(ConfigFault::TooFew)
         }
     }
-
-    /// The axes so far.
-    pub fn axes(&self) -> &[AxisDef]
-        ensures axes { result.now ≡ self.now.axes }
-        ensures within { IsWithin self.now }
-    {
-        self.items.axes.as_slice()
-    }
-
-    /// The groups so far.
-    pub fn groups(&self) -> &[GroupDef]
-        ensures groups { result.now ≡ self.now.groups }
-        ensures within { IsWithin self.now }
-    {
-        self.items.groups.as_slice()
-    }
-
-    /// The cam tables so far.
-    pub fn tables(&self) -> &[CamTable]
-        ensures tables { result.now ≡ self.now.tables }
-        ensures within { IsWithin self.now }
-    {
-        self.items.tables.as_slice()
-    }
-
-    /// The names of the tasks so far.
-    pub fn tasks(&self) -> &[Name]
-        ensures tasks { result.now ≡ self.now.tasks }
-        ensures within { IsWithin self.now }
-    {
-        self.items.tasks.as_slice()
-    }
-
-    /// The blocks so far.
-    pub fn blocks(&self) -> &[BlockDef]
-        ensures blocks { result.now ≡ self.now.blocks }
-        ensures within { IsWithin self.now }
-    {
-        self.items.blocks.as_slice()
-    }
-
-    /// How many cycles there may be.
-    pub fn cycles(&self) -> u32
-        ensures { result ≡ self.now.cycles }
-    {
-        self.items.cycles
-    }
-
-    /// How many entries the history may have.
-    pub fn entries(&self) -> u32
-        ensures { result ≡ self.now.entries }
-    {
-        self.items.entries
-    }
-}
-
-// Whether a history may have this room.
-fn is_room(cycles: u32, entries: u32) -> bool
-    ensures { faults.room_fault cycles entries ≡
-        (if result then None else Some ConfigFault.OutOfRange) }
-{
-    1 <= cycles && cycles <= MOST_CYCLES && 1 <= entries && entries <= MOST_ENTRIES
 }
 
 // Whether there is an axis, a task and a block.

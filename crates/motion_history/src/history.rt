@@ -8,49 +8,13 @@ ghost use Rattle.motion_history.specs.Rows as kept;
 ghost use Rattle.motion_history.specs.Stored.{call_entry};
 
 use crate::config::Config;
+use crate::entry::{CallMade, EntryLook, Stored, call_at, rows_at, stored_at};
 use axis_state::AxisRow;
 use fb_outputs::{Inputs, Outputs};
 use group_state::GroupRow;
 use out_of_memory::OutOfMemory;
 use std::alloc::{AllocError, Global};
 use std::marker::Model;
-
-/// An entry of a history, as it is looked at.
-#[derive(Clone, Copy)]
-pub enum EntryLook<'a> {
-    /// A block was called with these inputs and replied so.
-    Call {
-        instance: u16,
-        inputs: &'a Inputs,
-        reply: &'a Outputs,
-    },
-    /// A cycle, counted from 1, left these rows of the axes and groups.
-    Cycle {
-        number: u32,
-        axes: &'a [AxisRow],
-        groups: &'a [GroupRow],
-    },
-    /// A task ended.
-    End {
-        task: u8,
-    },
-}
-
-/// A call that was made, and its reply.
-#[derive(Clone, Copy)]
-pub struct CallMade {
-    pub instance: u16,
-    pub inputs: Inputs,
-    pub reply: Outputs,
-}
-
-/// An entry as it is kept: a call by its place among the calls, and a cycle without its rows.
-#[derive(Clone, Copy)]
-pub enum Stored {
-    Call { place: u32 },
-    Cycle { number: u32 },
-    End { task: u8 },
-}
 
 /// A history. Contracts see it as a `HistoryState`.
 #[derive(Drop)]
@@ -194,26 +158,6 @@ impl History {
     }
 }
 
-// The entry that is kept at a place.
-fn stored_at(stored: &[Stored], place: u64) -> Option<Stored>
-    ensures { result ≡ slice_get stored.now place }
-{
-    stored.get(place as usize).copied()
-}
-
-// The call at a place.
-fn call_at<'a>(calls: &'a [CallMade], place: u32) -> EntryLook<'a>
-    requires { place < length calls.now }
-    ensures { told result ≡ call_entry (slice_get calls.now place) }
-{
-    let made = &calls[place as usize];
-    EntryLook::Call {
-        instance: made.instance,
-        inputs: &made.inputs,
-        reply: &made.reply,
-    }
-}
-
 // An empty history with its whole room.
 fn reserved(alloc: Global, config: &Config) -> Result<History, AllocError>
     ensures { IfOk result (λ h. h ≡ record {
@@ -241,14 +185,4 @@ fn reserved(alloc: Global, config: &Config) -> Result<History, AllocError>
         made: 0,
         most,
     })
-}
-
-// The rows of a cycle, counted from 1, where each cycle has so many.
-fn rows_at<T>(rows: &[T], width: usize, number: u32) -> &[T]
-    requires some { 1 ≤ number }
-    requires there { number * width ≤ length rows.now }
-    ensures { result.now ≡ kept.rows_at width number rows.now }
-{
-    let first = (number - 1) as usize * width;
-    &rows[first..first + width]
 }

@@ -1,5 +1,10 @@
 // How large a machine may be.
 
+ghost use Rattle.std.specs.Prelude.{◌≡◌, if◌then◌else◌, Some, None};
+ghost use Rattle.motion_history.specs.Faults as faults;
+
+use crate::fault::ConfigFault;
+
 /// The most axes of a machine.
 pub const MOST_AXES: usize = 16;
 
@@ -29,3 +34,11 @@ pub const MOST_LAG: u8 = 64;
 
 /// The most faults that a drive is given.
 pub const MOST_FAULTS: u32 = 1000;
+
+/// Whether a history may have this room.
+pub fn is_room(cycles: u32, entries: u32) -> bool
+    ensures { faults.room_fault cycles entries ≡
+        (if result then None else Some ConfigFault.OutOfRange) }
+{
+    1 <= cycles && cycles <= MOST_CYCLES && 1 <= entries && entries <= MOST_ENTRIES
+}

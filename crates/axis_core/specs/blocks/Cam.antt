@@ -12,8 +12,10 @@ use Rattle.axis_core.specs.declared.reason.Reason.TheVariants.{NotPowered, InErr
 
 -- the refusals that are tested, in their order. This project's profile
 abbrev pub cam_tests : List Reason
-cam_tests = NotPowered ∷ InErrorStop ∷ InStopping ∷ InHoming ∷ GroupHoldsAxis ∷ BadVelocity ∷ BadAcceleration
-    ∷ BadDeceleration ∷ JerkRefused ∷ QueueFull ∷ NoTable ∷ SelfMaster ∷ []
+cam_tests =
+    NotPowered ∷ InErrorStop ∷ InStopping ∷ InHoming ∷ GroupHoldsAxis
+    ∷ BadVelocity ∷ BadAcceleration ∷ BadDeceleration
+    ∷ JerkRefused ∷ QueueFull ∷ NoTable ∷ SelfMaster ∷ []
 
 -- whether there is no cam table of a cam's number. This project's profile
 abbrev pub is_no_table : ℕ → Follow → Bool
@@ -29,8 +31,10 @@ is_in_sync a look = is_safe_step a (look.cam -ℤ a.setpoint)
 -- profile
 abbrev pub cam_wish_where : Bool → Axis → Wanted → ℤ → Result ℤ ℕ
 cam_wish_where true a w cam = Ok (cam -ℤ a.setpoint)
-cam_wish_where false a w cam = if a.reached then Err 104 else wish_within_limits a (step_toward a cam w)
+cam_wish_where false a w cam =
+    if a.reached then Err 104 else wish_within_limits a (step_toward a cam w)
 
+-- the step that a CamIn wants, or its error
 abbrev pub cam_wish : Axis → Wanted → AxisLook → Result ℤ ℕ
 cam_wish a w look = cam_wish_where (is_in_sync a look) a w look.cam
 

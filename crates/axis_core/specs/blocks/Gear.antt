@@ -22,7 +22,9 @@ use Rattle.axis_core.specs.declared.reason.Reason.TheVariants.{NotPowered, InErr
 
 -- the refusals that are tested, in their order. This project's profile
 abbrev pub gear_tests : List Reason
-gear_tests = NotPowered ∷ InErrorStop ∷ InStopping ∷ InHoming ∷ GroupHoldsAxis ∷ BadAcceleration ∷ BadDeceleration
+gear_tests =
+    NotPowered ∷ InErrorStop ∷ InStopping ∷ InHoming ∷ GroupHoldsAxis
+    ∷ BadAcceleration ∷ BadDeceleration
     ∷ JerkRefused ∷ QueueFull ∷ BadRatio ∷ SelfMaster ∷ []
 
 -- the refusals of GearOut and CamOut, in their order. This project's profile
@@ -64,7 +66,9 @@ gear_step_of f m = pos 0
 -- what a gear wants: the velocity step toward the step that it asks for, cut to the greatest
 -- velocity
 abbrev pub gear_wish : Axis → Wanted → AxisLook → Result ℤ ℕ
-gear_wish a w look = wish_within_limits a (step_to_velocity a (gear_toward_of (gear_step_of w.follow look.master) a.limits.vmax) w)
+gear_wish a w look =
+    let toward = gear_toward_of (gear_step_of w.follow look.master) a.limits.vmax in
+    wish_within_limits a (step_to_velocity a toward w)
 
 -- InGear: the taken step is the one that the gear asks for
 abbrev pub is_in_gear : Wanted → ℤ → AxisLook → Bool

@@ -17,17 +17,22 @@ use Rattle.axis_core.specs.declared.look.AxisLook.{AxisLook}
 use Rattle.axis_core.specs.declared.reason.Reason.{Reason}
 use Rattle.axis_core.specs.declared.reason.Reason.TheVariants.{NotPowered, InErrorStop, InStopping, InHoming, GroupHoldsAxis, BadDeceleration, JerkRefused}
 
--- the refusals of Halt and of Stop, in their order. This project's profile
+-- the refusals that are tested of a Halt, in their order. This project's profile
 abbrev pub halt_tests : List Reason
-halt_tests = NotPowered ∷ InErrorStop ∷ InStopping ∷ InHoming ∷ GroupHoldsAxis ∷ BadDeceleration ∷ JerkRefused ∷ []
+halt_tests =
+    NotPowered ∷ InErrorStop ∷ InStopping ∷ InHoming ∷ GroupHoldsAxis
+    ∷ BadDeceleration ∷ JerkRefused ∷ []
 
+-- the refusals that are tested of a Stop, in their order
 abbrev pub stop_tests : List Reason
-stop_tests = NotPowered ∷ InErrorStop ∷ InStopping ∷ GroupHoldsAxis ∷ BadDeceleration ∷ JerkRefused ∷ []
+stop_tests =
+    NotPowered ∷ InErrorStop ∷ InStopping ∷ GroupHoldsAxis ∷ BadDeceleration ∷ JerkRefused ∷ []
 
--- the events by which a Halt and a Stop become active
+-- the event by which a Halt becomes active
 abbrev pub halt_event : AxisEvent
 halt_event = DiscreteActive
 
+-- the event by which a Stop becomes active
 abbrev pub stop_event : AxisEvent
 stop_event = StopAdmitted
 
@@ -59,8 +64,11 @@ is_at_rest a = int_eq a.setpoint a.previous
 
 -- whether an axis leaves Stopping: its Stop is done, it is at rest, and nobody holds it
 abbrev pub leaves_stopping : AxisLook → Axis → Bool
-leaves_stopping look a = is_stopping a.state && not (is_some a.active) && is_at_rest a && is_released a.hold look.stop_held
+leaves_stopping look a =
+    is_stopping a.state && not (is_some a.active) && is_at_rest a
+    && is_released a.hold look.stop_held
 
 -- the axis that leaves Stopping where it may
 abbrev pub axis_after_stop : AxisLook → Axis → Axis
-axis_after_stop look a = if leaves_stopping look a then record a { state = next_of StopReleased; hold = None } else a
+axis_after_stop look a =
+    if leaves_stopping look a then record a { state = next_of StopReleased; hold = None } else a

@@ -23,8 +23,10 @@ use Rattle.axis_core.specs.declared.reason.Reason.TheVariants.{NotPowered, InErr
 
 -- the refusals that are tested, in their order. This project's profile
 abbrev pub move_tests : List Reason
-move_tests = NotPowered ∷ InErrorStop ∷ InStopping ∷ InHoming ∷ GroupHoldsAxis ∷ BadVelocity ∷ BadAcceleration
-    ∷ BadDeceleration ∷ JerkRefused ∷ TargetOutside ∷ QueueFull ∷ []
+move_tests =
+    NotPowered ∷ InErrorStop ∷ InStopping ∷ InHoming ∷ GroupHoldsAxis
+    ∷ BadVelocity ∷ BadAcceleration ∷ BadDeceleration
+    ∷ JerkRefused ∷ TargetOutside ∷ QueueFull ∷ []
 
 -- the event by which a move becomes active
 abbrev pub move_event : AxisEvent
@@ -73,6 +75,7 @@ abbrev pub known_target_by : BlockKind → Axis → Option Wanted → Wanted →
 known_target_by kind.MoveRelative a last w = relative_target_of a last w
 known_target_by k a last w = w.target
 
+-- the target of a command of any kind that is known in its call
 unfoldable pub known_target_of : Axis → Option Wanted → Wanted → Option ℤ
 known_target_of a last w = known_target_by w.kind a last w
 
@@ -92,9 +95,14 @@ blend_of m = None
 -- blending mode and a fixed target. PLCopen Motion Control Part 1, BufferMode
 abbrev pub second_by : Wanted → Wanted → Option Blend → Option ℤ → Option SecondMove
 second_by w next (Some blend) (Some target) =
-    Some (record { target = target; rates = next.rates; velocity = blend_velocity_of blend w.rates.v next.rates.v })
+    Some (record {
+      target = target;
+      rates = next.rates;
+      velocity = blend_velocity_of blend w.rates.v next.rates.v;
+    })
 second_by w next blend target = None
 
+-- the move into which an active one would be blended, if a command waits
 abbrev pub second_move_of : Wanted → Option Wanted → Option SecondMove
 second_move_of w None = None
 second_move_of w (Some next) = second_by w next (blend_of next.mode) (move_target_of (Some next))
@@ -103,7 +111,8 @@ second_move_of w (Some next) = second_by w next (blend_of next.mode) (move_targe
 -- it is Buffered
 abbrev pub where_applies : Axis → ℤ → Option SecondMove → Option SecondMove
 where_applies a target None = None
-where_applies a target (Some s) = if blend_applies target s.target a.previous a.setpoint then Some s else None
+where_applies a target (Some s) =
+    if blend_applies target s.target a.previous a.setpoint then Some s else None
 
 -- the move into which the active one is blended in this cycle, if it is
 unfoldable pub blended_with : Axis → Wanted → Option Wanted → Option SecondMove
@@ -112,15 +121,18 @@ blended_with a w next = where_applies a (target_of w) (second_move_of w next)
 -- the wanted step of a move: that of its blend, else the move step toward its target
 abbrev pub move_step_with : Option SecondMove → Axis → Wanted → ℤ
 move_step_with None a w = step_toward a (target_of w) w
-move_step_with (Some s) a w = blend_wanted_of (target_of w) s.target a.previous a.setpoint w.rates s.rates s.velocity
+move_step_with (Some s) a w =
+    blend_wanted_of (target_of w) s.target a.previous a.setpoint w.rates s.rates s.velocity
 
+-- the step that a move wants
 abbrev pub move_wish : Axis → Wanted → Option Wanted → Result ℤ ℕ
 move_wish a w next = Ok (move_step_with (blended_with a w next) a w)
 
 -- whether a taken step crosses the target of a move that is blended
 abbrev pub is_crossing : Option SecondMove → Axis → Wanted → ℤ → Bool
 is_crossing None a w step = false
-is_crossing (Some s) a w step = has_crossed (target_of w) s.target a.setpoint s.rates s.velocity step
+is_crossing (Some s) a w step =
+    has_crossed (target_of w) s.target a.setpoint s.rates s.velocity step
 
 -- whether an axis stands at the target of its move by a taken step of 0
 abbrev pub stands_at_target : Axis → Wanted → ℤ → Bool
@@ -136,5 +148,6 @@ is_done_by s a w step = is_crossing s a w step || stands_at_target a w step
 abbrev pub move_ending_with : Option SecondMove → Axis → Wanted → ℤ → Option Finish
 move_ending_with s a w step = ends_where (is_done_by s a w step) finish.Done
 
+-- how a move ends by a taken step, if it does, with the command that waits first
 abbrev pub move_ending : Axis → Wanted → Option Wanted → ℤ → Option Finish
 move_ending a w next step = move_ending_with (blended_with a w next) a w step

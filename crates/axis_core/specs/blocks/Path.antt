@@ -18,6 +18,7 @@ state_on_path true state.Standstill = next_of GroupActive
 state_on_path false state.SynchronizedMotion = next_of PathRest
 state_on_path on s = s
 
+-- an axis that comes on its group's path, or leaves it
 unfoldable pub axis_on_path : Bool → Axis → Axis
 axis_on_path on a = record a { state = state_on_path on a.state }
 

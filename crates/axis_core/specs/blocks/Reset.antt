@@ -27,7 +27,8 @@ replaced_note (Some p) = told_to p.owner finish.Aborted
 -- whether a pending Reset is done: outside ErrorStop at once, else where the drive has no fault and
 -- the axis is not driven or at rest. The conditions are this project's profile
 abbrev pub may_reset : DriveIn → Axis → Bool
-may_reset input a = not (is_error_stop a.state) || (not (has_fault input) && (not a.driven || is_at_rest a))
+may_reset input a =
+    not (is_error_stop a.state) || (not (has_fault input) && (not a.driven || is_at_rest a))
 
 -- the state after a Reset: outside ErrorStop it stays
 abbrev pub state_after_reset : Bool → AxisState → AxisState
@@ -44,6 +45,7 @@ abbrev pub reset_axis : Option PendingReset → DriveIn → Axis → Axis
 reset_axis None input a = a
 reset_axis (Some p) input a = if may_reset input a then after_reset a else a
 
+-- what is told of a pending Reset that is done
 abbrev pub reset_notes : Option PendingReset → DriveIn → Axis → List Note
 reset_notes None input a = []
 reset_notes (Some p) input a = if may_reset input a then told_to p.owner finish.Done else []

@@ -16,8 +16,10 @@ use Rattle.axis_core.specs.declared.reason.Reason.TheVariants.{NotPowered, InErr
 
 -- the refusals that are tested, in their order. This project's profile
 abbrev pub velocity_tests : List Reason
-velocity_tests = NotPowered ∷ InErrorStop ∷ InStopping ∷ InHoming ∷ GroupHoldsAxis ∷ BadVelocity ∷ BadAcceleration
-    ∷ BadDeceleration ∷ JerkRefused ∷ QueueFull ∷ []
+velocity_tests =
+    NotPowered ∷ InErrorStop ∷ InStopping ∷ InHoming ∷ GroupHoldsAxis
+    ∷ BadVelocity ∷ BadAcceleration ∷ BadDeceleration
+    ∷ JerkRefused ∷ QueueFull ∷ []
 
 -- the least Velocity of a kind: MoveVelocity goes both ways
 abbrev pub least_velocity_of : BlockKind → Limits → ℤ

@@ -51,7 +51,8 @@ fn take_toward(axis: &Axis, wanted: &Wanted, cam: i64) -> Result<i64, u16>
     requires moving { IsMoving axis.now }
     requires rates { AreRates wanted.now.rates }
     requires cam { IsNear cam }
-    ensures value { result ≡ step_for_wish axis.now (spec.cam_wish_where false axis.now wanted.now cam) }
+    ensures value { result ≡ step_for_wish axis.now
+        (spec.cam_wish_where false axis.now wanted.now cam) }
     ensures small { IfOk result IsStep }
 {
     if axis.reached {
@@ -68,7 +69,8 @@ fn is_in_sync(axis: &Axis, cam: i64) -> bool
     requires cam { IsNear cam }
     ensures value { result ≡ is_safe_step axis.now (cam -ℤ axis.now.setpoint) }
     ensures small { IsTrue result → IsStep (cam -ℤ axis.now.setpoint) }
-    ensures taken { IsTrue result → taken_step_in axis.now (cam -ℤ axis.now.setpoint) ≡ cam -ℤ axis.now.setpoint }
+    ensures taken { IsTrue result → taken_step_in axis.now (cam -ℤ axis.now.setpoint)
+        ≡ cam -ℤ axis.now.setpoint }
 {
     let to_cam = way(axis.setpoint, cam);
     taken(axis, to_cam) == to_cam
@@ -81,8 +83,10 @@ fn take(axis: &Axis, wanted: &Wanted, cam: i64, in_sync: bool) -> Result<i64, u1
     requires rates { AreRates wanted.now.rates }
     requires cam { IsNear cam }
     requires small { IsTrue in_sync → IsStep (cam -ℤ axis.now.setpoint) }
-    requires taken { IsTrue in_sync → taken_step_in axis.now (cam -ℤ axis.now.setpoint) ≡ cam -ℤ axis.now.setpoint }
-    ensures value { result ≡ step_for_wish axis.now (spec.cam_wish_where in_sync axis.now wanted.now cam) }
+    requires taken { IsTrue in_sync → taken_step_in axis.now (cam -ℤ axis.now.setpoint)
+        ≡ cam -ℤ axis.now.setpoint }
+    ensures value { result ≡ step_for_wish axis.now
+        (spec.cam_wish_where in_sync axis.now wanted.now cam) }
     ensures small { IfOk result IsStep }
 {
     if in_sync {
@@ -103,7 +107,8 @@ pub fn progress(
     requires kind { wanted.now.kind ≡ kind.CamIn }
     requires rates { AreRates wanted.now.rates }
     requires cam { IsNear look.now.cam }
-    ensures value { result ≡ progress_by_step axis.now wanted.now (option_copied next.entry) look.now
+    ensures value { result ≡ progress_by_step axis.now wanted.now
+        (option_copied next.entry) look.now
         (step_for_wish axis.now (spec.cam_wish axis.now wanted.now look.now)) }
     ensures small { IfOk result (λ p. IsStep p.step) }
 {

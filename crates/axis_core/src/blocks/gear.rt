@@ -120,7 +120,8 @@ pub fn progress(
     requires moving { IsMoving axis.now }
     requires kind { wanted.now.kind ≡ kind.GearIn }
     requires wanted { IsCarriedGear wanted.now }
-    ensures value { result ≡ progress_by_step axis.now wanted.now (option_copied next.entry) look.now
+    ensures value { result ≡ progress_by_step axis.now wanted.now
+        (option_copied next.entry) look.now
         (step_for_wish axis.now (spec.gear_wish axis.now wanted.now look.now)) }
     ensures small { IfOk result (λ p. IsStep p.step) }
 {

@@ -54,7 +54,8 @@ pub fn braking_by(axis: &Axis, d: i64) -> i64
 pub fn progress(axis: &Axis, wanted: &Wanted) -> Progress
     requires moving { IsMoving axis.now }
     requires wanted { IsBetween (pos 1) wanted.now.rates.d (pos MOST_STEP) }
-    ensures step { result.step ≡ taken_step_in axis.now (toward_zero (old_step_of axis.now) wanted.now.rates.d) }
+    ensures step { result.step ≡ taken_step_in axis.now
+        (toward_zero (old_step_of axis.now) wanted.now.rates.d) }
     ensures reached { result.reached ≡ false }
     ensures ending { result.ending ≡ spec.halt_ending result.step }
     ensures small { IsStep result.step }

@@ -85,7 +85,8 @@ pub fn progress(
     requires moving { IsMoving axis.now }
     requires kind { wanted.now.kind ≡ kind.MoveVelocity }
     requires wanted { IsCarriedVelocity wanted.now }
-    ensures value { result ≡ progress_by_step axis.now wanted.now (option_copied next.entry) look.now
+    ensures value { result ≡ progress_by_step axis.now wanted.now
+        (option_copied next.entry) look.now
         (step_for_wish axis.now (spec.velocity_wish axis.now wanted.now)) }
     ensures small { IfOk result (λ p. IsStep p.step) }
 {

@@ -235,7 +235,8 @@ fn is_safe(core: &AxisCore, place: i64) -> bool
     is_same(nearest_safe(core.limits(), before, now, step), step)
 }
 
-// Stops the test where a place is not safe after the setpoints of an axis that is on its group's path.
+// Stops the test where a place is not safe after the setpoints of an axis that is on its group's
+// path.
 fn expect_place(rt: &impl Abort, core: &AxisCore, place: i64)
     requires { path.is_on_path core.now ≡ true }
     ensures { IsSafe core.now.limits core.now.previous core.now.setpoint place }
@@ -255,12 +256,14 @@ fn ends_at_rest(core: &AxisCore, look: &AxisLook, place: i64) -> bool
     }
 }
 
-// Stops the test where an axis that is on its group's path is given no place, or one that it can't take.
+// Stops the test where an axis that is on its group's path is given no place, or one that it can't
+// take.
 fn expect_path(rt: &impl Abort, core: &AxisCore, look: &AxisLook)
     requires { path.is_on_path core.now ≡ true }
     ensures safe { IfSome look.now.path (IsSafe core.now.limits core.now.previous core.now.setpoint) }
     ensures given { look.now.path ≢ None }
-    ensures ends { IfSome look.now.path (λ place. look.now.path_ends ≡ true → place ≡ core.now.setpoint) }
+    ensures ends { IfSome look.now.path (λ place. look.now.path_ends ≡ true →
+        place ≡ core.now.setpoint) }
 {
     assert!(rt; look.path.is_some());
     if let Some(place) = look.path {
@@ -312,7 +315,8 @@ impl Bench {
         })
     }
 
-    // Asks a command with a Jerk and one cam table, and compares the answer and what is told of others.
+    // Asks a command with a Jerk and one cam table, and compares the answer and what is told of
+    // others.
     pub(crate) fn ask_with(
         &mut self,
         rt: &impl Abort,

@@ -12,7 +12,8 @@ use crate::{
 #[test]
 fn moves_end_at_their_targets(rt: HostRuntime) -> Result<(), OutOfMemory> {
     use AxisState::{DiscreteMotion, Standstill};
-    // The braking limit, the target, the rates, and the setpoints before the cycle in which the move is done.
+    // The braking limit, the target, the rates, and the setpoints before the cycle in which the
+    // move is done.
     let cases: [(i64, i64, Rates, &[i64]); 4] = [
         (4, 20, rates(6, 2, 2), &[2, 6, 12, 16, 19, 20]),
         (4, 0, rates(6, 2, 2), &[]),
@@ -118,7 +119,8 @@ fn halts_and_stops_brake(rt: HostRuntime) -> Result<(), OutOfMemory> {
 fn moves_are_blended(rt: HostRuntime) -> Result<(), OutOfMemory> {
     use AxisState::{DiscreteMotion, Standstill};
     use BufferMode::{BlendingLow, BlendingNext, BlendingPrevious};
-    // The first move, the second one, its mode; the setpoints before the first is done, in that cycle, and after it.
+    // The first move, the second one, its mode; the setpoints before the first is done, in that
+    // cycle, and after it.
     let cases: [(i64, i64, i64, Rates, BufferMode, &[i64], i64, &[i64]); 4] = [
         (
             6,

@@ -6,10 +6,11 @@ use Rattle.group_core.specs.declared.group.Group.{Group}
 use Rattle.group_core.specs.declared.reason.Reason.{Reason}
 use Rattle.group_core.specs.declared.reason.Reason.TheVariants.{NotPowered, InErrorStop, InStopping, InHoming, NotAtRest, GroupStateRefuses}
 
--- the refusals of GroupEnable and of GroupDisable, in their order. This project's profile
+-- the refusals of a GroupEnable, in their order. This project's profile
 abbrev pub enable_tests : List Reason
 enable_tests = NotPowered ∷ InErrorStop ∷ InStopping ∷ InHoming ∷ NotAtRest ∷ GroupStateRefuses ∷ []
 
+-- the reason against which a GroupDisable is tested
 abbrev pub disable_tests : List Reason
 disable_tests = GroupStateRefuses ∷ []
 

@@ -10,12 +10,13 @@ use Rattle.group_core.specs.declared.group.Motion.{Motion}
 use Rattle.group_core.specs.declared.reason.Reason.{Reason}
 use Rattle.group_core.specs.declared.reason.Reason.TheVariants.{BadVelocity, BadAcceleration, BadDeceleration, JerkRefused, TargetOutside, QueueFull, GroupStateRefuses, BlendRefused, CircularRefused}
 
--- the refusals of both, in their order. This project's profile
+-- the refusals of a line, in their order. This project's profile
 abbrev pub line_tests : List Reason
 line_tests =
     BadVelocity ∷ BadAcceleration ∷ BadDeceleration ∷ JerkRefused ∷ TargetOutside ∷ QueueFull
     ∷ GroupStateRefuses ∷ BlendRefused ∷ []
 
+-- the reasons against which a circle is tested, in their order
 abbrev pub circle_tests : List Reason
 circle_tests = line_tests ++ CircularRefused ∷ []
 

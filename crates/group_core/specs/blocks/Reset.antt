@@ -43,6 +43,7 @@ abbrev pub reset_by : Option PendingReset → List AxisState → Bool → Group 
 reset_by None axes on_path g = g
 reset_by (Some r) axes on_path g = if may_reset on_path g then after_reset axes g else g
 
+-- what is told of a pending GroupReset that is done
 abbrev pub reset_notes : Option PendingReset → Bool → Group → List Note
 reset_notes None on_path g = []
 reset_notes (Some r) on_path g = if may_reset on_path g then told_to r.owner finish.Done else []

@@ -1,4 +1,5 @@
-// MC_GroupReset: it is pending until a cycle in which it may be done (PLCopen Motion Control Part 4).
+// MC_GroupReset: it is pending until a cycle in which it may be done (PLCopen Motion Control Part
+// 4).
 
 ghost use Rattle.std.specs.Prelude.{◌≡◌, ◌<◌, ◌≤◌, ◌++◌, length};
 ghost use Rattle.command_pool.specs.Waiting.{told_to};

@@ -22,10 +22,6 @@ struct Rail {
 }
 
 impl Path for Rail {
-    ghost use Rattle.std.specs.Prelude.{refl, unsigned_abs, ◌-ℤ◌};
-    ghost use Rattle.std.proofs.Common.{arith, subst};
-    ghost use Rattle.kin_core.specs.Admissible.{IsAdmissible};
-    ghost use Rattle.std.proofs.lemmas.Int.{ints, clamps};
     ghost use Rattle.linear_path.specs.Path.{limits_at};
 
     ghost length_of = { λ rail. rail.length };
@@ -41,52 +37,6 @@ impl Path for Rail {
     ghost limits_of = { λ rail limits. record
         (limits_at limits 0) { lo = pos 0; hi = rail.length } };
 
-    ghost begins_at_the_start = { λ rail axis inside. refl };
-
-    ghost ends_at_the_target = { λ rail axis inside. refl };
-
-    ghost stays_between = { λ rail axis s inside low high. record {
-      above = Prim.omega (arith, ints, clamps, low, high);
-      below = Prim.omega (arith, ints, clamps, low, high);
-    } };
-
-    ghost limits_in_range = { λ rail limits axes. record {
-      lo_in_range = Prim.omega (arith, ints);
-      ordered = rail.from;
-      hi_in_range = Prim.omega (arith, ints, rail.to);
-      vmax_positive = (axes.each 0 (Prim.omega arith)).ranges.vmax_positive;
-      vmax_in_range = (axes.each 0 (Prim.omega arith)).ranges.vmax_in_range;
-      amax_positive = (axes.each 0 (Prim.omega arith)).ranges.amax_positive;
-      amax_within_dmax = (axes.each 0 (Prim.omega arith)).ranges.amax_within_dmax;
-      dmax_in_range = (axes.each 0 (Prim.omega arith)).ranges.dmax_in_range;
-    } };
-
-    ghost limits_from = { λ rail limits. refl };
-
-    ghost limits_to = { λ rail limits. refl };
-
-    ghost keeps_the_axes_speed = { λ rail limits axis before now axes inside a b d e slow.
-        subst (λ k. pos (unsigned_abs (now -ℤ before)) ≤ℤ (limits_at limits k).vmax)
-        (let first : 0 ≡ axis = Prim.omega (arith, inside) in first) slow };
-
-    ghost keeps_the_axes_limits = { λ rail limits axis before now next axes inside within a b d e ok.
-        (let first : 0 ≡ axis = Prim.omega (arith, inside) in
-        let low = within.start_above in
-        let high = within.target_below in
-        let from = ok.above in
-        let to = ok.below in
-        let own : IsAdmissible (record
-        (limits_at limits axis) { lo = pos 0; hi = rail.length }) before now next =
-        subst (λ k. IsAdmissible (record
-        (limits_at limits k) { lo = pos 0; hi = rail.length }) before now next) first ok in
-        record {
-          above = Prim.omega (arith, ints, low, from);
-          below = Prim.omega (arith, ints, high, to);
-          speed = own.speed;
-          falls = own.falls;
-          rises = own.rises;
-        }) };
-
     fn length(&self) -> i64 {
         self.length
     }
@@ -98,6 +48,8 @@ impl Path for Rail {
     fn place(&self, _axis: u8, s: i64) -> i64 {
         s
     }
+
+    fn leads_its_axes() {}
 }
 
 // The rates of the worked rows, on a rail of 20.

@@ -5,7 +5,7 @@ use Rattle.motion_history.specs.Entries.{cycle}
 use Rattle.motion_history.specs.Kept.{store_of}
 use Rattle.motion_history.specs.Rows.{rows_at}
 use Rattle.motion_history.specs.Stored.{IsThere}
-use Rattle.motion_history.specs.declared.history.Stored.TheVariants as stored
+use Rattle.motion_history.specs.declared.entry.Stored.TheVariants as stored
 use Rattle.motion_history.proofs.KeptLemmas.{IsFound, IsThere-found, entry-at, entry-found}
 use Rattle.motion_history.proofs.history.History.look.Goals as goal
 

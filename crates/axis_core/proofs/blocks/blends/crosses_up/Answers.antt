@@ -1,0 +1,19 @@
+-- The first target of a blend upward lies ahead.
+use Rattle.std.proofs.Common.{arith, to_z, of_z, w64}
+use Rattle.std.proofs.lemmas.Int.{ints}
+use Rattle.axis_core.specs.blocks.Moves.{target_of}
+use Rattle.axis_core.proofs.Blends.{crossed_up, first_up}
+use Rattle.axis_core.proofs.blocks.blends.crosses_up.Goals as goal
+
+pub crosses-requires-clause-first : goal.crosses-requires-clause-first
+crosses-requires-clause-first c =
+    let ahead = first_up (target_of c.args.wanted.now) c.args.second.now.target c.args.axis.now.previous c.args.axis.now.setpoint
+    c.requires.second.applies c.requires.up in
+    omega (arith, ints, ahead.first, c.target_of.ensures)
+
+pub returns : goal.returns
+returns c =
+    crossed_up (target_of c.args.wanted.now) c.args.second.now.target c.args.axis.now.setpoint
+    (to_z w64 (of_z w64 c.way-first.result)) (to_z w64 (of_z w64 c.way-last.result)) (to_z w64 (of_z w64 c.args.step)) c.args.step
+    c.args.second.now.rates c.args.second.now.velocity (to_z w64 (of_z w64 c.args.second.now.velocity)) _ c.requires.up c.crosses.ensures.value
+    (omega (arith, ints, c.target_of.ensures)) (omega (arith, ints)) (omega (arith, ints)) (omega (arith, ints))

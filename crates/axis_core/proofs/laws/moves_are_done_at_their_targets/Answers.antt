@@ -1,6 +1,0 @@
--- Where a move is done.
-use Rattle.axis_core.proofs.DoneLaws.{move-done}
-use Rattle.axis_core.proofs.laws.moves_are_done_at_their_targets.Goals as goal
-
-pub returns : goal.returns
-returns c = move-done c.blends_apply_by_test.ensures
