@@ -13,3 +13,5 @@ pub mod Ready
 pub mod AxisRanges
 pub mod Configurations
 pub mod Columns
+pub mod NameTexts
+pub mod Drives
