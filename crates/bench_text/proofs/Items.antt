@@ -1,48 +1,34 @@
 -- What the lines of the machine part leave.
-use Rattle.std.proofs.Common.{◌≡◌, ℕ, ◌≤◌, ℤ, Bool, true, false, Some, Ok, Err, List, [], ◌∷◌, ◌++◌, length, refl, sym, ap, subst, arith, lit≤, ◌<◌}
-use Rattle.std.specs.Prelude.{cond, int_le, nat_le, not, pos, unsigned_abs}
-use Rattle.std.proofs.lemmas.Bool.{and_parts, leb-true}
-use Rattle.std.proofs.lemmas.Int.{ints}
+use Rattle.std.proofs.Common.{◌≡◌, ℕ, ◌≤◌, ℤ, Bool, true, false, Some, Ok, Err, List, [], ◌∷◌, ◌++◌, length, refl, sym, ap, subst, lit≤, ◌<◌}
 use Rattle.axis_state.specs.declared.definition.AxisDef.{AxisDef}
-use Rattle.cam_table.specs.CamTable.{is_cam_table}
 use Rattle.kin_core.specs.declared.limits.Limits.{Limits}
 use Rattle.line_text.specs.Reading.{each_of}
+use Rattle.line_text.specs.Rules.{in_range}
+use Rattle.machine_words.specs.Drives.{drive_in}
+use Rattle.machine_words.specs.Items.{task_meaning}
+use Rattle.machine_words.specs.Names.{axis_named, kind_of, object_named, task_at}
+use Rattle.machine_words.specs.Numbers.{number}
+use Rattle.machine_words.specs.Rules.{broken_by, rule_of}
+use Rattle.machine_words.specs.declared.rule.TheConstants.{OUT_OF_RANGE, WRONG_NAME}
+use Rattle.motion_history.specs.Drives.{IsDrive}
 use Rattle.motion_history.specs.Faults.{axis_fault, block_fault, group_fault, name_fault, task_fault}
 use Rattle.motion_history.specs.Setup.{Setup}
 use Rattle.motion_history.specs.declared.drives.DriveDef.{DriveDef}
 use Rattle.motion_history.specs.declared.refused.TraceVersion.{TraceVersion}
 use Rattle.motion_history.specs.declared.refused.TraceVersion.TheVariants.{One, Two}
-use Rattle.motion_history.specs.declared.sizes.TheConstants.{MOST_CYCLES, MOST_ENTRIES, MOST_FAULTS, MOST_LAG, MOST_TABLES}
-use Rattle.bench_text.specs.BenchState.{BrakesAsItSpeedsUp, IsDrive, IsLineOf}
-use Rattle.bench_text.specs.Drives.{drive_meaning, rise_above}
+use Rattle.motion_history.specs.declared.sizes.TheConstants.{MOST_CYCLES, MOST_ENTRIES}
+use Rattle.bench_text.specs.BenchState.{BrakesAsItSpeedsUp, IsLineOf}
+use Rattle.bench_text.specs.Drives.{drive_meaning}
 use Rattle.bench_text.specs.Events.{cycle_meaning, end_meaning}
-use Rattle.bench_text.specs.Items.{axis_added, axis_meaning, block_meaning, group_meaning, limit_meaning, limits_of, placed_of, point, table_meaning, task_meaning}
-use Rattle.bench_text.specs.Named.{axis_named, kind_of, object_named, task_at, task_named}
-use Rattle.bench_text.specs.Rules.{broken_by, broken_unless, in_range, is_from_to, number}
+use Rattle.bench_text.specs.Items.{axis_added, axis_meaning, block_meaning, group_meaning, limit_meaning, limits_of, placed_of, point, table_meaning}
+use Rattle.bench_text.specs.Named.{task_named}
 use Rattle.bench_text.specs.declared.bench.BenchLine.{BenchLine}
 use Rattle.bench_text.specs.declared.bench.BenchLine.TheVariants.{Cycles, End}
-use Rattle.bench_text.specs.declared.drive.TheConstants.{MOST_STEPS}
-use Rattle.bench_text.specs.declared.rule.TheConstants.{OUT_OF_RANGE, TOO_MANY, WRONG_NAME}
-use Rattle.bench_text.proofs.Given.{position-within}
-use Rattle.bench_text.proofs.Results.{bind_ok, found, holds, ok_is}
-
--- ---- numbers in their ranges
-
--- a number lies in its range
-pub record IsWithinRange (least most n : ℕ) : Type 0 where
-  pub above : least ≤ n
-  pub below : n ≤ most
-
-range_of : (b : Bool) (least most : ℕ) (z : ℤ) (n : ℕ) → is_from_to least most z ≡ b → cond b (Ok (unsigned_abs z)) (Err OUT_OF_RANGE) ≡ Ok n → IsWithinRange least most n
-range_of true least most z n is h =
-    let e : unsigned_abs z ≡ n = ok_is (Ok (unsigned_abs z)) (unsigned_abs z) n refl h in
-    let parts = and_parts (int_le (pos least) z) (int_le z (pos most)) is in
-    record { above = omega (arith, ints, parts.0, e); below = omega (arith, ints, parts.0, parts.1, e) }
-range_of false least most z n is h = absurd (cc)
-
-pub in_range-within : (least most : ℕ) (z : ℤ) (n : ℕ) → in_range least most z ≡ Ok n → IsWithinRange least most n
-unfolding in_range
-in_range-within least most z n h = range_of (is_from_to least most z) least most z n refl h
+use Rattle.bench_text.specs.declared.item.TheConstants.{RULES}
+use Rattle.line_text.proofs.Results.{bind_ok, found, in_range-within, ok_is}
+use Rattle.machine_words.proofs.Drives.{drive_in-is}
+use Rattle.machine_words.proofs.Names.{task-within}
+use Rattle.machine_words.proofs.Tables.{table_added-is}
 
 -- ---- the machine's items but axes: the axes stay
 
@@ -53,8 +39,8 @@ limit-axes s (cycles ∷ []) u h = absurd (cc)
 limit-axes s (cycles ∷ entries ∷ []) u h =
     let c = bind_ok (number cycles) _ u h in
     let e = bind_ok (number entries) _ u c.2 in
-    let few = bind_ok (in_range 1 MOST_CYCLES c.0) _ u e.2 in
-    let less = bind_ok (in_range 1 MOST_ENTRIES e.0) _ u few.2 in
+    let few = bind_ok (in_range 1 MOST_CYCLES OUT_OF_RANGE c.0) _ u e.2 in
+    let less = bind_ok (in_range 1 MOST_ENTRIES OUT_OF_RANGE e.0) _ u few.2 in
     let t : Setup = record s { cycles = few.0; entries = less.0 } in
     ap (λ (v : Setup). v.axes) (sym (ok_is (Ok t) t u refl less.2))
 limit-axes s (cycles ∷ entries ∷ other ∷ more) u h = absurd (cc)
@@ -63,9 +49,9 @@ pub group-axes : (s : Setup) (words : List (List ℕ)) (u : Setup) → group_mea
 unfolding group_meaning
 group-axes s [] u h = absurd (cc)
 group-axes s (name ∷ names) u h =
-    let free = bind_ok (broken_by (name_fault s name)) _ u h in
-    let axes = bind_ok (each_of (axis_named s) names) _ u free.2 in
-    let fit = bind_ok (broken_by (group_fault s name axes.0)) _ u axes.2 in
+    let free = bind_ok (broken_by rule_of (name_fault s name)) _ u h in
+    let axes = bind_ok (each_of (axis_named WRONG_NAME s) names) _ u free.2 in
+    let fit = bind_ok (broken_by rule_of (group_fault s name axes.0)) _ u axes.2 in
     let is = ok_is _ _ u refl fit.2 in
     ap (λ (v : Setup). v.axes) (sym is)
 
@@ -73,16 +59,13 @@ pub table-axes : (s : Setup) (words : List (List ℕ)) (u : Setup) → table_mea
 unfolding table_meaning
 table-axes s words u h =
     let points = bind_ok (each_of point words) _ u h in
-    let good = bind_ok (broken_unless (is_cam_table points.0) OUT_OF_RANGE) _ u points.2 in
-    let room = bind_ok (broken_unless (not (nat_le MOST_TABLES (length s.tables))) TOO_MANY) _ u good.2 in
-    let is = ok_is _ _ u refl room.2 in
-    ap (λ (v : Setup). v.axes) (sym is)
+    ap (λ (v : Setup). v.axes) (table_added-is RULES s u points.0 points.2)
 
 pub task-axes : (s : Setup) (words : List (List ℕ)) (u : Setup) → task_meaning s words ≡ Ok u → u.axes ≡ s.axes
 unfolding task_meaning
 task-axes s [] u h = absurd (cc)
 task-axes s (name ∷ []) u h =
-    let fit = bind_ok (broken_by (task_fault s name)) _ u h in
+    let fit = bind_ok (broken_by rule_of (task_fault s name)) _ u h in
     let is = ok_is _ _ u refl fit.2 in
     ap (λ (v : Setup). v.axes) (sym is)
 task-axes s (name ∷ other ∷ more) u h = absurd (cc)
@@ -94,11 +77,11 @@ block-axes s (name ∷ []) u h = absurd (cc)
 block-axes s (name ∷ task ∷ []) u h = absurd (cc)
 block-axes s (name ∷ task ∷ kind ∷ []) u h = absurd (cc)
 block-axes s (name ∷ of_task ∷ of_kind ∷ of_object ∷ []) u h =
-    let free = bind_ok (broken_by (name_fault s name)) _ u h in
+    let free = bind_ok (broken_by rule_of (name_fault s name)) _ u h in
     let task = bind_ok (task_named s of_task) _ u free.2 in
     let kind = bind_ok (kind_of of_kind) _ u task.2 in
     let object = bind_ok (object_named s kind.0 of_object) _ u kind.2 in
-    let fit = bind_ok (broken_by (block_fault s name task.0 kind.0 object.0)) _ u object.2 in
+    let fit = bind_ok (broken_by rule_of (block_fault s name task.0 kind.0 object.0)) _ u object.2 in
     let is = ok_is _ _ u refl fit.2 in
     ap (λ (v : Setup). v.axes) (sym is)
 block-axes s (name ∷ of_task ∷ of_kind ∷ of_object ∷ other ∷ more) u h = absurd (cc)
@@ -121,10 +104,10 @@ axis_added-is : (s : Setup) (name : List ℕ) (limits behind : List (List ℕ)) 
     (l : Limits) × (limits_of limits ≡ Ok l) × AddsWithin s u l
 unfolding axis_added
 axis_added-is s name limits behind u h =
-    let free = bind_ok (broken_by (name_fault s name)) _ u h in
+    let free = bind_ok (broken_by rule_of (name_fault s name)) _ u h in
     let l = bind_ok (limits_of limits) _ u free.2 in
     let p = bind_ok (placed_of behind) _ u l.2 in
-    let fit = bind_ok (broken_by (axis_fault s name l.0 p.0.inc p.0.start)) _ u p.2 in
+    let fit = bind_ok (broken_by rule_of (axis_fault s name l.0 p.0.inc p.0.start)) _ u p.2 in
     let d : AxisDef = record { name = name; limits = l.0; inc = p.0.inc; start = p.0.start; ready = p.0.ready } in
     let t : Setup = record s { axes = s.axes ++ d ∷ [] } in
     (l.0, l.1, record { added = d; axes = ap (λ (v : Setup). v.axes) (sym (ok_is (Ok t) t u refl fit.2)); limits = refl })
@@ -168,21 +151,12 @@ unfolding drive_meaning
 drive-is s [] d h = absurd (cc)
 drive-is s (name ∷ []) d h = absurd (cc)
 drive-is s (name ∷ lag ∷ faults) d h =
-    let axis = bind_ok (axis_named s name) _ d h in
+    let axis = bind_ok (axis_named WRONG_NAME s name) _ d h in
     let z = bind_ok (number lag) _ d axis.2 in
     let zs = bind_ok (each_of number faults) _ d z.2 in
-    let few = bind_ok (in_range 0 MOST_LAG z.0) _ d zs.2 in
-    let steps = bind_ok (each_of (in_range 1 MOST_STEPS) zs.0) _ d few.2 in
-    let rising = bind_ok (broken_unless (rise_above 0 steps.0) OUT_OF_RANGE) _ d steps.2 in
-    let room = bind_ok (broken_unless (nat_le (length steps.0) MOST_FAULTS) TOO_MANY) _ d rising.2 in
-    let t : ℕ × DriveDef = (axis.0, record { lag = few.0; faults = steps.0 }) in
-    let is : t ≡ d = ok_is (Ok t) t d refl room.2 in
+    let drive = bind_ok (drive_in RULES z.0 zs.0) _ d zs.2 in
     let P : ℕ × DriveDef → Type 0 = λ q. IsDrive q.1 in
-    subst P is (record {
-      lag = (in_range-within 0 MOST_LAG z.0 few.0 few.1).below;
-      few = leb-true _ _ (holds (nat_le (length steps.0) MOST_FAULTS) TOO_MANY room.0 room.1);
-      rising = holds (rise_above 0 steps.0) OUT_OF_RANGE rising.0 rising.1;
-    })
+    subst P (ok_is (Ok (axis.0, drive.0)) (axis.0, drive.0) d refl drive.2) (drive_in-is RULES z.0 zs.0 drive.0 drive.1)
 
 -- ---- events
 
@@ -193,14 +167,10 @@ cycle-line s [] l h =
     subst (λ q. IsLineOf s q) is (lit≤ tt, lit≤ tt)
 cycle-line s (count ∷ []) l h =
     let z = bind_ok (number count) _ l h in
-    let n = bind_ok (in_range 1 MOST_CYCLES z.0) _ l z.2 in
-    let within = in_range-within 1 MOST_CYCLES z.0 n.0 n.1 in
+    let n = bind_ok (in_range 1 MOST_CYCLES OUT_OF_RANGE z.0) _ l z.2 in
+    let within = in_range-within 1 MOST_CYCLES OUT_OF_RANGE z.0 n.0 n.1 in
     subst (λ q. IsLineOf s q) (ok_is (Ok (Cycles n.0)) (Cycles n.0) l refl n.2) (within.above, within.below)
 cycle-line s (count ∷ other ∷ more) l h = absurd (cc)
-
-task-within : (s : Setup) (name : List ℕ) (n : ℕ) → task_at s name ≡ Some n → n < length s.tasks
-unfolding task_at
-task-within s name n h = position-within _ s.tasks n h
 
 pub end-line : (s : Setup) (words : List (List ℕ)) (l : BenchLine) → end_meaning s words ≡ Ok l → IsLineOf s l
 unfolding end_meaning

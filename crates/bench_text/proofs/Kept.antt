@@ -4,22 +4,27 @@ use Rattle.std.specs.Prelude.{◌==◌, nat_le, not, slice_set}
 use Rattle.std.specs.List.{AllByRecursion}
 use Rattle.std.specs.Option.{ok_or}
 use Rattle.std.proofs.lemmas.Bool.{cases_Bool, leb-true}
-use Rattle.std.proofs.lemmas.List.{length-set}
+use Rattle.std.proofs.lemmas.List.{length-append, length-set}
 use Rattle.std.proofs.lemmas.List.Elements.{All-from_recursion}
 use Rattle.line_text.specs.Lines.{lines_of}
 use Rattle.line_text.specs.Reading.{at_line, line_meaning, lines_meaning, text_meaning}
+use Rattle.line_text.specs.Rules.{broken_unless}
 use Rattle.line_text.specs.Words.{is_clean, words_of}
+use Rattle.machine_words.specs.Fit.{InputsAreFit}
+use Rattle.machine_words.specs.Items.{task_meaning}
+use Rattle.machine_words.specs.Rules.{broken_by, rule_of}
+use Rattle.machine_words.specs.declared.rule.TheConstants.{NOT_WHOLE, OUT_OF_PLACE, WRONG_COUNT}
+use Rattle.motion_history.specs.Drives.{IsDrive, plain_drive}
 use Rattle.motion_history.specs.Faults.{whole_fault}
 use Rattle.motion_history.specs.Setup.{IsSetup, Setup}
 use Rattle.motion_history.specs.declared.drives.DriveDef.{DriveDef}
-use Rattle.bench_text.specs.BenchState.{BrakesAsItSpeedsUp, IsBench, IsDrive, IsLineOf}
+use Rattle.bench_text.specs.BenchState.{BrakesAsItSpeedsUp, IsBench, IsLineOf}
 use Rattle.bench_text.specs.Calls.{call_meaning}
-use Rattle.bench_text.specs.Drives.{drive_meaning, plain_drive}
+use Rattle.bench_text.specs.Drives.{drive_meaning}
 use Rattle.bench_text.specs.Events.{cycle_meaning, end_meaning}
 use Rattle.bench_text.specs.Forms.{form_of, is_counted, is_part, part_of}
-use Rattle.bench_text.specs.Items.{axis_meaning, block_meaning, group_meaning, limit_meaning, table_meaning, task_meaning}
+use Rattle.bench_text.specs.Items.{axis_meaning, block_meaning, group_meaning, limit_meaning, table_meaning}
 use Rattle.bench_text.specs.Reading.{axes_meaning, drives_meaning, form_in, go_meaning, is_again, later_meaning, limits_meaning, meaning, opening, version_meaning, version_of, with_line, with_setup, words_meaning}
-use Rattle.bench_text.specs.Rules.{broken_by, broken_unless}
 use Rattle.bench_text.specs.SoFar.{SoFar}
 use Rattle.bench_text.specs.UnderWay.{IsSoFar}
 use Rattle.bench_text.specs.declared.bench.BenchLine.{BenchLine}
@@ -27,26 +32,18 @@ use Rattle.bench_text.specs.declared.form.Form.{Form}
 use Rattle.bench_text.specs.declared.form.Form.TheVariants as form
 use Rattle.bench_text.specs.declared.form.Part.{Part}
 use Rattle.bench_text.specs.declared.form.Part.TheVariants.{Start, Machine, Events}
-use Rattle.bench_text.specs.declared.rule.TheConstants.{NOT_WHOLE, OUT_OF_PLACE, WRONG_COUNT}
+use Rattle.line_text.proofs.Results.{bind_ok, line-ok, holds, ok_is}
+use Rattle.machine_words.proofs.Faults.{faultless}
+use Rattle.machine_words.proofs.Lists.{all-push}
 use Rattle.bench_text.proofs.Calls.{call-line}
-use Rattle.bench_text.proofs.Given.{AreSmall}
 use Rattle.bench_text.proofs.Items.{AddsAxis, axis-adds, block-axes, cycle-line, drive-is, end-line, group-axes, limit-axes, table-axes, task-axes}
-use Rattle.bench_text.proofs.Results.{bind_ok, line-ok, faultless, holds, ok_is}
 
 -- ---- lists
-
-all-push : {A : Type 0} (P : A → Type 0) (xs : List A) (x : A) → AllByRecursion P xs → P x → AllByRecursion P (xs ++ x ∷ [])
-all-push P [] x h p = (p, tt)
-all-push P (y ∷ ys) x h p = (h.0, all-push P ys x h.1 p)
 
 all-set : {A : Type 0} (P : A → Type 0) (xs : List A) (i : ℕ) (x : A) → AllByRecursion P xs → P x → AllByRecursion P (slice_set xs i x)
 all-set P [] i x h p = h
 all-set P (y ∷ ys) zero x h p = (p, h.1)
 all-set P (y ∷ ys) (suc i) x h p = (h.0, all-set P ys i x h.1 p)
-
-length-push : {A : Type 0} (xs : List A) (x : A) → length (xs ++ x ∷ []) ≡ length xs + 1
-length-push [] x = refl
-length-push (y ∷ ys) x = let h = length-push ys x in omega (arith, h)
 
 -- ---- parts
 
@@ -92,7 +89,7 @@ axis-kept : (s : SoFar) (u : Setup) → IsSoFar s → s.part ≡ Machine → Add
 axis-kept s u k m a =
     let none : s.lines ≡ [] = k.before (rw m refl) in
     record {
-      each = length-push s.drives plain_drive ∙ ap (λ n. n + 1) k.each ∙ sym (ap length a.axes ∙ length-push s.setup.axes a.added);
+      each = length-append s.drives (plain_drive ∷ []) ∙ ap (λ n. n + 1) k.each ∙ sym (ap length a.axes ∙ length-append s.setup.axes (a.added ∷ []));
       drives = all-push IsDrive s.drives plain_drive k.drives (record { lag = lit≤ tt; few = lit≤ tt; rising = refl });
       none = λ h. other_part s.part Machine Start m refl h;
       braking = λ one. rw a.axes (all-push BrakesAsItSpeedsUp s.setup.axes a.added (k.braking one) (a.braking one));
@@ -135,10 +132,10 @@ go-kept : (s t : SoFar) → IsSoFar s → go_meaning s ≡ Ok t → IsSoFar t
 unfolding go_meaning
 go-kept s t k h =
     let limited = bind_ok (broken_unless s.limited NOT_WHOLE) _ t h in
-    let whole = bind_ok (broken_by (whole_fault s.setup)) _ t limited.2 in
+    let whole = bind_ok (broken_by rule_of (whole_fault s.setup)) _ t limited.2 in
     let u : SoFar = record s { part = Events } in
     let is : u ≡ t = ok_is (Ok u) u t refl whole.2 in
-    let some : 1 ≤ length s.setup.axes = some_axis s.setup (faultless (whole_fault s.setup) whole.0 whole.1) in
+    let some : 1 ≤ length s.setup.axes = some_axis s.setup (faultless rule_of (whole_fault s.setup) whole.0 whole.1) in
     subst (λ q. IsSoFar q) is (record {
       each = k.each;
       drives = k.drives;
@@ -184,21 +181,21 @@ drives-kept s t words k h =
     let v : SoFar = record s { drives = slice_set s.drives d.0.0 d.0.1; stated = s.stated ++ d.0.0 ∷ [] } in
     subst (λ q. IsSoFar q) (ok_is (Ok v) v t refl d.2) (drive-kept s d.0 k (drive-is s.setup words d.0 d.1))
 
-words-kept : AreSmall → (s t : SoFar) (f : Form) (words : List (List ℕ)) → IsSoFar s → is_part (part_of f) s.part ≡ true → words_meaning s f words ≡ Ok t → IsSoFar t
+words-kept : InputsAreFit → (s t : SoFar) (f : Form) (words : List (List ℕ)) → IsSoFar s → is_part (part_of f) s.part ≡ true → words_meaning s f words ≡ Ok t → IsSoFar t
 unfolding words_meaning
-words-kept small s t form.Limit words k p h = limits-kept s t words k (is_machine s.part p) h
-words-kept small s t form.Axis words k p h = axes-kept s t words k (is_machine s.part p) h
-words-kept small s t form.Drive words k p h = drives-kept s t words k h
-words-kept small s t form.Group words k p h = with_setup-kept s t (group_meaning s.setup words) k (is_machine s.part p) (group-axes s.setup words) h
-words-kept small s t form.Table words k p h = with_setup-kept s t (table_meaning s.setup words) k (is_machine s.part p) (table-axes s.setup words) h
-words-kept small s t form.Task words k p h = with_setup-kept s t (task_meaning s.setup words) k (is_machine s.part p) (task-axes s.setup words) h
-words-kept small s t form.Block words k p h = with_setup-kept s t (block_meaning s.setup words) k (is_machine s.part p) (block-axes s.setup words) h
-words-kept small s t form.Go words k p h = go-kept s t k h
-words-kept small s t form.Call words k p h =
+words-kept fits s t form.Limit words k p h = limits-kept s t words k (is_machine s.part p) h
+words-kept fits s t form.Axis words k p h = axes-kept s t words k (is_machine s.part p) h
+words-kept fits s t form.Drive words k p h = drives-kept s t words k h
+words-kept fits s t form.Group words k p h = with_setup-kept s t (group_meaning s.setup words) k (is_machine s.part p) (group-axes s.setup words) h
+words-kept fits s t form.Table words k p h = with_setup-kept s t (table_meaning s.setup words) k (is_machine s.part p) (table-axes s.setup words) h
+words-kept fits s t form.Task words k p h = with_setup-kept s t (task_meaning s.setup words) k (is_machine s.part p) (task-axes s.setup words) h
+words-kept fits s t form.Block words k p h = with_setup-kept s t (block_meaning s.setup words) k (is_machine s.part p) (block-axes s.setup words) h
+words-kept fits s t form.Go words k p h = go-kept s t k h
+words-kept fits s t form.Call words k p h =
     let ev = is_events s.part p in
-    with_line-kept s t (call_meaning s.setup words) k ev (λ l e. call-line small s.setup words l (k.some (rw ev refl)) e) h
-words-kept small s t form.Cycle words k p h = with_line-kept s t (cycle_meaning words) k (is_events s.part p) (cycle-line s.setup words) h
-words-kept small s t form.End words k p h = with_line-kept s t (end_meaning s.setup words) k (is_events s.part p) (end-line s.setup words) h
+    with_line-kept s t (call_meaning s.setup words) k ev (λ l e. call-line fits s.setup words l (k.some (rw ev refl)) e) h
+words-kept fits s t form.Cycle words k p h = with_line-kept s t (cycle_meaning words) k (is_events s.part p) (cycle-line s.setup words) h
+words-kept fits s t form.End words k p h = with_line-kept s t (end_meaning s.setup words) k (is_events s.part p) (end-line s.setup words) h
 
 form-part : (s : SoFar) (first : List ℕ) (words : List (List ℕ)) (f : Form) → form_in s first words ≡ Ok f → is_part (part_of f) s.part ≡ true
 unfolding form_in
@@ -209,12 +206,12 @@ form-part s first words f h =
     let count = bind_ok (broken_unless (is_counted s.version g.0 (length words)) WRONG_COUNT) _ f once.2 in
     subst (λ q. is_part (part_of q) s.part ≡ true) (ok_is (Ok g.0) g.0 f refl count.2) (holds (is_part (part_of g.0) s.part) OUT_OF_PLACE place.0 place.1)
 
-later-kept : AreSmall → (s t : SoFar) (words : List (List ℕ)) → IsSoFar s → later_meaning s words ≡ Ok t → IsSoFar t
+later-kept : InputsAreFit → (s t : SoFar) (words : List (List ℕ)) → IsSoFar s → later_meaning s words ≡ Ok t → IsSoFar t
 unfolding later_meaning
-later-kept small s t [] k h = subst (λ q. IsSoFar q) (ok_is (Ok s) s t refl h) k
-later-kept small s t (first ∷ words) k h =
+later-kept fits s t [] k h = subst (λ q. IsSoFar q) (ok_is (Ok s) s t refl h) k
+later-kept fits s t (first ∷ words) k h =
     let f = bind_ok (form_in s first words) (λ g. words_meaning s g words) t h in
-    words-kept small s t f.0 words k (form-part s first words f.0 f.1) f.2
+    words-kept fits s t f.0 words k (form-part s first words f.0 f.1) f.2
 
 version-kept : (s t : SoFar) (words : List (List ℕ)) → IsSoFar s → is_part s.part Start ≡ true → version_meaning s words ≡ Ok t → IsSoFar t
 unfolding version_meaning
@@ -233,32 +230,32 @@ version-kept s t words k start h =
     })
 
 -- a line keeps what holds
-pub meaning-kept : AreSmall → (s t : SoFar) (words : List (List ℕ)) → IsSoFar s → meaning s words ≡ Ok t → IsSoFar t
+pub meaning-kept : InputsAreFit → (s t : SoFar) (words : List (List ℕ)) → IsSoFar s → meaning s words ≡ Ok t → IsSoFar t
 unfolding meaning
-meaning-kept small s t words k h =
+meaning-kept fits s t words k h =
     elim (cases_Bool (is_part s.part Start)) [
       | inl start ↦ let e : version_meaning s words ≡ Ok t = rw start at h in version-kept s t words k start e
-      | inr later ↦ let e : later_meaning s words ≡ Ok t = rw later at h in later-kept small s t words k e
+      | inr later ↦ let e : later_meaning s words ≡ Ok t = rw later at h in later-kept fits s t words k e
     ]
 
 -- ---- texts
 
-line_meaning-kept : AreSmall → (s t : SoFar) (text : List ℕ) → IsSoFar s → line_meaning meaning s text ≡ Ok t → IsSoFar t
+line_meaning-kept : InputsAreFit → (s t : SoFar) (text : List ℕ) → IsSoFar s → line_meaning meaning s text ≡ Ok t → IsSoFar t
 unfolding line_meaning
-line_meaning-kept small s t text k h =
+line_meaning-kept fits s t text k h =
     elim (cases_Bool (is_clean text)) [
       | inl clean ↦ elim (cases_Bool (length (words_of text) == 0)) [
         | inl none ↦ let e : Ok s ≡ Ok t = rw (clean, none) at h in subst (λ q. IsSoFar q) (ok_is (Ok s) s t refl e) k
-        | inr some ↦ let e : meaning s (words_of text) ≡ Ok t = rw (clean, some) at h in meaning-kept small s t (words_of text) k e
+        | inr some ↦ let e : meaning s (words_of text) ≡ Ok t = rw (clean, some) at h in meaning-kept fits s t (words_of text) k e
       ]
       | inr other ↦ let e : Err 1 ≡ Ok t = rw other at h in absurd (cc)
     ]
 
-lines-kept : AreSmall → (n : ℕ) (s t : SoFar) (lines : List (List ℕ)) → IsSoFar s → lines_meaning meaning n s lines ≡ Ok t → IsSoFar t
-lines-kept small n s t [] k h = let e : s ≡ t = cc in subst (λ q. IsSoFar q) e k
-lines-kept small n s t (text ∷ more) k h =
+lines-kept : InputsAreFit → (n : ℕ) (s t : SoFar) (lines : List (List ℕ)) → IsSoFar s → lines_meaning meaning n s lines ≡ Ok t → IsSoFar t
+lines-kept fits n s t [] k h = let e : s ≡ t = cc in subst (λ q. IsSoFar q) e k
+lines-kept fits n s t (text ∷ more) k h =
     let u = bind_ok (at_line (n + 1) (line_meaning meaning s text)) (λ u. lines_meaning meaning (n + 1) u more) t h in
-    lines-kept small (n + 1) u.0 t more (line_meaning-kept small s u.0 text k (line-ok (line_meaning meaning s text) (n + 1) u.0 u.1)) u.2
+    lines-kept fits (n + 1) u.0 t more (line_meaning-kept fits s u.0 text k (line-ok (line_meaning meaning s text) (n + 1) u.0 u.1)) u.2
 
 opening-kept : IsSoFar opening
 unfolding opening
@@ -273,9 +270,9 @@ opening-kept = record {
 }
 
 -- a text leads to what holds
-pub text-kept : AreSmall → (s t : SoFar) (text : List ℕ) → s ≡ opening → text_meaning meaning s text ≡ Ok t → IsSoFar t
+pub text-kept : InputsAreFit → (s t : SoFar) (text : List ℕ) → s ≡ opening → text_meaning meaning s text ≡ Ok t → IsSoFar t
 unfolding text_meaning
-text-kept small s t text is h = lines-kept small 0 s t (lines_of text) (rw is opening-kept) h
+text-kept fits s t text is h = lines-kept fits 0 s t (lines_of text) (rw is opening-kept) h
 
 -- a bench at its end is whole
 pub bench-whole : (s : SoFar) (config : Setup) (drives : List DriveDef) → IsSoFar s → config ≡ s.setup → IsSetup config → drives ≡ s.drives →

@@ -1,9 +1,3 @@
-pub mod Results
-pub mod Texts
-pub mod Each
-pub mod Positions
-pub mod Tables
-pub mod Given
 pub mod Calls
 pub mod Items
 pub mod Kept

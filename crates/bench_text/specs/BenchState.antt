@@ -1,13 +1,13 @@
 -- What contracts see of a bench. This project's profile.
-use Rattle.std.specs.Prelude.{◌≡◌, ◌≤◌, ◌<◌, List, length, All, IsTrue}
+use Rattle.std.specs.Prelude.{◌≡◌, ◌≤◌, ◌<◌, List, length, All}
 use Rattle.axis_state.specs.declared.definition.AxisDef.{AxisDef}
 use Rattle.motion_history.specs.Calls.{IsCall}
+pub use Rattle.motion_history.specs.Drives.{IsDrive}
 use Rattle.motion_history.specs.Setup.{Setup, IsSetup}
 use Rattle.motion_history.specs.declared.drives.DriveDef.{DriveDef}
 use Rattle.motion_history.specs.declared.refused.TraceVersion.{TraceVersion}
 use Rattle.motion_history.specs.declared.refused.TraceVersion.TheVariants.{One}
-use Rattle.motion_history.specs.declared.sizes.TheConstants.{MOST_CYCLES, MOST_FAULTS, MOST_LAG}
-use Rattle.bench_text.specs.Drives.{rise_above}
+use Rattle.motion_history.specs.declared.sizes.TheConstants.{MOST_CYCLES}
 use Rattle.bench_text.specs.declared.bench.BenchLine.{BenchLine}
 use Rattle.bench_text.specs.declared.bench.BenchLine.TheVariants.{Call, Cycles, End}
 
@@ -25,12 +25,6 @@ abbrev pub IsLineOf : Setup → BenchLine → Type 0
 IsLineOf s (Call k i) = IsCall s k i
 IsLineOf s (Cycles n) = (1 ≤ n) × (n ≤ MOST_CYCLES)
 IsLineOf s (End t) = t < length s.tasks
-
--- a drive has a lag of at most 64 steps, and at most 1,000 faults, in rising steps from 1
-pub record IsDrive (d : DriveDef) : Type 0 where
-  pub lag : d.lag ≤ MOST_LAG
-  pub few : length d.faults ≤ MOST_FAULTS
-  pub rising : IsTrue (rise_above 0 d.faults)
 
 -- an axis brakes as hard as it speeds up, as version 1 has it
 abbrev pub BrakesAsItSpeedsUp : AxisDef → Type 0

@@ -1,20 +1,21 @@
 -- The cycles of a bench, and the ends of its tasks. This project's profile.
 use Rattle.std.specs.Prelude.{ℕ, Result, Ok, Err, List, [], ◌∷◌}
 use Rattle.line_text.specs.Reading.{◌>>=◌}
+use Rattle.line_text.specs.Rules.{in_range}
+use Rattle.machine_words.specs.Numbers.{number}
+use Rattle.machine_words.specs.declared.rule.TheConstants.{OUT_OF_RANGE, WRONG_COUNT}
 use Rattle.motion_history.specs.Setup.{Setup}
 use Rattle.motion_history.specs.declared.sizes.TheConstants.{MOST_CYCLES}
 use Rattle.bench_text.specs.Named.{task_named}
-use Rattle.bench_text.specs.Rules.{in_range, number}
 use Rattle.bench_text.specs.declared.bench.BenchLine.{BenchLine}
 use Rattle.bench_text.specs.declared.bench.BenchLine.TheVariants.{Cycles, End}
-use Rattle.bench_text.specs.declared.rule.TheConstants.{WRONG_COUNT}
 
 -- `cycle` or `cycle N`
 unfoldable pub cycle_meaning : List (List ℕ) → Result BenchLine ℕ
 cycle_meaning [] = Ok (Cycles 1)
 cycle_meaning (count ∷ []) = do
   n ← number count
-  cycles ← in_range 1 MOST_CYCLES n
+  cycles ← in_range 1 MOST_CYCLES OUT_OF_RANGE n
   Ok (Cycles cycles)
 cycle_meaning _ = Err WRONG_COUNT
 

@@ -1,30 +1,34 @@
--- The items of a bench's machine: its limits, axes, groups, cam tables, tasks and blocks. This
--- project's profile.
-use Rattle.std.specs.Prelude.{ℕ, ℤ, Bool, true, false, not, nat_le, if◌then◌else◌, codes, Result, Ok, Err, List, [], ◌∷◌, ◌++◌, length}
+-- The items of a bench's machine: its limits, axes, groups, cam tables and blocks. This project's
+-- profile.
+use Rattle.std.specs.Prelude.{ℕ, ℤ, Bool, true, false, if◌then◌else◌, codes, Result, Ok, Err, List, [], ◌∷◌, ◌++◌}
 use Rattle.std.specs.Option.{ok_or}
-use Rattle.cam_table.specs.CamTable.{is_cam_table}
 use Rattle.kin_core.specs.declared.limits.Limits.{Limits}
 use Rattle.line_text.specs.Numbers.{point_of}
 use Rattle.line_text.specs.Reading.{◌>>=◌, each_of}
+use Rattle.line_text.specs.Rules.{in_range}
 use Rattle.line_text.specs.Texts.{says}
-use Rattle.motion_history.specs.Faults.{axis_fault, block_fault, group_fault, name_fault, task_fault}
+use Rattle.machine_words.specs.Names.{axis_named, kind_of, object_named}
+use Rattle.machine_words.specs.Numbers.{number}
+use Rattle.machine_words.specs.Rules.{broken_by, rule_of}
+use Rattle.machine_words.specs.Tables.{table_added}
+use Rattle.machine_words.specs.declared.rule.TheConstants.{NO_VALUE, OUT_OF_RANGE, WRONG_COUNT, WRONG_NAME}
+use Rattle.motion_history.specs.Faults.{axis_fault, block_fault, group_fault, name_fault}
 use Rattle.motion_history.specs.Members.{group_of}
 use Rattle.motion_history.specs.Setup.{Setup}
 use Rattle.motion_history.specs.declared.refused.TraceVersion.{TraceVersion}
 use Rattle.motion_history.specs.declared.refused.TraceVersion.TheVariants.{One, Two}
-use Rattle.motion_history.specs.declared.sizes.TheConstants.{MOST_CYCLES, MOST_ENTRIES, MOST_TABLES}
-use Rattle.bench_text.specs.Named.{axis_named, kind_of, object_named, task_named}
-use Rattle.bench_text.specs.Rules.{broken_by, broken_unless, in_range, number}
+use Rattle.motion_history.specs.declared.sizes.TheConstants.{MOST_CYCLES, MOST_ENTRIES}
+use Rattle.bench_text.specs.Named.{task_named}
 use Rattle.bench_text.specs.declared.axis.Placed.{Placed}
-use Rattle.bench_text.specs.declared.rule.TheConstants.{NO_VALUE, OUT_OF_RANGE, TOO_MANY, WRONG_COUNT}
+use Rattle.bench_text.specs.declared.item.TheConstants.{RULES}
 
 -- `limit CYCLES ENTRIES`: the room of the history
 unfoldable pub limit_meaning : Setup → List (List ℕ) → Result Setup ℕ
 limit_meaning s (cycles ∷ entries ∷ []) = do
   c ← number cycles
   e ← number entries
-  few_cycles ← in_range 1 MOST_CYCLES c
-  few_entries ← in_range 1 MOST_ENTRIES e
+  few_cycles ← in_range 1 MOST_CYCLES OUT_OF_RANGE c
+  few_entries ← in_range 1 MOST_ENTRIES OUT_OF_RANGE e
   Ok (record s { cycles = few_cycles; entries = few_entries })
 limit_meaning s _ = Err WRONG_COUNT
 
@@ -57,10 +61,10 @@ placed_of _ = Err WRONG_COUNT
 -- an axis of this name is added
 unfoldable pub axis_added : Setup → List ℕ → List (List ℕ) → List (List ℕ) → Result Setup ℕ
 axis_added s name limits behind = do
-  _ ← broken_by (name_fault s name)
+  _ ← broken_by rule_of (name_fault s name)
   l ← limits_of limits
   p ← placed_of behind
-  _ ← broken_by (axis_fault s name l p.inc p.start)
+  _ ← broken_by rule_of (axis_fault s name l p.inc p.start)
   Ok (record s {
     axes = s.axes ++ record {
       name = name;
@@ -83,9 +87,9 @@ axis_meaning version s _ = Err WRONG_COUNT
 -- `group NAME AXIS AXIS ..`
 unfoldable pub group_meaning : Setup → List (List ℕ) → Result Setup ℕ
 group_meaning s (name ∷ names) = do
-  _ ← broken_by (name_fault s name)
-  axes ← each_of (axis_named s) names
-  _ ← broken_by (group_fault s name axes)
+  _ ← broken_by rule_of (name_fault s name)
+  axes ← each_of (axis_named WRONG_NAME s) names
+  _ ← broken_by rule_of (group_fault s name axes)
   Ok (record s { groups = s.groups ++ group_of name axes ∷ [] })
 group_meaning s [] = Err WRONG_COUNT
 
@@ -97,25 +101,16 @@ point word = ok_or (point_of word) NO_VALUE
 unfoldable pub table_meaning : Setup → List (List ℕ) → Result Setup ℕ
 table_meaning s words = do
   points ← each_of point words
-  _ ← broken_unless (is_cam_table points) OUT_OF_RANGE
-  _ ← broken_unless (not (nat_le MOST_TABLES (length s.tables))) TOO_MANY
-  Ok (record s { tables = s.tables ++ points ∷ [] })
-
--- `task NAME`
-unfoldable pub task_meaning : Setup → List (List ℕ) → Result Setup ℕ
-task_meaning s (name ∷ []) = do
-  _ ← broken_by (task_fault s name)
-  Ok (record s { tasks = s.tasks ++ name ∷ [] })
-task_meaning s _ = Err WRONG_COUNT
+  table_added RULES s points
 
 -- `block NAME TASK KIND AXIS-OR-GROUP`
 unfoldable pub block_meaning : Setup → List (List ℕ) → Result Setup ℕ
 block_meaning s (name ∷ of_task ∷ of_kind ∷ of_object ∷ []) = do
-  _ ← broken_by (name_fault s name)
+  _ ← broken_by rule_of (name_fault s name)
   task ← task_named s of_task
   kind ← kind_of of_kind
   object ← object_named s kind of_object
-  _ ← broken_by (block_fault s name task kind object)
+  _ ← broken_by rule_of (block_fault s name task kind object)
   Ok (record s {
     blocks = s.blocks ++ record {
       name = name;

@@ -1,11 +1,8 @@
 pub mod Forms
-pub mod Rules
 pub mod SoFar
 pub mod Named
 pub mod Items
 pub mod Drives
-pub mod Keys
-pub mod Given
 pub mod Calls
 pub mod Events
 pub mod BenchState

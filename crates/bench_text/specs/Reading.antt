@@ -2,8 +2,12 @@
 use Rattle.std.specs.Prelude.{◌≡◌, ℕ, Bool, true, false, not, if◌then◌else◌, codes, Option, Some, None, Result, Ok, Err, List, [], ◌∷◌, ◌++◌, length, slice_set}
 use Rattle.std.specs.Option.{ok_or}
 use Rattle.line_text.specs.Reading.{◌>>=◌, Meaning, reading_of}
+use Rattle.line_text.specs.Rules.{broken_unless}
 use Rattle.line_text.specs.Texts.{says}
-use Rattle.line_text.specs.declared.reader.LineRefused.{LineRefused}
+use Rattle.machine_words.specs.Items.{task_meaning}
+use Rattle.machine_words.specs.Rules.{broken_by, refused_by, rule_of}
+use Rattle.machine_words.specs.declared.rule.TheConstants.{NO_VERSION, NOT_WHOLE, OUT_OF_PLACE, WRONG_COUNT}
+use Rattle.motion_history.specs.Drives.{plain_drive}
 use Rattle.motion_history.specs.Faults.{whole_fault}
 use Rattle.motion_history.specs.Setup.{Setup}
 use Rattle.motion_history.specs.declared.refused.TextFault.{TextFault}
@@ -13,17 +17,15 @@ use Rattle.motion_history.specs.declared.refused.TraceVersion.{TraceVersion}
 use Rattle.motion_history.specs.declared.refused.TraceVersion.TheVariants.{One, Two}
 use Rattle.bench_text.specs.BenchState.{BenchState}
 use Rattle.bench_text.specs.Calls.{call_meaning}
-use Rattle.bench_text.specs.Drives.{drive_meaning, is_stated, plain_drive}
+use Rattle.bench_text.specs.Drives.{drive_meaning, is_stated}
 use Rattle.bench_text.specs.Events.{cycle_meaning, end_meaning}
 use Rattle.bench_text.specs.Forms.{form_of, is_counted, is_part, part_of}
-use Rattle.bench_text.specs.Items.{axis_meaning, block_meaning, group_meaning, limit_meaning, table_meaning, task_meaning}
-use Rattle.bench_text.specs.Rules.{broken_by, broken_unless}
+use Rattle.bench_text.specs.Items.{axis_meaning, block_meaning, group_meaning, limit_meaning, table_meaning}
 use Rattle.bench_text.specs.SoFar.{SoFar}
 use Rattle.bench_text.specs.declared.bench.BenchLine.{BenchLine}
 use Rattle.bench_text.specs.declared.form.Form.{Form}
 use Rattle.bench_text.specs.declared.form.Form.TheVariants as form
 use Rattle.bench_text.specs.declared.form.Part.TheVariants.{Start, Machine, Events}
-use Rattle.bench_text.specs.declared.rule.TheConstants.{NO_VERSION, NOT_WHOLE, OUT_OF_PLACE, WRONG_COUNT}
 
 -- a bench before its first line
 unfoldable pub opening : SoFar
@@ -118,7 +120,7 @@ drives_meaning s words = do
 unfoldable pub go_meaning : SoFar → Result SoFar ℕ
 go_meaning s = do
   _ ← broken_unless s.limited NOT_WHOLE
-  _ ← broken_by (whole_fault s.setup)
+  _ ← broken_by rule_of (whole_fault s.setup)
   Ok (record s { part = Events })
 
 -- what the words behind the first mean in a line of each form
@@ -154,17 +156,12 @@ ending s = do
   Ok (record { version = s.version; config = s.setup; drives = s.drives; lines = s.lines })
 
 -- a rule of a bench is told by the letter B
-abbrev pub told_as : LineRefused → TextRefused
-told_as r = record { place = r.line; rule = record { letter = 66; number = r.rule } }
-
--- a reading whose refusal is told so
-abbrev pub refused_by : {A : Type 0} → Result A LineRefused → Result A TextRefused
-refused_by (Ok x) = Ok x
-refused_by (Err r) = Err (told_as r)
+abbrev pub letter : ℕ
+letter = 66
 
 -- the bench that a text is, or the first line that breaks a rule and the first rule that it breaks
 unfoldable pub bench_of : List ℕ → Result BenchState TextRefused
-bench_of text = refused_by (reading_of meaning ending opening text)
+bench_of text = refused_by letter (reading_of meaning ending opening text)
 
 -- the answer is this reading: the bench, or the refusal; or memory ran out
 abbrev pub ReadsBy : Result BenchState TextRefused → Result BenchState TextFault → Type 0

@@ -1,8 +1,9 @@
 -- What always holds of a bench as far as it was read. This project's profile.
 use Rattle.std.specs.Prelude.{◌≡◌, ◌≤◌, true, false, [], length}
 use Rattle.std.specs.List.{AllByRecursion}
+use Rattle.motion_history.specs.Drives.{IsDrive}
 use Rattle.motion_history.specs.declared.refused.TraceVersion.TheVariants.{One}
-use Rattle.bench_text.specs.BenchState.{BrakesAsItSpeedsUp, IsDrive, IsLineOf}
+use Rattle.bench_text.specs.BenchState.{BrakesAsItSpeedsUp, IsLineOf}
 use Rattle.bench_text.specs.Forms.{is_part}
 use Rattle.bench_text.specs.SoFar.{SoFar}
 use Rattle.bench_text.specs.declared.form.Part.TheVariants.{Start, Events}

@@ -4,13 +4,10 @@ ghost use Rattle.std.specs.Prelude.{◌≡◌};
 ghost use Rattle.line_text.specs.Reading.{Gives, Takes};
 ghost use Rattle.line_text.specs.Texts.{texts};
 ghost use Rattle.bench_text.specs.Items as spec;
-ghost use Rattle.bench_text.specs.Rules as rules;
 
-use crate::item::free_name;
-use crate::number::number;
-use crate::rule::{NO_VALUE, WRONG_COUNT, refusal_of};
 use axis_state::Limits;
 use line_text::{LineFault, says};
+use machine_words::{NO_VALUE, WRONG_COUNT, free_name, number, refusal_of};
 use motion_history::{Builder, TraceVersion};
 
 /// Where an axis stands, in internal units, and whether it is ready.

@@ -7,9 +7,8 @@ ghost use Rattle.bench_text.specs.Events as spec;
 
 use crate::bench::BenchLine;
 use crate::name::task_named;
-use crate::number::{in_range, number};
-use crate::rule::WRONG_COUNT;
-use line_text::LineFault;
+use line_text::{LineFault, in_range};
+use machine_words::{OUT_OF_RANGE, WRONG_COUNT, number};
 use motion_history::{Builder, MOST_CYCLES};
 
 /// The cycles of a line.
@@ -21,7 +20,7 @@ pub fn cycles_of(words: &[&[u8]]) -> Result<BenchLine, LineFault>
         [] => Ok(BenchLine::Cycles { count: 1 }),
         [count] => {
             let count = number(count)?;
-            let count = in_range(1, MOST_CYCLES, count)?;
+            let count = in_range(1, MOST_CYCLES, OUT_OF_RANGE, count)?;
             Ok(BenchLine::Cycles { count })
         }
         _ => Err(LineFault::Rule(WRONG_COUNT)),

@@ -8,12 +8,10 @@ mod drive;
 mod event;
 mod form;
 mod item;
-mod key;
 mod name;
-mod number;
+mod point;
 mod reader;
 mod reading;
-mod rule;
 mod version;
 
 pub use bench::{Bench, BenchLine};

@@ -11,13 +11,13 @@ ghost use Rattle.bench_text.specs.Reading as spec;
 use crate::axis::add_axis;
 use crate::bench::BenchLine;
 use crate::call::call_of;
-use crate::drive::{drive_of, is_stated, plain_drive, set_drive};
+use crate::drive::{drive_of, is_stated, set_drive};
 use crate::event::{cycles_of, end_of};
 use crate::form::{Form, Part, form_of, is_counted, is_part, part_of};
-use crate::item::{add_block, add_group, add_table, add_task, is_whole, set_room};
-use crate::rule::{NOT_WHOLE, OUT_OF_PLACE, WRONG_COUNT, broken_unless};
+use crate::item::{add_block, add_group, add_table, set_room};
 use crate::version::version_of;
-use line_text::{LineFault, LineReader};
+use line_text::{LineFault, LineReader, broken_unless};
+use machine_words::{NOT_WHOLE, OUT_OF_PLACE, WRONG_COUNT, add_task, is_whole, plain_drive};
 use motion_history::{Builder, DriveDef, TraceVersion};
 use std::alloc::Global;
 use std::marker::Model;
@@ -174,7 +174,8 @@ impl BenchReader {
     // Takes a line of a group.
     fn read_group(&mut self, words: &[&[u8]]) -> Result<(), LineFault>
         ensures { Takes
-            (spec.with_setup self.old (items.group_meaning self.old.setup (texts words.now))) self.new result }
+            (spec.with_setup self.old (items.group_meaning self.old.setup (texts words.now)))
+            self.new result }
     {
         let alloc = self.alloc;
         add_group(alloc, &mut self.machine, words)
@@ -183,7 +184,8 @@ impl BenchReader {
     // Takes a line of a cam table.
     fn read_table(&mut self, words: &[&[u8]]) -> Result<(), LineFault>
         ensures { Takes
-            (spec.with_setup self.old (items.table_meaning self.old.setup (texts words.now))) self.new result }
+            (spec.with_setup self.old (items.table_meaning self.old.setup (texts words.now)))
+            self.new result }
     {
         let alloc = self.alloc;
         add_table(alloc, &mut self.machine, words)
@@ -203,7 +205,8 @@ impl BenchReader {
     // Takes a line of a call.
     fn read_call(&mut self, words: &[&[u8]]) -> Result<(), LineFault>
         ensures { Takes
-            (spec.with_line self.old (calls.call_meaning self.old.setup (texts words.now))) self.new result }
+            (spec.with_line self.old (calls.call_meaning self.old.setup (texts words.now)))
+            self.new result }
     {
         let line = call_of(self.alloc, &self.machine, words);
         self.push(line)
@@ -221,7 +224,8 @@ impl BenchReader {
     // Takes a line of a task's end.
     fn read_end(&mut self, words: &[&[u8]]) -> Result<(), LineFault>
         ensures { Takes
-            (spec.with_line self.old (events.end_meaning self.old.setup (texts words.now))) self.new result }
+            (spec.with_line self.old (events.end_meaning self.old.setup (texts words.now)))
+            self.new result }
     {
         let line = end_of(&self.machine, words);
         self.push(line)

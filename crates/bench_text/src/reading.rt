@@ -2,6 +2,7 @@
 
 ghost use Rattle.std.specs.Prelude.{◌≡◌, IfErr, IfOk, Ok};
 ghost use Rattle.line_text.specs.Reading.{at_line};
+ghost use Rattle.machine_words.specs.Rules.{refused_by, told_as};
 ghost use Rattle.bench_text.specs.BenchState.{BenchState};
 ghost use Rattle.bench_text.specs.Reading as spec;
 ghost use Rattle.bench_text.specs.Reading.{ReadsBy};
@@ -11,9 +12,9 @@ ghost use Rattle.bench_text.specs.UnderWay.{IsSoFar};
 use crate::bench::Bench;
 use crate::form::{Part, is_part};
 use crate::reader::BenchReader;
-use crate::rule::NOT_WHOLE;
-use line_text::{LineRefused, LinesFault, lines_are_spelled, numbers_are_small, read_lines};
-use motion_history::{Builder, DriveDefs, Rule, TextFault, TextRefused, TraceVersion};
+use line_text::{LineRefused, LinesFault, lines_are_spelled, read_lines};
+use machine_words::{NOT_WHOLE, inputs_are_fit, refused_by};
+use motion_history::{Builder, DriveDefs, TextFault, TraceVersion};
 use std::alloc::Global;
 
 /// The bench that a text is. A text that is none is refused at its first line that breaks a rule,
@@ -36,26 +37,20 @@ pub fn read_bench(alloc: Global, text: &[u8]) -> Result<Bench, TextFault>
 fn read(alloc: Global, text: &[u8]) -> Result<Bench, TextFault>
     ensures { ReadsBy (spec.bench_of text.now) result }
 {
-    numbers_are_small();
+    inputs_are_fit();
     let mut reader = opened(alloc)?;
     match read_lines(alloc, text, &mut reader) {
         Ok(last) => bench_of(reader, last),
-        Err(LinesFault::Refused(refused)) => Err(refused_by(refused)),
+        Err(LinesFault::Refused(refused)) => Err(refusal(refused)),
         Err(LinesFault::OutOfMemory) => Err(TextFault::OutOfMemory),
     }
 }
 
-// How a text is refused at this place.
-fn refused_by(refused: LineRefused) -> TextFault
-    ensures { result ≡ TextFault.Refused (spec.told_as refused) }
+// How a bench is refused at this place.
+fn refusal(refused: LineRefused) -> TextFault
+    ensures { result ≡ TextFault.Refused (told_as spec.letter refused) }
 {
-    TextFault::Refused(TextRefused {
-        place: refused.line,
-        rule: Rule {
-            letter: b'B',
-            number: refused.rule,
-        },
-    })
+    refused_by(b'B', refused)
 }
 
 // A bench before its first line.
@@ -83,7 +78,7 @@ fn opened(alloc: Global) -> Result<BenchReader, TextFault>
 #[tactic(auto, unfolding(crate::specs::Reading::ending))]
 fn bench_of(reader: BenchReader, last: u64) -> Result<Bench, TextFault>
     requires { IsSoFar reader }
-    ensures { ReadsBy (spec.refused_by (at_line last (spec.ending reader))) result }
+    ensures { ReadsBy (refused_by spec.letter (at_line last (spec.ending reader))) result }
 {
     let BenchReader {
         part,
@@ -94,7 +89,7 @@ fn bench_of(reader: BenchReader, last: u64) -> Result<Bench, TextFault>
         ..
     } = reader;
     if !is_part(part, Part::Events) {
-        return Err(refused_by(LineRefused {
+        return Err(refusal(LineRefused {
             line: last,
             rule: NOT_WHOLE,
         }));

@@ -5,8 +5,8 @@ ghost use Rattle.line_text.specs.Reading.{Gives};
 ghost use Rattle.line_text.specs.Texts.{texts};
 ghost use Rattle.bench_text.specs.Reading as spec;
 
-use crate::rule::{NO_VERSION, broken_unless};
-use line_text::{LineFault, says};
+use line_text::{LineFault, broken_unless, required, says};
+use machine_words::NO_VERSION;
 use motion_history::TraceVersion;
 
 /// The version that the first line tells.
@@ -18,10 +18,7 @@ pub fn version_of(words: &[&[u8]]) -> Result<TraceVersion, LineFault>
         return Err(LineFault::Rule(NO_VERSION));
     };
     broken_unless(is_bench(word), NO_VERSION)?;
-    match version_numbered(number) {
-        Some(version) => Ok(version),
-        None => Err(LineFault::Rule(NO_VERSION)),
-    }
+    required(version_numbered(number), NO_VERSION)
 }
 
 // Whether a bench begins with this word.

@@ -1,5 +1,5 @@
 -- Which inputs a kind of block takes, and what the others are.
-use Rattle.std.specs.Prelude.{◌≡◌, ℕ, ◌≤◌, Bool, true, false, ℤ, pos, unsigned_abs, List, [], ◌∷◌, slice_index_or}
+use Rattle.std.specs.Prelude.{◌≡◌, ℕ, ◌≤◌, Bool, true, false, ℤ, pos, unsigned_abs, List, [], ◌∷◌, replicate, slice_index_or}
 use Rattle.std.specs.List.{list_any}
 use Rattle.motion_numbers.specs.declared.TheConstants.{MOST_NUMBER}
 use Rattle.command_pool.specs.declared.kind.BlockKind.{BlockKind}
@@ -74,3 +74,19 @@ pub record AreInputs (k : BlockKind) (axes : ℕ) (i : Inputs) : Type 0 where
   pub numerator : IsTaken (takes k Numerator) (pos 1) i.numerator
   pub denominator : IsTaken (takes k Denominator) (pos 1) i.denominator
   pub table : takes k Table ≡ false → i.table ≡ 0
+
+-- the inputs of a call with Execute false. This project's profile
+abbrev pub inputs_off : Inputs
+inputs_off = record {
+  execute = false;
+  positions = replicate 6 (pos 0);
+  velocity = pos 0;
+  acceleration = pos 0;
+  deceleration = pos 0;
+  jerk = pos 0;
+  mode = Aborting;
+  master = 0;
+  numerator = pos 1;
+  denominator = pos 1;
+  table = 0;
+}

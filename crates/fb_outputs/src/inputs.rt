@@ -33,6 +33,21 @@ pub struct Inputs {
     pub table: u16,
 }
 
+/// The inputs of a call with Execute false.
+pub const INPUTS_OFF: Inputs = Inputs {
+    execute: false,
+    positions: [0; 6],
+    velocity: 0,
+    acceleration: 0,
+    deceleration: 0,
+    jerk: 0,
+    mode: BufferMode::Aborting,
+    master: 0,
+    numerator: 1,
+    denominator: 1,
+    table: 0,
+};
+
 /// The inputs that a kind of block may take besides Execute, in the order of a call.
 #[derive(Clone, Copy, Debug)]
 pub enum Input {

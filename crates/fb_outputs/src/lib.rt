@@ -12,7 +12,7 @@ mod reply;
 mod tests;
 
 pub use command_pool::{BlockKind, BufferMode, Finish, Rates, Refusal};
-pub use inputs::{Input, Inputs, takes};
+pub use inputs::{INPUTS_OFF, Input, Inputs, takes};
 pub use instance::{Edge, Instance, Progress};
 pub use laws::{names_are_read_back, replies_tell_one_result};
 pub use names::{KINDS, MODES, kind_name, kind_named, mode_name, mode_named};

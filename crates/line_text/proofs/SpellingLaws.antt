@@ -2,17 +2,12 @@
 use Rattle.std.proofs.Common.{◌≡◌, refl, ℕ, suc, zero, ◌+◌, ◌≤◌, Bool, true, false, List, [], ◌∷◌, ◌++◌, length, take, sym, ◌∙◌, ap, subst, arith, inl, inr, lit≤}
 use Rattle.std.specs.Prelude.{◌&&◌, ◌||◌, ◌==◌, cond, eqb, not}
 use Rattle.std.specs.List.{before_first, filter, list_all, onto_first, position_or_len, slice_split}
-use Rattle.std.proofs.lemmas.Bool.{and_parts, cases_Bool, eqb-true, ne_eqb, or_parts}
+use Rattle.std.proofs.lemmas.Bool.{and_parts, cases_Bool, eqb-true, ne_eqb, not-true, or_parts}
 use Rattle.std.proofs.lemmas.List.Splits.{length-slice_split, slice_split-cons_no, slice_split-cons_yes}
 use Rattle.line_text.specs.Lines.{is_end, lines_of, without_empty_end}
 use Rattle.line_text.specs.Spelling.{AreSpelled, EndsWord, IsWord, SpellsLines, SpellsWords, blank, comment, is_line, is_plain, last_line, no_line, nothing, one_line, word}
 use Rattle.line_text.specs.Words.{is_blank, is_comment, is_word, words_of}
 use Rattle.line_text.proofs.LineLaws.{one_part, without_empty_end-cons}
-
--- a test that fails
-not_true : (b : Bool) → not b ≡ true → b ≡ false
-not_true true h = absurd (cc)
-not_true false h = refl
 
 -- ---- parts
 
@@ -22,14 +17,14 @@ split-at : (p : ℕ → Bool) (xs : List ℕ) (y : ℕ) (ys : List ℕ) → list
 split-at p [] y ys h here = slice_split-cons_yes p y ys here
 split-at p (x ∷ xs) y ys h here =
     let parts = and_parts (not (p x)) (list_all (λ b. not (p b)) xs) h in
-    slice_split-cons_no p x (xs ++ y ∷ ys) (not_true (p x) parts.0) ∙ ap (onto_first x) (split-at p xs y ys parts.1 here)
+    slice_split-cons_no p x (xs ++ y ∷ ys) (not-true (p x) parts.0) ∙ ap (onto_first x) (split-at p xs y ys parts.1 here)
 
 -- items that all fail a test
 split-whole : (p : ℕ → Bool) (xs : List ℕ) → list_all (λ b. not (p b)) xs ≡ true → slice_split p xs ≡ xs ∷ []
 split-whole p [] h = refl
 split-whole p (x ∷ xs) h =
     let parts = and_parts (not (p x)) (list_all (λ b. not (p b)) xs) h in
-    slice_split-cons_no p x xs (not_true (p x) parts.0) ∙ ap (onto_first x) (split-whole p xs parts.1)
+    slice_split-cons_no p x xs (not-true (p x) parts.0) ∙ ap (onto_first x) (split-whole p xs parts.1)
 
 -- ---- lines
 
@@ -95,14 +90,14 @@ before-word : (w line : List ℕ) → list_all is_plain w ≡ true → before_fi
 before-word [] line h = refl
 before-word (b ∷ w) line h =
     let parts = and_parts (is_plain b) (list_all is_plain w) h in
-    let none = (or_parts (is_blank b) (is_comment b) (not_true (is_blank b || is_comment b) parts.0)).1 in
+    let none = (or_parts (is_blank b) (is_comment b) (not-true (is_blank b || is_comment b) parts.0)).1 in
     before-no b (w ++ line) none ∙ ap (λ xs. b ∷ xs) (before-word w line parts.1)
 
 no-blanks : (w : List ℕ) → list_all is_plain w ≡ true → list_all (λ b. not (is_blank b)) w ≡ true
 no-blanks [] h = refl
 no-blanks (b ∷ w) h =
     let parts = and_parts (is_plain b) (list_all is_plain w) h in
-    let none = (or_parts (is_blank b) (is_comment b) (not_true (is_blank b || is_comment b) parts.0)).0 in
+    let none = (or_parts (is_blank b) (is_comment b) (not-true (is_blank b || is_comment b) parts.0)).0 in
     rw (none, no-blanks w parts.1) refl
 
 kept-word : (w : List ℕ) (words : List (List ℕ)) → 1 ≤ length w → filter is_word (w ∷ words) ≡ w ∷ filter is_word words

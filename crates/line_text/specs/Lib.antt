@@ -5,3 +5,5 @@ pub mod Spelling
 pub mod Numbers
 pub mod Keys
 pub mod Reading
+pub mod Rules
+pub mod Leading

@@ -7,6 +7,7 @@ mod laws;
 mod line;
 mod number;
 mod reader;
+mod rule;
 mod word;
 
 pub use key::value_at;
@@ -14,6 +15,7 @@ pub use laws::{lines_are_spelled, numbers_are_small};
 pub use line::first_line;
 pub use number::{number_of, point_of};
 pub use reader::{LineFault, LineReader, LineRefused, LinesFault, read_lines};
+pub use rule::{broken_unless, in_range, required};
 pub use word::{is_clean, says, words_of};
 
 #[cfg(test)]

@@ -1,6 +1,5 @@
 -- The lines of a generated load are of its machine, and fill its room.
-use Rattle.std.proofs.Common.{◌≡◌, refl, sym, ◌∙◌, ap, subst, ℕ, zero, suc, ◌<◌, ◌≤◌, ◌+◌, ◌-◌, ◌*◌, Bool, true, Some, List, [], ◌∷◌, length, replicate, arith, lit<, lit≤}
-use Rattle.std.proofs.Common.{ℤ, false, map}
+use Rattle.std.proofs.Common.{[], ap, arith, Bool, false, length, List, lit<, lit≤, map, refl, replicate, Some, subst, suc, sym, true, zero, ℕ, ℤ, ◌*◌, ◌+◌, ◌-◌, ◌<◌, ◌∙◌, ◌∷◌, ◌≡◌, ◌≤◌}
 use Rattle.std.specs.Prelude.{pos, All, slice_get, slice_index_or, unsigned_abs, ◌++◌, sum_by, if◌then◌else◌}
 use Rattle.std.specs.List.{flat_map, range_with_len}
 use Rattle.std.proofs.lemmas.List.{append-nil, append_assoc}
@@ -8,28 +7,28 @@ use Rattle.std.proofs.lemmas.List.Elements.{All-append, All-from_recursion, All-
 use Rattle.std.proofs.lemmas.List.Sums.{sum_by-append}
 use Rattle.std.proofs.lemmas.Nat.{mod_below}
 use Rattle.bench_text.specs.BenchState.{BenchState, BrakesAsItSpeedsUp, IsBench, IsDrive, IsLineOf}
-use Rattle.bench_text.specs.Calls.{inputs_off}
-use Rattle.bench_text.specs.Drives.{plain_drive}
 use Rattle.bench_text.specs.declared.bench.BenchLine.{BenchLine}
 use Rattle.bench_text.specs.declared.bench.BenchLine.TheVariants.{Call, Cycles, End}
 use Rattle.command_pool.specs.Kinds.{acts_on_group}
+use Rattle.command_pool.specs.declared.kind.BlockKind.TheVariants.{MoveAbsolute}
 use Rattle.command_pool.specs.declared.kind.BufferMode.{BufferMode}
 use Rattle.command_pool.specs.declared.kind.BufferMode.TheVariants.{Aborting}
-use Rattle.command_pool.specs.declared.kind.BlockKind.TheVariants.{MoveAbsolute}
-use Rattle.fb_outputs.specs.Inputs.{AreInputs, IsTaken}
+use Rattle.fb_outputs.specs.Inputs.{AreInputs, inputs_off, IsTaken}
 use Rattle.fb_outputs.specs.declared.inputs.Inputs.{Inputs}
 use Rattle.motion_history.specs.Calls.{IsCall, count_in}
+use Rattle.motion_history.specs.Drives.{plain_drive}
 use Rattle.motion_history.specs.Setup.{IsSetup, Setup}
+use Rattle.motion_history.specs.declared.config.BlockDef.{BlockDef}
 use Rattle.motion_history.specs.declared.drives.DriveDef.{DriveDef}
 use Rattle.motion_history.specs.declared.refused.TraceVersion.TheVariants.{One}
-use Rattle.motion_history.specs.declared.config.BlockDef.{BlockDef}
 use Rattle.motion_numbers.specs.declared.TheConstants.{MOST_NUMBER}
 use Rattle.load_gen.specs.Counts.{LoadsFill, cycles_of, entries_of}
 use Rattle.load_gen.specs.Draws.{drawn, state_after}
 use Rattle.load_gen.specs.Load.{generated_bench, inputs_of, lines_from, lines_of, number_of}
-use Rattle.load_gen.specs.Machine.{axes, machine}
-use Rattle.load_gen.specs.Rounds.{round_from, rounds_from}
+use Rattle.load_gen.specs.Machine.{axes, greatest_acceleration, greatest_velocity, machine}
+use Rattle.load_gen.specs.Rounds.{positions, round_from, rounds_from}
 use Rattle.load_gen.specs.declared.round.Round.{Round}
+use Rattle.machine_words.proofs.Zeros.{zeros-at}
 use Rattle.load_gen.proofs.MachineLaws.{blocks-are, numbered}
 
 -- the lines of one round of those that are left
@@ -58,19 +57,14 @@ drawn-below n k x some = mod_below _ k some
 -- ---- the calls
 
 -- a list of one number and zeros is 0 behind its first
-zeros : (k n : ℕ) → slice_index_or (replicate k (pos 0)) n (pos 0) ≡ pos 0
-zeros zero n = refl
-zeros (suc k) zero = refl
-zeros (suc k) (suc n) = zeros k n
-
 place-small : (p : ℤ) (n : ℕ) → unsigned_abs p ≤ MOST_NUMBER →
     unsigned_abs (slice_index_or (p ∷ replicate 5 (pos 0)) n (pos 0)) ≤ MOST_NUMBER
 place-small p zero small = small
-place-small p (suc n) small = subst (λ z. unsigned_abs z ≤ MOST_NUMBER) (sym (zeros 5 n)) (lit≤ tt)
+place-small p (suc n) small = subst (λ z. unsigned_abs z ≤ MOST_NUMBER) (sym (zeros-at 5 n)) (lit≤ tt)
 
 place-none : (p : ℤ) (n : ℕ) → 1 ≤ n → slice_index_or (p ∷ replicate 5 (pos 0)) n (pos 0) ≡ pos 0
 place-none p zero some = absurd (omega arith)
-place-none p (suc n) some = zeros 5 n
+place-none p (suc n) some = zeros-at 5 n
 
 -- the inputs of a move of one axis
 abbrev move : Bool → ℤ → ℤ → ℤ → ℤ → BufferMode → Inputs
@@ -140,10 +134,10 @@ number-below x =
 on-is : (x : ℕ) → AreInputs MoveAbsolute 1 (inputs_of (round_from x))
 unfolding round_from
 on-is x =
-    let p = drawn-below 3 1100001 x (lit< tt) in
-    let v = drawn-below 4 1000000 x (lit< tt) in
-    let a = drawn-below 5 10000 x (lit< tt) in
-    let d = drawn-below 6 10000 x (lit< tt) in
+    let p = drawn-below 3 positions x (lit< tt) in
+    let v = drawn-below 4 greatest_velocity x (lit< tt) in
+    let a = drawn-below 5 greatest_acceleration x (lit< tt) in
+    let d = drawn-below 6 greatest_acceleration x (lit< tt) in
     move-is true _ _ _ _ _ (omega (arith, p)) (omega (arith, v)) (omega (arith, a)) (omega (arith, d))
 
 off-is : AreInputs MoveAbsolute 1 inputs_off

@@ -5,13 +5,13 @@ use Rattle.std.specs.List.{list_all, range_with_len}
 use Rattle.std.proofs.lemmas.List.FromFn.{get_or-range_with_len, length-range_with_len, map-range_with_len_more}
 use Rattle.std.proofs.lemmas.List.Sums.{AllPass-from_list_all}
 use Rattle.command_pool.specs.declared.kind.BlockKind.TheVariants.{MoveAbsolute}
-use Rattle.motion_history.specs.declared.fault.ConfigFault.{ConfigFault}
-use Rattle.motion_history.specs.declared.fault.ConfigFault.TheVariants.{OutOfMemory}
 use Rattle.motion_history.specs.Faults.{FaultsBy, axis_fault, block_fault, is_used, task_fault}
 use Rattle.motion_history.specs.Ranges.{is_axis_range}
 use Rattle.motion_history.specs.Setup.{Setup}
 use Rattle.motion_history.specs.declared.config.BlockDef.{BlockDef}
-use Rattle.load_gen.specs.Machine.{axes, axis_limits, axis_of, bare, block_of, blocks, digit, machine}
+use Rattle.motion_history.specs.declared.fault.ConfigFault.{ConfigFault}
+use Rattle.motion_history.specs.declared.fault.ConfigFault.TheVariants.{OutOfMemory}
+use Rattle.load_gen.specs.Machine.{axes, axis_limits, axis_of, bare, block_of, blocks, digit, first_place, machine}
 
 -- what passes at all numbers below n passes at each
 passes-at : (p : ℕ → Bool) (n i : ℕ) → list_all p (range_with_len 0 n) ≡ true → i < n → p i ≡ true
@@ -32,14 +32,14 @@ with_axes i = record bare { axes = map axis_of (range_with_len 0 i) }
 -- whether the next axis is not refused
 abbrev is_new_axis : ℕ → Bool
 is_new_axis i =
-    is_none (axis_fault (with_axes i) (codes "G" ++ digit i ∷ []) axis_limits (pos 1000) (pos 500000000))
+    is_none (axis_fault (with_axes i) (codes "G" ++ digit i ∷ []) axis_limits (pos 1000) (pos first_place))
 
 all-new-axes : list_all is_new_axis (range_with_len 0 8) ≡ true
 unfolding axis_fault is_used is_axis_range
 all-new-axes = refl
 
 pub new-axis : (i : ℕ) → i < 8 →
-    axis_fault (with_axes i) (codes "G" ++ digit i ∷ []) axis_limits (pos 1000) (pos 500000000) ≡ None
+    axis_fault (with_axes i) (codes "G" ++ digit i ∷ []) axis_limits (pos 1000) (pos first_place) ≡ None
 new-axis i lt = none-is _ (passes-at is_new_axis 8 i all-new-axes lt)
 
 -- ---- blocks
@@ -78,11 +78,11 @@ only-memory (Some f) e faults none = absurd (cc)
 only-memory None e faults none = faults
 
 pub axis-only : (s : Setup) (i : ℕ) (e : ConfigFault) → s ≡ with_axes i → i < 8 →
-    FaultsBy {A = ℕ} (axis_fault s (codes "G" ++ digit i ∷ []) axis_limits (pos 1000) (pos 500000000)) (Err e) →
+    FaultsBy {A = ℕ} (axis_fault s (codes "G" ++ digit i ∷ []) axis_limits (pos 1000) (pos first_place)) (Err e) →
     e ≡ OutOfMemory
 axis-only s i e is lt faults =
     only-memory _ e faults
-    (ap (λ m. axis_fault m (codes "G" ++ digit i ∷ []) axis_limits (pos 1000) (pos 500000000)) is ∙ new-axis i lt)
+    (ap (λ m. axis_fault m (codes "G" ++ digit i ∷ []) axis_limits (pos 1000) (pos first_place)) is ∙ new-axis i lt)
 
 pub block-only : (s : Setup) (n : ℕ) (e : ConfigFault) → s ≡ with_blocks n → n < 32 →
     FaultsBy {A = ℕ} (block_fault s (codes "M" ++ digit (n / 4) ∷ digit (n % 4) ∷ []) 0 MoveAbsolute (n / 4)) (Err e) →

@@ -2,9 +2,17 @@
 -- are drawn. This project's profile.
 use Rattle.std.specs.Prelude.{ℕ, zero, suc, ◌+◌, ◌*◌, ◌/◌, ◌%◌, ◌^◌}
 
+-- what a state is multiplied by
+abbrev pub multiplier : ℕ
+multiplier = 6364136223846793005
+
+-- what is then added to it
+abbrev pub increment : ℕ
+increment = 1442695040888963407
+
 -- the state after another
 abbrev pub next_state : ℕ → ℕ
-next_state x = (x * 6364136223846793005 + 1442695040888963407) % 2 ^ 64
+next_state x = (x * multiplier + increment) % 2 ^ 64
 
 -- the state after so many draws
 abbrev pub state_after : ℕ → ℕ → ℕ

@@ -12,14 +12,30 @@ use Rattle.motion_history.specs.declared.config.BlockDef.{BlockDef}
 abbrev pub digit : ℕ → ℕ
 digit n = 48 + n
 
+-- the highest place of an axis, in internal units
+abbrev pub highest_place : ℕ
+highest_place = 1000000000
+
+-- the place where an axis stands at first, in internal units
+abbrev pub first_place : ℕ
+first_place = 500000000
+
+-- the greatest velocity of an axis, in internal units per cycle
+abbrev pub greatest_velocity : ℕ
+greatest_velocity = 1000000
+
+-- the greatest acceleration and deceleration of an axis, in internal units per cycle squared
+abbrev pub greatest_acceleration : ℕ
+greatest_acceleration = 10000
+
 -- the limits of each axis
 abbrev pub axis_limits : Limits
 axis_limits = record {
   lo = pos 0;
-  hi = pos 1000000000;
-  vmax = pos 1000000;
-  amax = pos 10000;
-  dmax = pos 10000;
+  hi = pos highest_place;
+  vmax = pos greatest_velocity;
+  amax = pos greatest_acceleration;
+  dmax = pos greatest_acceleration;
 }
 
 -- the axis Gi
@@ -28,7 +44,7 @@ axis_of i = record {
   name = codes "G" ++ digit i ∷ [];
   limits = axis_limits;
   inc = pos 1000;
-  start = pos 500000000;
+  start = pos first_place;
   ready = true;
 }
 

@@ -1,16 +1,16 @@
 // The generated load.
 
 ghost use Rattle.std.specs.Prelude.{◌≡◌, ◌++◌, IfOk, OnOk, replicate};
-ghost use Rattle.bench_text.specs.Drives.{plain_drive};
+ghost use Rattle.motion_history.specs.Drives as plain;
 ghost use Rattle.load_gen.specs.Load as spec;
 
 use crate::draws::Draws;
 use crate::machine::{AXES, BLOCKS, machine};
 use crate::round::{Round, draw_round};
 use bench_text::{Bench, BenchLine};
-use motion_history::{
-    BufferMode, DriveDef, DriveDefs, FaultList, Inputs, MOST_MEMBERS, OutOfMemory, TraceVersion,
-};
+use fb_outputs::{INPUTS_OFF, Inputs};
+use machine_words::plain_drive;
+use motion_history::{DriveDefs, MOST_MEMBERS, OutOfMemory, TraceVersion};
 use std::alloc::{AllocError, Global};
 
 /// How many rounds there are.
@@ -21,21 +21,6 @@ const LINES: usize = 3;
 
 /// The cycles of a round.
 const CYCLES: u32 = 5;
-
-/// The inputs of a call with Execute false.
-const OFF: Inputs = Inputs {
-    execute: false,
-    positions: [0; MOST_MEMBERS],
-    velocity: 0,
-    acceleration: 0,
-    deceleration: 0,
-    jerk: 0,
-    mode: BufferMode::Aborting,
-    master: 0,
-    numerator: 1,
-    denominator: 1,
-    table: 0,
-};
 
 /// The bench that a seed generates: 2,000 rounds on a machine of eight axes. It takes memory for
 /// the bench alone.
@@ -53,14 +38,11 @@ pub fn generate(alloc: Global, seed: u32) -> Result<Bench, OutOfMemory>
 
 // A drive without a lag and faults for each axis.
 fn plain_drives(alloc: Global) -> Result<DriveDefs, OutOfMemory>
-    ensures { IfOk result (λ drives. drives ≡ replicate 8 plain_drive) }
+    ensures { IfOk result (λ drives. drives ≡ replicate 8 plain.plain_drive) }
 {
     let mut drives = DriveDefs::new(alloc);
     for _ in 0..AXES {
-        drives.push(DriveDef {
-            lag: 0,
-            faults: FaultList::new(alloc),
-        })?;
+        drives.push(plain_drive(alloc))?;
     }
     Ok(drives)
 }
@@ -89,7 +71,7 @@ fn push_round(lines: &mut Vec<BenchLine>, round: &Round) -> Result<(), AllocErro
     let inputs = inputs_of(round);
     lines.push(BenchLine::Call {
         instance,
-        inputs: OFF,
+        inputs: INPUTS_OFF,
     })?;
     lines.push(BenchLine::Call { instance, inputs })?;
     lines.push(BenchLine::Cycles { count: CYCLES })?;
@@ -109,6 +91,6 @@ fn inputs_of(round: &Round) -> Inputs
         acceleration: i64::from(round.acceleration),
         deceleration: i64::from(round.deceleration),
         mode: round.mode,
-        ..OFF
+        ..INPUTS_OFF
     }
 }

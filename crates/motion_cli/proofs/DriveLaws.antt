@@ -6,7 +6,7 @@ use Rattle.std.proofs.lemmas.Bool.{and_parts, ltb-true}
 use Rattle.axis_state.specs.declared.definition.AxisDef.{AxisDef}
 use Rattle.axis_state.specs.declared.definition.AxisRow.{AxisRow}
 use Rattle.cia402_machine.specs.declared.drive.DriveOut.{DriveOut}
-use Rattle.bench_text.specs.Drives.{rise_above}
+use Rattle.motion_history.specs.Drives.{rise_above}
 use Rattle.drive_sim.specs.Faults.{RisesAbove}
 use Rattle.drive_sim.specs.Runs.{drive_after}
 use Rattle.drive_sim.specs.Sim.{DriveSim}

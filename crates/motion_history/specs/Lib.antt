@@ -12,3 +12,5 @@ pub mod Calls
 pub mod AxisRanges
 pub mod Configurations
 pub mod Columns
+pub mod NameTexts
+pub mod Drives

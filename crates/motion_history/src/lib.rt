@@ -19,6 +19,7 @@ mod history_tests;
 mod laws;
 mod names;
 mod refused;
+mod shown;
 mod sizes;
 mod tables;
 #[cfg(test)]
@@ -38,6 +39,7 @@ pub use history::History;
 pub use laws::{axes_are_in_range, configurations_are_sound, cycles_add_up};
 pub use out_of_memory::OutOfMemory;
 pub use refused::{Rule, TextFault, TextRefused, TraceVersion};
+pub use shown::{axis_name, name_text};
 pub use sizes::{
     MOST_AXES, MOST_BLOCKS, MOST_CYCLES, MOST_ENTRIES, MOST_FAULTS, MOST_GROUPS, MOST_LAG,
     MOST_MEMBERS, MOST_TABLES, MOST_TASKS,

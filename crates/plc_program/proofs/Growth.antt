@@ -14,7 +14,7 @@ use Rattle.motion_history.specs.declared.config.GroupDef.{GroupDef}
 use Rattle.plc_program.specs.Programs.{AreTasksOf, IsBlockOf, IsLineOf}
 use Rattle.plc_program.specs.declared.program.Instruction.{Instruction}
 use Rattle.plc_program.specs.declared.program.Instruction.TheVariants.{Call, Wait, Repeat, Again}
-use Rattle.plc_program.proofs.Lists.{all-push}
+use Rattle.machine_words.proofs.Lists.{all-push}
 
 -- a machine has got more blocks
 pub record Grows (s t : Setup) : Type 0 where

@@ -1,26 +1,33 @@
 -- What always holds of a program as far as it was read is kept by each line.
-use Rattle.std.proofs.Common.{◌≡◌, ℕ, ◌+◌, ◌<◌, ◌≤◌, ℤ, Bool, true, false, Some, Result, Ok, Err, List, [], ◌∷◌, ◌++◌, length, refl, sym, ◌∙◌, ap, subst, arith, inl, inr, lit≤}
-use Rattle.std.specs.Prelude.{◌==◌, ◌||◌, OnOk, cond, int_le, nat_lt, not, pos, slice_get, unsigned_abs}
+use Rattle.std.proofs.Common.{◌≡◌, ℕ, ◌+◌, ◌<◌, ◌≤◌, Bool, true, false, Some, Result, Ok, Err, List, [], ◌∷◌, ◌++◌, length, refl, sym, ◌∙◌, ap, subst, arith, inl, inr, lit≤}
+use Rattle.std.specs.Prelude.{◌==◌, ◌||◌, OnOk, cond, nat_lt, not, slice_get}
 use Rattle.std.specs.List.{AllByRecursion}
 use Rattle.std.specs.Option.{ok_or}
-use Rattle.std.proofs.lemmas.Bool.{and_parts, cases_Bool, ltb-true}
-use Rattle.std.proofs.lemmas.Int.{ints}
-use Rattle.std.proofs.lemmas.List.{append-nil}
+use Rattle.std.proofs.lemmas.Bool.{and_parts, cases_Bool, ltb-true, not-true}
+use Rattle.std.proofs.lemmas.List.{append-nil, length-append}
 use Rattle.fb_outputs.specs.declared.inputs.Inputs.{Inputs}
 use Rattle.line_text.specs.Lines.{lines_of}
 use Rattle.line_text.specs.Reading.{◌>>=◌, at_line, line_meaning, lines_meaning, text_meaning}
 use Rattle.line_text.specs.Words.{is_clean, words_of}
+use Rattle.line_text.specs.Rules.{broken_unless, in_range}
+use Rattle.machine_words.specs.Fit.{InputsAreFit}
+use Rattle.machine_words.specs.Inputs.{inputs_by, is_off}
+use Rattle.machine_words.specs.Items.{task_meaning}
+use Rattle.machine_words.specs.Names.{kind_of, object_named}
+use Rattle.machine_words.specs.Numbers.{number}
+use Rattle.machine_words.specs.Rules.{broken_by, rule_of}
+use Rattle.machine_words.specs.Units.{IsCycle}
+use Rattle.machine_words.specs.declared.rule.TheConstants.{NO_VALUE, NO_VERSION, OUT_OF_PLACE, OUT_OF_RANGE, TOO_MANY, WRONG_COUNT, WRONG_NAME}
+use Rattle.machine_words.specs.declared.units.Units.TheVariants.{User}
 use Rattle.motion_history.specs.Faults.{block_fault, name_fault, task_fault}
 use Rattle.motion_history.specs.Setup.{Setup}
 use Rattle.motion_history.specs.declared.config.BlockDef.{BlockDef}
-use Rattle.plc_program.specs.Calls.{call_meaning, inputs_by, is_off}
+use Rattle.plc_program.specs.Calls.{call_meaning}
 use Rattle.plc_program.specs.Forms.{form_of, is_counted}
-use Rattle.plc_program.specs.Lines.{block_meaning, flag_named, repeat_meaning, task_meaning, wait_meaning}
-use Rattle.plc_program.specs.Named.{block_named, kind_of, object_named}
+use Rattle.plc_program.specs.Lines.{block_meaning, flag_named, repeat_meaning, wait_meaning}
+use Rattle.plc_program.specs.Named.{block_named}
 use Rattle.plc_program.specs.Programs.{AreTasksOf, IsBehindItsCall, IsCounted, IsLineOf, IsTask, is_called, repeating_after}
-use Rattle.plc_program.specs.Quantities.{IsCycle, in_range, is_from_to, number}
 use Rattle.plc_program.specs.Reading.{blocks_meaning, form_in, is_repeating, is_version, later_meaning, line_added, may_stand, meaning, opening, tasks_meaning, version_meaning, with_line, words_meaning}
-use Rattle.plc_program.specs.Rules.{broken_by, broken_unless}
 use Rattle.plc_program.specs.SoFar.{SoFar, has_task, task_of, tasks_of}
 use Rattle.plc_program.specs.UnderWay.{IsSoFar}
 use Rattle.plc_program.specs.declared.form.Form.{Form}
@@ -28,18 +35,13 @@ use Rattle.plc_program.specs.declared.form.Form.TheVariants as form
 use Rattle.plc_program.specs.declared.program.Instruction.{Instruction}
 use Rattle.plc_program.specs.declared.program.Instruction.TheVariants.{Call, Wait, Repeat, Again}
 use Rattle.plc_program.specs.declared.program.TheConstants.{MOST_INSTRUCTIONS, MOST_TIMES}
-use Rattle.plc_program.specs.declared.rule.TheConstants.{NO_VALUE, NO_VERSION, OUT_OF_PLACE, OUT_OF_RANGE, TOO_MANY, WRONG_COUNT, WRONG_NAME}
 use Rattle.plc_program.proofs.Calls.{block-own, call-line}
-use Rattle.plc_program.proofs.Given.{AreSmall}
-use Rattle.plc_program.proofs.Lists.{all-push, behind-push, length-push, repeats-join, some-push, unempty}
+use Rattle.plc_program.proofs.Lists.{behind-push, repeats-join, some-push, unempty}
 use Rattle.plc_program.proofs.Growth.{Grows, tasks-grow, tasks-line, tasks-more}
-use Rattle.plc_program.proofs.Results.{bind_ok, holds, line-ok, ok_is}
+use Rattle.line_text.proofs.Results.{bind_ok, holds, in_range-within, line-ok, ok_is}
+use Rattle.machine_words.proofs.Lists.{all-push}
 
 -- ---- where lines may stand
-
-not_true : (b : Bool) → not b ≡ true → b ≡ false
-not_true true h = absurd (cc)
-not_true false h = refl
 
 -- the tasks so far, where one is under way
 tasks-are : (s : SoFar) → has_task s ≡ true → tasks_of s ≡ s.before ++ s.lines ∷ []
@@ -49,7 +51,7 @@ tasks-are s h = rw h refl
 task-number : (first : Setup) (s : SoFar) → IsSoFar first s → has_task s ≡ true → task_of s ≡ length s.before
 task-number first s k h =
     let e : length (s.before ++ s.lines ∷ []) ≡ length s.setup.tasks = ap length (sym (tasks-are s h)) ∙ k.each in
-    let p = length-push s.before s.lines in
+    let p = length-append s.before (s.lines ∷ []) in
     omega (arith, e, p)
 
 -- ---- lines of instructions
@@ -67,9 +69,9 @@ line-kept first s t l k under is h =
     let few = bind_ok (broken_unless (nat_lt (length s.lines) MOST_INSTRUCTIONS) TOO_MANY) _ t h in
     let room : length s.lines < MOST_INSTRUCTIONS = ltb-true _ _ (holds (nat_lt (length s.lines) MOST_INSTRUCTIONS) TOO_MANY few.0 few.1) in
     let u : SoFar = record s { lines = s.lines ++ l ∷ []; repeating = is_repeating s.repeating l } in
-    let longer = length-push s.lines l in
+    let longer = length-append s.lines (l ∷ []) in
     let before : length (s.before ++ s.lines ∷ []) ≡ length s.setup.tasks = ap length (sym (tasks-are s under)) ∙ k.each in
-    let same : length (s.before ++ (s.lines ++ l ∷ []) ∷ []) ≡ length (s.before ++ s.lines ∷ []) = length-push s.before (s.lines ++ l ∷ []) ∙ sym (length-push s.before s.lines) in
+    let same : length (s.before ++ (s.lines ++ l ∷ []) ∷ []) ≡ length (s.before ++ s.lines ∷ []) = length-append s.before ((s.lines ++ l ∷ []) ∷ []) ∙ sym (length-append s.before (s.lines ∷ [])) in
     let number = task-number first s k under in
     let at : task_of s ≡ 0 + length s.before = omega (arith, number) in
     subst (λ q. IsSoFar first q) (ok_is (Ok u) u t refl few.2) (record {
@@ -107,15 +109,15 @@ call-is s (name ∷ []) l h = absurd (cc)
 call-is s (name ∷ state ∷ words) l h =
     let few = bind_ok (broken_unless (not (is_off state) || (length words == 0)) WRONG_COUNT) _ l h in
     let k = bind_ok (block_named s.setup (task_of s) name) _ l few.2 in
-    let b = bind_ok (ok_or (slice_get s.setup.blocks k.0) WRONG_NAME) (λ b. inputs_by s b state words >>= λ i. Ok (Call k.0 i)) l k.2 in
-    let i = bind_ok (inputs_by s b.0 state words) _ l b.2 in
+    let b = bind_ok (ok_or (slice_get s.setup.blocks k.0) WRONG_NAME) (λ b. inputs_by (User s.cycle_us) s.setup b state words >>= λ i. Ok (Call k.0 i)) l k.2 in
+    let i = bind_ok (inputs_by (User s.cycle_us) s.setup b.0 state words) _ l b.2 in
     record { block = k.0; inputs = i.0; is = sym (ok_is (Ok (Call k.0 i.0)) (Call k.0 i.0) l refl i.2) }
 
-call-next : AreSmall → (first : Setup) (s : SoFar) (words : List (List ℕ)) (l : Instruction) → IsSoFar first s → call_meaning s words ≡ Ok l → IsNext s l
-call-next small first s words l k h =
+call-next : InputsAreFit → (first : Setup) (s : SoFar) (words : List (List ℕ)) (l : Instruction) → IsSoFar first s → call_meaning s words ≡ Ok l → IsNext s l
+call-next fit first s words l k h =
     let c = call-is s words l h in
     record {
-      own = λ some. call-line small s words l k.cycle some h;
+      own = λ some. call-line fit s words l k.cycle some h;
       counted = subst (λ q. IsCounted q) (sym c.is) tt;
       behind = subst (λ q. IsBehindItsCall s.lines q) (sym c.is) tt;
       follows = subst (λ q. repeating_after s.repeating (q ∷ []) ≡ Some (is_repeating s.repeating q)) (sym c.is) refl;
@@ -137,29 +139,13 @@ wait-next s (name ∷ word ∷ []) l h =
     })
 wait-next s (name ∷ word ∷ other ∷ more) l h = absurd (cc)
 
--- a number lies in its range
-record IsWithinRange (least most n : ℕ) : Type 0 where
-  above : least ≤ n
-  below : n ≤ most
-
-range_of : (b : Bool) (least most : ℕ) (z : ℤ) (n : ℕ) → is_from_to least most z ≡ b → cond b (Ok (unsigned_abs z)) (Err OUT_OF_RANGE) ≡ Ok n → IsWithinRange least most n
-range_of true least most z n is h =
-    let e : unsigned_abs z ≡ n = ok_is (Ok (unsigned_abs z)) (unsigned_abs z) n refl h in
-    let parts = and_parts (int_le (pos least) z) (int_le z (pos most)) is in
-    record { above = omega (arith, ints, parts.0, e); below = omega (arith, ints, parts.0, parts.1, e) }
-range_of false least most z n is h = absurd (cc)
-
-in_range-within : (least most : ℕ) (z : ℤ) (n : ℕ) → in_range least most z ≡ Ok n → IsWithinRange least most n
-unfolding in_range
-in_range-within least most z n h = range_of (is_from_to least most z) least most z n refl h
-
 repeat-next : (s : SoFar) (words : List (List ℕ)) (l : Instruction) → s.repeating ≡ false → repeat_meaning words ≡ Ok l → IsNext s l
 unfolding repeat_meaning
 repeat-next s [] l out h = absurd (cc)
 repeat-next s (word ∷ []) l out h =
     let z = bind_ok (number word) _ l h in
-    let n = bind_ok (in_range 1 MOST_TIMES z.0) _ l z.2 in
-    let within = in_range-within 1 MOST_TIMES z.0 n.0 n.1 in
+    let n = bind_ok (in_range 1 MOST_TIMES OUT_OF_RANGE z.0) _ l z.2 in
+    let within = in_range-within 1 MOST_TIMES OUT_OF_RANGE z.0 n.0 n.1 in
     subst (λ q. IsNext s q) (ok_is (Ok (Repeat n.0)) (Repeat n.0) l refl n.2) (record {
       own = λ some. tt;
       counted = (within.above, within.below);
@@ -190,14 +176,14 @@ unfolding tasks_meaning task_meaning
 tasks-kept first s t [] k out h = absurd (cc)
 tasks-kept first s t (name ∷ []) k out h =
     let m = bind_ok (task_meaning s.setup (name ∷ [])) _ t h in
-    let free = bind_ok (broken_by (task_fault s.setup name)) _ m.0 m.1 in
+    let free = bind_ok (broken_by rule_of (task_fault s.setup name)) _ m.0 m.1 in
     let u : Setup = record s.setup { tasks = s.setup.tasks ++ name ∷ [] } in
     let is : u ≡ m.0 = ok_is (Ok u) u m.0 refl free.2 in
     let v : SoFar = record s { setup = u; before = tasks_of s; lines = [] } in
     let next : Setup → Result SoFar ℕ = λ q. Ok (record s { setup = q; before = tasks_of s; lines = [] }) in
     let e : Ok v ≡ Ok t = subst (λ (q : Setup). next q ≡ Ok t) (sym is) m.2 in
     let under : has_task v ≡ true = some-push s.setup.tasks name in
-    let counted : length (tasks_of s ++ [] ∷ []) ≡ length u.tasks = length-push (tasks_of s) [] ∙ ap (λ n. n + 1) k.each ∙ sym (length-push s.setup.tasks name) in
+    let counted : length (tasks_of s ++ [] ∷ []) ≡ length u.tasks = length-append (tasks_of s) ([] ∷ []) ∙ ap (λ n. n + 1) k.each ∙ sym (length-append s.setup.tasks (name ∷ [])) in
     let g : Grows s.setup u = record { axes = refl; groups = refl; more = []; blocks = sym (append-nil s.setup.blocks) } in
     subst (λ q. IsSoFar first q) (ok_is (Ok v) v t refl e) (record {
       cycle = k.cycle;
@@ -224,10 +210,10 @@ block-adds s task [] u h = absurd (cc)
 block-adds s task (name ∷ []) u h = absurd (cc)
 block-adds s task (name ∷ of_kind ∷ []) u h = absurd (cc)
 block-adds s task (name ∷ of_kind ∷ of_object ∷ []) u h =
-    let free = bind_ok (broken_by (name_fault s name)) _ u h in
+    let free = bind_ok (broken_by rule_of (name_fault s name)) _ u h in
     let kind = bind_ok (kind_of of_kind) _ u free.2 in
     let object = bind_ok (object_named s kind.0 of_object) _ u kind.2 in
-    let fits = bind_ok (broken_by (block_fault s name task kind.0 object.0)) _ u object.2 in
+    let fits = bind_ok (broken_by rule_of (block_fault s name task kind.0 object.0)) _ u object.2 in
     let b : BlockDef = record { name = name; task = task; kind = kind.0; object = object.0 } in
     let v : Setup = record s { blocks = s.blocks ++ b ∷ [] } in
     record { block = b; is = sym (ok_is (Ok v) v u refl fits.2) }
@@ -258,16 +244,16 @@ blocks-kept first s t words k h =
 
 -- ---- lines
 
-words-kept : AreSmall → (first : Setup) (s t : SoFar) (f : Form) (words : List (List ℕ)) → IsSoFar first s → may_stand s f ≡ true → words_meaning s f words ≡ Ok t → IsSoFar first t
+words-kept : InputsAreFit → (first : Setup) (s t : SoFar) (f : Form) (words : List (List ℕ)) → IsSoFar first s → may_stand s f ≡ true → words_meaning s f words ≡ Ok t → IsSoFar first t
 unfolding words_meaning may_stand
-words-kept small first s t form.Task words k p h = tasks-kept first s t words k (not_true s.repeating p) h
-words-kept small first s t form.Block words k p h = blocks-kept first s t words k h
-words-kept small first s t form.Call words k p h = with_line-kept first s t (call_meaning s words) k p (λ l e. call-next small first s words l k e) h
-words-kept small first s t form.Wait words k p h = with_line-kept first s t (wait_meaning s words) k p (λ l e. wait-next s words l e) h
-words-kept small first s t form.Repeat words k p h =
+words-kept fit first s t form.Task words k p h = tasks-kept first s t words k (not-true s.repeating p) h
+words-kept fit first s t form.Block words k p h = blocks-kept first s t words k h
+words-kept fit first s t form.Call words k p h = with_line-kept first s t (call_meaning s words) k p (λ l e. call-next fit first s words l k e) h
+words-kept fit first s t form.Wait words k p h = with_line-kept first s t (wait_meaning s words) k p (λ l e. wait-next s words l e) h
+words-kept fit first s t form.Repeat words k p h =
     let parts = and_parts (has_task s) (not s.repeating) p in
-    with_line-kept first s t (repeat_meaning words) k parts.0 (λ l e. repeat-next s words l (not_true s.repeating parts.1) e) h
-words-kept small first s t form.Again words k p h =
+    with_line-kept first s t (repeat_meaning words) k parts.0 (λ l e. repeat-next s words l (not-true s.repeating parts.1) e) h
+words-kept fit first s t form.Again words k p h =
     let parts = and_parts (has_task s) s.repeating p in
     line-kept first s t Again k parts.0 (again-next s parts.1) h
 
@@ -279,12 +265,12 @@ form-stands s first words f h =
     let count = bind_ok (broken_unless (is_counted g.0 (length words)) WRONG_COUNT) _ f place.2 in
     subst (λ q. may_stand s q ≡ true) (ok_is (Ok g.0) g.0 f refl count.2) (holds (may_stand s g.0) OUT_OF_PLACE place.0 place.1)
 
-later-kept : AreSmall → (setup : Setup) (s t : SoFar) (words : List (List ℕ)) → IsSoFar setup s → later_meaning s words ≡ Ok t → IsSoFar setup t
+later-kept : InputsAreFit → (setup : Setup) (s t : SoFar) (words : List (List ℕ)) → IsSoFar setup s → later_meaning s words ≡ Ok t → IsSoFar setup t
 unfolding later_meaning
-later-kept small setup s t [] k h = subst (λ q. IsSoFar setup q) (ok_is (Ok s) s t refl h) k
-later-kept small setup s t (first ∷ words) k h =
+later-kept fit setup s t [] k h = subst (λ q. IsSoFar setup q) (ok_is (Ok s) s t refl h) k
+later-kept fit setup s t (first ∷ words) k h =
     let f = bind_ok (form_in s first words) (λ g. words_meaning s g words) t h in
-    words-kept small setup s t f.0 words k (form-stands s first words f.0 f.1) f.2
+    words-kept fit setup s t f.0 words k (form-stands s first words f.0 f.1) f.2
 
 version-kept : (first : Setup) (s t : SoFar) (words : List (List ℕ)) → IsSoFar first s → version_meaning s words ≡ Ok t → IsSoFar first t
 unfolding version_meaning
@@ -304,34 +290,34 @@ version-kept first s t words k h =
       tasks = k.tasks;
     })
 
-meaning_by : AreSmall → (first : Setup) (s t : SoFar) (words : List (List ℕ)) (begun : Bool) → IsSoFar first s →
+meaning_by : InputsAreFit → (first : Setup) (s t : SoFar) (words : List (List ℕ)) (begun : Bool) → IsSoFar first s →
     cond begun (later_meaning s words) (version_meaning s words) ≡ Ok t → IsSoFar first t
-meaning_by small first s t words true k h = later-kept small first s t words k h
-meaning_by small first s t words false k h = version-kept first s t words k h
+meaning_by fit first s t words true k h = later-kept fit first s t words k h
+meaning_by fit first s t words false k h = version-kept first s t words k h
 
 -- a line keeps what holds
-meaning-kept : AreSmall → (first : Setup) (s t : SoFar) (words : List (List ℕ)) → IsSoFar first s → meaning s words ≡ Ok t → IsSoFar first t
+meaning-kept : InputsAreFit → (first : Setup) (s t : SoFar) (words : List (List ℕ)) → IsSoFar first s → meaning s words ≡ Ok t → IsSoFar first t
 unfolding meaning
-meaning-kept small first s t words k h = meaning_by small first s t words s.begun k h
+meaning-kept fit first s t words k h = meaning_by fit first s t words s.begun k h
 
 -- ---- texts
 
-line_meaning-kept : AreSmall → (first : Setup) (s t : SoFar) (text : List ℕ) → IsSoFar first s → line_meaning meaning s text ≡ Ok t → IsSoFar first t
+line_meaning-kept : InputsAreFit → (first : Setup) (s t : SoFar) (text : List ℕ) → IsSoFar first s → line_meaning meaning s text ≡ Ok t → IsSoFar first t
 unfolding line_meaning
-line_meaning-kept small first s t text k h =
+line_meaning-kept fit first s t text k h =
     elim (cases_Bool (is_clean text)) [
       | inl clean ↦ elim (cases_Bool (length (words_of text) == 0)) [
         | inl none ↦ let e : Ok s ≡ Ok t = rw (clean, none) at h in subst (λ q. IsSoFar first q) (ok_is (Ok s) s t refl e) k
-        | inr some ↦ let e : meaning s (words_of text) ≡ Ok t = rw (clean, some) at h in meaning-kept small first s t (words_of text) k e
+        | inr some ↦ let e : meaning s (words_of text) ≡ Ok t = rw (clean, some) at h in meaning-kept fit first s t (words_of text) k e
       ]
       | inr other ↦ let e : Err 1 ≡ Ok t = rw other at h in absurd (cc)
     ]
 
-lines-kept : AreSmall → (first : Setup) (n : ℕ) (s t : SoFar) (lines : List (List ℕ)) → IsSoFar first s → lines_meaning meaning n s lines ≡ Ok t → IsSoFar first t
-lines-kept small first n s t [] k h = let e : s ≡ t = cc in subst (λ q. IsSoFar first q) e k
-lines-kept small first n s t (text ∷ more) k h =
+lines-kept : InputsAreFit → (first : Setup) (n : ℕ) (s t : SoFar) (lines : List (List ℕ)) → IsSoFar first s → lines_meaning meaning n s lines ≡ Ok t → IsSoFar first t
+lines-kept fit first n s t [] k h = let e : s ≡ t = cc in subst (λ q. IsSoFar first q) e k
+lines-kept fit first n s t (text ∷ more) k h =
     let u = bind_ok (at_line (n + 1) (line_meaning meaning s text)) (λ u. lines_meaning meaning (n + 1) u more) t h in
-    lines-kept small first (n + 1) u.0 t more (line_meaning-kept small first s u.0 text k (line-ok (line_meaning meaning s text) (n + 1) u.0 u.1)) u.2
+    lines-kept fit first (n + 1) u.0 t more (line_meaning-kept fit first s u.0 text k (line-ok (line_meaning meaning s text) (n + 1) u.0 u.1)) u.2
 
 opening-kept : (cycle_us : ℕ) (first : Setup) → IsCycle cycle_us → first.tasks ≡ [] → IsSoFar first (opening cycle_us first)
 unfolding opening
@@ -349,10 +335,10 @@ opening-kept cycle_us first cycle none = record {
 }
 
 -- a text leads to what holds
-pub text-kept : AreSmall → (cycle_us : ℕ) (first : Setup) (s t : SoFar) (text : List ℕ) → IsCycle cycle_us → first.tasks ≡ [] → s ≡ opening cycle_us first →
+pub text-kept : InputsAreFit → (cycle_us : ℕ) (first : Setup) (s t : SoFar) (text : List ℕ) → IsCycle cycle_us → first.tasks ≡ [] → s ≡ opening cycle_us first →
     text_meaning meaning s text ≡ Ok t → IsSoFar first t
 unfolding text_meaning
-text-kept small cycle_us first s t text cycle none is h = lines-kept small first 0 s t (lines_of text) (rw is (opening-kept cycle_us first cycle none)) h
+text-kept fit cycle_us first s t text cycle none is h = lines-kept fit first 0 s t (lines_of text) (rw is (opening-kept cycle_us first cycle none)) h
 
 -- what holds anyway
 pub on-ok : {A E P : Type 0} (r : Result A E) → P → OnOk r P

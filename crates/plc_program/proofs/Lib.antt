@@ -1,8 +1,3 @@
-pub mod Results
-pub mod Texts
-pub mod Each
-pub mod Positions
-pub mod Given
 pub mod Calls
 pub mod Lists
 pub mod Growth

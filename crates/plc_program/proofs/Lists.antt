@@ -1,27 +1,18 @@
 -- Lists of instructions with one more at their end.
 use Rattle.std.proofs.Common.{◌≡◌, ℕ, ◌+◌, Bool, true, false, Some, List, [], ◌∷◌, ◌++◌, length, refl, sym, ap, subst, append_assoc, arith}
 use Rattle.std.proofs.lemmas.Bool.{le-leb}
-use Rattle.std.proofs.lemmas.List.{append-nil}
+use Rattle.std.proofs.lemmas.List.{append-nil, length-append}
 use Rattle.std.specs.Prelude.{nat_le}
-use Rattle.std.specs.List.{AllByRecursion}
 use Rattle.plc_program.specs.Programs.{AreBehindTheirCalls, IsBehindItsCall, repeating_after}
 use Rattle.plc_program.specs.declared.program.Instruction.{Instruction}
 use Rattle.plc_program.specs.declared.program.Instruction.TheVariants.{Call, Wait, Repeat, Again}
-
-pub all-push : {A : Type 0} (P : A → Type 0) (xs : List A) (x : A) → AllByRecursion P xs → P x → AllByRecursion P (xs ++ x ∷ [])
-all-push P [] x h p = (p, tt)
-all-push P (y ∷ ys) x h p = (h.0, all-push P ys x h.1 p)
-
-pub length-push : {A : Type 0} (xs : List A) (x : A) → length (xs ++ x ∷ []) ≡ length xs + 1
-length-push [] x = refl
-length-push (y ∷ ys) x = let h = length-push ys x in omega (arith, h)
 
 some_more : (n m : ℕ) → n ≡ m + 1 → nat_le 1 n ≡ true
 some_more n m h = le-leb _ _ (omega (arith, h))
 
 pub some-push : {A : Type 0} (xs : List A) (x : A) → nat_le 1 (length (xs ++ x ∷ [])) ≡ true
 some-push [] x = refl
-some-push (y ∷ ys) x = some_more (length (y ∷ ys ++ x ∷ [])) (length (y ∷ ys)) (length-push (y ∷ ys) x)
+some-push (y ∷ ys) x = some_more (length (y ∷ ys ++ x ∷ [])) (length (y ∷ ys)) (length-append (y ∷ ys) (x ∷ []))
 
 -- a list that has an item is not empty
 pub unempty : {A : Type 0} (xs : List A) → xs ≡ [] → nat_le 1 (length xs) ≡ true → ⊥

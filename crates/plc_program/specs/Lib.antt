@@ -1,11 +1,7 @@
 pub mod Programs
 pub mod Forms
-pub mod Rules
-pub mod Quantities
 pub mod SoFar
 pub mod Named
-pub mod Keys
-pub mod Given
 pub mod Calls
 pub mod Lines
 pub mod Reading

@@ -1,38 +1,33 @@
--- The lines of a program but its calls: tasks, blocks, waits and repeats. This project's profile.
+-- The lines of a program but its tasks and calls: blocks, waits and repeats. This project's profile.
 use Rattle.std.specs.Prelude.{ℕ, codes, Option, Result, Ok, Err, List, [], ◌∷◌, ◌++◌}
 use Rattle.std.specs.List.{find}
 use Rattle.std.specs.Option.{ok_or}
 use Rattle.std.specs.Str.{bytes_eq}
 use Rattle.line_text.specs.Reading.{◌>>=◌}
-use Rattle.motion_history.specs.Faults.{block_fault, name_fault, task_fault}
+use Rattle.line_text.specs.Rules.{broken_unless, in_range}
+use Rattle.machine_words.specs.Names.{kind_of, object_named}
+use Rattle.machine_words.specs.Numbers.{number}
+use Rattle.machine_words.specs.Rules.{broken_by, rule_of}
+use Rattle.machine_words.specs.declared.rule.TheConstants.{NO_VALUE, OUT_OF_RANGE, WRONG_COUNT}
+use Rattle.motion_history.specs.Faults.{block_fault, name_fault}
 use Rattle.motion_history.specs.Setup.{Setup}
-use Rattle.plc_program.specs.Named.{block_named, kind_of, object_named}
+use Rattle.plc_program.specs.Named.{block_named}
 use Rattle.plc_program.specs.Programs.{is_called}
-use Rattle.plc_program.specs.Quantities.{in_range, number}
-use Rattle.plc_program.specs.Rules.{broken_by, broken_unless}
 use Rattle.plc_program.specs.SoFar.{SoFar, task_of}
 use Rattle.plc_program.specs.declared.program.Flag.{Flag}
 use Rattle.plc_program.specs.declared.program.Flag.TheVariants.{Busy, Active, Done, Aborted, Error, Reached}
 use Rattle.plc_program.specs.declared.program.Instruction.{Instruction}
 use Rattle.plc_program.specs.declared.program.Instruction.TheVariants.{Wait, Repeat}
 use Rattle.plc_program.specs.declared.program.TheConstants.{MOST_TIMES}
-use Rattle.plc_program.specs.declared.rule.TheConstants.{NO_VALUE, OUT_OF_RANGE, WRONG_COUNT}
 use Rattle.plc_program.specs.declared.wait.TheConstants.{FLAGS}
-
--- `task NAME`
-unfoldable pub task_meaning : Setup → List (List ℕ) → Result Setup ℕ
-task_meaning s (name ∷ []) = do
-  _ ← broken_by (task_fault s name)
-  Ok (record s { tasks = s.tasks ++ name ∷ [] })
-task_meaning s _ = Err WRONG_COUNT
 
 -- `block NAME KIND AXIS-OR-GROUP`, a block of this task
 unfoldable pub block_meaning : Setup → ℕ → List (List ℕ) → Result Setup ℕ
 block_meaning s task (name ∷ of_kind ∷ of_object ∷ []) = do
-  _ ← broken_by (name_fault s name)
+  _ ← broken_by rule_of (name_fault s name)
   kind ← kind_of of_kind
   object ← object_named s kind of_object
-  _ ← broken_by (block_fault s name task kind object)
+  _ ← broken_by rule_of (block_fault s name task kind object)
   Ok (record s {
     blocks = s.blocks ++ record {
       name = name;
@@ -69,6 +64,6 @@ wait_meaning s _ = Err WRONG_COUNT
 unfoldable pub repeat_meaning : List (List ℕ) → Result Instruction ℕ
 repeat_meaning (word ∷ []) = do
   n ← number word
-  count ← in_range 1 MOST_TIMES n
+  count ← in_range 1 MOST_TIMES OUT_OF_RANGE n
   Ok (Repeat count)
 repeat_meaning _ = Err WRONG_COUNT

@@ -2,8 +2,11 @@
 use Rattle.std.specs.Prelude.{◌≡◌, ℕ, ◌==◌, Bool, true, false, not, ◌&&◌, if◌then◌else◌, codes, nat_lt, Result, Ok, Err, List, [], ◌∷◌, ◌++◌, length}
 use Rattle.std.specs.Option.{ok_or}
 use Rattle.line_text.specs.Reading.{◌>>=◌, Meaning, reading_of}
+use Rattle.line_text.specs.Rules.{broken_unless}
 use Rattle.line_text.specs.Texts.{says}
-use Rattle.line_text.specs.declared.reader.LineRefused.{LineRefused}
+use Rattle.machine_words.specs.Items.{task_meaning}
+use Rattle.machine_words.specs.Rules.{broken_by, refused_by, rule_of}
+use Rattle.machine_words.specs.declared.rule.TheConstants.{NO_VERSION, NOT_WHOLE, OUT_OF_PLACE, TOO_MANY, WRONG_COUNT}
 use Rattle.motion_history.specs.Faults.{whole_fault}
 use Rattle.motion_history.specs.Setup.{Setup}
 use Rattle.motion_history.specs.declared.refused.TextFault.{TextFault}
@@ -11,15 +14,13 @@ use Rattle.motion_history.specs.declared.refused.TextFault.TheVariants.{Refused,
 use Rattle.motion_history.specs.declared.refused.TextRefused.{TextRefused}
 use Rattle.plc_program.specs.Calls.{call_meaning}
 use Rattle.plc_program.specs.Forms.{form_of, is_counted}
-use Rattle.plc_program.specs.Lines.{block_meaning, repeat_meaning, task_meaning, wait_meaning}
-use Rattle.plc_program.specs.Rules.{broken_by, broken_unless}
+use Rattle.plc_program.specs.Lines.{block_meaning, repeat_meaning, wait_meaning}
 use Rattle.plc_program.specs.SoFar.{SoFar, has_task, task_of, tasks_of}
 use Rattle.plc_program.specs.declared.form.Form.{Form}
 use Rattle.plc_program.specs.declared.form.Form.TheVariants as form
 use Rattle.plc_program.specs.declared.program.Instruction.{Instruction}
 use Rattle.plc_program.specs.declared.program.Instruction.TheVariants.{Call, Wait, Repeat, Again}
 use Rattle.plc_program.specs.declared.program.TheConstants.{MOST_INSTRUCTIONS}
-use Rattle.plc_program.specs.declared.rule.TheConstants.{NO_VERSION, NOT_WHOLE, OUT_OF_PLACE, TOO_MANY, WRONG_COUNT}
 
 -- a program before its first line, for this machine
 unfoldable pub opening : ℕ → Setup → SoFar
@@ -128,23 +129,19 @@ pub record Outcome : Type 0 where
 -- the program at the end of the text: the machine is whole, and no repeat is open
 unfoldable pub ending : SoFar → Result Outcome ℕ
 ending s = do
-  _ ← broken_by (whole_fault s.setup)
+  _ ← broken_by rule_of (whole_fault s.setup)
   _ ← broken_unless (not s.repeating) NOT_WHOLE
   Ok (record { program = tasks_of s; setup = s.setup })
 
 -- a rule of a program is told by the letter P
-abbrev pub told_as : LineRefused → TextRefused
-told_as r = record { place = r.line; rule = record { letter = 80; number = r.rule } }
-
--- a reading whose refusal is told so
-abbrev pub refused_by : {A : Type 0} → Result A LineRefused → Result A TextRefused
-refused_by (Ok x) = Ok x
-refused_by (Err r) = Err (told_as r)
+abbrev pub letter : ℕ
+letter = 80
 
 -- the program that a text is for this machine, or the first line that breaks a rule and the first
 -- rule that it breaks
 unfoldable pub program_of : ℕ → Setup → List ℕ → Result Outcome TextRefused
-program_of cycle_us s text = refused_by (reading_of meaning ending (opening cycle_us s) text)
+program_of cycle_us s text =
+    refused_by letter (reading_of meaning ending (opening cycle_us s) text)
 
 -- the answer, and what the machine is now, are this reading: the program, or the refusal; or memory
 -- ran out

@@ -1,9 +1,9 @@
 -- What always holds of a program as far as it was read, for a machine.
 use Rattle.std.specs.Prelude.{◌≡◌, ◌≤◌, false, Some, [], length}
 use Rattle.std.specs.List.{AllByRecursion}
+use Rattle.machine_words.specs.Units.{IsCycle}
 use Rattle.motion_history.specs.Setup.{Setup}
 use Rattle.plc_program.specs.Programs.{AddsTasks, AreBehindTheirCalls, AreTasksOf, IsCounted, IsTask, repeating_after}
-use Rattle.plc_program.specs.Quantities.{IsCycle}
 use Rattle.plc_program.specs.SoFar.{SoFar, tasks_of}
 use Rattle.plc_program.specs.declared.program.TheConstants.{MOST_INSTRUCTIONS}
 

@@ -1,41 +1,12 @@
-// The tasks and blocks of a program.
+// The blocks of a program.
 
-ghost use Rattle.std.specs.Prelude.{◌≡◌, ◌<◌, if◌then◌else◌, length, None, Some};
-ghost use Rattle.line_text.specs.Reading.{Gives, Takes};
+ghost use Rattle.line_text.specs.Reading.{Takes};
 ghost use Rattle.line_text.specs.Texts.{texts};
-ghost use Rattle.motion_history.specs.Faults as faults;
-ghost use Rattle.motion_history.specs.declared.fault.ConfigFault.{ConfigFault};
 ghost use Rattle.plc_program.specs.Lines as spec;
-ghost use Rattle.plc_program.specs.Rules as rules;
 
-use crate::name::{kind_of, object_named};
-use crate::rule::{WRONG_COUNT, refusal_of};
 use line_text::LineFault;
+use machine_words::{WRONG_COUNT, free_name, kind_of, object_named, refusal_of};
 use motion_history::Builder;
-
-// Whether a new block may have this name.
-fn free_name(machine: &Builder, name: &[u8]) -> Result<(), LineFault>
-    ensures { Gives (λ u. u) (rules.broken_by (faults.name_fault machine.now name.now)) result }
-{
-    match machine.name_fault(name) {
-        None => Ok(()),
-        Some(fault) => Err(refusal_of(fault)),
-    }
-}
-
-/// Adds the task of a line.
-#[tactic(auto, unfolding(crate::specs::Lines::task_meaning))]
-pub fn add_task(machine: &mut Builder, words: &[&[u8]]) -> Result<(), LineFault>
-    ensures { Takes (spec.task_meaning machine.old (texts words.now)) machine.new result }
-{
-    let [name] = words else {
-        return Err(LineFault::Rule(WRONG_COUNT));
-    };
-    match machine.task(name) {
-        Ok(_) => Ok(()),
-        Err(fault) => Err(refusal_of(fault)),
-    }
-}
 
 /// Adds the block of a line to a task.
 #[tactic(auto, unfolding(crate::specs::Lines::block_meaning))]
@@ -52,11 +23,4 @@ pub fn add_block(machine: &mut Builder, task: u8, words: &[&[u8]]) -> Result<(),
         Ok(_) => Ok(()),
         Err(fault) => Err(refusal_of(fault)),
     }
-}
-
-/// Whether the machine has an axis, a task and a block.
-pub fn is_whole(machine: &Builder) -> bool
-    ensures { faults.whole_fault machine.now ≡ (if result then None else Some ConfigFault.TooFew) }
-{
-    1 <= machine.axes().len() && 1 <= machine.tasks().len() && 1 <= machine.blocks().len()
 }

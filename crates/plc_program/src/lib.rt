@@ -4,13 +4,11 @@
 mod call;
 mod form;
 mod item;
-mod key;
 mod name;
 mod program;
-mod quantity;
 mod reader;
 mod reading;
-mod rule;
+mod version;
 mod wait;
 
 pub use program::{Flag, Instruction, MOST_INSTRUCTIONS, MOST_TIMES, Program};

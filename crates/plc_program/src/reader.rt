@@ -3,19 +3,20 @@
 ghost use Rattle.std.specs.Prelude.{◌≡◌, ℕ, Result};
 ghost use Rattle.line_text.specs.Reading.{Gives, Takes};
 ghost use Rattle.line_text.specs.Texts.{texts};
+ghost use Rattle.machine_words.specs.Units.{IsCycle};
 ghost use Rattle.plc_program.specs.Calls as calls;
 ghost use Rattle.plc_program.specs.Lines as lines;
-ghost use Rattle.plc_program.specs.Quantities.{IsCycle};
 ghost use Rattle.plc_program.specs.Reading as spec;
 ghost use Rattle.plc_program.specs.SoFar as so_far;
 
 use crate::call::call_of;
 use crate::form::{Form, form_of, is_counted};
-use crate::item::{add_block, add_task};
+use crate::item::add_block;
 use crate::program::{Instruction, MOST_INSTRUCTIONS};
-use crate::rule::{NO_VERSION, OUT_OF_PLACE, TOO_MANY, WRONG_COUNT, broken_unless};
+use crate::version::is_version;
 use crate::wait::{repeat_of, wait_of};
-use line_text::{LineFault, LineReader, says};
+use line_text::{LineFault, LineReader, broken_unless};
+use machine_words::{NO_VERSION, OUT_OF_PLACE, TOO_MANY, WRONG_COUNT, add_task};
 use motion_history::Builder;
 use std::alloc::Global;
 use std::marker::Model;
@@ -35,7 +36,7 @@ pub struct ProgramReader {
 
 impl Model for ProgramReader {
     ghost use Rattle.std.specs.Prelude.{map};
-    ghost use Rattle.plc_program.specs.Quantities.{IsCycle};
+    ghost use Rattle.machine_words.specs.Units.{IsCycle};
     ghost use Rattle.plc_program.specs.SoFar.{SoFar};
 
     ghost Value = { SoFar };
@@ -218,33 +219,6 @@ impl ProgramReader {
         self.repeating = is_repeating(self.repeating, &line);
         Ok(())
     }
-}
-
-// Whether the words tell the version.
-#[tactic(auto, unfolding(crate::specs::Reading::is_version))]
-fn is_version(words: &[&[u8]]) -> bool
-    ensures { result ≡ spec.is_version (texts words.now) }
-{
-    let [word, number] = words else {
-        return false;
-    };
-    is_program(word) && is_one(number)
-}
-
-// Whether a program begins with this word.
-#[tactic(auto, unfolding(crate::specs::Reading::is_program))]
-fn is_program(word: &[u8]) -> bool
-    ensures { result ≡ spec.is_program word.now }
-{
-    says(word, b"motion-program")
-}
-
-// Whether the version is 1.
-#[tactic(auto, unfolding(crate::specs::Reading::is_one))]
-fn is_one(number: &[u8]) -> bool
-    ensures { result ≡ spec.is_one number.now }
-{
-    says(number, b"1")
 }
 
 // Whether a task stands inside a repeat behind a line.

@@ -2,22 +2,21 @@
 
 ghost use Rattle.std.specs.Prelude.{◌≡◌, ◌≤◌, [], List, IfOk, OnOk, Ok, length};
 ghost use Rattle.line_text.specs.Reading.{at_line};
+ghost use Rattle.machine_words.specs.Rules.{refused_by, told_as};
+ghost use Rattle.machine_words.specs.Units.{IsCycle};
 ghost use Rattle.motion_history.specs.Setup.{Setup};
 ghost use Rattle.plc_program.specs.Programs.{AddsTasks, IsProgramOf};
-ghost use Rattle.plc_program.specs.Quantities.{IsCycle};
 ghost use Rattle.plc_program.specs.Reading as spec;
 ghost use Rattle.plc_program.specs.Reading.{ReadsBy};
 ghost use Rattle.plc_program.specs.Spelled.{IsProgramText};
 ghost use Rattle.plc_program.specs.UnderWay.{IsSoFar};
 ghost use Rattle.plc_program.specs.declared.program.Instruction.{Instruction};
 
-use crate::item::is_whole;
 use crate::program::Program;
 use crate::reader::ProgramReader;
-use crate::rule::NOT_WHOLE;
-use fixed_units::reads_what_is_spelled;
-use line_text::{LineRefused, LinesFault, lines_are_spelled, numbers_are_small, read_lines};
-use motion_history::{Builder, Rule, TextFault, TextRefused};
+use line_text::{LineRefused, LinesFault, lines_are_spelled, read_lines};
+use machine_words::{NOT_WHOLE, inputs_are_fit, is_whole, refused_by};
+use motion_history::{Builder, TextFault};
 use std::alloc::Global;
 use std::mem;
 
@@ -105,34 +104,27 @@ fn read_text(
     ensures program { IfOk result.1 (IsProgramOf result.0) }
     ensures adds { OnOk result.1 (AddsTasks machine result.0) }
 {
-    numbers_are_small();
-    reads_what_is_spelled();
+    inputs_are_fit();
     let mut reader = opened(alloc, machine, cycle_us);
     match read_lines(alloc, text, &mut reader) {
         Ok(last) => program_of(reader, last),
-        Err(LinesFault::Refused(refused)) => (reader.machine, Err(refused_by(refused))),
+        Err(LinesFault::Refused(refused)) => (reader.machine, Err(refusal(refused))),
         Err(LinesFault::OutOfMemory) => (reader.machine, Err(TextFault::OutOfMemory)),
     }
 }
 
-// How a text is refused at this place.
-fn refused_by(refused: LineRefused) -> TextFault
-    ensures { result ≡ TextFault.Refused (spec.told_as refused) }
+// How a program is refused at this place.
+fn refusal(refused: LineRefused) -> TextFault
+    ensures { result ≡ TextFault.Refused (told_as spec.letter refused) }
 {
-    TextFault::Refused(TextRefused {
-        place: refused.line,
-        rule: Rule {
-            letter: b'P',
-            number: refused.rule,
-        },
-    })
+    refused_by(b'P', refused)
 }
 
 // The program at the end of the text, and its machine.
 #[tactic(auto, unfolding(crate::specs::Reading::ending))]
 fn program_of(reader: ProgramReader, last: u64) -> (Builder, Result<Program, TextFault>)
     requires { (first : Setup) × IsSoFar first reader }
-    ensures exact { ReadsBy (spec.refused_by (at_line last (spec.ending reader))) result.1 result.0 }
+    ensures exact { ReadsBy (refused_by spec.letter (at_line last (spec.ending reader))) result.1 result.0 }
     ensures program { IfOk result.1 (IsProgramOf result.0) }
     ensures machine { result.0 ≡ reader.setup }
 {
@@ -148,7 +140,7 @@ fn program_of(reader: ProgramReader, last: u64) -> (Builder, Result<Program, Tex
             line: last,
             rule: NOT_WHOLE,
         };
-        return (machine, Err(refused_by(refused)));
+        return (machine, Err(refusal(refused)));
     }
     let mut tasks = before;
     let Ok(()) = tasks.push(lines) else {

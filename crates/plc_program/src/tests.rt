@@ -66,10 +66,14 @@ fn read(alloc: Global, text: &[u8]) -> Result<(Program, Builder), Fail> {
 fn refusal(alloc: Global, text: &[u8]) -> Result<Option<(u64, u8)>, Fail> {
     let mut builder = machine(alloc).ok_or("a machine")?;
     match read_program(alloc, text, &mut builder, 1000) {
-        Err(TextFault::Refused(refused)) if refused.rule.letter == b'P' => {
+        Ok(_program) => Ok(None),
+        Err(TextFault::Refused(refused)) => {
+            if refused.rule.letter != b'P' {
+                return Err(Fail::new("a rule of another text"));
+            }
             Ok(Some((refused.place, refused.rule.number)))
         }
-        _ => Ok(None),
+        Err(TextFault::OutOfMemory) => Err(Fail::new("out of memory")),
     }
 }
 

@@ -8,10 +8,9 @@ ghost use Rattle.plc_program.specs.Programs as programs;
 
 use crate::name::block_named;
 use crate::program::{Flag, Instruction, MOST_TIMES};
-use crate::quantity::{in_range, number};
 use crate::reader::ProgramReader;
-use crate::rule::{NO_VALUE, OUT_OF_RANGE, WRONG_COUNT, broken_unless};
-use line_text::LineFault;
+use line_text::{LineFault, broken_unless, in_range};
+use machine_words::{NO_VALUE, OUT_OF_RANGE, WRONG_COUNT, number};
 
 /// The flags, in the order of a block's outputs.
 const FLAGS: [Flag; 6] = [
@@ -90,6 +89,6 @@ pub fn repeat_of(words: &[&[u8]]) -> Result<Instruction, LineFault>
         return Err(LineFault::Rule(WRONG_COUNT));
     };
     let count = number(count)?;
-    let count = in_range(1, MOST_TIMES, count)?;
+    let count = in_range(1, MOST_TIMES, OUT_OF_RANGE, count)?;
     Ok(Instruction::Repeat { count })
 }

@@ -142,7 +142,7 @@ fn expect_refusals(
         };
         let text = joined(alloc, &[TOP, behind, line, b"\ncycle x"])?;
         assert_eq!(rt;
-            refusal(alloc, text.as_slice()),
+            refusal(alloc, text.as_slice())?,
             Some((number, rule.wrapping_sub(b'0'))),
             "{row:?}"
         );
@@ -160,56 +160,72 @@ fn refuses_lines_of_events(rt: HostRuntime) -> Result<(), Fail> {
     expect_refusals(&rt, rt.alloc(), b"go\n", 13, EVENT_LINES)
 }
 
-// Whole texts, of which some say in two lines what may be said once, and some end too early.
-#[test]
-fn refuses_whole_texts(rt: HostRuntime) {
-    let cases: [(&[u8], u64, u8); 22] = [
-        (b"", 1, 10),
-        (b"\n\n", 2, 10),
-        (b"# nothing", 1, 10),
-        (b"\x00", 1, 1),
-        (b"motion-bench", 1, 2),
-        (b"motion-bench 3", 1, 2),
-        (b"motion-bench 1 1", 1, 2),
-        (b"motion-bench 01", 1, 2),
-        (b"\n\nlimit 20 40", 3, 2),
-        (b"motion-bench 1\n\xff", 2, 1),
-        (b"motion-bench 1\nlimit 0 40", 2, 8),
-        (b"motion-bench 1\nlimit 200001 40", 2, 8),
-        (b"motion-bench 1\nlimit 20 1000001", 2, 8),
-        (b"motion-bench 1\nlimit 0 x", 2, 7),
-        (
-            b"motion-bench 1\nlimit 20 40\naxis X 0 50 10 1 1 0 ready\ntask main",
-            3,
-            8,
-        ),
-        (
-            b"motion-bench 1\nlimit 20 40\naxis X 0 50 10 4 1 0 ready\ntask main\nblock M main MoveAbsolute X\n",
-            5,
-            10,
-        ),
-        (
-            b"motion-bench 1\naxis X 0 50 10 4 1 0\ntask t\nblock M t Halt X\ngo",
-            5,
-            10,
-        ),
-        (
-            b"motion-bench 1\nlimit 20 40\naxis X 0 50 10 4 1 0\ntask t\ngo",
-            5,
-            10,
-        ),
-        (
-            b"motion-bench 1\naxis X 0 50 10 4 1 0\ndrive X 0\n\ndrive X",
-            5,
-            3,
-        ),
-        (b"motion-bench 1\naxis X 0 50 10 4 8 1 0 ready", 2, 4),
-        (b"motion-bench 2\naxis X 0 50 10 4 1 0", 2, 4),
-        (b"motion-bench 2\naxis X 0 50 10 4 3 1 0 ready", 2, 8),
-    ];
+// Stops the test unless each text is refused in the line and by the rule that stand behind it.
+fn expect_places(rt: &impl Abort, alloc: Global, cases: &[(&[u8], u64, u8)]) -> Result<(), Fail> {
     for (text, line, rule) in cases {
-        assert_eq!(rt; refusal(rt.alloc(), text), Some((line, rule)), "{text:?}");
+        assert_eq!(rt; refusal(alloc, text)?, Some((*line, *rule)), "{text:?}");
     }
+    Ok(())
+}
+
+// Texts that break a rule in their version or in the line behind it.
+const SHORT_TEXTS: [(&[u8], u64, u8); 14] = [
+    (b"", 1, 10),
+    (b"\n\n", 2, 10),
+    (b"# nothing", 1, 10),
+    (b"\x00", 1, 1),
+    (b"motion-bench", 1, 2),
+    (b"motion-bench 3", 1, 2),
+    (b"motion-bench 1 1", 1, 2),
+    (b"motion-bench 01", 1, 2),
+    (b"\n\nlimit 20 40", 3, 2),
+    (b"motion-bench 1\n\xff", 2, 1),
+    (b"motion-bench 1\nlimit 0 40", 2, 8),
+    (b"motion-bench 1\nlimit 200001 40", 2, 8),
+    (b"motion-bench 1\nlimit 20 1000001", 2, 8),
+    (b"motion-bench 1\nlimit 0 x", 2, 7),
+];
+
+// Texts of which some say in two lines what may be said once, and some end too early.
+const LONG_TEXTS: [(&[u8], u64, u8); 8] = [
+    (
+        b"motion-bench 1\nlimit 20 40\naxis X 0 50 10 1 1 0 ready\ntask main",
+        3,
+        8,
+    ),
+    (
+        b"motion-bench 1\nlimit 20 40\naxis X 0 50 10 4 1 0 ready\ntask main\nblock M main MoveAbsolute X\n",
+        5,
+        10,
+    ),
+    (
+        b"motion-bench 1\naxis X 0 50 10 4 1 0\ntask t\nblock M t Halt X\ngo",
+        5,
+        10,
+    ),
+    (
+        b"motion-bench 1\nlimit 20 40\naxis X 0 50 10 4 1 0\ntask t\ngo",
+        5,
+        10,
+    ),
+    (
+        b"motion-bench 1\naxis X 0 50 10 4 1 0\ndrive X 0\n\ndrive X",
+        5,
+        3,
+    ),
+    (b"motion-bench 1\naxis X 0 50 10 4 8 1 0 ready", 2, 4),
+    (b"motion-bench 2\naxis X 0 50 10 4 1 0", 2, 4),
+    (b"motion-bench 2\naxis X 0 50 10 4 3 1 0 ready", 2, 8),
+];
+
+#[test]
+fn refuses_texts_that_do_not_begin(rt: HostRuntime) -> Result<(), Fail> {
+    expect_places(&rt, rt.alloc(), &SHORT_TEXTS)
+}
+
+#[test]
+fn refuses_whole_texts(rt: HostRuntime) -> Result<(), Fail> {
+    expect_places(&rt, rt.alloc(), &LONG_TEXTS)
 }
 
 // One item too many of a kind, each named by a letter, behind the machine of eleven lines. In the
@@ -230,7 +246,7 @@ fn refuses_too_many(rt: HostRuntime) -> Result<(), Fail> {
             text.extend_from_slice(after)?;
         }
         assert_eq!(rt;
-            refusal(rt.alloc(), text.as_slice()),
+            refusal(rt.alloc(), text.as_slice())?,
             Some((line, rule)),
             "{before:?}"
         );
@@ -243,6 +259,6 @@ fn refuses_too_many(rt: HostRuntime) -> Result<(), Fail> {
 fn refuses_a_text_of_one_comment(rt: HostRuntime) -> Result<(), Fail> {
     let mut text = Vec::new(rt.alloc());
     text.resize(16_777_216, b'#')?;
-    assert_eq!(rt; refusal(rt.alloc(), text.as_slice()), Some((1, 10)));
+    assert_eq!(rt; refusal(rt.alloc(), text.as_slice())?, Some((1, 10)));
     Ok(())
 }

@@ -1,6 +1,6 @@
 -- The drives so far.
 use Rattle.std.proofs.Common.{◌≡◌, ◌≤◌, replicate}
-use Rattle.bench_text.specs.Drives.{plain_drive}
+use Rattle.motion_history.specs.Drives.{plain_drive}
 use Rattle.load_gen.proofs.load.plain_drives.Given as goal
 
 abbrev pub invariant-loop : goal.invariant-loop

@@ -1,8 +1,0 @@
--- The items so far are read.
-use Rattle.bench_text.specs.Named.{axis_named}
-use Rattle.line_text.specs.Texts.{texts}
-use Rattle.bench_text.proofs.Each.{IsReadSoFar}
-use Rattle.bench_text.proofs.name.axes_named.Given as goal
-
-abbrev pub invariant-loop-name : goal.invariant-loop-name
-invariant-loop-name l = IsReadSoFar (axis_named l.machine) (texts l.names) l.name-index l.axes.items

@@ -1,8 +1,0 @@
--- The items so far are read.
-use Rattle.bench_text.specs.Rules.{number}
-use Rattle.line_text.specs.Texts.{texts}
-use Rattle.bench_text.proofs.Each.{IsReadSoFar}
-use Rattle.bench_text.proofs.number.numbers.Given as goal
-
-abbrev pub invariant-loop-word : goal.invariant-loop-word
-invariant-loop-word l = IsReadSoFar number (texts l.words) l.word-index l.numbers.items

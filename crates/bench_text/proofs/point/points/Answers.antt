@@ -1,0 +1,17 @@
+-- Each step reads one more.
+use Rattle.std.proofs.lemmas.Result.{err_from_is_err_and}
+use Rattle.line_text.specs.Texts.{texts}
+use Rattle.bench_text.specs.Items.{point}
+use Rattle.line_text.proofs.Each.{read-more, read-stops, word_at}
+use Rattle.bench_text.proofs.point.points.Goals as goal
+
+pub returns-in_err-point : goal.returns-in_err-point
+returns-in_err-point c =
+    let p = err_from_is_err_and c.from_residual.result c.from_residual.ensures.1 in
+    let cut = word_at c.args.words.now c.loop-word.word-index c.loop-word-test.true in
+    rw (p.1, p.2) (read-stops point (texts c.args.words.now) c.loop-word.word-index _ _ _ cut c.in_err-point.ensures c.loop-word.invariant)
+
+pub loop-word-preserved : goal.loop-word-preserved
+loop-word-preserved c =
+    let cut = word_at c.args.words.now c.loop-word.word-index c.loop-word-test.true in
+    rw c.in-Ok.ensures.items (read-more point (texts c.args.words.now) c.loop-word.word-index _ _ _ cut c.in_ok-point.ensures c.loop-word.invariant)

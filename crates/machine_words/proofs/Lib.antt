@@ -1,0 +1,10 @@
+pub mod Names
+pub mod Faults
+pub mod Lists
+pub mod Refusals
+pub mod Zeros
+pub mod Smalls
+pub mod Given
+pub mod Fit
+pub mod Tables
+pub mod Drives

@@ -1,0 +1,88 @@
+-- What words are read as is small.
+use Rattle.std.proofs.Common.{◌≡◌, ◌↔◌, ℕ, ◌*◌, ◌/◌, ◌^◌, ◌≤◌, ℤ, Bool, true, false, Some, Result, Ok, Err, List, [], ◌∷◌, refl, sym, subst, arith, inl, inr, lit≤}
+use Rattle.std.specs.Prelude.{unsigned_abs}
+use Rattle.std.specs.List.{AllByRecursion}
+use Rattle.std.specs.Str.{is_utf8}
+use Rattle.std.proofs.Math.Nat.{div-le_of_le-mul, le_trans, mul_comm}
+use Rattle.std.proofs.lemmas.Bool.{cases_Bool}
+use Rattle.std.proofs.lemmas.Int.{ints}
+use Rattle.std.proofs.lemmas.Nat.{mul-le}
+use Rattle.fixed_units.specs.Numbers.{Spells, reading_of, with_sign}
+use Rattle.fixed_units.specs.PerCycle.{per_cycle_of, per_cycle_squared_of}
+use Rattle.fixed_units.specs.declared.reading.UnitFault.{UnitFault}
+use Rattle.line_text.specs.Numbers.{number_of}
+use Rattle.line_text.specs.Reading.{◌>>=◌, each_of}
+use Rattle.motion_numbers.specs.declared.TheConstants.{MOST_NUMBER}
+use Rattle.machine_words.specs.Numbers.{number}
+use Rattle.machine_words.specs.Units.{IsUnits, acceleration_in, decimal_units, place_in, quantity, units_or_broken, velocity_in}
+use Rattle.machine_words.specs.declared.rule.TheConstants.{NO_VALUE}
+use Rattle.machine_words.specs.declared.units.Units.{Units}
+use Rattle.machine_words.specs.declared.units.Units.TheVariants.{Internal, User}
+use Rattle.machine_words.proofs.Zeros.{IsSmall}
+use Rattle.line_text.proofs.Results.{bind_ok, found, ok_is}
+
+-- numbers and quantities in words are small
+pub record AreSmall : Type 0 where
+  pub numbers : (word : List ℕ) (z : ℤ) → number_of word ≡ Some z → IsSmall z
+  pub units : (text : List ℕ) (z : ℤ) → (reading_of text ≡ Ok z) ↔ (Spells text z × (unsigned_abs z ≤ 10 ^ 18))
+
+-- what a word is read as is
+abbrev pub ReadsSmall : (List ℕ → Result ℤ ℕ) → Type 0
+ReadsSmall read = (word : List ℕ) (z : ℤ) → read word ≡ Ok z → IsSmall z
+
+pub number-small : AreSmall → ReadsSmall number
+unfolding number
+number-small small word z h = small.numbers word z (found (number_of word) NO_VALUE z h)
+
+-- a decimal number that has no fault
+pub unbroken : (rule : ℕ) (r : Result ℤ UnitFault) (z : ℤ) → units_or_broken rule r ≡ Ok z → r ≡ Ok z
+unbroken rule (Ok units) z h = let e : units ≡ z = ok_is (Ok units) units z refl h in cc
+unbroken rule (Err fault) z h = absurd (cc)
+
+quantity-small : AreSmall → ReadsSmall quantity
+unfolding quantity decimal_units
+quantity-small small text z h =
+    elim (cases_Bool (is_utf8 text)) [
+      | inl utf8 ↦ let e : units_or_broken NO_VALUE (reading_of text) ≡ Ok z = rw utf8 at h in ((small.units text z).0 (unbroken NO_VALUE (reading_of text) z e)).1
+      | inr other ↦ let e : Err NO_VALUE ≡ Ok z = rw other at h in absurd (cc)
+    ]
+
+size_of_signed : (b : Bool) (n : ℕ) → unsigned_abs (with_sign b n) ≡ n
+size_of_signed true n = omega (arith, ints)
+size_of_signed false n = refl
+
+-- a size that is spread over so many parts
+spread-small : (b : Bool) (u c m : ℕ) → u ≤ 10 ^ 18 → c ≤ m → IsSmall (with_sign b (u * c / m))
+spread-small b u c m few less =
+    let product : u * c ≤ m * 10 ^ 18 = subst (λ p. p ≤ m * 10 ^ 18) (mul_comm c u) (mul-le c u m (10 ^ 18) less few) in
+    subst (λ n. n ≤ MOST_NUMBER) (sym (size_of_signed b (u * c / m))) (div-le_of_le-mul m product)
+
+pub place-small : AreSmall → (units : Units) → ReadsSmall (place_in units)
+unfolding place_in
+place-small small Internal word z h = number-small small word z h
+place-small small (User cycle_us) word z h = quantity-small small word z h
+
+pub velocity-small : AreSmall → (units : Units) → IsUnits units → ReadsSmall (velocity_in units)
+unfolding velocity_in
+velocity-small small Internal cycle word z h = number-small small word z h
+velocity-small small (User cycle_us) cycle text z h =
+    let q = bind_ok (quantity text) _ z h in
+    let few : cycle_us ≤ 10 ^ 6 = le_trans cycle.longest (lit≤ tt) in
+    subst IsSmall (ok_is (Ok (per_cycle_of q.0 cycle_us)) _ z refl q.2) (spread-small _ _ cycle_us (10 ^ 6) (quantity-small small text q.0 q.1) few)
+
+pub acceleration-small : AreSmall → (units : Units) → IsUnits units → ReadsSmall (acceleration_in units)
+unfolding acceleration_in
+acceleration-small small Internal cycle word z h = number-small small word z h
+acceleration-small small (User cycle_us) cycle text z h =
+    let q = bind_ok (quantity text) _ z h in
+    let few : cycle_us * cycle_us ≤ 10 ^ 12 = le_trans (mul-le cycle_us cycle_us 100000 100000 cycle.longest cycle.longest) (lit≤ tt) in
+    subst IsSmall (ok_is (Ok (per_cycle_squared_of q.0 cycle_us)) _ z refl q.2) (spread-small _ _ (cycle_us * cycle_us) (10 ^ 12) (quantity-small small text q.0 q.1) few)
+
+-- all that is read of words is small, where each is
+pub each-small : (read : List ℕ → Result ℤ ℕ) → ReadsSmall read → (words : List (List ℕ)) (zs : List ℤ) → each_of read words ≡ Ok zs → AllByRecursion IsSmall zs
+each-small read small [] zs h = subst (λ ys. AllByRecursion IsSmall ys) (ok_is (Ok []) [] zs refl h) tt
+each-small read small (word ∷ words) zs h =
+    let first = bind_ok (read word) (λ y. each_of read words >>= λ ys. Ok (y ∷ ys)) zs h in
+    let second = bind_ok (each_of read words) (λ ys. Ok (first.0 ∷ ys)) zs first.2 in
+    let is : first.0 ∷ second.0 ≡ zs = ok_is (Ok (first.0 ∷ second.0)) (first.0 ∷ second.0) zs refl second.2 in
+    subst (λ ys. AllByRecursion IsSmall ys) is (small word first.0 first.1, each-small read small words second.0 second.1)

@@ -1,0 +1,76 @@
+-- Points that make a cam table, and points that are refused.
+use Rattle.std.proofs.Common.{◌≡◌, ℕ, ◌<◌, ℤ, true, false, List, [], ◌∷◌, ◌++◌, length, Ok, Err, refl, sym, ap, inl, inr, arith}
+use Rattle.std.specs.Prelude.{◌↔◌, ◌≢◌, nat_le, not}
+use Rattle.std.proofs.lemmas.Bool.{cases_Bool, cases_lt, le-leb, leb-true}
+use Rattle.cam_table.specs.CamFault.{IsFault}
+use Rattle.cam_table.specs.CamTable.{IsCamTable, is_cam_table}
+use Rattle.cam_table.specs.declared.fault.CamFault.{CamFault}
+use Rattle.line_text.specs.Reading.{Takes}
+use Rattle.line_text.specs.Rules.{broken_unless}
+use Rattle.motion_history.specs.Faults.{IsTableFault}
+use Rattle.motion_history.specs.Setup.{Setup}
+use Rattle.motion_history.specs.declared.fault.ConfigFault.{ConfigFault}
+use Rattle.motion_history.specs.declared.fault.ConfigFault.TheVariants.{BadName, NameUsed, NameUnknown, OutOfRange, Table, TooMany, TooFew, OutOfMemory}
+use Rattle.motion_history.specs.declared.sizes.TheConstants.{MOST_TABLES}
+use Rattle.machine_words.specs.Tables.{refusal_by, table_added}
+use Rattle.machine_words.specs.declared.rule.ItemRules.{ItemRules}
+use Rattle.line_text.proofs.Results.{bind_ok, ok_is}
+
+-- the test tells cam tables
+abbrev pub AreTold : Type 0
+AreTold = (points : List (ℤ × ℤ)) → (is_cam_table points ≡ true) ↔ IsCamTable points
+
+-- a cam table has no fault
+abbrev pub HaveNone : Type 0
+HaveNone = (points : List (ℤ × ℤ)) (fault : CamFault) → IsCamTable points → IsFault points fault → ⊥
+
+-- there is room for a table more
+pub not_full : (n : ℕ) → n < MOST_TABLES → nat_le MOST_TABLES n ≡ false
+not_full n h =
+    elim (cases_Bool (nat_le MOST_TABLES n)) [
+      | inl full ↦ let l = leb-true _ _ full in absurd (omega (arith, l, h))
+      | inr room ↦ room
+    ]
+
+pub has_room : (n : ℕ) → not (nat_le MOST_TABLES n) ≡ true → n < MOST_TABLES
+has_room n h =
+    elim (cases_lt n MOST_TABLES) [
+      | inl room ↦ room
+      | inr full ↦ let e = rw (le-leb MOST_TABLES n full) at h in absurd (cc)
+    ]
+
+-- points that make a table, where there is room for one
+pub table-made : AreTold → (rules : ItemRules) (s new : Setup) (points : List (ℤ × ℤ)) → IsCamTable points → length s.tables < MOST_TABLES →
+    new ≡ record s { tables = s.tables ++ points ∷ [] } → table_added rules s points ≡ Ok new
+unfolding table_added
+table-made told rules s new points table room is = rw ((told points).1 table, not_full (length s.tables) room) (ap Ok (sym is))
+
+faulty : AreTold → HaveNone → (points : List (ℤ × ℤ)) (fault : CamFault) → IsFault points fault → is_cam_table points ≡ false
+faulty told none points fault h =
+    elim (cases_Bool (is_cam_table points)) [
+      | inl table ↦ absurd (none points fault ((told points).0 table) h)
+      | inr other ↦ other
+    ]
+
+-- points that make none, or for which there is no room
+pub table-refused : AreTold → HaveNone → (rules : ItemRules) (s new : Setup) (points : List (ℤ × ℤ)) (fault : ConfigFault) →
+    (fault ≢ OutOfMemory → IsTableFault s points fault) → Takes (table_added rules s points) new (Err (refusal_by rules fault))
+unfolding table_added
+table-refused told none rules s new points BadName is = absurd (is (λ e. absurd (cc)))
+table-refused told none rules s new points NameUsed is = absurd (is (λ e. absurd (cc)))
+table-refused told none rules s new points NameUnknown is = absurd (is (λ e. absurd (cc)))
+table-refused told none rules s new points OutOfRange is = absurd (is (λ e. absurd (cc)))
+table-refused told none rules s new points (Table fault) is = rw (faulty told none points fault (is (λ e. absurd (cc)))) refl
+table-refused told none rules s new points TooMany is =
+    let both = is (λ e. absurd (cc)) in
+    rw ((told points).1 both.0, le-leb MOST_TABLES (length s.tables) both.1) refl
+table-refused told none rules s new points TooFew is = absurd (is (λ e. absurd (cc)))
+table-refused told none rules s new points OutOfMemory is = tt
+
+-- a table that is added stands behind the others
+pub table_added-is : (rules : ItemRules) (s u : Setup) (points : List (ℤ × ℤ)) → table_added rules s points ≡ Ok u → u ≡ record s { tables = s.tables ++ points ∷ [] }
+unfolding table_added
+table_added-is rules s u points h =
+    let good = bind_ok (broken_unless (is_cam_table points) rules.wrong) _ u h in
+    let room = bind_ok (broken_unless (not (nat_le MOST_TABLES (length s.tables))) rules.too_many) _ u good.2 in
+    sym (ok_is _ _ u refl room.2)

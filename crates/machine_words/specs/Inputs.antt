@@ -1,0 +1,98 @@
+-- The inputs of a call in a bench or a program. This project's profile.
+use Rattle.std.specs.Prelude.{ℕ, ℤ, pos, ◌==◌, Bool, true, not, ◌||◌, if◌then◌else◌, codes, Option, Some, None, Result, Ok, List, drop, is_some, length, nat_eq}
+use Rattle.std.specs.List.{list_all, slice_split, starts_with}
+use Rattle.std.specs.Option.{ok_or}
+use Rattle.command_pool.specs.declared.kind.BlockKind.{BlockKind}
+use Rattle.command_pool.specs.declared.kind.BufferMode.{BufferMode}
+use Rattle.command_pool.specs.declared.kind.BufferMode.TheVariants.{Aborting}
+use Rattle.fb_outputs.specs.Inputs.{inputs_off, takes}
+use Rattle.fb_outputs.specs.Names.{mode_named}
+use Rattle.fb_outputs.specs.declared.inputs.Input.TheVariants.{Master}
+use Rattle.fb_outputs.specs.declared.inputs.Inputs.{Inputs}
+use Rattle.line_text.specs.Reading.{◌>>=◌, each_of}
+use Rattle.line_text.specs.Rules.{broken_unless, in_range}
+use Rattle.line_text.specs.Texts.{says}
+use Rattle.motion_history.specs.Calls.{axes_of}
+use Rattle.motion_history.specs.Setup.{Setup}
+use Rattle.motion_history.specs.declared.config.BlockDef.{BlockDef}
+use Rattle.machine_words.specs.Keys.{TextsGiven, key_of, texts_given}
+use Rattle.machine_words.specs.Names.{axis_at, axis_named}
+use Rattle.machine_words.specs.Numbers.{number}
+use Rattle.machine_words.specs.Positions.{is_semicolon, positions_from}
+use Rattle.machine_words.specs.Units.{acceleration_in, place_in, velocity_in}
+use Rattle.machine_words.specs.declared.inputs.TheConstants.{MOST_TABLE_NUMBER}
+use Rattle.machine_words.specs.declared.rule.TheConstants.{NO_VALUE, OUT_OF_RANGE, WRONG_NAME}
+use Rattle.machine_words.specs.declared.units.Units.{Units}
+pub use Rattle.machine_words.specs.Positions.{no_positions}
+
+-- a value as its text is read, or its default where it is left out
+abbrev pub value_or : {A : Type 0} → A → (List ℕ → Result A ℕ) → Option (List ℕ) → Result A ℕ
+value_or default read None = Ok default
+value_or default read (Some text) = read text
+
+-- the positions of a block: one for each axis, and 0 behind them
+unfoldable pub positions_of : Units → ℕ → List ℕ → Result (List ℤ) ℕ
+positions_of units axes text = do
+  places ← each_of (place_in units) (slice_split is_semicolon text)
+  _ ← broken_unless (length places == axes) NO_VALUE
+  Ok (positions_from places)
+
+-- a word that is no mode breaks its rule
+abbrev pub mode_of : List ℕ → Result BufferMode ℕ
+mode_of name = ok_or (mode_named name) NO_VALUE
+
+-- the inputs of a call with Execute true, by their texts: a row for each key
+unfoldable pub inputs_of : Units → Setup → ℕ → TextsGiven → Result Inputs ℕ
+inputs_of units s axes given = do
+  positions ← value_or no_positions (positions_of units axes) given.position
+  velocity ← value_or (pos 0) (velocity_in units) given.velocity
+  acceleration ← value_or (pos 0) (acceleration_in units) given.acceleration
+  deceleration ← value_or (pos 0) (acceleration_in units) given.deceleration
+  jerk ← value_or (pos 0) (place_in units) given.jerk
+  mode ← value_or Aborting mode_of given.mode
+  master ← value_or 0 (axis_named WRONG_NAME s) given.master
+  numerator ← value_or (pos 1) number given.numerator
+  denominator ← value_or (pos 1) number given.denominator
+  number_of_table ← value_or (pos 0) number given.table
+  table ← in_range 0 MOST_TABLE_NUMBER OUT_OF_RANGE number_of_table
+  Ok (record {
+    execute = true;
+    positions = positions;
+    velocity = velocity;
+    acceleration = acceleration;
+    deceleration = deceleration;
+    jerk = jerk;
+    mode = mode;
+    master = master;
+    numerator = numerator;
+    denominator = denominator;
+    table = table;
+  })
+
+-- whether a word gives no master, or the name of an axis
+unfoldable pub is_master_there : Setup → List ℕ → Bool
+is_master_there s word =
+    not (starts_with nat_eq word (key_of Master)) ||
+    is_some (axis_at s (drop (length (key_of Master)) word))
+
+-- whether each master that is given is an axis, where the kind takes one
+unfoldable pub are_masters_there : Setup → BlockKind → List (List ℕ) → Bool
+are_masters_there s kind words =
+    not (takes kind Master) || list_all (is_master_there s) words
+
+-- the inputs behind `on` or a word in its place
+unfoldable pub inputs_on : Units → Setup → BlockDef → List ℕ → List (List ℕ) → Result Inputs ℕ
+inputs_on units s b state words = do
+  _ ← broken_unless (are_masters_there s b.kind words) WRONG_NAME
+  _ ← broken_unless (says state (codes "on")) NO_VALUE
+  given ← ok_or (texts_given b.kind words) NO_VALUE
+  inputs_of units s (axes_of s b) given
+
+-- whether a call is one with Execute false
+abbrev pub is_off : List ℕ → Bool
+is_off state = says state (codes "off")
+
+-- the inputs of a call, by the word behind its block
+abbrev pub inputs_by : Units → Setup → BlockDef → List ℕ → List (List ℕ) → Result Inputs ℕ
+inputs_by units s b state words =
+    if is_off state then Ok inputs_off else inputs_on units s b state words

@@ -1,0 +1,12 @@
+pub mod Rules
+pub mod Names
+pub mod Numbers
+pub mod Units
+pub mod Positions
+pub mod Keys
+pub mod Given
+pub mod Inputs
+pub mod Fit
+pub mod Drives
+pub mod Tables
+pub mod Items

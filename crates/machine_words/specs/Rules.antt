@@ -1,0 +1,32 @@
+-- The rules of benches and programs, and how a refusal is told. This project's profile.
+use Rattle.std.specs.Prelude.{ℕ, Option, Some, None, Result, Ok, Err}
+use Rattle.line_text.specs.declared.reader.LineRefused.{LineRefused}
+use Rattle.motion_history.specs.declared.fault.ConfigFault.{ConfigFault}
+use Rattle.motion_history.specs.declared.fault.ConfigFault.TheVariants.{BadName, NameUsed, NameUnknown, OutOfRange, Table, TooMany, TooFew, OutOfMemory}
+use Rattle.motion_history.specs.declared.refused.TextRefused.{TextRefused}
+use Rattle.machine_words.specs.declared.rule.TheConstants.{NO_NAME, WRONG_NAME, OUT_OF_RANGE, TOO_MANY, NOT_WHOLE}
+
+-- the rule of a bench or a program that a faulty item breaks
+abbrev pub rule_of : ConfigFault → ℕ
+rule_of BadName = NO_NAME
+rule_of NameUsed = WRONG_NAME
+rule_of NameUnknown = WRONG_NAME
+rule_of OutOfRange = OUT_OF_RANGE
+rule_of (Table fault) = OUT_OF_RANGE
+rule_of TooMany = TOO_MANY
+rule_of TooFew = NOT_WHOLE
+rule_of OutOfMemory = NOT_WHOLE
+
+-- a fault breaks the rule that is told of it
+abbrev pub broken_by : (ConfigFault → ℕ) → Option ConfigFault → Result (Unit {0}) ℕ
+broken_by rule None = Ok tt
+broken_by rule (Some fault) = Err (rule fault)
+
+-- a rule that is broken is told by the letter of its text's kind
+abbrev pub told_as : ℕ → LineRefused → TextRefused
+told_as letter r = record { place = r.line; rule = record { letter = letter; number = r.rule } }
+
+-- a reading whose refusal is told so
+abbrev pub refused_by : {A : Type 0} → ℕ → Result A LineRefused → Result A TextRefused
+refused_by letter (Ok x) = Ok x
+refused_by letter (Err r) = Err (told_as letter r)

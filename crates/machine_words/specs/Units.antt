@@ -1,0 +1,55 @@
+-- Places and rates in the units of a text: internal ones, or user units of 10^9 internal ones. This
+-- project's profile.
+use Rattle.std.specs.Prelude.{ℕ, ◌≤◌, ℤ, if◌then◌else◌, Result, Ok, Err, List}
+use Rattle.std.specs.Str.{is_utf8}
+use Rattle.fixed_units.specs.Numbers.{reading_of}
+use Rattle.fixed_units.specs.PerCycle.{per_cycle_of, per_cycle_squared_of}
+use Rattle.fixed_units.specs.declared.reading.UnitFault.{UnitFault}
+use Rattle.line_text.specs.Reading.{◌>>=◌}
+use Rattle.machine_words.specs.Numbers.{number}
+use Rattle.machine_words.specs.declared.rule.TheConstants.{NO_VALUE}
+use Rattle.machine_words.specs.declared.units.TheConstants.{LONGEST_CYCLE, SHORTEST_CYCLE}
+use Rattle.machine_words.specs.declared.units.Units.{Units}
+use Rattle.machine_words.specs.declared.units.Units.TheVariants.{Internal, User}
+
+-- the length of a cycle in microseconds
+pub record IsCycle (cycle_us : ℕ) : Type 0 where
+  pub shortest : SHORTEST_CYCLE ≤ cycle_us
+  pub longest : cycle_us ≤ LONGEST_CYCLE
+
+-- rates per second are told for a cycle of such a length
+abbrev pub IsUnits : Units → Type 0
+IsUnits Internal = Unit {0}
+IsUnits (User cycle_us) = IsCycle cycle_us
+
+-- a fault of a decimal number breaks the rule
+abbrev pub units_or_broken : ℕ → Result ℤ UnitFault → Result ℤ ℕ
+units_or_broken rule (Ok units) = Ok units
+units_or_broken rule (Err fault) = Err rule
+
+-- a decimal number of user units, in internal units
+unfoldable pub decimal_units : ℕ → List ℕ → Result ℤ ℕ
+decimal_units rule text = units_or_broken rule (reading_of text)
+
+-- a word is a quantity where it is a decimal number
+unfoldable pub quantity : List ℕ → Result ℤ ℕ
+quantity word = if is_utf8 word then decimal_units NO_VALUE word else Err NO_VALUE
+
+-- a place, in internal units
+unfoldable pub place_in : Units → List ℕ → Result ℤ ℕ
+place_in Internal word = number word
+place_in (User cycle_us) word = quantity word
+
+-- a velocity, in internal units per cycle
+unfoldable pub velocity_in : Units → List ℕ → Result ℤ ℕ
+velocity_in Internal word = number word
+velocity_in (User cycle_us) word = do
+  units ← quantity word
+  Ok (per_cycle_of units cycle_us)
+
+-- an acceleration, in internal units per cycle squared
+unfoldable pub acceleration_in : Units → List ℕ → Result ℤ ℕ
+acceleration_in Internal word = number word
+acceleration_in (User cycle_us) word = do
+  units ← quantity word
+  Ok (per_cycle_squared_of units cycle_us)

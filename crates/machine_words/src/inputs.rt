@@ -1,0 +1,171 @@
+// The inputs of a call.
+
+ghost use Rattle.std.specs.Prelude.{◌≡◌, pos};
+ghost use Rattle.line_text.specs.Reading.{Gives};
+ghost use Rattle.line_text.specs.Texts.{texts};
+ghost use Rattle.motion_history.specs.Calls.{axes_of};
+ghost use Rattle.machine_words.specs.Given.{given_of, text_of};
+ghost use Rattle.machine_words.specs.Inputs as spec;
+ghost use Rattle.machine_words.specs.Numbers as numbers;
+ghost use Rattle.machine_words.specs.Units as quantities;
+ghost use Rattle.machine_words.specs.Units.{IsUnits};
+
+use crate::integer::number;
+use crate::key::{Given, texts_given};
+use crate::master::{are_masters_there, master_or_first};
+use crate::position::{axes_of, positions_or_none};
+use crate::rule::{NO_VALUE, OUT_OF_RANGE, WRONG_NAME};
+use crate::units::{Units, acceleration_of, place_of, velocity_of};
+use command_pool::BufferMode;
+use fb_outputs::{INPUTS_OFF, Inputs, mode_named};
+use line_text::{LineFault, broken_unless, in_range, required, says};
+use motion_history::{BlockDef, Builder};
+use std::alloc::Global;
+
+/// The greatest number of a cam table in a call.
+const MOST_TABLE_NUMBER: u32 = 65_535;
+
+/// A block that is called, in its machine, and the units of the text that calls it.
+#[derive(Clone, Copy)]
+pub struct Callee<'a> {
+    pub machine: &'a Builder,
+    pub block: &'a BlockDef,
+    pub units: Units,
+}
+
+/// Whether a call is one with Execute false, by the word behind its block.
+pub fn is_off(state: &[u8]) -> bool
+    ensures { result ≡ spec.is_off state.now }
+{
+    says(state, b"off")
+}
+
+/// The inputs of a call, by the word behind its block and those behind that.
+pub fn inputs_by(
+    alloc: Global,
+    callee: &Callee<'_>,
+    state: &[u8],
+    words: &[&[u8]],
+) -> Result<Inputs, LineFault>
+    requires { IsUnits callee.now.units }
+    ensures { Gives (λ i. i) (spec.inputs_by callee.now.units callee.now.machine.now
+        callee.now.block.now state.now (texts words.now)) result }
+{
+    if is_off(state) {
+        Ok(INPUTS_OFF)
+    } else {
+        inputs_on(alloc, callee, state, words)
+    }
+}
+
+// The inputs of a call with Execute true.
+#[tactic(auto, unfolding(crate::specs::Inputs::inputs_on))]
+fn inputs_on(
+    alloc: Global,
+    callee: &Callee<'_>,
+    state: &[u8],
+    words: &[&[u8]],
+) -> Result<Inputs, LineFault>
+    requires { IsUnits callee.now.units }
+    ensures { Gives (λ i. i) (spec.inputs_on callee.now.units callee.now.machine.now
+        callee.now.block.now state.now (texts words.now)) result }
+{
+    let kind = callee.block.kind;
+    broken_unless(are_masters_there(callee.machine, kind, words), WRONG_NAME)?;
+    broken_unless(says(state, b"on"), NO_VALUE)?;
+    let Some(given) = texts_given(kind, words) else {
+        return Err(LineFault::Rule(NO_VALUE));
+    };
+    inputs_of(alloc, callee, &given)
+}
+
+// The inputs of a call, by their texts.
+#[tactic(auto, unfolding(crate::specs::Inputs::inputs_of))]
+fn inputs_of(alloc: Global, callee: &Callee<'_>, given: &Given<'_>) -> Result<Inputs, LineFault>
+    requires { IsUnits callee.now.units }
+    ensures { Gives (λ i. i) (spec.inputs_of callee.now.units callee.now.machine.now
+        (axes_of callee.now.machine.now callee.now.block.now) (given_of given.now)) result }
+{
+    let units = callee.units;
+    let axes = axes_of(callee.machine, callee.block);
+    let positions = positions_or_none(alloc, units, axes, given.position)?;
+    let velocity = velocity_or_none(units, given.velocity)?;
+    let acceleration = acceleration_or_none(units, given.acceleration)?;
+    let deceleration = acceleration_or_none(units, given.deceleration)?;
+    let jerk = place_or_none(units, given.jerk)?;
+    let mode = mode_or_aborting(given.mode)?;
+    let master = master_or_first(callee.machine, given.master)?;
+    let numerator = number_or(1, given.numerator)?;
+    let denominator = number_or(1, given.denominator)?;
+    let table = number_or(0, given.table)?;
+    let table = in_range(0, MOST_TABLE_NUMBER, OUT_OF_RANGE, table)? as u16;
+    Ok(Inputs {
+        execute: true,
+        positions,
+        velocity,
+        acceleration,
+        deceleration,
+        jerk,
+        mode,
+        master,
+        numerator,
+        denominator,
+        table,
+    })
+}
+
+// The velocity of a text, or 0.
+fn velocity_or_none(units: Units, text: Option<&[u8]>) -> Result<i64, LineFault>
+    requires { IsUnits units }
+    ensures { Gives (λ z. z)
+        (spec.value_or (pos 0) (quantities.velocity_in units) (text_of text.entry)) result }
+{
+    match text {
+        Some(text) => velocity_of(units, text),
+        None => Ok(0),
+    }
+}
+
+// The acceleration of a text, or 0.
+fn acceleration_or_none(units: Units, text: Option<&[u8]>) -> Result<i64, LineFault>
+    requires { IsUnits units }
+    ensures { Gives (λ z. z)
+        (spec.value_or (pos 0) (quantities.acceleration_in units) (text_of text.entry)) result }
+{
+    match text {
+        Some(text) => acceleration_of(units, text),
+        None => Ok(0),
+    }
+}
+
+// The quantity of a text, or 0.
+fn place_or_none(units: Units, text: Option<&[u8]>) -> Result<i64, LineFault>
+    ensures { Gives (λ z. z)
+        (spec.value_or (pos 0) (quantities.place_in units) (text_of text.entry)) result }
+{
+    match text {
+        Some(text) => place_of(units, text),
+        None => Ok(0),
+    }
+}
+
+// The number of a text, or its default.
+fn number_or(default: i64, text: Option<&[u8]>) -> Result<i64, LineFault>
+    ensures { Gives (λ z. z) (spec.value_or default numbers.number (text_of text.entry)) result }
+{
+    match text {
+        Some(text) => number(text),
+        None => Ok(default),
+    }
+}
+
+// The mode of a text, or Aborting.
+fn mode_or_aborting(text: Option<&[u8]>) -> Result<BufferMode, LineFault>
+    ensures { Gives (λ m. m)
+        (spec.value_or BufferMode.Aborting spec.mode_of (text_of text.entry)) result }
+{
+    match text {
+        Some(text) => required(mode_named(text), NO_VALUE),
+        None => Ok(BufferMode::Aborting),
+    }
+}

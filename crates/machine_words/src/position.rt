@@ -1,0 +1,85 @@
+// The positions of a call, one for each axis on which its block acts.
+
+ghost use Rattle.std.specs.Prelude.{◌≡◌, ◌≤◌, ◌++◌, ◌-◌, IfOk, length, pos, replicate};
+ghost use Rattle.std.specs.List.{slice_split};
+ghost use Rattle.line_text.specs.Reading.{Gives};
+ghost use Rattle.line_text.specs.Texts.{texts};
+ghost use Rattle.motion_history.specs.Calls as calls;
+ghost use Rattle.machine_words.specs.Given.{text_of};
+ghost use Rattle.machine_words.specs.Inputs as spec;
+ghost use Rattle.machine_words.specs.Positions.{is_semicolon, positions_from};
+
+use crate::rule::NO_VALUE;
+use crate::units::{Units, places_of};
+use line_text::{LineFault, broken_unless};
+use motion_history::{BlockDef, Builder, MOST_MEMBERS};
+use std::alloc::{AllocError, Global};
+
+/// On how many axes a block acts.
+pub fn axes_of(machine: &Builder, block: &BlockDef) -> usize
+    ensures value { result ≡ calls.axes_of machine.now block.now }
+    ensures few { result ≤ MOST_MEMBERS }
+{
+    if !block.kind.acts_on_group() {
+        return 1;
+    }
+    match machine.groups().get(block.object as usize) {
+        Some(group) => group.count as usize,
+        None => 0,
+    }
+}
+
+/// What stands between the semicolons of a text.
+pub fn parts_of(alloc: Global, text: &[u8]) -> Result<Vec<&[u8]>, AllocError>
+    ensures { IfOk result (λ v. texts v.items ≡ slice_split is_semicolon text.now) }
+{
+    text.split(|b| *b == b';').collect(alloc)
+}
+
+/// These positions, and 0 behind them.
+#[tactic(auto, unfolding(crate::specs::Positions::positions_from))]
+pub fn positions_from(places: &[i64]) -> [i64; MOST_MEMBERS]
+    requires { length places.now ≤ MOST_MEMBERS }
+    ensures { result ≡ positions_from places.now }
+{
+    let mut positions = [0; MOST_MEMBERS];
+    positions[..places.len()].copy_from_slice(places);
+    positions
+}
+
+// The positions of a text, one for each axis.
+#[tactic(auto, unfolding(crate::specs::Inputs::positions_of))]
+fn positions_of(
+    alloc: Global,
+    units: Units,
+    axes: usize,
+    text: &[u8],
+) -> Result<[i64; MOST_MEMBERS], LineFault>
+    requires { axes ≤ MOST_MEMBERS }
+    ensures { Gives (λ p. p) (spec.positions_of units axes text.now) result }
+{
+    let Ok(parts) = parts_of(alloc, text) else {
+        return Err(LineFault::OutOfMemory);
+    };
+    let places = places_of(alloc, units, parts.as_slice())?;
+    broken_unless(places.len() == axes, NO_VALUE)?;
+    Ok(positions_from(places.as_slice()))
+}
+
+/// The positions of a text, or none.
+pub fn positions_or_none(
+    alloc: Global,
+    units: Units,
+    axes: usize,
+    text: Option<&[u8]>,
+) -> Result<[i64; MOST_MEMBERS], LineFault>
+    requires { axes ≤ MOST_MEMBERS }
+    ensures { Gives (λ p. p)
+        (spec.value_or spec.no_positions (spec.positions_of units axes) (text_of text.entry))
+        result }
+{
+    match text {
+        Some(text) => positions_of(alloc, units, axes, text),
+        None => Ok([0; MOST_MEMBERS]),
+    }
+}
