@@ -1,0 +1,105 @@
+-- How the job ends, from what its parts did.
+use Rattle.std.specs.Prelude.{◌≡◌, refl, ℕ, true, false, Result, Ok, Err, List, map, All}
+use Rattle.std.proofs.Common.{◌∙◌, sym, ap, subst}
+use Rattle.bench_run.specs.Going.{run_at}
+use Rattle.bench_run.specs.InStep.{IsInStep}
+use Rattle.bench_run.specs.LegalRun.{IsLegalRun}
+use Rattle.bench_run.specs.Run.{Run, run_of}
+use Rattle.bench_run.specs.declared.bench.RunFault.{RunFault}
+use Rattle.bench_text.specs.BenchState.{BenchState, BrakesAsItSpeedsUp, IsBench}
+use Rattle.bench_text.specs.Reading.{ReadsBy, bench_of}
+use Rattle.drive_sim.specs.Sim.{DriveSim}
+use Rattle.job_ends.specs.Ends.{EndsBy, status_by}
+use Rattle.job_ends.specs.Follows.{FollowPlans}
+use Rattle.job_ends.specs.Plans.{Plan, plan_of_reading, refused_plan}
+use Rattle.job_ends.specs.declared.status.Status.{Status}
+use Rattle.machine_drives.specs.Drives.{drive_end}
+use Rattle.motion_history.specs.Entries.{cycles_of}
+use Rattle.motion_history.specs.Setup.{Setup}
+use Rattle.motion_history.specs.declared.refused.TextFault.{TextFault}
+use Rattle.motion_history.specs.declared.refused.TextFault.TheVariants.{Refused}
+use Rattle.motion_history.specs.declared.refused.TextRefused.{TextRefused}
+use Rattle.motion_history.specs.declared.refused.TraceVersion.{TraceVersion}
+use Rattle.motion_history.specs.declared.refused.TraceVersion.TheVariants.{One, Two}
+use Rattle.motion_kernel.specs.KernelState.{KernelState}
+use Rattle.trace_text.specs.Trace.{CanHold, trace_text}
+use Rattle.trace_text.specs.writing.Writes.{Output, Writes}
+use Rattle.trace_text.specs.declared.command.Command.TheVariants as command
+use Rattle.trace_text.specs.declared.writing.write.TraceFault.{TraceFault}
+use Rattle.bench_job.specs.Ends.{EndsByBench}
+use Rattle.bench_job.specs.Headline.{RunsBy, is_traced}
+use Rattle.bench_job.specs.Plans.{bench_plan, drive_ends, plan_of_bench, status_of}
+use Rattle.bench_job.proofs.CauseLaws.{ends-for}
+use Rattle.bench_job.proofs.HeadlineLaws.{headline-of}
+
+-- the same plan
+pub same-plan : (old new : Output) (p q : Plan) (s : Status) → p ≡ q → EndsBy old new p s →
+    EndsBy old new q s
+same-plan old new p q s e w = let P : Plan → Type 0 = λ x. EndsBy old new x s in subst P e w
+
+-- a text that is refused ends by its reading's plan
+pub refused-ends : {A : Type 0} (old new : Output) (plan : A → Plan) (name : List ℕ)
+    (reading : Result A TextRefused) (r : TextRefused) (s : Status) → reading ≡ Err r →
+    EndsBy old new (refused_plan 1 name r) s →
+    EndsBy old new (plan_of_reading plan 1 name reading) s
+refused-ends old new plan name reading r s e =
+    subst (λ p. EndsBy old new p s) (sym (ap (plan_of_reading plan 1 name) e))
+
+-- why a text is refused
+pub refused-why : (reading : Result BenchState TextRefused) (f : TextFault) (r : TextRefused) →
+    f ≡ Refused r → ReadsBy reading (Err f) → reading ≡ Err r
+refused-why reading f r e why =
+    let P : TextFault → Type 0 = λ x. ReadsBy reading (Err x) in subst P e why
+
+-- the trace of a run that was written is that of its bench, and the status is that of the run
+pub bench-ends : (old new : Output) (b : BenchState) (k : KernelState) (drives : List DriveSim)
+    (ending : Result (Unit {0}) RunFault) (written : Result (Unit {0}) TraceFault) →
+    run_at k drives ending ≡ run_of b →
+    Writes old new
+    (trace_text b.version command.Bench b.config k.history
+    (map (drive_end (cycles_of k.history)) drives))
+    written →
+    EndsBy old new (plan_of_bench b) (status_by (status_of ending) written)
+bench-ends old new b k drives ending written e w = record {
+  written = written;
+  writes = subst (λ t. Writes old new t written)
+      (ap (λ (r : Run). trace_text b.version command.Bench b.config r.history (drive_ends r)) e) w;
+  status = ap (λ (r : Run). status_by (status_of r.ending) written) e;
+}
+
+-- it is the one bench
+pub runs-bench : (bench : BenchState) (s : Status) → IsLegalRun bench → RunsBy (λ b. b ≡ bench) s
+runs-bench bench s legal = λ b h t. subst IsLegalRun (sym h) legal
+
+held : (v : TraceVersion) (s : Setup) → (v ≡ One → All BrakesAsItSpeedsUp s.axes) → CanHold v s
+held One s h = h refl
+held Two s h = tt
+
+-- a bench of version 1 can be told in it
+pub can-hold : (b : BenchState) → IsBench b → CanHold b.version b.config
+can-hold b is = held b.version b.config is.braking
+
+-- what is read is the one bench
+pub runs-read : (reading : Result BenchState TextRefused) (bench : BenchState) (s : Status) →
+    reading ≡ Ok bench → RunsBy (λ b. b ≡ bench) s → RunsBy (λ b. reading ≡ Ok b) s
+runs-read reading bench s r runs =
+    λ b h t. let same : b ≡ bench = let e : Ok b ≡ Ok bench = sym h ∙ r in cc in runs b same t
+
+-- a text that is refused has no run
+pub runs-none : (reading : Result BenchState TextRefused) (r : TextRefused) (s : Status) →
+    reading ≡ Err r → RunsBy (λ b. reading ≡ Ok b) s
+runs-none reading r s e = λ b h t. let bad : Ok b ≡ Err r = sym h ∙ e in absurd (cc)
+
+-- where the status stands for no trace nothing is said of the run
+pub runs-other : (IsRead : BenchState → Type 0) (s : Status) → is_traced s ≡ false → RunsBy IsRead s
+runs-other IsRead s e = λ b h t. absurd (let bad : true ≡ false = sym t ∙ e in cc)
+
+-- so the job ended
+pub ended : FollowPlans → ((b : BenchState) → IsInStep b) → (name text : List ℕ) (old new : Output)
+    (s : Status) → EndsBy old new (bench_plan name text) s → RunsBy (λ b. bench_of text ≡ Ok b) s →
+    EndsByBench name text old new s
+ended follow step name text old new s e runs = record {
+  by = ends-for name text old new s e;
+  runs = runs;
+  headline = headline-of follow step name text old new s e runs;
+}

@@ -1,0 +1,27 @@
+-- The trace of a text's run was written, a text is refused, or there was no memory for one.
+use Rattle.std.proofs.Common.{ap, refl, sym}
+use Rattle.job_ends.specs.Plans.{Plan, plan_of_reading}
+use Rattle.job_ends.specs.declared.status.Status.TheVariants as status
+use Rattle.bench_job.specs.Plans.{plan_of_bench}
+use Rattle.bench_job.proofs.EndLaws.{ended, refused-ends, refused-why, runs-none, runs-other, runs-read, same-plan}
+use Rattle.bench_job.proofs.bench.run_text.Goals as goal
+
+pub returns-in-Ok : goal.returns-in-Ok
+returns-in-Ok g c =
+    ended c.ends_follow_plans.ensures c.runs_are_in_step.ensures _ _ _ _ _
+    (same-plan _ _ _ _ _
+    (sym (ap (plan_of_reading plan_of_bench 1 c.args.name.now) c.in-Ok.ensures.exact))
+    c.run_bench.ensures.ends)
+    (runs-read _ _ _ c.in-Ok.ensures.exact c.run_bench.ensures.runs)
+
+pub returns-in-Err-Refused : goal.returns-in-Err-Refused
+returns-in-Err-Refused g c =
+    let why = refused-why _ _ _ c.in-Err-Refused.field-0-is c.in-Err-Refused.ensures.exact in
+    ended c.ends_follow_plans.ensures c.runs_are_in_step.ensures _ _ _ _ _
+    (refused-ends _ _ plan_of_bench c.args.name.now _ _ _ why c.say_refused.ensures) (runs-none _ _ _ why)
+
+pub returns-in-Err-OutOfMemory : goal.returns-in-Err-OutOfMemory
+returns-in-Err-OutOfMemory g c =
+    ended c.ends_follow_plans.ensures c.runs_are_in_step.ensures _ _ _ _ _
+    (c.ends_follow_plans.ensures.early _ _ _ _ (record { status = refl; output = refl }))
+    (runs-other _ status.OutOfMemory refl)

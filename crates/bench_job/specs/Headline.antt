@@ -1,0 +1,51 @@
+-- What the trace of a bench stands for. This project's profile.
+use Rattle.std.specs.Prelude.{◌≡◌, ℕ, Bool, true, false, Option, Ok, List, map}
+use Rattle.std.specs.Io.KnownBytes.{Appends}
+use Rattle.bench_run.specs.InStep.{TakesAnswers, drives_of}
+use Rattle.bench_run.specs.LegalRun.{IsLegalRun}
+use Rattle.bench_run.specs.Run.{run_of}
+use Rattle.bench_text.specs.BenchState.{BenchState}
+use Rattle.bench_text.specs.Reading.{bench_of}
+use Rattle.job_ends.specs.declared.status.Status.{Status}
+use Rattle.job_ends.specs.declared.status.Status.TheVariants as status
+use Rattle.machine_drives.specs.Drives.{drive_end}
+use Rattle.motion_history.specs.Entries.{Entry, cycles_of}
+use Rattle.motion_kernel.specs.Histories.{IsLegal}
+use Rattle.motion_kernel.specs.Laws.{KeepsLaws}
+use Rattle.outside.specs.Told.{FileMap, HasFile}
+use Rattle.trace_text.specs.Trace.{trace_text}
+use Rattle.trace_text.specs.declared.command.Command.TheVariants.{Bench}
+use Rattle.trace_text.specs.declared.drive_end.DriveEndRow.{DriveEndRow}
+
+-- the statuses that stand for the trace of a bench
+abbrev pub is_traced : Status → Bool
+is_traced status.Ok = true
+is_traced status.CyclesOver = true
+is_traced status.HistoryFull = true
+is_traced _ = false
+
+-- where the status stands for a trace, the run of the bench that was read is legal
+abbrev pub RunsBy : (BenchState → Type 0) → Status → Type 0
+RunsBy IsRead s = (b : BenchState) → IsRead b → is_traced s ≡ true → IsLegalRun b
+
+-- the trace that was written is that of a bench: of the one history that the events of its file
+-- make, one after another, up to the first for which there is no cycle or no room left
+pub record Headline (files : Option FileMap) (name : List ℕ) (old new : Option (List ℕ))
+    : Type 0 where
+  -- the text of the file that was asked for is a bench
+  pub text : List ℕ
+  pub bench : BenchState
+  pub file : HasFile files name text
+  pub reading : bench_of text ≡ Ok bench
+  -- the file's events make this history, in which the drives answer in step
+  pub history : List Entry
+  pub events : history ≡ (run_of bench).history
+  pub answers : TakesAnswers bench history
+  -- each of its replies and rows is the PLCopen machine's, and it keeps the machine's laws
+  pub legal : IsLegal bench.config history
+  pub laws : KeepsLaws bench.config history
+  -- each drive took an output in each cycle, and is where these lead it
+  pub drives : List DriveEndRow
+  pub taken : drives ≡ map (drive_end (cycles_of history)) (drives_of bench history)
+  -- what was written is the text of all this, in the bench's version
+  pub written : Appends old new (trace_text bench.version Bench bench.config history drives)

@@ -1,0 +1,93 @@
+// A bench is run, and its trace written.
+
+ghost use Rattle.std.specs.Prelude.{◌≡◌, length, map};
+ghost use Rattle.bench_job.specs.Ends.{EndsByBench};
+ghost use Rattle.bench_job.specs.Headline.{RunsBy};
+ghost use Rattle.bench_job.specs.Plans as plans;
+ghost use Rattle.bench_job.specs.Plans.{plan_of_bench};
+ghost use Rattle.job_ends.specs.Ends.{EndsBy};
+ghost use Rattle.machine_drives.specs.Drives.{drive_end};
+ghost use Rattle.motion_history.specs.Entries.{cycles_of};
+ghost use Rattle.trace_text.specs.Trace.{trace_text};
+ghost use Rattle.trace_text.specs.writing.Writes.{Writes};
+
+use bench_run::{Ran, RunFault, run, runs_are_in_step};
+use bench_text::{Bench, read_bench};
+use job_ends::{Status, ends_follow_plans, say_refused, status_by};
+use machine_drives::end_rows;
+use motion_history::TextFault;
+use outside::Sink;
+use std::alloc::Global;
+use trace_text::{Command, TraceFault, parts_are_beginnings, write_trace};
+
+/// Runs the bench that a text is, and writes its trace.
+pub fn run_text<K: Sink>(alloc: Global, name: &str, text: &[u8], out: &mut K) -> Status
+    ensures { EndsByBench name.now text.now
+        (record { count = K.count out.old; told = K.told out.old })
+        (record { count = K.count out.new; told = K.told out.new }) result }
+{
+    ends_follow_plans();
+    runs_are_in_step();
+    match read_bench(alloc, text) {
+        Ok(bench) => run_bench(alloc, &bench, out),
+        Err(TextFault::Refused(refused)) => say_refused(alloc, 1, name, &refused, out),
+        Err(TextFault::OutOfMemory) => Status::OutOfMemory,
+    }
+}
+
+// Runs a bench, and writes its trace.
+fn run_bench<K: Sink>(alloc: Global, bench: &Bench, out: &mut K) -> Status
+    ensures runs { RunsBy (λ b. b ≡ bench.now) result }
+    ensures ends { EndsBy (record { count = K.count out.old; told = K.told out.old })
+        (record { count = K.count out.new; told = K.told out.new })
+        (plan_of_bench bench.now) result }
+{
+    ends_follow_plans();
+    let Ok(ran) = run(alloc, bench) else {
+        return Status::OutOfMemory;
+    };
+    let written = write_run(alloc, bench, &ran, out);
+    status_by(status_of(ran.ending), written)
+}
+
+// The status that a run ends with.
+fn status_of(ending: Result<(), RunFault>) -> Status
+    ensures { result ≡ plans.status_of ending }
+{
+    match ending {
+        Ok(()) => Status::Ok,
+        Err(RunFault::CyclesOver) => Status::CyclesOver,
+        Err(RunFault::HistoryFull) => Status::HistoryFull,
+    }
+}
+
+// Writes the trace of a bench that was run.
+fn write_run<K: Sink>(
+    alloc: Global,
+    bench: &Bench,
+    ran: &Ran,
+    out: &mut K,
+) -> Result<(), TraceFault>
+    requires config { ran.now.kernel.config ≡ bench.now.config }
+    requires each { length ran.now.drives.items ≡ length bench.now.config.axes }
+    ensures { Writes (record { count = K.count out.old; told = K.told out.old })
+        (record { count = K.count out.new; told = K.told out.new })
+        (trace_text bench.now.version Command.Bench bench.now.config ran.now.kernel.history
+        (map (drive_end (cycles_of ran.now.kernel.history)) ran.now.drives.items)) result }
+{
+    parts_are_beginnings();
+    let history = ran.kernel.history();
+    let cycles = ran.kernel.config().cycles() - ran.kernel.cycles_left();
+    let Ok(drives) = end_rows(alloc, cycles, ran.drives.as_slice()) else {
+        return Err(TraceFault::OutOfMemory);
+    };
+    write_trace(
+        alloc,
+        bench.version(),
+        Command::Bench,
+        bench.config(),
+        history,
+        drives.as_slice(),
+        out,
+    )
+}

@@ -1,0 +1,25 @@
+-- The run of a bench begins, and ends in a legal history.
+use Rattle.std.proofs.Common.{◌∙◌, List, ap, length}
+use Rattle.drive_sim.specs.Sim.{DriveSim}
+use Rattle.axis_state.specs.declared.definition.AxisDef.{AxisDef}
+use Rattle.motion_kernel.specs.KernelState.{KernelState}
+use Rattle.bench_run.proofs.RunLaws.{can-open-all, going-first, same-lines}
+use Rattle.bench_run.proofs.bench.run.Goals as goal
+
+pub open_drives-requires-clause-drives : goal.open_drives-requires-clause-drives
+open_drives-requires-clause-drives c =
+    can-open-all _ _ (c.as_slice.ensures ∙ c.drives.ensures) c.config-config.ensures.bench.drives
+
+pub make_all-ending-requires-clause-lines : goal.make_all-ending-requires-clause-lines
+make_all-ending-requires-clause-lines c =
+    same-lines _ _ _ _
+    (ap (λ (k : KernelState). k.config) c.in-Ok.ensures ∙ c.in_ok-copy.ensures
+    ∙ c.config-config.ensures.value) c.lines.ensures c.config-config.ensures.bench.lines
+
+pub make_all-ending-requires-clause-going : goal.make_all-ending-requires-clause-going
+make_all-ending-requires-clause-going c =
+    going-first _ _ _ c.axes.ensures.setup
+    (ap (λ (k : KernelState). k.config) c.in-Ok.ensures ∙ c.in_ok-copy.ensures)
+    (ap (λ (k : KernelState). k.stopped) c.in-Ok.ensures)
+    (ap (λ (ds : List DriveSim). length ds) c.as_mut_slice.ensures.value
+    ∙ c.in_ok-drives.ensures.each ∙ ap (λ (xs : List AxisDef). length xs) c.axes.ensures.axes)

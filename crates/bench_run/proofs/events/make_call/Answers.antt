@@ -1,0 +1,32 @@
+-- There is room for the call, or it ends the run.
+use Rattle.std.specs.Prelude.{Ok, Err, List, ◌∷◌, ◌++◌, []}
+use Rattle.std.proofs.Common.{◌∙◌, refl, ap}
+use Rattle.fb_outputs.specs.declared.outputs.Outputs.{Outputs}
+use Rattle.motion_history.specs.Entries.{Entry, call}
+use Rattle.motion_history.specs.Setup.{Setup}
+use Rattle.motion_kernel.specs.KernelState.{KernelState}
+use Rattle.bench_run.specs.Run.{Run, a_call}
+use Rattle.bench_run.proofs.RunLaws.{made-by, task-at}
+use Rattle.bench_run.specs.Going.{run_at}
+use Rattle.bench_run.proofs.events.make_call.Goals as goal
+
+pub returns-in-Err-clause-made : goal.returns-in-Err-clause-made
+returns-in-Err-clause-made c = λ drives.
+    made-by _ (a_call c.args.instance c.args.inputs.now) (run_at c.args.kernel.now drives (Ok tt))
+    (Err c.in-Err.fault) refl c.in-Err.ensures.value
+
+pub call-requires-clause-task : goal.call-requires-clause-task
+call-requires-clause-task c =
+    task-at _ _ c.args.instance _
+    (c.blocks-2.ensures ∙ ap (λ (s : Setup). s.blocks) c.config.ensures) c.requires.call.there
+
+pub returns-clause-made : goal.returns-clause-made
+returns-clause-made c = λ drives.
+    let history = c.args.kernel.now.history in
+    let made = ap (λ (k : KernelState). k.history) c.call.ensures.after
+    ∙ ap (λ (o : Outputs). history ++ call c.args.instance c.args.inputs.now o ∷ [])
+    c.call.ensures.reply in
+    let run : List Entry → Run = λ h. record { history = h; drives = drives; ending = Ok tt } in
+    ap run made
+    ∙ made-by _ (a_call c.args.instance c.args.inputs.now) (run_at c.args.kernel.now drives (Ok tt))
+    (Ok tt) refl c.in-Ok.ensures.value

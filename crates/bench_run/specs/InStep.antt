@@ -1,0 +1,31 @@
+-- The drives of a bench in step with a history. This project's profile.
+use Rattle.std.specs.Prelude.{◌≡◌, ℕ, List, ◌∷◌, ◌++◌, map}
+use Rattle.axis_state.specs.declared.definition.AxisRow.{AxisRow}
+use Rattle.bench_text.specs.BenchState.{BenchState}
+use Rattle.drive_sim.specs.Sim.{DriveSim}
+use Rattle.drive_sim.specs.Steps.{answer_of}
+use Rattle.group_state.specs.declared.state.GroupRow.{GroupRow}
+use Rattle.machine_drives.specs.Drives.{drives_after, drives_at_opening}
+use Rattle.motion_history.specs.Entries.{Entry, cycle}
+use Rattle.motion_kernel.specs.Cycles.{cycled}
+use Rattle.motion_kernel.specs.Histories.{machine_after}
+use Rattle.bench_run.specs.Run.{run_of}
+
+-- the simulated drives of a bench after a history, each by the outputs of its axis
+abbrev pub drives_of : BenchState → List Entry → List DriveSim
+drives_of b es = drives_after 0 (drives_at_opening b.config.axes b.drives) es
+
+-- the rows of each cycle are the machine's with the answers of the drives after the cycles before
+-- it
+abbrev pub TakesAnswers : BenchState → List Entry → Type 0
+TakesAnswers b es =
+    (before more : List Entry) (n : ℕ) (rows : List AxisRow) (grows : List GroupRow) →
+    es ≡ before ++ cycle n rows grows ∷ more →
+    rows ≡ (cycled b.config (machine_after b.config before)
+    (map answer_of (drives_of b before))).axes
+
+-- the drives of a bench's run are where its history leads them, and each of its cycles takes their
+-- answers
+pub record IsInStep (b : BenchState) : Type 0 where
+  pub drives : (run_of b).drives ≡ drives_of b (run_of b).history
+  pub answers : TakesAnswers b (run_of b).history

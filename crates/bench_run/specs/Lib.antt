@@ -1,0 +1,5 @@
+pub mod Run
+pub mod Going
+pub mod LegalRun
+pub mod InStep
+pub mod Enough

@@ -1,0 +1,185 @@
+// The events of a bench, one after another on a kernel, with its drives in step.
+
+ghost use Rattle.std.specs.Prelude.{◌≡◌, ◌<◌, IsTrue, OnOk, Ok, List, length, All, false, replicate};
+ghost use Rattle.std.specs.List.{flat_map};
+ghost use Rattle.bench_text.specs.BenchState.{IsLineOf};
+ghost use Rattle.drive_sim.specs.Sim.{DriveSim};
+ghost use Rattle.motion_history.specs.Calls.{IsCall};
+ghost use Rattle.motion_history.specs.Entries.{cycles_of};
+ghost use Rattle.bench_run.specs.Going.{IsGoing, run_at};
+ghost use Rattle.bench_run.specs.Run as spec;
+
+use crate::bench::RunFault;
+use bench_text::BenchLine;
+use cia402_machine::{DriveIn, DriveOut};
+use drive_sim::Drive;
+use fb_outputs::Inputs;
+use machine_drives::{answer_all, step_all};
+use motion_history::MOST_AXES;
+use motion_kernel::Kernel;
+
+/// An answer before it is given.
+const NO_ANSWER: DriveIn = DriveIn {
+    statusword: 0,
+    mode_display: 0,
+    actual: 0,
+};
+
+/// An output before it is given.
+const NO_OUTPUT: DriveOut = DriveOut {
+    controlword: 0,
+    mode: 0,
+    target: 0,
+};
+
+// Whether there is room for an event: for a cycle, cycles first, then entries.
+#[tactic(auto, unfolding(crate::specs::Run::room_for))]
+fn room_for(kernel: &Kernel, is_cycle: bool) -> Result<(), RunFault>
+    requires { kernel.now.stopped ≡ false }
+    ensures value { result ≡ spec.room_for kernel.now.config kernel.now.history is_cycle }
+    ensures room { OnOk result (length kernel.now.history < kernel.now.config.entries) }
+    ensures cycle { OnOk result (IsTrue is_cycle →
+        cycles_of kernel.now.history < kernel.now.config.cycles) }
+{
+    if is_cycle && kernel.cycles_left() == 0 {
+        Err(RunFault::CyclesOver)
+    } else if kernel.room_left() == 0 {
+        Err(RunFault::HistoryFull)
+    } else {
+        Ok(())
+    }
+}
+
+// A cycle of the kernel and the drives, for which there is room.
+#[tactic(auto, unfolding(crate::specs::Run::cycled))]
+fn cycle(kernel: &mut Kernel, drives: &mut [Drive])
+    requires room { length kernel.old.history < kernel.old.config.entries }
+    requires cycle { cycles_of kernel.old.history < kernel.old.config.cycles }
+    requires going { IsGoing kernel.old drives.old }
+    ensures config { kernel.new.config ≡ kernel.old.config }
+    ensures made { run_at kernel.new drives.new (Ok tt) ≡
+        spec.cycled kernel.old.config (run_at kernel.old drives.old (Ok tt)) }
+    ensures going { IsGoing kernel.new drives.new }
+{
+    let mut answers = [NO_ANSWER; MOST_AXES];
+    let answers = &mut answers[..drives.len()];
+    let mut outs = [NO_OUTPUT; MOST_AXES];
+    let outs = &mut outs[..drives.len()];
+    answer_all(drives, answers);
+    kernel.cycle(answers, outs);
+    step_all(drives, outs);
+}
+
+// A cycle.
+fn make_cycle(kernel: &mut Kernel, drives: &mut [Drive]) -> Result<(), RunFault>
+    requires going { IsGoing kernel.old drives.old }
+    ensures config { kernel.new.config ≡ kernel.old.config }
+    ensures made { run_at kernel.new drives.new result ≡
+        spec.made kernel.old.config spec.a_cycle (run_at kernel.old drives.old (Ok tt)) }
+    ensures going { IsGoing kernel.new drives.new }
+{
+    match room_for(kernel, true) {
+        Ok(()) => {}
+        Err(fault) => return Err(fault),
+    }
+    cycle(kernel, drives);
+    Ok(())
+}
+
+// So many cycles.
+#[tactic(auto, unfolding(crate::specs::Run::made_all))]
+fn make_cycles(kernel: &mut Kernel, drives: &mut [Drive], count: u32) -> Result<(), RunFault>
+    requires going { IsGoing kernel.old drives.old }
+    ensures config { kernel.new.config ≡ kernel.old.config }
+    ensures made { run_at kernel.new drives.new result ≡
+        spec.made_all kernel.old.config (replicate count spec.a_cycle)
+        (run_at kernel.old drives.old (Ok tt)) }
+    ensures going { IsGoing kernel.new drives.new }
+{
+    for _ in 0..count {
+        match make_cycle(kernel, drives) {
+            Ok(()) => {}
+            Err(fault) => return Err(fault),
+        }
+    }
+    Ok(())
+}
+
+// A call of a block, in its task.
+fn make_call(kernel: &mut Kernel, instance: u16, inputs: &Inputs) -> Result<(), RunFault>
+    requires runs { kernel.old.stopped ≡ false }
+    requires call { IsCall kernel.old.config instance inputs.now }
+    ensures config { kernel.new.config ≡ kernel.old.config }
+    ensures runs { kernel.new.stopped ≡ false }
+    ensures made { (drives : List DriveSim) → run_at kernel.new drives result ≡
+        spec.made kernel.old.config (spec.a_call instance inputs.now)
+        (run_at kernel.old drives (Ok tt)) }
+{
+    match room_for(kernel, false) {
+        Ok(()) => {}
+        Err(fault) => return Err(fault),
+    }
+    let task = kernel.config().blocks()[instance as usize].task;
+    kernel.call(task, instance, inputs);
+    Ok(())
+}
+
+// The end of a task.
+fn make_end(kernel: &mut Kernel, task: u8) -> Result<(), RunFault>
+    requires runs { kernel.old.stopped ≡ false }
+    requires task { task < length kernel.old.config.tasks }
+    ensures config { kernel.new.config ≡ kernel.old.config }
+    ensures runs { kernel.new.stopped ≡ false }
+    ensures made { (drives : List DriveSim) → run_at kernel.new drives result ≡
+        spec.made kernel.old.config (spec.an_end task)
+        (run_at kernel.old drives (Ok tt)) }
+{
+    match room_for(kernel, false) {
+        Ok(()) => {}
+        Err(fault) => return Err(fault),
+    }
+    kernel.end(task);
+    Ok(())
+}
+
+// The events of a line.
+#[tactic(auto, unfolding(crate::specs::Run::events_of, crate::specs::Run::made_all))]
+fn make_line(kernel: &mut Kernel, drives: &mut [Drive], line: &BenchLine) -> Result<(), RunFault>
+    requires line { IsLineOf kernel.old.config line.now }
+    requires going { IsGoing kernel.old drives.old }
+    ensures config { kernel.new.config ≡ kernel.old.config }
+    ensures made { run_at kernel.new drives.new result ≡
+        spec.made_all kernel.old.config (spec.events_of line.now)
+        (run_at kernel.old drives.old (Ok tt)) }
+    ensures going { IsGoing kernel.new drives.new }
+{
+    match line {
+        BenchLine::Call { instance, inputs } => make_call(kernel, *instance, inputs),
+        BenchLine::Cycles { count } => make_cycles(kernel, drives, *count),
+        BenchLine::End { task } => make_end(kernel, *task),
+    }
+}
+
+/// The events of lines, one after another.
+#[tactic(auto, unfolding(crate::specs::Run::made_all))]
+pub fn make_all(
+    kernel: &mut Kernel,
+    drives: &mut [Drive],
+    lines: &[BenchLine],
+) -> Result<(), RunFault>
+    requires lines { All (IsLineOf kernel.old.config) lines.now }
+    requires going { IsGoing kernel.old drives.old }
+    ensures config { kernel.new.config ≡ kernel.old.config }
+    ensures made { run_at kernel.new drives.new result ≡
+        spec.made_all kernel.old.config (flat_map spec.events_of lines.now)
+        (run_at kernel.old drives.old (Ok tt)) }
+    ensures going { IsGoing kernel.new drives.new }
+{
+    for line in lines {
+        match make_line(kernel, drives, line) {
+            Ok(()) => {}
+            Err(fault) => return Err(fault),
+        }
+    }
+    Ok(())
+}

@@ -1,0 +1,77 @@
+-- What plans say of ends.
+use Rattle.std.specs.Prelude.{◌≡◌, ◌⊎◌, refl, ℕ, true, false, Option, Result, Ok, Err, List, IfOk}
+use Rattle.std.specs.Io.KnownBytes.{Appends}
+use Rattle.std.specs.declared.alloc.AllocError.{AllocError}
+use Rattle.std.proofs.Common.{Vec, Global, ◌∙◌, inl, inr, sym, ap, subst}
+use Rattle.outside.specs.Faults.{Rose}
+use Rattle.outside.specs.declared.files.FilesFault.{FilesFault}
+use Rattle.outside.specs.declared.files.FilesFault.TheVariants as files
+use Rattle.trace_text.specs.writing.Writes.{Output, Writes, WritesPrefix}
+use Rattle.trace_text.specs.declared.writing.write.TraceFault.{TraceFault}
+use Rattle.trace_text.specs.declared.writing.write.TraceFault.TheVariants as fault
+use Rattle.job_ends.specs.Causes.{is_fault}
+use Rattle.job_ends.specs.Ends.{EndsBy, EndsEarly, EndsUnread, Says, status_by}
+use Rattle.job_ends.specs.Plans.{Plan, too_long_plan, unread_plan}
+use Rattle.job_ends.specs.declared.status.Status.{Status}
+use Rattle.job_ends.specs.declared.status.Status.TheVariants as status
+
+-- nothing of a text is a beginning of it
+abbrev pub NothingIsABeginning : Type 0
+NothingIsABeginning = (told : Option (List ℕ)) (text : List ℕ) → WritesPrefix told told text
+
+-- memory that runs out before anything is written is a cause to end by any plan
+pub early : NothingIsABeginning → (old new : Output) (plan : Plan) (s : Status) →
+    EndsEarly old new s → EndsBy old new plan s
+early none old new plan s e = rw e.output (record {
+  written = Err fault.OutOfMemory;
+  writes = (refl, none old.told plan.text);
+  status = e.status;
+})
+
+-- a line that is the text of a plan
+pub said : NothingIsABeginning → (old new : Output) (text : List ℕ)
+    (line : Result (Vec ℕ Global) AllocError) (s r : Status) → IfOk line (λ v. v.items ≡ text) →
+    Says old new line s r → EndsBy old new (record { status = s; text = text }) r
+said none old new text (Ok v) s r e w =
+    let P : List ℕ → Type 0 = λ t. EndsBy old new (record { status = s; text = t }) r in subst P e w
+said none old new text (Err x) s r e w = early none old new (record { status = s; text = text }) r w
+
+-- the status by what was written
+statuses-by : (old new : Output) (text : List ℕ) (p s : Status) (w : Result (Unit {0}) TraceFault) →
+    Writes old new text w → s ≡ status_by p w →
+    (s ≡ p) ⊎ (((s ≡ status.WriteFault) × Rose old.count new.count) ⊎ (s ≡ status.OutOfMemory))
+statuses-by old new text p s (Ok u) ws e = inl e
+statuses-by old new text p s (Err fault.WriteFault) ws e = inr (inl (e, ws.0))
+statuses-by old new text p s (Err fault.OutOfMemory) ws e = inr (inr e)
+
+pub statuses : (old new : Output) (plan : Plan) (s : Status) → EndsBy old new plan s →
+    (s ≡ plan.status) ⊎ (((s ≡ status.WriteFault) × Rose old.count new.count) ⊎
+    (s ≡ status.OutOfMemory))
+statuses old new plan s e = statuses-by old new plan.text plan.status s e.written e.writes e.status
+
+whole-by : (old new : Output) (text : List ℕ) (p s : Status) (w : Result (Unit {0}) TraceFault) →
+    Writes old new text w → s ≡ status_by p w → is_fault s ≡ false →
+    (s ≡ p) × Appends old.told new.told text
+whole-by old new text p s (Ok u) ws e f = (e, ws.0)
+whole-by old new text p s (Err fault.WriteFault) ws e f =
+    let bad : true ≡ false = sym (ap is_fault e) ∙ f in absurd (cc)
+whole-by old new text p s (Err fault.OutOfMemory) ws e f =
+    let bad : true ≡ false = sym (ap is_fault e) ∙ f in absurd (cc)
+
+-- where no fault came, the text was written
+pub whole : (old new : Output) (plan : Plan) (s : Status) → EndsBy old new plan s →
+    is_fault s ≡ false → (s ≡ plan.status) × Appends old.told new.told plan.text
+whole old new plan s e = whole-by old new plan.text plan.status s e.written e.writes e.status
+
+-- why a file wasn't read was said
+pub unread-said : (word : ℕ) (name : List ℕ) (f : FilesFault) (old new : Output) (s : Status) →
+    f ≡ files.Failed → EndsBy old new (unread_plan word name) s →
+    EndsUnread word name f old new s
+unread-said word name f old new s e by =
+    let P : FilesFault → Type 0 = λ x. EndsUnread word name x old new s in subst P (sym e) by
+
+pub too-long-said : (word : ℕ) (name : List ℕ) (f : FilesFault) (old new : Output) (s : Status) →
+    f ≡ files.TooLong → EndsBy old new (too_long_plan word name) s →
+    EndsUnread word name f old new s
+too-long-said word name f old new s e by =
+    let P : FilesFault → Type 0 = λ x. EndsUnread word name x old new s in subst P (sym e) by

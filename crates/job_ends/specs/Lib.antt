@@ -1,0 +1,5 @@
+pub mod Plans
+pub mod Ends
+pub mod Follows
+pub mod Causes
+pub mod Exits

@@ -1,0 +1,13 @@
+//! How a job of the program ends: its status, and what is said in place of its text.
+#![tactic(auto)]
+
+mod laws;
+mod lines;
+mod saying;
+mod status;
+
+pub use laws::ends_follow_plans;
+pub use lines::joined;
+pub use outside::{Files, FilesFault, OutOfMemory, Sink};
+pub use saying::{say, say_all, say_refused, say_unread};
+pub use status::{Status, status_by};

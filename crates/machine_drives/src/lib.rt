@@ -1,0 +1,9 @@
+//! The simulated drives of a machine: one for each axis, in step with the kernel.
+#![tactic(auto)]
+
+mod drives;
+mod laws;
+
+pub use drives::{answer_all, end_row, end_rows, open_drive, open_drives, step_all};
+pub use laws::drives_follow_their_outputs;
+pub use motion_history::OutOfMemory;
