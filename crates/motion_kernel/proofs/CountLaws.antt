@@ -17,7 +17,7 @@ use Rattle.kin_core.specs.declared.limits.Limits.{Limits}
 use Rattle.motion_history.specs.Columns.{no_row}
 use Rattle.motion_history.specs.Entries.{Entry, call, cycle, cycle_count, end_of}
 use Rattle.motion_history.specs.Setup.{Setup, IsSetup}
-use Rattle.motion_kernel.specs.AxisFates.{look_of_axis}
+use Rattle.motion_kernel.specs.CycleLooks.{look_of_axis}
 use Rattle.motion_kernel.specs.Calls.{after_call}
 use Rattle.motion_kernel.specs.Counted.{IsCounted, RowsAreCounted}
 use Rattle.motion_kernel.specs.Cycles.{after_cycle, cycled, no_answer}
@@ -25,9 +25,9 @@ use Rattle.motion_kernel.specs.Histories.{Follows, IsCycleOf, IsLegal, inputs_of
 use Rattle.motion_kernel.specs.Machine.{Machine, axis_at, axis_core_at, machine_at_opening, no_axis}
 use Rattle.motion_kernel.specs.MachineKept.{AreWhole, IsMachineKept, limits_of, no_def}
 use Rattle.motion_kernel.proofs.KeptLaws.{AxesKeepDefinitions}
-use Rattle.motion_kernel.proofs.LimitCalls.{call_left, calls_leave_definitions}
-use Rattle.motion_kernel.proofs.LimitCycles.{goes_through}
-use Rattle.motion_kernel.proofs.LimitLaws.{MachinesStayKept, kept_by_cycle}
+use Rattle.motion_kernel.proofs.CallsLeave.{call_left, calls_leave_definitions}
+use Rattle.motion_kernel.proofs.ThroughCycles.{goes_through}
+use Rattle.motion_kernel.proofs.MachineLaws.{MachinesStayKept, kept_by_cycle}
 
 -- the laws on which it rests
 pub record CountLaws : Type 0 where

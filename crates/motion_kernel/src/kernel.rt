@@ -6,17 +6,17 @@ ghost use Rattle.axis_state.specs.declared.definition.AxisRow.{AxisRow};
 ghost use Rattle.cia402_machine.specs.declared.drive.DriveIn.{DriveIn};
 ghost use Rattle.motion_history.specs.Calls.{IsCall};
 ghost use Rattle.motion_history.specs.Entries.{call, cycle, end_of, cycles_of};
+ghost use Rattle.motion_history.specs.Setup.{IsSetup};
 ghost use Rattle.motion_kernel.specs.Calls.{reply_of};
 ghost use Rattle.motion_kernel.specs.Cycles.{cycled};
 ghost use Rattle.motion_kernel.specs.Histories.{IsLegal};
 ghost use Rattle.motion_kernel.specs.KernelState.{KernelState, room_of, state_of};
-ghost use Rattle.motion_kernel.specs.Laws.{KeepsLaws};
+ghost use Rattle.motion_kernel.specs.MachineKept.{AreWhole};
 ghost use Rattle.motion_kernel.specs.Tasks.{live_tasks, quiet_tasks};
 
 use crate::answers::counts_have_32_bits;
 use crate::calls::call_block;
 use crate::cycling::{Aside, cycle_machine};
-use crate::history_laws::histories_keep_their_laws;
 use crate::laws::machines_stay_kept;
 use crate::layout::Layout;
 use crate::opening::open_parts;
@@ -202,9 +202,9 @@ impl Kernel {
     pub fn history(&self) -> &History
         ensures entries { result.now.entries ≡ self.now.history }
         ensures legal { IsLegal self.now.config self.now.history }
-        ensures laws { KeepsLaws self.now.config self.now.history }
+        ensures setup { IsSetup self.now.config }
+        ensures whole { AreWhole self.now.config }
     {
-        histories_keep_their_laws();
         &self.history
     }
 }

@@ -1,0 +1,5 @@
+pub mod owners
+pub mod arrivals
+pub mod entries
+pub mod limits
+pub mod results

@@ -1,0 +1,6 @@
+-- Where the commands of instances are.
+pub mod Counts
+pub mod Commands
+pub mod ActiveCounts
+pub mod Active
+pub mod Holders

@@ -1,0 +1,494 @@
+-- How many commands of an instance are active, and how many wait: by each event of an axis and of a
+-- group.
+use Rattle.std.specs.Prelude.{◌≡◌, refl, ℕ, ◌+◌, ◌≤◌, Bool, true, false, not, ◌&&◌, ◌||◌, nat_eq, is_none, is_some, ℤ, if◌then◌else◌, Option, Some, None, Result, Ok, Err, List, [], ◌∷◌, ◌++◌, slice_get}
+use Rattle.std.proofs.Common.{arith, ap, sym, subst, ◌∙◌}
+use Rattle.axis_core.specs.Calls as axis_calls
+use Rattle.axis_core.specs.Calls.{core_after_admission, core_after_command, core_after_disabling, core_after_joining, core_after_leaving, core_after_power, core_after_verdict, core_with_queued, queue_in}
+use Rattle.axis_core.specs.Cores.{Core, axis_under, axis_under_by, core_after_end, core_after_ending, core_after_error, core_after_take_over, core_taken_by}
+use Rattle.axis_core.specs.Cycles.{Advance, advance_by_command, advance_by_progress, advance_in_cycle, advance_without_error, axis_after_progress, core_after_answer, core_after_cycle, core_after_step, progress_in_cycle}
+use Rattle.axis_core.specs.Drives.{answer_error_of, axis_at_drive, is_driven}
+use Rattle.axis_core.specs.Owners.{is_owner, owner_by, reset_owner, waits_of}
+use Rattle.axis_core.specs.Refusals as axis_refusals
+use Rattle.axis_core.specs.Refusals.{Asked}
+use Rattle.axis_core.specs.States.{is_error_stop}
+use Rattle.axis_core.specs.blocks.Halts.{axis_after_stop, leaves_stopping}
+use Rattle.axis_core.specs.blocks.Moves.{known_target_of, target_of, with_target}
+use Rattle.axis_core.specs.blocks.Path.{place_on_path}
+use Rattle.axis_core.specs.blocks.Reset as axis_reset
+use Rattle.axis_core.specs.declared.axis.Axis.{Axis}
+use Rattle.axis_core.specs.declared.axis.PendingReset as axis_pending
+use Rattle.axis_core.specs.declared.look.AxisLook.{AxisLook}
+use Rattle.axis_core.specs.declared.progress.Progress as axis_progress
+use Rattle.axis_core.specs.declared.reason.Reason as axis_reason
+use Rattle.buffer_modes.specs.Queue.{Commands, admitted, behind, is_aborting, is_active_at_once}
+use Rattle.cia402_machine.specs.declared.drive.DriveIn.{DriveIn}
+use Rattle.command_pool.specs.Waiting.{last_of}
+use Rattle.command_pool.specs.declared.ending.Finish.{Finish}
+use Rattle.command_pool.specs.declared.ending.Finish.TheVariants as finish
+use Rattle.command_pool.specs.declared.kind.BlockKind.{BlockKind}
+use Rattle.command_pool.specs.declared.kind.BlockKind.TheVariants as kind
+use Rattle.command_pool.specs.declared.wanted.Wanted.{Wanted}
+use Rattle.fb_outputs.specs.InstanceState.{InstanceState}
+use Rattle.group_core.specs.Calls as group_calls
+use Rattle.group_core.specs.Cores as groups
+use Rattle.group_core.specs.Cycles as group_cycles
+use Rattle.group_core.specs.Owners as group_owners
+use Rattle.group_core.specs.Refusals as group_refusals
+use Rattle.group_core.specs.States as group_states
+use Rattle.group_core.specs.blocks.Halts as group_halts
+use Rattle.group_core.specs.blocks.Line.{braking_for}
+use Rattle.group_core.specs.blocks.Reset as group_reset
+use Rattle.group_core.specs.declared.group.Group.{Group}
+use Rattle.group_core.specs.declared.group.PendingReset as group_pending
+use Rattle.group_core.specs.declared.look.GroupLook.{GroupLook}
+use Rattle.group_core.specs.declared.reason.Reason as group_reason
+use Rattle.group_core.specs.Tracks.{OnPath, places_at}
+use Rattle.motion_kernel.specs.Asking.{is_done_at_once}
+use Rattle.motion_kernel.specs.Calls.{answered_instance}
+use Rattle.motion_laws.specs.owners.Owners.{active_shown}
+use Rattle.motion_numbers.specs.Ranges.{is_outside}
+use Rattle.motion_laws.proofs.owners.Counts.{none_owned, owner_is}
+use Rattle.motion_kernel.proofs.SizeLaws.{by_if}
+
+-- whether an instance has the active command, and how many of its commands wait, a reset among them
+abbrev pub active_of : ℕ → Core → ℕ
+active_of k c = is_owner k (owner_by c.axis.active)
+
+abbrev pub waiting_of : ℕ → Core → ℕ
+waiting_of k c = waits_of k c.waiting + is_owner k (reset_owner c.axis.reset)
+
+abbrev pub group_active_of : ℕ → groups.Core → ℕ
+group_active_of k c = is_owner k (owner_by c.group.active)
+
+abbrev pub group_waiting_of : ℕ → groups.Core → ℕ
+group_waiting_of k c = waits_of k c.waiting + is_owner k (group_owners.reset_owner c.group.reset)
+
+-- an instance that brings no command has no more than before
+pub record HasNoMore (actives waits actives_now waits_now : ℕ) : Type 0 where
+  pub active : actives_now ≤ actives
+  pub waiting : waits_now ≤ waits
+
+abbrev pub AxisNoMore : ℕ → Core → Core → Type 0
+AxisNoMore k c d = HasNoMore (active_of k c) (waiting_of k c) (active_of k d) (waiting_of k d)
+
+abbrev pub GroupNoMore : ℕ → groups.Core → groups.Core → Type 0
+GroupNoMore k c d = HasNoMore (group_active_of k c) (group_waiting_of k c) (group_active_of k d)
+    (group_waiting_of k d)
+
+-- a command that joins a queue
+waits_more : (k : ℕ) (ws : List Wanted) (w : Wanted) → is_owner k w.owner ≡ 0 → waits_of k
+    (ws ++ w ∷ []) ≡ waits_of k ws
+waits_more k [] w e = omega arith
+waits_more k (v ∷ vs) w e = ap (λ n. is_owner k v.owner + n) (waits_more k vs w e)
+
+abbrev QueueNoMore : ℕ → Option Wanted → List Wanted → Commands → Type 0
+QueueNoMore k active ws q = HasNoMore (is_owner k (owner_by active)) (waits_of k ws)
+    (is_owner k (owner_by q.active)) (waits_of k q.waiting)
+
+behind_no_more : (k : ℕ) (active : Option Wanted) (ws : List Wanted) (w : Wanted) →
+    is_owner k w.owner ≡ 0 → QueueNoMore k active ws (behind active ws w)
+behind_no_more k None ws w e = record { active = omega arith; waiting = omega arith }
+behind_no_more k (Some a) ws w e = let more =
+    waits_more k ws w e in record { active = omega arith; waiting = omega arith }
+
+admitted_no_more : (k : ℕ) (active : Option Wanted) (ws : List Wanted) (w : Wanted) →
+    is_owner k w.owner ≡ 0 →
+    QueueNoMore k active ws (admitted (record { active = active; waiting = ws }) w)
+admitted_no_more k active ws w e =
+    by_if (QueueNoMore k active ws) (is_aborting w.mode) _ _
+    (record { active = omega arith; waiting = omega arith }) (behind_no_more k active ws w e)
+
+-- a command of another instance leaves an axis's instances no more
+joined_no_more : (k : ℕ) (w : Wanted) (c : Core) → is_owner k w.owner ≡ 0 → AxisNoMore k c
+    (core_after_joining w c)
+unfolding axis_under_by
+joined_no_more k w c e =
+    let q = admitted_no_more k c.axis.active c.waiting w e in
+    let a = q.active in
+    let b = q.waiting in
+    by_if (AxisNoMore k c) (is_active_at_once (queue_in c) w) _ _
+    (record { active = omega arith; waiting = omega arith })
+    (record { active = omega arith; waiting = omega arith })
+
+left_no_more : (k : ℕ) (w : Wanted) (c : Core) → AxisNoMore k c (core_after_leaving w c)
+unfolding axis_under_by
+left_no_more k w c = let n = none_owned k in record { active = omega arith; waiting = omega arith }
+
+admission_no_more : (k : ℕ) (x : BlockKind) (w : Wanted) (c : Core) → is_owner k w.owner ≡ 0 →
+    AxisNoMore k c (core_after_admission x w c)
+admission_no_more k kind.Reset w c e = record { active = omega arith; waiting = omega arith }
+admission_no_more k kind.GearOut w c e = left_no_more k w c
+admission_no_more k kind.CamOut w c e = left_no_more k w c
+admission_no_more k _ w c e = joined_no_more k w c e
+
+verdict_no_more : (k : ℕ) (o : Option axis_reason.Reason) (w : Wanted) (c : Core) →
+    is_owner k w.owner ≡ 0 → AxisNoMore k c (core_after_verdict o w c)
+verdict_no_more k None w c e = admission_no_more k w.kind
+    (with_target (known_target_of c.axis (last_of c.waiting) w) w) c e
+verdict_no_more k (Some r) w c e = record { active = omega arith; waiting = omega arith }
+
+pub command_no_more : (k : ℕ) (q : Asked) (c : Core) → is_owner k q.wanted.owner ≡ 0 →
+    AxisNoMore k c (core_after_command q c)
+unfolding core_after_command
+command_no_more k q c e = verdict_no_more k (axis_refusals.refusal_of q) q.wanted c e
+
+-- neither does a Power
+pub power_no_more : (k : ℕ) (enable : Bool) (c : Core) → AxisNoMore k c (core_after_power enable c)
+unfolding core_after_power
+power_no_more k true c = record { active = omega arith; waiting = omega arith }
+power_no_more k false c =
+    let n = none_owned k in
+    by_if (AxisNoMore k c) (is_error_stop c.axis.state) _ _
+    (record { active = omega arith; waiting = omega arith })
+    (record { active = omega arith; waiting = omega arith })
+
+-- an instance's own command is active where it shows so
+not_at_once : (active : Option Wanted) (ws : List Wanted) (w : Wanted) (aborts : Bool) →
+    is_aborting w.mode ≡ aborts →
+    is_aborting w.mode || is_none active ≡ false →
+    (admitted (record { active = active; waiting = ws }) w).active ≡ active
+not_at_once active ws w true e n = absurd (let m = ap (λ b. b || is_none active) (sym e) ∙ n in cc)
+not_at_once None ws w false e n = absurd (let m = ap (λ b. b || true) (sym e) ∙ n in cc)
+not_at_once (Some a) ws w false e n = ap
+    (λ (b : Bool). (if b then record { active = Some w; waiting = [] } else behind
+    (Some a) ws w).active) e
+
+active_by : (x : BlockKind) (b : Bool) (i : InstanceState) → active_shown
+    (answered_instance x (Ok b) i).progress ≡ (if b then 1 else 0)
+active_by x true i = refl
+active_by x false i =
+    by_if (λ (j : InstanceState). active_shown j.progress ≡ 0) (is_done_at_once x) _ _ refl refl
+
+owned_one : (k : ℕ) (o : Option ℕ) → o ≡ Some k → is_owner k o ≡ 1
+owned_one k o e = subst (λ x. is_owner k x ≡ 1) (sym e) (owner_is k)
+
+joined_active : (k : ℕ) (w : Wanted) (c : Core) (b : Bool) → is_active_at_once (queue_in c) w ≡ b →
+    w.owner ≡ Some k → active_of k c ≡ 0 →
+    active_of k (core_after_joining w c) ≡ (if b then 1 else 0)
+unfolding axis_under_by
+joined_active k w c true e own none =
+    ap (λ x. active_of k
+    (if x then record (core_with_queued w c) {
+      axis = axis_under w
+          (core_with_queued w c).axis;
+    } else core_with_queued w c)) e
+    ∙ owned_one k w.owner own
+joined_active k w c false e own none =
+    ap (λ x. active_of k
+    (if x then record (core_with_queued w c) {
+      axis = axis_under w
+          (core_with_queued w c).axis;
+    } else core_with_queued w c)) e
+    ∙ ap (λ a. is_owner k (owner_by a))
+    (not_at_once c.axis.active c.waiting w (is_aborting w.mode) refl e) ∙ none
+
+left_active : (k : ℕ) (w : Wanted) (c : Core) → active_of k (core_after_leaving w c) ≡ 0
+unfolding axis_under_by
+left_active k w c = none_owned k
+
+own_admitted : (k : ℕ) (x : BlockKind) (w v : Wanted) (c : Core) (i : InstanceState) →
+    v.mode ≡ w.mode → v.owner ≡ Some k → active_of k c ≡ 0 →
+    active_of k (core_after_admission x v c) ≡ active_shown
+    (answered_instance x (Ok (axis_calls.is_active_by x w c)) i).progress
+own_admitted k kind.Reset w v c i m e n = n ∙ sym (active_by kind.Reset false i)
+own_admitted k kind.GearOut w v c i m e n = left_active k v c
+own_admitted k kind.CamOut w v c i m e n = left_active k v c
+own_admitted k kind.Power w v c i m e n =
+    joined_active k v c (is_active_at_once (queue_in c) w)
+    (ap (λ y. is_aborting y || is_none c.axis.active) m) e n ∙ sym (active_by kind.Power _ i)
+own_admitted k x w v c i m e n =
+    joined_active k v c (is_active_at_once (queue_in c) w)
+    (ap (λ y. is_aborting y || is_none c.axis.active) m) e n
+    ∙ sym (active_by x (is_active_at_once (queue_in c) w) i)
+
+pub own_active : (k : ℕ) (q : Asked) (c : Core) (i : InstanceState) → q.wanted.owner ≡ Some k →
+    active_of k c ≡ 0 →
+    active_of k (core_after_command q c) ≡ active_shown
+    (answered_instance q.wanted.kind (axis_calls.answer_of q c) i).progress
+unfolding core_after_command axis_calls.answer_of
+own_active k q c i e n = by_verdict (axis_refusals.refusal_of q)
+  where
+    by_verdict : (o : Option axis_reason.Reason) →
+        active_of k (core_after_verdict o q.wanted c) ≡ active_shown
+        (answered_instance q.wanted.kind (axis_calls.answer_by o q.wanted c) i).progress
+    by_verdict None = own_admitted k q.wanted.kind q.wanted
+        (with_target (known_target_of c.axis (last_of c.waiting) q.wanted) q.wanted) c i refl e n
+    by_verdict (Some r) = n
+
+-- a command of another instance leaves a group's instances no more
+halted_no_more : (k : ℕ) (members : GroupLook) (w : Wanted) (c : groups.Core) →
+    is_owner k w.owner ≡ 0 → GroupNoMore k c (group_calls.halted members w c)
+halted_no_more k members w c e = record { active = omega arith; waiting = omega arith }
+
+braked_no_one : (k : ℕ) (active : Option Wanted) → is_owner k (owner_by (braking_for active)) ≡ 0
+braked_no_one k None = none_owned k
+braked_no_one k (Some w) = none_owned k
+
+braked_no_more : (k : ℕ) (w : Wanted) (c : groups.Core) → is_owner k w.owner ≡ 0 → GroupNoMore k c
+    (group_calls.braked_for w c)
+braked_no_more k w c e = let n = braked_no_one k c.group.active in record {
+  active =
+      omega arith;
+  waiting = omega arith;
+}
+
+line_no_more : (k : ℕ) (members : GroupLook) (w : Wanted) (c : groups.Core) →
+    is_owner k w.owner ≡ 0 → GroupNoMore k c (group_calls.line_joined members w c)
+line_no_more k members w c e =
+    let q = admitted_no_more k c.group.active c.waiting w e in
+    let a = q.active in
+    let b = q.waiting in
+    by_if (GroupNoMore k c) (group_calls.waits_for_rest w c.path) _ _ (braked_no_more k w c e)
+    (by_if (GroupNoMore k c) (is_active_at_once (group_calls.queue_in c) w) _ _
+    (record { active = omega arith; waiting = omega arith })
+    (record { active = omega arith; waiting = omega arith }))
+
+group_admission : (k : ℕ) (x : BlockKind) (members : GroupLook) (w : Wanted) (c : groups.Core) →
+    is_owner k w.owner ≡ 0 →
+    GroupNoMore k c (group_calls.admitted_by x members w c)
+group_admission k kind.GroupEnable members w c e =
+    record { active = omega arith; waiting = omega arith }
+group_admission k kind.GroupDisable members w c e =
+    record { active = omega arith; waiting = omega arith }
+group_admission k kind.GroupReset members w c e =
+    record { active = omega arith; waiting = omega arith }
+group_admission k kind.GroupStop members w c e = halted_no_more k members w c e
+group_admission k kind.GroupHalt members w c e = halted_no_more k members w c e
+group_admission k kind.MoveLinearAbsolute members w c e = line_no_more k members w c e
+group_admission k _ members w c e = record { active = omega arith; waiting = omega arith }
+
+pub group_command_no_more : (k : ℕ) (w : Wanted) (jerk : ℤ) (members : GroupLook)
+    (c : groups.Core) → is_owner k w.owner ≡ 0 →
+    GroupNoMore k c (group_calls.commanded w jerk members c)
+unfolding group_calls.commanded
+group_command_no_more k w jerk members c e = by_verdict
+    (group_refusals.refusal_of (group_calls.asked_in c w jerk members))
+  where
+    by_verdict : (o : Option group_reason.Reason) → GroupNoMore k c
+        (group_calls.commanded_by o members w c)
+    by_verdict None = group_admission k w.kind members w c e
+    by_verdict (Some r) = record { active = omega arith; waiting = omega arith }
+
+-- neither does a Power off of a member
+pub group_power_no_more : (k : ℕ) (c : groups.Core) → GroupNoMore k c (group_calls.powered_off c)
+unfolding group_calls.powered_off groups.failed
+group_power_no_more k c =
+    let n = none_owned k in
+    by_if (GroupNoMore k c) (group_states.may_fail c.group.state) _ _
+    (record { active = omega arith; waiting = omega arith })
+    (record { active = omega arith; waiting = omega arith })
+
+-- an instance's own command of a group is active where it shows so
+line_active : (k : ℕ) (members : GroupLook) (w : Wanted) (c : groups.Core) (waits once : Bool) →
+    group_calls.waits_for_rest w c.path ≡ waits →
+    is_active_at_once (group_calls.queue_in c) w ≡ once → w.owner ≡ Some k →
+    group_active_of k c ≡ 0 →
+    group_active_of k (if waits then group_calls.braked_for w c
+    else (if once then groups.line_begun members members.setpoints w
+    (group_calls.queued w c) else group_calls.queued w c))
+    ≡ (if not waits && once then 1 else 0)
+line_active k members w c true true r o e n = braked_no_one k c.group.active
+line_active k members w c true false r o e n = braked_no_one k c.group.active
+line_active k members w c false true r o e n = owned_one k w.owner e
+line_active k members w c false false r o e n =
+    ap (λ a. is_owner k (owner_by a))
+    (not_at_once c.group.active c.waiting w (is_aborting w.mode) refl o) ∙ n
+
+group_own_admitted : (k : ℕ) (x : BlockKind) (members : GroupLook) (w : Wanted) (c : groups.Core)
+    (i : InstanceState) → w.owner ≡ Some k → group_active_of k c ≡ 0 →
+    group_active_of k (group_calls.admitted_by x members w c) ≡ active_shown
+    (answered_instance x (Ok (group_calls.is_active_by x w c)) i).progress
+group_own_admitted k kind.GroupEnable members w c i e n = n
+group_own_admitted k kind.GroupDisable members w c i e n = n
+group_own_admitted k kind.GroupReset members w c i e n = n
+group_own_admitted k kind.GroupStop members w c i e n = owned_one k w.owner e
+group_own_admitted k kind.GroupHalt members w c i e n = owned_one k w.owner e
+group_own_admitted k kind.MoveLinearAbsolute members w c i e n =
+    line_active k members w c (group_calls.waits_for_rest w c.path)
+    (is_active_at_once (group_calls.queue_in c) w) refl refl e n
+    ∙ sym (active_by kind.MoveLinearAbsolute (group_calls.is_line_active w c) i)
+group_own_admitted k kind.Power members w c i e n = n ∙ sym (active_by kind.Power false i)
+group_own_admitted k x members w c i e n = n ∙ sym (active_by x false i)
+
+pub group_own_active : (k : ℕ) (w : Wanted) (jerk : ℤ) (members : GroupLook) (c : groups.Core)
+    (i : InstanceState) → w.owner ≡ Some k → group_active_of k c ≡ 0 →
+    group_active_of k (group_calls.commanded w jerk members c)
+    ≡ active_shown (answered_instance w.kind (group_calls.answer_of w jerk members c) i).progress
+unfolding group_calls.commanded group_calls.answer_of
+group_own_active k w jerk members c i e n = by_verdict
+    (group_refusals.refusal_of (group_calls.asked_in c w jerk members))
+  where
+    by_verdict : (o : Option group_reason.Reason) →
+        group_active_of k (group_calls.commanded_by o members w c) ≡ active_shown
+        (answered_instance w.kind (group_calls.answer_by o w c) i).progress
+    by_verdict None = group_own_admitted k w.kind members w c i e n
+    by_verdict (Some r) = n
+
+-- in a cycle no more commands of an axis wait than before
+abbrev pub WaitsNoMore : ℕ → Core → Core → Type 0
+WaitsNoMore k c d = waiting_of k d ≤ waiting_of k c
+
+failed_waits : (k n : ℕ) (c : Core) → WaitsNoMore k c (core_after_error n c)
+unfolding core_after_error
+failed_waits k n c = omega arith
+
+taken_waits : (k : ℕ) (x : BlockKind) (t : Option ℤ) (w : Wanted) (c : Core) → WaitsNoMore k c
+    (core_taken_by x t w c)
+unfolding axis_under_by
+taken_waits k kind.MoveRelative None w c =
+    by_if (WaitsNoMore k c) (is_outside c.axis.limits.lo _ c.axis.limits.hi) _ _
+    (failed_waits k 106 (record c { axis = record c.axis { active = Some w } })) (omega arith)
+taken_waits k kind.MoveRelative (Some t) w c = omega arith
+taken_waits k _ t w c = omega arith
+
+over_waits : (k : ℕ) (ws : List Wanted) (c : Core) → c.waiting ≡ ws → WaitsNoMore k c
+    (core_after_take_over ws c)
+over_waits k [] c e = omega arith
+over_waits k (w ∷ ws) c e =
+    let one = taken_waits k w.kind w.target w (record c { waiting = ws }) in
+    let all = ap (waits_of k) e in
+    omega arith
+
+ended_waits : (k : ℕ) (f : Finish) (c : Core) → WaitsNoMore k c (core_after_end f c)
+unfolding core_after_end
+ended_waits k f c = over_waits k c.waiting _ refl
+
+ending_waits : (k : ℕ) (o : Option Finish) (c : Core) → WaitsNoMore k c (core_after_ending o c)
+ending_waits k None c = omega arith
+ending_waits k (Some (finish.Error n)) c = failed_waits k n c
+ending_waits k (Some finish.Done) c = ended_waits k finish.Done c
+ending_waits k (Some finish.Aborted) c = ended_waits k finish.Aborted c
+
+-- its step leaves a pending Reset
+progress_reset : (x : BlockKind) (t : ℤ) (p : axis_progress.Progress) (a : Axis) →
+    (axis_after_progress x t p a).reset ≡ a.reset
+progress_reset kind.Home t p a = refl
+progress_reset _ t p a = refl
+
+result_reset : (x : BlockKind) (t : ℤ) (a : Axis) (r : Result axis_progress.Progress ℕ) →
+    (advance_by_progress x t a r).axis.reset ≡ a.reset
+result_reset x t a (Ok p) = progress_reset x t p a
+result_reset x t a (Err n) = refl
+
+command_reset : (active next : Option Wanted) (look : AxisLook) (a : Axis) →
+    (advance_by_command active next look a).axis.reset ≡ a.reset
+command_reset None next look a = refl
+command_reset (Some w) next look a = result_reset w.kind (target_of w) a
+    (progress_in_cycle a w next look)
+
+placed_reset : (o : Option ℤ) (next : Option Wanted) (look : AxisLook) (a : Axis) →
+    (advance_without_error o next look a).axis.reset ≡ a.reset
+placed_reset None next look a = command_reset a.active next look a
+placed_reset (Some place) next look a = by_if
+    (λ (x : Axis). x.reset ≡ a.reset) look.path_ends _ _ refl refl
+
+advance_reset : (next : Option Wanted) (look : AxisLook) (a : Axis) →
+    (advance_in_cycle next look a).axis.reset ≡ a.reset
+unfolding advance_in_cycle
+advance_reset next look a =
+    by_if (λ (x : Advance). x.axis.reset ≡ a.reset) (is_error_stop a.state) _ _ refl
+    (placed_reset (place_on_path a look) next look a)
+
+stop_reset : (look : AxisLook) (a : Axis) → (axis_after_stop look a).reset ≡ a.reset
+stop_reset look a = by_if (λ (x : Axis). x.reset ≡ a.reset) (leaves_stopping look a) _ _ refl refl
+
+step_waits : (k : ℕ) (look : AxisLook) (driven : Bool) (c : Core) → WaitsNoMore k c
+    (core_after_step look driven c)
+step_waits k look driven c =
+    let step = advance_in_cycle (slice_get c.waiting 0) look c.axis in
+    let moved : Core = record c { axis = step.axis } in
+    let after = core_after_ending step.ending moved in
+    let one = ending_waits k step.ending moved in
+    let same = ap (λ o. is_owner k (reset_owner o))
+    (advance_reset (slice_get c.waiting 0) look c.axis) in
+    let last = ap (λ o. is_owner k (reset_owner o)) (stop_reset look after.axis) in
+    by_if (WaitsNoMore k c) (driven && c.axis.driven)
+    (record after { axis = axis_after_stop look after.axis })
+    (record c { axis = axis_at_drive driven look.input c.axis }) (omega arith) (omega arith)
+
+answer_waits : (k : ℕ) (input : DriveIn) (c : Core) → WaitsNoMore k c (core_after_answer input c)
+answer_waits k input c =
+    by_if (WaitsNoMore k c) (nat_eq (answer_error_of c.axis input) 0) _ _ (omega arith)
+    (failed_waits k (answer_error_of c.axis input) c)
+
+reset_waits : (k : ℕ) (o : Option axis_pending.PendingReset) (input : DriveIn) (a : Axis) →
+    a.reset ≡ o →
+    is_owner k (reset_owner (axis_reset.reset_axis o input a).reset) ≤ is_owner k
+    (reset_owner a.reset)
+reset_waits k None input a e = omega arith
+reset_waits k (Some p) input a e =
+    let n = none_owned k in
+    by_if (λ (x : Axis). is_owner k (reset_owner x.reset) ≤ is_owner k (reset_owner a.reset))
+    (axis_reset.may_reset input a) _ _ (omega arith) (omega arith)
+
+pub cycle_waits : (k : ℕ) (look : AxisLook) (c : Core) → WaitsNoMore k c (core_after_cycle look c)
+unfolding core_after_cycle
+cycle_waits k look c =
+    let answered = core_after_answer look.input c in
+    let ran = core_after_step look (is_driven c.axis look.input) answered in
+    let one = answer_waits k look.input c in
+    let two = step_waits k look (is_driven c.axis look.input) answered in
+    let three = reset_waits k ran.axis.reset look.input ran.axis refl in
+    omega arith
+
+-- nor of a group
+abbrev pub GroupWaitsNoMore : ℕ → groups.Core → groups.Core → Type 0
+GroupWaitsNoMore k c d = group_waiting_of k d ≤ group_waiting_of k c
+
+group_over_waits : (k : ℕ) (members : GroupLook) (setpoints : List ℤ) (ws : List Wanted)
+    (c : groups.Core) → c.waiting ≡ ws →
+    GroupWaitsNoMore k c (groups.taken_over members setpoints ws c)
+group_over_waits k members setpoints [] c e = omega arith
+group_over_waits k members setpoints (w ∷ ws) c e = let all = ap (waits_of k) e in omega arith
+
+group_ended_waits : (k : ℕ) (members : GroupLook) (setpoints : List ℤ) (o : Option Finish)
+    (c : groups.Core) → GroupWaitsNoMore k c (groups.ended_by members setpoints o c)
+unfolding groups.ended
+group_ended_waits k members setpoints None c = omega arith
+group_ended_waits k members setpoints (Some f) c =
+    group_over_waits k members setpoints c.waiting _ refl
+
+group_answered_waits : (k error : ℕ) (c : groups.Core) → GroupWaitsNoMore k c
+    (group_cycles.answered error c)
+unfolding groups.failed
+group_answered_waits k error c =
+    by_if (GroupWaitsNoMore k c) (not (nat_eq error 0) && group_states.may_fail c.group.state) _ _
+    (omega arith) (omega arith)
+
+released_reset : (held : Bool) (g : Group) (p : Option OnPath) →
+    (group_cycles.group_released held g p).reset ≡ g.reset
+released_reset held g p = by_if (λ (x : Group). x.reset ≡ g.reset)
+    (group_halts.leaves_stopping held g p) _ _ refl refl
+
+pub group_cycle_waits : (k : ℕ) (members : GroupLook) (c : groups.Core) → GroupWaitsNoMore k c
+    (group_cycles.cycled members c)
+unfolding group_cycles.cycled
+group_cycle_waits k members c =
+    let stopped = group_cycles.answered members.error c in
+    let path = group_cycles.path_after stopped.group stopped.path in
+    let moved = group_cycles.moved members stopped in
+    let one = group_answered_waits k members.error c in
+    let two = group_ended_waits k members (places_at path members.setpoints)
+    (group_cycles.ending_of stopped.group stopped.path) (record stopped { path = path }) in
+    let same = ap (λ o. is_owner k (group_owners.reset_owner o))
+    (released_reset members.stop_held moved.group moved.path) in
+    omega arith
+
+group_reset_owner : (k : ℕ) (o : Option group_pending.PendingReset) (members : GroupLook)
+    (on_path : Bool) (g : Group) → g.reset ≡ o →
+    is_owner k
+    (group_owners.reset_owner
+    (group_reset.reset_by o (group_refusals.states_in members) on_path g).reset) ≤ is_owner k
+    (group_owners.reset_owner g.reset)
+group_reset_owner k None members on_path g e = omega arith
+group_reset_owner k (Some p) members on_path g e =
+    let n = none_owned k in
+    by_if (λ (x : Group). is_owner k (group_owners.reset_owner x.reset) ≤ is_owner k
+    (group_owners.reset_owner g.reset)) (group_reset.may_reset on_path g) _ _
+    (omega arith) (omega arith)
+
+pub group_reset_waits : (k : ℕ) (members : GroupLook) (c : groups.Core) → GroupWaitsNoMore k c
+    (group_cycles.reset_cycled members c)
+unfolding group_cycles.reset_where
+group_reset_waits k members c = let one = group_reset_owner k c.group.reset members
+    (is_some c.path) c.group refl in omega arith

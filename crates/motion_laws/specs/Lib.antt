@@ -1,0 +1,5 @@
+pub mod entries
+pub mod owners
+pub mod results
+pub mod arrivals
+pub mod Laws

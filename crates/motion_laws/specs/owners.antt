@@ -1,0 +1,2 @@
+-- Where the commands of instances are.
+pub mod Owners
