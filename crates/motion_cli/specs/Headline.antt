@@ -11,7 +11,7 @@ use Rattle.motion_history.specs.Entries.{Entry, cycle, cycles_of}
 use Rattle.motion_history.specs.declared.refused.TraceVersion.TheVariants.{Two}
 use Rattle.motion_kernel.specs.Cycles.{cycled}
 use Rattle.motion_kernel.specs.Histories.{IsLegal, machine_after}
-use Rattle.motion_kernel.specs.Laws.{KeepsLaws}
+use Rattle.motion_laws.specs.Laws.{KeepsLaws}
 use Rattle.outside.specs.Told.{FileMap, HasFile}
 use Rattle.trace_check.specs.Laws.{IsMigrated}
 use Rattle.trace_check.specs.Legal.{IsTraceOf}
