@@ -4,6 +4,7 @@ use Rattle.std.proofs.Common.{◌∙◌, sym, subst}
 use Rattle.axis_state.specs.Diagram.{next_of}
 use Rattle.axis_state.specs.declared.diagram.AxisEvent.TheVariants.{StopReleased}
 use Rattle.axis_state.specs.declared.state.AxisState.{AxisState}
+use Rattle.buffer_modes.specs.Owners.{IsSame}
 use Rattle.buffer_modes.specs.Queue.{is_active_at_once, is_aborting, behind}
 use Rattle.cia402_machine.specs.declared.drive.DriveIn.{DriveIn}
 use Rattle.command_pool.specs.Waiting.{last_of}
@@ -16,7 +17,7 @@ use Rattle.axis_core.specs.Calls.{queue_in, core_with_queued, core_after_joining
 use Rattle.axis_core.specs.Cores.{Core, axis_under, axis_under_by, core_after_error, core_after_end, core_after_ending, core_after_take_over, core_taken_by}
 use Rattle.axis_core.specs.Cycles.{Advance, advance_in_cycle, advance_by_progress, advance_without_error, advance_by_command, core_after_answer, axis_after_braking, core_after_cycle, axis_after_progress, core_after_going_on, core_after_advance, progress_in_cycle, core_after_step}
 use Rattle.axis_core.specs.Drives.{answer_error_of, is_driven, axis_at_drive}
-use Rattle.axis_core.specs.Fates.{Fate, goes_on, replaced, joined_fate, admitted_fate, asked_fate, command_fate, power_fate, taker_by, taker_of, ending_fate, is_blended, moved_fate, cycle_fate, IsSame, IsFate}
+use Rattle.axis_core.specs.Fates.{Fate, goes_on, replaced, joined_fate, admitted_fate, asked_fate, command_fate, power_fate, taker_by, taker_of, ending_fate, is_blended, moved_fate, cycle_fate, IsFate}
 use Rattle.motion_numbers.specs.Ranges.{is_outside}
 use Rattle.axis_core.specs.Refusals.{Asked, refusal_of}
 use Rattle.axis_core.specs.States.{is_error_stop}

@@ -5,12 +5,13 @@ use Rattle.std.proofs.lemmas.Bool.{cases_eq, ne_eqb}
 use Rattle.axis_state.specs.Diagram.{next_of}
 use Rattle.axis_state.specs.declared.diagram.AxisEvent.TheVariants.{StopReleased}
 use Rattle.axis_state.specs.declared.state.AxisState.{AxisState}
+use Rattle.buffer_modes.specs.Owners.{is_owner, one_of, owner_by, told, waits_of}
 use Rattle.buffer_modes.specs.Queue.{active_note, end_notes, is_aborting, is_active_at_once, behind}
 use Rattle.axis_core.specs.Calls.{active_without, core_after_admission, core_after_command, core_after_verdict, axis_without_owner, core_after_disabling, core_after_power, queue_in, core_with_queued, reset_without}
 use Rattle.axis_core.specs.Cores.{Core, axis_under, axis_under_by, core_after_end, core_after_ending, core_after_error, core_after_take_over, core_taken_by}
 use Rattle.axis_core.specs.Cycles.{advance_in_cycle, core_after_answer, core_after_cycle, core_after_going_on, core_after_advance, core_after_step}
 use Rattle.axis_core.specs.Drives.{answer_error_of, is_driven, axis_at_drive}
-use Rattle.axis_core.specs.Owners.{AreApart, owner_brought, owner_brought_by, core_without_owner, is_owner, one_of, owner_by, owns, reset_owner, notes_for, waits_of}
+use Rattle.axis_core.specs.Owners.{AreApart, owner_brought, owner_brought_by, core_without_owner, owns, reset_owner}
 use Rattle.motion_numbers.specs.Ranges.{is_outside}
 use Rattle.axis_core.specs.Refusals.{Asked, refusal_of}
 use Rattle.axis_core.specs.States.{is_error_stop}
@@ -35,23 +36,23 @@ use Rattle.axis_core.proofs.FateLaws.{advances}
 
 -- what an instance has and what it was told, together
 abbrev pub sum : ℕ → Core → ℕ
-sum k c = owns k c + notes_for k c.notes
+sum k c = owns k c + told k c.notes
 
-told-more : (k : ℕ) (xs ys : List Note) → notes_for k (xs ++ ys) ≡ notes_for k xs + notes_for k ys
+told-more : (k : ℕ) (xs ys : List Note) → told k (xs ++ ys) ≡ told k xs + told k ys
 told-more k [] ys = omega arith
 told-more k (x ∷ xs) ys = let t = told-more k xs ys in omega arith
 
-told-to : (k : ℕ) (o : Option ℕ) (f : Finish) → notes_for k (told_to o f) ≡ is_owner k o
+told-to : (k : ℕ) (o : Option ℕ) (f : Finish) → told k (told_to o f) ≡ is_owner k o
 unfolding is_owner
 told-to k None f = refl
 told-to k (Some n) f = omega arith
 
-told-active : (k : ℕ) (f : Finish) (o : Option Wanted) → notes_for k (active_note f o) ≡ is_owner k (owner_by o)
+told-active : (k : ℕ) (f : Finish) (o : Option Wanted) → told k (active_note f o) ≡ is_owner k (owner_by o)
 unfolding is_owner
 told-active k f None = refl
 told-active k f (Some w) = told-to k w.owner f
 
-told-waiting : (k : ℕ) (f : Finish) (ws : List Wanted) → notes_for k (notes_of f ws) ≡ waits_of k ws
+told-waiting : (k : ℕ) (f : Finish) (ws : List Wanted) → told k (notes_of f ws) ≡ waits_of k ws
 told-waiting k f [] = refl
 told-waiting k f (w ∷ ws) =
     let a = told-more k (told_to w.owner f) (notes_of f ws) in
@@ -186,8 +187,8 @@ waits-more k (v ∷ ws) w = let t = waits-more k ws w in omega arith
 queue-owns : (k : ℕ) (aborting : Bool) (active : Option Wanted) (ws : List Wanted) (notes : List Note) (w : Wanted) →
     is_owner k (owner_by (if aborting then record { active = Some w; waiting = [] } else behind active ws w).active) +
     waits_of k (if aborting then record { active = Some w; waiting = [] } else behind active ws w).waiting +
-    notes_for k (notes ++ (if aborting then end_notes finish.Aborted (record { active = active; waiting = ws }) else [])) ≡
-    is_owner k (owner_by active) + waits_of k ws + notes_for k notes + is_owner k w.owner
+    told k (notes ++ (if aborting then end_notes finish.Aborted (record { active = active; waiting = ws }) else [])) ≡
+    is_owner k (owner_by active) + waits_of k ws + told k notes + is_owner k w.owner
 queue-owns k true active ws notes w =
     let a = told-more k notes (active_note finish.Aborted active ++ notes_of finish.Aborted ws) in
     let b = told-more k (active_note finish.Aborted active) (notes_of finish.Aborted ws) in
@@ -215,14 +216,14 @@ sum-joined k true w c h =
     omega arith
 sum-joined k false w c h = sum-queued k w c
 
-replaced-told : (k : ℕ) (o : Option PendingReset) → notes_for k (replaced_note o) ≡ is_owner k (reset_owner o)
+replaced-told : (k : ℕ) (o : Option PendingReset) → told k (replaced_note o) ≡ is_owner k (reset_owner o)
 unfolding is_owner
 replaced-told k None = refl
 replaced-told k (Some p) = told-to k p.owner finish.Aborted
 
 -- all commands are aborted and told
 sum-all : (k : ℕ) (c : Core) →
-    is_owner k None + 0 + is_owner k (reset_owner c.axis.reset) + notes_for k (c.notes ++ end_notes finish.Aborted (record { active = c.axis.active; waiting = c.waiting })) ≡ sum k c
+    is_owner k None + 0 + is_owner k (reset_owner c.axis.reset) + told k (c.notes ++ end_notes finish.Aborted (record { active = c.axis.active; waiting = c.waiting })) ≡ sum k c
 sum-all k c =
     let a = told-more k c.notes (active_note finish.Aborted c.axis.active ++ notes_of finish.Aborted c.waiting) in
     let b = told-more k (active_note finish.Aborted c.axis.active) (notes_of finish.Aborted c.waiting) in
@@ -232,7 +233,7 @@ sum-all k c =
     omega arith
 
 sum-aborted : (k : ℕ) (c : Core) →
-    is_owner k None + 0 + is_owner k (reset_owner c.axis.reset) + notes_for k (c.notes ++ end_notes finish.Aborted (record { active = c.axis.active; waiting = c.waiting })) ≡ sum k c + is_owner k None
+    is_owner k None + 0 + is_owner k (reset_owner c.axis.reset) + told k (c.notes ++ end_notes finish.Aborted (record { active = c.axis.active; waiting = c.waiting })) ≡ sum k c + is_owner k None
 sum-aborted k c = let s = sum-all k c in let z = nobody k in omega arith
 
 sum-admitted : (k : ℕ) (x : BlockKind) (w : Wanted) (c : Core) → sum k (core_after_admission x w c) ≡ sum k c + is_owner k (owner_brought_by x w)
@@ -321,7 +322,7 @@ unfolding axis_without_owner
 disowned-other j k c h = let a = active-other j k c.axis.active h in let b = waits-other j k c.waiting h in let d = reset-other j k c.axis.reset h in omega arith
 
 -- nothing is told before
-none-told : (k : ℕ) (notes : List Note) → notes ≡ [] → notes_for k notes ≡ 0
+none-told : (k : ℕ) (notes : List Note) → notes ≡ [] → told k notes ≡ 0
 none-told k [] e = refl
 none-told k (n ∷ ns) e = absurd (cc)
 

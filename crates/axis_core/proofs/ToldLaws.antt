@@ -3,6 +3,7 @@ use Rattle.std.specs.Prelude.{◌≡◌, refl, ℕ, Bool, true, false, ◌&&◌,
 use Rattle.std.specs.List.{Contains}
 use Rattle.std.proofs.Common.{sym, ap, subst, arith}
 use Rattle.std.proofs.lemmas.List.Elements.{Contains-append_left, Contains-append_right}
+use Rattle.buffer_modes.specs.Owners.{owner_by}
 use Rattle.buffer_modes.specs.Queue.{active_note, is_active_at_once, is_aborting, end_notes}
 use Rattle.command_pool.specs.Waiting.{last_of, told_to, notes_of}
 use Rattle.command_pool.specs.declared.ending.Finish.{Finish}
@@ -16,7 +17,7 @@ use Rattle.axis_core.specs.Cores.{Core, axis_under, core_after_end, core_after_e
 use Rattle.axis_core.specs.Cycles.{advance_in_cycle, core_after_answer, core_after_cycle, core_after_going_on, core_after_advance, core_after_step}
 use Rattle.axis_core.specs.Drives.{answer_error_of, is_driven, axis_at_drive}
 use Rattle.axis_core.specs.Fates.{Fate, admitted_fate, asked_fate, command_fate, cycle_fate, ending_fate, goes_on, is_blended, moved_fate, power_fate, replaced, taker_of}
-use Rattle.axis_core.specs.Owners.{TellsOwner, owner_by}
+use Rattle.axis_core.specs.Owners.{TellsOwner}
 use Rattle.motion_numbers.specs.Ranges.{is_outside}
 use Rattle.axis_core.specs.Refusals.{Asked, refusal_of}
 use Rattle.axis_core.specs.States.{is_error_stop}

@@ -1,6 +1,7 @@
 -- What becomes of the commands of an axis in a call and in a cycle (PLCopen Motion Control Part 1,
 -- BufferMode).
 use Rattle.std.specs.Prelude.{◌≡◌, ◌≢◌, Bool, true, false, ◌&&◌, nat_eq, if◌then◌else◌, ℤ, ◌+ℤ◌, Option, Some, None, is_some, List, [], ◌∷◌, slice_get}
+use Rattle.buffer_modes.specs.Owners.{IsSame}
 use Rattle.buffer_modes.specs.Queue.{is_active_at_once}
 use Rattle.command_pool.specs.Waiting.{last_of}
 use Rattle.command_pool.specs.declared.ending.Finish.{Finish}
@@ -99,13 +100,6 @@ cycle_fate look c =
     if nat_eq (answer_error_of c.axis look.input) 0
     then (if is_driven c.axis look.input && c.axis.driven then moved_fate look c else goes_on)
     else replaced (finish.Error (answer_error_of c.axis look.input)) c.axis.active None
-
--- commands that are the same but for the instance that has them
-abbrev pub IsSame : Option Wanted → Option Wanted → Type 0
-IsSame None None = Unit {0}
-IsSame None (Some v) = ⊥
-IsSame (Some w) None = ⊥
-IsSame (Some w) (Some v) = record v { owner = None } ≡ record w { owner = None }
 
 -- a fate is what the active command before a call or a cycle and the one after it show
 pub record IsFate (f : Fate) (before now : Option Wanted) : Type 0 where

@@ -1,7 +1,8 @@
 -- Which instance has a command of an axis, how often, and how often it is told of an end (PLCopen
 -- Motion Control Part 1, general rules).
-use Rattle.std.specs.Prelude.{◌≡◌, ℕ, ◌+◌, Bool, true, false, nat_eq, map, Option, Some, None, List, [], ◌∷◌, ◌≤◌}
+use Rattle.std.specs.Prelude.{◌≡◌, ℕ, ◌+◌, map, Option, Some, None, List, ◌≤◌}
 use Rattle.std.specs.List.{Contains}
+use Rattle.buffer_modes.specs.Owners.{is_owner, owner_by, waits_of}
 use Rattle.command_pool.specs.declared.ending.Finish.{Finish}
 use Rattle.command_pool.specs.declared.kind.BlockKind.{BlockKind}
 use Rattle.command_pool.specs.declared.kind.BlockKind.TheVariants as kind
@@ -14,29 +15,11 @@ use Rattle.axis_core.specs.Fates.{Fate}
 use Rattle.axis_core.specs.declared.axis.PendingReset.{PendingReset}
 use Rattle.axis_core.specs.declared.reason.Reason.{Reason}
 
--- the instance that has a command
-abbrev pub owner_by : Option Wanted → Option ℕ
-owner_by None = None
-owner_by (Some w) = w.owner
-
 -- among some notes one tells the instance that has the active command how that ended, where this
 -- fate ends it
 abbrev pub TellsOwner : Fate → Option Wanted → List Note → Type 0
-TellsOwner f active notes = (owner : ℕ) (g : Finish) → f.ends ≡ Some g → owner_by active ≡ Some owner → Contains notes (record { owner = owner; finish = g })
-
--- 1 where an owner is this instance, else 0
-abbrev pub one_of : Bool → ℕ
-one_of true = 1
-one_of false = 0
-
-unfoldable pub is_owner : ℕ → Option ℕ → ℕ
-is_owner k None = 0
-is_owner k (Some owner) = one_of (nat_eq owner k)
-
--- how many of the commands that wait this instance has
-abbrev pub waits_of : ℕ → List Wanted → ℕ
-waits_of k [] = 0
-waits_of k (w ∷ ws) = is_owner k w.owner + waits_of k ws
+TellsOwner f active notes = (owner : ℕ) (g : Finish) → f.ends ≡ Some g →
+    owner_by active ≡ Some owner → Contains notes (record { owner = owner; finish = g })
 
 -- the owner of a pending Reset
 abbrev pub reset_owner : Option PendingReset → Option ℕ
@@ -46,16 +29,13 @@ reset_owner (Some p) = p.owner
 -- how many commands of the axis this instance has: the active one, those that wait and a pending
 -- Reset
 abbrev pub owns : ℕ → Core → ℕ
-owns k c = is_owner k (owner_by c.axis.active) + waits_of k c.waiting + is_owner k (reset_owner c.axis.reset)
+owns k c =
+    is_owner k (owner_by c.axis.active) + waits_of k c.waiting
+    + is_owner k (reset_owner c.axis.reset)
 
 -- no instance has two commands of the axis
 abbrev pub AreApart : Core → Type 0
 AreApart c = (k : ℕ) → owns k c ≤ 1
-
--- how many of some notes are for this instance
-abbrev pub notes_for : ℕ → List Note → ℕ
-notes_for k [] = 0
-notes_for k (n ∷ ns) = is_owner k (Some n.owner) + notes_for k ns
 
 -- the owner that a command brings which is not refused; a GearOut and a CamOut are done at once
 abbrev pub owner_brought_by : BlockKind → Wanted → Option ℕ
@@ -70,4 +50,5 @@ owner_brought (Some reason) w = None
 
 -- an axis whose commands this instance has no longer
 abbrev pub core_without_owner : ℕ → Core → Core
-core_without_owner k c = record c { axis = axis_without_owner k c.axis; waiting = map (pool.detached k) c.waiting }
+core_without_owner k c =
+    record c { axis = axis_without_owner k c.axis; waiting = map (pool.detached k) c.waiting }

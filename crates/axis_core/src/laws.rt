@@ -1,6 +1,7 @@
 // Laws of an axis: each is the contract of a function that does nothing.
 
 ghost use Rattle.std.specs.Prelude.{◌≡◌, ◌↔◌, ◌+ℤ◌, ◌≤◌, ◌⊎◌, length, IsTrue, None, ℤ, [], ◌+◌, ℕ, Bool, Some, true, false, nat_eq, slice_get};
+ghost use Rattle.buffer_modes.specs.Owners.{IsSame, is_owner, told};
 ghost use Rattle.command_pool.specs.declared.ending.Finish.TheVariants as finish;
 ghost use Rattle.axis_core.specs.blocks.Moves.{is_done_by, blended_with, is_move, target_of};
 ghost use Rattle.command_pool.specs.declared.wanted.Wanted.{Wanted};
@@ -13,7 +14,7 @@ ghost use Rattle.axis_core.specs.Calls.{core_after_command, axis_without_owner, 
 ghost use Rattle.axis_core.specs.Cores.{Core};
 ghost use Rattle.axis_core.specs.Cycles.{core_after_cycle, axis_at_opening, row_shown};
 ghost use Rattle.axis_core.specs.Demands.{IsMade, asked_in};
-ghost use Rattle.axis_core.specs.Fates.{IsFate, IsSame, command_fate, power_fate, cycle_fate};
+ghost use Rattle.axis_core.specs.Fates.{IsFate, command_fate, power_fate, cycle_fate};
 ghost use Rattle.axis_core.specs.Led.{HasCommand, StaysLed};
 ghost use Rattle.axis_core.specs.Drives.{answer_error_of};
 ghost use Rattle.axis_core.specs.Steps.{is_safe_step, taken_step_in};
@@ -22,7 +23,7 @@ ghost use Rattle.axis_state.specs.declared.state.AxisState.TheVariants as state;
 ghost use Rattle.kin_core.specs.Admissible.{AreLimits, IsKept, IsSafe, IsTakenStep};
 ghost use Rattle.axis_core.specs.Motions.{Leads, halt_step_taken, is_slowing, move_step_taken};
 ghost use Rattle.axis_core.specs.declared.reason.Reason.{Reason};
-ghost use Rattle.axis_core.specs.Owners.{AreApart, TellsOwner, is_owner, owns, notes_for, owner_brought, core_without_owner};
+ghost use Rattle.axis_core.specs.Owners.{AreApart, TellsOwner, owns, owner_brought, core_without_owner};
 ghost use Rattle.axis_core.specs.Refusals.{Asked, refusal_of};
 ghost use Rattle.axis_core.specs.Rows.{KeepsSpell, Stays};
 ghost use Rattle.axis_core.specs.Shown.{IsShown};
@@ -100,11 +101,11 @@ pub fn ends_are_told_once()
     ensures told_power { (enable : Bool) (c : Core) → TellsOwner (power_fate enable c) c.axis.active (core_after_power enable c).notes }
     ensures told_cycle { (look : AxisLook) (c : Core) → TellsOwner (cycle_fate look c) c.axis.active (core_after_cycle look c).notes }
     ensures once_command { (k : ℕ) (q : Asked) (c : Core) →
-        owns k (core_after_command q c) + notes_for k (core_after_command q c).notes ≡ owns k c + notes_for k c.notes + is_owner k (owner_brought (refusal_of q) q.wanted) }
+        owns k (core_after_command q c) + told k (core_after_command q c).notes ≡ owns k c + told k c.notes + is_owner k (owner_brought (refusal_of q) q.wanted) }
     ensures once_power { (k : ℕ) (enable : Bool) (c : Core) →
-        owns k (core_after_power enable c) + notes_for k (core_after_power enable c).notes ≡ owns k c + notes_for k c.notes }
+        owns k (core_after_power enable c) + told k (core_after_power enable c).notes ≡ owns k c + told k c.notes }
     ensures once_cycle { (k : ℕ) (look : AxisLook) (c : Core) →
-        owns k (core_after_cycle look c) + notes_for k (core_after_cycle look c).notes ≡ owns k c + notes_for k c.notes }
+        owns k (core_after_cycle look c) + told k (core_after_cycle look c).notes ≡ owns k c + told k c.notes }
     ensures taken_away { (k : ℕ) (c : Core) → owns k (core_without_owner k c) ≡ 0 }
     ensures left { (j k : ℕ) (c : Core) → nat_eq k j ≡ false → owns j (core_without_owner k c) ≡ owns j c }
 {}

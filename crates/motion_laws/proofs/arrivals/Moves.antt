@@ -7,7 +7,7 @@ use Rattle.axis_core.specs.Blended.{BlendingCarried, BlendingGoesOn, HasStep, Is
 use Rattle.axis_core.specs.Calls.{axis_without_owner, core_after_command, core_after_power}
 use Rattle.axis_core.specs.Cores as cores
 use Rattle.axis_core.specs.Cycles.{core_after_cycle}
-use Rattle.axis_core.specs.Fates.{Fate, IsFate, IsSame, admitted_fate, asked_fate, command_fate, cycle_fate, goes_on, joined_fate, power_fate, replaced}
+use Rattle.axis_core.specs.Fates.{Fate, IsFate, admitted_fate, asked_fate, command_fate, cycle_fate, goes_on, joined_fate, power_fate, replaced}
 use Rattle.axis_core.specs.Owners.{core_without_owner}
 use Rattle.axis_core.specs.Refusals.{Asked, refusal_of}
 use Rattle.axis_core.specs.States.{is_error_stop}
@@ -18,6 +18,7 @@ use Rattle.axis_core.specs.blocks.Path.{axis_on_path}
 use Rattle.axis_core.specs.declared.axis.Axis.{Axis}
 use Rattle.axis_core.specs.declared.blocks.moves.SecondMove.{SecondMove}
 use Rattle.axis_core.specs.declared.look.AxisLook.{AxisLook}
+use Rattle.buffer_modes.specs.Owners.{IsSame}
 use Rattle.cia402_machine.specs.declared.drive.DriveIn.{DriveIn}
 use Rattle.command_pool.specs.Waiting.{detached, last_of, queue_of}
 use Rattle.command_pool.specs.declared.ending.Finish.{Finish}
@@ -105,18 +106,18 @@ pub record ArrivalLaws : Type 0 where
   pub moves : MovesAreDone
 
 -- commands that are the same one after another
-same_again : (a b c : Option Wanted) → IsSame a b → IsSame b c → IsSame a c
+pub same_again : (a b c : Option Wanted) → IsSame a b → IsSame b c → IsSame a c
 same_again None None c h k = k
 same_again None (Some v) c h k = elim h [ ]
 same_again (Some w) None c h k = elim h [ ]
 same_again (Some w) (Some v) None h k = elim k [ ]
 same_again (Some w) (Some v) (Some u) h k = k ∙ h
 
-as_it_is : (o : Option Wanted) → IsSame o o
+pub as_it_is : (o : Option Wanted) → IsSame o o
 as_it_is None = tt
 as_it_is (Some w) = refl
 
-nothing_before : (a b : Option Wanted) → IsSame a b → a ≡ None → b ≡ None
+pub nothing_before : (a b : Option Wanted) → IsSame a b → a ≡ None → b ≡ None
 nothing_before None None h e = refl
 nothing_before None (Some v) h e = elim h [ ]
 nothing_before (Some w) b h e = absurd (cc)

@@ -33,6 +33,7 @@ use Rattle.motion_kernel.specs.Looks.{group_look}
 use Rattle.motion_kernel.specs.Machine.{Machine, group_at, group_core_at}
 use Rattle.motion_kernel.specs.MachineKept.{AreWhole, IsMachineKept}
 use Rattle.motion_kernel.specs.Ready.{MayCall}
+use Rattle.motion_laws.proofs.arrivals.Moves.{as_it_is, nothing_before, same_again}
 use Rattle.motion_kernel.proofs.CycleRows.{axes_count}
 use Rattle.motion_laws.proofs.arrivals.GroupCalls.{IsByFate, IsThere, by_call}
 use Rattle.motion_kernel.proofs.KeptEvents.{IsAsLarge, axis_event_size, group_beside_axis, group_beside_group, group_event_size, group_written}
@@ -86,22 +87,6 @@ pub record GroupLaws : Type 0 where
   pub courses : CoursesEnd
 
 -- the fate of every event of a group is what its active command shows
-as_it_is : (o : Option Wanted) → IsSame o o
-as_it_is None = tt
-as_it_is (Some w) = refl
-
-same_again : (a b c : Option Wanted) → IsSame a b → IsSame b c → IsSame a c
-same_again None None c h k = k
-same_again None (Some v) c h k = elim h [ ]
-same_again (Some w) None c h k = elim h [ ]
-same_again (Some w) (Some v) None h k = elim k [ ]
-same_again (Some w) (Some v) (Some u) h k = k ∙ h
-
-nothing_before : (a b : Option Wanted) → IsSame a b → a ≡ None → b ≡ None
-nothing_before None None h e = refl
-nothing_before None (Some v) h e = elim h [ ]
-nothing_before (Some w) b h e = absurd (cc)
-
 stays : (before now : Option Wanted) → IsSame before now → IsFate goes_on before now
 stays before now h = record {
   begins = λ w e. absurd (cc);

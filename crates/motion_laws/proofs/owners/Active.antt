@@ -7,12 +7,11 @@ use Rattle.std.proofs.lemmas.List.{get_or-set_other}
 use Rattle.axis_core.specs.Calls.{active_without, answer_of, axis_without_owner, core_after_command, core_after_power}
 use Rattle.axis_core.specs.Cores as cores
 use Rattle.axis_core.specs.Cycles.{core_after_cycle}
-use Rattle.axis_core.specs.Owners as axis
-use Rattle.axis_core.specs.Owners.{core_without_owner, is_owner, notes_for}
 use Rattle.axis_core.specs.Refusals as axis_refusals
 use Rattle.group_core.specs.Refusals as group_refusals
 use Rattle.axis_core.specs.blocks.Path.{axis_on_path, is_on_path}
 use Rattle.axis_core.specs.declared.axis.Axis.{Axis}
+use Rattle.buffer_modes.specs.Owners.{is_owner, owner_by, told}
 use Rattle.cia402_machine.specs.declared.drive.DriveIn.{DriveIn}
 use Rattle.command_pool.specs.Kinds.{acts_on_group}
 use Rattle.command_pool.specs.Waiting.{without}
@@ -33,7 +32,6 @@ use Rattle.group_core.specs.Calls as group_calls
 use Rattle.group_core.specs.Calls.{commanded, disowned, group_without, powered_off}
 use Rattle.group_core.specs.Cores as group_cores
 use Rattle.group_core.specs.Cycles as group_cycles
-use Rattle.group_core.specs.Owners as group
 use Rattle.motion_history.specs.Calls.{IsCall}
 use Rattle.motion_history.specs.Setup.{Setup}
 use Rattle.motion_history.specs.declared.config.BlockDef.{BlockDef}
@@ -50,8 +48,8 @@ use Rattle.motion_kernel.specs.declared.members.Membership.{Membership}
 use Rattle.motion_laws.proofs.owners.ActiveCounts.{AxisNoMore, GroupNoMore, active_of, command_no_more, cycle_waits, group_active_of, group_command_no_more, group_cycle_waits, group_own_active, group_power_no_more, group_reset_waits, group_waiting_of, own_active, power_no_more, waiting_of}
 use Rattle.motion_kernel.proofs.KeptEvents.{axis_beside_axis, axis_beside_group, axis_written, group_beside_axis, group_beside_group, group_written, told_length}
 use Rattle.motion_kernel.proofs.KeptMembers.{membership_is}
-use Rattle.motion_laws.proofs.owners.Counts.{told_shows_none, none_owned, other_owner, same_active, same_owner, same_waits, shown_by, untold_stays}
-use Rattle.motion_laws.proofs.owners.Commands.{other_brings, other_brings_group, one_led, told_active, axis_active, AsShown, Changes, IsAsking, IsGood, OwnerLaws, ShownOf, asks, axes_good, axes_told, axis_active_shown, axis_as_many, axis_changes, axis_disowned, beside_none, call_shown, cycle_shown, cycled_good, event_shown, group_active_shown, group_as_many, group_changes, group_disowned, group_list, groups_told, instances_without, lists_there, members_are_led, most_one, none_beside, none_if, not_shown, opening_shown, plus_none, plus_nothing, power_execute, power_good, power_has_none, resets_good, same_object, same_there, set_at, shown_if, shown_where, shows_none, steps_good, as_many_without}
+use Rattle.motion_laws.proofs.owners.Counts.{told_shows_none, none_owned, other_owner, shown_by, untold_stays}
+use Rattle.motion_laws.proofs.owners.Commands.{other_brings, other_brings_group, one_led, told_active, active_owner, AsShown, Changes, IsAsking, IsGood, OwnerLaws, ShownOf, asks, axes_good, axes_told, axis_active_shown, axis_as_many, axis_changes, axis_disowned, beside_none, call_shown, cycle_shown, cycled_good, event_shown, group_active_shown, group_as_many, group_changes, group_disowned, group_list, groups_told, instances_without, lists_there, members_are_led, most_one, none_beside, none_if, not_shown, opening_shown, plus_none, plus_nothing, power_execute, power_good, power_has_none, resets_good, same_object, same_there, set_at, shown_if, shown_where, shows_none, steps_good, as_many_without}
 use Rattle.motion_kernel.proofs.SizeLaws.{by_if}
 
 -- commands are where their instances show, apart from holds
@@ -73,9 +71,6 @@ all_are : (m : Machine) (k : ℕ) (o : Object) → commands_at m k o ≡ active_
 all_are m k (an_axis n) = omega arith
 all_are m k (a_group j) =
     let c = group_core_at m j in
-    let a = same_active k c.group.active in
-    let w = same_waits k c.waiting in
-    let r = same_owner k (group.reset_owner c.group.reset) in
     omega arith
 
 no_more_than_shown : (p : Progress) → active_shown p ≤ commands_shown p
@@ -108,7 +103,7 @@ record KeepsActive (k : ℕ) (m x : Machine) (o : Object) : Type 0 where
   beside : (p : Object) → IsThere m p → is_same o p ≡ false → active_at x k p ≡ active_at m k p
 
 untold_active : (s : Setup) (k : ℕ) (m x : Machine) (o : Object) (ns : List Note) →
-    Changes k m x o ns → KeepsActive k m x o → notes_for k ns ≡ 0 →
+    Changes k m x o ns → KeepsActive k m x o → told k ns ≡ 0 →
     ActiveOf s k m → ActiveOf s k x
 untold_active s k m x o ns h keeps none active p there =
     let b = has_commands_on (slice_get s.blocks k) p in
@@ -130,7 +125,7 @@ untold_active s k m x o ns h keeps none active p there =
 event_active : (s : Setup) (k : ℕ) (m x : Machine) (o : Object) (ns : List Note) →
     Changes k m x o ns → KeepsActive k m x o → ShownOf s k m → ActiveOf s k m →
     ActiveOf s k x
-event_active s k m x o ns h keeps shown active = elim (cases_eq (notes_for k ns) 0) [
+event_active s k m x o ns h keeps shown active = elim (cases_eq (told k ns) 0) [
   | inl e ↦ untold_active s k m x o ns h keeps e active
   | inr d ↦
       none_is_active s k x (event_shown s k m x o ns h shown)
@@ -252,13 +247,13 @@ without_other k j (Some n) d = elim (cases_Bool (nat_eq n k)) [
 ]
 
 axis_active_left : (k j : ℕ) (active : Option Wanted) → nat_eq k j ≡ false → is_owner j
-    (axis.owner_by (active_without k active)) ≡ is_owner j (axis.owner_by active)
+    (owner_by (active_without k active)) ≡ is_owner j (owner_by active)
 axis_active_left k j None d = refl
 axis_active_left k j (Some w) d = without_other k j w.owner d
 
 group_active_left : (k j : ℕ) (active : Option Wanted) → nat_eq k j ≡ false →
-    is_owner j (axis.owner_by (group_calls.active_without k active)) ≡ is_owner j
-    (axis.owner_by active)
+    is_owner j (owner_by (group_calls.active_without k active)) ≡ is_owner j
+    (owner_by active)
 group_active_left k j None d = refl
 group_active_left k j (Some w) d = without_other k j w.owner d
 
@@ -375,7 +370,7 @@ one_led_active on (a ∷ more) (suc i) (suc n) = one_led_active on more i n
 
 first_led : (on : Bool) (n : ℕ) (m : Machine) (k : ℕ) (o : Object) → active_at
     (one_led on n m) k o ≡ active_at m k o
-first_led on n m k (an_axis i) = ap (λ a. is_owner k (axis.owner_by a))
+first_led on n m k (an_axis i) = ap (λ a. is_owner k (owner_by a))
     (one_led_active on m.axes n i)
 first_led on n m k (a_group j) = refl
 
@@ -643,7 +638,7 @@ at_most false c n e l = omega arith
 
 event_waits : (s : Setup) (k : ℕ) (m x : Machine) (o : Object) (ns : List Note) →
     Changes k m x o ns → KeepsWaiting k m x o → ShownOf s k m → WaitsOf s k m → WaitsOf s k x
-event_waits s k m x o ns h keeps shown waits p there = elim (cases_eq (notes_for k ns) 0) [
+event_waits s k m x o ns h keeps shown waits p there = elim (cases_eq (told k ns) 0) [
   | inl e ↦
       let was = h.as_many p there in
       let same : active_by x.instances k ≡ active_by m.instances k =
@@ -826,7 +821,7 @@ axis_has : (m : Machine) (n k : ℕ) → n < length m.axes → owner_of (axis_at
 axis_has m n k l e = record {
   object = an_axis n;
   there = l;
-  active = axis_active k
+  active = active_owner k
       (axis_at m n).active e;
 }
 
@@ -835,7 +830,7 @@ group_has : (m : Machine) (j k : ℕ) → j < length m.groups → owner_of (grou
 group_has m j k l e = record {
   object = a_group j;
   there = l;
-  active = axis_active k
+  active = active_owner k
       (group_at m j).group.active e;
 }
 
@@ -936,7 +931,7 @@ found_in k (Some j) l = elim (cases_Bool (nat_eq j k)) [
   | inr d ↦ let n = other_owner k j d in absurd (omega arith)
 ]
 
-owner_found : (k : ℕ) (active : Option Wanted) → 0 < is_owner k (axis.owner_by active) →
+owner_found : (k : ℕ) (active : Option Wanted) → 0 < is_owner k (owner_by active) →
     owner_of active ≡ Some k
 owner_found k None l = let n = none_owned k in absurd (omega arith)
 owner_found k (Some w) l = found_in k w.owner l

@@ -7,7 +7,7 @@ use Rattle.axis_core.specs.Calls.{core_after_admission, core_after_command, core
 use Rattle.axis_core.specs.Cores.{Core, axis_under, axis_under_by, core_after_end, core_after_ending, core_after_error, core_after_take_over, core_taken_by}
 use Rattle.axis_core.specs.Cycles.{Advance, advance_by_command, advance_by_progress, advance_in_cycle, advance_without_error, axis_after_progress, core_after_answer, core_after_cycle, core_after_step, progress_in_cycle}
 use Rattle.axis_core.specs.Drives.{answer_error_of, axis_at_drive, is_driven}
-use Rattle.axis_core.specs.Owners.{is_owner, owner_by, reset_owner, waits_of}
+use Rattle.axis_core.specs.Owners.{reset_owner}
 use Rattle.axis_core.specs.Refusals as axis_refusals
 use Rattle.axis_core.specs.Refusals.{Asked}
 use Rattle.axis_core.specs.States.{is_error_stop}
@@ -20,6 +20,7 @@ use Rattle.axis_core.specs.declared.axis.PendingReset as axis_pending
 use Rattle.axis_core.specs.declared.look.AxisLook.{AxisLook}
 use Rattle.axis_core.specs.declared.progress.Progress as axis_progress
 use Rattle.axis_core.specs.declared.reason.Reason as axis_reason
+use Rattle.buffer_modes.specs.Owners.{is_owner, owner_by, waits_of}
 use Rattle.buffer_modes.specs.Queue.{Commands, admitted, behind, is_aborting, is_active_at_once}
 use Rattle.cia402_machine.specs.declared.drive.DriveIn.{DriveIn}
 use Rattle.command_pool.specs.Waiting.{last_of}

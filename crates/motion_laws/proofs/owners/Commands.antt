@@ -7,7 +7,7 @@ use Rattle.axis_core.specs.Calls.{answer_of, axis_without_owner, core_after_comm
 use Rattle.axis_core.specs.Cores as cores
 use Rattle.axis_core.specs.Cycles.{axis_at_opening, core_after_cycle}
 use Rattle.axis_core.specs.Owners as axis
-use Rattle.axis_core.specs.Owners.{core_without_owner, is_owner, notes_for, owner_brought}
+use Rattle.axis_core.specs.Owners.{core_without_owner, owner_brought}
 use Rattle.axis_core.specs.Refusals as axis_refusals
 use Rattle.axis_core.specs.Refusals.{Asked}
 use Rattle.axis_core.specs.declared.reason.Reason as axis_reasons
@@ -15,7 +15,7 @@ use Rattle.axis_core.specs.blocks.Path.{axis_on_path, is_on_path}
 use Rattle.axis_core.specs.declared.axis.Axis.{Axis}
 use Rattle.axis_core.specs.declared.look.AxisLook.{AxisLook}
 use Rattle.axis_state.specs.declared.definition.AxisDef.{AxisDef}
-use Rattle.buffer_modes.specs.Owners as modes
+use Rattle.buffer_modes.specs.Owners.{is_owner, owner_by, told}
 use Rattle.cia402_machine.specs.declared.drive.DriveIn.{DriveIn}
 use Rattle.command_pool.specs.Kinds.{acts_on_group}
 use Rattle.command_pool.specs.Waiting.{detached, queue_of}
@@ -59,21 +59,21 @@ use Rattle.motion_kernel.specs.declared.members.Membership.{Membership}
 use Rattle.motion_kernel.proofs.KeptEvents.{axis_beside_axis, axis_beside_group, axis_written, group_beside_axis, group_beside_group, group_written, told_length}
 use Rattle.motion_kernel.proofs.KeptMembers.{membership_is}
 use Rattle.motion_kernel.proofs.MachineLaws.{MachinesStayKept}
-use Rattle.motion_laws.proofs.owners.Counts.{answer_shows, command_untold, group_answer_shows, group_command_untold, none_owned, other_owner, owner_is, same_owner, same_told, shown_by, told_shows_none, untold_stays}
+use Rattle.motion_laws.proofs.owners.Counts.{answer_shows, command_untold, group_answer_shows, group_command_untold, none_owned, other_owner, owner_is, shown_by, told_shows_none, untold_stays}
 use Rattle.motion_kernel.proofs.SizeLaws.{by_if, sized_axis, sized_group, sized_instance, sized_without}
 
 -- axis_core's ends_are_told_once
 pub record AxesTellOnce : Type 0 where
   pub command : (k : ℕ) (q : Asked) (c : cores.Core) → axis.owns k
-      (core_after_command q c) + notes_for k (core_after_command q c).notes
-      ≡ axis.owns k c + notes_for k c.notes + is_owner k
+      (core_after_command q c) + told k (core_after_command q c).notes
+      ≡ axis.owns k c + told k c.notes + is_owner k
       (owner_brought (axis_refusals.refusal_of q) q.wanted)
   pub power : (k : ℕ) (enable : Bool) (c : cores.Core) → axis.owns k
-      (core_after_power enable c) + notes_for k (core_after_power enable c).notes
-      ≡ axis.owns k c + notes_for k c.notes
+      (core_after_power enable c) + told k (core_after_power enable c).notes
+      ≡ axis.owns k c + told k c.notes
   pub cycle : (k : ℕ) (look : AxisLook) (c : cores.Core) → axis.owns k
-      (core_after_cycle look c) + notes_for k (core_after_cycle look c).notes
-      ≡ axis.owns k c + notes_for k c.notes
+      (core_after_cycle look c) + told k (core_after_cycle look c).notes
+      ≡ axis.owns k c + told k c.notes
   pub taken_away : (k : ℕ) (c : cores.Core) → axis.owns k (core_without_owner k c) ≡ 0
   pub left : (j k : ℕ) (c : cores.Core) → nat_eq k j ≡ false → axis.owns j (core_without_owner k c)
       ≡ axis.owns j c
@@ -81,17 +81,17 @@ pub record AxesTellOnce : Type 0 where
 -- group_core's ends_are_told_once
 pub record GroupsTellOnce : Type 0 where
   pub command : (k : ℕ) (w : Wanted) (jerk : ℤ) (members : GroupLook) (c : group_cores.Core) →
-      group.owns k (commanded w jerk members c) + modes.told k (commanded w jerk members c).notes
-      ≡ group.owns k c + modes.told k c.notes + modes.is_owner k
+      group.owns k (commanded w jerk members c) + told k (commanded w jerk members c).notes
+      ≡ group.owns k c + told k c.notes + is_owner k
       (group.brought (group_refusals.refusal_of (group_calls.asked_in c w jerk members)) w)
-  pub power_off : (k : ℕ) (c : group_cores.Core) → group.owns k (powered_off c) + modes.told k
-      (powered_off c).notes ≡ group.owns k c + modes.told k c.notes
+  pub power_off : (k : ℕ) (c : group_cores.Core) → group.owns k (powered_off c) + told k
+      (powered_off c).notes ≡ group.owns k c + told k c.notes
   pub cycle : (k : ℕ) (members : GroupLook) (c : group_cores.Core) →
-      group.owns k (group_cycles.cycled members c) + modes.told k
-      (group_cycles.cycled members c).notes ≡ group.owns k c + modes.told k c.notes
+      group.owns k (group_cycles.cycled members c) + told k
+      (group_cycles.cycled members c).notes ≡ group.owns k c + told k c.notes
   pub reset : (k : ℕ) (members : GroupLook) (c : group_cores.Core) →
-      group.owns k (group_cycles.reset_cycled members c) + modes.told k
-      (group_cycles.reset_cycled members c).notes ≡ group.owns k c + modes.told k c.notes
+      group.owns k (group_cycles.reset_cycled members c) + told k
+      (group_cycles.reset_cycled members c).notes ≡ group.owns k c + told k c.notes
   pub taken_away : (k : ℕ) (c : group_cores.Core) → group.owns k (disowned k c) ≡ 0
   pub left : (j k : ℕ) (c : group_cores.Core) → nat_eq k j ≡ false → group.owns j
       (disowned k c) ≡ group.owns j c
@@ -151,14 +151,14 @@ ShownOf s k m = (o : Object) → IsThere m o →
 pub record Changes (k : ℕ) (m x : Machine) (o : Object) (ns : List Note) : Type 0 where
   pub there : IsThere m o
   pub as_many : (p : Object) → IsThere x p → IsThere m p
-  pub here : commands_at x k o + notes_for k ns ≡ commands_at m k o
+  pub here : commands_at x k o + told k ns ≡ commands_at m k o
   pub beside : (p : Object) → IsThere m p → is_same o p ≡ false →
       commands_at x k p ≡ commands_at m k p
   pub told : x.instances ≡ told_notes ns m.instances
 
 -- one that is told nothing has its commands as before
 pub untold_commands : (k : ℕ) (m x : Machine) (o : Object) (ns : List Note) → Changes k m x o ns →
-    notes_for k ns ≡ 0 →
+    told k ns ≡ 0 →
     (p : Object) → IsThere m p → commands_at x k p ≡ commands_at m k p
 untold_commands k m x o ns h none p there = elim (cases_Bool (is_same o p)) [
   | inl e ↦ subst (λ q. commands_at x k q ≡ commands_at m k q) (same_object o p e)
@@ -194,7 +194,7 @@ none_beside false n c e h = h
 
 -- one that is told has none any more
 pub told_shown : (s : Setup) (k : ℕ) (m x : Machine) (o : Object) (ns : List Note) →
-    Changes k m x o ns → 0 < notes_for k ns → ShownOf s k m → ShownOf s k x
+    Changes k m x o ns → 0 < told k ns → ShownOf s k m → ShownOf s k x
 told_shown s k m x o ns h l shown p there =
     let b = slice_get s.blocks k in
     let was = shown o h.there in
@@ -217,7 +217,7 @@ told_shown s k m x o ns h l shown p there =
     ]
 
 pub untold_shown : (s : Setup) (k : ℕ) (m x : Machine) (o : Object) (ns : List Note) →
-    Changes k m x o ns → notes_for k ns ≡ 0 → ShownOf s k m → ShownOf s k x
+    Changes k m x o ns → told k ns ≡ 0 → ShownOf s k m → ShownOf s k x
 untold_shown s k m x o ns h e shown p there =
     let b = slice_get s.blocks k in
     let same : shown_by x.instances k ≡ shown_by m.instances k =
@@ -228,7 +228,7 @@ untold_shown s k m x o ns h e shown p there =
 
 pub event_shown : (s : Setup) (k : ℕ) (m x : Machine) (o : Object) (ns : List Note) →
     Changes k m x o ns → ShownOf s k m → ShownOf s k x
-event_shown s k m x o ns h shown = elim (cases_eq (notes_for k ns) 0) [
+event_shown s k m x o ns h shown = elim (cases_eq (told k ns) 0) [
   | inl e ↦ untold_shown s k m x o ns h e shown
   | inr d ↦ told_shown s k m x o ns h (omega arith) shown
 ]
@@ -252,12 +252,12 @@ lists_there s m n h l = let a = h.axes in let q = h.queues in omega arith
 
 pub axis_changes : (s : Setup) (k n : ℕ) (m : Machine) (c : cores.Core) → IsSized s m →
     n < length m.axes →
-    axis.owns k c + notes_for k c.notes ≡ axis.owns k (axis_core_at m n) → Changes k m
+    axis.owns k c + told k c.notes ≡ axis.owns k (axis_core_at m n) → Changes k m
     (with_axis_core m n c) (an_axis n) c.notes
 axis_changes s k n m c h l e = record {
   there = l;
   as_many = axis_as_many m n c;
-  here = ap (λ (x : cores.Core). axis.owns k x + notes_for k c.notes)
+  here = ap (λ (x : cores.Core). axis.owns k x + told k c.notes)
       (axis_written m n c l (lists_there s m n h l)) ∙ e;
   beside = axis_beside m n k c l;
   told = refl;
@@ -283,13 +283,13 @@ group_list s m j h l = let a = h.axes in let g = h.groups in let q = h.queues in
 
 pub group_changes : (s : Setup) (k j : ℕ) (m : Machine) (c : group_cores.Core) → IsSized s m →
     j < length m.groups →
-    group.owns k c + modes.told k c.notes ≡ group.owns k (group_core_at m j) → Changes k m
+    group.owns k c + told k c.notes ≡ group.owns k (group_core_at m j) → Changes k m
     (with_group_core m j c) (a_group j) c.notes
 group_changes s k j m c h l e = record {
   there = l;
   as_many = group_as_many m j c;
-  here = (λ i. group.owns k (group_written m j c l (group_list s m j h l) i) + sym
-      (same_told k c.notes) i) ∙ e;
+  here = ap (λ (x : group_cores.Core). group.owns k x + told k c.notes)
+      (group_written m j c l (group_list s m j h l)) ∙ e;
   beside = group_beside m j k c;
   told = refl;
 }
@@ -637,9 +637,8 @@ group_own laws s k b i m at other on l h there =
     let v = answered_instance b.kind answer (instance_at z.instances k) in
     let brought = is_owner k (group.brought (group_refusals.refusal_of q) w) in
     let none : group.owns k c ≡ 0 = h.own (a_group n) l in
-    let untold = same_told k d.notes ∙ group_command_untold k w i.jerk members c none refl in
+    let untold = group_command_untold k w i.jerk members c none refl in
     let all = laws.groups.command k w i.jerk members c in
-    let same = same_owner k (group.brought (group_refusals.refusal_of q) w) in
     let owns : group.owns k d ≡ brought = omega arith in
     let written = group_written m n d l (group_list s m n h.sized l) in
     let here : commands_at z k (a_group n) ≡ brought = led.commands k (a_group n) ∙ ap
@@ -660,22 +659,22 @@ group_own laws s k b i m at other on l h there =
     ∙ group_beside m n k d p in_m e ∙ h.own p in_m)
 
 pub other_brings_group : (j k : ℕ) (o : Option group_reasons.Reason) (w : Wanted) →
-    nat_eq k j ≡ false → w.owner ≡ Some k → modes.is_owner j (group.brought o w) ≡ 0
+    nat_eq k j ≡ false → w.owner ≡ Some k → is_owner j (group.brought o w) ≡ 0
 other_brings_group j k None w d e = other_brings_by w.kind
   where
-    none : modes.is_owner j w.owner ≡ 0
-    none = same_owner j w.owner ∙ ap (is_owner j) e ∙ other_owner j k d
+    none : is_owner j w.owner ≡ 0
+    none = ap (is_owner j) e ∙ other_owner j k d
 
-    nobody : modes.is_owner j None ≡ 0
-    nobody = same_owner j None ∙ none_owned j
+    nobody : is_owner j None ≡ 0
+    nobody = none_owned j
 
-    other_brings_by : (x : BlockKind) → modes.is_owner j (group.brought_by x w) ≡ 0
+    other_brings_by : (x : BlockKind) → is_owner j (group.brought_by x w) ≡ 0
     other_brings_by kind.GroupReset = none
     other_brings_by kind.GroupStop = none
     other_brings_by kind.GroupHalt = none
     other_brings_by kind.MoveLinearAbsolute = none
     other_brings_by _ = nobody
-other_brings_group j k (Some r) w d e = same_owner j None ∙ none_owned j
+other_brings_group j k (Some r) w d e = none_owned j
 
 pub led_shown : (s : Setup) (j : ℕ) (m x : Machine) → AreLed m x → ShownOf s j m → ShownOf s j x
 led_shown s j m x led shown o l =
@@ -922,27 +921,22 @@ pub at_least : (b : Bool) (n c : ℕ) → 1 ≤ c → c ≡ (if b then n else 0)
 at_least true n c l e m = omega arith
 at_least false n c l e m = absurd (omega arith)
 
-pub axis_active : (k : ℕ) (active : Option Wanted) → owner_of active ≡ Some k → is_owner k
-    (axis.owner_by active) ≡ 1
-axis_active k None e = absurd (cc)
-axis_active k (Some w) e = ap (is_owner k) e ∙ owner_is k
-
-pub group_active : (k : ℕ) (active : Option Wanted) → owner_of active ≡ Some k → modes.is_owner k
-    (modes.owner_by active) ≡ 1
-group_active k None e = absurd (cc)
-group_active k (Some w) e = same_owner k w.owner ∙ ap (is_owner k) e ∙ owner_is k
+pub active_owner : (k : ℕ) (active : Option Wanted) → owner_of active ≡ Some k → is_owner k
+    (owner_by active) ≡ 1
+active_owner k None e = absurd (cc)
+active_owner k (Some w) e = ap (is_owner k) e ∙ owner_is k
 
 pub axis_active_shown : (s : Setup) (m : Machine) (n k : ℕ) → CommandsAreShown s m →
     n < length m.axes → owner_of (axis_at m n).active ≡ Some k → shown_by m.instances k ≡ 1
 axis_active_shown s m n k h l e =
-    let one = axis_active k (axis_at m n).active e in
+    let one = active_owner k (axis_at m n).active e in
     at_least _ _ (commands_at m k (an_axis n)) (omega arith) (h k (an_axis n) l)
     (most_one (instance_at m.instances k).progress)
 
 pub group_active_shown : (s : Setup) (m : Machine) (j k : ℕ) → CommandsAreShown s m →
     j < length m.groups → owner_of (group_at m j).group.active ≡ Some k → shown_by m.instances k ≡ 1
 group_active_shown s m j k h l e =
-    let one = group_active k (group_at m j).group.active e in
+    let one = active_owner k (group_at m j).group.active e in
     at_least _ _ (commands_at m k (a_group j)) (omega arith) (h k (a_group j) l)
     (most_one (instance_at m.instances k).progress)
 
@@ -1057,7 +1051,7 @@ pub group_opens : (k : ℕ) (groups : List GroupDef) (j : ℕ) (ws : List Wanted
           ws;
       notes = [];
     }) ≡ 0
-unfolding modes.is_owner
+unfolding is_owner
 group_opens k [] j ws p e = ap
     (λ x. group.owns k (record { group = no_group.group; path = p; waiting = x; notes = [] })) e
 group_opens k (d ∷ ds) zero ws p e = ap

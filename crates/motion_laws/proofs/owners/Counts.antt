@@ -1,19 +1,19 @@
 -- How many commands an instance has, how many it brings, and of how many ends it is told.
-use Rattle.std.specs.Prelude.{◌≡◌, refl, ℕ, zero, suc, ◌+◌, ◌<◌, Bool, true, false, nat_eq, ℤ, if◌then◌else◌, Option, Some, None, Ok, List, [], ◌∷◌, ◌++◌}
+use Rattle.std.specs.Prelude.{◌≡◌, refl, ℕ, zero, suc, ◌<◌, Bool, true, false, nat_eq, ℤ, if◌then◌else◌, Option, Some, None, Ok, List, [], ◌∷◌, ◌++◌}
 use Rattle.std.proofs.Common.{arith, ap, sym, subst, ◌∙◌, inl, inr}
 use Rattle.std.proofs.lemmas.Bool.{cases_eq, eq-eqb, eqb-false, ne_eqb}
 use Rattle.std.proofs.lemmas.List.{get_or-set_other}
 use Rattle.axis_core.specs.Calls.{core_after_admission, core_after_command, core_after_joining, core_after_leaving, core_after_verdict, queue_in}
 use Rattle.axis_core.specs.Calls as axis_calls
 use Rattle.axis_core.specs.Cores.{Core}
-use Rattle.axis_core.specs.Owners.{is_owner, notes_for, one_of, owner_brought, owner_brought_by, owner_by, owns, reset_owner, waits_of}
+use Rattle.axis_core.specs.Owners.{owner_brought, owner_brought_by, owns, reset_owner}
 use Rattle.axis_core.specs.Refusals as axis_refusals
 use Rattle.axis_core.specs.Refusals.{Asked}
 use Rattle.axis_core.specs.blocks.Moves.{known_target_of, with_target}
 use Rattle.axis_core.specs.blocks.Reset as axis_reset
 use Rattle.axis_core.specs.declared.axis.PendingReset as axis_pending
 use Rattle.axis_core.specs.declared.reason.Reason as axis_reason
-use Rattle.buffer_modes.specs.Owners as modes
+use Rattle.buffer_modes.specs.Owners.{is_owner, one_of, owner_by, told, waits_of}
 use Rattle.buffer_modes.specs.Queue.{active_note, end_notes, is_aborting, is_active_at_once, noted}
 use Rattle.command_pool.specs.Kinds.{acts_on_group}
 use Rattle.command_pool.specs.Waiting.{last_of, notes_of, told_to}
@@ -43,24 +43,6 @@ use Rattle.motion_laws.specs.owners.Owners.{commands_shown}
 use Rattle.motion_kernel.specs.Telling.{told_end, told_notes}
 use Rattle.motion_kernel.proofs.SizeLaws.{by_if}
 
--- a group counts as an axis does
-same_one : (b : Bool) → modes.one_of b ≡ one_of b
-same_one true = refl
-same_one false = refl
-
-pub same_owner : (k : ℕ) (o : Option ℕ) → modes.is_owner k o ≡ is_owner k o
-unfolding modes.is_owner is_owner
-same_owner k None = refl
-same_owner k (Some j) = same_one (nat_eq j k)
-
-pub same_waits : (k : ℕ) (ws : List Wanted) → modes.waits_of k ws ≡ waits_of k ws
-same_waits k [] = refl
-same_waits k (w ∷ ws) = λ i. same_owner k w.owner i + same_waits k ws i
-
-pub same_told : (k : ℕ) (ns : List Note) → modes.told k ns ≡ notes_for k ns
-same_told k [] = refl
-same_told k (n ∷ ns) = λ i. same_owner k (Some n.owner) i + same_told k ns i
-
 -- an instance is its own
 pub owner_is : (k : ℕ) → is_owner k (Some k) ≡ 1
 unfolding is_owner
@@ -83,7 +65,7 @@ unfolding is_owner
 none_owned k = refl
 
 -- an instance that is told nothing is as it was
-pub untold_stays : (k : ℕ) (ns : List Note) (is : List InstanceState) → notes_for k ns ≡ 0 →
+pub untold_stays : (k : ℕ) (ns : List Note) (is : List InstanceState) → told k ns ≡ 0 →
     instance_at (told_notes ns is) k ≡ instance_at is k
 untold_stays k [] is e = refl
 untold_stays k (n ∷ ns) is e =
@@ -115,7 +97,7 @@ stays_ended k [] is e = e
 stays_ended k (n ∷ ns) is e = stays_ended k ns (told_end n.owner n.finish is)
     (one_ended is n.owner k n.finish e)
 
-pub told_shows_none : (k : ℕ) (ns : List Note) (is : List InstanceState) → 0 < notes_for k ns →
+pub told_shows_none : (k : ℕ) (ns : List Note) (is : List InstanceState) → 0 < told k ns →
     shown_by (told_notes ns is) k ≡ 0
 told_shows_none k [] is l = absurd (omega arith)
 told_shows_none k (n ∷ ns) is l = elim (cases_eq n.owner k) [
@@ -127,16 +109,16 @@ told_shows_none k (n ∷ ns) is l = elim (cases_eq n.owner k) [
 ]
 
 -- no note for an instance that has no command
-none_more : (k : ℕ) (xs ys : List Note) → notes_for k xs ≡ 0 → notes_for k ys ≡ 0 → notes_for k
+none_more : (k : ℕ) (xs ys : List Note) → told k xs ≡ 0 → told k ys ≡ 0 → told k
     (xs ++ ys) ≡ 0
 none_more k [] ys e f = f
 none_more k (x ∷ xs) ys e f = let rest = none_more k xs ys (omega arith) f in omega arith
 
-none_to : (k : ℕ) (o : Option ℕ) (f : Finish) → is_owner k o ≡ 0 → notes_for k (told_to o f) ≡ 0
+none_to : (k : ℕ) (o : Option ℕ) (f : Finish) → is_owner k o ≡ 0 → told k (told_to o f) ≡ 0
 none_to k None f e = refl
 none_to k (Some j) f e = omega arith
 
-none_waiting : (k : ℕ) (f : Finish) (ws : List Wanted) → waits_of k ws ≡ 0 → notes_for k
+none_waiting : (k : ℕ) (f : Finish) (ws : List Wanted) → waits_of k ws ≡ 0 → told k
     (notes_of f ws) ≡ 0
 none_waiting k f [] e = refl
 none_waiting k f (w ∷ ws) e =
@@ -144,29 +126,29 @@ none_waiting k f (w ∷ ws) e =
     (none_waiting k f ws (omega arith))
 
 none_active : (k : ℕ) (f : Finish) (active : Option Wanted) → is_owner k (owner_by active) ≡ 0 →
-    notes_for k (active_note f active) ≡ 0
+    told k (active_note f active) ≡ 0
 none_active k f None e = refl
 none_active k f (Some w) e = none_to k w.owner f e
 
 none_ended : (k : ℕ) (f : Finish) (active : Option Wanted) (ws : List Wanted) → is_owner k
     (owner_by active) ≡ 0 → waits_of k ws ≡ 0 →
-    notes_for k (end_notes f (record { active = active; waiting = ws })) ≡ 0
+    told k (end_notes f (record { active = active; waiting = ws })) ≡ 0
 none_ended k f active ws a w = none_more k (active_note f active) (notes_of finish.Aborted ws)
     (none_active k f active a) (none_waiting k finish.Aborted ws w)
 
 none_noted : (k : ℕ) (active : Option Wanted) (ws : List Wanted) (w : Wanted) → is_owner k
     (owner_by active) ≡ 0 → waits_of k ws ≡ 0 →
-    notes_for k (noted (record { active = active; waiting = ws }) w) ≡ 0
+    told k (noted (record { active = active; waiting = ws }) w) ≡ 0
 none_noted k active ws w a e =
-    by_if (λ ns. notes_for k ns ≡ 0) (is_aborting w.mode) _ _
+    by_if (λ ns. told k ns ≡ 0) (is_aborting w.mode) _ _
     (none_ended k finish.Aborted active ws a e) refl
 
 -- a command of an axis tells nothing to an instance that has none
 abbrev Untold : ℕ → Core → Type 0
-Untold k c = notes_for k c.notes ≡ 0
+Untold k c = told k c.notes ≡ 0
 
 none_replaced : (k : ℕ) (o : Option axis_pending.PendingReset) → is_owner k (reset_owner o) ≡ 0 →
-    notes_for k (axis_reset.replaced_note o) ≡ 0
+    told k (axis_reset.replaced_note o) ≡ 0
 none_replaced k None e = refl
 none_replaced k (Some p) e = none_to k p.owner finish.Aborted e
 
@@ -205,40 +187,31 @@ verdict_untold k None w c h e = admitted_untold k w.kind
     (with_target (known_target_of c.axis (last_of c.waiting) w) w) c h e
 verdict_untold k (Some r) w c h e = e
 
-pub command_untold : (k : ℕ) (q : Asked) (c : Core) → owns k c ≡ 0 → notes_for k c.notes ≡ 0 →
-    notes_for k (core_after_command q c).notes ≡ 0
+pub command_untold : (k : ℕ) (q : Asked) (c : Core) → owns k c ≡ 0 → told k c.notes ≡ 0 →
+    told k (core_after_command q c).notes ≡ 0
 unfolding core_after_command
 command_untold k q c h e = verdict_untold k (axis_refusals.refusal_of q) q.wanted c
     (has_none k c h) e
 
 -- a command of a group neither
 abbrev GroupUntold : ℕ → groups.Core → Type 0
-GroupUntold k c = notes_for k c.notes ≡ 0
+GroupUntold k c = told k c.notes ≡ 0
 
 record GroupHasNone (k : ℕ) (c : groups.Core) : Type 0 where
   active : is_owner k (owner_by c.group.active) ≡ 0
   waiting : waits_of k c.waiting ≡ 0
   reset : is_owner k (group_owners.reset_owner c.group.reset) ≡ 0
 
-pub same_active : (k : ℕ) (active : Option Wanted) → modes.is_owner k (modes.owner_by active)
-    ≡ is_owner k (owner_by active)
-same_active k None = same_owner k None
-same_active k (Some w) = same_owner k w.owner
-
 group_has_none : (k : ℕ) (c : groups.Core) → group_owners.owns k c ≡ 0 → GroupHasNone k c
-group_has_none k c e =
-    let a = same_active k c.group.active in
-    let w = same_waits k c.waiting in
-    let r = same_owner k (group_owners.reset_owner c.group.reset) in
-    record { active = omega arith; waiting = omega arith; reset = omega arith }
+group_has_none k c e = record { active = omega arith; waiting = omega arith; reset = omega arith }
 
 group_replaced : (k : ℕ) (o : Option group_pending.PendingReset) → is_owner k
-    (group_owners.reset_owner o) ≡ 0 → notes_for k (group_reset.replaced_note o) ≡ 0
+    (group_owners.reset_owner o) ≡ 0 → told k (group_reset.replaced_note o) ≡ 0
 group_replaced k None e = refl
 group_replaced k (Some p) e = none_to k p.owner finish.Aborted e
 
 halted_untold : (k : ℕ) (c : groups.Core) → GroupHasNone k c → GroupUntold k c →
-    notes_for k (c.notes ++ end_notes finish.Aborted (group_calls.queue_in c)) ≡ 0
+    told k (c.notes ++ end_notes finish.Aborted (group_calls.queue_in c)) ≡ 0
 halted_untold k c h e = none_more k c.notes _ e
     (none_ended k finish.Aborted c.group.active c.waiting h.active h.waiting)
 
@@ -269,8 +242,8 @@ group_verdict k None members w c h e = group_admitted k w.kind members w c h e
 group_verdict k (Some r) members w c h e = e
 
 pub group_command_untold : (k : ℕ) (w : Wanted) (jerk : ℤ) (members : GroupLook) (c : groups.Core) →
-    group_owners.owns k c ≡ 0 → notes_for k c.notes ≡ 0 →
-    notes_for k (group_calls.commanded w jerk members c).notes ≡ 0
+    group_owners.owns k c ≡ 0 → told k c.notes ≡ 0 →
+    told k (group_calls.commanded w jerk members c).notes ≡ 0
 unfolding group_calls.commanded
 group_command_untold k w jerk members c h e =
     group_verdict k (group_refusals.refusal_of (group_calls.asked_in c w jerk members)) members w c

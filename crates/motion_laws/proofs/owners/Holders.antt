@@ -8,7 +8,6 @@ use Rattle.axis_core.specs.Cores as cores
 use Rattle.axis_core.specs.Cores.{axis_under, axis_under_by, core_after_end, core_after_ending, core_after_error, core_after_take_over, core_taken_by, core_under_from}
 use Rattle.axis_core.specs.Cycles.{Advance, advance_by_command, advance_by_progress, advance_in_cycle, advance_without_error, axis_after_progress, axis_at_opening, core_after_answer, core_after_cycle, core_after_step, progress_in_cycle}
 use Rattle.axis_core.specs.Drives.{answer_error_of, axis_at_drive, is_driven}
-use Rattle.axis_core.specs.Owners.{is_owner, waits_of}
 use Rattle.axis_core.specs.Refusals as axis_refusals
 use Rattle.axis_core.specs.Refusals.{Asked}
 use Rattle.axis_core.specs.States.{is_error_stop}
@@ -22,6 +21,7 @@ use Rattle.axis_core.specs.declared.look.AxisLook.{AxisLook}
 use Rattle.axis_core.specs.declared.progress.Progress as axis_progress
 use Rattle.axis_core.specs.declared.reason.Reason as axis_reason
 use Rattle.axis_state.specs.declared.definition.AxisDef.{AxisDef}
+use Rattle.buffer_modes.specs.Owners.{is_owner, waits_of}
 use Rattle.buffer_modes.specs.Queue.{is_active_at_once}
 use Rattle.cia402_machine.specs.declared.drive.DriveIn.{DriveIn}
 use Rattle.command_pool.specs.Kinds.{acts_on_group}
@@ -70,7 +70,7 @@ use Rattle.motion_laws.proofs.owners.Active.{call_truly_shown, cycle_truly_shown
 use Rattle.motion_kernel.proofs.KeptEvents.{axis_beside_axis, axis_beside_group, axis_written, group_beside_axis, group_beside_group, group_written}
 use Rattle.motion_kernel.proofs.KeptMembers.{membership_is}
 use Rattle.motion_kernel.proofs.MachineLaws.{kept_by_cycle}
-use Rattle.motion_laws.proofs.owners.Counts.{owner_is, same_waits, shown_by}
+use Rattle.motion_laws.proofs.owners.Counts.{owner_is, shown_by}
 use Rattle.motion_laws.proofs.owners.Commands.{members_are_led, one_led, same_object, IsGood, OwnerLaws, as_many_without, axes_good, axis_as_many, axis_disowned, group_as_many, group_disowned, group_list, is_itself, lists_there, resets_good, shown_where, steps_good}
 use Rattle.motion_kernel.proofs.SizeLaws.{by_if, sized_axis, sized_instance, sized_without}
 
@@ -448,7 +448,7 @@ group_waits_there : (s : Setup) (m : Machine) (k j : ℕ) → CommandsAreShown s
     has_commands_on (slice_get s.blocks k) (a_group j) ≡ true
 group_waits_there s m k j h l waits =
     shown_where (has_commands_on (slice_get s.blocks k) (a_group j)) (shown_by m.instances k)
-    (let x = h k (a_group j) l in let w = same_waits k (group_core_at m j).waiting in omega arith)
+    (let x = h k (a_group j) l in omega arith)
 
 -- where axes and groups are the same, so are those who hold them
 same_parts : (s : Setup) (x y : Machine) → x.axes ≡ y.axes → x.groups ≡ y.groups → HaveBlocks s x →

@@ -5,8 +5,8 @@ use Rattle.std.proofs.lemmas.Bool.{cases_Bool, eqb-false, eqb-true}
 use Rattle.std.proofs.lemmas.List.{get_or-set_other, length-set}
 use Rattle.axis_core.specs.Calls.{core_after_command, core_after_power}
 use Rattle.axis_core.specs.Fates as axis_fates
-use Rattle.axis_core.specs.Owners as axis
 use Rattle.axis_core.specs.Refusals as axis_refusals
+use Rattle.buffer_modes.specs.Owners.{owner_by}
 use Rattle.command_pool.specs.Kinds.{acts_on_group}
 use Rattle.command_pool.specs.declared.ending.Finish.{Finish}
 use Rattle.command_pool.specs.declared.kind.BlockKind.{BlockKind}
@@ -40,7 +40,7 @@ use Rattle.motion_kernel.proofs.KeptEvents.{group_beside_axis}
 use Rattle.motion_kernel.proofs.KeptMembers.{membership_is}
 use Rattle.motion_laws.proofs.owners.Commands.{Changes, IsAsking, IsGood, OwnerLaws, asks, axis_changes, block_there, group_changes, instances_without, members_are_led, other_brings, other_brings_group, plus_none, plus_nothing, power_execute, power_good}
 use Rattle.motion_kernel.proofs.SizeLaws.{by_if}
-use Rattle.motion_laws.proofs.results.Cycles.{TellLaws, same_owner_by}
+use Rattle.motion_laws.proofs.results.Cycles.{TellLaws}
 use Rattle.motion_laws.proofs.results.Events.{HasEnded, event_spares, event_tells, none_spared, one_there, progress_in}
 
 -- an instance as it was
@@ -49,12 +49,12 @@ IsSameAt k m x = instance_at x.instances k ≡ instance_at m.instances k
 
 -- whoever has the active command is its owner
 axis_owner : (k n : ℕ) (m : Machine) → active_at m k (an_axis n) ≡ 1 →
-    axis.owner_by (axis_at m n).active ≡ Some k
-axis_owner k n m e = found_in k (axis.owner_by (axis_at m n).active) (omega arith)
+    owner_by (axis_at m n).active ≡ Some k
+axis_owner k n m e = found_in k (owner_by (axis_at m n).active) (omega arith)
 
 group_owner : (k j : ℕ) (m : Machine) → active_at m k (a_group j) ≡ 1 →
-    axis.owner_by (group_at m j).group.active ≡ Some k
-group_owner k j m e = found_in k (axis.owner_by (group_at m j).group.active) (omega arith)
+    owner_by (group_at m j).group.active ≡ Some k
+group_owner k j m e = found_in k (owner_by (group_at m j).group.active) (omega arith)
 
 -- the instance of another call
 beside : (m : Machine) (k j : ℕ) (i : InstanceState) → nat_eq k j ≡ false →
@@ -165,8 +165,8 @@ off_tells laws s j g (Some at) m x f l there h same owns ends =
     let is : at.group ≡ g = eqb-true at.group g test.0 in
     let here : g < length x.groups = subst (λ y. y < length x.groups) is (l at refl) in
     let c = group_core_at x g in
-    let owned = same_owner_by c.group.active
-    ∙ ap (λ (y : group_cores.Core). axis.owner_by y.group.active) same ∙ group_owner j g m owns in
+    let owned = ap (λ (y : group_cores.Core). owner_by y.group.active) same
+    ∙ group_owner j g m owns in
     subst (λ y. HasEnded f j (with_group_core x y (powered_off (group_core_at x y)))) (sym is)
     (event_tells s j x (with_group_core x g (powered_off c)) (a_group g) _ f
     (off_changes laws.owners s j g x h here)
@@ -280,7 +280,7 @@ group_command_tells laws s j k n x i m f d l there h owns ends =
     let y = with_group_core m n (commanded w i.jerk members c) in
     let answer = group_calls.answer_of w i.jerk members c in
     let led = members_are_led s n x answer y in
-    let owned = same_owner_by c.group.active ∙ group_owner j n m owns in
+    let owned = group_owner j n m owns in
     let told : HasEnded f j y = event_tells s j m y (a_group n) _ f
     (group_command_changes laws.owners s j k n x i m d h l)
     (laws.group_command w i.jerk members c j f ends owned)

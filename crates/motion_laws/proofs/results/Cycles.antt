@@ -11,7 +11,7 @@ use Rattle.axis_core.specs.Owners as axis
 use Rattle.axis_core.specs.Refusals as axis_refusals
 use Rattle.axis_core.specs.declared.axis.Axis.{Axis}
 use Rattle.axis_core.specs.declared.look.AxisLook.{AxisLook}
-use Rattle.buffer_modes.specs.Owners as modes
+use Rattle.buffer_modes.specs.Owners.{owner_by}
 use Rattle.cia402_machine.specs.declared.drive.DriveIn.{DriveIn}
 use Rattle.command_pool.specs.declared.ending.Finish.{Finish}
 use Rattle.command_pool.specs.declared.wanted.Wanted.{Wanted}
@@ -55,11 +55,6 @@ pub record TellLaws : Type 0 where
   pub group_cycle : (members : GroupLook) (c : group_cores.Core) →
       group.TellsOwner (group_fates.cycle_fate members c) c.group.active
       (group_cycles.cycled members c).notes
-
--- groups name the owner of a command as axes do
-pub same_owner_by : (active : Option Wanted) → modes.owner_by active ≡ axis.owner_by active
-same_owner_by None = refl
-same_owner_by (Some w) = refl
 
 -- what the step of a group, the cycle of an axis and a GroupReset change
 step_changes : OwnerLaws → (s : Setup) (k n : ℕ) (ins : List DriveIn) (x : Machine) → IsGood s x →
@@ -142,7 +137,7 @@ resets_spare laws s k (suc n) m l h spared =
 step_tells : TellLaws → (s : Setup) (k j : ℕ) (f : Finish) (ins : List DriveIn) (m : Machine) →
     IsMachineKept s m → j < length s.groups → IsGood s m →
     has_commands_on (slice_get s.blocks k) (a_group j) ≡ true →
-    axis.owner_by (group_at m j).group.active ≡ Some k →
+    owner_by (group_at m j).group.active ≡ Some k →
     (group_fates.cycle_fate (look_of_group s m ins j) (group_core_at m j)).ends ≡ Some f →
     HasEnded f k (after_group_step s ins j (groups_stepped s j ins m).machine)
 step_tells laws s k j f ins m kept l h on owner ends =
@@ -157,9 +152,7 @@ step_tells laws s k j f ins m kept l h on owner ends =
     let same = stepped.later j (omega arith) in
     let look = look_of_group s m ins j in
     let there : j < length x.groups = omega arith in
-    let owned : modes.owner_by (group_core_at x j).group.active ≡ Some k =
-    same_owner_by (group_core_at x j).group.active
-    ∙ ap (λ (c : group_cores.Core). axis.owner_by c.group.active) same ∙ owner in
+    let owned = ap (λ (c : group_cores.Core). owner_by c.group.active) same ∙ owner in
     event_tells s k x (after_group_step s ins j x) (a_group j) _ f
     (step_changes laws.owners s k j ins x so_far there)
     (laws.group_cycle look (group_core_at x j) k f
@@ -169,7 +162,7 @@ step_tells laws s k j f ins m kept l h on owner ends =
 steps_tell : TellLaws → (s : Setup) (k j n : ℕ) (f : Finish) (ins : List DriveIn) (m : Machine) →
     IsMachineKept s m → n ≤ length s.groups → j < n → IsGood s m →
     has_commands_on (slice_get s.blocks k) (a_group j) ≡ true →
-    axis.owner_by (group_at m j).group.active ≡ Some k →
+    owner_by (group_at m j).group.active ≡ Some k →
     (group_fates.cycle_fate (look_of_group s m ins j) (group_core_at m j)).ends ≡ Some f →
     HasEnded f k (groups_stepped s n ins m).machine
 unfolding groups_stepped
@@ -193,7 +186,7 @@ steps_tell laws s k j (suc n) f ins m kept l b h on owner ends = elim (cases_eq 
 axis_tells : TellLaws → (s : Setup) (k i : ℕ) (f : Finish) (around : Surroundings) (m : Machine) →
     i < length s.axes → IsGood s m →
     has_commands_on (slice_get s.blocks k) (an_axis i) ≡ true →
-    axis.owner_by (axis_at m i).active ≡ Some k →
+    owner_by (axis_at m i).active ≡ Some k →
     (axis_fates.cycle_fate (axis_look s around (axes_cycled s i around m).machine i)
     (axis_core_at m i)).ends ≡ Some f →
     HasEnded f k (after_axis_cycle s around i (axes_cycled s i around m).machine)
@@ -211,13 +204,13 @@ axis_tells laws s k i f around m l h on owner ends =
     (cycle_changes laws.owners s k i around x so_far there)
     (laws.cycle look (axis_core_at x i) k f
     (ap (λ c. (axis_fates.cycle_fate look c).ends) same ∙ ends)
-    (ap (λ (c : cores.Core). axis.owner_by c.axis.active) same ∙ owner))
+    (ap (λ (c : cores.Core). owner_by c.axis.active) same ∙ owner))
     (one_there s k x (an_axis i) (so_far.shown k) there) (omega arith)
 
 axes_tell : TellLaws → (s : Setup) (k i n : ℕ) (f : Finish) (around : Surroundings) (m : Machine) →
     n ≤ length s.axes → i < n → IsGood s m →
     has_commands_on (slice_get s.blocks k) (an_axis i) ≡ true →
-    axis.owner_by (axis_at m i).active ≡ Some k →
+    owner_by (axis_at m i).active ≡ Some k →
     (axis_fates.cycle_fate (axis_look s around (axes_cycled s i around m).machine i)
     (axis_core_at m i)).ends ≡ Some f →
     HasEnded f k (axes_cycled s n around m).machine
@@ -382,7 +375,7 @@ cycle_spares laws s m ins k h none =
 pub cycle_tells_axis : TellLaws → (s : Setup) (m : Machine) (ins : List DriveIn) (k n : ℕ)
     (f : Finish) → IsMachineKept s m → IsGood s m → n < length m.axes →
     has_commands_on (slice_get s.blocks k) (an_axis n) ≡ true →
-    axis.owner_by (axis_at m n).active ≡ Some k →
+    owner_by (axis_at m n).active ≡ Some k →
     (axis_fates.cycle_fate (look_of_axis s m ins n) (axis_core_at m n)).ends ≡ Some f →
     HasEnded f k (after_cycle s m ins)
 cycle_tells_axis laws s m ins k n f kept h l on owner ends =
@@ -399,14 +392,14 @@ cycle_tells_axis laws s m ins k n f kept h l on owner ends =
     let look = look_of_axis s m ins n in
     let told = axes_tell laws s k n (length stepped.axes) f (around_in s ins m) stepped
     (omega arith) (omega arith) going.stepped on
-    (ap (λ (c : cores.Core). axis.owner_by c.axis.active) here ∙ owner)
+    (ap (λ (c : cores.Core). owner_by c.axis.active) here ∙ owner)
     (ap (λ c. (axis_fates.cycle_fate look c).ends) here ∙ ends) in
     rests laws.owners s m ins k h (ap commands_shown told) ∙ told
 
 pub cycle_tells_group : TellLaws → (s : Setup) (m : Machine) (ins : List DriveIn) (k j : ℕ)
     (f : Finish) → IsMachineKept s m → IsGood s m → j < length m.groups →
     has_commands_on (slice_get s.blocks k) (a_group j) ≡ true →
-    axis.owner_by (group_at m j).group.active ≡ Some k →
+    owner_by (group_at m j).group.active ≡ Some k →
     (group_fates.cycle_fate (look_of_group s m ins j) (group_core_at m j)).ends ≡ Some f →
     HasEnded f k (after_cycle s m ins)
 cycle_tells_group laws s m ins k j f kept h l on owner ends =

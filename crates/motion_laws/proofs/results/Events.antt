@@ -3,7 +3,7 @@ use Rattle.std.specs.Prelude.{◌≡◌, refl, ℕ, zero, suc, ◌<◌, ◌≤�
 use Rattle.std.specs.List.{Contains}
 use Rattle.std.proofs.Common.{arith, ap, ◌∙◌}
 use Rattle.std.proofs.lemmas.List.{length-set}
-use Rattle.axis_core.specs.Owners.{is_owner, notes_for}
+use Rattle.buffer_modes.specs.Owners.{is_owner, told}
 use Rattle.command_pool.specs.declared.ending.Finish.{Finish}
 use Rattle.command_pool.specs.declared.notes.Note.{Note}
 use Rattle.fb_outputs.specs.InstanceState.{InstanceState}
@@ -30,7 +30,7 @@ note_to k f = record { owner = k; finish = f }
 
 -- a note for an instance counts
 counted : (k : ℕ) (f : Finish) (ns : List Note) (i : ℕ) → i < length ns →
-    slice_index_or ns i (note_to k f) ≡ note_to k f → 1 ≤ notes_for k ns
+    slice_index_or ns i (note_to k f) ≡ note_to k f → 1 ≤ told k ns
 counted k f [] i l e = absurd (omega arith)
 counted k f (n ∷ ns) zero l e =
     let own = ap (λ (x : Note). is_owner k (Some x.owner)) e ∙ owner_is k in omega arith
@@ -38,7 +38,7 @@ counted k f (n ∷ ns) (suc i) l e = let more = counted k f ns i (omega arith) e
 
 -- the one note for an instance is what it is told
 told_at : (k : ℕ) (f : Finish) (ns : List Note) (i : ℕ) (is : List InstanceState) → i < length ns →
-    slice_index_or ns i (note_to k f) ≡ note_to k f → notes_for k ns ≤ 1 → k < length is →
+    slice_index_or ns i (note_to k f) ≡ note_to k f → told k ns ≤ 1 → k < length is →
     progress_in (told_notes ns is) k ≡ Ended f false
 told_at k f [] i is l e one there = absurd (omega arith)
 told_at k f (n ∷ ns) zero is l e one there =

@@ -2,11 +2,11 @@
 use Rattle.std.specs.Prelude.{◌≡◌, refl, ℕ, ◌+◌, ◌<◌, Bool, true, false, not, ◌&&◌, nat_eq, if◌then◌else◌, Option, Some, None, List, [], ◌∷◌, ◌++◌, length, slice_get}
 use Rattle.std.proofs.Common.{arith, ap, sym, subst, ◌∙◌, inl, inr}
 use Rattle.std.proofs.lemmas.Bool.{and_parts, cases_Bool, eqb-true}
+use Rattle.buffer_modes.specs.Owners.{owner_by}
 use Rattle.command_pool.specs.declared.ending.Finish.{Finish}
 use Rattle.command_pool.specs.declared.ending.Finish.TheVariants as finish
 use Rattle.command_pool.specs.declared.kind.BlockKind.{BlockKind}
 use Rattle.command_pool.specs.declared.kind.BlockKind.TheVariants as kind
-use Rattle.axis_core.specs.Owners as axis
 use Rattle.fb_outputs.specs.InstanceState.{InstanceState}
 use Rattle.fb_outputs.specs.Steps as instance
 use Rattle.fb_outputs.specs.Steps.{edge_of, is_power, is_stop, nothing, opened, outputs_by, outputs_of, progress_after, result_of}
@@ -181,11 +181,11 @@ told_by laws s cycles m (call j i reply) k o f whole h is there owns ends keeps 
 told_by laws s cycles m (cycle c rows grows) k (an_axis n) f whole h is there owns ends keeps =
     let on = on_it s m k (an_axis n) h there owns in
     cycle_tells_axis laws s m (inputs_of rows) k n f h.kept (good_of s m h) there on
-    (found_in k (axis.owner_by (axis_at m n).active) (omega arith)) ends
+    (found_in k (owner_by (axis_at m n).active) (omega arith)) ends
 told_by laws s cycles m (cycle c rows grows) k (a_group j) f whole h is there owns ends keeps =
     let on = on_it s m k (a_group j) h there owns in
     cycle_tells_group laws s m (inputs_of rows) k j f h.kept (good_of s m h) there on
-    (found_in k (axis.owner_by (group_at m j).group.active) (omega arith)) ends
+    (found_in k (owner_by (group_at m j).group.active) (omega arith)) ends
 told_by laws s cycles m (end_of task) k (an_axis n) f whole h is there owns ends keeps =
     absurd (cc)
 told_by laws s cycles m (end_of task) k (a_group j) f whole h is there owns ends keeps =

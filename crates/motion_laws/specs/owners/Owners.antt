@@ -2,6 +2,7 @@
 -- Control Part 1, general rules).
 use Rattle.std.specs.Prelude.{◌≡◌, ℕ, ◌<◌, Bool, true, false, not, ◌&&◌, nat_eq, if◌then◌else◌, Option, Some, None, length, slice_get}
 use Rattle.axis_core.specs.Owners as axis
+use Rattle.buffer_modes.specs.Owners.{is_owner, owner_by}
 use Rattle.command_pool.specs.Kinds.{acts_on_group}
 use Rattle.fb_outputs.specs.Steps.{is_power}
 use Rattle.fb_outputs.specs.declared.instance.Progress.{Progress}
@@ -51,8 +52,8 @@ commands_shown (Ended f shown) = 0
 
 -- whether an instance has the active command of it: 1, else 0
 abbrev pub active_at : Machine → ℕ → Object → ℕ
-active_at m k (an_axis n) = axis.is_owner k (axis.owner_by (axis_at m n).active)
-active_at m k (a_group j) = axis.is_owner k (axis.owner_by (group_at m j).group.active)
+active_at m k (an_axis n) = is_owner k (owner_by (axis_at m n).active)
+active_at m k (a_group j) = is_owner k (owner_by (group_at m j).group.active)
 
 -- whether an instance shows that its command is active: 1, else 0
 abbrev pub active_shown : Progress → ℕ
