@@ -10,7 +10,7 @@ use Rattle.motion_history.specs.Entries.{Entry, end_of}
 use Rattle.motion_history.specs.Setup.{Setup, IsSetup}
 use Rattle.motion_kernel.specs.Histories.{IsLegal}
 use Rattle.motion_kernel.specs.KernelState.{KernelState}
-use Rattle.motion_kernel.specs.MachineKept.{AreWhole}
+use Rattle.motion_kernel.specs.kept.Machine.{AreWhole}
 use Rattle.kernel_turn.specs.Events.{CallTold, CycleTold, EndTold, Makes, call_of, cycle_of}
 use Rattle.kernel_turn.specs.PassState.{PassState}
 use Rattle.kernel_turn.specs.Times.{times, once_below}

@@ -2,21 +2,26 @@
 //! replay is the kernel's state.
 #![tactic(auto)]
 
-mod answers;
+mod answering;
 mod asking;
 mod axis_calls;
-mod calls;
+mod axis_cycles;
+mod axis_looks;
+mod block_calls;
 mod count_laws;
-mod cycles;
-mod cycling;
+mod detaching;
+mod drive_answers;
 mod finders;
 mod group_calls;
+mod group_cycles;
+mod group_looks;
 mod kernel;
 mod laws;
 mod layout;
-mod looks;
+mod leading;
+mod machine_cycle;
 mod masters;
-mod members;
+mod memberships;
 mod opening;
 mod parts;
 mod showing;

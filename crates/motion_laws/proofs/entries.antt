@@ -1,6 +1,5 @@
 -- What each entry of a legal history keeps.
-pub mod Diagrams
+pub mod refusals
+pub mod replies
+pub mod diagrams
 pub mod Kept
-pub mod NoteNumbers
-pub mod Refusals
-pub mod Replies

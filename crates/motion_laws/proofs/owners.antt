@@ -1,6 +1,5 @@
 -- Where the commands of instances are.
 pub mod Counts
-pub mod Commands
-pub mod ActiveCounts
-pub mod Active
-pub mod Holders
+pub mod commands
+pub mod active
+pub mod holders

@@ -1,5 +1,6 @@
-pub mod entries
 pub mod owners
-pub mod results
+pub mod limits
+pub mod entries
 pub mod arrivals
+pub mod results
 pub mod Laws

@@ -1,5 +1,5 @@
 -- What each entry of a legal history keeps.
-pub mod Kept
 pub mod Refusals
 pub mod Replies
 pub mod Diagrams
+pub mod Kept

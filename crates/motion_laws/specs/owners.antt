@@ -1,2 +1,5 @@
 -- Where the commands of instances are.
-pub mod Owners
+pub mod Objects
+pub mod Commands
+pub mod Holders
+pub mod Shown

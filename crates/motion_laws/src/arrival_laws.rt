@@ -7,7 +7,7 @@ ghost use Rattle.motion_history.specs.Setup.{Setup, IsSetup};
 ghost use Rattle.motion_laws.specs.arrivals.Moves.{MovesArrive};
 ghost use Rattle.motion_laws.specs.arrivals.Paths.{PathsEnd};
 ghost use Rattle.motion_kernel.specs.Histories.{IsLegal};
-ghost use Rattle.motion_kernel.specs.MachineKept.{AreWhole};
+ghost use Rattle.motion_kernel.specs.kept.Machine.{AreWhole};
 
 use axis_core::{
     blended_moves_end_in_time, courses_end_in_time, fates_are_told,

@@ -11,7 +11,7 @@ ghost use Rattle.motion_history.specs.Setup.{Setup, IsSetup};
 ghost use Rattle.motion_laws.specs.entries.Diagrams.{FollowsDiagrams};
 ghost use Rattle.motion_kernel.specs.Histories.{IsCycleOf, IsLegal, machine_after};
 ghost use Rattle.motion_kernel.specs.Machine.{Machine};
-ghost use Rattle.motion_kernel.specs.MachineKept.{AreWhole, IsMachineKept};
+ghost use Rattle.motion_kernel.specs.kept.Machine.{AreWhole, IsMachineKept};
 
 use axis_core::{axes_keep_their_definitions, axes_stay_kept};
 use group_core::{groups_keep_their_axes, groups_stay_kept};

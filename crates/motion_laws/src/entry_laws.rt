@@ -5,7 +5,7 @@ ghost use Rattle.motion_history.specs.Entries.{Entry};
 ghost use Rattle.motion_history.specs.Setup.{Setup, IsSetup};
 ghost use Rattle.motion_laws.specs.entries.Kept.{KeepsEntries};
 ghost use Rattle.motion_kernel.specs.Histories.{IsLegal};
-ghost use Rattle.motion_kernel.specs.MachineKept.{AreWhole};
+ghost use Rattle.motion_kernel.specs.kept.Machine.{AreWhole};
 
 use crate::diagram_laws::states_follow_the_diagrams;
 use crate::owner_laws::commands_are_where_their_instances_show;

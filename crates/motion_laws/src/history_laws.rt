@@ -5,7 +5,7 @@ ghost use Rattle.motion_history.specs.Entries.{Entry};
 ghost use Rattle.motion_history.specs.Setup.{Setup, IsSetup};
 ghost use Rattle.motion_kernel.specs.Histories.{IsLegal};
 ghost use Rattle.motion_laws.specs.Laws.{KeepsLaws};
-ghost use Rattle.motion_kernel.specs.MachineKept.{AreWhole};
+ghost use Rattle.motion_kernel.specs.kept.Machine.{AreWhole};
 
 use crate::arrival_laws::{moves_arrive_in_time, paths_end_in_time};
 use crate::entry_laws::entries_keep_their_laws;

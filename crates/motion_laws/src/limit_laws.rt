@@ -10,8 +10,8 @@ ghost use Rattle.motion_history.specs.Entries.{Entry};
 ghost use Rattle.motion_history.specs.Setup.{Setup, IsSetup};
 ghost use Rattle.motion_kernel.specs.Histories.{IsLegal, replay};
 ghost use Rattle.motion_kernel.specs.Machine.{axis_at, group_at, machine_at_opening};
-ghost use Rattle.motion_kernel.specs.MachineKept.{AreWhole, IsMachineKept, limits_of};
-ghost use Rattle.motion_kernel.specs.Members.{members_at};
+ghost use Rattle.motion_kernel.specs.kept.Machine.{AreWhole, IsMachineKept, limits_of};
+ghost use Rattle.motion_kernel.specs.members.Members.{members_at};
 
 use axis_core::{axes_keep_their_definitions, axes_stay_kept, calls_move_no_axis};
 use group_core::{groups_keep_their_axes, groups_stay_kept};

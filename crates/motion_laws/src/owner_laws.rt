@@ -6,12 +6,12 @@ ghost use Rattle.fb_outputs.specs.declared.inputs.Inputs.{Inputs};
 ghost use Rattle.motion_history.specs.Calls.{IsCall};
 ghost use Rattle.motion_history.specs.Entries.{Entry};
 ghost use Rattle.motion_history.specs.Setup.{Setup, IsSetup};
-ghost use Rattle.motion_kernel.specs.Calls.{after_call};
-ghost use Rattle.motion_kernel.specs.Cycles.{after_cycle};
+ghost use Rattle.motion_kernel.specs.calls.Calls.{after_call};
+ghost use Rattle.motion_kernel.specs.cycles.Cycles.{after_cycle};
 ghost use Rattle.motion_kernel.specs.Histories.{IsLegal, machine_after};
 ghost use Rattle.motion_kernel.specs.Machine.{Machine, machine_at_opening};
-ghost use Rattle.motion_kernel.specs.MachineKept.{AreWhole, IsMachineKept};
-ghost use Rattle.motion_laws.specs.owners.Owners.{AreWhereShown};
+ghost use Rattle.motion_kernel.specs.kept.Machine.{AreWhole, IsMachineKept};
+ghost use Rattle.motion_laws.specs.owners.Shown.{AreWhereShown};
 
 use motion_kernel::machines_stay_kept;
 

@@ -5,7 +5,7 @@ ghost use Rattle.fb_outputs.specs.declared.inputs.Inputs.{Inputs};
 ghost use Rattle.fb_outputs.specs.declared.outputs.Outputs.{Outputs};
 ghost use Rattle.motion_history.specs.Entries.{Entry, call};
 ghost use Rattle.motion_history.specs.Setup.{Setup};
-ghost use Rattle.motion_kernel.specs.Calls.{after_call, reply_of};
+ghost use Rattle.motion_kernel.specs.calls.Calls.{after_call, reply_of};
 ghost use Rattle.motion_kernel.specs.Histories.{IsLegal, machine_after};
 ghost use Rattle.motion_kernel.specs.Machine.{Machine};
 ghost use Rattle.motion_laws.specs.entries.Refusals.{IsRefusalNumber, IsRefused, machine_refused};

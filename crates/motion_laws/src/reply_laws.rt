@@ -7,11 +7,11 @@ ghost use Rattle.fb_outputs.specs.declared.outputs.Outputs.{Outputs};
 ghost use Rattle.motion_history.specs.Entries.{Entry, call};
 ghost use Rattle.motion_history.specs.Setup.{Setup, IsSetup};
 ghost use Rattle.motion_history.specs.declared.config.BlockDef.{BlockDef};
-ghost use Rattle.motion_kernel.specs.Calls.{after_call, reply_of};
-ghost use Rattle.motion_kernel.specs.Cycles.{after_cycle};
+ghost use Rattle.motion_kernel.specs.calls.Calls.{after_call, reply_of};
+ghost use Rattle.motion_kernel.specs.cycles.Cycles.{after_cycle};
 ghost use Rattle.motion_kernel.specs.Histories.{IsLegal};
 ghost use Rattle.motion_kernel.specs.Machine.{Machine, machine_at_opening};
-ghost use Rattle.motion_kernel.specs.MachineKept.{AreWhole};
+ghost use Rattle.motion_kernel.specs.kept.Machine.{AreWhole};
 ghost use Rattle.motion_laws.specs.entries.Replies.{AreOfBlocks, IsReplyOf};
 
 use fb_outputs::replies_tell_one_result as instances_tell_one_result;

@@ -4,7 +4,7 @@ ghost use Rattle.std.specs.Prelude.{List};
 ghost use Rattle.motion_history.specs.Entries.{Entry};
 ghost use Rattle.motion_history.specs.Setup.{Setup, IsSetup};
 ghost use Rattle.motion_kernel.specs.Histories.{IsLegal};
-ghost use Rattle.motion_kernel.specs.MachineKept.{AreWhole};
+ghost use Rattle.motion_kernel.specs.kept.Machine.{AreWhole};
 ghost use Rattle.motion_laws.specs.results.Results.{ResultsAreTold};
 
 use motion_kernel::machines_stay_kept;

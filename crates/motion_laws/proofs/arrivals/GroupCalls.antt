@@ -22,18 +22,18 @@ use Rattle.group_core.specs.Refusals.{limits_in}
 use Rattle.group_core.specs.declared.look.GroupLook.{GroupLook}
 use Rattle.motion_history.specs.Setup.{Setup}
 use Rattle.motion_history.specs.declared.config.BlockDef.{BlockDef}
-use Rattle.motion_kernel.specs.Asking.{wanted_of}
-use Rattle.motion_kernel.specs.Calls.{after_asking, after_axis_command, after_call, after_edge, after_group_command, after_power, after_rising, asked_of_axis, axes_led, axis_led, called, called_where, enters_path, group_without_power, leaves_path, members_led, with_axis_core, with_execute, with_group_core, without_owner}
+use Rattle.motion_kernel.specs.calls.Asking.{wanted_of}
+use Rattle.motion_kernel.specs.calls.Calls.{after_asking, after_axis_command, after_call, after_edge, after_group_command, after_power, after_rising, asked_of_axis, axes_led, axis_led, called, called_where, enters_path, group_without_power, leaves_path, members_led, with_axis_core, with_execute, with_group_core, without_owner}
 use Rattle.motion_laws.specs.arrivals.GroupFates.{fate_by_call, fate_by_edge, fate_by_kind, fate_by_power_off, fate_by_rising}
-use Rattle.motion_kernel.specs.Looks.{group_look}
+use Rattle.motion_kernel.specs.looks.GroupLooks.{group_look}
 use Rattle.motion_kernel.specs.Machine.{Machine, axis_at, axis_core_at, group_at, group_core_at, instance_at, list_of}
-use Rattle.motion_kernel.specs.MachineKept.{IsMachineKept}
-use Rattle.motion_kernel.specs.Members.{members_at, membership_of}
-use Rattle.motion_kernel.specs.Ready.{MayAskGroup, MayCall}
-use Rattle.motion_kernel.specs.declared.members.Membership.{Membership}
-use Rattle.motion_kernel.proofs.KeptEvents.{group_beside_axis, group_beside_group, group_written}
-use Rattle.motion_kernel.proofs.KeptOwners.{disowned_size, group_disowned}
-use Rattle.motion_kernel.proofs.SizeLaws.{by_if}
+use Rattle.motion_kernel.specs.kept.Machine.{IsMachineKept}
+use Rattle.motion_kernel.specs.members.Members.{members_at, membership_of}
+use Rattle.motion_kernel.specs.kept.Ready.{MayAskGroup, MayCall}
+use Rattle.motion_kernel.specs.declared.memberships.Membership.{Membership}
+use Rattle.motion_kernel.proofs.kept.Events.{group_beside_axis, group_beside_group, group_written}
+use Rattle.motion_kernel.proofs.kept.Detached.{disowned_size, group_disowned}
+use Rattle.motion_kernel.proofs.Sizes.{by_if}
 
 -- a property of a group after a call, by the fate of its active command, that every event of the
 -- group gives it

@@ -23,23 +23,26 @@ use Rattle.motion_history.specs.Calls.{IsCall}
 use Rattle.motion_history.specs.Entries.{Entry, call, cycle, cycle_count, cycles_of, end_of}
 use Rattle.motion_history.specs.Setup.{Setup}
 use Rattle.motion_history.specs.declared.config.BlockDef.{BlockDef}
-use Rattle.motion_kernel.specs.Calls.{with_axis_core, with_execute, with_group_core}
-use Rattle.motion_kernel.specs.Cycles.{Surroundings, after_cycle, around_in, axes_cycled, core_after_reset, core_in_cycle, cycled, groups_reset, stepped_in, with_found}
+use Rattle.motion_kernel.specs.calls.Calls.{with_axis_core, with_execute, with_group_core}
+use Rattle.motion_kernel.specs.looks.AxisLooks.{Surroundings}
+use Rattle.motion_kernel.specs.cycles.Cycles.{after_cycle, around_in, cycled, stepped_in, look_of_group}
+use Rattle.motion_kernel.specs.cycles.AxisCycles.{axes_cycled, core_in_cycle}
+use Rattle.motion_kernel.specs.cycles.GroupResets.{core_after_reset, groups_reset}
+use Rattle.motion_kernel.specs.cycles.Showing.{with_found}
 use Rattle.motion_laws.specs.arrivals.Paths.{Ended, IsEndedWithin, ended_by, ended_in}
 use Rattle.motion_laws.specs.arrivals.GroupFates.{group_fate, path_in}
-use Rattle.motion_kernel.specs.CycleLooks.{look_of_group}
 use Rattle.motion_kernel.specs.Histories.{Follows, IsOf, after, inputs_of}
-use Rattle.motion_kernel.specs.Looks.{group_look}
+use Rattle.motion_kernel.specs.looks.GroupLooks.{group_look}
 use Rattle.motion_kernel.specs.Machine.{Machine, group_at, group_core_at}
-use Rattle.motion_kernel.specs.MachineKept.{AreWhole, IsMachineKept}
-use Rattle.motion_kernel.specs.Ready.{MayCall}
-use Rattle.motion_laws.proofs.arrivals.Moves.{as_it_is, nothing_before, same_again}
-use Rattle.motion_kernel.proofs.CycleRows.{axes_count}
+use Rattle.motion_kernel.specs.kept.Machine.{AreWhole, IsMachineKept}
+use Rattle.motion_kernel.specs.kept.Ready.{MayCall}
+use Rattle.motion_laws.proofs.arrivals.MoveEvents.{as_it_is, nothing_before, same_again}
+use Rattle.motion_kernel.proofs.cycles.Rows.{axes_count}
 use Rattle.motion_laws.proofs.arrivals.GroupCalls.{IsByFate, IsThere, by_call}
-use Rattle.motion_kernel.proofs.KeptEvents.{IsAsLarge, axis_event_size, group_beside_axis, group_beside_group, group_event_size, group_written}
-use Rattle.motion_kernel.proofs.KeptSteps.{IsLooking, have_stepped, larger}
-use Rattle.motion_kernel.proofs.MachineLaws.{MachinesStayKept}
-use Rattle.motion_laws.proofs.limits.Stoppable.{replay_kept}
+use Rattle.motion_kernel.proofs.kept.Events.{IsAsLarge, axis_event_size, group_beside_axis, group_beside_group, group_event_size, group_written}
+use Rattle.motion_kernel.proofs.kept.GroupSteps.{IsLooking, have_stepped, larger}
+use Rattle.motion_kernel.proofs.kept.Machine.{MachinesStayKept}
+use Rattle.motion_laws.proofs.Histories.{replay_kept}
 
 -- group_core's fates_are_told
 pub record FatesAreTold : Type 0 where

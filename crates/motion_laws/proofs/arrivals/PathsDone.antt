@@ -34,22 +34,24 @@ use Rattle.linear_path.specs.Line.{coordinate_of}
 use Rattle.motion_history.specs.Entries.{Entry, call, cycle, cycle_count, end_of}
 use Rattle.motion_history.specs.Setup.{Setup, IsSetup}
 use Rattle.motion_history.specs.declared.config.GroupDef.{GroupDef}
-use Rattle.motion_kernel.specs.CycleLooks.{look_of_axis, look_of_group}
-use Rattle.motion_kernel.specs.Cycles.{Surroundings, after_cycle, answer_at, around_in, axis_look, error_of_group, place_asked, step_at}
+use Rattle.motion_kernel.specs.cycles.Cycles.{look_of_axis, look_of_group, after_cycle, around_in}
+use Rattle.motion_kernel.specs.looks.AxisLooks.{Surroundings, axis_look, place_asked, step_at}
+use Rattle.motion_kernel.specs.looks.DriveAnswers.{answer_at}
+use Rattle.motion_kernel.specs.cycles.GroupSteps.{error_of_group}
 use Rattle.motion_laws.specs.arrivals.Paths.{AreAtEnd}
 use Rattle.motion_laws.specs.arrivals.GroupFates.{group_fate}
 use Rattle.motion_kernel.specs.Histories.{Follows, IsOf, after, inputs_of, replay}
 use Rattle.motion_kernel.specs.Machine.{Machine, axis_at, axis_core_at, group_at, group_at_opening, group_core_at, machine_at_opening, no_group}
-use Rattle.motion_kernel.specs.MachineKept.{AreWhole, IsMachineKept, limits_of}
-use Rattle.motion_kernel.specs.Members.{member_at, members_at, membership_of}
+use Rattle.motion_kernel.specs.kept.Machine.{AreWhole, IsMachineKept, limits_of}
+use Rattle.motion_kernel.specs.members.Members.{member_at, members_at, membership_of}
 use Rattle.motion_laws.proofs.arrivals.GroupCalls.{IsByFate, by_call}
 use Rattle.motion_laws.proofs.arrivals.Paths.{GroupLaws, IsLasting, by_cycle, kept_after, there}
-use Rattle.motion_kernel.proofs.KeptAxisCycles.{none_fails}
-use Rattle.motion_kernel.proofs.KeptGroupCalls.{led_on_path}
-use Rattle.motion_kernel.proofs.KeptReady.{member_kept}
-use Rattle.motion_kernel.proofs.KeptSteps.{have_stepped}
-use Rattle.motion_kernel.proofs.ThroughCycles.{goes_through}
-use Rattle.motion_kernel.proofs.SizeLaws.{by_if}
+use Rattle.motion_kernel.proofs.kept.AxisCycles.{none_fails}
+use Rattle.motion_kernel.proofs.kept.AxesEnter.{led_on_path}
+use Rattle.motion_kernel.proofs.kept.Ready.{member_kept}
+use Rattle.motion_kernel.proofs.kept.GroupSteps.{have_stepped}
+use Rattle.motion_kernel.proofs.cycles.OneAxis.{goes_through}
+use Rattle.motion_kernel.proofs.Sizes.{by_if}
 
 -- group_core's lines_lead_to_their_targets
 pub record LinesLead : Type 0 where

@@ -7,12 +7,12 @@ use Rattle.motion_history.specs.Setup.{Setup, IsSetup}
 use Rattle.motion_laws.specs.arrivals.Paths.{KeepsCourse, PathsEnd}
 use Rattle.motion_kernel.specs.Histories.{Follows, IsLegal, after, machine_after}
 use Rattle.motion_kernel.specs.Machine.{Machine, group_core_at, machine_at_opening}
-use Rattle.motion_kernel.specs.MachineKept.{AreWhole, IsMachineKept, limits_of}
-use Rattle.motion_kernel.specs.Members.{members_at}
+use Rattle.motion_kernel.specs.kept.Machine.{AreWhole, IsMachineKept, limits_of}
+use Rattle.motion_kernel.specs.members.Members.{members_at}
 use Rattle.motion_laws.proofs.arrivals.Moves.{behind}
 use Rattle.motion_laws.proofs.arrivals.Paths.{arrives, fate_shown, kept_after}
 use Rattle.motion_laws.proofs.arrivals.PathsDone.{DoneLaws, IsGoing, done_there, toward_here}
-use Rattle.motion_laws.proofs.limits.Stoppable.{legal_kept, legal_so_far}
+use Rattle.motion_laws.proofs.Histories.{legal_kept, legal_so_far}
 
 -- each entry of a history that follows a kept machine
 course_kept : DoneLaws → (s : Setup) (cycles : ℕ) (m : Machine) (e : Entry) (more : List Entry)

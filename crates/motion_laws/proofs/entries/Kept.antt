@@ -10,12 +10,11 @@ use Rattle.motion_laws.specs.entries.Diagrams.{FollowsDiagrams}
 use Rattle.motion_laws.specs.entries.Kept.{KeepsEntries, KeepsEntry, KeepsReply}
 use Rattle.motion_kernel.specs.Histories.{IsLegal, after, machine_after}
 use Rattle.motion_kernel.specs.Machine.{machine_at_opening}
-use Rattle.motion_kernel.specs.MachineKept.{AreWhole}
-use Rattle.motion_laws.specs.owners.Owners.{AreWhereShown}
+use Rattle.motion_kernel.specs.kept.Machine.{AreWhole}
+use Rattle.motion_laws.specs.owners.Shown.{AreWhereShown}
 use Rattle.motion_laws.specs.entries.Refusals.{IsRefused, machine_refused}
 use Rattle.motion_laws.specs.entries.Replies.{IsReplyOf}
-use Rattle.motion_laws.proofs.entries.Refusals.{replay_append}
-use Rattle.motion_laws.proofs.limits.Stoppable.{legal_so_far}
+use Rattle.motion_laws.proofs.Histories.{replay_append, legal_so_far}
 
 -- the laws of entries
 pub record EntryLaws : Type 0 where

@@ -11,12 +11,11 @@ use Rattle.axis_state.specs.declared.definition.AxisRow.{AxisRow}
 use Rattle.cia402_machine.specs.declared.drive.DriveIn.{DriveIn}
 use Rattle.motion_history.specs.Columns.{no_row}
 use Rattle.motion_history.specs.Setup.{Setup}
-use Rattle.motion_kernel.specs.CycleLooks.{look_of_axis}
-use Rattle.motion_kernel.specs.Cycles.{after_cycle, around_in, cycled, stepped_in}
+use Rattle.motion_kernel.specs.cycles.Cycles.{look_of_axis, after_cycle, around_in, cycled, stepped_in}
 use Rattle.motion_kernel.specs.Machine.{Machine, axis_at, axis_core_at}
-use Rattle.motion_kernel.specs.MachineKept.{IsMachineKept}
-use Rattle.motion_kernel.specs.Ready.{MayGoOn}
-use Rattle.motion_kernel.proofs.ThroughCycles.{goes_through}
+use Rattle.motion_kernel.specs.kept.Machine.{IsMachineKept}
+use Rattle.motion_kernel.specs.kept.Ready.{MayGoOn}
+use Rattle.motion_kernel.proofs.cycles.OneAxis.{goes_through}
 
 -- axis_core's axes_stay_kept, of a cycle's row
 abbrev pub RowsKeepSpells : Type 0

@@ -7,7 +7,7 @@ use Rattle.axis_core.specs.Refusals.{Asked}
 use Rattle.axis_core.specs.Rows.{Stays}
 use Rattle.axis_core.specs.blocks.Path.{axis_on_path}
 use Rattle.axis_core.specs.declared.axis.Axis.{Axis}
-use Rattle.motion_kernel.proofs.CallsLeave.{CallsLeave}
+use Rattle.motion_kernel.proofs.calls.AxesLeft.{CallsLeave}
 
 -- axis_core's calls_move_no_axis
 pub record CallsMoveNoAxis : Type 0 where

@@ -14,13 +14,13 @@ use Rattle.kin_core.specs.declared.limits.Limits.{Limits}
 use Rattle.motion_history.specs.Columns.{KeepTheirLimits, no_row, rows_in}
 use Rattle.motion_history.specs.Entries.{Entry, call, cycle, cycle_count, end_of}
 use Rattle.motion_history.specs.Setup.{Setup, IsSetup}
-use Rattle.motion_kernel.specs.Calls.{after_call}
-use Rattle.motion_kernel.specs.Cycles.{after_cycle, cycled}
+use Rattle.motion_kernel.specs.calls.Calls.{after_call}
+use Rattle.motion_kernel.specs.cycles.Cycles.{after_cycle, cycled}
 use Rattle.motion_kernel.specs.Histories.{Follows, IsCycleOf, IsLegal, inputs_of}
 use Rattle.motion_kernel.specs.Machine.{Machine, axis_at, machine_at_opening, no_axis}
-use Rattle.motion_kernel.specs.MachineKept.{AreWhole, IsMachineKept, limits_of, no_def}
-use Rattle.motion_kernel.proofs.CallsLeave.{call_left}
-use Rattle.motion_kernel.proofs.MachineLaws.{MachinesStayKept, kept_by_cycle}
+use Rattle.motion_kernel.specs.kept.Machine.{AreWhole, IsMachineKept, limits_of, no_def}
+use Rattle.motion_kernel.proofs.calls.AxesLeft.{call_left}
+use Rattle.motion_kernel.proofs.kept.Machine.{MachinesStayKept, kept_by_cycle}
 use Rattle.motion_laws.proofs.limits.Places.{CallsMoveNoAxis, calls_leave_places}
 use Rattle.motion_laws.proofs.limits.CycleRows.{RowsKeepSpells, cycle_keeps}
 

@@ -29,22 +29,27 @@ use Rattle.motion_history.specs.Calls.{IsCall}
 use Rattle.motion_history.specs.Entries.{Entry, call, cycle, cycle_count, end_of}
 use Rattle.motion_history.specs.Setup.{Setup, IsSetup}
 use Rattle.motion_history.specs.declared.config.BlockDef.{BlockDef}
-use Rattle.motion_kernel.specs.Asking.{wanted_of}
-use Rattle.motion_kernel.specs.Calls.{after_asking, after_axis_command, after_call, after_edge, after_group_command, after_power, after_rising, axes_led, called, called_where, enters_path, group_without_power, is_held_by_group, leaves_path, members_led, with_axis_core, with_execute, with_group_core, without_owner}
-use Rattle.motion_kernel.specs.Cycles.{Surroundings, after_cycle, around_in, axes_cycled, axis_look, cycled, groups_reset, groups_stepped, look_in_cycle, stepped_in, with_found}
+use Rattle.motion_kernel.specs.calls.Asking.{wanted_of}
+use Rattle.motion_kernel.specs.calls.Calls.{after_asking, after_axis_command, after_call, after_edge, after_group_command, after_power, after_rising, axes_led, called, called_where, enters_path, group_without_power, is_held_by_group, leaves_path, members_led, with_axis_core, with_execute, with_group_core, without_owner}
+use Rattle.motion_kernel.specs.looks.AxisLooks.{Surroundings, axis_look}
+use Rattle.motion_kernel.specs.cycles.Cycles.{after_cycle, around_in, cycled, stepped_in}
+use Rattle.motion_kernel.specs.cycles.AxisCycles.{axes_cycled}
+use Rattle.motion_kernel.specs.cycles.GroupResets.{groups_reset}
+use Rattle.motion_kernel.specs.cycles.GroupSteps.{groups_stepped, look_in_cycle}
+use Rattle.motion_kernel.specs.cycles.Showing.{with_found}
 use Rattle.motion_kernel.specs.Histories.{Follows, IsLegal, inputs_of, replay}
-use Rattle.motion_kernel.specs.Looks.{group_look}
+use Rattle.motion_kernel.specs.looks.GroupLooks.{group_look}
 use Rattle.motion_kernel.specs.Machine.{Machine, axis_core_at, group_at, group_core_at, instance_at, list_of, machine_at_opening}
-use Rattle.motion_kernel.specs.MachineKept.{AreWhole, IsMachineKept}
-use Rattle.motion_kernel.specs.Members.{members_at, membership_of}
-use Rattle.motion_kernel.specs.Ready.{MayCall}
-use Rattle.motion_kernel.specs.declared.members.Membership.{Membership}
-use Rattle.motion_kernel.proofs.KeptEvents.{instance_kept}
-use Rattle.motion_kernel.proofs.KeptLaws.{AxesKeepDefinitions, AxesStayKept, GroupsKeepAxes, GroupsStayKept}
-use Rattle.motion_kernel.proofs.KeptOwners.{disowned_kept}
-use Rattle.motion_kernel.proofs.Leading.{at_set}
-use Rattle.motion_kernel.proofs.MachineLaws.{MachinesStayKept, kept_by_cycle}
-use Rattle.motion_kernel.proofs.SizeLaws.{by_if}
+use Rattle.motion_kernel.specs.kept.Machine.{AreWhole, IsMachineKept}
+use Rattle.motion_kernel.specs.members.Members.{members_at, membership_of}
+use Rattle.motion_kernel.specs.kept.Ready.{MayCall}
+use Rattle.motion_kernel.specs.declared.memberships.Membership.{Membership}
+use Rattle.motion_kernel.proofs.kept.Events.{instance_kept}
+use Rattle.motion_kernel.proofs.kept.Laws.{AxesKeepDefinitions, AxesStayKept, GroupsKeepAxes, GroupsStayKept}
+use Rattle.motion_kernel.proofs.kept.Detached.{disowned_kept}
+use Rattle.motion_kernel.proofs.calls.Leading.{at_set}
+use Rattle.motion_kernel.proofs.kept.Machine.{MachinesStayKept, kept_by_cycle}
+use Rattle.motion_kernel.proofs.Sizes.{by_if}
 
 -- axis_core's at_most_eight_wait
 pub record FewWaitForAxes : Type 0 where

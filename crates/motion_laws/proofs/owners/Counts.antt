@@ -36,12 +36,12 @@ use Rattle.group_core.specs.declared.group.PendingReset as group_pending
 use Rattle.group_core.specs.declared.look.GroupLook.{GroupLook}
 use Rattle.group_core.specs.declared.reason.Reason as group_reason
 use Rattle.group_core.specs.declared.reason.Reason.TheVariants as group_reasons
-use Rattle.motion_kernel.specs.Asking.{is_done_at_once}
-use Rattle.motion_kernel.specs.Calls.{answered_instance}
+use Rattle.motion_kernel.specs.calls.Asking.{is_done_at_once}
+use Rattle.motion_kernel.specs.calls.Calls.{answered_instance}
 use Rattle.motion_kernel.specs.Machine.{instance_at, no_instance}
-use Rattle.motion_laws.specs.owners.Owners.{commands_shown}
-use Rattle.motion_kernel.specs.Telling.{told_end, told_notes}
-use Rattle.motion_kernel.proofs.SizeLaws.{by_if}
+use Rattle.motion_laws.specs.owners.Commands.{commands_shown}
+use Rattle.motion_kernel.specs.calls.Telling.{told_end, told_notes}
+use Rattle.motion_kernel.proofs.Sizes.{by_if}
 
 -- an instance is its own
 pub owner_is : (k : ℕ) → is_owner k (Some k) ≡ 1

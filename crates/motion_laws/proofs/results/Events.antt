@@ -12,10 +12,12 @@ use Rattle.fb_outputs.specs.declared.instance.Progress.{Progress}
 use Rattle.fb_outputs.specs.declared.instance.Progress.TheVariants.{Ended}
 use Rattle.motion_history.specs.Setup.{Setup}
 use Rattle.motion_kernel.specs.Machine.{Machine, instance_at}
-use Rattle.motion_laws.specs.owners.Owners.{IsThere, Object, commands_at, commands_shown, has_commands_on, is_same}
-use Rattle.motion_kernel.specs.Telling.{told_end, told_notes}
+use Rattle.motion_laws.specs.owners.Objects.{IsThere, Object, has_commands_on, is_same}
+use Rattle.motion_laws.specs.owners.Commands.{commands_at, commands_shown}
+use Rattle.motion_kernel.specs.calls.Telling.{told_end, told_notes}
 use Rattle.motion_laws.proofs.owners.Counts.{owner_is, untold_stays}
-use Rattle.motion_laws.proofs.owners.Commands.{Changes, ShownOf, beside_none, most_one, set_at}
+use Rattle.motion_laws.proofs.owners.commands.Events.{Changes, ShownOf, beside_none, most_one}
+use Rattle.motion_laws.proofs.owners.commands.Asked.{set_at}
 
 -- how far an instance's command is
 abbrev pub progress_in : List InstanceState → ℕ → Progress

@@ -17,23 +17,30 @@ use Rattle.motion_history.specs.Entries.{Entry, call, cycle, cycle_count, cycles
 use Rattle.motion_history.specs.Setup.{Setup, IsSetup}
 use Rattle.motion_history.specs.declared.config.BlockDef.{BlockDef}
 use Rattle.motion_laws.specs.arrivals.AxisFates as axis_entry
-use Rattle.motion_kernel.specs.Calls.{after_asking, after_edge, called, called_where, reply_of, with_execute}
+use Rattle.motion_kernel.specs.calls.Calls.{after_asking, after_edge, called, called_where, reply_of, with_execute}
 use Rattle.motion_laws.specs.arrivals.GroupFates as group_entry
 use Rattle.motion_kernel.specs.Histories.{Follows, IsLegal, IsOf, after, inputs_of, machine_after, replay}
 use Rattle.motion_kernel.specs.Machine.{Machine, axis_at, group_at, instance_at, machine_at_opening}
-use Rattle.motion_kernel.specs.MachineKept.{AreWhole, IsMachineKept}
-use Rattle.motion_laws.specs.owners.Owners.{AreWhereShown, IsThere, Object, a_group, active_at, active_shown, an_axis, commands_shown, has_commands_on}
+use Rattle.motion_kernel.specs.kept.Machine.{AreWhole, IsMachineKept}
+use Rattle.motion_laws.specs.owners.Shown.{AreWhereShown}
+use Rattle.motion_laws.specs.owners.Objects.{IsThere, Object, has_commands_on, a_group, an_axis}
+use Rattle.motion_laws.specs.owners.Commands.{active_at, active_shown, commands_shown}
 use Rattle.motion_laws.specs.entries.Replies.{AreOfBlocks}
 use Rattle.motion_laws.specs.results.Results.{AreNoCalls, KeepsResults, ResultsAreTold, Tells, TellsNext, end_in, is_call_of, is_rising, takes_away}
-use Rattle.motion_laws.proofs.owners.Active.{found_in}
+use Rattle.motion_laws.proofs.owners.active.Cycles.{found_in}
 use Rattle.motion_laws.proofs.arrivals.Moves.{behind}
-use Rattle.motion_laws.proofs.owners.Holders.{call_all_shown, cycle_all_shown, legal_all_shown}
-use Rattle.motion_kernel.proofs.MachineLaws.{kept_by_cycle}
-use Rattle.motion_laws.proofs.owners.Commands.{IsGood, block_there, set_at, shown_where, there_where}
-use Rattle.motion_laws.proofs.entries.Replies.{call_of_blocks, cycle_of_blocks, kind_after, opening_of_blocks, replay_of_blocks}
-use Rattle.motion_laws.proofs.limits.Stoppable.{legal_kept, legal_so_far}
+use Rattle.motion_laws.proofs.owners.holders.Calls.{call_all_shown}
+use Rattle.motion_laws.proofs.owners.holders.Cycles.{cycle_all_shown}
+use Rattle.motion_laws.proofs.owners.holders.Histories.{legal_all_shown}
+use Rattle.motion_kernel.proofs.kept.Machine.{kept_by_cycle}
+use Rattle.motion_laws.proofs.owners.commands.Events.{IsGood, block_there, shown_where, there_where}
+use Rattle.motion_laws.proofs.owners.commands.Asked.{set_at}
+use Rattle.motion_laws.proofs.entries.replies.Entries.{call_of_blocks, cycle_of_blocks, opening_of_blocks}
+use Rattle.motion_laws.proofs.entries.replies.Histories.{kind_after, replay_of_blocks}
+use Rattle.motion_laws.proofs.Histories.{legal_kept, legal_so_far}
 use Rattle.motion_laws.proofs.results.Calls.{call_spares, call_tells_axis, call_tells_group}
-use Rattle.motion_laws.proofs.results.Cycles.{TellLaws, cycle_spares, cycle_tells_axis, cycle_tells_group}
+use Rattle.motion_laws.proofs.results.Steps.{TellLaws}
+use Rattle.motion_laws.proofs.results.Cycles.{cycle_spares, cycle_tells_axis, cycle_tells_group}
 use Rattle.motion_laws.proofs.results.Events.{HasEnded, progress_in}
 
 -- a machine of a legal history

@@ -12,10 +12,10 @@ use Rattle.fb_outputs.specs.declared.instance.Edge.TheVariants as edge
 use Rattle.motion_history.specs.Entries.{Entry, call, cycle, end_of}
 use Rattle.motion_history.specs.Setup.{Setup}
 use Rattle.motion_history.specs.declared.config.BlockDef.{BlockDef}
-use Rattle.motion_kernel.specs.Calls.{asked_of_axis, with_execute, without_owner}
+use Rattle.motion_kernel.specs.calls.Calls.{asked_of_axis, with_execute, without_owner}
 use Rattle.motion_kernel.specs.Histories.{inputs_of}
 use Rattle.motion_kernel.specs.Machine.{Machine, axis_core_at, instance_at}
-use Rattle.motion_kernel.specs.CycleLooks.{look_of_axis}
+use Rattle.motion_kernel.specs.cycles.Cycles.{look_of_axis}
 
 -- a rising edge asks a command of the block's axis, which the instance's earlier command has left
 abbrev pub fate_by_rising : Setup → ℕ → BlockDef → Inputs → Machine → ℕ → Fate

@@ -14,14 +14,14 @@ use Rattle.group_core.specs.Tracks.{OnPath}
 use Rattle.motion_history.specs.Entries.{Entry, call, cycle, end_of}
 use Rattle.motion_history.specs.Setup.{Setup}
 use Rattle.motion_history.specs.declared.config.BlockDef.{BlockDef}
-use Rattle.motion_kernel.specs.Asking.{wanted_of}
-use Rattle.motion_kernel.specs.Calls.{with_execute, without_owner}
+use Rattle.motion_kernel.specs.calls.Asking.{wanted_of}
+use Rattle.motion_kernel.specs.calls.Calls.{with_execute, without_owner}
 use Rattle.motion_kernel.specs.Histories.{after, inputs_of}
-use Rattle.motion_kernel.specs.Looks.{group_look}
+use Rattle.motion_kernel.specs.looks.GroupLooks.{group_look}
 use Rattle.motion_kernel.specs.Machine.{Machine, group_at, group_core_at, instance_at}
-use Rattle.motion_kernel.specs.Members.{membership_of}
-use Rattle.motion_kernel.specs.declared.members.Membership.{Membership}
-use Rattle.motion_kernel.specs.CycleLooks.{look_of_group}
+use Rattle.motion_kernel.specs.members.Members.{membership_of}
+use Rattle.motion_kernel.specs.declared.memberships.Membership.{Membership}
+use Rattle.motion_kernel.specs.cycles.Cycles.{look_of_group}
 
 -- a rising edge asks a command of the block's group, which the instance's earlier command has left
 abbrev pub fate_by_rising : Setup → ℕ → BlockDef → Inputs → Machine → ℕ → Fate

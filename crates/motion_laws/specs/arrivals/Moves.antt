@@ -28,7 +28,8 @@ turned_by None cycles m later =
 
 -- the first turn of the active command of an axis in some entries, if it has one there, where its
 -- fate in each tells of one
-abbrev pub turned_by_fates : (Fate → Option Turn) → Setup → ℕ → Machine → List Entry → Option Turned
+abbrev pub turned_by_fates : (Fate → Option Turn) → Setup → ℕ → Machine → List Entry →
+    Option Turned
 turned_by_fates turn s n m [] = None
 turned_by_fates turn s n m (e ∷ es) =
     turned_by (turn (axis_fate s m e n)) (cycle_count e) (after s m e)

@@ -13,7 +13,7 @@ use Rattle.motion_history.specs.Setup.{Setup}
 use Rattle.motion_laws.specs.arrivals.GroupFates.{group_fate, path_in}
 use Rattle.motion_kernel.specs.Histories.{after, machine_after}
 use Rattle.motion_kernel.specs.Machine.{Machine, axis_at, group_at}
-use Rattle.motion_kernel.specs.Members.{member_at, members_at}
+use Rattle.motion_kernel.specs.members.Members.{member_at, members_at}
 
 -- how the active command of a group ends: in which cycle, how, and on which path. This project's
 -- profile

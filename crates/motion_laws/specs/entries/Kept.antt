@@ -5,11 +5,11 @@ use Rattle.fb_outputs.specs.declared.outputs.Outputs.{Outputs}
 use Rattle.motion_history.specs.Entries.{Entry, call, cycle, end_of}
 use Rattle.motion_history.specs.Setup.{Setup}
 use Rattle.motion_history.specs.declared.config.BlockDef.{BlockDef}
-use Rattle.motion_kernel.specs.Calls.{after_call}
+use Rattle.motion_kernel.specs.calls.Calls.{after_call}
 use Rattle.motion_laws.specs.entries.Diagrams.{FollowsDiagrams}
 use Rattle.motion_kernel.specs.Histories.{after, machine_after}
 use Rattle.motion_kernel.specs.Machine.{Machine}
-use Rattle.motion_laws.specs.owners.Owners.{AreWhereShown}
+use Rattle.motion_laws.specs.owners.Shown.{AreWhereShown}
 use Rattle.motion_laws.specs.entries.Refusals.{IsRefused, machine_refused}
 use Rattle.motion_laws.specs.entries.Replies.{IsReplyOf}
 

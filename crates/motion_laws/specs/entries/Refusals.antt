@@ -7,7 +7,7 @@ use Rattle.fb_outputs.specs.declared.inputs.Inputs.{Inputs}
 use Rattle.fb_outputs.specs.declared.instance.Edge.TheVariants.{Rising}
 use Rattle.fb_outputs.specs.declared.instance.Progress.TheVariants.{Ended}
 use Rattle.fb_outputs.specs.declared.outputs.Outputs.{Outputs}
-use Rattle.motion_kernel.specs.Calls.{with_instance, without_owner}
+use Rattle.motion_kernel.specs.calls.Calls.{with_instance, without_owner}
 use Rattle.motion_kernel.specs.Machine.{Machine, instance_at}
 
 -- a call is refused: it is a rising edge of its block's Execute, and its reply shows an error

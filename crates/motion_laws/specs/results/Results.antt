@@ -12,7 +12,8 @@ use Rattle.motion_laws.specs.arrivals.AxisFates.{axis_fate}
 use Rattle.motion_laws.specs.arrivals.GroupFates.{group_fate}
 use Rattle.motion_kernel.specs.Histories.{after, machine_after, replay}
 use Rattle.motion_kernel.specs.Machine.{Machine, instance_at}
-use Rattle.motion_laws.specs.owners.Owners.{IsThere, Object, a_group, active_at, an_axis, commands_shown}
+use Rattle.motion_laws.specs.owners.Objects.{IsThere, Object, a_group, an_axis}
+use Rattle.motion_laws.specs.owners.Commands.{active_at, commands_shown}
 
 -- how the active command of an axis or a group ends in an entry, if it does
 abbrev pub end_in : Setup → Machine → Entry → Object → Option Finish
@@ -25,7 +26,7 @@ is_call_of k (call j i reply) = nat_eq j k
 is_call_of k (cycle c rows grows) = false
 is_call_of k (end_of task) = false
 
--- whether a call is a rising edge of its instance's Execute, which takes its earlier command from it
+-- whether a call is a rising edge of its instance's Execute, which takes its earlier command away
 abbrev pub is_rising : Machine → ℕ → Inputs → Bool
 is_rising m k i = not (instance_at m.instances k).execute && i.execute
 

@@ -1,6 +1,7 @@
 -- Moves arrive in time, by the laws of the machine and of its axes.
-use Rattle.motion_laws.proofs.arrivals.Moves.{ArrivalLaws, moves_arrive}
-use Rattle.motion_kernel.proofs.MachineLaws.{MachinesStayKept}
+use Rattle.motion_laws.proofs.arrivals.MoveEvents.{ArrivalLaws}
+use Rattle.motion_laws.proofs.arrivals.Moves.{moves_arrive}
+use Rattle.motion_kernel.proofs.kept.Machine.{MachinesStayKept}
 use Rattle.motion_laws.proofs.arrival_laws.moves_arrive_in_time.Goals as goal
 
 machines : (c : goal.After-moves_are_done_at_their_targets) → MachinesStayKept

@@ -1,8 +1,11 @@
 -- The states of axes and groups follow their diagrams, by the laws of the machine, its axes and its
 -- groups.
-use Rattle.motion_laws.proofs.entries.Diagrams.{DiagramLaws, call_follows, cycle_follows, entries_follow}
-use Rattle.motion_kernel.proofs.KeptLaws.{AxesKeepDefinitions, AxesStayKept, GroupsKeepAxes, GroupsStayKept}
-use Rattle.motion_kernel.proofs.MachineLaws.{MachinesStayKept}
+use Rattle.motion_laws.proofs.entries.diagrams.Rows.{DiagramLaws}
+use Rattle.motion_laws.proofs.entries.diagrams.Calls.{call_follows}
+use Rattle.motion_laws.proofs.entries.diagrams.Cycles.{cycle_follows}
+use Rattle.motion_laws.proofs.entries.diagrams.Histories.{entries_follow}
+use Rattle.motion_kernel.proofs.kept.Laws.{AxesKeepDefinitions, AxesStayKept, GroupsKeepAxes, GroupsStayKept}
+use Rattle.motion_kernel.proofs.kept.Machine.{MachinesStayKept}
 use Rattle.motion_laws.proofs.diagram_laws.states_follow_the_diagrams.Goals as goal
 
 machines : (c : goal.After-states_change_by_the_diagram-2) → MachinesStayKept

@@ -1,6 +1,6 @@
 -- At most eight commands wait in each list, by the laws of the machine, its axes and its groups.
-use Rattle.motion_kernel.proofs.KeptLaws.{AxesKeepDefinitions, AxesStayKept, GroupsKeepAxes, GroupsStayKept}
-use Rattle.motion_kernel.proofs.MachineLaws.{MachinesStayKept}
+use Rattle.motion_kernel.proofs.kept.Laws.{AxesKeepDefinitions, AxesStayKept, GroupsKeepAxes, GroupsStayKept}
+use Rattle.motion_kernel.proofs.kept.Machine.{MachinesStayKept}
 use Rattle.motion_laws.proofs.limits.Waiting.{WaitingLaws, legal_short}
 use Rattle.motion_laws.proofs.limit_laws.at_most_eight_wait.Goals as goal
 

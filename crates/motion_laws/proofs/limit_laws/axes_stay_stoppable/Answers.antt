@@ -1,8 +1,9 @@
 -- Every axis and every path can be stopped after a legal history, by the laws of the machine.
 use Rattle.motion_kernel.specs.Histories.{replay}
 use Rattle.motion_kernel.specs.Machine.{machine_at_opening}
-use Rattle.motion_kernel.proofs.MachineLaws.{MachinesStayKept}
-use Rattle.motion_laws.proofs.limits.Stoppable.{axis_stoppable, legal_kept, legal_so_far, path_stoppable}
+use Rattle.motion_kernel.proofs.kept.Machine.{MachinesStayKept}
+use Rattle.motion_laws.proofs.limits.Stoppable.{axis_stoppable, path_stoppable}
+use Rattle.motion_laws.proofs.Histories.{legal_kept, legal_so_far}
 use Rattle.motion_laws.proofs.limit_laws.axes_stay_stoppable.Goals as goal
 
 machines : (c : goal.After-machines_stay_kept) → MachinesStayKept

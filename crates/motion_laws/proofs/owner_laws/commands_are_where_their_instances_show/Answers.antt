@@ -1,6 +1,8 @@
 -- Commands are where their instances show, by the laws of the machine, its axes and its groups.
-use Rattle.motion_laws.proofs.owners.Holders.{call_all_shown, cycle_all_shown, legal_all_shown, opening_all_shown}
-use Rattle.motion_laws.proofs.owners.Commands.{OwnerLaws}
+use Rattle.motion_laws.proofs.owners.holders.Calls.{call_all_shown}
+use Rattle.motion_laws.proofs.owners.holders.Cycles.{cycle_all_shown}
+use Rattle.motion_laws.proofs.owners.holders.Histories.{legal_all_shown, opening_all_shown}
+use Rattle.motion_laws.proofs.owners.commands.Events.{OwnerLaws}
 use Rattle.motion_laws.proofs.owner_laws.commands_are_where_their_instances_show.Goals as goal
 
 laws : (c : goal.After-ends_are_told_once-2) → OwnerLaws

@@ -1,5 +1,5 @@
 -- A refused call changes nothing.
-use Rattle.motion_laws.proofs.entries.Refusals.{refused_call, refused_entry, refused_number}
+use Rattle.motion_laws.proofs.entries.refusals.Calls.{refused_call, refused_entry, refused_number}
 use Rattle.motion_laws.proofs.refusal_laws.refusals_change_nothing.Goals as goal
 
 pub returns-clause-call : goal.returns-clause-call

@@ -1,5 +1,7 @@
 -- Each reply tells one result, by the laws of the machine and of instances.
-use Rattle.motion_laws.proofs.entries.Replies.{InstancesTellOne, ReplyLaws, call_of_blocks, cycle_of_blocks, entry_of_block, opening_of_blocks, reply_of_block}
+use Rattle.motion_laws.proofs.entries.replies.Commands.{InstancesTellOne, ReplyLaws}
+use Rattle.motion_laws.proofs.entries.replies.Entries.{call_of_blocks, cycle_of_blocks, opening_of_blocks}
+use Rattle.motion_laws.proofs.entries.replies.Histories.{entry_of_block, reply_of_block}
 use Rattle.motion_laws.proofs.reply_laws.replies_tell_one_result.Goals as goal
 
 instances : (c : goal.After-replies_tell_one_result) → InstancesTellOne

@@ -1,6 +1,6 @@
 -- Results are told, by the laws of the machine, its axes and its groups.
-use Rattle.motion_laws.proofs.owners.Commands.{OwnerLaws}
-use Rattle.motion_laws.proofs.results.Cycles.{TellLaws}
+use Rattle.motion_laws.proofs.owners.commands.Events.{OwnerLaws}
+use Rattle.motion_laws.proofs.results.Steps.{TellLaws}
 use Rattle.motion_laws.proofs.results.Told.{results_told}
 use Rattle.motion_laws.proofs.result_laws.results_are_told.Goals as goal
 
