@@ -6,8 +6,8 @@ use Rattle.cia402_machine.specs.declared.drive.DriveOut.{DriveOut}
 use Rattle.fb_outputs.specs.declared.inputs.Inputs.{Inputs}
 use Rattle.fb_outputs.specs.declared.outputs.Outputs.{Outputs}
 use Rattle.motion_history.specs.Entries.{Entry, call, cycle, cycles_of}
-use Rattle.motion_kernel.specs.Calls.{reply_of}
-use Rattle.motion_kernel.specs.Cycles.{Cycled, cycled}
+use Rattle.motion_kernel.specs.calls.Calls.{reply_of}
+use Rattle.motion_kernel.specs.cycles.Cycles.{Cycled, cycled}
 use Rattle.motion_kernel.specs.KernelState.{KernelState, room_of, state_of}
 use Rattle.motion_kernel.specs.Tasks.{live_tasks, quiet_tasks}
 use Rattle.kernel_turn.specs.declared.turn.Turn.{Turn}

@@ -7,10 +7,10 @@ use Rattle.cia402_machine.specs.declared.drive.DriveOut.{DriveOut}
 use Rattle.fb_outputs.specs.declared.inputs.Inputs.{Inputs}
 use Rattle.fb_outputs.specs.declared.outputs.Outputs.{Outputs}
 use Rattle.motion_history.specs.Entries.{Entry, end_of}
-use Rattle.motion_history.specs.Setup.{Setup}
+use Rattle.motion_history.specs.Setup.{Setup, IsSetup}
 use Rattle.motion_kernel.specs.Histories.{IsLegal}
 use Rattle.motion_kernel.specs.KernelState.{KernelState}
-use Rattle.motion_kernel.specs.Laws.{KeepsLaws}
+use Rattle.motion_kernel.specs.kept.Machine.{AreWhole}
 use Rattle.kernel_turn.specs.Events.{CallTold, CycleTold, EndTold, Makes, call_of, cycle_of}
 use Rattle.kernel_turn.specs.PassState.{PassState}
 use Rattle.kernel_turn.specs.Times.{times, once_below}
@@ -109,10 +109,11 @@ pub record IsSamePass (old new : PassState) : Type 0 where
   pub config : new.config ≡ old.config
   pub out : new.out ≡ old.out
 
--- a history is legal, and keeps the machine's laws
+-- a history is legal, for a sound configuration of whole groups: so it keeps the machine's laws
 pub record IsLawful (s : Setup) (es : List Entry) : Type 0 where
   pub legal : IsLegal s es
-  pub laws : KeepsLaws s es
+  pub setup : IsSetup s
+  pub whole : AreWhole s
 
 -- the entries of a Full for want of room are the configured number, unless the pass has then met a
 -- stop

@@ -18,7 +18,7 @@ use Rattle.outside.specs.Told.{FileMap, HasFile}
 use Rattle.trace_check.specs.Legal.{IsTraceOf}
 use Rattle.trace_check.specs.Progress.{difference_in}
 use Rattle.cia402_machine.specs.declared.drive.DriveIn.{DriveIn}
-use Rattle.motion_kernel.specs.Cycles.{cycled}
+use Rattle.motion_kernel.specs.cycles.Cycles.{cycled}
 use Rattle.trace_check.specs.Replays.{cycle_made, made_after}
 use Rattle.trace_check.specs.declared.difference.Difference.{Difference}
 use Rattle.trace_text.specs.reading.Reading.{trace_of}

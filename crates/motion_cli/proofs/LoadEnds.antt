@@ -14,7 +14,7 @@ use Rattle.load_gen.specs.Machine.{machine}
 use Rattle.motion_history.specs.Entries.{CyclesAddUp, Entry}
 use Rattle.motion_kernel.specs.Histories.{IsLegal}
 use Rattle.motion_kernel.specs.KernelState.{KernelState}
-use Rattle.motion_kernel.specs.Laws.{KeepsLaws}
+use Rattle.motion_laws.specs.Laws.{KeepsLaws}
 use Rattle.outside.specs.Faults.{Rose}
 use Rattle.outside.specs.Told.{FileMap}
 use Rattle.trace_text.specs.writing.Writes.{Output, Writes}

@@ -9,7 +9,7 @@ use Rattle.drive_sim.specs.Steps.{answer_of}
 use Rattle.group_state.specs.declared.state.GroupRow.{GroupRow}
 use Rattle.motion_history.specs.Entries.{CyclesAddUp, Entry, cycle, cycles_of}
 use Rattle.motion_history.specs.Setup.{Setup}
-use Rattle.motion_kernel.specs.Cycles as machine
+use Rattle.motion_kernel.specs.cycles.Cycles as machine
 use Rattle.motion_kernel.specs.Histories.{machine_after}
 use Rattle.motion_cli.proofs.DriveLaws.{IsNoCycle, drives-first, drives-more, drives-same, no-cycle}
 use Rattle.motion_cli.proofs.RunLaws.{made-by}

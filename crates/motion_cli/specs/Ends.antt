@@ -6,7 +6,7 @@ use Rattle.bench_text.specs.BenchState.{BenchState}
 use Rattle.bench_text.specs.Reading.{bench_of}
 use Rattle.motion_history.specs.Entries.{Entry}
 use Rattle.motion_kernel.specs.Histories.{IsLegal}
-use Rattle.motion_kernel.specs.Laws.{KeepsLaws}
+use Rattle.motion_laws.specs.Laws.{KeepsLaws}
 use Rattle.outside.specs.Told.{FileMap, HasFile, IsLonger, LacksFile}
 use Rattle.trace_check.specs.Laws.{IsMigrated}
 use Rattle.trace_check.specs.Legal.{IsLegalTrace, IsTraceOf}

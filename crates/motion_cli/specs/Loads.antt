@@ -9,7 +9,7 @@ use Rattle.load_gen.specs.Load.{generated_bench}
 use Rattle.load_gen.specs.Machine.{machine}
 use Rattle.motion_history.specs.Entries.{Entry, call, cycle, end_of}
 use Rattle.motion_kernel.specs.Histories.{IsLegal}
-use Rattle.motion_kernel.specs.Laws.{KeepsLaws}
+use Rattle.motion_laws.specs.Laws.{KeepsLaws}
 use Rattle.outside.specs.Told.{FileMap}
 use Rattle.trace_text.specs.writing.Writes.{Output}
 use Rattle.motion_cli.specs.Asked.{Request, request_of}

@@ -9,7 +9,7 @@ ghost use Rattle.motion_cli.specs.Plans as plans;
 ghost use Rattle.motion_cli.specs.Plans.{plan_of_bench, plan_of_reading};
 ghost use Rattle.motion_history.specs.Entries.{cycles_of};
 ghost use Rattle.motion_kernel.specs.Histories.{IsLegal};
-ghost use Rattle.motion_kernel.specs.Laws.{KeepsLaws};
+ghost use Rattle.motion_laws.specs.Laws.{KeepsLaws};
 ghost use Rattle.trace_text.specs.Trace.{trace_text};
 ghost use Rattle.trace_text.specs.writing.Writes.{Writes};
 
@@ -19,6 +19,7 @@ use crate::say::say_refused;
 use crate::status::Status;
 use bench_text::{Bench, read_bench};
 use motion_history::TextFault;
+use motion_laws::histories_keep_their_laws;
 use outside::Sink;
 use std::alloc::Global;
 use trace_text::{Command, TraceFault, parts_are_beginnings, write_trace};
@@ -92,6 +93,7 @@ fn write_run<K: Sink>(
         (map (drive_end (cycles_of ran.now.kernel.history)) ran.now.drives.items)) result }
 {
     parts_are_beginnings();
+    histories_keep_their_laws();
     let history = ran.kernel.history();
     let cycles = ran.kernel.config().cycles() - ran.kernel.cycles_left();
     let Ok(drives) = end_rows(alloc, cycles, ran.drives.as_slice()) else {

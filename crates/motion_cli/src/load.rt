@@ -12,6 +12,7 @@ use crate::status::Status;
 use itoa::Buffer;
 use load_gen::generate;
 use motion_history::{AxisRow, EntryLook, History};
+use motion_laws::histories_keep_their_laws;
 use outside::Sink;
 use std::alloc::{AllocError, Global};
 use trace_text::parts_are_beginnings;
@@ -28,6 +29,7 @@ pub fn run_load<K: Sink>(alloc: Global, seed: u32, out: &mut K) -> Status
     let Ok(ran) = run(alloc, &bench) else {
         return Status::OutOfMemory;
     };
+    histories_keep_their_laws();
     let history = ran.kernel.history();
     say(load_line(alloc, seed, history), Status::Ok, out)
 }

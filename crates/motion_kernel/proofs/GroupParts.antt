@@ -13,11 +13,11 @@ use Rattle.group_core.specs.declared.look.GroupLook.{GroupLook}
 use Rattle.group_core.specs.Seen.{core_at, on_path}
 use Rattle.group_core.specs.declared.group.GroupOnPath.{GroupOnPath}
 use Rattle.linear_path.specs.declared.line.LinePath.{LinePath}
-use Rattle.motion_kernel.specs.Calls.{with_group_core}
+use Rattle.motion_kernel.specs.calls.Calls.{with_group_core}
 use Rattle.motion_kernel.specs.Machine.{Machine, PlacedGroup, group_at, group_core_at, list_of, no_group}
 use Rattle.group_core.specs.Calls.{group_without}
 use Rattle.motion_kernel.specs.Seen.{group_without_owner, placed}
-use Rattle.motion_kernel.specs.Telling.{told_notes}
+use Rattle.motion_kernel.specs.calls.Telling.{told_notes}
 
 -- a group of the parts, with what waits for it
 pub core_here : (m : Machine) (gs : List (GroupOnPath LinePath)) (j list : ℕ) (g : GroupOnPath LinePath) → m.groups ≡ map placed gs →

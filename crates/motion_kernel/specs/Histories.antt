@@ -8,8 +8,8 @@ use Rattle.group_state.specs.declared.state.GroupRow.{GroupRow}
 use Rattle.motion_history.specs.Calls.{IsCall}
 use Rattle.motion_history.specs.Entries.{Entry, call, cycle, cycle_count, cycles_of, end_of}
 use Rattle.motion_history.specs.Setup.{Setup}
-use Rattle.motion_kernel.specs.Calls.{after_call, reply_of}
-use Rattle.motion_kernel.specs.Cycles.{after_cycle, cycled}
+use Rattle.motion_kernel.specs.calls.Calls.{after_call, reply_of}
+use Rattle.motion_kernel.specs.cycles.Cycles.{after_cycle, cycled}
 use Rattle.motion_kernel.specs.Machine.{Machine, machine_at_opening}
 
 -- the drives' answers that the rows of a cycle show

@@ -1,7 +1,7 @@
 // The command that a call asks for.
 
 ghost use Rattle.std.specs.Prelude.{◌≡◌};
-ghost use Rattle.motion_kernel.specs.Asking as spec;
+ghost use Rattle.motion_kernel.specs.calls.Asking as spec;
 
 use command_pool::{BlockKind, Follow, Rates, Wanted};
 use fb_outputs::Inputs;

@@ -5,7 +5,7 @@ ghost use Rattle.motion_history.specs.Entries.{Entry};
 ghost use Rattle.motion_history.specs.Setup.{Setup, IsSetup};
 ghost use Rattle.motion_kernel.specs.Counted.{RowsAreCounted};
 ghost use Rattle.motion_kernel.specs.Histories.{IsLegal};
-ghost use Rattle.motion_kernel.specs.MachineKept.{AreWhole};
+ghost use Rattle.motion_kernel.specs.kept.Machine.{AreWhole};
 
 use crate::laws::machines_stay_kept;
 use axis_core::axes_keep_their_definitions;

@@ -2,7 +2,7 @@
 
 ghost use Rattle.std.specs.Prelude.{◌≡◌, IfOk, OnOk};
 ghost use Rattle.motion_history.specs.Setup.{IsSetup};
-ghost use Rattle.motion_kernel.specs.Finders as spec;
+ghost use Rattle.motion_kernel.specs.cycles.Finders as spec;
 
 use command_pool::BlockKind;
 use motion_history::Config;

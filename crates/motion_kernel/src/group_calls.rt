@@ -1,26 +1,28 @@
-// What a call makes of a group and its axes.
+// What a call makes of a group.
 
-ghost use Rattle.std.specs.Prelude.{◌≡◌, ◌<◌, ◌≤◌, ◌⊎◌, ◌+◌, ℕ, length, map, true, false, None, IsTrue};
-ghost use Rattle.axis_core.specs.blocks.Path as path;
+ghost use Rattle.std.specs.Prelude.{◌≡◌, ◌<◌, ◌≤◌, ◌⊎◌, ◌+◌, ℕ, length, map, true, false, None, IsTrue, if◌then◌else◌, IfSome, Some, slice_get};
 ghost use Rattle.group_core.specs.Calls as group_spec;
 ghost use Rattle.group_core.specs.GroupKept.{IsCoreKept, IsLook, IsMade};
 ghost use Rattle.group_core.specs.Refusals.{limits_in};
-ghost use Rattle.motion_kernel.specs.Calls as spec;
-ghost use Rattle.motion_kernel.specs.Looks as looks;
-ghost use Rattle.motion_kernel.specs.Machine.{axis_at, axis_among, group_at, group_core_at};
+ghost use Rattle.motion_history.specs.declared.config.BlockDef.{BlockDef};
+ghost use Rattle.motion_kernel.specs.calls.Calls as spec;
+ghost use Rattle.motion_kernel.specs.looks.GroupLooks as looks;
+ghost use Rattle.motion_kernel.specs.Machine.{group_at, group_core_at};
 ghost use Rattle.motion_kernel.specs.Machine as machine;
-ghost use Rattle.motion_kernel.specs.MachineKept.{IsSized};
-ghost use Rattle.motion_kernel.specs.Members.{member_at, members_at};
-ghost use Rattle.motion_kernel.specs.Ready.{RestOnPaths};
+ghost use Rattle.motion_kernel.specs.kept.Machine.{IsSized};
+ghost use Rattle.motion_kernel.specs.kept.Ready.{MayAskGroup, group_answer, with_asked_group};
 ghost use Rattle.motion_kernel.specs.Seen.{machine_of};
 
+use crate::answering::answer;
+use crate::asking::wanted_of;
+use crate::group_looks::group_look;
 use crate::layout::Layout;
-use crate::looks::group_look;
+use crate::leading::lead_members;
 use crate::parts::Parts;
 use crate::telling::tell;
-use axis_core::AxisCore;
-use axis_state::AxisState;
-use command_pool::{BlockKind, Notes, Refusal, Wanted};
+use command_pool::{Notes, Refusal, Wanted};
+use fb_outputs::Inputs;
+use motion_history::BlockDef;
 
 /// The list in which commands wait for a group: behind those of the axes.
 pub fn list_of(group: u8, parts: &Parts) -> u8
@@ -75,90 +77,46 @@ pub fn command_group(
     answer
 }
 
-// An axis goes on its group's path, unless a command moves it.
-fn lead_on(axis: &mut AxisCore)
-    ensures { axis.new ≡ spec.axis_led true axis.old }
+// A command is asked of a group.
+fn ask_group(
+    instance: u16,
+    block: &BlockDef,
+    inputs: &Inputs,
+    layout: &Layout,
+    parts: &mut Parts,
+) -> Result<bool, Refusal>
+    requires sized { IsSized layout.now (machine_of parts.old) }
+    requires there { block.now.object < length layout.now.groups }
+    requires may { MayAskGroup layout.now instance block.now.object block.now.kind inputs.now
+        (machine_of parts.old) }
+    ensures answer { result ≡ group_answer layout.now instance block.now.object block.now.kind
+        inputs.now (machine_of parts.old) }
+    ensures after { machine_of parts.new ≡ with_asked_group layout.now instance block.now.object
+        block.now.kind inputs.now (machine_of parts.old) }
+    ensures sized { IsSized layout.now (machine_of parts.new) }
 {
-    if axis.active().is_none() {
-        axis.on_path(true);
-    }
+    let wanted = wanted_of(instance, block.kind, inputs);
+    command_group(&wanted, inputs.jerk, block.object, layout, parts)
 }
 
-// Whether an axis is on its group's path: it follows, and not by a command of its own.
-fn is_on_path(axis: &AxisCore) -> bool
-    ensures { result ≡ path.is_on_path axis.now }
-{
-    matches!(axis.state(), AxisState::SynchronizedMotion) && axis.active().is_none()
-}
-
-// An axis leaves the path that it is on.
-fn lead_off(axis: &mut AxisCore)
-    requires { path.is_on_path axis.old ≡ true → axis.old.previous ≡ axis.old.setpoint }
-    ensures { axis.new ≡ spec.axis_led false axis.old }
-{
-    if is_on_path(axis) {
-        axis.on_path(false);
-    }
-}
-
-// Some axes go on their group's path, unless a command moves them.
-fn lead_all_on(members: &[u8], parts: &mut Parts)
-    requires { (place : ℕ) → place < length members.now →
-        member_at members.now place < length parts.old.axes.items }
-    ensures { machine_of parts.new ≡ spec.axes_led true members.now (machine_of parts.old) }
-{
-    for axis in members {
-        lead_on(&mut parts.axes[*axis as usize]);
-    }
-}
-
-// Some axes leave the path that they are on.
-fn lead_all_off(members: &[u8], parts: &mut Parts)
-    requires there { (place : ℕ) → place < length members.now →
-        member_at members.now place < length parts.old.axes.items }
-    requires rest { RestOnPaths (machine_of parts.old) members.now }
-    ensures { machine_of parts.new ≡ spec.axes_led false members.now (machine_of parts.old) }
-{
-    for axis in members {
-        lead_off(&mut parts.axes[*axis as usize]);
-    }
-}
-
-/// The axes of a group go on its path where a command became active in its call, and leave it where
-/// GroupDisable was admitted.
-pub fn lead_members(
-    group: u8,
-    kind: BlockKind,
-    answer: Result<bool, Refusal>,
+/// A command is asked of a group, its axes are led, and its instance is answered.
+#[tactic(auto, unfolding(crate::specs::calls::Calls::after_group_command))]
+pub fn call_group(
+    instance: u16,
+    block: &BlockDef,
+    inputs: &Inputs,
     layout: &Layout,
     parts: &mut Parts,
 )
     requires sized { IsSized layout.now (machine_of parts.old) }
-    requires there { group < length layout.now.groups }
-    requires rest { spec.leaves_path kind answer ≡ true →
-        RestOnPaths (machine_of parts.old) (members_at layout.now group) }
-    ensures after { machine_of parts.new ≡ spec.members_led layout.now group kind answer
+    requires there { block.now.object < length layout.now.groups }
+    requires may { MayAskGroup layout.now instance block.now.object block.now.kind inputs.now
         (machine_of parts.old) }
-    ensures sized { IsSized layout.now (machine_of parts.new) }
+    requires instance { instance < length layout.now.blocks }
+    ensures { machine_of parts.new ≡ spec.after_group_command layout.now instance block.now.object
+        block.now.kind inputs.now (machine_of parts.old) }
 {
-    let members = layout.members_of(group);
-    if enters_path(answer) {
-        lead_all_on(members, parts);
-    } else if leaves_path(kind, answer) {
-        lead_all_off(members, parts);
-    }
-}
-
-// Whether a command became active in its call.
-fn enters_path(answer: Result<bool, Refusal>) -> bool
-    ensures { result ≡ spec.enters_path answer }
-{
-    matches!(answer, Ok(true))
-}
-
-// Whether it is a GroupDisable that was admitted.
-fn leaves_path(kind: BlockKind, answer: Result<bool, Refusal>) -> bool
-    ensures { result ≡ spec.leaves_path kind answer }
-{
-    matches!((kind, answer), (BlockKind::GroupDisable, Ok(false)))
+    let told = ask_group(instance, block, inputs, layout, parts);
+    lead_members(block.object, block.kind, told, layout, parts);
+    answer(instance, block.kind, told, parts);
 }

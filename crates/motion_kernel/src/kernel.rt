@@ -6,19 +6,19 @@ ghost use Rattle.axis_state.specs.declared.definition.AxisRow.{AxisRow};
 ghost use Rattle.cia402_machine.specs.declared.drive.DriveIn.{DriveIn};
 ghost use Rattle.motion_history.specs.Calls.{IsCall};
 ghost use Rattle.motion_history.specs.Entries.{call, cycle, end_of, cycles_of};
-ghost use Rattle.motion_kernel.specs.Calls.{reply_of};
-ghost use Rattle.motion_kernel.specs.Cycles.{cycled};
+ghost use Rattle.motion_history.specs.Setup.{IsSetup};
+ghost use Rattle.motion_kernel.specs.calls.Calls.{reply_of};
+ghost use Rattle.motion_kernel.specs.cycles.Cycles.{cycled};
 ghost use Rattle.motion_kernel.specs.Histories.{IsLegal};
 ghost use Rattle.motion_kernel.specs.KernelState.{KernelState, room_of, state_of};
-ghost use Rattle.motion_kernel.specs.Laws.{KeepsLaws};
+ghost use Rattle.motion_kernel.specs.kept.Machine.{AreWhole};
 ghost use Rattle.motion_kernel.specs.Tasks.{live_tasks, quiet_tasks};
 
-use crate::answers::counts_have_32_bits;
-use crate::calls::call_block;
-use crate::cycling::{Aside, cycle_machine};
-use crate::history_laws::histories_keep_their_laws;
+use crate::block_calls::call_block;
+use crate::drive_answers::counts_have_32_bits;
 use crate::laws::machines_stay_kept;
 use crate::layout::Layout;
+use crate::machine_cycle::{Aside, cycle_machine};
 use crate::opening::open_parts;
 use crate::parts::Parts;
 use crate::tasks::TaskMarks;
@@ -62,7 +62,7 @@ impl Model for Kernel {
 
     ghost Value = { KernelState };
 
-    ghost use Rattle.motion_kernel.specs.KernelKept.{told_of, IsKernelKept};
+    ghost use Rattle.motion_kernel.specs.kept.Kernel.{told_of, IsKernelKept};
 
     ghost view = { told_of };
 
@@ -74,6 +74,7 @@ impl Kernel {
     pub fn open(alloc: Global, config: Config) -> Result<Kernel, OpenFault>
         ensures { IfOk result (λ k. k ≡ record { config = config; history = []; stopped = false }) }
     {
+        // law: what always holds of a machine holds at opening
         machines_stay_kept();
         let layout = Layout::open(alloc, config)?;
         let parts = open_parts(alloc, &layout)?;
@@ -100,6 +101,7 @@ impl Kernel {
           history = self.old.history ++ call instance inputs.now result ∷ [];
         } }
     {
+        // law: it holds after a call
         cycles_add_up();
         machines_stay_kept();
         configurations_are_sound();
@@ -125,6 +127,7 @@ impl Kernel {
               (cycled self.old.config (state_of self.old) ins.now).groups ∷ [];
         } }
     {
+        // law: it holds after a cycle, since the counts have 32 bits
         cycles_add_up();
         machines_stay_kept();
         counts_have_32_bits(ins);
@@ -147,6 +150,7 @@ impl Kernel {
         requires task { task < length self.old.config.tasks }
         ensures { self.new ≡ record self.old { history = self.old.history ++ end_of task ∷ [] } }
     {
+        // law: the cycles of a history add up
         cycles_add_up();
         self.history.record_end(task);
         self.tasks.end(task);
@@ -202,9 +206,9 @@ impl Kernel {
     pub fn history(&self) -> &History
         ensures entries { result.now.entries ≡ self.now.history }
         ensures legal { IsLegal self.now.config self.now.history }
-        ensures laws { KeepsLaws self.now.config self.now.history }
+        ensures setup { IsSetup self.now.config }
+        ensures whole { AreWhole self.now.config }
     {
-        histories_keep_their_laws();
         &self.history
     }
 }

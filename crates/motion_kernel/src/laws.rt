@@ -7,11 +7,12 @@ ghost use Rattle.fb_outputs.specs.declared.inputs.Inputs.{Inputs};
 ghost use Rattle.motion_history.specs.Calls.{IsCall};
 ghost use Rattle.motion_history.specs.Setup.{Setup, IsSetup};
 ghost use Rattle.motion_history.specs.declared.config.BlockDef.{BlockDef};
-ghost use Rattle.motion_kernel.specs.Calls.{after_call, called, with_execute};
-ghost use Rattle.motion_kernel.specs.Cycles.{after_cycle, answer_at, around_in, stepped_in};
+ghost use Rattle.motion_kernel.specs.calls.Calls.{after_call, called, with_execute};
+ghost use Rattle.motion_kernel.specs.cycles.Cycles.{after_cycle, around_in, stepped_in};
+ghost use Rattle.motion_kernel.specs.looks.DriveAnswers.{answer_at};
 ghost use Rattle.motion_kernel.specs.Machine.{Machine, machine_at_opening};
-ghost use Rattle.motion_kernel.specs.MachineKept.{AreWhole, IsMachineKept};
-ghost use Rattle.motion_kernel.specs.Ready.{MayCall, MayGoOn, MayStep};
+ghost use Rattle.motion_kernel.specs.kept.Machine.{AreWhole, IsMachineKept};
+ghost use Rattle.motion_kernel.specs.kept.Ready.{MayCall, MayGoOn, MayStep};
 
 use axis_core::{
     axes_keep_their_definitions, axes_stay_kept, held_axes_take_no_command,

@@ -4,12 +4,12 @@
 ghost use Rattle.std.specs.Prelude.{◌≡◌, ◌<◌, ◌≤◌, ℕ, IfOk, IfSome, length};
 ghost use Rattle.motion_history.specs.Setup.{IsSetup};
 ghost use Rattle.std.specs.List.{AllByRecursion};
-ghost use Rattle.motion_kernel.specs.Finders.{finders_of};
-ghost use Rattle.motion_kernel.specs.Laid.{AreMemberships};
-ghost use Rattle.motion_kernel.specs.Members.{member_at, members_at, membership_of};
+ghost use Rattle.motion_kernel.specs.cycles.Finders.{finders_of};
+ghost use Rattle.motion_kernel.specs.members.Laid.{AreMemberships};
+ghost use Rattle.motion_kernel.specs.members.Members.{member_at, members_at, membership_of};
 
 use crate::finders::finders_in;
-use crate::members::{Membership, membership_of};
+use crate::memberships::{Membership, membership_of};
 use motion_history::{BlockDef, CamTable, Config, configurations_are_sound};
 use std::alloc::{AllocError, Global};
 use std::marker::Model;
@@ -28,7 +28,7 @@ impl Model for Layout {
 
     ghost Value = { Setup };
 
-    ghost use Rattle.motion_kernel.specs.Laid.{IsLaid};
+    ghost use Rattle.motion_kernel.specs.members.Laid.{IsLaid};
 
     ghost view = { λ l. l.config };
 
@@ -90,7 +90,7 @@ impl Layout {
     }
 
     /// Where an axis stands in its group, if it is in one.
-    #[tactic(auto, using(crate::proofs::Memberships::group_there))]
+    #[tactic(auto, using(crate::proofs::members::Laid::group_there))]
     pub fn membership(&self, axis: u8) -> Option<Membership>
         requires { axis < length self.now.axes }
         ensures at { result ≡ membership_of self.now axis }
@@ -100,7 +100,7 @@ impl Layout {
     }
 
     /// The instances that find something at a cycle's end.
-    #[tactic(auto, using(crate::proofs::FinderLaws::finders_there))]
+    #[tactic(auto, using(crate::proofs::cycles::Finders::finders_there))]
     pub fn finders(&self) -> &[u16]
         ensures finders { result.now ≡ finders_of self.now }
         ensures there { AllByRecursion (λ (k : ℕ). k < length self.now.blocks) result.now }

@@ -2,7 +2,7 @@
 
 ghost use Rattle.std.specs.Prelude.{◌≡◌, slice_index_or, []};
 ghost use Rattle.axis_core.specs.Kept.{IsNear};
-ghost use Rattle.motion_kernel.specs.Cycles as spec;
+ghost use Rattle.motion_kernel.specs.looks.Masters as spec;
 
 use command_pool::Follow;
 use follow_plan::cam_position;

@@ -8,7 +8,7 @@ ghost use Rattle.motion_history.specs.Members.{members_of};
 ghost use Rattle.motion_history.specs.Setup.{IsSetup};
 ghost use Rattle.motion_history.specs.declared.config.GroupDef.{GroupDef};
 ghost use Rattle.motion_kernel.specs.Machine as machine;
-ghost use Rattle.motion_kernel.specs.MachineKept.{AreWhole};
+ghost use Rattle.motion_kernel.specs.kept.Machine.{AreWhole};
 ghost use Rattle.motion_kernel.specs.Seen.{machine_of, placed};
 
 use crate::layout::Layout;

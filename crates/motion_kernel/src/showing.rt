@@ -2,10 +2,10 @@
 
 ghost use Rattle.std.specs.Prelude.{◌≡◌, ◌<◌, length, map, Some, if◌then◌else◌};
 ghost use Rattle.command_pool.specs.Kinds.{acts_on_group};
-ghost use Rattle.motion_kernel.specs.Cycles as spec;
-ghost use Rattle.motion_kernel.specs.MachineKept.{IsSized};
+ghost use Rattle.motion_kernel.specs.cycles.Showing as spec;
+ghost use Rattle.motion_kernel.specs.kept.Machine.{IsSized};
 ghost use Rattle.motion_kernel.specs.Seen.{machine_of, placed};
-ghost use Rattle.motion_kernel.specs.Telling as telling;
+ghost use Rattle.motion_kernel.specs.calls.Telling as telling;
 
 use crate::layout::Layout;
 use crate::parts::Parts;
@@ -147,7 +147,7 @@ fn show_owners(parts: &mut Parts)
 }
 
 /// The instances are told what the cycle found.
-#[tactic(auto, unfolding(crate::specs::Cycles::with_found))]
+#[tactic(auto, unfolding(crate::specs::cycles::Showing::with_found))]
 pub fn show_cycle(layout: &Layout, parts: &mut Parts)
     requires { IsSized layout.now (machine_of parts.old) }
     ensures { machine_of parts.new ≡ spec.with_found layout.now (machine_of parts.old) }

@@ -2,7 +2,7 @@
 
 ghost use Rattle.std.specs.Prelude.{◌≡◌, length};
 ghost use Rattle.motion_kernel.specs.Seen.{machine_of};
-ghost use Rattle.motion_kernel.specs.Telling as spec;
+ghost use Rattle.motion_kernel.specs.calls.Telling as spec;
 
 use crate::parts::Parts;
 use command_pool::{Finish, Note, Notes};

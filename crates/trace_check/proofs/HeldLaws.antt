@@ -21,7 +21,7 @@ use Rattle.motion_history.specs.declared.sizes.TheConstants.{MOST_MEMBERS}
 use Rattle.motion_numbers.specs.declared.TheConstants.{MOST_INCREMENT, MOST_PLACE}
 use Rattle.motion_kernel.specs.Counted.{IsCounted, RowsAreCounted}
 use Rattle.motion_kernel.specs.Histories.{IsLegal}
-use Rattle.motion_kernel.specs.MachineKept.{AreWhole}
+use Rattle.motion_kernel.specs.kept.Machine.{AreWhole}
 use Rattle.trace_text.specs.RowRanges.{IsGroupRow, IsReported, IsRow, found_row}
 use Rattle.trace_text.specs.TraceKept.{IsEntryRead, IsRowRead, IsTraceKept}
 use Rattle.trace_text.specs.TraceState.{TraceState}

@@ -4,7 +4,7 @@ use Rattle.motion_history.specs.Entries.{Entry, call, cycle, cycle_count, end_of
 use Rattle.motion_history.specs.Setup.{Setup}
 use Rattle.motion_history.specs.declared.refused.TraceVersion.{TraceVersion}
 use Rattle.motion_history.specs.declared.refused.TraceVersion.TheVariants.{Two}
-use Rattle.motion_kernel.specs.Cycles.{cycled}
+use Rattle.motion_kernel.specs.cycles.Cycles.{cycled}
 use Rattle.motion_kernel.specs.Histories.{Follows, IsOf, after, inputs_of}
 use Rattle.motion_kernel.specs.Machine.{Machine, machine_at_opening}
 use Rattle.trace_text.specs.ReadBack.{TextsTellTraces, TracesAreReadBack}

@@ -4,8 +4,8 @@ use Rattle.cia402_machine.specs.declared.drive.DriveIn.{DriveIn}
 use Rattle.motion_history.specs.Entries.{Entry, call, cycle, cycles_of, end_of}
 use Rattle.motion_history.specs.Setup.{Setup}
 use Rattle.motion_history.specs.declared.refused.TraceVersion.{TraceVersion}
-use Rattle.motion_kernel.specs.Calls.{reply_of}
-use Rattle.motion_kernel.specs.Cycles.{cycled}
+use Rattle.motion_kernel.specs.calls.Calls.{reply_of}
+use Rattle.motion_kernel.specs.cycles.Cycles.{cycled}
 use Rattle.motion_kernel.specs.Histories.{inputs_of, machine_after}
 use Rattle.trace_text.specs.Trace.{drive_records, entry_records}
 use Rattle.trace_text.specs.TraceState.{TraceState, entries_of}

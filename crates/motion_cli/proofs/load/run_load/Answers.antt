@@ -22,5 +22,5 @@ returns g c =
     let history = c.history-history in
     load-ended c.args.seed _ ran.kernel ran.drives.items ran.ending history.result.now.entries _ _ _ c.in-Ok.ensures
     c.in-Ok-run.ensures.made c.in-Ok-run.ensures.config history.ensures.entries history.ensures.legal
-    history.ensures.laws
+    (c.histories_keep_their_laws.ensures _ _ history.ensures.setup history.ensures.whole history.ensures.legal)
     (said c.parts_are_beginnings.ensures.none _ _ _ _ _ _ c.load_line.ensures c.say.ensures)

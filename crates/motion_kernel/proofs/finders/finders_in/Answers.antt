@@ -1,9 +1,9 @@
 -- One block after another is looked at.
 use Rattle.std.proofs.Common.{◌≡◌, ◌∙◌, ap, sym, arith, length, Some, ◌<◌}
 use Rattle.std.specs.Prelude.{slice_get, slice_index_or}
-use Rattle.motion_kernel.specs.Finders.{finders_among, with_finder, with_finder_of}
-use Rattle.motion_kernel.proofs.FinderLaws.{finders_more, finders_none}
-use Rattle.motion_kernel.proofs.MemberLaws.{stands}
+use Rattle.motion_kernel.specs.cycles.Finders.{finders_among, with_finder, with_finder_of}
+use Rattle.motion_kernel.proofs.cycles.Finders.{finders_more, finders_none}
+use Rattle.motion_kernel.proofs.members.Members.{stands}
 use Rattle.motion_kernel.proofs.finders.finders_in.Goals as goal
 
 pub loop-instance-init : goal.loop-instance-init

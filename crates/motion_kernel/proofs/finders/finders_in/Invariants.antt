@@ -1,5 +1,5 @@
 use Rattle.std.proofs.Common.{◌≡◌}
-use Rattle.motion_kernel.specs.Finders.{finders_among}
+use Rattle.motion_kernel.specs.cycles.Finders.{finders_among}
 use Rattle.motion_kernel.proofs.finders.finders_in.Given as goal
 
 abbrev pub invariant-loop-instance : goal.invariant-loop-instance

@@ -1,11 +1,11 @@
 -- A machine stays kept by the laws of its axes and groups.
-use Rattle.motion_kernel.proofs.CallMay.{may_call}
-use Rattle.motion_kernel.proofs.KeptAxisCycles.{CycleLaws}
-use Rattle.motion_kernel.proofs.KeptCalls.{CallLaws, call_kept, called_kept}
-use Rattle.motion_kernel.proofs.KeptCycles.{cycle_kept, may_cycle}
-use Rattle.motion_kernel.proofs.KeptLaws.{AxesKeepDefinitions, AxesStayKept, AxesStayLed, GroupsComeAlive, GroupsKeepAxes, GroupsStayKept, MembersKeepLimits, PathsChange}
-use Rattle.motion_kernel.proofs.KeptOpening.{opening_kept}
-use Rattle.motion_kernel.proofs.KeptSteps.{may_step}
+use Rattle.motion_kernel.proofs.kept.MayCall.{may_call}
+use Rattle.motion_kernel.proofs.kept.AxisCycles.{CycleLaws}
+use Rattle.motion_kernel.proofs.kept.Calls.{CallLaws, call_kept, called_kept}
+use Rattle.motion_kernel.proofs.kept.Cycles.{cycle_kept, may_cycle}
+use Rattle.motion_kernel.proofs.kept.Laws.{AxesKeepDefinitions, AxesStayKept, AxesStayLed, GroupsComeAlive, GroupsKeepAxes, GroupsStayKept, MembersKeepLimits, PathsChange}
+use Rattle.motion_kernel.proofs.kept.Opening.{opening_kept}
+use Rattle.motion_kernel.proofs.kept.GroupSteps.{may_step}
 use Rattle.motion_kernel.proofs.laws.machines_stay_kept.Goals as goal
 
 axes : (c : goal.After-cam_positions_lie_between_points) → AxesStayKept

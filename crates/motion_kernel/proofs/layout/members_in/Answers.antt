@@ -2,7 +2,7 @@
 use Rattle.std.proofs.Common.{◌≡◌, ◌∙◌, ap, sym}
 use Rattle.std.specs.Prelude.{length, slice_index_or}
 use Rattle.motion_history.specs.Members.{IsGroup}
-use Rattle.motion_kernel.proofs.MemberLaws.{few_members, is_group, members_are_axes, members_there}
+use Rattle.motion_kernel.proofs.members.Members.{few_members, is_group, members_are_axes, members_there}
 use Rattle.motion_kernel.proofs.layout.members_in.Goals as goal
 
 found : (c : goal.After-members) → slice_index_or c.args.config.now.groups c.args.group c.index-groups-group.result ≡ c.index-groups-group.result

@@ -1,8 +1,8 @@
 -- One axis after another is looked for.
 use Rattle.std.proofs.Common.{◌≡◌, ◌∙◌, ap, ◌∷◌, [], ◌++◌, Option}
-use Rattle.motion_kernel.specs.declared.members.Membership.{Membership}
-use Rattle.motion_kernel.specs.Members.{membership_from, membership_of}
-use Rattle.motion_kernel.proofs.Memberships.{found_more}
+use Rattle.motion_kernel.specs.declared.memberships.Membership.{Membership}
+use Rattle.motion_kernel.specs.members.Members.{membership_from, membership_of}
+use Rattle.motion_kernel.proofs.members.Laid.{found_more}
 use Rattle.motion_kernel.proofs.layout.memberships_in.Goals as goal
 
 pub loop-axis-preserved : goal.loop-axis-preserved

@@ -1,4 +1,4 @@
-use Rattle.motion_kernel.specs.Laid.{AreMemberships}
+use Rattle.motion_kernel.specs.members.Laid.{AreMemberships}
 use Rattle.motion_kernel.proofs.layout.memberships_in.Given as goal
 
 abbrev pub invariant-loop-axis : goal.invariant-loop-axis

@@ -2,7 +2,7 @@
 use Rattle.std.proofs.Common.{◌≡◌, ◌∙◌, ap, arith, w64, FitsSigned, to_z-of_z, [], slice_index_or}
 use Rattle.std.proofs.lemmas.Int.{ints}
 use Rattle.follow_plan.specs.Cam.{cam_position_of}
-use Rattle.motion_kernel.specs.Cycles.{cam_master, is_past, last_point}
+use Rattle.motion_kernel.specs.looks.Masters.{cam_master, is_past, last_point}
 use Rattle.motion_kernel.proofs.masters.cam_master.Goals as goal
 
 pub returns-in-Some-clause-master : goal.returns-in-Some-clause-master

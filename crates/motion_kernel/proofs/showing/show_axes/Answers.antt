@@ -1,9 +1,9 @@
 -- One axis's owner after another is told.
 use Rattle.std.proofs.Common.{◌∙◌, sym, arith}
 use Rattle.std.proofs.lemmas.List.{get_or_default}
-use Rattle.motion_kernel.specs.Cycles.{axis_shown}
+use Rattle.motion_kernel.specs.cycles.Showing.{axis_shown}
 use Rattle.motion_kernel.specs.Machine.{no_axis}
-use Rattle.motion_kernel.proofs.CycleSteps.{shown_more, shown_none}
+use Rattle.motion_kernel.proofs.cycles.Steps.{shown_more, shown_none}
 use Rattle.motion_kernel.proofs.showing.show_axes.Goals as goal
 
 pub loop-axis-init : goal.loop-axis-init

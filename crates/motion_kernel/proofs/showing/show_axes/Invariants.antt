@@ -1,5 +1,5 @@
 use Rattle.std.proofs.Common.{◌≡◌, length}
-use Rattle.motion_kernel.specs.Cycles as spec
+use Rattle.motion_kernel.specs.cycles.Showing as spec
 use Rattle.motion_kernel.proofs.showing.show_axes.Given as goal
 
 abbrev pub invariant-loop-axis : goal.invariant-loop-axis

@@ -1,9 +1,9 @@
 -- One group's owner after another is told.
 use Rattle.std.proofs.Common.{◌∙◌, ap, sym, arith, map}
-use Rattle.motion_kernel.specs.Cycles.{group_shown}
+use Rattle.motion_kernel.specs.cycles.Showing.{group_shown}
 use Rattle.motion_kernel.specs.Seen.{placed}
-use Rattle.motion_kernel.proofs.CycleSteps.{led_more, led_none}
-use Rattle.motion_kernel.proofs.LookLaws.{group_here}
+use Rattle.motion_kernel.proofs.cycles.Steps.{led_more, led_none}
+use Rattle.motion_kernel.proofs.looks.GroupLooks.{group_here}
 use Rattle.motion_kernel.proofs.showing.show_groups.Goals as goal
 
 pub loop-group-init : goal.loop-group-init

@@ -1,5 +1,5 @@
 use Rattle.std.proofs.Common.{◌≡◌, length, map}
-use Rattle.motion_kernel.specs.Cycles as spec
+use Rattle.motion_kernel.specs.cycles.Showing as spec
 use Rattle.motion_kernel.specs.Seen.{placed}
 use Rattle.motion_kernel.proofs.showing.show_groups.Given as goal
 

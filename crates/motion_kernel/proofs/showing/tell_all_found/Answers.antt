@@ -3,11 +3,11 @@ use Rattle.std.proofs.Common.{◌≡◌, ◌∙◌, ap, sym, arith, length, Some
 use Rattle.std.specs.Prelude.{slice_get, slice_index_or}
 use Rattle.std.proofs.lemmas.List.{take_all, take_more}
 use Rattle.motion_history.specs.Setup.{Setup}
-use Rattle.motion_kernel.specs.Cycles.{instance_found, instances_found}
+use Rattle.motion_kernel.specs.cycles.Showing.{instance_found, instances_found}
 use Rattle.motion_kernel.specs.Seen.{machine_of}
-use Rattle.motion_kernel.proofs.FinderLaws.{told_all, told_by, told_more, told_none}
-use Rattle.motion_kernel.proofs.MemberLaws.{each_of, stands}
-use Rattle.motion_kernel.proofs.SizeLaws.{sized_found}
+use Rattle.motion_kernel.proofs.cycles.Finders.{told_all, told_by, told_more, told_none}
+use Rattle.motion_kernel.proofs.members.Members.{each_of, stands}
+use Rattle.motion_kernel.proofs.Sizes.{sized_found}
 use Rattle.motion_kernel.proofs.showing.tell_all_found.Goals as goal
 
 pub loop-instance-init : goal.loop-instance-init

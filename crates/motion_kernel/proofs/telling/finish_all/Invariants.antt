@@ -1,5 +1,5 @@
 use Rattle.std.proofs.Common.{◌≡◌, drop, length}
-use Rattle.motion_kernel.specs.Telling as spec
+use Rattle.motion_kernel.specs.calls.Telling as spec
 use Rattle.motion_kernel.proofs.telling.finish_all.Given as goal
 
 abbrev pub invariant-loop-note : goal.invariant-loop-note

@@ -5,10 +5,10 @@ use Rattle.std.specs.Prelude.{refl}
 use Rattle.motion_history.specs.Calls.{IsCall}
 use Rattle.motion_history.specs.Entries.{call}
 use Rattle.motion_kernel.specs.KernelState.{KernelState, room_of}
-use Rattle.motion_kernel.specs.MachineKept.{IsMachineKept}
+use Rattle.motion_kernel.specs.kept.Machine.{IsMachineKept}
 use Rattle.motion_kernel.specs.Seen.{machine_of}
-use Rattle.motion_kernel.proofs.KernelLaws.{has_room, kernel_more}
-use Rattle.motion_kernel.proofs.MarkLaws.{marked_by_task, task_fits}
+use Rattle.motion_kernel.proofs.kept.Kernel.{has_room, kernel_more}
+use Rattle.motion_kernel.proofs.Marked.{marked_by_task, task_fits}
 use Rattle.motion_kernel.proofs.kernel.Kernel.call.Goals as goal
 
 pub call_block-reply-requires-clause-may : goal.call_block-reply-requires-clause-may

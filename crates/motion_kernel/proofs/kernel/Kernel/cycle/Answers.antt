@@ -2,15 +2,16 @@
 use Rattle.std.proofs.Common.{◌≡◌, ◌∙◌, ap, sym, arith, subst, length, ◌<◌, ◌+◌, ◌++◌, ◌∷◌, []}
 use Rattle.std.specs.Prelude.{refl}
 use Rattle.motion_history.specs.Entries.{HistoryState, cycle, cycles_of}
-use Rattle.motion_kernel.specs.Cycles.{cycled, no_answer}
+use Rattle.motion_kernel.specs.cycles.Cycles.{cycled}
+use Rattle.motion_kernel.specs.looks.DriveAnswers.{no_answer}
 use Rattle.motion_kernel.specs.Histories.{after}
 use Rattle.motion_kernel.specs.KernelState.{KernelState, room_of}
-use Rattle.motion_kernel.specs.MachineKept.{IsMachineKept}
+use Rattle.motion_kernel.specs.kept.Machine.{IsMachineKept}
 use Rattle.motion_kernel.specs.Seen.{machine_of}
-use Rattle.motion_kernel.proofs.CycleEntries.{after_is, is_cycle}
-use Rattle.motion_kernel.proofs.CycleRows.{grow_count, row_count, row_inputs}
-use Rattle.motion_kernel.proofs.KernelLaws.{has_room, kernel_more}
-use Rattle.motion_kernel.proofs.MarkLaws.{marked_cycled}
+use Rattle.motion_kernel.proofs.cycles.Entries.{after_is, is_cycle}
+use Rattle.motion_kernel.proofs.cycles.Rows.{grow_count, row_count, row_inputs}
+use Rattle.motion_kernel.proofs.kept.Kernel.{has_room, kernel_more}
+use Rattle.motion_kernel.proofs.Marked.{marked_cycled}
 use Rattle.motion_kernel.proofs.kernel.Kernel.cycle.Goals as goal
 
 pub cycle_machine-requires-clause-step : goal.cycle_machine-requires-clause-step

@@ -3,8 +3,8 @@ use Rattle.std.proofs.Common.{sym, arith, subst, length, ◌<◌}
 use Rattle.std.specs.Prelude.{refl}
 use Rattle.motion_history.specs.Entries.{end_of}
 use Rattle.motion_kernel.specs.KernelState.{KernelState, room_of}
-use Rattle.motion_kernel.proofs.KernelLaws.{has_room, kernel_more}
-use Rattle.motion_kernel.proofs.MarkLaws.{marked_ended}
+use Rattle.motion_kernel.proofs.kept.Kernel.{has_room, kernel_more}
+use Rattle.motion_kernel.proofs.Marked.{marked_ended}
 use Rattle.motion_kernel.proofs.kernel.Kernel.end.Goals as goal
 
 pub invariant_of-self : goal.invariant_of-self

@@ -5,7 +5,7 @@ use Rattle.motion_history.specs.Setup.{Setup}
 use Rattle.motion_kernel.specs.KernelState.{KernelState}
 use Rattle.motion_kernel.specs.Marked.{is_live}
 use Rattle.motion_kernel.specs.Tasks.{live_tasks}
-use Rattle.motion_kernel.proofs.MarkLaws.{lives_counted}
+use Rattle.motion_kernel.proofs.Marked.{lives_counted}
 use Rattle.motion_kernel.proofs.kernel.Kernel.live_tasks.Goals as goal
 
 pub returns : goal.returns

@@ -1,8 +1,8 @@
 -- The kernel stands at its opening.
 use Rattle.std.proofs.Common.{◌∙◌, ap, length, []}
 use Rattle.motion_history.specs.Setup.{Setup, IsSetup}
-use Rattle.motion_kernel.proofs.KernelLaws.{kernel_opened}
-use Rattle.motion_kernel.proofs.MarkLaws.{marked_opened}
+use Rattle.motion_kernel.proofs.kept.Kernel.{kernel_opened}
+use Rattle.motion_kernel.proofs.Marked.{marked_opened}
 use Rattle.motion_kernel.proofs.kernel.Kernel.open.Goals as goal
 
 pub invariant_of-result : goal.invariant_of-result

@@ -5,7 +5,7 @@ use Rattle.motion_history.specs.Setup.{Setup}
 use Rattle.motion_kernel.specs.KernelState.{KernelState}
 use Rattle.motion_kernel.specs.Marked.{is_still}
 use Rattle.motion_kernel.specs.Tasks.{quiet_tasks}
-use Rattle.motion_kernel.proofs.MarkLaws.{quiet_counted}
+use Rattle.motion_kernel.proofs.Marked.{quiet_counted}
 use Rattle.motion_kernel.proofs.kernel.Kernel.quiet_tasks.Goals as goal
 
 pub returns : goal.returns

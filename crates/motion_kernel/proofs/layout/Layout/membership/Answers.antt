@@ -1,5 +1,5 @@
 -- The group of an axis is there.
-use Rattle.motion_kernel.proofs.Memberships.{group_there}
+use Rattle.motion_kernel.proofs.members.Laid.{group_there}
 use Rattle.motion_kernel.proofs.layout.Layout.membership.Goals as goal
 
 pub returns-clause-there : goal.returns-clause-there

@@ -1,9 +1,0 @@
-use Rattle.std.proofs.Common.{ℕ, ◌<◌, slice_index_or}
-use Rattle.axis_state.specs.Counts.{IsCount}
-use Rattle.cia402_machine.specs.declared.drive.DriveIn.{DriveIn}
-use Rattle.motion_kernel.proofs.answers.counts_have_32_bits.Given as goal
-
-abbrev pub invariant-loop-input : goal.invariant-loop-input
-invariant-loop-input l = record {
-  counts : (k : ℕ) (d : DriveIn) → k < l.input-index → IsCount (slice_index_or l.ins k d).actual;
-}

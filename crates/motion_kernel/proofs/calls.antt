@@ -1,0 +1,3 @@
+-- What a block call makes of the machine.
+pub mod Leading
+pub mod AxesLeft

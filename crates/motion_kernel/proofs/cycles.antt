@@ -1,0 +1,6 @@
+-- What a cycle makes of the machine.
+pub mod Steps
+pub mod Rows
+pub mod Entries
+pub mod Finders
+pub mod OneAxis

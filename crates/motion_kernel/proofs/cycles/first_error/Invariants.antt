@@ -1,8 +1,0 @@
-use Rattle.std.proofs.Common.{◌≡◌, drop}
-use Rattle.motion_kernel.specs.Cycles as spec
-use Rattle.motion_kernel.proofs.cycles.first_error.Given as goal
-
-abbrev pub invariant-loop-axis : goal.invariant-loop-axis
-invariant-loop-axis l = record {
-  rest : spec.first_error l.axes l.ins l.members ≡ spec.first_error l.axes l.ins (drop l.axis-index l.members);
-}

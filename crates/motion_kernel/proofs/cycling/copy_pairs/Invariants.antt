@@ -1,9 +1,0 @@
-use Rattle.std.proofs.Common.{◌≡◌, length, take, map}
-use Rattle.motion_kernel.specs.Cycles as spec
-use Rattle.motion_kernel.proofs.cycling.copy_pairs.Given as goal
-
-abbrev pub invariant-loop-i : goal.invariant-loop-i
-invariant-loop-i l = record {
-  copied : take l.i l.pairs ≡ map spec.pair_of (take l.i l.axes);
-  long : length l.pairs ≡ length l.fn.pairs;
-}

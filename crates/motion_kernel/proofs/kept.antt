@@ -1,0 +1,25 @@
+-- What always holds of the machine stays so.
+pub mod Laws
+pub mod Opening
+pub mod Events
+pub mod Ready
+pub mod MadeCommands
+pub mod Detached
+pub mod AxisCalls
+pub mod LedAxes
+pub mod Standstill
+pub mod GroupCommands
+pub mod AxesUnled
+pub mod AxesEnter
+pub mod AxesLeave
+pub mod GroupCalls
+pub mod MayCall
+pub mod Calls
+pub mod GroupSteps
+pub mod AxisLooks
+pub mod AxisCycles
+pub mod GroupsAndAxes
+pub mod GroupResets
+pub mod Cycles
+pub mod Machine
+pub mod Kernel

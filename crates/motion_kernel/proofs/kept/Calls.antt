@@ -1,0 +1,119 @@
+-- A machine stays kept by a call.
+use Rattle.std.specs.Prelude.{◌≡◌, refl, ℕ, ◌<◌, true, false, Option, Some, None, length, slice_get, slice_index_or, if◌then◌else◌}
+use Rattle.std.proofs.Common.{arith, ap, sym, subst, ◌∙◌, inl, inr}
+use Rattle.std.proofs.lemmas.Bool.{cases_Bool}
+use Rattle.std.proofs.lemmas.List.Elements.{All-get_or}
+use Rattle.command_pool.specs.Kinds.{acts_on_group}
+use Rattle.command_pool.specs.declared.kind.BlockKind.{BlockKind}
+use Rattle.command_pool.specs.declared.kind.BlockKind.TheVariants as kind
+use Rattle.fb_outputs.specs.Steps.{edge_of, is_power}
+use Rattle.fb_outputs.specs.declared.inputs.Inputs.{Inputs}
+use Rattle.fb_outputs.specs.declared.instance.Edge.{Edge}
+use Rattle.fb_outputs.specs.declared.instance.Edge.TheVariants as edge
+use Rattle.motion_history.specs.Calls.{IsCall}
+use Rattle.motion_history.specs.Configurations.{IsBlock}
+use Rattle.motion_history.specs.Setup.{Setup, IsSetup}
+use Rattle.motion_history.specs.declared.config.BlockDef.{BlockDef}
+use Rattle.motion_kernel.specs.calls.Calls.{after_asking, after_axis_command, after_call, after_edge, after_group_command, after_rising, called, called_where, without_owner}
+use Rattle.motion_kernel.specs.Machine.{Machine, group_at, instance_at}
+use Rattle.motion_kernel.specs.kept.Machine.{AreWhole, IsMachineKept}
+use Rattle.motion_kernel.proofs.kept.AxisCalls.{PowerLaws, axis_command_kept, power_kept}
+use Rattle.motion_kernel.proofs.kept.Events.{instance_kept}
+use Rattle.motion_kernel.proofs.kept.GroupCommands.{CommandLaws}
+use Rattle.motion_kernel.proofs.kept.GroupCalls.{group_command_kept}
+use Rattle.motion_kernel.proofs.kept.Laws.{AxesKeepDefinitions, AxesStayKept, AxesStayLed, ConfigurationsAreSound, GroupsComeAlive, GroupsKeepAxes, GroupsStayKept, HeldTakeNoCommand, MembersKeepLimits, PathsChange}
+use Rattle.motion_kernel.proofs.Lists.{get_is}
+use Rattle.motion_kernel.proofs.kept.MadeCommands.{axis_made, group_made}
+use Rattle.motion_kernel.proofs.kept.Detached.{disowned_kept}
+
+-- the laws on which a call rests
+pub record CallLaws : Type 0 where
+  pub sound : ConfigurationsAreSound
+  pub axes : AxesStayKept
+  pub definitions : AxesKeepDefinitions
+  pub held : HeldTakeNoCommand
+  pub led : AxesStayLed
+  pub groups : GroupsStayKept
+  pub counts : GroupsKeepAxes
+  pub alive : GroupsComeAlive
+  pub members : MembersKeepLimits
+  pub paths : PathsChange
+
+abbrev power_laws : CallLaws → PowerLaws
+power_laws l = record { kept = l.axes; definitions = l.definitions; groups = l.groups; counts = l.counts; alive = l.alive; members = l.members }
+
+abbrev pub command_laws : CallLaws → CommandLaws
+command_laws l = record { axes = l.axes; groups = l.groups; counts = l.counts; alive = l.alive; members = l.members; paths = l.paths }
+
+-- the object of a block is there
+pub object_of : ConfigurationsAreSound → (s : Setup) (k : ℕ) (b : BlockDef) → IsSetup s → k < length s.blocks → slice_get s.blocks k ≡ Some b → IsBlock s b
+object_of sound s k b setup l at =
+    let is : Some b ≡ Some (slice_index_or s.blocks k b) = sym at ∙ get_is s.blocks k b l in
+    let same : slice_index_or s.blocks k b ≡ b = cc in
+    subst (IsBlock s) same (All-get_or (IsBlock s) s.blocks k b l (sound s setup).blocks)
+
+pub axis_object : ConfigurationsAreSound → (s : Setup) (k : ℕ) (b : BlockDef) → IsSetup s → k < length s.blocks → slice_get s.blocks k ≡ Some b →
+    acts_on_group b.kind ≡ false → b.object < length s.axes
+axis_object sound s k b setup l at e =
+    subst (λ x. b.object < (if x then length s.groups else length s.axes)) e (object_of sound s k b setup l at).object
+
+pub group_object : ConfigurationsAreSound → (s : Setup) (k : ℕ) (b : BlockDef) → IsSetup s → k < length s.blocks → slice_get s.blocks k ≡ Some b →
+    acts_on_group b.kind ≡ true → b.object < length s.groups
+group_object sound s k b setup l at e =
+    subst (λ x. b.object < (if x then length s.groups else length s.axes)) e (object_of sound s k b setup l at).object
+
+rising_kept : CallLaws → (s : Setup) (k : ℕ) (b : BlockDef) (i : Inputs) (m : Machine) → AreWhole s → slice_get s.blocks k ≡ Some b → IsCall s k i →
+    is_power b.kind ≡ false → IsMachineKept s m → IsMachineKept s (after_rising s k b i m)
+rising_kept laws s k b i m whole at call other h =
+    let free = without_owner k m in
+    let kept = disowned_kept laws.axes laws.definitions laws.groups laws.counts s k m h in
+    let sizes = kept.sized in
+    let axes = sizes.axes in
+    let groups = sizes.groups in
+    elim (cases_Bool (acts_on_group b.kind)) [
+      | inl on ↦
+          let there = group_object laws.sound s k b sizes.setup call.there at on in
+          let l : b.object < length free.groups = omega arith in
+          let made = group_made s k b i (group_at free b.object).group.axes whole at call on there (kept.groups b.object l).count in
+          let one = group_command_kept (command_laws laws) s k b.object b.kind i free kept l made in
+          subst (λ x. IsMachineKept s (if x then after_group_command s k b.object b.kind i free else after_axis_command s k b.object b.kind i free)) (sym on) one
+      | inr off ↦
+          let there = axis_object laws.sound s k b sizes.setup call.there at off in
+          let l : b.object < length free.axes = omega arith in
+          let one = axis_command_kept laws.axes laws.definitions laws.held laws.led s k b.object b.kind i free kept l (axis_made s k b i at call off other) in
+          subst (λ x. IsMachineKept s (if x then after_group_command s k b.object b.kind i free else after_axis_command s k b.object b.kind i free)) (sym off) one
+    ]
+
+edge_kept : CallLaws → (s : Setup) (e : Edge) (k : ℕ) (b : BlockDef) (i : Inputs) (m : Machine) → AreWhole s → slice_get s.blocks k ≡ Some b → IsCall s k i →
+    is_power b.kind ≡ false → IsMachineKept s m → IsMachineKept s (after_edge s e k b i m)
+edge_kept laws s edge.Rising k b i m whole at call other h = rising_kept laws s k b i m whole at call other h
+edge_kept laws s edge.High k b i m whole at call other h = h
+edge_kept laws s edge.Falling k b i m whole at call other h = h
+edge_kept laws s edge.Low k b i m whole at call other h = h
+
+power_called : CallLaws → (s : Setup) (k : ℕ) (b : BlockDef) (i : Inputs) (m : Machine) → slice_get s.blocks k ≡ Some b → IsCall s k i →
+    b.kind ≡ kind.Power → IsMachineKept s m → IsMachineKept s (after_asking s kind.Power edge.Low k b i m)
+power_called laws s k b i m at call e h =
+    let sizes = h.sized in
+    let axes = sizes.axes in
+    let there = axis_object laws.sound s k b sizes.setup call.there at (ap acts_on_group e) in
+    power_kept (power_laws laws) s b.object i.execute m h (omega arith)
+
+asking_kept : CallLaws → (s : Setup) (kind : BlockKind) (e : Edge) (k : ℕ) (b : BlockDef) (i : Inputs) (m : Machine) → AreWhole s →
+    slice_get s.blocks k ≡ Some b → IsCall s k i → b.kind ≡ kind → IsMachineKept s m → IsMachineKept s (after_asking s kind e k b i m)
+asking_kept laws s kind.Power e k b i m whole at call is h = power_called laws s k b i m at call is h
+asking_kept laws s _ e k b i m whole at call is h = edge_kept laws s e k b i m whole at call (ap is_power is) h
+
+called_kept_where : CallLaws → (s : Setup) (o : Option BlockDef) (k : ℕ) (i : Inputs) (m : Machine) → AreWhole s → slice_get s.blocks k ≡ o → IsCall s k i →
+    IsMachineKept s m → IsMachineKept s (called_where s o k i m)
+called_kept_where laws s None k i m whole at call h = h
+called_kept_where laws s (Some b) k i m whole at call h =
+    asking_kept laws s b.kind (edge_of (instance_at m.instances k).execute i.execute) k b i _ whole at call refl (instance_kept s m k _ h)
+
+-- a machine is kept by a call, before its reply is shown and after it
+pub called_kept : CallLaws → (s : Setup) (k : ℕ) (i : Inputs) (m : Machine) → AreWhole s → IsCall s k i → IsMachineKept s m → IsMachineKept s (called s k i m)
+unfolding called
+called_kept laws s k i m whole call h = called_kept_where laws s (slice_get s.blocks k) k i m whole refl call h
+
+pub call_kept : CallLaws → (s : Setup) (m : Machine) (k : ℕ) (i : Inputs) → AreWhole s → IsCall s k i → IsMachineKept s m → IsMachineKept s (after_call s m k i)
+call_kept laws s m k i whole call h = instance_kept s (called s k i m) k _ (called_kept laws s k i m whole call h)

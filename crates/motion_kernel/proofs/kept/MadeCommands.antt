@@ -1,0 +1,92 @@
+-- A command that a call makes is made of its inputs.
+use Rattle.std.specs.Prelude.{◌≡◌, refl, ℕ, ◌<◌, pos, true, false, Some, [], length, slice_get, slice_index_or}
+use Rattle.std.proofs.Common.{arith, ap, sym, ◌∙◌}
+use Rattle.axis_core.specs.Demands as axis
+use Rattle.axis_core.specs.Demands.{asked_target, is_axis_command}
+use Rattle.axis_core.specs.Kinds as axis_kinds
+use Rattle.command_pool.specs.Kinds.{acts_on_group}
+use Rattle.command_pool.specs.declared.kind.BlockKind.{BlockKind}
+use Rattle.command_pool.specs.declared.kind.BlockKind.TheVariants as kind
+use Rattle.command_pool.specs.declared.wanted.Wanted.{Wanted}
+use Rattle.fb_outputs.specs.Inputs.{takes}
+use Rattle.fb_outputs.specs.Steps.{is_power}
+use Rattle.fb_outputs.specs.declared.inputs.Input.TheVariants.{Mode}
+use Rattle.fb_outputs.specs.declared.inputs.Inputs.{Inputs}
+use Rattle.group_core.specs.GroupKept as group
+use Rattle.group_core.specs.Kinds as group_kinds
+use Rattle.motion_history.specs.Calls.{IsCall, axes_of, count_in}
+use Rattle.motion_history.specs.Members.{members_of}
+use Rattle.motion_history.specs.Setup.{Setup}
+use Rattle.motion_history.specs.declared.config.BlockDef.{BlockDef}
+use Rattle.motion_history.specs.declared.config.GroupDef.{GroupDef}
+use Rattle.motion_kernel.specs.calls.Asking.{target_of, wanted_of}
+use Rattle.motion_kernel.specs.kept.Machine.{AreWhole}
+use Rattle.motion_kernel.specs.members.Members.{members_at}
+use Rattle.motion_kernel.proofs.Lists.{get_is}
+use Rattle.motion_kernel.proofs.members.Members.{each_of}
+
+axis_kind : (k : BlockKind) → acts_on_group k ≡ false → is_power k ≡ false → is_axis_command k ≡ true
+axis_kind kind.Power g p = absurd (cc)
+axis_kind kind.GroupEnable g p = absurd (cc)
+axis_kind kind.GroupDisable g p = absurd (cc)
+axis_kind kind.GroupReset g p = absurd (cc)
+axis_kind kind.GroupStop g p = absurd (cc)
+axis_kind kind.GroupHalt g p = absurd (cc)
+axis_kind kind.MoveLinearAbsolute g p = absurd (cc)
+axis_kind kind.MoveCircularAbsolute g p = absurd (cc)
+axis_kind _ g p = refl
+
+asked : (k : BlockKind) (w : Wanted) (i : Inputs) → w.targets ≡ i.positions → target_of k i ≡ asked_target k w
+asked kind.Home w i e = ap (λ ts. Some (slice_index_or ts 0 (pos 0))) (sym e)
+asked kind.MoveAbsolute w i e = ap (λ ts. Some (slice_index_or ts 0 (pos 0))) (sym e)
+asked _ w i e = refl
+
+axis_mode : (k : BlockKind) → is_axis_command k ≡ true → axis_kinds.may_wait k ≡ false → takes k Mode ≡ false
+axis_mode kind.Power a h = refl
+axis_mode kind.Reset a h = refl
+axis_mode kind.Home a h = refl
+axis_mode kind.Stop a h = refl
+axis_mode kind.Halt a h = refl
+axis_mode kind.GearOut a h = refl
+axis_mode kind.CamOut a h = refl
+axis_mode _ a h = absurd (cc)
+
+group_mode : (k : BlockKind) → acts_on_group k ≡ true → group_kinds.may_wait k ≡ false → takes k Mode ≡ false
+group_mode kind.GroupEnable a h = refl
+group_mode kind.GroupDisable a h = refl
+group_mode kind.GroupReset a h = refl
+group_mode kind.GroupStop a h = refl
+group_mode kind.GroupHalt a h = refl
+group_mode _ a h = absurd (cc)
+
+-- a command of an axis
+pub axis_made : (s : Setup) (k : ℕ) (b : BlockDef) (i : Inputs) → slice_get s.blocks k ≡ Some b → IsCall s k i →
+    acts_on_group b.kind ≡ false → is_power b.kind ≡ false → axis.IsMade (wanted_of k b.kind i)
+axis_made s k b i at call axis other =
+    let made = call.inputs b at in
+    let position = made.positions 0 in
+    let is = axis_kind b.kind axis other in
+    record {
+      kind = is;
+      position = position.size;
+      target = asked b.kind (wanted_of k b.kind i) i refl;
+      mode = λ w. made.mode (axis_mode b.kind is w);
+    }
+
+pub count_is : (s : Setup) (j : ℕ) → AreWhole s → j < length s.groups → length (members_at s j) ≡ count_in (slice_get s.groups j)
+count_is s j whole l =
+    let D : GroupDef = record { name = []; count = 0; axes = [] } in
+    let is = get_is s.groups j D l in
+    rw is (each_of (λ (d : GroupDef). length (members_of d) ≡ d.count) s.groups j D whole l)
+
+-- a command of a group
+pub group_made : (s : Setup) (k : ℕ) (b : BlockDef) (i : Inputs) (axes : ℕ) → AreWhole s → slice_get s.blocks k ≡ Some b → IsCall s k i →
+    acts_on_group b.kind ≡ true → b.object < length s.groups → axes ≡ length (members_at s b.object) → group.IsMade axes (wanted_of k b.kind i)
+group_made s k b i axes whole at call is l e =
+    let made = call.inputs b at in
+    let count : axes ≡ axes_of s b = rw is (e ∙ count_is s b.object whole l) in
+    record {
+      kind = is;
+      mode = λ w. made.mode (group_mode b.kind is w);
+      others = λ n b. made.few_positions n (omega arith);
+    }

@@ -1,0 +1,10 @@
+use Rattle.std.proofs.Common.{◌≡◌, drop, length, true}
+use Rattle.motion_kernel.specs.calls.Calls as spec
+use Rattle.motion_kernel.specs.Seen.{machine_of}
+use Rattle.motion_kernel.proofs.leading.lead_all_on.Given as goal
+
+abbrev pub invariant-loop-axis : goal.invariant-loop-axis
+invariant-loop-axis l = record {
+  rest : spec.axes_led true (drop l.axis-index l.members) (machine_of l.parts) ≡ spec.axes_led true l.members (machine_of l.fn.parts);
+  long : length l.parts.axes.items ≡ length l.fn.parts.axes.items;
+}

@@ -1,0 +1,3 @@
+-- What a group's look shows.
+pub mod GroupLooks
+pub mod Shown

@@ -1,0 +1,4 @@
+-- Which axes are in which group, and where.
+pub mod Members
+pub mod Laid
+pub mod Places

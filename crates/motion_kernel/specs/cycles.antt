@@ -1,0 +1,8 @@
+-- What a cycle makes of the machine.
+pub mod Asides
+pub mod Finders
+pub mod GroupSteps
+pub mod AxisCycles
+pub mod GroupResets
+pub mod Showing
+pub mod Cycles

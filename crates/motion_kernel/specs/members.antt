@@ -1,0 +1,3 @@
+-- Which axes are in which group, and where.
+pub mod Members
+pub mod Laid

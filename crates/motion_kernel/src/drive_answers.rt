@@ -1,0 +1,39 @@
+// The drives' answers of a cycle.
+
+ghost use Rattle.std.specs.Prelude.{◌≡◌, ◌<◌, ◌++◌, ◌∷◌, [], ℕ, length, map, pos, slice_index_or, slice_set, All};
+ghost use Rattle.axis_state.specs.Counts.{IsCount};
+ghost use Rattle.cia402_machine.specs.declared.drive.DriveIn.{DriveIn};
+ghost use Rattle.motion_kernel.specs.looks.DriveAnswers as spec;
+
+use cia402_machine::DriveIn;
+
+/// The drive's answer for an axis.
+pub fn answer_at(ins: &[DriveIn], axis: u8) -> DriveIn
+    ensures { result ≡ spec.answer_at ins.now axis }
+{
+    match ins.get(axis as usize) {
+        Some(input) => *input,
+        None => DriveIn {
+            statusword: 0,
+            mode_display: 0,
+            actual: 0,
+        },
+    }
+}
+
+// The count that a drive reports: it has 32 bits.
+fn count_of(input: &DriveIn) -> i32
+    ensures count { result ≡ input.now.actual }
+    ensures bits { IsCount result }
+{
+    input.actual
+}
+
+/// The counts that the drives report have 32 bits each.
+pub fn counts_have_32_bits(ins: &[DriveIn])
+    ensures { All (λ (d : DriveIn). IsCount d.actual) ins.now }
+{
+    for input in ins {
+        let _ = count_of(input);
+    }
+}

@@ -1,0 +1,72 @@
+-- What each entry of a legal history keeps.
+use Rattle.std.specs.Prelude.{◌≡◌, refl, ℕ, Some, List, [], ◌∷◌, ◌++◌, slice_get}
+use Rattle.std.proofs.Common.{ap, sym, subst, ◌∙◌}
+use Rattle.fb_outputs.specs.declared.inputs.Inputs.{Inputs}
+use Rattle.fb_outputs.specs.declared.outputs.Outputs.{Outputs}
+use Rattle.motion_history.specs.Entries.{Entry, call, cycle, end_of}
+use Rattle.motion_history.specs.Setup.{Setup, IsSetup}
+use Rattle.motion_history.specs.declared.config.BlockDef.{BlockDef}
+use Rattle.motion_laws.specs.entries.Diagrams.{FollowsDiagrams}
+use Rattle.motion_laws.specs.entries.Kept.{KeepsEntries, KeepsEntry, KeepsReply}
+use Rattle.motion_kernel.specs.Histories.{IsLegal, after, machine_after}
+use Rattle.motion_kernel.specs.Machine.{machine_at_opening}
+use Rattle.motion_kernel.specs.kept.Machine.{AreWhole}
+use Rattle.motion_laws.specs.owners.Shown.{AreWhereShown}
+use Rattle.motion_laws.specs.entries.Refusals.{IsRefused, machine_refused}
+use Rattle.motion_laws.specs.entries.Replies.{IsReplyOf}
+use Rattle.motion_laws.proofs.Histories.{replay_append, legal_so_far}
+
+-- the laws of entries
+pub record EntryLaws : Type 0 where
+  pub refusals : (s : Setup) (made more : List Entry) (k : ℕ) (i : Inputs) (reply : Outputs) →
+      IsLegal s (made ++ call k i reply ∷ more) →
+      IsRefused (machine_after s made) k i reply → machine_after s (made ++ call k i reply ∷ [])
+      ≡ machine_refused k reply.error_id (machine_after s made)
+  pub replies : (s : Setup) (made more : List Entry) (k : ℕ) (i : Inputs) (reply : Outputs)
+      (b : BlockDef) → IsSetup s → AreWhole s →
+      IsLegal s (made ++ call k i reply ∷ more) → slice_get s.blocks k ≡ Some b →
+      IsReplyOf b i reply
+  pub states : (s : Setup) (made more : List Entry) (e : Entry) → IsSetup s → AreWhole s → IsLegal s
+      (made ++ e ∷ more) →
+      FollowsDiagrams s (machine_after s made) e
+  pub commands : (s : Setup) (es : List Entry) → IsSetup s → AreWhole s → IsLegal s es →
+      AreWhereShown s (machine_after s es)
+
+-- the machine after one entry more
+one_more : (s : Setup) (made : List Entry) (e : Entry) → machine_after s (made ++ e ∷ []) ≡ after s
+    (machine_after s made) e
+unfolding machine_after
+one_more s made e = replay_append s (machine_at_opening s) made (e ∷ [])
+
+append_one : (made more : List Entry) (e : Entry) → (made ++ e ∷ []) ++ more ≡ made ++ e ∷ more
+append_one [] more e = refl
+append_one (x ∷ xs) more e = ap (λ ys. x ∷ ys) (append_one xs more e)
+
+reply_kept : EntryLaws → (s : Setup) (made more : List Entry) (e : Entry) → IsSetup s → AreWhole s →
+    IsLegal s (made ++ e ∷ more) →
+    KeepsReply s (machine_after s made) e
+reply_kept laws s made more (call k i reply) setup whole legal = record {
+  reply_of = λ b at. laws.replies s made more k i reply b setup whole legal at;
+  refused = λ h. sym (one_more s made (call k i reply))
+      ∙ laws.refusals s made more k i reply legal h;
+}
+reply_kept laws s made more (cycle n rows grows) setup whole legal = tt
+reply_kept laws s made more (end_of task) setup whole legal = tt
+
+entry_kept : EntryLaws → (s : Setup) (made more : List Entry) (e : Entry) → IsSetup s → AreWhole s →
+    IsLegal s (made ++ e ∷ more) →
+    KeepsEntry s (machine_after s made) e
+entry_kept laws s made more e setup whole legal =
+    let so_far = legal_so_far s (made ++ e ∷ []) more
+    (subst (IsLegal s) (sym (append_one made more e)) legal) in
+    record {
+      reply = reply_kept laws s made more e setup whole legal;
+      states = laws.states s made more e setup whole legal;
+      commands = subst (AreWhereShown s) (one_more s made e)
+          (laws.commands s (made ++ e ∷ []) setup whole so_far);
+    }
+
+pub entries_kept : EntryLaws → (s : Setup) (es : List Entry) → IsSetup s → AreWhole s →
+    IsLegal s es → KeepsEntries s es
+entries_kept laws s es setup whole legal made more e is = entry_kept laws s made more e setup whole
+    (subst (IsLegal s) is legal)

@@ -1,0 +1,6 @@
+-- Each reply tells one result.
+pub mod AxisNumbers
+pub mod GroupNumbers
+pub mod Commands
+pub mod Entries
+pub mod Histories

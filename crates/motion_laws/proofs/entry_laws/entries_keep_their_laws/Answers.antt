@@ -1,0 +1,11 @@
+-- What each entry of a legal history keeps, by the laws of entries.
+use Rattle.motion_laws.proofs.entries.Kept.{entries_kept}
+use Rattle.motion_laws.proofs.entry_laws.entries_keep_their_laws.Goals as goal
+
+pub returns : goal.returns
+returns c = entries_kept (record {
+  refusals = c.refusals_change_nothing.ensures.entries;
+  replies = c.replies_tell_one_result.ensures.entries;
+  states = c.states_follow_the_diagrams.ensures.entries;
+  commands = c.commands_are_where_their_instances_show.ensures.entries;
+})

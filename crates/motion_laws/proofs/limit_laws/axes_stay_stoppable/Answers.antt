@@ -1,0 +1,29 @@
+-- Every axis and every path can be stopped after a legal history, by the laws of the machine.
+use Rattle.motion_kernel.specs.Histories.{replay}
+use Rattle.motion_kernel.specs.Machine.{machine_at_opening}
+use Rattle.motion_kernel.proofs.kept.Machine.{MachinesStayKept}
+use Rattle.motion_laws.proofs.limits.Stoppable.{axis_stoppable, path_stoppable}
+use Rattle.motion_laws.proofs.Histories.{legal_kept, legal_so_far}
+use Rattle.motion_laws.proofs.limit_laws.axes_stay_stoppable.Goals as goal
+
+machines : (c : goal.After-machines_stay_kept) → MachinesStayKept
+machines c = record {
+  opened = c.machines_stay_kept.ensures.opened;
+  call = c.machines_stay_kept.ensures.call;
+  may_go_on = c.machines_stay_kept.ensures.may_go_on;
+  cycle = c.machines_stay_kept.ensures.cycle;
+}
+
+pub returns-clause-entries : goal.returns-clause-entries
+returns-clause-entries c = legal_so_far
+
+pub returns-clause-machine : goal.returns-clause-machine
+returns-clause-machine c = legal_kept (machines c)
+
+pub returns-clause-axes : goal.returns-clause-axes
+returns-clause-axes c s es setup whole legal n =
+    axis_stoppable s (replay s (machine_at_opening s) es) n (legal_kept (machines c) s es setup whole legal)
+
+pub returns-clause-paths : goal.returns-clause-paths
+returns-clause-paths c s es setup whole legal j p =
+    path_stoppable s (replay s (machine_at_opening s) es) j p (legal_kept (machines c) s es setup whole legal)

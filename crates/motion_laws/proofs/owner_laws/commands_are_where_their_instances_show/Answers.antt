@@ -1,0 +1,48 @@
+-- Commands are where their instances show, by the laws of the machine, its axes and its groups.
+use Rattle.motion_laws.proofs.owners.holders.Calls.{call_all_shown}
+use Rattle.motion_laws.proofs.owners.holders.Cycles.{cycle_all_shown}
+use Rattle.motion_laws.proofs.owners.holders.Histories.{legal_all_shown, opening_all_shown}
+use Rattle.motion_laws.proofs.owners.commands.Events.{OwnerLaws}
+use Rattle.motion_laws.proofs.owner_laws.commands_are_where_their_instances_show.Goals as goal
+
+laws : (c : goal.After-ends_are_told_once-2) → OwnerLaws
+laws c =
+    let m = c.machines_stay_kept.ensures in
+    let a = c.ends_are_told_once.ensures in
+    let g = c.ends_are_told_once-2.ensures in
+    record {
+      machines = record {
+        opened = m.opened;
+        call = m.call;
+        may_go_on = m.may_go_on;
+        cycle = m.cycle;
+      };
+      may_call = m.may_call;
+      axes = record {
+        command = a.once_command;
+        power = a.once_power;
+        cycle = a.once_cycle;
+        taken_away = a.taken_away;
+        left = a.left;
+      };
+      groups = record {
+        command = g.once_command;
+        power_off = g.once_power_off;
+        cycle = g.once_cycle;
+        reset = g.once_reset;
+        taken_away = g.taken_away;
+        left = g.left;
+      };
+    }
+
+pub returns-clause-opened : goal.returns-clause-opened
+returns-clause-opened c = opening_all_shown
+
+pub returns-clause-call : goal.returns-clause-call
+returns-clause-call c = call_all_shown (laws c)
+
+pub returns-clause-cycle : goal.returns-clause-cycle
+returns-clause-cycle c = cycle_all_shown (laws c)
+
+pub returns-clause-entries : goal.returns-clause-entries
+returns-clause-entries c = legal_all_shown (laws c)

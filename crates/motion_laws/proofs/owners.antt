@@ -1,0 +1,5 @@
+-- Where the commands of instances are.
+pub mod Counts
+pub mod commands
+pub mod active
+pub mod holders

@@ -1,0 +1,339 @@
+-- How many commands an instance has, how many it brings, and of how many ends it is told.
+use Rattle.std.specs.Prelude.{◌≡◌, refl, ℕ, zero, suc, ◌<◌, Bool, true, false, nat_eq, ℤ, if◌then◌else◌, Option, Some, None, Ok, List, [], ◌∷◌, ◌++◌}
+use Rattle.std.proofs.Common.{arith, ap, sym, subst, ◌∙◌, inl, inr}
+use Rattle.std.proofs.lemmas.Bool.{cases_eq, eq-eqb, eqb-false, ne_eqb}
+use Rattle.std.proofs.lemmas.List.{get_or-set_other}
+use Rattle.axis_core.specs.Calls.{core_after_admission, core_after_command, core_after_joining, core_after_leaving, core_after_verdict, queue_in}
+use Rattle.axis_core.specs.Calls as axis_calls
+use Rattle.axis_core.specs.Cores.{Core}
+use Rattle.axis_core.specs.Owners.{owner_brought, owner_brought_by, owns, reset_owner}
+use Rattle.axis_core.specs.Refusals as axis_refusals
+use Rattle.axis_core.specs.Refusals.{Asked}
+use Rattle.axis_core.specs.blocks.Moves.{known_target_of, with_target}
+use Rattle.axis_core.specs.blocks.Reset as axis_reset
+use Rattle.axis_core.specs.declared.axis.PendingReset as axis_pending
+use Rattle.axis_core.specs.declared.reason.Reason as axis_reason
+use Rattle.buffer_modes.specs.Owners.{is_owner, one_of, owner_by, told, waits_of}
+use Rattle.buffer_modes.specs.Queue.{active_note, end_notes, is_aborting, is_active_at_once, noted}
+use Rattle.command_pool.specs.Kinds.{acts_on_group}
+use Rattle.command_pool.specs.Waiting.{last_of, notes_of, told_to}
+use Rattle.command_pool.specs.declared.ending.Finish.{Finish}
+use Rattle.command_pool.specs.declared.ending.Finish.TheVariants as finish
+use Rattle.command_pool.specs.declared.kind.BlockKind.{BlockKind}
+use Rattle.command_pool.specs.declared.kind.BlockKind.TheVariants as kind
+use Rattle.command_pool.specs.declared.notes.Note.{Note}
+use Rattle.command_pool.specs.declared.wanted.Wanted.{Wanted}
+use Rattle.fb_outputs.specs.InstanceState.{InstanceState}
+use Rattle.fb_outputs.specs.Steps.{finished}
+use Rattle.group_core.specs.Calls as group_calls
+use Rattle.group_core.specs.Cores as groups
+use Rattle.group_core.specs.Kinds as group_kinds
+use Rattle.group_core.specs.Owners as group_owners
+use Rattle.group_core.specs.Refusals as group_refusals
+use Rattle.group_core.specs.blocks.Line.{line_tests}
+use Rattle.group_core.specs.blocks.Reset as group_reset
+use Rattle.group_core.specs.declared.group.PendingReset as group_pending
+use Rattle.group_core.specs.declared.look.GroupLook.{GroupLook}
+use Rattle.group_core.specs.declared.reason.Reason as group_reason
+use Rattle.group_core.specs.declared.reason.Reason.TheVariants as group_reasons
+use Rattle.motion_kernel.specs.calls.Asking.{is_done_at_once}
+use Rattle.motion_kernel.specs.calls.Calls.{answered_instance}
+use Rattle.motion_kernel.specs.Machine.{instance_at, no_instance}
+use Rattle.motion_laws.specs.owners.Commands.{commands_shown}
+use Rattle.motion_kernel.specs.calls.Telling.{told_end, told_notes}
+use Rattle.motion_kernel.proofs.Sizes.{by_if}
+
+-- an instance is its own
+pub owner_is : (k : ℕ) → is_owner k (Some k) ≡ 1
+unfolding is_owner
+owner_is k = ap one_of (eq-eqb k k refl)
+
+one_zero : (b : Bool) → one_of b ≡ 0 → b ≡ false
+one_zero true e = absurd (cc)
+one_zero false e = refl
+
+pub owner_not : (k j : ℕ) → is_owner k (Some j) ≡ 0 → nat_eq j k ≡ false
+unfolding is_owner
+owner_not k j e = one_zero (nat_eq j k) e
+
+pub other_owner : (k j : ℕ) → nat_eq j k ≡ false → is_owner k (Some j) ≡ 0
+unfolding is_owner
+other_owner k j e = ap one_of e
+
+pub none_owned : (k : ℕ) → is_owner k None ≡ 0
+unfolding is_owner
+none_owned k = refl
+
+-- an instance that is told nothing is as it was
+pub untold_stays : (k : ℕ) (ns : List Note) (is : List InstanceState) → told k ns ≡ 0 →
+    instance_at (told_notes ns is) k ≡ instance_at is k
+untold_stays k [] is e = refl
+untold_stays k (n ∷ ns) is e =
+    let other = owner_not k n.owner (omega arith) in
+    untold_stays k ns (told_end n.owner n.finish is) (omega arith)
+    ∙ get_or-set_other is n.owner k (finished (instance_at is n.owner) n.finish) no_instance
+    (λ s. eqb-false n.owner k other (sym s))
+
+-- one that is told an end shows no command
+abbrev pub shown_by : List InstanceState → ℕ → ℕ
+shown_by is k = commands_shown (instance_at is k).progress
+
+one_ended : (is : List InstanceState) (j k : ℕ) (f : Finish) → shown_by is k ≡ 0 → shown_by
+    (told_end j f is) k ≡ 0
+one_ended [] j k f e = e
+one_ended (i ∷ is) zero zero f e = refl
+one_ended (i ∷ is) zero (suc k) f e = e
+one_ended (i ∷ is) (suc j) zero f e = e
+one_ended (i ∷ is) (suc j) (suc k) f e = one_ended is j k f e
+
+own_ended : (is : List InstanceState) (k : ℕ) (f : Finish) → shown_by (told_end k f is) k ≡ 0
+own_ended [] k f = refl
+own_ended (i ∷ is) zero f = refl
+own_ended (i ∷ is) (suc k) f = own_ended is k f
+
+stays_ended : (k : ℕ) (ns : List Note) (is : List InstanceState) → shown_by is k ≡ 0 → shown_by
+    (told_notes ns is) k ≡ 0
+stays_ended k [] is e = e
+stays_ended k (n ∷ ns) is e = stays_ended k ns (told_end n.owner n.finish is)
+    (one_ended is n.owner k n.finish e)
+
+pub told_shows_none : (k : ℕ) (ns : List Note) (is : List InstanceState) → 0 < told k ns →
+    shown_by (told_notes ns is) k ≡ 0
+told_shows_none k [] is l = absurd (omega arith)
+told_shows_none k (n ∷ ns) is l = elim (cases_eq n.owner k) [
+  | inl e ↦ stays_ended k ns (told_end n.owner n.finish is)
+      (subst (λ j. shown_by (told_end j n.finish is) k ≡ 0) (sym e) (own_ended is k n.finish))
+  | inr d ↦
+      let none = other_owner k n.owner (ne_eqb n.owner k d) in
+      told_shows_none k ns (told_end n.owner n.finish is) (omega arith)
+]
+
+-- no note for an instance that has no command
+none_more : (k : ℕ) (xs ys : List Note) → told k xs ≡ 0 → told k ys ≡ 0 → told k
+    (xs ++ ys) ≡ 0
+none_more k [] ys e f = f
+none_more k (x ∷ xs) ys e f = let rest = none_more k xs ys (omega arith) f in omega arith
+
+none_to : (k : ℕ) (o : Option ℕ) (f : Finish) → is_owner k o ≡ 0 → told k (told_to o f) ≡ 0
+none_to k None f e = refl
+none_to k (Some j) f e = omega arith
+
+none_waiting : (k : ℕ) (f : Finish) (ws : List Wanted) → waits_of k ws ≡ 0 → told k
+    (notes_of f ws) ≡ 0
+none_waiting k f [] e = refl
+none_waiting k f (w ∷ ws) e =
+    none_more k (told_to w.owner f) (notes_of f ws) (none_to k w.owner f (omega arith))
+    (none_waiting k f ws (omega arith))
+
+none_active : (k : ℕ) (f : Finish) (active : Option Wanted) → is_owner k (owner_by active) ≡ 0 →
+    told k (active_note f active) ≡ 0
+none_active k f None e = refl
+none_active k f (Some w) e = none_to k w.owner f e
+
+none_ended : (k : ℕ) (f : Finish) (active : Option Wanted) (ws : List Wanted) → is_owner k
+    (owner_by active) ≡ 0 → waits_of k ws ≡ 0 →
+    told k (end_notes f (record { active = active; waiting = ws })) ≡ 0
+none_ended k f active ws a w = none_more k (active_note f active) (notes_of finish.Aborted ws)
+    (none_active k f active a) (none_waiting k finish.Aborted ws w)
+
+none_noted : (k : ℕ) (active : Option Wanted) (ws : List Wanted) (w : Wanted) → is_owner k
+    (owner_by active) ≡ 0 → waits_of k ws ≡ 0 →
+    told k (noted (record { active = active; waiting = ws }) w) ≡ 0
+none_noted k active ws w a e =
+    by_if (λ ns. told k ns ≡ 0) (is_aborting w.mode) _ _
+    (none_ended k finish.Aborted active ws a e) refl
+
+-- a command of an axis tells nothing to an instance that has none
+abbrev Untold : ℕ → Core → Type 0
+Untold k c = told k c.notes ≡ 0
+
+none_replaced : (k : ℕ) (o : Option axis_pending.PendingReset) → is_owner k (reset_owner o) ≡ 0 →
+    told k (axis_reset.replaced_note o) ≡ 0
+none_replaced k None e = refl
+none_replaced k (Some p) e = none_to k p.owner finish.Aborted e
+
+-- who has no command has none that is active, waits or is a reset
+record HasNone (k : ℕ) (c : Core) : Type 0 where
+  active : is_owner k (owner_by c.axis.active) ≡ 0
+  waiting : waits_of k c.waiting ≡ 0
+  reset : is_owner k (reset_owner c.axis.reset) ≡ 0
+
+has_none : (k : ℕ) (c : Core) → owns k c ≡ 0 → HasNone k c
+has_none k c e = record { active = omega arith; waiting = omega arith; reset = omega arith }
+
+joined_untold : (k : ℕ) (w : Wanted) (c : Core) → HasNone k c → Untold k c → Untold k
+    (core_after_joining w c)
+joined_untold k w c h e =
+    let all = none_more k c.notes (noted (queue_in c) w) e
+    (none_noted k c.axis.active c.waiting w h.active h.waiting) in
+    by_if (Untold k) (is_active_at_once (queue_in c) w) _ _ all all
+
+left_untold : (k : ℕ) (w : Wanted) (c : Core) → HasNone k c → Untold k c → Untold k
+    (core_after_leaving w c)
+left_untold k w c h e = none_more k c.notes _ e
+    (none_ended k finish.Aborted c.axis.active c.waiting h.active h.waiting)
+
+admitted_untold : (k : ℕ) (kind : BlockKind) (w : Wanted) (c : Core) → HasNone k c → Untold k c →
+    Untold k (core_after_admission kind w c)
+admitted_untold k kind.Reset w c h e = none_more k c.notes _ e
+    (none_replaced k c.axis.reset h.reset)
+admitted_untold k kind.GearOut w c h e = left_untold k w c h e
+admitted_untold k kind.CamOut w c h e = left_untold k w c h e
+admitted_untold k _ w c h e = joined_untold k w c h e
+
+verdict_untold : (k : ℕ) (o : Option axis_reason.Reason) (w : Wanted) (c : Core) → HasNone k c →
+    Untold k c → Untold k (core_after_verdict o w c)
+verdict_untold k None w c h e = admitted_untold k w.kind
+    (with_target (known_target_of c.axis (last_of c.waiting) w) w) c h e
+verdict_untold k (Some r) w c h e = e
+
+pub command_untold : (k : ℕ) (q : Asked) (c : Core) → owns k c ≡ 0 → told k c.notes ≡ 0 →
+    told k (core_after_command q c).notes ≡ 0
+unfolding core_after_command
+command_untold k q c h e = verdict_untold k (axis_refusals.refusal_of q) q.wanted c
+    (has_none k c h) e
+
+-- a command of a group neither
+abbrev GroupUntold : ℕ → groups.Core → Type 0
+GroupUntold k c = told k c.notes ≡ 0
+
+record GroupHasNone (k : ℕ) (c : groups.Core) : Type 0 where
+  active : is_owner k (owner_by c.group.active) ≡ 0
+  waiting : waits_of k c.waiting ≡ 0
+  reset : is_owner k (group_owners.reset_owner c.group.reset) ≡ 0
+
+group_has_none : (k : ℕ) (c : groups.Core) → group_owners.owns k c ≡ 0 → GroupHasNone k c
+group_has_none k c e = record { active = omega arith; waiting = omega arith; reset = omega arith }
+
+group_replaced : (k : ℕ) (o : Option group_pending.PendingReset) → is_owner k
+    (group_owners.reset_owner o) ≡ 0 → told k (group_reset.replaced_note o) ≡ 0
+group_replaced k None e = refl
+group_replaced k (Some p) e = none_to k p.owner finish.Aborted e
+
+halted_untold : (k : ℕ) (c : groups.Core) → GroupHasNone k c → GroupUntold k c →
+    told k (c.notes ++ end_notes finish.Aborted (group_calls.queue_in c)) ≡ 0
+halted_untold k c h e = none_more k c.notes _ e
+    (none_ended k finish.Aborted c.group.active c.waiting h.active h.waiting)
+
+line_untold : (k : ℕ) (members : GroupLook) (w : Wanted) (c : groups.Core) → GroupHasNone k c →
+    GroupUntold k c → GroupUntold k (group_calls.line_joined members w c)
+line_untold k members w c h e =
+    let all = none_more k c.notes (noted (group_calls.queue_in c) w) e
+    (none_noted k c.group.active c.waiting w h.active h.waiting) in
+    by_if (GroupUntold k) (group_calls.waits_for_rest w c.path) _ _ (halted_untold k c h e)
+    (by_if (GroupUntold k) (is_active_at_once (group_calls.queue_in c) w) _ _ all all)
+
+group_admitted : (k : ℕ) (kind : BlockKind) (members : GroupLook) (w : Wanted) (c : groups.Core) →
+    GroupHasNone k c → GroupUntold k c →
+    GroupUntold k (group_calls.admitted_by kind members w c)
+group_admitted k kind.GroupReset members w c h e = none_more k c.notes _ e
+    (group_replaced k c.group.reset h.reset)
+group_admitted k kind.GroupStop members w c h e = halted_untold k c h e
+group_admitted k kind.GroupHalt members w c h e = halted_untold k c h e
+group_admitted k kind.MoveLinearAbsolute members w c h e = line_untold k members w c h e
+group_admitted k kind.GroupEnable members w c h e = e
+group_admitted k kind.GroupDisable members w c h e = e
+group_admitted k _ members w c h e = e
+
+group_verdict : (k : ℕ) (o : Option group_reason.Reason) (members : GroupLook) (w : Wanted)
+    (c : groups.Core) → GroupHasNone k c → GroupUntold k c →
+    GroupUntold k (group_calls.commanded_by o members w c)
+group_verdict k None members w c h e = group_admitted k w.kind members w c h e
+group_verdict k (Some r) members w c h e = e
+
+pub group_command_untold : (k : ℕ) (w : Wanted) (jerk : ℤ) (members : GroupLook) (c : groups.Core) →
+    group_owners.owns k c ≡ 0 → told k c.notes ≡ 0 →
+    told k (group_calls.commanded w jerk members c).notes ≡ 0
+unfolding group_calls.commanded
+group_command_untold k w jerk members c h e =
+    group_verdict k (group_refusals.refusal_of (group_calls.asked_in c w jerk members)) members w c
+    (group_has_none k c h) e
+
+-- an instance whose command starts shows it
+answered_one : (kind : BlockKind) (active : Bool) (i : InstanceState) →
+    is_done_at_once kind ≡ false →
+    commands_shown (answered_instance kind (Ok active) i).progress ≡ 1
+answered_one kind true i e = refl
+answered_one kind false i e = rw e refl
+
+answered_done : (kind : BlockKind) (i : InstanceState) → is_done_at_once kind ≡ true →
+    commands_shown (answered_instance kind (Ok false) i).progress ≡ 0
+answered_done kind i e = rw e refl
+
+-- the command that an instance brings to an axis is what it shows
+owned_one : (k : ℕ) (o : Option ℕ) → o ≡ Some k → is_owner k o ≡ 1
+owned_one k o e = subst (λ x. is_owner k x ≡ 1) (sym e) (owner_is k)
+
+brings_one : (kind : BlockKind) (active : Bool) (i : InstanceState) (k : ℕ) (o : Option ℕ) →
+    o ≡ Some k → is_done_at_once kind ≡ false →
+    commands_shown (answered_instance kind (Ok active) i).progress ≡ is_owner k o
+brings_one kind active i k o e d = answered_one kind active i d ∙ sym (owned_one k o e)
+
+brings_axis : (kind : BlockKind) (i : InstanceState) (k : ℕ) (w : Wanted) (c : Core) →
+    w.owner ≡ Some k → acts_on_group kind ≡ false →
+    commands_shown (answered_instance kind (Ok (axis_calls.is_active_by kind w c)) i).progress
+    ≡ is_owner k (owner_brought_by kind w)
+brings_axis kind.GearOut i k w c e a = sym (none_owned k)
+brings_axis kind.CamOut i k w c e a = sym (none_owned k)
+brings_axis kind.Reset i k w c e a = brings_one kind.Reset false i k w.owner e refl
+brings_axis kind.Power i k w c e a = brings_one kind.Power _ i k w.owner e refl
+brings_axis kind.Home i k w c e a = brings_one kind.Home _ i k w.owner e refl
+brings_axis kind.Stop i k w c e a = brings_one kind.Stop _ i k w.owner e refl
+brings_axis kind.Halt i k w c e a = brings_one kind.Halt _ i k w.owner e refl
+brings_axis kind.MoveAbsolute i k w c e a = brings_one kind.MoveAbsolute _ i k w.owner e refl
+brings_axis kind.MoveRelative i k w c e a = brings_one kind.MoveRelative _ i k w.owner e refl
+brings_axis kind.MoveVelocity i k w c e a = brings_one kind.MoveVelocity _ i k w.owner e refl
+brings_axis kind.GearIn i k w c e a = brings_one kind.GearIn _ i k w.owner e refl
+brings_axis kind.CamIn i k w c e a = brings_one kind.CamIn _ i k w.owner e refl
+brings_axis _ i k w c e a = absurd (cc)
+
+pub answer_shows : (o : Option axis_reason.Reason) (i : InstanceState) (k : ℕ) (w : Wanted)
+    (c : Core) → w.owner ≡ Some k → acts_on_group w.kind ≡ false →
+    commands_shown (answered_instance w.kind (axis_calls.answer_by o w c) i).progress ≡ is_owner k
+    (owner_brought o w)
+answer_shows None i k w c e a = brings_axis w.kind i k w c e a
+answer_shows (Some r) i k w c e a = sym (none_owned k)
+
+-- a circle is refused
+no_other : (b : Bool) (r : group_reason.Reason) (o : Option group_reason.Reason) → (o ≡ None → ⊥) →
+    (if b then Some r else o) ≡ None → ⊥
+no_other true r o h e = cc
+no_other false r o h e = h e
+
+no_first : (q : group_refusals.Asked) (rs : List group_reason.Reason) →
+    group_refusals.first_holding q (rs ++ group_reasons.CircularRefused ∷ []) ≡ None → ⊥
+unfolding group_refusals.holds
+no_first q [] e = cc
+no_first q (r ∷ rs) e = no_other (group_refusals.holds r q) r
+    (group_refusals.first_holding q (rs ++ group_reasons.CircularRefused ∷ [])) (no_first q rs) e
+
+circle_refused : (q : group_refusals.Asked) → q.wanted.kind ≡ kind.MoveCircularAbsolute →
+    group_refusals.refusal_of q ≡ None → ⊥
+unfolding group_refusals.refusal_of
+circle_refused q k e = no_first q line_tests
+    (ap (λ x. group_refusals.first_holding q (group_kinds.tests_of x)) (sym k) ∙ e)
+
+-- the command that an instance brings to a group is what it shows
+brings_group : (x : BlockKind) (i : InstanceState) (k : ℕ) (w : Wanted) (c : groups.Core) →
+    w.owner ≡ Some k → acts_on_group x ≡ true →
+    (x ≡ kind.MoveCircularAbsolute → ⊥) →
+    commands_shown (answered_instance x (Ok (group_calls.is_active_by x w c)) i).progress
+    ≡ is_owner k (group_owners.brought_by x w)
+brings_group kind.GroupEnable i k w c e a n = sym (none_owned k)
+brings_group kind.GroupDisable i k w c e a n = sym (none_owned k)
+brings_group kind.GroupReset i k w c e a n = brings_one kind.GroupReset false i k w.owner e refl
+brings_group kind.GroupStop i k w c e a n = brings_one kind.GroupStop true i k w.owner e refl
+brings_group kind.GroupHalt i k w c e a n = brings_one kind.GroupHalt true i k w.owner e refl
+brings_group kind.MoveLinearAbsolute i k w c e a n =
+    brings_one kind.MoveLinearAbsolute _ i k w.owner e refl
+brings_group kind.MoveCircularAbsolute i k w c e a n = absurd (n refl)
+brings_group _ i k w c e a n = absurd (cc)
+
+pub group_answer_shows : (q : group_refusals.Asked) (o : Option group_reason.Reason) →
+    group_refusals.refusal_of q ≡ o → (i : InstanceState) (k : ℕ) (c : groups.Core) →
+    q.wanted.owner ≡ Some k → acts_on_group q.wanted.kind ≡ true →
+    commands_shown (answered_instance q.wanted.kind (group_calls.answer_by o q.wanted c) i).progress
+    ≡ is_owner k (group_owners.brought o q.wanted)
+group_answer_shows q None r i k c e a =
+    brings_group q.wanted.kind i k q.wanted c e a (λ circle. circle_refused q circle r)
+group_answer_shows q (Some x) r i k c e a = sym (none_owned k)

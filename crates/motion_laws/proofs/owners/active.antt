@@ -1,0 +1,10 @@
+-- An instance shows Active exactly while its command is the active one.
+pub mod AxisCounts
+pub mod GroupCounts
+pub mod Events
+pub mod Freed
+pub mod Asked
+pub mod Calls
+pub mod Waiting
+pub mod Told
+pub mod Cycles

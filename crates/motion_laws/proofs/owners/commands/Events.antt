@@ -1,0 +1,287 @@
+-- What an event leaves of the commands that instances show.
+use Rattle.std.specs.Prelude.{◌≡◌, refl, ℕ, zero, suc, ◌+◌, ◌<◌, ◌≤◌, ℤ, Bool, true, false, not, ◌&&◌, nat_eq, if◌then◌else◌, Option, Some, None, List, [], ◌∷◌, length, slice_get}
+use Rattle.std.proofs.Common.{arith, ap, sym, subst, ◌∙◌, inl, inr}
+use Rattle.std.proofs.lemmas.Bool.{and_parts, cases_Bool, cases_eq, eq-eqb, eqb-false, eqb-true}
+use Rattle.std.proofs.lemmas.List.{length-set}
+use Rattle.axis_core.specs.Calls.{core_after_command, core_after_power}
+use Rattle.axis_core.specs.Cores as cores
+use Rattle.axis_core.specs.Cycles.{core_after_cycle}
+use Rattle.axis_core.specs.Owners as axis
+use Rattle.axis_core.specs.Owners.{core_without_owner, owner_brought}
+use Rattle.axis_core.specs.Refusals as axis_refusals
+use Rattle.axis_core.specs.Refusals.{Asked}
+use Rattle.axis_core.specs.declared.look.AxisLook.{AxisLook}
+use Rattle.buffer_modes.specs.Owners.{is_owner, told}
+use Rattle.command_pool.specs.declared.notes.Note.{Note}
+use Rattle.command_pool.specs.declared.wanted.Wanted.{Wanted}
+use Rattle.fb_outputs.specs.InstanceState.{InstanceState}
+use Rattle.fb_outputs.specs.Steps.{is_power}
+use Rattle.fb_outputs.specs.declared.inputs.Inputs.{Inputs}
+use Rattle.fb_outputs.specs.declared.instance.Progress.{Progress}
+use Rattle.fb_outputs.specs.declared.instance.Progress.TheVariants.{Idle, Waiting, Active, Ended}
+use Rattle.group_core.specs.Calls as group_calls
+use Rattle.group_core.specs.Calls.{commanded, disowned, powered_off}
+use Rattle.group_core.specs.Cores as group_cores
+use Rattle.group_core.specs.Cycles as group_cycles
+use Rattle.group_core.specs.Owners as group
+use Rattle.group_core.specs.Refusals as group_refusals
+use Rattle.group_core.specs.declared.look.GroupLook.{GroupLook}
+use Rattle.motion_history.specs.Calls.{IsCall}
+use Rattle.motion_history.specs.Setup.{Setup}
+use Rattle.motion_history.specs.declared.config.BlockDef.{BlockDef}
+use Rattle.motion_kernel.specs.calls.Calls.{with_axis_core, with_execute, with_group_core}
+use Rattle.motion_kernel.specs.Machine.{Machine, axis_core_at, group_core_at, instance_at, list_of}
+use Rattle.motion_kernel.specs.kept.Machine.{AreWhole, IsMachineKept, IsSized}
+use Rattle.motion_kernel.specs.kept.Ready.{MayCall}
+use Rattle.motion_kernel.specs.calls.Telling.{told_notes}
+use Rattle.motion_kernel.proofs.kept.Events.{axis_beside_axis, axis_beside_group, axis_written, group_beside_axis, group_beside_group, group_written}
+use Rattle.motion_kernel.proofs.kept.Machine.{MachinesStayKept}
+use Rattle.motion_laws.specs.owners.Commands.{CommandsAreShown, commands_at, commands_shown}
+use Rattle.motion_laws.specs.owners.Objects.{IsThere, Object, has_commands_on, is_same, object_of, a_group, an_axis}
+use Rattle.motion_laws.proofs.owners.Counts.{shown_by, told_shows_none, untold_stays}
+
+-- axis_core's ends_are_told_once
+pub record AxesTellOnce : Type 0 where
+  pub command : (k : ℕ) (q : Asked) (c : cores.Core) → axis.owns k
+      (core_after_command q c) + told k (core_after_command q c).notes
+      ≡ axis.owns k c + told k c.notes + is_owner k
+      (owner_brought (axis_refusals.refusal_of q) q.wanted)
+  pub power : (k : ℕ) (enable : Bool) (c : cores.Core) → axis.owns k
+      (core_after_power enable c) + told k (core_after_power enable c).notes
+      ≡ axis.owns k c + told k c.notes
+  pub cycle : (k : ℕ) (look : AxisLook) (c : cores.Core) → axis.owns k
+      (core_after_cycle look c) + told k (core_after_cycle look c).notes
+      ≡ axis.owns k c + told k c.notes
+  pub taken_away : (k : ℕ) (c : cores.Core) → axis.owns k (core_without_owner k c) ≡ 0
+  pub left : (j k : ℕ) (c : cores.Core) → nat_eq k j ≡ false → axis.owns j (core_without_owner k c)
+      ≡ axis.owns j c
+
+-- group_core's ends_are_told_once
+pub record GroupsTellOnce : Type 0 where
+  pub command : (k : ℕ) (w : Wanted) (jerk : ℤ) (members : GroupLook) (c : group_cores.Core) →
+      group.owns k (commanded w jerk members c) + told k (commanded w jerk members c).notes
+      ≡ group.owns k c + told k c.notes + is_owner k
+      (group.brought (group_refusals.refusal_of (group_calls.asked_in c w jerk members)) w)
+  pub power_off : (k : ℕ) (c : group_cores.Core) → group.owns k (powered_off c) + told k
+      (powered_off c).notes ≡ group.owns k c + told k c.notes
+  pub cycle : (k : ℕ) (members : GroupLook) (c : group_cores.Core) →
+      group.owns k (group_cycles.cycled members c) + told k
+      (group_cycles.cycled members c).notes ≡ group.owns k c + told k c.notes
+  pub reset : (k : ℕ) (members : GroupLook) (c : group_cores.Core) →
+      group.owns k (group_cycles.reset_cycled members c) + told k
+      (group_cycles.reset_cycled members c).notes ≡ group.owns k c + told k c.notes
+  pub taken_away : (k : ℕ) (c : group_cores.Core) → group.owns k (disowned k c) ≡ 0
+  pub left : (j k : ℕ) (c : group_cores.Core) → nat_eq k j ≡ false → group.owns j
+      (disowned k c) ≡ group.owns j c
+
+-- the laws on which it rests that commands are where their instances show
+pub record OwnerLaws : Type 0 where
+  pub machines : MachinesStayKept
+  pub may_call : (s : Setup) (k : ℕ) (b : BlockDef) (i : Inputs) (m : Machine) → AreWhole s →
+      slice_get s.blocks k ≡ Some b → IsCall s k i →
+      IsMachineKept s m → MayCall s k b i (with_execute k i m)
+  pub axes : AxesTellOnce
+  pub groups : GroupsTellOnce
+
+-- objects that are the same
+pub same_object : (o p : Object) → is_same o p ≡ true → o ≡ p
+same_object (an_axis n) (an_axis k) e = ap an_axis (eqb-true n k e)
+same_object (an_axis n) (a_group j) e = absurd (cc)
+same_object (a_group j) (an_axis n) e = absurd (cc)
+same_object (a_group j) (a_group k) e = ap a_group (eqb-true j k e)
+
+pub is_itself : (o : Object) → is_same o o ≡ true
+is_itself (an_axis n) = eq-eqb n n refl
+is_itself (a_group j) = eq-eqb j j refl
+
+-- a block has its commands on one of them
+pub beside_none : (b : Option BlockDef) (o p : Object) → has_commands_on b o ≡ true →
+    is_same o p ≡ false → has_commands_on b p ≡ false
+beside_none None o p e d = absurd (cc)
+beside_none (Some b) o p e d =
+    let parts = and_parts (not (is_power b.kind)) (is_same (object_of b) o) e in
+    let same = same_object (object_of b) o parts.1 in
+    let other : is_same (object_of b) p ≡ false = ap (λ x. is_same x p) same ∙ d in
+    let none : (x y : Bool) → y ≡ false → x && y ≡ false = λ x y h. elim x as
+    (λ z. z && y ≡ false) [ true ↦ h | false ↦ refl ] in
+    none (not (is_power b.kind)) (is_same (object_of b) p) other
+
+pub there_where : {X : Type 0} (xs : List X) (k : ℕ) (x : X) → slice_get xs k ≡ Some x →
+    k < length xs
+there_where [] k x e = absurd (cc)
+there_where (y ∷ ys) zero x e = omega arith
+there_where (y ∷ ys) (suc k) x e = let l = there_where ys k x e in omega arith
+
+pub block_there : (blocks : List BlockDef) (k : ℕ) (o : Object) → has_commands_on
+    (slice_get blocks k) o ≡ true → k < length blocks
+block_there [] k o e = absurd (cc)
+block_there (b ∷ bs) zero o e = omega arith
+block_there (b ∷ bs) (suc k) o e = let l = block_there bs k o e in omega arith
+
+-- an instance's commands are where it shows
+abbrev pub ShownOf : Setup → ℕ → Machine → Type 0
+ShownOf s k m = (o : Object) → IsThere m o →
+    commands_at m k o ≡
+    (if has_commands_on (slice_get s.blocks k) o then shown_by m.instances k else 0)
+
+-- what an event changes of an instance's commands: at one object, those that it has and those of
+-- whose end it is told stay the same together
+pub record Changes (k : ℕ) (m x : Machine) (o : Object) (ns : List Note) : Type 0 where
+  pub there : IsThere m o
+  pub as_many : (p : Object) → IsThere x p → IsThere m p
+  pub here : commands_at x k o + told k ns ≡ commands_at m k o
+  pub beside : (p : Object) → IsThere m p → is_same o p ≡ false →
+      commands_at x k p ≡ commands_at m k p
+  pub told : x.instances ≡ told_notes ns m.instances
+
+-- one that is told nothing has its commands as before
+pub untold_commands : (k : ℕ) (m x : Machine) (o : Object) (ns : List Note) → Changes k m x o ns →
+    told k ns ≡ 0 →
+    (p : Object) → IsThere m p → commands_at x k p ≡ commands_at m k p
+untold_commands k m x o ns h none p there = elim (cases_Bool (is_same o p)) [
+  | inl e ↦ subst (λ q. commands_at x k q ≡ commands_at m k q) (same_object o p e)
+      (let all = h.here in omega arith)
+  | inr d ↦ h.beside p there d
+]
+
+pub shown_where : (b : Bool) (n : ℕ) → 0 < (if b then n else 0) → b ≡ true
+shown_where true n l = refl
+shown_where false n l = absurd (omega arith)
+
+pub most_one : (p : Progress) → commands_shown p ≤ 1
+most_one Idle = omega arith
+most_one Waiting = omega arith
+most_one Active = omega arith
+most_one (Ended f shown) = omega arith
+
+pub shown_if : (b : Bool) (n c : ℕ) → b ≡ true → c ≡ (if b then n else 0) → c ≡ n
+shown_if true n c e h = h
+shown_if false n c e h = absurd (cc)
+
+pub not_shown : (b : Bool) (n c : ℕ) → b ≡ false → c ≡ (if b then n else 0) → c ≡ 0
+not_shown true n c e h = absurd (cc)
+not_shown false n c e h = h
+
+pub none_if : (b : Bool) (n c : ℕ) → n ≡ 0 → c ≡ 0 → c ≡ (if b then n else 0)
+none_if true n c e h = omega arith
+none_if false n c e h = h
+
+pub none_beside : (b : Bool) (n c : ℕ) → b ≡ false → c ≡ 0 → c ≡ (if b then n else 0)
+none_beside true n c e h = absurd (cc)
+none_beside false n c e h = h
+
+-- one that is told has none any more
+pub told_shown : (s : Setup) (k : ℕ) (m x : Machine) (o : Object) (ns : List Note) →
+    Changes k m x o ns → 0 < told k ns → ShownOf s k m → ShownOf s k x
+told_shown s k m x o ns h l shown p there =
+    let b = slice_get s.blocks k in
+    let was = shown o h.there in
+    let all = h.here in
+    let on = shown_where (has_commands_on b o) (shown_by m.instances k) (omega arith) in
+    let one = shown_if (has_commands_on b o) (shown_by m.instances k) (commands_at m k o) on was in
+    let most = most_one (instance_at m.instances k).progress in
+    let left : commands_at x k o ≡ 0 = omega arith in
+    let none : shown_by x.instances k ≡ 0 = ap (λ is. shown_by is k) h.told
+    ∙ told_shows_none k ns m.instances l in
+    elim (cases_Bool (is_same o p)) [
+      | inl e ↦ none_if (has_commands_on b p) (shown_by x.instances k) (commands_at x k p) none
+          (subst (λ q. commands_at x k q ≡ 0) (same_object o p e) left)
+      | inr d ↦
+          let off = beside_none b o p on d in
+          let before = not_shown (has_commands_on b p) (shown_by m.instances k)
+          (commands_at m k p) off (shown p (h.as_many p there)) in
+          none_beside (has_commands_on b p) (shown_by x.instances k) (commands_at x k p) off
+          (h.beside p (h.as_many p there) d ∙ before)
+    ]
+
+pub untold_shown : (s : Setup) (k : ℕ) (m x : Machine) (o : Object) (ns : List Note) →
+    Changes k m x o ns → told k ns ≡ 0 → ShownOf s k m → ShownOf s k x
+untold_shown s k m x o ns h e shown p there =
+    let b = slice_get s.blocks k in
+    let same : shown_by x.instances k ≡ shown_by m.instances k =
+    ap (λ is. shown_by is k) h.told ∙ ap (λ (i : InstanceState). commands_shown i.progress)
+    (untold_stays k ns m.instances e) in
+    untold_commands k m x o ns h e p (h.as_many p there) ∙ shown p (h.as_many p there)
+    ∙ ap (λ n. if has_commands_on b p then n else 0) (sym same)
+
+pub event_shown : (s : Setup) (k : ℕ) (m x : Machine) (o : Object) (ns : List Note) →
+    Changes k m x o ns → ShownOf s k m → ShownOf s k x
+event_shown s k m x o ns h shown = elim (cases_eq (told k ns) 0) [
+  | inl e ↦ untold_shown s k m x o ns h e shown
+  | inr d ↦ told_shown s k m x o ns h (omega arith) shown
+]
+
+-- an event of an axis
+pub axis_as_many : (m : Machine) (n : ℕ) (c : cores.Core) (p : Object) → IsThere
+    (with_axis_core m n c) p → IsThere m p
+axis_as_many m n c (an_axis k) l = let size = length-set m.axes n c.axis in omega arith
+axis_as_many m n c (a_group j) l = l
+
+pub axis_beside : (m : Machine) (n k : ℕ) (c : cores.Core) → n < length m.axes → (p : Object) →
+    IsThere m p → is_same (an_axis n) p ≡ false →
+    commands_at (with_axis_core m n c) k p ≡ commands_at m k p
+axis_beside m n k c l (an_axis j) there d = ap (axis.owns k)
+    (axis_beside_axis m n j c (λ e. eqb-false n j d (sym e)))
+axis_beside m n k c l (a_group j) there d = ap (group.owns k) (group_beside_axis m n j c l)
+
+pub lists_there : (s : Setup) (m : Machine) (n : ℕ) → IsSized s m → n < length m.axes →
+    n < length m.queues
+lists_there s m n h l = let a = h.axes in let q = h.queues in omega arith
+
+pub axis_changes : (s : Setup) (k n : ℕ) (m : Machine) (c : cores.Core) → IsSized s m →
+    n < length m.axes →
+    axis.owns k c + told k c.notes ≡ axis.owns k (axis_core_at m n) → Changes k m
+    (with_axis_core m n c) (an_axis n) c.notes
+axis_changes s k n m c h l e = record {
+  there = l;
+  as_many = axis_as_many m n c;
+  here = ap (λ (x : cores.Core). axis.owns k x + told k c.notes)
+      (axis_written m n c l (lists_there s m n h l)) ∙ e;
+  beside = axis_beside m n k c l;
+  told = refl;
+}
+
+-- an event of a group
+pub group_as_many : (m : Machine) (j : ℕ) (c : group_cores.Core) (p : Object) → IsThere
+    (with_group_core m j c) p → IsThere m p
+group_as_many m j c (an_axis n) l = l
+group_as_many m j c (a_group k) l =
+    let size = length-set m.groups j (record { group = c.group; path = c.path }) in omega arith
+
+pub group_beside : (m : Machine) (j k : ℕ) (c : group_cores.Core) → (p : Object) → IsThere m p →
+    is_same (a_group j) p ≡ false →
+    commands_at (with_group_core m j c) k p ≡ commands_at m k p
+group_beside m j k c (an_axis n) there d = ap (axis.owns k) (axis_beside_group m j n c there)
+group_beside m j k c (a_group i) there d = ap (group.owns k)
+    (group_beside_group m j i c (λ e. eqb-false j i d (sym e)))
+
+pub group_list : (s : Setup) (m : Machine) (j : ℕ) → IsSized s m → j < length m.groups →
+    list_of m j < length m.queues
+group_list s m j h l = let a = h.axes in let g = h.groups in let q = h.queues in omega arith
+
+pub group_changes : (s : Setup) (k j : ℕ) (m : Machine) (c : group_cores.Core) → IsSized s m →
+    j < length m.groups →
+    group.owns k c + told k c.notes ≡ group.owns k (group_core_at m j) → Changes k m
+    (with_group_core m j c) (a_group j) c.notes
+group_changes s k j m c h l e = record {
+  there = l;
+  as_many = group_as_many m j c;
+  here = ap (λ (x : group_cores.Core). group.owns k x + told k c.notes)
+      (group_written m j c l (group_list s m j h l)) ∙ e;
+  beside = group_beside m j k c;
+  told = refl;
+}
+
+-- where nothing else changes than what an instance shows not
+pub instances_shown : (s : Setup) (k : ℕ) (m : Machine) (is : List InstanceState) →
+    shown_by is k ≡ shown_by m.instances k → ShownOf s k m →
+    ShownOf s k (record m { instances = is })
+instances_shown s k m is e shown (an_axis n) there = shown (an_axis n) there ∙ ap
+    (λ x. if has_commands_on (slice_get s.blocks k) (an_axis n) then x else 0) (sym e)
+instances_shown s k m is e shown (a_group j) there = shown (a_group j) there ∙ ap
+    (λ x. if has_commands_on (slice_get s.blocks k) (a_group j) then x else 0) (sym e)
+
+-- all are where they are shown, in a machine of its configuration's sizes
+pub record IsGood (s : Setup) (m : Machine) : Type 0 where
+  pub sized : IsSized s m
+  pub shown : CommandsAreShown s m

@@ -1,0 +1,7 @@
+-- Which ends the instances are told.
+pub mod Events
+pub mod Commands
+pub mod Calls
+pub mod Steps
+pub mod Cycles
+pub mod Told

@@ -1,0 +1,22 @@
+-- What every legal history keeps.
+use Rattle.std.specs.Prelude.{◌≡◌, List, ◌++◌}
+use Rattle.motion_history.specs.Columns.{KeepTheirLimits}
+use Rattle.motion_history.specs.Entries.{Entry}
+use Rattle.motion_history.specs.Setup.{Setup}
+use Rattle.motion_kernel.specs.Histories.{machine_after}
+use Rattle.motion_laws.specs.arrivals.Moves.{MovesArrive}
+use Rattle.motion_laws.specs.entries.Kept.{KeepsEntries}
+use Rattle.motion_laws.specs.arrivals.Paths.{PathsEnd}
+use Rattle.motion_laws.specs.results.Results.{ResultsAreTold}
+use Rattle.motion_laws.specs.limits.Safe.{IsSafe}
+
+-- each row keeps its axis's limits; the machine is safe after every entry; every entry keeps the
+-- laws of entries; the commands that lead an axis or a group to an end come there in time; and each
+-- end is told to the instance whose command it was
+pub record KeepsLaws (s : Setup) (es : List Entry) : Type 0 where
+  pub limits : KeepTheirLimits s es
+  pub safe : (made more : List Entry) → es ≡ made ++ more → IsSafe s (machine_after s made)
+  pub entries : KeepsEntries s es
+  pub moves : MovesArrive s es
+  pub paths : PathsEnd s es
+  pub results : ResultsAreTold s es

@@ -1,0 +1,6 @@
+pub mod owners
+pub mod limits
+pub mod entries
+pub mod arrivals
+pub mod results
+pub mod Laws

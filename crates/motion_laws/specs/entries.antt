@@ -1,0 +1,5 @@
+-- What each entry of a legal history keeps.
+pub mod Refusals
+pub mod Replies
+pub mod Diagrams
+pub mod Kept

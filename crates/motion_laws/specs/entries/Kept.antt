@@ -1,0 +1,38 @@
+-- What each entry of a legal history keeps (PLCopen Motion Control Part 1 and Part 4).
+use Rattle.std.specs.Prelude.{◌≡◌, ℕ, Some, List, ◌∷◌, ◌++◌, slice_get}
+use Rattle.fb_outputs.specs.declared.inputs.Inputs.{Inputs}
+use Rattle.fb_outputs.specs.declared.outputs.Outputs.{Outputs}
+use Rattle.motion_history.specs.Entries.{Entry, call, cycle, end_of}
+use Rattle.motion_history.specs.Setup.{Setup}
+use Rattle.motion_history.specs.declared.config.BlockDef.{BlockDef}
+use Rattle.motion_kernel.specs.calls.Calls.{after_call}
+use Rattle.motion_laws.specs.entries.Diagrams.{FollowsDiagrams}
+use Rattle.motion_kernel.specs.Histories.{after, machine_after}
+use Rattle.motion_kernel.specs.Machine.{Machine}
+use Rattle.motion_laws.specs.owners.Shown.{AreWhereShown}
+use Rattle.motion_laws.specs.entries.Refusals.{IsRefused, machine_refused}
+use Rattle.motion_laws.specs.entries.Replies.{IsReplyOf}
+
+-- a call is answered: its reply is one of its block, and where it is refused nothing has changed
+-- but its instance
+pub record IsAnswered (s : Setup) (m : Machine) (k : ℕ) (i : Inputs) (reply : Outputs)
+    : Type 0 where
+  pub reply_of : (b : BlockDef) → slice_get s.blocks k ≡ Some b → IsReplyOf b i reply
+  pub refused : IsRefused m k i reply → after_call s m k i ≡ machine_refused k reply.error_id m
+
+-- other entries have no reply
+abbrev pub KeepsReply : Setup → Machine → Entry → Type 0
+KeepsReply s m (call k i reply) = IsAnswered s m k i reply
+KeepsReply s m (cycle n rows grows) = Unit {0}
+KeepsReply s m (end_of task) = Unit {0}
+
+-- a call is answered, the states follow their diagrams, and commands are where their instances show
+pub record KeepsEntry (s : Setup) (m : Machine) (e : Entry) : Type 0 where
+  pub reply : KeepsReply s m e
+  pub states : FollowsDiagrams s m e
+  pub commands : AreWhereShown s (after s m e)
+
+-- so it is with each entry after those before it
+abbrev pub KeepsEntries : Setup → List Entry → Type 0
+KeepsEntries s es = (made more : List Entry) (e : Entry) → es ≡ made ++ e ∷ more →
+    KeepsEntry s (machine_after s made) e

@@ -1,0 +1,2 @@
+-- Limits that are kept, and commands that wait.
+pub mod Safe

@@ -1,0 +1,5 @@
+-- Where the commands of instances are.
+pub mod Objects
+pub mod Commands
+pub mod Holders
+pub mod Shown

@@ -1,0 +1,2 @@
+-- Which ends the instances are told.
+pub mod Results

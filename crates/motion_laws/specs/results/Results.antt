@@ -1,0 +1,69 @@
+-- Which end of a command its instance is told, and when it shows it (PLCopen Motion Control Part 1,
+-- general rules).
+use Rattle.std.specs.Prelude.{◌≡◌, ℕ, Bool, true, false, not, ◌&&◌, nat_eq, Option, Some, List, ◌∷◌, ◌++◌}
+use Rattle.std.specs.List.{AllByRecursion}
+use Rattle.command_pool.specs.declared.ending.Finish.{Finish}
+use Rattle.command_pool.specs.declared.ending.Finish.TheVariants as finish
+use Rattle.fb_outputs.specs.declared.inputs.Inputs.{Inputs}
+use Rattle.fb_outputs.specs.declared.outputs.Outputs.{Outputs}
+use Rattle.motion_history.specs.Entries.{Entry, call, cycle, end_of}
+use Rattle.motion_history.specs.Setup.{Setup}
+use Rattle.motion_laws.specs.arrivals.AxisFates.{axis_fate}
+use Rattle.motion_laws.specs.arrivals.GroupFates.{group_fate}
+use Rattle.motion_kernel.specs.Histories.{after, machine_after, replay}
+use Rattle.motion_kernel.specs.Machine.{Machine, instance_at}
+use Rattle.motion_laws.specs.owners.Objects.{IsThere, Object, a_group, an_axis}
+use Rattle.motion_laws.specs.owners.Commands.{active_at, commands_shown}
+
+-- how the active command of an axis or a group ends in an entry, if it does
+abbrev pub end_in : Setup → Machine → Entry → Object → Option Finish
+end_in s m e (an_axis n) = (axis_fate s m e n).ends
+end_in s m e (a_group j) = (group_fate s m e j).ends
+
+-- whether an entry is a call of an instance
+abbrev pub is_call_of : ℕ → Entry → Bool
+is_call_of k (call j i reply) = nat_eq j k
+is_call_of k (cycle c rows grows) = false
+is_call_of k (end_of task) = false
+
+-- whether a call is a rising edge of its instance's Execute, which takes its earlier command away
+abbrev pub is_rising : Machine → ℕ → Inputs → Bool
+is_rising m k i = not (instance_at m.instances k).execute && i.execute
+
+-- whether an entry is such a call of an instance
+abbrev pub takes_away : Machine → ℕ → Entry → Bool
+takes_away m k (call j i reply) = nat_eq j k && is_rising m j i
+takes_away m k (cycle c rows grows) = false
+takes_away m k (end_of task) = false
+
+-- a reply tells an end: Done, CommandAborted, or Error with the number of the error
+abbrev pub Tells : Finish → Outputs → Type 0
+Tells finish.Done o = o.done ≡ true
+Tells finish.Aborted o = o.aborted ≡ true
+Tells (finish.Error n) o = (o.error ≡ true) × (o.error_id ≡ n)
+
+-- none of some entries is a call of an instance
+abbrev pub AreNoCalls : ℕ → List Entry → Type 0
+AreNoCalls k es = AllByRecursion (λ e. is_call_of k e ≡ false) es
+
+-- the next call of an instance in some entries tells the end, unless it is a rising edge
+abbrev pub TellsNext : Setup → ℕ → Finish → Machine → List Entry → Type 0
+TellsNext s k f m es = (before later : List Entry) (i : Inputs) (reply : Outputs) →
+    es ≡ before ++ call k i reply ∷ later → AreNoCalls k before →
+    is_rising (replay s m before) k i ≡ false → Tells f reply
+
+-- what an entry tells an instance, with the entries behind it
+pub record KeepsResults (s : Setup) (m : Machine) (e : Entry) (more : List Entry) (k : ℕ)
+    : Type 0 where
+  -- the instance whose active command ends tells so at its next call, unless a rising edge takes the
+  -- command from it
+  pub told : (o : Object) (f : Finish) → IsThere m o → active_at m k o ≡ 1 →
+      end_in s m e o ≡ Some f → takes_away m k e ≡ false → TellsNext s k f (after s m e) more
+  -- and one without a command is told nothing
+  pub untold : commands_shown (instance_at m.instances k).progress ≡ 0 → is_call_of k e ≡ false →
+      (instance_at (after s m e).instances k).progress ≡ (instance_at m.instances k).progress
+
+-- so it is of each entry of a history and each instance
+abbrev pub ResultsAreTold : Setup → List Entry → Type 0
+ResultsAreTold s es = (made more : List Entry) (e : Entry) (k : ℕ) → es ≡ made ++ e ∷ more →
+    KeepsResults s (machine_after s made) e more k

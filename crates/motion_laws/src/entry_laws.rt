@@ -1,0 +1,26 @@
+// What each entry of a legal history keeps, in one: the contract of a function that does nothing.
+
+ghost use Rattle.std.specs.Prelude.{List};
+ghost use Rattle.motion_history.specs.Entries.{Entry};
+ghost use Rattle.motion_history.specs.Setup.{Setup, IsSetup};
+ghost use Rattle.motion_laws.specs.entries.Kept.{KeepsEntries};
+ghost use Rattle.motion_kernel.specs.Histories.{IsLegal};
+ghost use Rattle.motion_kernel.specs.kept.Machine.{AreWhole};
+
+use crate::diagram_laws::states_follow_the_diagrams;
+use crate::owner_laws::commands_are_where_their_instances_show;
+use crate::refusal_laws::refusals_change_nothing;
+use crate::reply_laws::replies_tell_one_result;
+
+/// In every entry of a legal history a call's reply tells one result, with the number of its error;
+/// a call that is refused changes nothing but its instance; the states of axes and groups follow
+/// their diagrams; and after it each instance shows Waiting or Active exactly where its command is.
+pub fn entries_keep_their_laws()
+    ensures { (s : Setup) (es : List Entry) → IsSetup s → AreWhole s → IsLegal s es →
+        KeepsEntries s es }
+{
+    refusals_change_nothing();
+    replies_tell_one_result();
+    states_follow_the_diagrams();
+    commands_are_where_their_instances_show();
+}

@@ -1,0 +1,33 @@
+// What every legal history keeps, in one: the contract of a function that does nothing.
+
+ghost use Rattle.std.specs.Prelude.{List};
+ghost use Rattle.motion_history.specs.Entries.{Entry};
+ghost use Rattle.motion_history.specs.Setup.{Setup, IsSetup};
+ghost use Rattle.motion_kernel.specs.Histories.{IsLegal};
+ghost use Rattle.motion_laws.specs.Laws.{KeepsLaws};
+ghost use Rattle.motion_kernel.specs.kept.Machine.{AreWhole};
+
+use crate::arrival_laws::{moves_arrive_in_time, paths_end_in_time};
+use crate::entry_laws::entries_keep_their_laws;
+use crate::limit_laws::{at_most_eight_wait, axes_stay_stoppable, rows_keep_limits};
+use crate::result_laws::results_are_told;
+
+/// In every legal history each row keeps its axis's limits; and after every entry each axis that is
+/// driven and each path can be stopped within its limits, and at most eight commands wait for each
+/// axis and each group. Each entry keeps the laws of entries: a refused call changes nothing but its
+/// own instance, each reply tells one result, the states follow their diagrams, and commands are
+/// where their instances show. Each move, Halt and Stop of an axis, and each line, GroupHalt and
+/// GroupStop of a group, comes to its end in time, and no blended move hangs; and each end is told
+/// to the instance whose command it was, and to no other.
+pub fn histories_keep_their_laws()
+    ensures { (s : Setup) (es : List Entry) → IsSetup s → AreWhole s → IsLegal s es →
+        KeepsLaws s es }
+{
+    rows_keep_limits();
+    axes_stay_stoppable();
+    at_most_eight_wait();
+    entries_keep_their_laws();
+    moves_arrive_in_time();
+    paths_end_in_time();
+    results_are_told();
+}

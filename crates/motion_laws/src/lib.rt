@@ -1,0 +1,23 @@
+//! What the motion kernel's legal histories keep: each law is the contract of a function that does
+//! nothing.
+#![tactic(auto)]
+
+mod arrival_laws;
+mod diagram_laws;
+mod entry_laws;
+mod history_laws;
+mod limit_laws;
+mod owner_laws;
+mod refusal_laws;
+mod reply_laws;
+mod result_laws;
+
+pub use arrival_laws::{moves_arrive_in_time, paths_end_in_time};
+pub use diagram_laws::states_follow_the_diagrams;
+pub use entry_laws::entries_keep_their_laws;
+pub use history_laws::histories_keep_their_laws;
+pub use limit_laws::{at_most_eight_wait, axes_stay_stoppable, rows_keep_limits};
+pub use owner_laws::commands_are_where_their_instances_show;
+pub use refusal_laws::refusals_change_nothing;
+pub use reply_laws::replies_tell_one_result;
+pub use result_laws::results_are_told;
