@@ -11,7 +11,7 @@ use Rattle.job_ends.specs.declared.status.Status.TheVariants as status
 use Rattle.machine_drives.specs.Drives.{drive_end}
 use Rattle.motion_history.specs.Entries.{Entry, cycles_of}
 use Rattle.motion_kernel.specs.Histories.{IsLegal}
-use Rattle.motion_kernel.specs.Laws.{KeepsLaws}
+use Rattle.motion_laws.specs.Laws.{KeepsLaws}
 use Rattle.outside.specs.Told.{FileMap, HasFile}
 use Rattle.trace_text.specs.Trace.{trace_text}
 use Rattle.trace_text.specs.declared.command.Command.TheVariants.{Bench}

@@ -6,7 +6,7 @@ use Rattle.std.proofs.lemmas.List.{drop_more}
 use Rattle.std.proofs.lemmas.Bool.{and_parts, ltb-true}
 use Rattle.std.proofs.lemmas.List.Elements.{All-weaker}
 use Rattle.bench_text.specs.BenchState.{BenchState, IsDrive, IsLineOf}
-use Rattle.bench_text.specs.Drives.{rise_above}
+use Rattle.motion_history.specs.Drives.{rise_above}
 use Rattle.bench_text.specs.declared.bench.BenchLine.{BenchLine}
 use Rattle.drive_sim.specs.Faults.{RisesAbove}
 use Rattle.drive_sim.specs.Sim.{DriveSim}
@@ -16,7 +16,7 @@ use Rattle.motion_history.specs.declared.drives.DriveDef.{DriveDef}
 use Rattle.motion_history.specs.Entries.{Entry}
 use Rattle.motion_kernel.specs.Histories.{IsLegal}
 use Rattle.motion_kernel.specs.KernelState.{KernelState}
-use Rattle.motion_kernel.specs.Laws.{KeepsLaws}
+use Rattle.motion_laws.specs.Laws.{KeepsLaws}
 use Rattle.bench_run.specs.LegalRun.{IsLegalRun}
 use Rattle.machine_drives.specs.Drives.{CanOpen}
 use Rattle.bench_run.specs.Going.{IsGoing, run_at}

@@ -10,7 +10,7 @@ use Rattle.group_state.specs.declared.state.GroupRow.{GroupRow}
 use Rattle.motion_history.specs.Columns.{rows_in}
 use Rattle.motion_history.specs.Entries.{Entry, cycle, cycles_of}
 use Rattle.motion_history.specs.Setup.{Setup}
-use Rattle.motion_kernel.specs.Cycles as machine
+use Rattle.motion_kernel.specs.cycles.Cycles as machine
 use Rattle.motion_kernel.specs.Histories.{machine_after}
 use Rattle.machine_drives.specs.Laws.{FollowOutputs}
 use Rattle.bench_run.specs.InStep.{IsInStep}

@@ -7,7 +7,7 @@ use Rattle.drive_sim.specs.Steps.{answer_of}
 use Rattle.group_state.specs.declared.state.GroupRow.{GroupRow}
 use Rattle.machine_drives.specs.Drives.{drives_after, drives_at_opening}
 use Rattle.motion_history.specs.Entries.{Entry, cycle}
-use Rattle.motion_kernel.specs.Cycles.{cycled}
+use Rattle.motion_kernel.specs.cycles.Cycles.{cycled}
 use Rattle.motion_kernel.specs.Histories.{machine_after}
 use Rattle.bench_run.specs.Run.{run_of}
 

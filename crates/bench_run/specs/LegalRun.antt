@@ -1,7 +1,7 @@
 -- What the history of a bench's run keeps. This project's profile.
 use Rattle.bench_text.specs.BenchState.{BenchState}
 use Rattle.motion_kernel.specs.Histories.{IsLegal}
-use Rattle.motion_kernel.specs.Laws.{KeepsLaws}
+use Rattle.motion_laws.specs.Laws.{KeepsLaws}
 use Rattle.bench_run.specs.Run.{run_of}
 
 -- the history of a bench's run is legal, and keeps the laws of the machine

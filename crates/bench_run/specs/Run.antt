@@ -10,8 +10,8 @@ use Rattle.drive_sim.specs.Steps.{answer_of}
 use Rattle.fb_outputs.specs.declared.inputs.Inputs.{Inputs}
 use Rattle.motion_history.specs.Entries.{Entry, call, cycle, end_of, cycles_of}
 use Rattle.motion_history.specs.Setup.{Setup}
-use Rattle.motion_kernel.specs.Calls.{reply_of}
-use Rattle.motion_kernel.specs.Cycles as machine
+use Rattle.motion_kernel.specs.calls.Calls.{reply_of}
+use Rattle.motion_kernel.specs.cycles.Cycles as machine
 use Rattle.motion_kernel.specs.Histories.{machine_after}
 use Rattle.machine_drives.specs.Drives.{drives_at_opening, drives_stepped}
 use Rattle.bench_run.specs.declared.bench.RunFault.{RunFault}

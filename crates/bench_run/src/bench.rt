@@ -2,7 +2,7 @@
 
 ghost use Rattle.std.specs.Prelude.{◌≡◌, IfOk, OnOk};
 ghost use Rattle.motion_kernel.specs.Histories.{IsLegal};
-ghost use Rattle.motion_kernel.specs.Laws.{KeepsLaws};
+ghost use Rattle.motion_laws.specs.Laws.{KeepsLaws};
 ghost use Rattle.bench_run.specs.Going.{IsGoing, run_at};
 ghost use Rattle.bench_run.specs.LegalRun.{IsLegalRun};
 ghost use Rattle.bench_run.specs.Run as spec;
@@ -13,6 +13,7 @@ use drive_sim::Drive;
 use machine_drives::open_drives;
 use motion_history::OutOfMemory;
 use motion_kernel::Kernel;
+use motion_laws::histories_keep_their_laws;
 use std::alloc::Global;
 
 /// Why an event of a bench can't be made.
@@ -37,6 +38,7 @@ fn histories_are_legal(kernel: &Kernel)
     ensures legal { IsLegal kernel.now.config kernel.now.history }
     ensures laws { KeepsLaws kernel.now.config kernel.now.history }
 {
+    histories_keep_their_laws();
     let _ = kernel.history();
 }
 

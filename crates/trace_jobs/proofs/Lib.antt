@@ -1,0 +1,5 @@
+pub mod Joined
+pub mod HistoryLaws
+pub mod CauseLaws
+pub mod MigratedLaws
+pub mod EndLaws

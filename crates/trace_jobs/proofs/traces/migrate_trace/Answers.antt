@@ -1,0 +1,60 @@
+-- A trace was written in version 2, or there was no memory for it.
+use Rattle.std.specs.Prelude.{None, length}
+use Rattle.std.proofs.Common.{◌∙◌, ap, refl, subst, sym}
+use Rattle.motion_history.specs.Setup.{Setup}
+use Rattle.motion_history.specs.declared.refused.TraceVersion.TheVariants.{Two}
+use Rattle.trace_check.specs.Legal.{IsLegalTrace}
+use Rattle.trace_check.specs.Outcomes.{IsReplayed}
+use Rattle.trace_text.specs.Trace.{trace_text}
+use Rattle.trace_text.specs.writing.Writes.{Output, Writes}
+use Rattle.job_ends.specs.Ends.{EndsBy}
+use Rattle.trace_jobs.specs.Judged.{tells_illegal}
+use Rattle.job_ends.specs.declared.status.Status.TheVariants as status
+use Rattle.trace_jobs.proofs.EndLaws.{judges-fair, migrating, not-by}
+use Rattle.trace_jobs.proofs.HistoryLaws.{history_is}
+use Rattle.trace_jobs.proofs.traces.migrate_trace.Goals as goal
+
+pub write_trace-written-requires-clause-drives : goal.write_trace-written-requires-clause-drives
+write_trace-written-requires-clause-drives g c =
+    c.drives.ensures.each
+    ∙ ap (λ (s : Setup). length s.axes) (sym c.config.ensures)
+
+pub returns-in-Ok-Legal-clause-judged : goal.returns-in-Ok-Legal-clause-judged
+returns-in-Ok-Legal-clause-judged g c =
+    let t = c.args.trace.now in
+    let is = subst (IsReplayed t) c.in-Ok-Legal.field-0-is c.in-Ok-Legal.ensures in
+    let fair : IsLegalTrace t = record {
+      history = c.in-Ok-Legal.kernel.history;
+      legal = is.1.legal;
+      is = is.1.is;
+    } in
+    judges-fair t c.status_by.result fair (λ es. c.migrated_traces_are_legal.ensures t es c.requires)
+    (not-by tells_illegal refl refl status.Ok c.status_by.result c.write_trace-written.result refl
+    c.status_by.ensures)
+
+pub returns-in-Ok-Legal-clause-ends : goal.returns-in-Ok-Legal-clause-ends
+returns-in-Ok-Legal-clause-ends g c =
+    let t = c.args.trace.now in
+    let is = subst (IsReplayed t) c.in-Ok-Legal.field-0-is c.in-Ok-Legal.ensures in
+    let history = c.history.ensures.entries
+    ∙ history_is t c.in-Ok-Legal.kernel.history is.1.legal is.1.is in
+    let old : Output = record {
+      count = g.K.Sink.count c.args.out.now;
+      told = g.K.Sink.told c.args.out.now;
+    } in
+    let new : Output = record {
+      count = g.K.Sink.count c.write_trace-written.new.out;
+      told = g.K.Sink.told c.write_trace-written.new.out;
+    } in
+    subst (λ p. EndsBy old new p c.status_by.result) (sym (migrating t None is.0))
+    (record {
+      written = c.write_trace-written.result;
+      writes = subst (λ x. Writes old new x c.write_trace-written.result)
+          (λ i. trace_text Two (c.command.ensures i) (c.config.ensures i) (history i)
+          (c.drives.ensures.items i)) c.write_trace-written.ensures;
+      status = c.status_by.ensures;
+    })
+
+pub returns-in-Err-clause-ends : goal.returns-in-Err-clause-ends
+returns-in-Err-clause-ends g c =
+    c.ends_follow_plans.ensures.early _ _ _ _ (record { status = refl; output = refl })

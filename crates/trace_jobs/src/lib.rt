@@ -1,0 +1,9 @@
+//! The jobs `check` and `migrate`: a trace is replayed and judged, or written in version 2.
+#![tactic(auto)]
+
+mod lines;
+mod traces;
+
+pub use job_ends::Status;
+pub use outside::Sink;
+pub use traces::{check_text, migrate_text};

@@ -1,0 +1,46 @@
+// The lines that tell how a trace was judged.
+
+ghost use Rattle.std.specs.Prelude.{◌≡◌, IfOk, OnOk, ◌++◌};
+ghost use Rattle.trace_jobs.specs.Lines as spec;
+
+use itoa::Buffer;
+use std::alloc::{AllocError, Global};
+use trace_check::{Difference, Record};
+
+/// The line that tells that a trace is legal, with so many entries.
+pub fn legal_line(alloc: Global, entries: u64) -> Result<Vec<u8>, AllocError>
+    ensures { IfOk result (λ line. line.items ≡ spec.legal_line entries) }
+{
+    let mut count = Buffer::new();
+    let mut line = Vec::from_slice(alloc, b"legal ")?;
+    line.extend_from_slice(count.format(entries).as_bytes())?;
+    line.extend_from_slice(b"\n")?;
+    Ok(line)
+}
+
+// Adds a record, its fields with commas between them.
+fn push_record(line: &mut Vec<u8>, fields: &Record) -> Result<(), AllocError>
+    ensures { OnOk result (line.new.items ≡ line.old.items ++ spec.joined fields.now) }
+{
+    line.extend_from_slice(fields.field(0))?;
+    for i in 1..fields.len() as usize {
+        line.extend_from_slice(b",")?;
+        line.extend_from_slice(fields.field(i))?;
+    }
+    Ok(())
+}
+
+/// The lines that tell the first record of a trace that is not the machine's.
+pub fn illegal_lines(alloc: Global, difference: &Difference) -> Result<Vec<u8>, AllocError>
+    ensures { IfOk result (λ line. line.items ≡ spec.illegal_lines difference.now) }
+{
+    let mut place = Buffer::new();
+    let mut line = Vec::from_slice(alloc, b"illegal ")?;
+    line.extend_from_slice(place.format(difference.place).as_bytes())?;
+    line.extend_from_slice(b"\nexpected ")?;
+    push_record(&mut line, &difference.expected)?;
+    line.extend_from_slice(b"\nfound ")?;
+    push_record(&mut line, &difference.found)?;
+    line.extend_from_slice(b"\n")?;
+    Ok(line)
+}

@@ -1,0 +1,120 @@
+// A trace is replayed and judged, or written in version 2.
+
+ghost use Rattle.std.specs.Prelude.{◌≡◌, false};
+ghost use Rattle.job_ends.specs.Ends.{EndsBy};
+ghost use Rattle.trace_jobs.specs.Ends.{EndsByCheck, EndsByMigrate};
+ghost use Rattle.trace_jobs.specs.Judged.{JudgesBy, tells_legal};
+ghost use Rattle.trace_jobs.specs.Plans.{illegal_plan, plan_of_check, plan_of_migrate};
+ghost use Rattle.trace_text.specs.TraceKept.{IsTraceKept};
+
+use crate::lines::{illegal_lines, legal_line};
+use job_ends::{Status, ends_follow_plans, say, say_refused, status_by};
+use motion_history::{OutOfMemory, TextFault, TraceVersion};
+use outside::Sink;
+use std::alloc::Global;
+use trace_check::{Difference, Replayed, Trace, Verdict, check, migrated_traces_are_legal, replay};
+use trace_text::{read_trace, write_trace};
+
+/// Tells whether the trace that a text is is legal.
+pub fn check_text<K: Sink>(alloc: Global, name: &str, text: &[u8], out: &mut K) -> Status
+    ensures { EndsByCheck name.now text.now
+        (record { count = K.count out.old; told = K.told out.old })
+        (record { count = K.count out.new; told = K.told out.new }) result }
+{
+    ends_follow_plans();
+    match read_trace(alloc, text) {
+        Ok(trace) => check_trace(alloc, &trace, out),
+        Err(TextFault::Refused(refused)) => say_refused(alloc, 1, name, &refused, out),
+        Err(TextFault::OutOfMemory) => Status::OutOfMemory,
+    }
+}
+
+// Tells whether a trace is legal.
+fn check_trace<K: Sink>(alloc: Global, trace: &Trace, out: &mut K) -> Status
+    requires { IsTraceKept trace.now }
+    ensures judged { JudgesBy (λ t. t ≡ trace.now) result }
+    ensures ends { EndsBy (record { count = K.count out.old; told = K.told out.old })
+        (record { count = K.count out.new; told = K.told out.new })
+        (plan_of_check trace.now) result }
+{
+    ends_follow_plans();
+    migrated_traces_are_legal();
+    match check(alloc, trace) {
+        Ok(Verdict::Legal { entries }) => {
+            say(legal_line(alloc, entries), Status::Legal { entries }, out)
+        }
+        Ok(
+            Verdict::IllegalAt {
+                place,
+                expected,
+                found,
+            },
+        ) => {
+            let difference = Difference {
+                place,
+                expected,
+                found,
+            };
+            say_difference(alloc, &difference, out)
+        }
+        Err(OutOfMemory) => Status::OutOfMemory,
+    }
+}
+
+/// Writes the trace that a text is in version 2, if it is legal.
+pub fn migrate_text<K: Sink>(alloc: Global, name: &str, text: &[u8], out: &mut K) -> Status
+    ensures { EndsByMigrate name.now text.now
+        (record { count = K.count out.old; told = K.told out.old })
+        (record { count = K.count out.new; told = K.told out.new }) result }
+{
+    ends_follow_plans();
+    match read_trace(alloc, text) {
+        Ok(trace) => migrate_trace(alloc, &trace, out),
+        Err(TextFault::Refused(refused)) => say_refused(alloc, 1, name, &refused, out),
+        Err(TextFault::OutOfMemory) => Status::OutOfMemory,
+    }
+}
+
+// Writes a trace in version 2, if it is legal.
+fn migrate_trace<K: Sink>(alloc: Global, trace: &Trace, out: &mut K) -> Status
+    requires { IsTraceKept trace.now }
+    ensures judged { JudgesBy (λ t. t ≡ trace.now) result }
+    ensures ends { EndsBy (record { count = K.count out.old; told = K.told out.old })
+        (record { count = K.count out.new; told = K.told out.new })
+        (plan_of_migrate trace.now) result }
+{
+    ends_follow_plans();
+    migrated_traces_are_legal();
+    match replay(alloc, trace) {
+        Ok(Replayed::Legal(kernel)) => {
+            let written = write_trace(
+                alloc,
+                TraceVersion::Two,
+                trace.command(),
+                trace.config(),
+                kernel.history(),
+                trace.drives(),
+                out,
+            );
+            status_by(Status::Ok, written)
+        }
+        Ok(Replayed::IllegalAt(difference)) => say_difference(alloc, &difference, out),
+        Err(OutOfMemory) => Status::OutOfMemory,
+    }
+}
+
+// Says the first record of a trace that is not the machine's.
+fn say_difference<K: Sink>(alloc: Global, difference: &Difference, out: &mut K) -> Status
+    ensures legal { tells_legal result ≡ false }
+    ensures ends { EndsBy (record { count = K.count out.old; told = K.told out.old })
+        (record { count = K.count out.new; told = K.told out.new })
+        (illegal_plan difference.now) result }
+{
+    ends_follow_plans();
+    let record = difference.place;
+    say(
+        illegal_lines(alloc, difference),
+        Status::Illegal { record },
+        out,
+    )
+}
