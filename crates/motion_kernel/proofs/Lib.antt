@@ -1,6 +1,7 @@
 -- machines_stay_kept: kept/, by calls in kept/Calls and kept/MayCall, by cycles in kept/Cycles
 -- rows_are_counted: Counted, over calls/AxesLeft and cycles/OneAxis
 -- the kernel's own answers: kept/Kernel, Marked, cycles/Entries
+-- what motion_laws cites: Sizes, calls/, cycles/OneAxis and Rows, kept/, looks/Shown, members/Places
 pub mod Lists
 pub mod Sizes
 pub mod GroupParts

@@ -63,7 +63,7 @@ few_lists s m h =
     let q = h.queues in
     omega arith
 
-told_found_length : (f : Option Bool) (k : ℕ) (is : List InstanceState) → length (told_found f k is) ≡ length is
+pub told_found_length : (f : Option Bool) (k : ℕ) (is : List InstanceState) → length (told_found f k is) ≡ length is
 told_found_length None k is = omega arith
 told_found_length (Some b) k is = length-set is _ _
 

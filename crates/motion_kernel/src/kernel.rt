@@ -202,7 +202,8 @@ impl Kernel {
         self.tasks.quiet(self.layout.config().tasks().len())
     }
 
-    /// The history so far.
+    /// The history so far: a legal one, for a sound configuration whose groups are whole. That is
+    /// what the laws over histories ask of one.
     pub fn history(&self) -> &History
         ensures entries { result.now.entries ≡ self.now.history }
         ensures legal { IsLegal self.now.config self.now.history }

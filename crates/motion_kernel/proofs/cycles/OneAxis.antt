@@ -72,7 +72,7 @@ row_once s (suc n) around m k b =
     ]
 
 -- pending Resets and what the instances are told leave the axes, and what waits for them
-resets_axes : (s : Setup) (n : ℕ) (m : Machine) → (groups_reset s n m).machine.axes ≡ m.axes
+pub resets_axes : (s : Setup) (n : ℕ) (m : Machine) → (groups_reset s n m).machine.axes ≡ m.axes
 unfolding groups_reset
 resets_axes s zero m = refl
 resets_axes s (suc n) m = resets_axes s n m

@@ -70,7 +70,7 @@ grow_count s m ins =
     ∙ steps_groups s (length m.groups) ins m
 
 -- a row shows the answer of its axis's drive
-look_input : (s : Setup) (around : Surroundings) (m : Machine) (n : ℕ) → (axis_look s around m n).input ≡ answer_at around.answers n
+pub look_input : (s : Setup) (around : Surroundings) (m : Machine) (n : ℕ) → (axis_look s around m n).input ≡ answer_at around.answers n
 unfolding axis_look
 look_input s around m n = refl
 

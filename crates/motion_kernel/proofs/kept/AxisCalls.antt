@@ -29,7 +29,8 @@ use Rattle.motion_kernel.specs.kept.Machine.{IsMachineKept, IsMember, IsPlaced, 
 use Rattle.motion_kernel.specs.members.Members.{members_at, membership_of}
 use Rattle.motion_kernel.specs.calls.Telling.{told_notes}
 use Rattle.motion_kernel.specs.declared.memberships.Membership.{Membership}
-use Rattle.motion_kernel.proofs.kept.Events.{axis_event_kept, group_beside_axis, group_changed, group_event_kept, instance_kept, instances_kept, told_length}
+use Rattle.motion_kernel.proofs.kept.Events.{axis_event_kept, group_beside_axis, group_changed, group_event_kept, instance_kept, instances_kept}
+use Rattle.motion_kernel.proofs.Sizes.{told_length}
 use Rattle.motion_kernel.proofs.kept.Laws.{AxesKeepDefinitions, AxesStayKept, AxesStayLed, GroupsComeAlive, GroupsKeepAxes, GroupsStayKept, HeldTakeNoCommand, MembersKeepLimits}
 use Rattle.motion_kernel.proofs.Lists.{sets_swap}
 use Rattle.motion_kernel.proofs.members.Places.{membership_is}

@@ -11,7 +11,7 @@ use Rattle.motion_history.specs.declared.config.BlockDef.{BlockDef}
 use Rattle.motion_kernel.specs.cycles.Cycles.{after_cycle, around_in, cycled, stepped_in}
 use Rattle.motion_kernel.specs.looks.DriveAnswers.{answer_at}
 use Rattle.motion_kernel.specs.cycles.AxisCycles.{axes_cycled}
-use Rattle.motion_kernel.specs.cycles.Showing.{axes_shown, found_by, groups_shown, instance_found, instances_found, owner_of, told_found, with_found}
+use Rattle.motion_kernel.specs.cycles.Showing.{axes_shown, found_by, groups_shown, instance_found, instances_found, owner_of, with_found}
 use Rattle.motion_kernel.specs.looks.AxisLooks.{pair_of}
 use Rattle.motion_kernel.specs.Machine.{Machine, PlacedGroup, axis_among, group_among}
 use Rattle.motion_kernel.specs.kept.Machine.{IsMachineKept}
@@ -22,6 +22,7 @@ use Rattle.motion_kernel.proofs.kept.Events.{instances_kept}
 use Rattle.motion_kernel.proofs.kept.GroupsAndAxes.{moved_machine_kept}
 use Rattle.motion_kernel.proofs.kept.GroupResets.{resets_kept}
 use Rattle.motion_kernel.proofs.kept.GroupSteps.{have_stepped}
+use Rattle.motion_kernel.proofs.Sizes.{told_found_length}
 
 -- the drives answer each axis with a count of 32 bits
 abbrev pub AreCounts : List DriveIn → Machine → Type 0
@@ -43,14 +44,10 @@ unfolding groups_shown
 groups_length zero groups is = refl
 groups_length (suc n) groups is = shown_length (owner_of (group_among groups n).group.active) _ (groups_shown n groups is) ∙ groups_length n groups is
 
-told_length : (f : Option Bool) (k : ℕ) (is : List InstanceState) → length (told_found f k is) ≡ length is
-told_length None k is = refl
-told_length (Some b) k is = length-set is k _
-
 found_length : (o : Option BlockDef) (axes : List Axis) (groups : List PlacedGroup) (k : ℕ) (is : List InstanceState) →
     length (instance_found o axes groups k is) ≡ length is
 found_length None axes groups k is = refl
-found_length (Some b) axes groups k is = told_length (found_by b.kind axes groups k b.object) k is
+found_length (Some b) axes groups k is = told_found_length (found_by b.kind axes groups k b.object) k is
 
 instances_length : (n : ℕ) (blocks : List BlockDef) (axes : List Axis) (groups : List PlacedGroup) (is : List InstanceState) →
     length (instances_found n blocks axes groups is) ≡ length is

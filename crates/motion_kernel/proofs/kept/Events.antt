@@ -18,11 +18,7 @@ use Rattle.motion_kernel.specs.members.Members.{member_at, members_at, membershi
 use Rattle.motion_kernel.specs.calls.Telling.{told_notes}
 use Rattle.motion_kernel.specs.declared.memberships.Membership.{Membership}
 use Rattle.motion_kernel.proofs.members.Places.{membership_is}
-
--- as many instances as before are told
-pub told_length : (ns : List Note) (is : List InstanceState) → length (told_notes ns is) ≡ length is
-told_length [] is = refl
-told_length (n ∷ ns) is = told_length ns (slice_set is n.owner _) ∙ length-set is n.owner _
+use Rattle.motion_kernel.proofs.Sizes.{told_length}
 
 -- a machine has as many axes, groups, lists and instances as another
 pub record IsAsLarge (m after : Machine) : Type 0 where

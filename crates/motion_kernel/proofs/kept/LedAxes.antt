@@ -170,14 +170,8 @@ pub leaves_off : (a : Axis) → is_on_path a ≡ false → axis_led false a ≡ 
 leaves_off a e = rw e refl
 
 state_twice : (s : AxisState) → state_on_path true (state_on_path true s) ≡ state_on_path true s
-state_twice state.Disabled = refl
-state_twice state.ErrorStop = refl
 state_twice state.Standstill = refl
-state_twice state.Homing = refl
-state_twice state.Stopping = refl
-state_twice state.DiscreteMotion = refl
-state_twice state.ContinuousMotion = refl
-state_twice state.SynchronizedMotion = refl
+state_twice _ = refl
 
 on_twice : (a : Axis) → axis_on_path true (axis_on_path true a) ≡ axis_on_path true a
 unfolding axis_on_path
@@ -188,21 +182,15 @@ unfolding axis_on_path
 active_on a = refl
 
 off_state : (s : AxisState) → is_synchronized (state_on_path false s) ≡ false
-off_state state.Disabled = refl
-off_state state.ErrorStop = refl
-off_state state.Standstill = refl
-off_state state.Homing = refl
-off_state state.Stopping = refl
-off_state state.DiscreteMotion = refl
-off_state state.ContinuousMotion = refl
 off_state state.SynchronizedMotion = refl
+off_state _ = refl
 
 pub is_off : (a : Axis) → is_on_path (axis_on_path false a) ≡ false
 unfolding axis_on_path
 is_off a = ap (λ b. b && not (is_some a.active)) (off_state a.state)
 
 -- an axis that is led twice is as if led once
-led_twice : (on : Bool) (a : Axis) → axis_led on (axis_led on a) ≡ axis_led on a
+pub led_twice : (on : Bool) (a : Axis) → axis_led on (axis_led on a) ≡ axis_led on a
 led_twice true a = elim (cases_Bool (is_some a.active)) [
   | inl e ↦ let same = leads_none a e in ap (axis_led true) same
   | inr e ↦

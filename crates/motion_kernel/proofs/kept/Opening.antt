@@ -31,7 +31,7 @@ use Rattle.motion_kernel.proofs.kept.Ready.{member_there}
 use Rattle.motion_kernel.proofs.members.Members.{each_of}
 
 -- nothing waits at first
-none_waits : (n i : ℕ) → queue_of (replicate n []) i ≡ []
+pub none_waits : (n i : ℕ) → queue_of (replicate n []) i ≡ []
 none_waits zero i = refl
 none_waits (suc n) zero = refl
 none_waits (suc n) (suc i) = none_waits n i

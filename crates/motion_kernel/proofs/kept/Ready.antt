@@ -76,7 +76,7 @@ led_runs false a e h =
     let here = subst (λ (s : AxisState). IsInState s a.driven (is_powered a) a.was_off a.previous a.setpoint a.active) e h in
     here.running.on
 
-driven_kept : (d : Bool) (l : Limits) (before now : ℤ) → d ≡ true → IsSet d l before now → IsKept l before now
+pub driven_kept : (d : Bool) (l : Limits) (before now : ℤ) → d ≡ true → IsSet d l before now → IsKept l before now
 driven_kept true l before now e h = h
 driven_kept false l before now e h = absurd (cc)
 

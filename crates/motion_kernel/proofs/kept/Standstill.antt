@@ -42,14 +42,8 @@ none_of p (x ∷ xs) zero d h l = (or_parts (p x) (list_any p xs) h).0
 none_of p (x ∷ xs) (suc i) d h l = none_of p xs i d (or_parts (p x) (list_any p xs) h).1 (omega arith)
 
 not_moved : (s : AxisState) → is_moved s ≡ false → s ≡ Standstill
-not_moved Disabled e = absurd (cc)
-not_moved ErrorStop e = absurd (cc)
 not_moved Standstill e = refl
-not_moved Homing e = absurd (cc)
-not_moved Stopping e = absurd (cc)
-not_moved DiscreteMotion e = absurd (cc)
-not_moved ContinuousMotion e = absurd (cc)
-not_moved SynchronizedMotion e = absurd (cc)
+not_moved _ e = absurd (cc)
 
 pub none_moved : (s : Setup) (m : Machine) (j error place : ℕ) → length (members_at s j) ≤ 6 → place < length (members_at s j) →
     list_any is_moved (states_in (group_look s m j error)) ≡ false → (axis_at m (member_at (members_at s j) place)).state ≡ Standstill

@@ -18,7 +18,7 @@ use Rattle.command_pool.specs.declared.wanted.Wanted.{Wanted}
 use Rattle.group_core.specs.Calls.{asked_in, commanded, group_without, powered_off}
 use Rattle.group_core.specs.Cores.{Core}
 use Rattle.group_core.specs.Cycles as group
-use Rattle.group_core.specs.Cycles.{path_taken, reset_cycled, reset_where, step_of}
+use Rattle.group_core.specs.Cycles.{path_taken, step_of}
 use Rattle.group_core.specs.Fates.{Fate, admitted_fate, asked_fate, command_fate, cycle_fate, goes_on, line_fate, power_off_fate, replaced}
 use Rattle.group_core.specs.GroupKept.{IsCoreKept, IsPathOf}
 use Rattle.group_core.specs.Refusals.{limits_in, refusal_of}
@@ -36,22 +36,22 @@ use Rattle.motion_history.specs.Setup.{Setup, IsSetup}
 use Rattle.motion_history.specs.declared.config.GroupDef.{GroupDef}
 use Rattle.motion_kernel.specs.cycles.Cycles.{look_of_axis, look_of_group, after_cycle, around_in}
 use Rattle.motion_kernel.specs.looks.AxisLooks.{Surroundings, axis_look, place_asked, step_at}
-use Rattle.motion_kernel.specs.looks.DriveAnswers.{answer_at}
 use Rattle.motion_kernel.specs.cycles.GroupSteps.{error_of_group}
-use Rattle.motion_laws.specs.arrivals.Paths.{AreAtEnd}
-use Rattle.motion_laws.specs.arrivals.GroupFates.{group_fate}
 use Rattle.motion_kernel.specs.Histories.{Follows, IsOf, after, inputs_of, replay}
 use Rattle.motion_kernel.specs.Machine.{Machine, axis_at, axis_core_at, group_at, group_at_opening, group_core_at, machine_at_opening, no_group}
 use Rattle.motion_kernel.specs.kept.Machine.{AreWhole, IsMachineKept, limits_of}
 use Rattle.motion_kernel.specs.members.Members.{member_at, members_at, membership_of}
-use Rattle.motion_laws.proofs.arrivals.GroupCalls.{IsByFate, by_call}
-use Rattle.motion_laws.proofs.arrivals.Paths.{GroupLaws, IsLasting, by_cycle, kept_after, there}
 use Rattle.motion_kernel.proofs.kept.AxisCycles.{none_fails}
 use Rattle.motion_kernel.proofs.kept.AxesEnter.{led_on_path}
 use Rattle.motion_kernel.proofs.kept.Ready.{member_kept}
 use Rattle.motion_kernel.proofs.kept.GroupSteps.{have_stepped}
 use Rattle.motion_kernel.proofs.cycles.OneAxis.{goes_through}
 use Rattle.motion_kernel.proofs.Sizes.{by_if}
+use Rattle.motion_kernel.proofs.cycles.Rows.{look_input}
+use Rattle.motion_laws.specs.arrivals.Paths.{AreAtEnd}
+use Rattle.motion_laws.specs.arrivals.GroupFates.{group_fate}
+use Rattle.motion_laws.proofs.arrivals.GroupCalls.{IsByFate, by_call}
+use Rattle.motion_laws.proofs.arrivals.Paths.{GroupLaws, IsLasting, by_cycle, kept_after, there}
 
 -- group_core's lines_lead_to_their_targets
 pub record LinesLead : Type 0 where
@@ -195,12 +195,6 @@ toward_here laws s es j setup whole f l =
     ap (λ g. g.path) (get_or-map group_at_opening s.groups j no_def no_group l) in
     toward_kept laws s 0 m es j whole (laws.groups.machines.opened s setup whole) f l
     (nowhere (group_at m j).group.active (group_at m j).path off)
-
--- what an axis of a group looks at
-look_input : (s : Setup) (around : Surroundings) (m : Machine) (n : ℕ) →
-    (axis_look s around m n).input ≡ answer_at around.answers n
-unfolding axis_look
-look_input s around m n = refl
 
 look_path : (s : Setup) (around : Surroundings) (m : Machine) (n : ℕ) →
     (axis_look s around m n).path ≡ place_asked (membership_of s n) around.steps

@@ -1,7 +1,6 @@
 -- Every axis and every path of a kept machine can be stopped.
 use Rattle.std.specs.Prelude.{◌≡◌, ℕ, ◌<◌, ℤ, Bool, true, false, Some, length, map}
 use Rattle.std.proofs.Common.{arith, subst}
-use Rattle.axis_core.specs.AxisKept.{IsSet}
 use Rattle.group_core.specs.GroupKept.{IsPathOf}
 use Rattle.group_core.specs.Tracks.{OnPath}
 use Rattle.kin_core.specs.Admissible.{IsKept}
@@ -10,11 +9,7 @@ use Rattle.motion_history.specs.Setup.{Setup}
 use Rattle.motion_kernel.specs.Machine.{Machine, axis_at, group_at}
 use Rattle.motion_kernel.specs.kept.Machine.{IsMachineKept, limits_of}
 use Rattle.motion_kernel.specs.members.Members.{members_at}
-
--- a driven axis
-set_driven : (b : Bool) (l : Limits) (previous setpoint : ℤ) → b ≡ true → IsSet b l previous setpoint → IsKept l previous setpoint
-set_driven true l previous setpoint e h = h
-set_driven false l previous setpoint e h = absurd (cc)
+use Rattle.motion_kernel.proofs.kept.Ready.{driven_kept}
 
 pub axis_stoppable : (s : Setup) (m : Machine) (n : ℕ) → IsMachineKept s m → n < length s.axes → (axis_at m n).driven ≡ true →
     IsKept (limits_of s n) (axis_at m n).previous (axis_at m n).setpoint
@@ -24,7 +19,7 @@ axis_stoppable s m n h l driven =
     let one = h.axes n (omega arith) in
     let a = axis_at m n in
     let P : Limits → Type 0 = λ ls. IsKept ls a.previous a.setpoint in
-    subst P one.limits (set_driven a.driven a.limits a.previous a.setpoint driven one.core.axis.base.set)
+    subst P one.limits (driven_kept a.driven a.limits a.previous a.setpoint driven one.core.axis.base.set)
 
 -- a path
 pub path_stoppable : (s : Setup) (m : Machine) (j : ℕ) (p : OnPath) → IsMachineKept s m → j < length s.groups → (group_at m j).path ≡ Some p →

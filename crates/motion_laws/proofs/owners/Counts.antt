@@ -261,7 +261,7 @@ answered_done : (kind : BlockKind) (i : InstanceState) → is_done_at_once kind 
 answered_done kind i e = rw e refl
 
 -- the command that an instance brings to an axis is what it shows
-owned_one : (k : ℕ) (o : Option ℕ) → o ≡ Some k → is_owner k o ≡ 1
+pub owned_one : (k : ℕ) (o : Option ℕ) → o ≡ Some k → is_owner k o ≡ 1
 owned_one k o e = subst (λ x. is_owner k x ≡ 1) (sym e) (owner_is k)
 
 brings_one : (kind : BlockKind) (active : Bool) (i : InstanceState) (k : ℕ) (o : Option ℕ) →

@@ -6,11 +6,8 @@ use Rattle.axis_core.specs.AxisKept as axis
 use Rattle.axis_core.specs.Calls.{core_after_command, core_after_power}
 use Rattle.axis_core.specs.Changes.{GoesBy}
 use Rattle.axis_core.specs.Demands as demands
-use Rattle.axis_core.specs.States.{is_synchronized}
-use Rattle.axis_core.specs.blocks.Path.{axis_on_path, is_on_path, state_on_path}
+use Rattle.axis_core.specs.blocks.Path.{axis_on_path, is_on_path}
 use Rattle.axis_core.specs.declared.axis.Axis.{Axis}
-use Rattle.axis_state.specs.declared.state.AxisState.{AxisState}
-use Rattle.axis_state.specs.declared.state.AxisState.TheVariants as axis_state
 use Rattle.command_pool.specs.Kinds.{acts_on_group}
 use Rattle.command_pool.specs.declared.ending.Refusal.{Refusal}
 use Rattle.command_pool.specs.declared.kind.BlockKind.{BlockKind}
@@ -37,49 +34,9 @@ use Rattle.motion_kernel.specs.declared.memberships.Membership.{Membership}
 use Rattle.motion_kernel.proofs.kept.Events.{instance_kept}
 use Rattle.motion_kernel.proofs.kept.Detached.{disowned_kept}
 use Rattle.motion_kernel.proofs.Sizes.{by_if}
+use Rattle.motion_kernel.proofs.kept.LedAxes.{led_twice}
 use Rattle.motion_laws.specs.entries.Diagrams.{FollowsDiagrams, GroupGoesBy}
 use Rattle.motion_laws.proofs.entries.diagrams.Rows.{AxesFollow, GroupsFollow, DiagramLaws, axis_stays, next_goes, GoOn, all_stay, from_disowned, one_group, axis_event}
-
--- an axis that is led goes by one row, also where it is led again
-leave_path : (s : AxisState) (x : Bool) → is_synchronized (state_on_path false s) && x ≡ false
-leave_path axis_state.SynchronizedMotion x = refl
-leave_path _ x = refl
-
-enter_path : (s : AxisState) → state_on_path true (state_on_path true s) ≡ state_on_path true s
-enter_path axis_state.Standstill = refl
-enter_path _ = refl
-
-led_where : (a : Axis) (b : Bool) → is_some a.active ≡ b → axis_led true a ≡
-    (if b then a else axis_on_path true a)
-led_where a b e = ap (λ x. if x then a else axis_on_path true a) e
-
-left_where : (a : Axis) (b : Bool) → is_on_path a ≡ b → axis_led false a ≡
-    (if b then axis_on_path false a else a)
-left_where a b e = ap (λ x. if x then axis_on_path false a else a) e
-
-led_again : (a : Axis) (b : Bool) → is_some a.active ≡ b → axis_led true
-    (axis_led true a) ≡ axis_led true a
-unfolding axis_on_path
-led_again a true e = ap (axis_led true) (led_where a true e)
-led_again a false e =
-    let once = led_where a false e in
-    let again = led_where (axis_on_path true a) false e in
-    let same : axis_on_path true (axis_on_path true a) ≡ axis_on_path true a = ap
-    (λ s. record a { state = s }) (enter_path a.state) in
-    ap (axis_led true) once ∙ again ∙ same ∙ sym once
-
-left_again : (a : Axis) (b : Bool) → is_on_path a ≡ b → axis_led false
-    (axis_led false a) ≡ axis_led false a
-unfolding axis_on_path
-left_again a true e =
-    let once = left_where a true e in
-    let again = left_where (axis_on_path false a) false (leave_path a.state _) in
-    ap (axis_led false) once ∙ again ∙ sym once
-left_again a false e = ap (axis_led false) (left_where a false e)
-
-led_twice : (on : Bool) (a : Axis) → axis_led on (axis_led on a) ≡ axis_led on a
-led_twice true a = led_again a (is_some a.active) refl
-led_twice false a = left_again a (is_on_path a) refl
 
 -- an axis as it was, or led
 abbrev Led : Bool → Axis → Axis → Type 0

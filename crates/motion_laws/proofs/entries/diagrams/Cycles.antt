@@ -29,6 +29,7 @@ use Rattle.motion_kernel.specs.kept.Ready.{MayGoOn}
 use Rattle.motion_kernel.proofs.cycles.Rows.{axes_count, axes_groups}
 use Rattle.motion_kernel.proofs.kept.Events.{axis_beside_axis}
 use Rattle.motion_kernel.proofs.kept.GroupSteps.{have_stepped}
+use Rattle.motion_kernel.proofs.cycles.OneAxis.{resets_axes}
 use Rattle.motion_laws.specs.entries.Diagrams.{FollowsDiagrams, GroupGoesBy}
 use Rattle.motion_laws.proofs.entries.diagrams.Rows.{AxesFollow, GroupsFollow, DiagramLaws, go_on, next_goes}
 
@@ -71,12 +72,6 @@ axes_go laws s (suc n) around m kept may l =
       rest = λ k b. axis_beside_axis x n k (core_after_cycle look c) (λ e. omega arith)
           ∙ so_far.rest k (omega arith);
     }
-
--- pending GroupResets, and what the instances are told, leave the axes
-resets_axes : (s : Setup) (n : ℕ) (m : Machine) → (groups_reset s n m).machine.axes ≡ m.axes
-unfolding groups_reset
-resets_axes s zero m = refl
-resets_axes s (suc n) m = resets_axes s n m
 
 -- the groups before n had their GroupResets done
 record HaveReset (n : ℕ) (m x : Machine) : Type 0 where

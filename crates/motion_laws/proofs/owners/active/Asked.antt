@@ -23,14 +23,15 @@ use Rattle.motion_kernel.specs.calls.Calls.{after_axis_command, after_group_comm
 use Rattle.motion_kernel.specs.looks.GroupLooks.{group_look}
 use Rattle.motion_kernel.specs.Machine.{Machine, axis_among, axis_core_at, group_core_at, instance_at}
 use Rattle.motion_kernel.specs.members.Members.{members_at}
-use Rattle.motion_kernel.proofs.kept.Events.{axis_written, group_written, told_length}
-use Rattle.motion_kernel.proofs.Sizes.{by_if}
+use Rattle.motion_kernel.proofs.kept.Events.{axis_written, group_written}
+use Rattle.motion_kernel.proofs.Sizes.{told_length, by_if}
 use Rattle.motion_laws.specs.owners.Commands.{ActiveAreShown, active_at, active_shown, commands_at}
 use Rattle.motion_laws.specs.owners.Objects.{IsThere, Object, has_commands_on, is_same, object_of, a_group, an_axis}
 use Rattle.motion_laws.proofs.owners.active.AxisCounts.{active_of, command_no_more, own_active}
 use Rattle.motion_laws.proofs.owners.active.GroupCounts.{group_active_of, group_command_no_more, group_own_active}
 use Rattle.motion_laws.proofs.owners.Counts.{other_owner}
-use Rattle.motion_laws.proofs.owners.commands.Asked.{other_brings, other_brings_group, one_led, members_are_led, plus_nothing, same_there, set_at}
+use Rattle.motion_laws.proofs.owners.commands.Asked.{other_brings, other_brings_group, members_are_led, plus_nothing, same_there, set_at}
+use Rattle.motion_kernel.proofs.calls.Leading.{one_led}
 use Rattle.motion_laws.proofs.owners.commands.Events.{OwnerLaws, axis_as_many, axis_changes, group_as_many, group_changes, group_list, lists_there, same_object}
 use Rattle.motion_laws.proofs.owners.commands.Freed.{IsAsking}
 use Rattle.motion_laws.proofs.owners.active.Events.{active_by, all_are, ActiveOf, event_active, axis_active_beside, group_active_beside, axis_keeps, group_keeps, beside_active}

@@ -34,7 +34,7 @@ use Rattle.motion_kernel.specs.calls.Asking.{is_done_at_once}
 use Rattle.motion_kernel.specs.calls.Calls.{answered_instance}
 use Rattle.motion_kernel.proofs.Sizes.{by_if}
 use Rattle.motion_laws.specs.owners.Commands.{active_shown}
-use Rattle.motion_laws.proofs.owners.Counts.{none_owned, owner_is}
+use Rattle.motion_laws.proofs.owners.Counts.{none_owned, owned_one}
 
 -- whether an instance has the active command, and how many of its commands wait, a reset among them
 abbrev pub active_of : ℕ → Core → ℕ
@@ -134,9 +134,6 @@ pub active_by : (x : BlockKind) (b : Bool) (i : InstanceState) → active_shown
 active_by x true i = refl
 active_by x false i =
     by_if (λ (j : InstanceState). active_shown j.progress ≡ 0) (is_done_at_once x) _ _ refl refl
-
-pub owned_one : (k : ℕ) (o : Option ℕ) → o ≡ Some k → is_owner k o ≡ 1
-owned_one k o e = subst (λ x. is_owner k x ≡ 1) (sym e) (owner_is k)
 
 joined_active : (k : ℕ) (w : Wanted) (c : Core) (b : Bool) → is_active_at_once (queue_in c) w ≡ b →
     w.owner ≡ Some k → active_of k c ≡ 0 →

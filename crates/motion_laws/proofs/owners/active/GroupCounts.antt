@@ -25,8 +25,8 @@ use Rattle.group_core.specs.Tracks.{OnPath, places_at}
 use Rattle.motion_kernel.specs.calls.Calls.{answered_instance}
 use Rattle.motion_kernel.proofs.Sizes.{by_if}
 use Rattle.motion_laws.specs.owners.Commands.{active_shown}
-use Rattle.motion_laws.proofs.owners.Counts.{none_owned}
-use Rattle.motion_laws.proofs.owners.active.AxisCounts.{HasNoMore, admitted_no_more, not_at_once, active_by, owned_one}
+use Rattle.motion_laws.proofs.owners.Counts.{none_owned, owned_one}
+use Rattle.motion_laws.proofs.owners.active.AxisCounts.{HasNoMore, admitted_no_more, not_at_once, active_by}
 
 abbrev pub group_active_of : ℕ → groups.Core → ℕ
 group_active_of k c = is_owner k (owner_by c.group.active)

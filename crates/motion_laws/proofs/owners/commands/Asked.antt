@@ -32,8 +32,9 @@ use Rattle.motion_kernel.specs.calls.Calls.{after_axis_command, after_group_comm
 use Rattle.motion_kernel.specs.looks.GroupLooks.{group_look}
 use Rattle.motion_kernel.specs.Machine.{Machine, axis_among, axis_at, axis_core_at, group_at, group_core_at, instance_at, no_instance}
 use Rattle.motion_kernel.specs.members.Members.{members_at}
-use Rattle.motion_kernel.proofs.kept.Events.{axis_written, group_written, told_length}
-use Rattle.motion_kernel.proofs.Sizes.{by_if}
+use Rattle.motion_kernel.proofs.kept.Events.{axis_written, group_written}
+use Rattle.motion_kernel.proofs.Sizes.{told_length, by_if}
+use Rattle.motion_kernel.proofs.calls.Leading.{one_led}
 use Rattle.motion_laws.specs.owners.Commands.{CommandsAreShown, commands_at, commands_shown}
 use Rattle.motion_laws.specs.owners.Objects.{IsThere, Object, has_commands_on, is_same, object_of, a_group, an_axis}
 use Rattle.motion_laws.proofs.owners.Counts.{answer_shows, command_untold, group_answer_shows, group_command_untold, none_owned, other_owner, shown_by}
@@ -172,9 +173,6 @@ one_led_owns k on (a ∷ more) zero zero ws = led_owns k on a ws
 one_led_owns k on (a ∷ more) zero (suc n) ws = refl
 one_led_owns k on (a ∷ more) (suc i) zero ws = refl
 one_led_owns k on (a ∷ more) (suc i) (suc n) ws = one_led_owns k on more i n ws
-
-abbrev pub one_led : Bool → ℕ → Machine → Machine
-one_led on n m = record m { axes = slice_set m.axes n (axis_led on (axis_at m n)) }
 
 pub one_led_commands : (on : Bool) (i : ℕ) (m : Machine) (k : ℕ) (o : Object) → commands_at
     (one_led on i m) k o ≡ commands_at m k o

@@ -5,7 +5,6 @@ use Rattle.axis_core.specs.Cycles.{axis_at_opening}
 use Rattle.axis_core.specs.Owners as axis
 use Rattle.axis_state.specs.declared.definition.AxisDef.{AxisDef}
 use Rattle.buffer_modes.specs.Owners.{is_owner}
-use Rattle.command_pool.specs.Waiting.{queue_of}
 use Rattle.command_pool.specs.declared.wanted.Wanted.{Wanted}
 use Rattle.group_core.specs.Owners as group
 use Rattle.group_core.specs.Tracks.{OnPath}
@@ -13,16 +12,11 @@ use Rattle.motion_history.specs.Setup.{Setup}
 use Rattle.motion_history.specs.declared.config.BlockDef.{BlockDef}
 use Rattle.motion_history.specs.declared.config.GroupDef.{GroupDef}
 use Rattle.motion_kernel.specs.Machine.{axis_among, group_among, group_at, group_at_opening, instance_at_opening_of, list_of, machine_at_opening, no_axis, no_group}
+use Rattle.motion_kernel.proofs.kept.Opening.{none_waits}
 use Rattle.motion_laws.specs.owners.Commands.{CommandsAreShown}
 use Rattle.motion_laws.specs.owners.Objects.{a_group, an_axis}
 use Rattle.motion_laws.proofs.owners.Counts.{shown_by}
 use Rattle.motion_laws.proofs.owners.commands.Events.{none_if}
-
--- at opening nobody has a command, and none shows one
-pub none_waits : (n list : ℕ) → queue_of (replicate n []) list ≡ []
-none_waits zero list = refl
-none_waits (suc n) zero = refl
-none_waits (suc n) (suc list) = none_waits n list
 
 pub axis_opens : (k : ℕ) (axes : List AxisDef) (n : ℕ) (ws : List Wanted) → ws ≡ [] →
     axis.owns k

@@ -35,7 +35,8 @@ use Rattle.motion_laws.specs.owners.Shown.{AreWhereShown}
 use Rattle.motion_laws.specs.owners.Objects.{IsThere, Object, has_commands_on, is_same, object_of, a_group, an_axis}
 use Rattle.motion_laws.specs.owners.Holders.{holder_at}
 use Rattle.motion_laws.proofs.owners.active.Calls.{call_truly_shown}
-use Rattle.motion_laws.proofs.owners.commands.Asked.{members_are_led, one_led}
+use Rattle.motion_laws.proofs.owners.commands.Asked.{members_are_led}
+use Rattle.motion_kernel.proofs.calls.Leading.{one_led}
 use Rattle.motion_laws.proofs.owners.commands.Events.{OwnerLaws, is_itself}
 use Rattle.motion_laws.proofs.owners.commands.Freed.{as_many_without, axis_disowned, group_disowned}
 use Rattle.motion_laws.proofs.owners.holders.Axes.{Stays, HoldsBy, command_holds, power_holds}
