@@ -11,7 +11,8 @@ WordsLead meaning s [] t = t ≡ s
 WordsLead meaning s (first ∷ words) t = meaning s (first ∷ words) ≡ Ok t
 
 -- a line is clean, and spells words that lead the reader on
-pub record LineLeads {S : Type 0} (meaning : Meaning S) (s : S) (line : List ℕ) (t : S) : Type 0 where
+pub record LineLeads {S : Type 0} (meaning : Meaning S) (s : S) (line : List ℕ) (t : S) :
+    Type 0 where
   pub words : List (List ℕ)
   pub clean : IsTrue (is_clean line)
   pub spelled : SpellsWords line words

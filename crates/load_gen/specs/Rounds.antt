@@ -11,8 +11,8 @@ use Rattle.load_gen.specs.declared.round.Round.{Round}
 abbrev pub modes : List BufferMode
 modes = Aborting ∷ Buffered ∷ BlendingLow ∷ BlendingPrevious ∷ BlendingNext ∷ BlendingHigh ∷ []
 
--- how many positions there are, in steps of 1,000 internal units from 0: some lie beyond the highest
--- place of an axis
+-- how many positions there are, in steps of 1,000 internal units from 0: some lie beyond the
+-- highest place of an axis
 abbrev pub positions : ℕ
 positions = 1100001
 

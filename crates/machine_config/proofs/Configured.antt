@@ -4,6 +4,8 @@ use Rattle.std.specs.Prelude.{IfOk}
 use Rattle.std.specs.Str.{IsUtf8, is_utf8}
 use Rattle.std.proofs.lemmas.Bool.{cases_Bool}
 use Rattle.std.proofs.lemmas.Str.{IsUtf8-from_is_utf8, is_utf8-from_IsUtf8}
+use Rattle.line_text.specs.Rules.{broken_unless, in_range}
+use Rattle.machine_words.specs.declared.units.TheConstants.{LONGEST_CYCLE, SHORTEST_CYCLE}
 use Rattle.motion_history.specs.declared.refused.TextFault.{TextFault}
 use Rattle.motion_history.specs.declared.refused.TextRefused.{TextRefused}
 use Rattle.motion_history.specs.declared.sizes.TheConstants.{MOST_CYCLES, MOST_ENTRIES}
@@ -12,7 +14,6 @@ use Rattle.toml.specs.Parse.{parse_document}
 use Rattle.machine_config.specs.Configured.{AddsItem, Configures, GivesTop, ItemsLead}
 use Rattle.machine_config.specs.Keys.{has_keys}
 use Rattle.machine_config.specs.Reading.{Reads, at_place, document_of, document_reading, item_meaning, items_meaning, items_of, machine_of, top_reading}
-use Rattle.machine_config.specs.Rules.{broken_unless, in_range}
 use Rattle.machine_config.specs.Tops.{are_counted, bare_setup, top_meaning}
 use Rattle.machine_config.specs.Values.{integer_at}
 use Rattle.machine_config.specs.declared.item.ItemKind.{ItemKind}
@@ -20,16 +21,20 @@ use Rattle.machine_config.specs.declared.item.ItemKind.TheVariants as kind
 use Rattle.machine_config.specs.declared.key.Key.TheVariants.{Cycles, CycleUs, Entries}
 use Rattle.machine_config.specs.declared.key.TheConstants.{TOP_KEYS}
 use Rattle.machine_config.specs.declared.machine.Machine.{Machine}
-use Rattle.machine_config.specs.declared.machine.TheConstants.{LONGEST_CYCLE, SHORTEST_CYCLE}
-use Rattle.machine_config.specs.declared.rule.TheConstants.{NO_TOML, WRONG_COUNT, WRONG_KEY}
+use Rattle.machine_config.specs.declared.rule.TheConstants.{NO_TOML, OUT_OF_RANGE, WRONG_COUNT, WRONG_KEY}
+use Rattle.line_text.proofs.Results.{bind_ok, found, holds, ok_is}
+use Rattle.machine_words.proofs.Tables.{AreTold}
 use Rattle.machine_config.proofs.Items.{axis-read, axis-told, group-read, group-told, table-read, table-told}
-use Rattle.machine_config.proofs.Points.{AreTold}
-use Rattle.machine_config.proofs.Results.{bind_ok, found, holds, ok_is, place-ok}
 use Rattle.machine_config.proofs.Told.{AreSpelled, range-read, range-told}
 
 -- the machine before its items
 abbrev pub bare : ℕ → ℕ → ℕ → Machine
 bare cycle_us cycles entries = record { config = bare_setup cycles entries; cycle_us = cycle_us; drives = [] }
+
+-- a place that breaks no rule
+place-ok : {A : Type 0} (r : Result A ℕ) (place : ℕ) (x : A) → at_place place r ≡ Ok x → r ≡ Ok x
+place-ok (Ok y) place x h = let e : y ≡ x = cc in cc
+place-ok (Err rule) place x h = absurd (cc)
 
 -- ---- items
 
@@ -70,13 +75,13 @@ top-told : (top : Members) (m : Machine) → top_meaning top ≡ Ok m → GivesB
 unfolding top_meaning
 top-told top m h =
     let keys = bind_ok (broken_unless (has_keys TOP_KEYS top) WRONG_KEY) _ m h in
-    let cycle_us = bind_ok (in_range SHORTEST_CYCLE LONGEST_CYCLE (integer_at CycleUs top)) _ m keys.2 in
-    let cycles = bind_ok (in_range 1 MOST_CYCLES (integer_at Cycles top)) _ m cycle_us.2 in
-    let entries = bind_ok (in_range 1 MOST_ENTRIES (integer_at Entries top)) _ m cycles.2 in
+    let cycle_us = bind_ok (in_range SHORTEST_CYCLE LONGEST_CYCLE OUT_OF_RANGE (integer_at CycleUs top)) _ m keys.2 in
+    let cycles = bind_ok (in_range 1 MOST_CYCLES OUT_OF_RANGE (integer_at Cycles top)) _ m cycle_us.2 in
+    let entries = bind_ok (in_range 1 MOST_ENTRIES OUT_OF_RANGE (integer_at Entries top)) _ m cycles.2 in
     let counted = bind_ok (broken_unless (are_counted top) WRONG_COUNT) _ m entries.2 in
-    let c = range-told SHORTEST_CYCLE LONGEST_CYCLE (integer_at CycleUs top) cycle_us.0 cycle_us.1 in
-    let r = range-told 1 MOST_CYCLES (integer_at Cycles top) cycles.0 cycles.1 in
-    let e = range-told 1 MOST_ENTRIES (integer_at Entries top) entries.0 entries.1 in
+    let c = range-told SHORTEST_CYCLE LONGEST_CYCLE OUT_OF_RANGE (integer_at CycleUs top) cycle_us.0 cycle_us.1 in
+    let r = range-told 1 MOST_CYCLES OUT_OF_RANGE (integer_at Cycles top) cycles.0 cycles.1 in
+    let e = range-told 1 MOST_ENTRIES OUT_OF_RANGE (integer_at Entries top) entries.0 entries.1 in
     record {
       cycle_us = cycle_us.0;
       cycles = cycles.0;
@@ -102,9 +107,9 @@ unfolding top_meaning
 top-read top cycle_us cycles entries g =
     rw (
       g.keys,
-      range-read SHORTEST_CYCLE LONGEST_CYCLE (integer_at CycleUs top) cycle_us (record { is = g.cycle; above = g.shortest; below = g.longest }),
-      range-read 1 MOST_CYCLES (integer_at Cycles top) cycles (record { is = g.room; above = g.some_room; below = g.most_room }),
-      range-read 1 MOST_ENTRIES (integer_at Entries top) entries (record { is = g.entries_room; above = g.some_entries; below = g.most_entries }),
+      range-read SHORTEST_CYCLE LONGEST_CYCLE OUT_OF_RANGE (integer_at CycleUs top) cycle_us (record { is = g.cycle; above = g.shortest; below = g.longest }),
+      range-read 1 MOST_CYCLES OUT_OF_RANGE (integer_at Cycles top) cycles (record { is = g.room; above = g.some_room; below = g.most_room }),
+      range-read 1 MOST_ENTRIES OUT_OF_RANGE (integer_at Entries top) entries (record { is = g.entries_room; above = g.some_entries; below = g.most_entries }),
       g.counted,
     ) refl
 

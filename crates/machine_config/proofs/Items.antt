@@ -6,6 +6,13 @@ use Rattle.cam_table.specs.CamTable.{is_cam_table}
 use Rattle.fixed_units.specs.PerCycle.{per_cycle_of, per_cycle_squared_of}
 use Rattle.kin_core.specs.declared.limits.Limits.{Limits}
 use Rattle.line_text.specs.Reading.{each_of}
+use Rattle.line_text.specs.Rules.{broken_unless, in_range}
+use Rattle.machine_words.specs.Drives.{drive_in}
+use Rattle.machine_words.specs.Names.{axis_at, axis_named}
+use Rattle.machine_words.specs.Rules.{broken_by}
+use Rattle.machine_words.specs.Tables.{table_added}
+use Rattle.machine_words.specs.declared.drive.TheConstants.{MOST_STEPS}
+use Rattle.motion_history.specs.Drives.{rise_above}
 use Rattle.motion_history.specs.Faults.{axis_fault, group_fault}
 use Rattle.motion_history.specs.Setup.{Setup}
 use Rattle.motion_history.specs.declared.drives.DriveDef.{DriveDef}
@@ -13,21 +20,21 @@ use Rattle.motion_history.specs.declared.sizes.TheConstants.{MOST_FAULTS, MOST_L
 use Rattle.toml.specs.Data.{Members}
 use Rattle.machine_config.specs.Axes.{axis_meaning, limits_of, placed_of}
 use Rattle.machine_config.specs.Configured.{AddsAxis, AddsGroup, AddsTable, GivesDrive, GivesLimits, IsPoint, IsStep}
-use Rattle.machine_config.specs.Drives.{drive_of, rise_above}
-use Rattle.machine_config.specs.Groups.{axis_at, axis_named, group_meaning}
+use Rattle.machine_config.specs.Drives.{drive_of}
+use Rattle.machine_config.specs.Groups.{group_meaning}
 use Rattle.machine_config.specs.Keys.{has_keys, value_at}
 use Rattle.machine_config.specs.Quantities.{point_of, quantity_at, quantity_or}
-use Rattle.machine_config.specs.Rules.{broken_by, broken_unless, in_range}
-use Rattle.machine_config.specs.Tables.{points_meaning, table_meaning}
+use Rattle.machine_config.specs.Rules.{rule_of}
+use Rattle.machine_config.specs.Tables.{table_meaning}
 use Rattle.machine_config.specs.Values.{flag_at, integer_at, integers_at, text_at, texts_at}
 use Rattle.machine_config.specs.declared.axis.Placed.{Placed}
-use Rattle.machine_config.specs.declared.drive.TheConstants.{MOST_STEPS}
 use Rattle.machine_config.specs.declared.key.Key.TheVariants.{Amax, Axes, Dmax, Faults, Hi, Increment, Lag, Lo, Name, Points, Ready, Start, Vmax}
 use Rattle.machine_config.specs.declared.key.TheConstants.{AXIS_KEYS, GROUP_KEYS, TABLE_KEYS}
 use Rattle.machine_config.specs.declared.machine.Machine.{Machine}
-use Rattle.machine_config.specs.declared.rule.TheConstants.{NO_TABLE, OUT_OF_RANGE, WRONG_COUNT, WRONG_KEY, WRONG_NAME}
-use Rattle.machine_config.proofs.Points.{AreTold, has_room, not_full}
-use Rattle.machine_config.proofs.Results.{bind_ok, faultless, found, holds, ok_is}
+use Rattle.machine_config.specs.declared.rule.TheConstants.{NO_TABLE, OUT_OF_RANGE, TABLE_RULES, WRONG_COUNT, WRONG_KEY, WRONG_NAME}
+use Rattle.line_text.proofs.Results.{bind_ok, found, holds, ok_is}
+use Rattle.machine_words.proofs.Faults.{faultless}
+use Rattle.machine_words.proofs.Tables.{AreTold, has_room, not_full}
 use Rattle.machine_config.proofs.Told.{AreSpelled, each-read, each-told, point-read, point-told, quantity-read, quantity-told, quantity_or-read, quantity_or-told, range-read, range-told}
 
 -- ---- limits
@@ -77,18 +84,18 @@ limits-read spelled cycle_us t l g =
 -- ---- drives
 
 pub drive-told : (t : Members) (d : DriveDef) → drive_of t ≡ Ok d → GivesDrive t d
-unfolding drive_of
+unfolding drive_of drive_in
 drive-told t d h =
-    let lag = bind_ok (in_range 0 MOST_LAG (integer_at Lag t)) _ d h in
-    let steps = bind_ok (each_of (in_range 1 MOST_STEPS) (integers_at Faults t)) _ d lag.2 in
+    let lag = bind_ok (in_range 0 MOST_LAG OUT_OF_RANGE (integer_at Lag t)) _ d h in
+    let steps = bind_ok (each_of (in_range 1 MOST_STEPS OUT_OF_RANGE) (integers_at Faults t)) _ d lag.2 in
     let rising = bind_ok (broken_unless (rise_above 0 steps.0) OUT_OF_RANGE) _ d steps.2 in
     let few = bind_ok (broken_unless (nat_le (length steps.0) MOST_FAULTS) WRONG_COUNT) _ d rising.2 in
     let made : DriveDef = record { lag = lag.0; faults = steps.0 } in
     let is : made ≡ d = ok_is (Ok made) made d refl few.2 in
-    let behind = range-told 0 MOST_LAG (integer_at Lag t) lag.0 lag.1 in
+    let behind = range-told 0 MOST_LAG OUT_OF_RANGE (integer_at Lag t) lag.0 lag.1 in
     subst (λ e. GivesDrive t e) is (record {
       lag = behind.is;
-      faults = each-told (in_range 1 MOST_STEPS) IsStep (λ z n r. let p = range-told 1 MOST_STEPS z n r in record { is = p.is; least = p.above; most = p.below })
+      faults = each-told (in_range 1 MOST_STEPS OUT_OF_RANGE) IsStep (λ z n r. let p = range-told 1 MOST_STEPS OUT_OF_RANGE z n r in record { is = p.is; least = p.above; most = p.below })
           (integers_at Faults t) steps.0 steps.1;
       in_ranges = record {
         lag = behind.below;
@@ -98,10 +105,10 @@ drive-told t d h =
     })
 
 pub drive-read : (t : Members) (d : DriveDef) → GivesDrive t d → drive_of t ≡ Ok d
-unfolding drive_of
+unfolding drive_of drive_in
 drive-read t d g =
-    let lag = range-read 0 MOST_LAG (integer_at Lag t) d.lag (record { is = g.lag; above = omega arith; below = g.in_ranges.lag }) in
-    let steps = each-read (in_range 1 MOST_STEPS) IsStep (λ z n s. range-read 1 MOST_STEPS z n (record { is = s.is; above = s.least; below = s.most }))
+    let lag = range-read 0 MOST_LAG OUT_OF_RANGE (integer_at Lag t) d.lag (record { is = g.lag; above = omega arith; below = g.in_ranges.lag }) in
+    let steps = each-read (in_range 1 MOST_STEPS OUT_OF_RANGE) IsStep (λ z n s. range-read 1 MOST_STEPS OUT_OF_RANGE z n (record { is = s.is; above = s.least; below = s.most }))
     (integers_at Faults t) d.faults g.faults in
     rw (lag, steps, g.in_ranges.rising, le-leb _ _ g.in_ranges.few) refl
 
@@ -113,7 +120,7 @@ axis-told spelled m t n h =
     let keys = bind_ok (broken_unless (has_keys AXIS_KEYS t) WRONG_KEY) _ n h in
     let limits = bind_ok (limits_of m.cycle_us t) _ n keys.2 in
     let placed = bind_ok (placed_of t) _ n limits.2 in
-    let fits = bind_ok (broken_by (axis_fault m.config (text_at Name t) limits.0 placed.0.inc placed.0.start)) _ n placed.2 in
+    let fits = bind_ok (broken_by rule_of (axis_fault m.config (text_at Name t) limits.0 placed.0.inc placed.0.start)) _ n placed.2 in
     let drive = bind_ok (drive_of t) _ n fits.2 in
     let inc = bind_ok (quantity_at Increment t) _ placed.0 placed.1 in
     let start = bind_ok (quantity_at Start t) _ placed.0 inc.2 in
@@ -131,7 +138,7 @@ axis-told spelled m t n h =
         ready = refl;
       };
       gives_drive = drive-told t drive.0 drive.1;
-      fits = faultless _ fits.0 fits.1;
+      fits = faultless rule_of _ fits.0 fits.1;
       added = sym (ok_is (Ok _) _ n refl drive.2);
     }
 
@@ -154,39 +161,39 @@ axis-read spelled m t n adds =
 
 -- ---- groups
 
-names-told : (s : Setup) (name : List ℕ) (axis : ℕ) → axis_named s name ≡ Ok axis → axis_at s name ≡ Some axis
+names-told : (s : Setup) (name : List ℕ) (axis : ℕ) → axis_named WRONG_NAME s name ≡ Ok axis → axis_at s name ≡ Some axis
 names-told s name axis h = found (axis_at s name) WRONG_NAME axis h
 
-names-read : (s : Setup) (name : List ℕ) (axis : ℕ) → axis_at s name ≡ Some axis → axis_named s name ≡ Ok axis
+names-read : (s : Setup) (name : List ℕ) (axis : ℕ) → axis_at s name ≡ Some axis → axis_named WRONG_NAME s name ≡ Ok axis
 names-read s name axis h = rw h refl
 
 pub group-told : (m : Machine) (t : Members) (n : Machine) → group_meaning m t ≡ Ok n → AddsGroup m t n
 unfolding group_meaning
 group-told m t n h =
     let keys = bind_ok (broken_unless (has_keys GROUP_KEYS t) WRONG_KEY) _ n h in
-    let axes = bind_ok (each_of (axis_named m.config) (texts_at Axes t)) _ n keys.2 in
-    let fits = bind_ok (broken_by (group_fault m.config (text_at Name t) axes.0)) _ n axes.2 in
+    let axes = bind_ok (each_of (axis_named WRONG_NAME m.config) (texts_at Axes t)) _ n keys.2 in
+    let fits = bind_ok (broken_by rule_of (group_fault m.config (text_at Name t) axes.0)) _ n axes.2 in
     record {
       axes = axes.0;
       keys = holds _ WRONG_KEY keys.0 keys.1;
-      named = each-told (axis_named m.config) _ (names-told m.config) (texts_at Axes t) axes.0 axes.1;
-      fits = faultless _ fits.0 fits.1;
+      named = each-told (axis_named WRONG_NAME m.config) _ (names-told m.config) (texts_at Axes t) axes.0 axes.1;
+      fits = faultless rule_of _ fits.0 fits.1;
       added = sym (ok_is (Ok _) _ n refl fits.2);
     }
 
 pub group-read : (m : Machine) (t : Members) (n : Machine) → AddsGroup m t n → group_meaning m t ≡ Ok n
 unfolding group_meaning
 group-read m t n adds =
-    rw (adds.keys, each-read (axis_named m.config) _ (names-read m.config) (texts_at Axes t) adds.axes adds.named, adds.fits, adds.added) refl
+    rw (adds.keys, each-read (axis_named WRONG_NAME m.config) _ (names-read m.config) (texts_at Axes t) adds.axes adds.named, adds.fits, adds.added) refl
 
 -- ---- cam tables
 
 pub table-told : AreSpelled → AreTold → (m : Machine) (t : Members) (n : Machine) → table_meaning m t ≡ Ok n → AddsTable m t n
-unfolding table_meaning points_meaning
+unfolding table_meaning table_added
 table-told spelled told m t n h =
     let keys = bind_ok (broken_unless (has_keys TABLE_KEYS t) WRONG_KEY) _ n h in
     let points = bind_ok (each_of point_of (texts_at Points t)) _ n keys.2 in
-    let config = bind_ok (points_meaning m.config points.0) _ n points.2 in
+    let config = bind_ok (table_added TABLE_RULES m.config points.0) _ n points.2 in
     let makes = bind_ok (broken_unless (is_cam_table points.0) NO_TABLE) _ config.0 config.1 in
     let room = bind_ok (broken_unless (not (nat_le MOST_TABLES (length m.config.tables))) WRONG_COUNT) _ config.0 makes.2 in
     let is = ok_is (Ok _) _ config.0 refl room.2 in
@@ -200,6 +207,6 @@ table-told spelled told m t n h =
     }
 
 pub table-read : AreSpelled → AreTold → (m : Machine) (t : Members) (n : Machine) → AddsTable m t n → table_meaning m t ≡ Ok n
-unfolding table_meaning points_meaning
+unfolding table_meaning table_added
 table-read spelled told m t n adds =
     rw (adds.keys, each-read point_of IsPoint (point-read spelled) (texts_at Points t) adds.points adds.read, (told adds.points).1 adds.makes, not_full (length m.config.tables) adds.room, adds.added) refl

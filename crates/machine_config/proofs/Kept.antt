@@ -1,17 +1,13 @@
 -- What always holds of a machine is kept as items are added.
 use Rattle.std.proofs.Common.{◌≡◌, ◌+◌, List, [], ◌∷◌, ◌++◌, length, refl, sym, ap, ◌∙◌, arith}
+use Rattle.std.proofs.lemmas.List.{length-append}
 use Rattle.std.proofs.lemmas.List.Elements.{All-append, All-from_recursion}
 use Rattle.axis_state.specs.declared.definition.AxisDef.{AxisDef}
+use Rattle.motion_history.specs.Drives.{IsDrive}
 use Rattle.motion_history.specs.Setup.{Setup}
 use Rattle.motion_history.specs.declared.drives.DriveDef.{DriveDef}
-use Rattle.machine_config.specs.Drives.{IsDrive}
 use Rattle.machine_config.specs.Machines.{IsUnderWay}
 use Rattle.machine_config.specs.declared.machine.Machine.{Machine}
-
--- one item more
-pub length-push : {A : Type 0} (xs : List A) (x : A) → length (xs ++ x ∷ []) ≡ length xs + 1
-length-push [] x = refl
-length-push (y ∷ ys) x = let h = length-push ys x in omega (arith, h)
 
 -- one axis more, and its drive
 pub axis-kept : (m : Machine) (config : Setup) (drives : List DriveDef) (axis : AxisDef) (drive : DriveDef) → IsUnderWay m → IsDrive drive →
@@ -21,7 +17,7 @@ axis-kept m config drives axis drive k is e f = record {
   shortest = k.shortest;
   longest = k.longest;
   each =
-      ap length f ∙ length-push m.drives drive ∙ ap (λ n. n + 1) k.each ∙ sym (length-push m.config.axes axis)
+      ap length f ∙ length-append m.drives (drive ∷ []) ∙ ap (λ n. n + 1) k.each ∙ sym (length-append m.config.axes (axis ∷ []))
       ∙ sym (ap (λ (s : Setup). length s.axes) e);
   drives = rw f (All-append IsDrive m.drives (drive ∷ []) k.drives (All-from_recursion IsDrive (drive ∷ []) (is, tt)));
   tasks = ap (λ (s : Setup). s.tasks) e ∙ k.tasks;

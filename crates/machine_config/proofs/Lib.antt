@@ -1,10 +1,7 @@
 pub mod Views
-pub mod Each
 pub mod Colons
 pub mod Kept
-pub mod Points
 pub mod ItemLaws
-pub mod Results
 pub mod Told
 pub mod Items
 pub mod Configured

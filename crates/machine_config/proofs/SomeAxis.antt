@@ -4,6 +4,7 @@ use Rattle.std.specs.Prelude.{◌&&◌, IfOk, is_some, nat_le}
 use Rattle.std.specs.List.{filter_map, list_all}
 use Rattle.std.specs.Option.{option_map_or}
 use Rattle.std.proofs.lemmas.Bool.{and_parts, leb-true}
+use Rattle.std.proofs.lemmas.List.{length-append}
 use Rattle.motion_history.specs.declared.refused.TextFault.{TextFault}
 use Rattle.motion_history.specs.declared.sizes.TheConstants.{MOST_AXES, MOST_GROUPS, MOST_TABLES}
 use Rattle.toml.specs.Data.{Data, array, as_table, boolean, datetime, float, integer, Members, string, table}
@@ -20,12 +21,11 @@ use Rattle.machine_config.specs.declared.key.Key.TheVariants as key
 use Rattle.machine_config.specs.declared.key.Sort.TheVariants as sort
 use Rattle.machine_config.specs.declared.key.TheConstants.{TOP_KEYS}
 use Rattle.machine_config.specs.declared.machine.Machine.{Machine}
-use Rattle.machine_config.proofs.Kept.{length-push}
 
 -- ---- items keep the axes before them
 
 axis-adds : (m : Machine) (t : Members) (n : Machine) → AddsItem m kind.Axis t n → length n.config.axes ≡ length m.config.axes + 1
-axis-adds m t n adds = ap (λ (k : Machine). length k.config.axes) adds.added ∙ length-push m.config.axes adds.axis
+axis-adds m t n adds = ap (λ (k : Machine). length k.config.axes) adds.added ∙ length-append m.config.axes (adds.axis ∷ [])
 
 item-keeps : (m : Machine) (k : ItemKind) (t : Members) (n : Machine) → AddsItem m k t n → length m.config.axes ≤ length n.config.axes
 item-keeps m kind.Axis t n adds = let e = axis-adds m t n adds in omega (arith, e)

@@ -5,32 +5,30 @@ use Rattle.std.specs.List.{after_first, before_first, list_any}
 use Rattle.std.proofs.lemmas.Bool.{and_parts, cases_Bool, le-leb, leb-true}
 use Rattle.std.proofs.lemmas.Int.{ints, unsigned_abs-mul}
 use Rattle.fixed_units.specs.Numbers.{Spells, reading_of}
-use Rattle.fixed_units.specs.declared.reading.UnitFault.{UnitFault}
+use Rattle.line_text.specs.Numbers.{is_colon}
 use Rattle.line_text.specs.Reading.{◌>>=◌, each_of}
+use Rattle.line_text.specs.Rules.{in_range, is_from_to}
+use Rattle.machine_words.specs.Units.{decimal_units}
 use Rattle.motion_numbers.specs.declared.TheConstants.{MOST_NUMBER}
 use Rattle.toml.specs.Data.{Data, array, boolean, datetime, float, integer, string, table}
 use Rattle.machine_config.specs.Configured.{AreEach, IsDecimal, IsPoint, IsQuantity, IsQuantityOr, IsWhole}
-use Rattle.machine_config.specs.Quantities.{decimal_units, is_colon, point_at, point_of, quantity_in, quantity_in_or, units_or_broken, whole_units}
-use Rattle.machine_config.specs.Rules.{in_range, is_from_to}
+use Rattle.machine_config.specs.Quantities.{point_at, point_of, quantity_in, quantity_in_or, whole_units}
 use Rattle.machine_config.specs.declared.quantity.TheConstants.{UNIT}
-use Rattle.machine_config.specs.declared.rule.TheConstants.{NO_QUANTITY, OUT_OF_RANGE}
-use Rattle.machine_config.proofs.Results.{bind_ok, holds, ok_is}
+use Rattle.machine_config.specs.declared.rule.TheConstants.{NO_QUANTITY}
+use Rattle.line_text.proofs.Results.{bind_ok, holds, ok_is}
+use Rattle.machine_words.proofs.Smalls.{unbroken}
 
 -- decimals are read as they are spelled
 abbrev pub AreSpelled : Type 0
 AreSpelled = (text : List ℕ) → (units : ℤ) → (reading_of text ≡ Ok units) ↔ (Spells text units × (unsigned_abs units ≤ 10 ^ 18))
 
-units_ok : (r : Result ℤ UnitFault) (units : ℤ) → units_or_broken r ≡ Ok units → r ≡ Ok units
-units_ok (Ok z) units h = let e : z ≡ units = ok_is (Ok z) z units refl h in cc
-units_ok (Err fault) units h = absurd (cc)
-
-pub decimal-told : AreSpelled → (text : List ℕ) (units : ℤ) → decimal_units text ≡ Ok units → IsDecimal text units
+pub decimal-told : AreSpelled → (text : List ℕ) (units : ℤ) → decimal_units NO_QUANTITY text ≡ Ok units → IsDecimal text units
 unfolding decimal_units
 decimal-told spelled text units h =
-    let both = (spelled text units).0 (units_ok (reading_of text) units h) in
+    let both = (spelled text units).0 (unbroken NO_QUANTITY (reading_of text) units h) in
     record { spells = both.0; small = both.1 }
 
-pub decimal-read : AreSpelled → (text : List ℕ) (units : ℤ) → IsDecimal text units → decimal_units text ≡ Ok units
+pub decimal-read : AreSpelled → (text : List ℕ) (units : ℤ) → IsDecimal text units → decimal_units NO_QUANTITY text ≡ Ok units
 unfolding decimal_units
 decimal-read spelled text units is = rw ((spelled text units).1 (is.spells, is.small)) refl
 
@@ -86,8 +84,8 @@ pub point-told : AreSpelled → (text : List ℕ) (point : ℤ × ℤ) → point
 unfolding point_of point_at
 point-told spelled text point h =
     let colon = bind_ok _ (λ u. point_at (before_first is_colon text) (after_first is_colon text)) point h in
-    let x = bind_ok (decimal_units (before_first is_colon text)) _ point colon.2 in
-    let y = bind_ok (decimal_units (after_first is_colon text)) _ point x.2 in
+    let x = bind_ok (decimal_units NO_QUANTITY (before_first is_colon text)) _ point colon.2 in
+    let y = bind_ok (decimal_units NO_QUANTITY (after_first is_colon text)) _ point x.2 in
     let is : (x.0, y.0) ≡ point = ok_is (Ok (x.0, y.0)) _ point refl y.2 in
     record {
       colon = holds (list_any is_colon text) NO_QUANTITY colon.0 colon.1;
@@ -106,23 +104,23 @@ pub record IsNumber (least most : ℕ) (z : ℤ) (n : ℕ) : Type 0 where
   pub above : least ≤ n
   pub below : n ≤ most
 
-range_of : (b : Bool) (least most : ℕ) (z : ℤ) (n : ℕ) → is_from_to least most z ≡ b → cond b (Ok (unsigned_abs z)) (Err OUT_OF_RANGE) ≡ Ok n → IsNumber least most z n
-range_of true least most z n is h =
+range_of : (b : Bool) (least most rule : ℕ) (z : ℤ) (n : ℕ) → is_from_to least most z ≡ b → cond b (Ok (unsigned_abs z)) (Err rule) ≡ Ok n → IsNumber least most z n
+range_of true least most rule z n is h =
     let e : unsigned_abs z ≡ n = ok_is (Ok (unsigned_abs z)) (unsigned_abs z) n refl h in
     let parts = and_parts (int_le (pos least) z) (int_le z (pos most)) is in
     record { is = omega (arith, ints, parts.0, e); above = omega (arith, ints, parts.0, e); below = omega (arith, ints, parts.0, parts.1, e) }
-range_of false least most z n is h = absurd (cc)
+range_of false least most rule z n is h = absurd (cc)
 
-pub range-told : (least most : ℕ) (z : ℤ) (n : ℕ) → in_range least most z ≡ Ok n → IsNumber least most z n
+pub range-told : (least most rule : ℕ) (z : ℤ) (n : ℕ) → in_range least most rule z ≡ Ok n → IsNumber least most z n
 unfolding in_range
-range-told least most z n h = range_of (is_from_to least most z) least most z n refl h
+range-told least most rule z n h = range_of (is_from_to least most z) least most rule z n refl h
 
 range_is : (least most n : ℕ) → least ≤ n → n ≤ most → is_from_to least most (pos n) ≡ true
 range_is least most n above below = rw (le-leb least n above, le-leb n most below) refl
 
-pub range-read : (least most : ℕ) (z : ℤ) (n : ℕ) → IsNumber least most z n → in_range least most z ≡ Ok n
+pub range-read : (least most rule : ℕ) (z : ℤ) (n : ℕ) → IsNumber least most z n → in_range least most rule z ≡ Ok n
 unfolding in_range
-range-read least most z n is = rw (is.is, range_is least most n is.above is.below) refl
+range-read least most rule z n is = rw (is.is, range_is least most n is.above is.below) refl
 
 -- lists whose items are read each by itself
 pub each-told : {A B : Type 0} (read : A → Result B ℕ) (R : A → B → Type 0) → ((x : A) (y : B) → read x ≡ Ok y → R x y) →

@@ -4,13 +4,15 @@ use Rattle.axis_state.specs.declared.definition.AxisDef.{AxisDef}
 use Rattle.fixed_units.specs.PerCycle.{per_cycle_of, per_cycle_squared_of}
 use Rattle.kin_core.specs.declared.limits.Limits.{Limits}
 use Rattle.line_text.specs.Reading.{◌>>=◌}
+use Rattle.line_text.specs.Rules.{broken_unless}
+use Rattle.machine_words.specs.Rules.{broken_by}
 use Rattle.motion_history.specs.Faults.{axis_fault}
 use Rattle.motion_history.specs.declared.drives.DriveDef.{DriveDef}
 use Rattle.toml.specs.Data.{Members}
 use Rattle.machine_config.specs.Drives.{drive_of}
 use Rattle.machine_config.specs.Keys.{has_keys}
 use Rattle.machine_config.specs.Quantities.{quantity_at, quantity_or}
-use Rattle.machine_config.specs.Rules.{broken_by, broken_unless}
+use Rattle.machine_config.specs.Rules.{rule_of}
 use Rattle.machine_config.specs.Values.{flag_at, text_at}
 use Rattle.machine_config.specs.declared.axis.Placed.{Placed}
 use Rattle.machine_config.specs.declared.key.Key.TheVariants.{Amax, Dmax, Hi, Increment, Lo, Name, Ready, Start, Vmax}
@@ -58,7 +60,7 @@ axis_meaning m table = do
   _ ← broken_unless (has_keys AXIS_KEYS table) WRONG_KEY
   limits ← limits_of m.cycle_us table
   placed ← placed_of table
-  _ ← broken_by (axis_fault m.config (text_at Name table) limits placed.inc placed.start)
+  _ ← broken_by rule_of (axis_fault m.config (text_at Name table) limits placed.inc placed.start)
   drive ← drive_of table
   Ok (with_axis m (record {
     name = text_at Name table;

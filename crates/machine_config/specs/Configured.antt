@@ -8,6 +8,11 @@ use Rattle.cam_table.specs.CamTable.{IsCamTable}
 use Rattle.fixed_units.specs.Numbers.{Spells}
 use Rattle.fixed_units.specs.PerCycle.{per_cycle_of, per_cycle_squared_of}
 use Rattle.kin_core.specs.declared.limits.Limits.{Limits}
+use Rattle.line_text.specs.Numbers.{is_colon}
+use Rattle.machine_words.specs.Names.{axis_at}
+use Rattle.machine_words.specs.declared.drive.TheConstants.{MOST_STEPS}
+use Rattle.machine_words.specs.declared.units.TheConstants.{LONGEST_CYCLE, SHORTEST_CYCLE}
+use Rattle.motion_history.specs.Drives.{IsDrive}
 use Rattle.motion_history.specs.Faults.{axis_fault, group_fault}
 use Rattle.motion_history.specs.Members.{group_of}
 use Rattle.motion_history.specs.declared.drives.DriveDef.{DriveDef}
@@ -16,20 +21,15 @@ use Rattle.motion_numbers.specs.declared.TheConstants.{MOST_NUMBER}
 use Rattle.toml.specs.Data.{Data, integer, string, Members}
 use Rattle.toml.specs.Parse.{parse_document}
 use Rattle.machine_config.specs.Axes.{with_axis}
-use Rattle.machine_config.specs.Drives.{IsDrive}
-use Rattle.machine_config.specs.Groups.{axis_at}
 use Rattle.machine_config.specs.Keys.{has_keys, value_at}
-use Rattle.machine_config.specs.Quantities.{is_colon}
 use Rattle.machine_config.specs.Reading.{items_of}
 use Rattle.machine_config.specs.Tops.{are_counted, bare_setup}
 use Rattle.machine_config.specs.Values.{flag_at, integer_at, integers_at, text_at, texts_at}
-use Rattle.machine_config.specs.declared.drive.TheConstants.{MOST_STEPS}
 use Rattle.machine_config.specs.declared.item.ItemKind.{ItemKind}
 use Rattle.machine_config.specs.declared.item.ItemKind.TheVariants as kind
 use Rattle.machine_config.specs.declared.key.Key.TheVariants.{Amax, Axes, Cycles, CycleUs, Dmax, Entries, Faults, Hi, Increment, Lag, Lo, Name, Points, Ready, Start, Vmax}
 use Rattle.machine_config.specs.declared.key.TheConstants.{AXIS_KEYS, GROUP_KEYS, TABLE_KEYS, TOP_KEYS}
 use Rattle.machine_config.specs.declared.machine.Machine.{Machine}
-use Rattle.machine_config.specs.declared.machine.TheConstants.{LONGEST_CYCLE, SHORTEST_CYCLE}
 use Rattle.machine_config.specs.declared.quantity.TheConstants.{UNIT}
 
 -- a text spells so many internal units, at most 10^18

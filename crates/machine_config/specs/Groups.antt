@@ -1,37 +1,27 @@
 -- The groups of a configuration. This project's profile.
-use Rattle.std.specs.Prelude.{ℕ, Option, Result, Ok, List, [], ◌∷◌, ◌++◌}
-use Rattle.std.specs.List.{position}
-use Rattle.std.specs.Option.{ok_or}
-use Rattle.std.specs.Str.{bytes_eq}
-use Rattle.axis_state.specs.declared.definition.AxisDef.{AxisDef}
+use Rattle.std.specs.Prelude.{ℕ, Result, Ok, [], ◌∷◌, ◌++◌}
 use Rattle.line_text.specs.Reading.{◌>>=◌, each_of}
+use Rattle.line_text.specs.Rules.{broken_unless}
+use Rattle.machine_words.specs.Names.{axis_named}
+use Rattle.machine_words.specs.Rules.{broken_by}
 use Rattle.motion_history.specs.Faults.{group_fault}
 use Rattle.motion_history.specs.Members.{group_of}
-use Rattle.motion_history.specs.Setup.{Setup}
 use Rattle.toml.specs.Data.{Members}
 use Rattle.machine_config.specs.Keys.{has_keys}
-use Rattle.machine_config.specs.Rules.{broken_by, broken_unless}
+use Rattle.machine_config.specs.Rules.{rule_of}
 use Rattle.machine_config.specs.Values.{text_at, texts_at}
 use Rattle.machine_config.specs.declared.key.Key.TheVariants.{Axes, Name}
 use Rattle.machine_config.specs.declared.key.TheConstants.{GROUP_KEYS}
 use Rattle.machine_config.specs.declared.machine.Machine.{Machine}
 use Rattle.machine_config.specs.declared.rule.TheConstants.{WRONG_KEY, WRONG_NAME}
 
--- the number of the axis of this name
-unfoldable pub axis_at : Setup → List ℕ → Option ℕ
-axis_at s name = position (λ (d : AxisDef). bytes_eq d.name name) s.axes
-
--- the axis of this name; a name that is none's breaks its rule
-abbrev pub axis_named : Setup → List ℕ → Result ℕ ℕ
-axis_named s name = ok_or (axis_at s name) WRONG_NAME
-
 -- what the table of a group makes of a machine: it has the keys of a group (else C2), its axes are
 -- there, its name is free, and its axes are free and come once (C4), and they are 2 to 6 (C6)
 unfoldable pub group_meaning : Machine → Members → Result Machine ℕ
 group_meaning m table = do
   _ ← broken_unless (has_keys GROUP_KEYS table) WRONG_KEY
-  axes ← each_of (axis_named m.config) (texts_at Axes table)
-  _ ← broken_by (group_fault m.config (text_at Name table) axes)
+  axes ← each_of (axis_named WRONG_NAME m.config) (texts_at Axes table)
+  _ ← broken_by rule_of (group_fault m.config (text_at Name table) axes)
   Ok (record m {
     config = record m.config {
       groups = m.config.groups ++ group_of (text_at Name table) axes ∷ [];

@@ -1,9 +1,9 @@
 -- What always holds of a machine that a configuration makes, as its items are added and at the end.
 -- This project's profile.
 use Rattle.std.specs.Prelude.{◌≡◌, ◌≤◌, All, [], length}
-use Rattle.machine_config.specs.Drives.{IsDrive}
+use Rattle.machine_words.specs.declared.units.TheConstants.{LONGEST_CYCLE, SHORTEST_CYCLE}
+use Rattle.motion_history.specs.Drives.{IsDrive}
 use Rattle.machine_config.specs.declared.machine.Machine.{Machine}
-use Rattle.machine_config.specs.declared.machine.TheConstants.{LONGEST_CYCLE, SHORTEST_CYCLE}
 
 -- its cycle has 100 to 100,000 microseconds, there is a drive for each axis, each in its ranges,
 -- and there are no tasks and no blocks

@@ -1,26 +1,17 @@
 -- Quantities of a configuration, in internal units: a user unit is 10^9 of them. This project's
 -- profile.
-use Rattle.std.specs.Prelude.{ℕ, ◌*◌, ◌==◌, ℤ, pos, ◌*ℤ◌, unsigned_abs, Bool, nat_le, if◌then◌else◌, Option, Some, None, Result, Ok, Err, List}
+use Rattle.std.specs.Prelude.{ℕ, ◌*◌, ℤ, pos, ◌*ℤ◌, unsigned_abs, nat_le, if◌then◌else◌, Option, Some, None, Result, Ok, Err, List}
 use Rattle.std.specs.List.{after_first, before_first, list_any}
-use Rattle.fixed_units.specs.Numbers.{reading_of}
-use Rattle.fixed_units.specs.declared.reading.UnitFault.{UnitFault}
+use Rattle.line_text.specs.Numbers.{is_colon}
 use Rattle.line_text.specs.Reading.{◌>>=◌}
+use Rattle.line_text.specs.Rules.{broken_unless}
+use Rattle.machine_words.specs.Units.{decimal_units}
 use Rattle.motion_numbers.specs.declared.TheConstants.{MOST_NUMBER}
 use Rattle.toml.specs.Data.{Data, integer, string, Members}
 use Rattle.machine_config.specs.Keys.{value_at}
-use Rattle.machine_config.specs.Rules.{broken_unless}
 use Rattle.machine_config.specs.declared.key.Key.{Key}
 use Rattle.machine_config.specs.declared.quantity.TheConstants.{UNIT}
 use Rattle.machine_config.specs.declared.rule.TheConstants.{NO_QUANTITY}
-
--- a fault of a decimal number breaks its rule
-abbrev pub units_or_broken : Result ℤ UnitFault → Result ℤ ℕ
-units_or_broken (Ok units) = Ok units
-units_or_broken (Err fault) = Err NO_QUANTITY
-
--- a decimal number of user units
-unfoldable pub decimal_units : List ℕ → Result ℤ ℕ
-decimal_units text = units_or_broken (reading_of text)
 
 -- a whole number of user units, of at most 10^18 internal units
 unfoldable pub whole_units : ℤ → Result ℤ ℕ
@@ -29,7 +20,7 @@ whole_units z =
 
 -- a quantity: a text, which is a decimal number, or an integer
 abbrev pub quantity_in : Option Data → Result ℤ ℕ
-quantity_in (Some (string text)) = decimal_units text
+quantity_in (Some (string text)) = decimal_units NO_QUANTITY text
 quantity_in (Some (integer z)) = whole_units z
 quantity_in _ = Err NO_QUANTITY
 
@@ -46,15 +37,11 @@ quantity_at k table = quantity_in (value_at k table)
 unfoldable pub quantity_or : ℤ → Key → Members → Result ℤ ℕ
 quantity_or other k table = quantity_in_or other (value_at k table)
 
--- a colon stands between the coordinates of a point
-abbrev pub is_colon : ℕ → Bool
-is_colon b = b == 58
-
 -- the point of two quantities
 unfoldable pub point_at : List ℕ → List ℕ → Result (ℤ × ℤ) ℕ
 point_at x y = do
-  there ← decimal_units x
-  above ← decimal_units y
+  there ← decimal_units NO_QUANTITY x
+  above ← decimal_units NO_QUANTITY y
   Ok (there, above)
 
 -- a point X:Y, the quantities before the first colon and behind it

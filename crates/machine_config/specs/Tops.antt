@@ -2,18 +2,18 @@
 -- This project's profile.
 use Rattle.std.specs.Prelude.{ℕ, Bool, ◌&&◌, nat_le, Result, Ok, [], length}
 use Rattle.line_text.specs.Reading.{◌>>=◌}
+use Rattle.line_text.specs.Rules.{broken_unless, in_range}
+use Rattle.machine_words.specs.declared.units.TheConstants.{LONGEST_CYCLE, SHORTEST_CYCLE}
 use Rattle.motion_history.specs.Setup.{Setup}
 use Rattle.motion_history.specs.declared.sizes.TheConstants.{MOST_AXES, MOST_CYCLES, MOST_ENTRIES, MOST_GROUPS, MOST_TABLES}
 use Rattle.toml.specs.Data.{Members}
 use Rattle.machine_config.specs.Keys.{has_keys}
-use Rattle.machine_config.specs.Rules.{broken_unless, in_range}
 use Rattle.machine_config.specs.Values.{integer_at, values_at}
 use Rattle.machine_config.specs.declared.key.Key.{Key}
 use Rattle.machine_config.specs.declared.key.Key.TheVariants.{Axis, Cycles, CycleUs, Entries, Group, Table}
 use Rattle.machine_config.specs.declared.key.TheConstants.{TOP_KEYS}
 use Rattle.machine_config.specs.declared.machine.Machine.{Machine}
-use Rattle.machine_config.specs.declared.machine.TheConstants.{LONGEST_CYCLE, SHORTEST_CYCLE}
-use Rattle.machine_config.specs.declared.rule.TheConstants.{WRONG_COUNT, WRONG_KEY}
+use Rattle.machine_config.specs.declared.rule.TheConstants.{OUT_OF_RANGE, WRONG_COUNT, WRONG_KEY}
 
 -- a configuration without items
 abbrev pub bare_setup : ℕ → ℕ → Setup
@@ -42,8 +42,8 @@ are_counted top =
 unfoldable pub top_meaning : Members → Result Machine ℕ
 top_meaning top = do
   _ ← broken_unless (has_keys TOP_KEYS top) WRONG_KEY
-  cycle_us ← in_range SHORTEST_CYCLE LONGEST_CYCLE (integer_at CycleUs top)
-  cycles ← in_range 1 MOST_CYCLES (integer_at Cycles top)
-  entries ← in_range 1 MOST_ENTRIES (integer_at Entries top)
+  cycle_us ← in_range SHORTEST_CYCLE LONGEST_CYCLE OUT_OF_RANGE (integer_at CycleUs top)
+  cycles ← in_range 1 MOST_CYCLES OUT_OF_RANGE (integer_at Cycles top)
+  entries ← in_range 1 MOST_ENTRIES OUT_OF_RANGE (integer_at Entries top)
   _ ← broken_unless (are_counted top) WRONG_COUNT
   Ok (record { config = bare_setup cycles entries; cycle_us = cycle_us; drives = [] })

@@ -8,12 +8,13 @@ ghost use Rattle.machine_config.specs.Machines.{IsUnderWay};
 
 use crate::drive::drive_of;
 use crate::key::{AXIS_KEYS, Key, has_keys};
-use crate::machine::{LONGEST_CYCLE, Machine, SHORTEST_CYCLE};
+use crate::machine::Machine;
 use crate::quantity::{quantity_at, quantity_or};
-use crate::rule::{WRONG_KEY, broken_unless, refusal_of};
+use crate::rule::{WRONG_KEY, refusal_of};
 use crate::value::{flag_at, text_at};
 use fixed_units::{per_cycle, per_cycle2};
-use line_text::LineFault;
+use line_text::{LineFault, broken_unless};
+use machine_words::{LONGEST_CYCLE, SHORTEST_CYCLE};
 use motion_history::{Builder, DriveDef, DriveDefs, Limits};
 use std::alloc::Global;
 use toml::Table;

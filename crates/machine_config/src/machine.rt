@@ -2,12 +2,6 @@
 
 use motion_history::{Builder, DriveDefs};
 
-/// The microseconds of the shortest cycle.
-pub const SHORTEST_CYCLE: u32 = 100;
-
-/// The microseconds of the longest cycle.
-pub const LONGEST_CYCLE: u32 = 100_000;
-
 /// A machine without tasks and blocks.
 #[derive(Drop)]
 pub struct Machine {

@@ -10,26 +10,14 @@ ghost use Rattle.machine_config.specs.Quantities as spec;
 
 use crate::key::{Key, value_at};
 use crate::rule::NO_QUANTITY;
-use fixed_units::read_units;
 use line_text::LineFault;
+use machine_words::decimal_units;
 use motion_numbers::MOST_NUMBER;
 use std::alloc::Global;
 use toml::{Table, Value};
 
 /// The internal units of a user unit.
 const UNIT: u64 = 1_000_000_000;
-
-// The internal units of a decimal number of user units.
-#[tactic(auto, unfolding(crate::specs::Quantities::decimal_units))]
-fn decimal_units(text: &str) -> Result<i64, LineFault>
-    ensures value { Gives (λ z. z) (spec.decimal_units text.now) result }
-    ensures small { IfOk result (λ z. unsigned_abs z ≤ 10 ^ 18) }
-{
-    match read_units(text) {
-        Ok(units) => Ok(units),
-        Err(_) => Err(LineFault::Rule(NO_QUANTITY)),
-    }
-}
 
 // The internal units of a whole number of user units.
 #[tactic(auto, unfolding(crate::specs::Quantities::whole_units))]
@@ -50,7 +38,7 @@ fn quantity_of(value: &Value) -> Result<i64, LineFault>
     ensures small { IfOk result (λ z. unsigned_abs z ≤ 10 ^ 18) }
 {
     match value {
-        Value::String(text) => decimal_units(text.as_str()),
+        Value::String(text) => decimal_units(text.as_str(), NO_QUANTITY),
         Value::Integer(number) => whole_units(*number),
         _ => Err(LineFault::Rule(NO_QUANTITY)),
     }
@@ -86,8 +74,8 @@ pub fn quantity_or(other: i64, table: &Table, key: Key) -> Result<i64, LineFault
 fn point_at(x: &str, y: &str) -> Result<(i64, i64), LineFault>
     ensures { Gives (λ p. p) (spec.point_at x.now y.now) result }
 {
-    let x = decimal_units(x)?;
-    let y = decimal_units(y)?;
+    let x = decimal_units(x, NO_QUANTITY)?;
+    let y = decimal_units(y, NO_QUANTITY)?;
     Ok((x, y))
 }
 

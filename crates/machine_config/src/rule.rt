@@ -1,11 +1,11 @@
-// The rules of a configuration by their numbers, and when one is broken.
+// The rules of a configuration by their numbers.
 
-ghost use Rattle.std.specs.Prelude.{◌≡◌, ◌≢◌, ◌≤◌, IfOk};
-ghost use Rattle.line_text.specs.Reading.{Gives};
+ghost use Rattle.std.specs.Prelude.{◌≡◌, ◌≢◌};
 ghost use Rattle.machine_config.specs.Rules as spec;
 ghost use Rattle.motion_history.specs.declared.fault.ConfigFault.TheVariants.{OutOfMemory};
 
 use line_text::LineFault;
+use machine_words::ItemRules;
 use motion_history::ConfigFault;
 
 /// The text isn't TOML.
@@ -29,30 +29,17 @@ pub const WRONG_COUNT: u8 = 6;
 /// Points make no cam table.
 pub const NO_TABLE: u8 = 7;
 
-/// Breaks a rule unless this holds.
-pub fn broken_unless(holds: bool, rule: u8) -> Result<(), LineFault>
-    ensures { Gives (λ u. u) (spec.broken_unless holds rule) result }
-{
-    if holds {
-        Ok(())
-    } else {
-        Err(LineFault::Rule(rule))
-    }
-}
+/// The rules that the numbers of a drive break.
+pub const DRIVE_RULES: ItemRules = ItemRules {
+    wrong: OUT_OF_RANGE,
+    too_many: WRONG_COUNT,
+};
 
-/// The number where it lies between two, both included.
-#[tactic(auto, unfolding(crate::specs::Rules::in_range))]
-pub fn in_range(least: u32, most: u32, number: i64) -> Result<u32, LineFault>
-    ensures value { Gives (λ n. n) (spec.in_range least most number) result }
-    ensures least { IfOk result (λ n. least ≤ n) }
-    ensures most { IfOk result (λ n. n ≤ most) }
-{
-    if i64::from(least) <= number && number <= i64::from(most) {
-        Ok(number as u32)
-    } else {
-        Err(LineFault::Rule(OUT_OF_RANGE))
-    }
-}
+/// The rules that the points of a cam table break.
+pub const TABLE_RULES: ItemRules = ItemRules {
+    wrong: NO_TABLE,
+    too_many: WRONG_COUNT,
+};
 
 /// Why an item is refused that has this fault.
 pub fn refusal_of(fault: ConfigFault) -> LineFault

@@ -3,17 +3,22 @@
 use crate::read_config;
 use motion_history::TextFault;
 use std::alloc::Global;
+use std::test::Fail;
 
 mod counts;
 mod readings;
 mod refusals;
 
 // The place at which a text is refused, and the number of the rule.
-fn refusal(alloc: Global, text: &[u8]) -> Option<(u64, u8)> {
+fn refusal(alloc: Global, text: &[u8]) -> Result<Option<(u64, u8)>, Fail> {
     match read_config(alloc, text) {
-        Err(TextFault::Refused(refused)) if refused.rule.letter == b'C' => {
-            Some((refused.place, refused.rule.number))
+        Ok(_machine) => Ok(None),
+        Err(TextFault::Refused(refused)) => {
+            if refused.rule.letter != b'C' {
+                return Err(Fail::new("a rule of another text"));
+            }
+            Ok(Some((refused.place, refused.rule.number)))
         }
-        _ => None,
+        Err(TextFault::OutOfMemory) => Err(Fail::new("out of memory")),
     }
 }

@@ -7,10 +7,11 @@ ghost use Rattle.machine_config.specs.Machines.{IsUnderWay};
 ghost use Rattle.machine_config.specs.Tops as spec;
 
 use crate::key::{Key, TOP_KEYS, has_keys};
-use crate::machine::{LONGEST_CYCLE, Machine, SHORTEST_CYCLE};
-use crate::rule::{WRONG_COUNT, WRONG_KEY, broken_unless, in_range};
+use crate::machine::Machine;
+use crate::rule::{OUT_OF_RANGE, WRONG_COUNT, WRONG_KEY};
 use crate::value::{integer_at, values_at};
-use line_text::LineFault;
+use line_text::{LineFault, broken_unless, in_range};
+use machine_words::{LONGEST_CYCLE, SHORTEST_CYCLE};
 use motion_history::{
     Builder, DriveDefs, MOST_AXES, MOST_CYCLES, MOST_ENTRIES, MOST_GROUPS, MOST_TABLES,
 };
@@ -24,9 +25,14 @@ pub fn bare_machine(alloc: Global, top: &Table) -> Result<Machine, LineFault>
     ensures kept { IfOk result IsUnderWay }
 {
     broken_unless(has_keys(&TOP_KEYS, top), WRONG_KEY)?;
-    let cycle_us = in_range(SHORTEST_CYCLE, LONGEST_CYCLE, integer_at(top, Key::CycleUs))?;
-    let cycles = in_range(1, MOST_CYCLES, integer_at(top, Key::Cycles))?;
-    let entries = in_range(1, MOST_ENTRIES, integer_at(top, Key::Entries))?;
+    let cycle_us = in_range(
+        SHORTEST_CYCLE,
+        LONGEST_CYCLE,
+        OUT_OF_RANGE,
+        integer_at(top, Key::CycleUs),
+    )?;
+    let cycles = in_range(1, MOST_CYCLES, OUT_OF_RANGE, integer_at(top, Key::Cycles))?;
+    let entries = in_range(1, MOST_ENTRIES, OUT_OF_RANGE, integer_at(top, Key::Entries))?;
     broken_unless(are_counted(top), WRONG_COUNT)?;
     let Ok(config) = Builder::open(alloc, cycles, entries) else {
         return Err(LineFault::OutOfMemory);

@@ -19,6 +19,7 @@ use Rattle.machine_words.specs.declared.rule.TheConstants.{NO_VALUE}
 use Rattle.machine_words.specs.declared.units.Units.{Units}
 use Rattle.machine_words.specs.declared.units.Units.TheVariants.{Internal, User}
 use Rattle.machine_words.proofs.Zeros.{IsSmall}
+use Rattle.fixed_units.proofs.Shortest.{unsigned_abs-with_sign}
 use Rattle.line_text.proofs.Results.{bind_ok, found, ok_is}
 
 -- numbers and quantities in words are small
@@ -47,15 +48,11 @@ quantity-small small text z h =
       | inr other ↦ let e : Err NO_VALUE ≡ Ok z = rw other at h in absurd (cc)
     ]
 
-size_of_signed : (b : Bool) (n : ℕ) → unsigned_abs (with_sign b n) ≡ n
-size_of_signed true n = omega (arith, ints)
-size_of_signed false n = refl
-
 -- a size that is spread over so many parts
 spread-small : (b : Bool) (u c m : ℕ) → u ≤ 10 ^ 18 → c ≤ m → IsSmall (with_sign b (u * c / m))
 spread-small b u c m few less =
     let product : u * c ≤ m * 10 ^ 18 = subst (λ p. p ≤ m * 10 ^ 18) (mul_comm c u) (mul-le c u m (10 ^ 18) less few) in
-    subst (λ n. n ≤ MOST_NUMBER) (sym (size_of_signed b (u * c / m))) (div-le_of_le-mul m product)
+    subst (λ n. n ≤ MOST_NUMBER) (sym (unsigned_abs-with_sign b (u * c / m))) (div-le_of_le-mul m product)
 
 pub place-small : AreSmall → (units : Units) → ReadsSmall (place_in units)
 unfolding place_in

@@ -13,7 +13,7 @@ use motion_history::{DriveDef, FaultList, MOST_FAULTS, MOST_LAG};
 use std::alloc::Global;
 
 /// The greatest step of a fault.
-const MOST_STEPS: u32 = u32::MAX;
+pub const MOST_STEPS: u32 = u32::MAX;
 
 /// A drive without a lag and faults.
 pub fn plain_drive(alloc: Global) -> DriveDef

@@ -15,7 +15,7 @@ mod rule;
 mod table;
 mod units;
 
-pub use drive::{drive_in, plain_drive};
+pub use drive::{MOST_STEPS, drive_in, plain_drive};
 pub use inputs::{Callee, inputs_by, is_off};
 pub use integer::{number, numbers};
 pub use item::{add_task, free_name, is_whole};
@@ -30,4 +30,4 @@ pub use rule::{
     WRONG_COUNT, WRONG_NAME, refusal_of, refused_by,
 };
 pub use table::add_table;
-pub use units::{LONGEST_CYCLE, SHORTEST_CYCLE, Units, decimal_units, place_of};
+pub use units::{LONGEST_CYCLE, SHORTEST_CYCLE, Units, decimal_units};

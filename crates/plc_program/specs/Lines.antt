@@ -1,4 +1,5 @@
--- The lines of a program but its tasks and calls: blocks, waits and repeats. This project's profile.
+-- The lines of a program but its tasks and calls: blocks, waits and repeats. This project's
+-- profile.
 use Rattle.std.specs.Prelude.{ℕ, codes, Option, Result, Ok, Err, List, [], ◌∷◌, ◌++◌}
 use Rattle.std.specs.List.{find}
 use Rattle.std.specs.Option.{ok_or}

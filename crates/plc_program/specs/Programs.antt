@@ -85,7 +85,8 @@ IsLineOf s task Again = Unit {0}
 -- the tasks, the first of this number, have lines of their own
 abbrev pub AreTasksOf : Setup → ℕ → List (List Instruction) → Type 0
 AreTasksOf s task [] = Unit {0}
-AreTasksOf s task (lines ∷ more) = AllByRecursion (IsLineOf s task) lines × AreTasksOf s (suc task) more
+AreTasksOf s task (lines ∷ more) =
+    AllByRecursion (IsLineOf s task) lines × AreTasksOf s (suc task) more
 
 -- a program is one of this machine, which is whole: it has a list for each of its tasks, of lines
 -- of this task

@@ -145,7 +145,8 @@ program_of cycle_us s text =
 
 -- the answer, and what the machine is now, are this reading: the program, or the refusal; or memory
 -- ran out
-abbrev pub ReadsBy : Result Outcome TextRefused → Result (List (List Instruction)) TextFault → Setup → Type 0
+abbrev pub ReadsBy : Result Outcome TextRefused → Result (List (List Instruction)) TextFault →
+    Setup → Type 0
 ReadsBy reading (Ok program) s = reading ≡ Ok (record { program = program; setup = s })
 ReadsBy reading (Err (Refused r)) s = reading ≡ Err r
 ReadsBy reading (Err OutOfMemory) s = Unit {0}

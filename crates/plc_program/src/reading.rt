@@ -124,7 +124,8 @@ fn refusal(refused: LineRefused) -> TextFault
 #[tactic(auto, unfolding(crate::specs::Reading::ending))]
 fn program_of(reader: ProgramReader, last: u64) -> (Builder, Result<Program, TextFault>)
     requires { (first : Setup) × IsSoFar first reader }
-    ensures exact { ReadsBy (refused_by spec.letter (at_line last (spec.ending reader))) result.1 result.0 }
+    ensures exact { ReadsBy (refused_by spec.letter (at_line last (spec.ending reader)))
+        result.1 result.0 }
     ensures program { IfOk result.1 (IsProgramOf result.0) }
     ensures machine { result.0 ≡ reader.setup }
 {

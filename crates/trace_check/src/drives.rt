@@ -2,39 +2,17 @@
 
 ghost use Rattle.std.specs.Prelude.{◌≡◌, ◌+◌, ◌<◌, ◌^◌, IfOk, OnOk, length, map};
 ghost use Rattle.trace_text.specs.Trace.{drive_records};
-ghost use Rattle.trace_text.specs.Records as spec;
-ghost use Rattle.trace_text.specs.Records.{drive_fields, padded, text_or_none};
+ghost use Rattle.trace_text.specs.Records.{drive_fields, padded};
 ghost use Rattle.trace_check.specs.Replays.{with_taken};
 ghost use Rattle.trace_check.specs.Stops.{Compares, StopsAt, Tells};
 
 use crate::difference::{Stop, differing};
 use crate::record::Record;
 use itoa::Buffer;
-use motion_history::{Config, Name, OutOfMemory};
+use motion_history::{Config, OutOfMemory, axis_name, name_text};
 use std::alloc::Global;
 use trace_columns::drive_state_text;
 use trace_text::{DriveEndRow, Trace};
-
-// The name of an axis, if it is there.
-#[tactic(auto, unfolding(trace_text::specs::Records::axis_name))]
-fn axis_name(config: &Config, axis: usize) -> Option<Name>
-    ensures { text_or_none result ≡ spec.axis_name config.now axis }
-{
-    match config.axes().get(axis) {
-        Some(def) => Some(def.name),
-        None => None,
-    }
-}
-
-// The bytes of a name, or none.
-fn name_text(name: &Option<Name>) -> &[u8]
-    ensures { result.now ≡ text_or_none name.now }
-{
-    match name {
-        Some(name) => name.bytes(),
-        None => b"",
-    }
-}
 
 // The record of what the drive of an axis took.
 fn drive_record(

@@ -3,7 +3,7 @@ use Rattle.std.specs.Prelude.{◌≡◌, refl, ℕ, zero, suc, ◌/◌, ◌%◌,
 use Rattle.std.specs.Fmt.{signed_decimal}
 use Rattle.std.specs.Str.Parse.{digits_value, signed_digits_value}
 use Rattle.std.proofs.Common.{◌∙◌, ap, arith, w64, FitsSigned}
-use Rattle.std.proofs.lemmas.Bool.{ne_eqb}
+use Rattle.std.proofs.lemmas.Bool.{ne_eqb, true_from_ne_false}
 use Rattle.std.proofs.lemmas.Fmt.{decimal_digit, decimal_is_IsNumeral, first_decimal}
 use Rattle.std.proofs.lemmas.Int.{ints}
 use Rattle.axis_state.specs.declared.state.AxisState.{AxisState}
@@ -15,7 +15,7 @@ use Rattle.group_state.specs.declared.state.GroupState.{GroupState}
 use Rattle.group_state.specs.declared.state.GroupState.TheVariants as group
 use Rattle.trace_columns.specs.Columns.{axis_state_of, drive_state_of, flag_of, group_state_of, hex_digit_of, hex_of, number_of, outputs_of, unsigned_of, wide_number_of}
 use Rattle.trace_columns.specs.Fields.{axis_state_text, drive_state_text, flag_text, group_state_text, hex_digit, hex_text, outputs_text}
-use Rattle.trace_columns.proofs.NumberLaws.{both-hold, unless_false, wide-whole}
+use Rattle.trace_columns.proofs.NumberLaws.{both-hold, wide-whole}
 
 pub axes-back : (s : AxisState) → axis_state_of (axis_state_text s) ≡ Some s
 unfolding axis_state_of axis_state_text
@@ -158,7 +158,7 @@ pub numbers-back : (least most z : ℤ) → FitsSigned w64 z → least ≤ℤ z 
 unfolding number_of
 numbers-back least most z f low high =
     let within : (int_le least z && int_le z most) ≡ true =
-    both-hold _ _ (unless_false (int_le least z) (λ e. omega (arith, ints, e, low))) (unless_false (int_le z most) (λ e. omega (arith, ints, e, high))) in
+    both-hold _ _ (true_from_ne_false (int_le least z) (λ e. omega (arith, ints, e, low))) (true_from_ne_false (int_le z most) (λ e. omega (arith, ints, e, high))) in
     rw (wide-back z f, within) refl
 
 pub unsigned-back : (least most n : ℕ) → n < 2 ^ 63 → least ≤ n → n ≤ most → unsigned_of least most (decimal n) ≡ Some n

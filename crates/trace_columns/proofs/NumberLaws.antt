@@ -4,12 +4,13 @@ use Rattle.std.specs.Fmt.{signed_decimal}
 use Rattle.std.specs.Str.{IsUtf8, bytes_eq}
 use Rattle.std.specs.Str.Parse.{ParsesSigned, signed_digits_value}
 use Rattle.std.proofs.Common.{◌∙◌, sym, subst, arith, w64, FitsSigned, inl, inr}
-use Rattle.std.proofs.lemmas.Bool.{and_parts, cases_Bool}
+use Rattle.std.proofs.lemmas.Bool.{and_parts, cases_Bool, true_from_ne_false}
 use Rattle.std.proofs.lemmas.Fmt.{IsAscii-signed, parse-signed_decimal}
 use Rattle.std.proofs.lemmas.Int.{ints}
 use Rattle.std.proofs.lemmas.Result.{OkIff-at_ok}
 use Rattle.std.proofs.lemmas.Slice.Eq.{bytes_eq-Decides}
 use Rattle.std.proofs.lemmas.Str.{IsUtf8-from_ascii}
+use Rattle.line_text.proofs.Texts.{bytes-same}
 use Rattle.trace_columns.specs.Columns.{is_wide, wide_number_of}
 
 -- a field is this number
@@ -23,22 +24,15 @@ wide-fits z e =
     let p = and_parts (int_le (neg_ℤ (pos (2 ^ 63))) z) (int_le z (pos (2 ^ 63 - 1))) e in
     omega (arith, ints, p.0, p.1)
 
-pub unless_false : (b : Bool) → (b ≡ false → ⊥) → b ≡ true
-unless_false true n = refl
-unless_false false n = absurd (n refl)
-
 pub both-hold : (a b : Bool) → a ≡ true → b ≡ true → (a && b) ≡ true
 both-hold a b p q = rw (p, q) refl
 
 pub fits-wide : (z : ℤ) → FitsSigned w64 z → is_wide z ≡ true
 fits-wide z f =
-    both-hold _ _ (unless_false (int_le (neg_ℤ (pos (2 ^ 63))) z) (λ e. omega (arith, ints, e))) (unless_false (int_le z (pos (2 ^ 63 - 1))) (λ e. omega (arith, ints, e)))
+    both-hold _ _ (true_from_ne_false (int_le (neg_ℤ (pos (2 ^ 63))) z) (λ e. omega (arith, ints, e))) (true_from_ne_false (int_le z (pos (2 ^ 63 - 1))) (λ e. omega (arith, ints, e)))
 
 same-bytes : (xs ys : List ℕ) → bytes_eq xs ys ≡ true → xs ≡ ys
 same-bytes xs ys e = (bytes_eq-Decides xs ys).0 e
-
-pub bytes-same : (xs : List ℕ) → bytes_eq xs xs ≡ true
-bytes-same xs = (bytes_eq-Decides xs xs).1 refl
 
 pub wide-parts : (text : List ℕ) (z : ℤ) → wide_number_of text ≡ Some z → IsSpelled text z
 unfolding wide_number_of

@@ -4,7 +4,7 @@ use Rattle.std.specs.Char.{digit_value}
 use Rattle.std.specs.Fmt.{signed_decimal}
 use Rattle.std.specs.Str.Parse.{AllDigits, digits_value}
 use Rattle.std.proofs.Common.{◌∙◌, sym, ap, subst, arith}
-use Rattle.std.proofs.lemmas.Bool.{lt-ltb, ltb-true}
+use Rattle.std.proofs.lemmas.Bool.{false_from_ne_true, lt-ltb, ltb-true}
 use Rattle.std.proofs.lemmas.Fmt.{decimal-digits_value}
 use Rattle.std.proofs.lemmas.Int.{ints}
 use Rattle.std.proofs.lemmas.Int.Digits.{digits_more, digits_value_more}
@@ -16,13 +16,9 @@ use Rattle.trace_columns.proofs.BackLaws.{wide-back}
 own : IsNumeralModel (AllDigits 10) (digits_value 10)
 own = numerals_by_value (AllDigits 10) tells_digits
 
-unless_true : (b : Bool) → (b ≡ true → ⊥) → b ≡ false
-unless_true true n = absurd (n refl)
-unless_true false n = refl
-
 -- the value of a digit
 digit-is : (c : ℕ) → 48 ≤ c → c ≤ 57 → digit_value c ≡ c - 48
-digit-is c low high = rw (unless_true (nat_lt c 48) (λ h. let l = ltb-true c 48 h in omega (arith, l, low)), lt-ltb c 58 (omega (arith, high))) refl
+digit-is c low high = rw (false_from_ne_true (nat_lt c 48) (λ h. let l = ltb-true c 48 h in omega (arith, l, low)), lt-ltb c 58 (omega (arith, high))) refl
 
 -- the digits so far, and their number
 pub record IsRead (text : List ℕ) (i number : ℕ) : Type 0 where

@@ -9,7 +9,7 @@ use Rattle.axis_state.specs.declared.state.AxisState.{AxisState}
 use Rattle.cia402_machine.specs.declared.drive.DriveState.{DriveState}
 use Rattle.fb_outputs.specs.declared.outputs.Outputs.{Outputs}
 use Rattle.group_state.specs.declared.state.GroupState.{GroupState}
-use Rattle.line_text.specs.Numbers.{◌>>=◌}
+use Rattle.line_text.specs.Numbers.{◌>>=◌, is_colon}
 use Rattle.motion_numbers.specs.declared.TheConstants.{MOST_NUMBER}
 use Rattle.trace_columns.specs.Fields.{axis_state_text, drive_state_text, flag_text, group_state_text, outputs_text}
 use Rattle.trace_columns.specs.declared.state.TheConstants.{AXIS_STATES, DRIVE_STATES, GROUP_STATES}
@@ -39,10 +39,6 @@ unsigned_of least most text = number_of (pos least) (pos most) text >>= λ z. So
 -- a number that is an input or a limit: at most 10^18 in size
 abbrev pub size_limited_of : List ℕ → Option ℤ
 size_limited_of text = number_of (neg_ℤ (pos MOST_NUMBER)) (pos MOST_NUMBER) text
-
--- a colon stands between the coordinates of a point
-abbrev pub is_colon : ℕ → Bool
-is_colon b = b == 58
 
 -- the parts before the first colon and behind it
 unfoldable pub halves_of : List ℕ → Option (List ℕ × List ℕ)

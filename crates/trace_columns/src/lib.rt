@@ -1,4 +1,5 @@
-//! The columns of a trace: how the values of its fields are spelled, and which value a field spells.
+//! The columns of a trace: how the values of its fields are spelled, and which value a field
+//! spells.
 #![tactic(auto)]
 
 mod fields;

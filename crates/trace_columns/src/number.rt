@@ -5,6 +5,7 @@ ghost use Rattle.std.specs.Fmt.{signed_decimal};
 ghost use Rattle.std.specs.List.{position};
 ghost use Rattle.std.specs.Option.{option_map};
 ghost use Rattle.std.specs.Str.{bytes_eq};
+ghost use Rattle.line_text.specs.Numbers.{is_colon};
 ghost use Rattle.trace_columns.specs.Columns as spec;
 
 use itoa::Buffer;
@@ -172,7 +173,7 @@ pub fn word_of(text: &[u8]) -> Option<u16>
 
 // Where the first colon stands.
 fn colon_in(text: &[u8]) -> Option<usize>
-    ensures place { result ≡ position spec.is_colon text.now }
+    ensures place { result ≡ position is_colon text.now }
     ensures within { IfSome result (λ place. place < length text.now) }
 {
     text.iter().position(|b| *b == b':')

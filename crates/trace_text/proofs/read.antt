@@ -1,9 +1,4 @@
 -- Records and their fields, as they are read one after another, and what always holds of them.
-pub mod Shown
-pub mod Each
-pub mod Results
-pub mod Tables
-pub mod Zeros
 pub mod SameLists
 pub mod RowLaws
 pub mod Eleven

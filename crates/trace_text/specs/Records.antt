@@ -3,13 +3,13 @@ use Rattle.std.specs.Prelude.{ℕ, ℤ, ◌-◌, Bool, if◌then◌else◌, Opti
 use Rattle.std.specs.Fmt.{signed_decimal}
 use Rattle.std.specs.List.{join_with_byte}
 use Rattle.std.specs.Option.{option_map}
-use Rattle.csv.specs.Writing.{row_text, default_writer}
 use Rattle.axis_state.specs.Counts.{place_of}
 use Rattle.axis_state.specs.declared.definition.AxisDef.{AxisDef}
 use Rattle.axis_state.specs.declared.definition.AxisRow.{AxisRow}
 use Rattle.command_pool.specs.Kinds.{acts_on_group}
 use Rattle.command_pool.specs.declared.kind.BlockKind.{BlockKind}
 use Rattle.command_pool.specs.declared.kind.BlockKind.TheVariants.{GearIn, CamIn}
+use Rattle.csv.specs.Writing.{row_text, default_writer}
 use Rattle.fb_outputs.specs.Inputs.{takes}
 use Rattle.fb_outputs.specs.Names.{kind_name, mode_name}
 use Rattle.fb_outputs.specs.declared.inputs.Input.{Input}
@@ -19,15 +19,17 @@ use Rattle.fb_outputs.specs.declared.outputs.Outputs.{Outputs}
 use Rattle.group_state.specs.declared.state.GroupRow.{GroupRow}
 use Rattle.motion_history.specs.Calls.{axes_of}
 use Rattle.motion_history.specs.Members.{members_of}
+pub use Rattle.motion_history.specs.NameTexts.{text_or_none}
+unfoldable pub use Rattle.motion_history.specs.NameTexts.{axis_name}
 use Rattle.motion_history.specs.Setup.{Setup}
 use Rattle.motion_history.specs.declared.config.BlockDef.{BlockDef}
 use Rattle.motion_history.specs.declared.config.GroupDef.{GroupDef}
 use Rattle.motion_history.specs.declared.refused.TraceVersion.{TraceVersion}
 use Rattle.motion_history.specs.declared.refused.TraceVersion.TheVariants.{One, Two}
+use Rattle.trace_columns.specs.Fields.{axis_state_text, drive_state_text, flag_text, group_state_text, hex_text, outputs_text}
 use Rattle.trace_text.specs.declared.records.TheConstants.{FIELDS}
 use Rattle.trace_text.specs.declared.command.Command.{Command}
 use Rattle.trace_text.specs.declared.drive_end.DriveEndRow.{DriveEndRow}
-use Rattle.trace_columns.specs.Fields.{axis_state_text, drive_state_text, flag_text, group_state_text, hex_text, outputs_text}
 use Rattle.trace_text.specs.Words.{command_text, version_text}
 
 -- a record has twelve fields; those that it does not use are empty
@@ -39,15 +41,7 @@ padded fields = fields ++ replicate (FIELDS - length fields) []
 unfoldable pub record_text : List (List ℕ) → List ℕ
 record_text fields = row_text default_writer (padded fields)
 
--- a text that is there, or none
-abbrev pub text_or_none : Option (List ℕ) → List ℕ
-text_or_none None = []
-text_or_none (Some text) = text
-
--- the name of an axis, a group, a task or a block, by its number
-unfoldable pub axis_name : Setup → ℕ → List ℕ
-axis_name s n = text_or_none (option_map (λ (d : AxisDef). d.name) (slice_get s.axes n))
-
+-- the name of a group or a task, by its number
 unfoldable pub group_name : Setup → ℕ → List ℕ
 group_name s n = text_or_none (option_map (λ (d : GroupDef). d.name) (slice_get s.groups n))
 

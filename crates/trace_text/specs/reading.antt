@@ -1,6 +1,5 @@
 -- What is read of a trace: its rules, where its records stand, and what each says.
 pub mod Rules
-pub mod Names
 pub mod Items
 pub mod InputFields
 pub mod Inputs

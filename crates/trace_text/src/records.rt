@@ -9,7 +9,7 @@ ghost use Rattle.trace_text.specs.Records.{record_text};
 
 use axis_state::Name;
 use csv::Writer;
-use motion_history::{BlockDef, Config, OutOfMemory};
+use motion_history::{BlockDef, Config, OutOfMemory, axis_name};
 use std::io::Write;
 
 /// How many fields a record has.
@@ -57,27 +57,6 @@ fn padded<'a>(fields: &[&'a [u8]]) -> [&'a [u8]; FIELDS]
     let mut all: [&[u8]; FIELDS] = [b""; FIELDS];
     all[..fields.len()].copy_from_slice(fields);
     all
-}
-
-/// The bytes of a name, or none.
-pub fn name_text(name: &Option<Name>) -> &[u8]
-    ensures { result.now ≡ spec.text_or_none name.now }
-{
-    match name {
-        Some(name) => name.bytes(),
-        None => b"",
-    }
-}
-
-/// The name of an axis, if it is there.
-#[tactic(auto, unfolding(crate::specs::Records::axis_name))]
-pub fn axis_name(config: &Config, number: usize) -> Option<Name>
-    ensures { spec.text_or_none result ≡ spec.axis_name config.now number }
-{
-    match config.axes().get(number) {
-        Some(def) => Some(def.name),
-        None => None,
-    }
 }
 
 /// The name of a group, if it is there.

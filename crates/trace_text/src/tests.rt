@@ -3,6 +3,7 @@
 use crate::read_trace;
 use motion_history::TextFault;
 use std::alloc::{AllocError, Global};
+use std::test::Fail;
 
 mod readings;
 mod refusals;
@@ -96,9 +97,10 @@ fn joined(alloc: Global, texts: &[&[u8]]) -> Result<Vec<u8>, AllocError> {
 }
 
 // The record at which a text is refused, and the number of the rule.
-fn refusal(alloc: Global, text: &[u8]) -> Option<(u64, u8)> {
+fn refusal(alloc: Global, text: &[u8]) -> Result<Option<(u64, u8)>, Fail> {
     match read_trace(alloc, text) {
-        Err(TextFault::Refused(refused)) => Some((refused.place, refused.rule.number)),
-        _ => None,
+        Ok(_trace) => Ok(None),
+        Err(TextFault::Refused(refused)) => Ok(Some((refused.place, refused.rule.number))),
+        Err(TextFault::OutOfMemory) => Err(Fail::new("out of memory")),
     }
 }

@@ -61,12 +61,12 @@ fn refuses_whole_texts(rt: HostRuntime) -> Result<(), Fail> {
     for (behind, place, rule) in cases {
         let text = joined(rt.alloc(), &[TOP, behind])?;
         assert_eq!(rt;
-            refusal(rt.alloc(), text.as_slice()),
+            refusal(rt.alloc(), text.as_slice())?,
             Some((place, rule)),
             "{behind:?}"
         );
     }
-    assert_eq!(rt; refusal(rt.alloc(), b""), Some((0, 2)));
+    assert_eq!(rt; refusal(rt.alloc(), b"")?, Some((0, 2)));
     Ok(())
 }
 
@@ -86,7 +86,7 @@ fn refuses_too_many_items(rt: HostRuntime) -> Result<(), Fail> {
         push_times(&mut text, b"{},", times)?;
         text.push(b']')?;
         assert_eq!(rt;
-            refusal(rt.alloc(), text.as_slice()),
+            refusal(rt.alloc(), text.as_slice())?,
             Some((place, rule)),
             "{times} behind {before:?}"
         );
@@ -106,7 +106,7 @@ fn takes_six_axes_in_a_group(rt: HostRuntime) -> Result<(), Fail> {
         text.extend_from_slice(b"]\n[[group]]\nname = 'G'\naxes = [")?;
         text.extend_from_slice(axes)?;
         text.push(b']')?;
-        assert_eq!(rt; refusal(rt.alloc(), text.as_slice()), wanted, "{axes:?}");
+        assert_eq!(rt; refusal(rt.alloc(), text.as_slice())?, wanted, "{axes:?}");
         assert_eq!(rt;
             read_config(rt.alloc(), text.as_slice()).is_ok(),
             wanted.is_none(),
@@ -133,7 +133,7 @@ fn refuses_too_many_faults(rt: HostRuntime) -> Result<(), Fail> {
         text.extend_from_slice(b"], name = 'a")?;
         text.extend_from_slice(LIMITS)?;
         text.push(b']')?;
-        assert_eq!(rt; refusal(rt.alloc(), text.as_slice()), wanted, "{count}");
+        assert_eq!(rt; refusal(rt.alloc(), text.as_slice())?, wanted, "{count}");
     }
     Ok(())
 }
@@ -148,7 +148,7 @@ fn refuses_too_many_points(rt: HostRuntime) -> Result<(), Fail> {
             text.extend_from_slice(format!(in rt.alloc(); "'{x}:0',")?.as_bytes())?;
         }
         text.push(b']')?;
-        assert_eq!(rt; refusal(rt.alloc(), text.as_slice()), wanted, "{count}");
+        assert_eq!(rt; refusal(rt.alloc(), text.as_slice())?, wanted, "{count}");
     }
     Ok(())
 }

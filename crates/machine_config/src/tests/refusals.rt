@@ -211,7 +211,7 @@ fn expect_refusals(rt: &impl Abort, alloc: Global, changes: &str) -> Result<(), 
         };
         let text = changed(alloc, change)?;
         let wanted = (u64::from(*place & 15), *rule & 15);
-        assert_eq!(rt; refusal(alloc, text.as_slice()), Some(wanted), "{line}");
+        assert_eq!(rt; refusal(alloc, text.as_slice())?, Some(wanted), "{line}");
     }
     Ok(())
 }

@@ -16,6 +16,9 @@ use Rattle.fb_outputs.specs.Names.{mode_name, mode_named}
 use Rattle.fb_outputs.specs.declared.inputs.Input.TheVariants.{Position, Velocity, Acceleration, Deceleration, Jerk, Mode}
 use Rattle.fb_outputs.specs.declared.inputs.Inputs.{Inputs}
 use Rattle.fb_outputs.specs.declared.outputs.Outputs.{Outputs}
+use Rattle.line_text.specs.Reading.{each_of}
+use Rattle.machine_words.specs.Names.{axis_at, axis_named, block_at, task_at}
+use Rattle.machine_words.specs.Positions.{no_positions, positions_from}
 use Rattle.motion_history.specs.Calls.{axes_of}
 use Rattle.motion_history.specs.Members.{IsGroup}
 use Rattle.motion_history.specs.Ranges.{is_block}
@@ -23,23 +26,21 @@ use Rattle.motion_history.specs.Setup.{Setup}
 use Rattle.motion_history.specs.declared.config.BlockDef.{BlockDef}
 use Rattle.motion_history.specs.declared.sizes.TheConstants.{MOST_MEMBERS}
 use Rattle.motion_numbers.specs.declared.TheConstants.{MOST_NUMBER}
-use Rattle.line_text.specs.Reading.{each_of}
 use Rattle.trace_columns.specs.Fields.{flag_text, outputs_text}
 use Rattle.trace_text.specs.reading.Events.{call_by, call_meaning, end_meaning, reply_of}
-use Rattle.trace_text.specs.reading.Inputs.{cam_of, follow_of, gear_of, halves, input_of, inputs_of, joined_positions, last_of, mode_of, no_master, no_positions, positions_of, rates_of}
-use Rattle.trace_text.specs.reading.Rules.{unused}
-use Rattle.trace_text.specs.reading.Items.{axis_named, number, parts_of}
-use Rattle.trace_text.specs.reading.Names.{axis_at, block_at, task_at}
+use Rattle.trace_text.specs.reading.Inputs.{cam_of, follow_of, gear_of, halves, input_of, inputs_of, joined_positions, last_of, mode_of, no_master, positions_of, rates_of}
+use Rattle.trace_text.specs.reading.Rules.{are_empty, unused, value}
+use Rattle.trace_text.specs.reading.Items.{number, parts_of}
 use Rattle.trace_text.specs.Records.{axis_name, block_call_fields, call_fields, call_fields_of, end_fields, follow_text, number_text, padded, positions_text, taken_text}
-use Rattle.trace_text.specs.reading.Rules.{are_empty, value}
 use Rattle.trace_text.specs.Writable.{IsMachine, IsWritableCall}
 use Rattle.trace_text.specs.declared.reading.inputs.Followed.{Followed}
 use Rattle.trace_text.specs.declared.found.FoundEntry.TheVariants as found
+use Rattle.trace_text.specs.declared.reading.rule.TheConstants.{NO_VALUE}
+use Rattle.motion_history.proofs.DistinctLemmas.{each-from_list_all, each-weaker}
 use Rattle.trace_text.proofs.back.FieldsBack.{Given, number-back}
 use Rattle.trace_text.proofs.back.ItemsBack.{axis-at, axis-without, block-at, item-of, task-at, there-at}
-use Rattle.trace_text.proofs.back.NamesBack.{each-passes}
 use Rattle.trace_text.proofs.back.PartsBack.{each-back, halves-back, stands-at, texts-back}
-use Rattle.trace_text.proofs.back.Plain.{each-weaker, signed-without}
+use Rattle.trace_text.proofs.back.Plain.{signed-without}
 
 -- ---- lists whose items are all 0
 
@@ -74,7 +75,7 @@ each-take P (suc n) (x ∷ xs) h = (h.0, each-take P n xs h.1)
 
 joined-back : Given → (k : ℕ) (xs : List ℤ) → 1 ≤ k → k ≤ MOST_MEMBERS → length xs ≡ MOST_MEMBERS → ((n : ℕ) → unsigned_abs (slice_index_or xs n (pos 0)) ≤ MOST_NUMBER) →
     ((n : ℕ) → k ≤ n → slice_index_or xs n (pos 0) ≡ pos 0) → joined_positions k (join_with_byte 59 (map signed_decimal (take k xs))) ≡ Ok xs
-unfolding joined_positions
+unfolding joined_positions positions_from
 joined-back g k xs some few long small behind =
     let small-ones = each-take (λ z. unsigned_abs z ≤ MOST_NUMBER) k xs (small-all xs small) in
     let count : length (take k xs) ≡ k = length-take-le k xs (omega (arith, few, long)) in
@@ -101,7 +102,7 @@ record ActsOnSome (s : Setup) (b : BlockDef) : Type 0 where
 acts-on : (s : Setup) → IsMachine s → (k : ℕ) (b : BlockDef) → slice_get s.blocks k ≡ Some b → ActsOnSome s b
 acts-on s m k b at =
     let stands = stands-at s.blocks k b at in
-    let there = item-of (λ b. is_block (length s.tasks) (length s.axes) (length s.groups) b ≡ true) s.blocks stands.before b stands.behind stands.whole (each-passes _ s.blocks m.setup.within.blocks) in
+    let there = item-of (λ b. is_block (length s.tasks) (length s.axes) (length s.groups) b ≡ true) s.blocks stands.before b stands.behind stands.whole (each-from_list_all _ s.blocks m.setup.within.blocks) in
     let parts = and_parts (nat_lt b.task (length s.tasks)) _ there in
     elim (cases_Bool (acts_on_group b.kind)) [
       | inl on ↦
@@ -153,8 +154,8 @@ mode-by g false mode is = ap Ok (sym (is refl))
 abbrev pub followed : Inputs → Followed
 followed i = record { master = i.master; numerator = i.numerator; denominator = i.denominator; table = i.table }
 
-master-back : (s : Setup) → IsMachine s → (n : ℕ) → n < length s.axes → axis_named s (axis_name s n) ≡ Ok n
-unfolding axis_named axis_at
+master-back : (s : Setup) → IsMachine s → (n : ℕ) → n < length s.axes → axis_named NO_VALUE s (axis_name s n) ≡ Ok n
+unfolding axis_at
 master-back s m n l = rw (axis-at s m n l) refl
 
 gear-back : Given → (s : Setup) → IsMachine s → (i : Inputs) → i.master < length s.axes → unsigned_abs i.numerator ≤ MOST_NUMBER → unsigned_abs i.denominator ≤ MOST_NUMBER → i.table ≡ 0 →

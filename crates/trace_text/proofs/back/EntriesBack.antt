@@ -3,9 +3,10 @@ use Rattle.std.specs.Prelude.{◌≡◌, refl, ℕ, suc, ◌+◌, ◌^◌, ◌<�
 use Rattle.std.specs.List.{AllByRecursion, AllZip, flat_map}
 use Rattle.std.specs.Option.{option_to_list}
 use Rattle.std.proofs.Common.{◌∙◌, sym, ap, subst, arith, append_assoc}
-use Rattle.std.proofs.lemmas.Bool.{le-leb, lt-ltb, leb-true}
+use Rattle.std.proofs.lemmas.Bool.{false_from_ne_true, le-leb, leb-true, lt-ltb}
 use Rattle.std.proofs.lemmas.List.{append-nil, length-append, length-map}
 use Rattle.std.proofs.lemmas.List.Elements.{recursion_from_All}
+use Rattle.std.proofs.Math.Bool.{and-false}
 use Rattle.axis_state.specs.declared.definition.AxisDef.{AxisDef}
 use Rattle.axis_state.specs.declared.definition.AxisRow.{AxisRow}
 use Rattle.fb_outputs.specs.declared.inputs.Inputs.{Inputs}
@@ -35,7 +36,7 @@ use Rattle.trace_text.specs.declared.drive_end.DriveEndRow.{DriveEndRow}
 use Rattle.trace_text.proofs.back.CallsBack.{call-there, end-back}
 use Rattle.trace_text.proofs.back.EntryLaws.{cycle-back, drive-back, grow-back, row-back}
 use Rattle.trace_text.proofs.back.FieldsBack.{Given}
-use Rattle.trace_text.proofs.back.ItemsBack.{there-at, unless_true}
+use Rattle.trace_text.proofs.back.ItemsBack.{there-at}
 use Rattle.trace_text.proofs.back.Leads.{Leads, leads-more, leads-none, leads-one, leads-then}
 use Rattle.trace_text.proofs.back.MachineBack.{standing}
 
@@ -90,14 +91,10 @@ unfolding cycle_after
 still-open v c last s f y e = rw e refl
 
 few-rows : (s : Setup) (y : CycleFound) → length y.axes < length s.axes → is_whole_cycle s y ≡ false
-few-rows s y l = rw (unless_true (nat_le (length s.axes) (length y.axes)) (λ h. let le = leb-true (length s.axes) (length y.axes) h in omega (arith, l, le))) refl
-
-and-false : (a : Bool) → (a && false) ≡ false
-and-false true = refl
-and-false false = refl
+few-rows s y l = rw (false_from_ne_true (nat_le (length s.axes) (length y.axes)) (λ h. let le = leb-true (length s.axes) (length y.axes) h in omega (arith, l, le))) refl
 
 few-groups : (s : Setup) (y : CycleFound) → length y.groups < length s.groups → is_whole_cycle s y ≡ false
-few-groups s y l = rw (unless_true (nat_le (length s.groups) (length y.groups)) (λ h. let le = leb-true (length s.groups) (length y.groups) h in omega (arith, l, le))) (and-false _)
+few-groups s y l = rw (false_from_ne_true (nat_le (length s.groups) (length y.groups)) (λ h. let le = leb-true (length s.groups) (length y.groups) h in omega (arith, l, le))) (and-false _)
 
 cycle-begins : Given → (v : TraceVersion) (c : Command) (last : Kind) (s : Setup) → IsMachine s → (st : Stage) → IsEntryStage st → (f : List FoundEntry) (n : ℕ) → 1 ≤ n → n < 2 ^ 32 →
     meaning (standing v c last s st f []) (padded (cycle_fields n)) ≡ Ok (in_rows v c last s f (part n [] [] []))

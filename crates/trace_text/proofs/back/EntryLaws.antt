@@ -17,7 +17,7 @@ use Rattle.trace_text.specs.reading.Rows.{answer_of, drive_meaning, given_of, gr
 use Rattle.trace_text.specs.reading.Events.{cycle_meaning}
 use Rattle.trace_text.specs.reading.Rules.{are_empty}
 use Rattle.trace_text.specs.declared.drive_end.DriveEndRow.{DriveEndRow}
-use Rattle.trace_text.proofs.back.NamesBack.{bytes-same}
+use Rattle.line_text.proofs.Texts.{bytes-same}
 
 answer-back : AreReadBack → (r : AxisRow) → IsRow r →
     answer_of (hex_text r.input.statusword ∷ signed_decimal r.input.actual ∷ signed_decimal r.input.mode_display ∷ []) ≡ Ok r.input

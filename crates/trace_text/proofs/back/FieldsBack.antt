@@ -5,23 +5,26 @@ use Rattle.std.specs.List.{AllByRecursion}
 use Rattle.std.proofs.Common.{arith}
 use Rattle.std.proofs.lemmas.Int.{ints}
 use Rattle.std.proofs.lemmas.List.Elements.{All-from_get_or, recursion_from_All}
+use Rattle.std.proofs.lemmas.Bool.{true_from_ne_false}
 use Rattle.axis_state.specs.declared.definition.AxisDef.{AxisDef}
 use Rattle.cam_table.specs.CamTable.{IsCamTable, is_cam_table, size_of}
 use Rattle.csv_records.specs.Records.{RecordsAreReadBack}
 use Rattle.fb_outputs.specs.Names.{AreNamed}
+use Rattle.line_text.specs.Reading.{each_of}
+use Rattle.line_text.specs.Rules.{in_range}
 use Rattle.motion_history.specs.AxisRanges.{AreAxisRanges}
 use Rattle.motion_history.specs.Ranges.{is_axis}
 use Rattle.motion_numbers.specs.declared.TheConstants.{MOST_NUMBER, MOST_PLACE}
 use Rattle.trace_columns.specs.Columns.{size_limited_of, point_of}
 use Rattle.trace_columns.specs.Fields.{flag_text}
 use Rattle.trace_columns.specs.ReadBack.{AreReadBack}
-use Rattle.trace_text.specs.reading.Items.{in_range, limits_of, number, parts_of, placed_of, point}
+use Rattle.trace_text.specs.reading.Items.{limits_of, number, parts_of, placed_of, point}
 use Rattle.trace_text.specs.Records.{point_text, points_text}
 use Rattle.trace_text.specs.reading.Rules.{are_empty}
-use Rattle.line_text.specs.Reading.{each_of}
+use Rattle.trace_text.specs.declared.reading.rule.TheConstants.{REFUSED}
+use Rattle.motion_history.proofs.DistinctLemmas.{each-append, each-weaker}
 use Rattle.trace_text.proofs.back.PartsBack.{each-back, halves-back, texts-back}
-use Rattle.trace_text.proofs.back.Plain.{IsWithout, each-weaker, signed-without}
-use Rattle.trace_text.proofs.back.NamesBack.{each-both}
+use Rattle.trace_text.proofs.back.Plain.{IsWithout, signed-without}
 
 -- the laws of the crates below
 pub record Given : Type 0 where
@@ -30,10 +33,6 @@ pub record Given : Type 0 where
   pub named : AreNamed
   pub ranges : (d : AxisDef) → IsTrue (is_axis d) → AreAxisRanges d
   pub tables : (points : List (ℤ × ℤ)) → IsTrue (is_cam_table points) ↔ IsCamTable points
-
-pub unless_false : (b : Bool) → (b ≡ false → ⊥) → b ≡ true
-unless_false true n = refl
-unless_false false n = absurd (n refl)
 
 -- a number that is an input or a limit
 pub limited-back : Given → (z : ℤ) → unsigned_abs z ≤ MOST_NUMBER → size_limited_of (signed_decimal z) ≡ Some z
@@ -47,10 +46,10 @@ number-back g z small = rw (limited-back g z small) refl
 pub count-back : Given → (n : ℕ) → n ≤ MOST_NUMBER → number (decimal n) ≡ Ok (pos n)
 count-back g n small = number-back g (pos n) small
 
-pub in_range-back : (least most n : ℕ) → least ≤ n → n ≤ most → in_range least most (pos n) ≡ Ok n
+pub in_range-back : (least most n : ℕ) → least ≤ n → n ≤ most → in_range least most REFUSED (pos n) ≡ Ok n
 unfolding in_range
 in_range-back least most n low high =
-    rw (unless_false (int_le (pos least) (pos n)) (λ e. omega (arith, ints, e, low)), unless_false (int_le (pos n) (pos most)) (λ e. omega (arith, ints, e, high))) refl
+    rw (true_from_ne_false (int_le (pos least) (pos n)) (λ e. omega (arith, ints, e, low)), true_from_ne_false (int_le (pos n) (pos most)) (λ e. omega (arith, ints, e, high))) refl
 
 -- the limits of an axis
 pub limits-back : Given → (d : AxisDef) → AreAxisRanges d →
@@ -107,7 +106,7 @@ point-back g p small =
 point-without : (p : ℤ × ℤ) → size_of p ≤ MOST_PLACE → IsWithout 59 (point_text p)
 unfolding point_text
 point-without p small =
-    each-both (λ b. (b == 59) ≡ false) (signed_decimal p.0) (58 ∷ signed_decimal p.1) (signed-without 59 p.0 (omega arith) (omega (arith, small)))
+    each-append (λ b. (b == 59) ≡ false) (signed_decimal p.0) (58 ∷ signed_decimal p.1) (signed-without 59 p.0 (omega arith) (omega (arith, small)))
     (refl, signed-without 59 p.1 (omega arith) (omega (arith, small)))
 
 small-points : (points : List (ℤ × ℤ)) → IsCamTable points → AllByRecursion (λ p. size_of p ≤ MOST_PLACE) points

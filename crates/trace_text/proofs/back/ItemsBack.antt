@@ -4,13 +4,17 @@ use Rattle.std.specs.List.{AllByRecursion, IsDistinct, flat_map, position}
 use Rattle.std.specs.Fmt.{signed_decimal}
 use Rattle.std.specs.Str.{bytes_eq}
 use Rattle.std.proofs.Common.{◌∙◌, sym, ap, subst, arith, append_assoc, inl, inr}
-use Rattle.std.proofs.lemmas.Bool.{and_parts, cases_Bool, leb-true, ltb-true, lt-ltb}
+use Rattle.std.proofs.lemmas.Bool.{and_parts, cases_Bool, false_from_ne_true, leb-true, lt-ltb, ltb-true}
 use Rattle.std.proofs.lemmas.List.{append-nil, length-append, length-take-le, take-append-drop}
 use Rattle.std.proofs.lemmas.List.Elements.{recursion_from_All}
+use Rattle.std.proofs.Math.Bool.{or-true}
 use Rattle.axis_state.specs.Names.{is_name, is_name_byte}
 use Rattle.axis_state.specs.declared.definition.AxisDef.{AxisDef}
 use Rattle.cam_table.specs.CamTable.{IsCamTable}
 use Rattle.command_pool.specs.Kinds.{acts_on_group}
+use Rattle.line_text.specs.Reading.{each_of}
+use Rattle.machine_words.specs.Names.{axis_at, axis_named, group_at, object_at, task_at}
+use Rattle.machine_words.specs.Tables.{table_added}
 use Rattle.motion_history.specs.AxisRanges.{AreAxisRanges}
 use Rattle.motion_history.specs.Faults.{are_free, axis_fault, block_fault, group_fault, is_used, name_fault, task_fault}
 use Rattle.motion_history.specs.Members.{IsGroup, group_of, members_of}
@@ -21,18 +25,18 @@ use Rattle.motion_history.specs.declared.config.GroupDef.{GroupDef}
 use Rattle.motion_history.specs.declared.refused.TraceVersion.{TraceVersion}
 use Rattle.motion_history.specs.declared.refused.TraceVersion.TheVariants.{One, Two}
 use Rattle.motion_history.specs.declared.sizes.TheConstants.{MOST_AXES, MOST_BLOCKS, MOST_GROUPS, MOST_MEMBERS, MOST_TABLES, MOST_TASKS}
-use Rattle.line_text.specs.Reading.{each_of}
 use Rattle.trace_columns.specs.Fields.{flag_text}
-use Rattle.trace_text.specs.reading.Items.{axis_added, axis_meaning, axis_named, block_meaning, group_meaning, is_object, parts_of, table_added, table_meaning, task_meaning}
-use Rattle.trace_text.specs.reading.Names.{axis_at, group_at, object_at, task_at}
+use Rattle.trace_text.specs.reading.Items.{axis_added, axis_meaning, block_meaning, group_meaning, is_object, parts_of, table_meaning, task_meaning}
 use Rattle.trace_text.specs.Records.{axis_fields, axis_name, block_fields, group_fields, group_name, members_text, object_name, padded, table_fields, task_fields, task_name}
 use Rattle.trace_text.specs.reading.Rules.{are_empty}
 use Rattle.trace_text.specs.Trace.{CanHold}
 use Rattle.trace_text.specs.Writable.{IsMachine}
+use Rattle.trace_text.specs.declared.reading.rule.TheConstants.{NO_VALUE}
+use Rattle.motion_history.proofs.DistinctLemmas.{each-append, each-from_list_all, each-weaker}
 use Rattle.trace_text.proofs.back.FieldsBack.{Given, limits-back, placed-back, points-back}
-use Rattle.trace_text.proofs.back.NamesBack.{any-none, each-at, each-both, each-left, each-passes, each-right, each-unmap, found-at, free-members, names-differ}
+use Rattle.trace_text.proofs.back.NamesBack.{any-none, each-at, each-left, each-right, each-unmap, found-at, free-members, names-differ}
 use Rattle.trace_text.proofs.back.PartsBack.{each-back, stands-at, texts-back}
-use Rattle.trace_text.proofs.back.Plain.{IsWithout, each-weaker, name-without}
+use Rattle.trace_text.proofs.back.Plain.{IsWithout, name-without}
 
 -- the machine with its first axes, and with its first items of the later kinds
 abbrev pub at_axes : Setup → List AxisDef → Setup
@@ -50,10 +54,6 @@ at_tasks s done = record { axes = s.axes; groups = s.groups; tables = s.tables; 
 abbrev pub at_blocks : Setup → List BlockDef → Setup
 at_blocks s done = record { axes = s.axes; groups = s.groups; tables = s.tables; tasks = s.tasks; blocks = done; cycles = s.cycles; entries = s.entries }
 
-pub unless_true : (b : Bool) → (b ≡ true → ⊥) → b ≡ false
-unless_true true n = absurd (n refl)
-unless_true false n = refl
-
 -- an item stands in a list
 abbrev axis_names : Setup → List (List ℕ)
 axis_names s = map (λ (d : AxisDef). d.name) s.axes
@@ -66,7 +66,7 @@ block_names s = map (λ (d : BlockDef). d.name) s.blocks
 
 -- all names are names
 names-are : (s : Setup) → IsMachine s → AllByRecursion (λ n. is_name n ≡ true) (names_of s)
-names-are s m = each-passes is_name (names_of s) m.setup.within.names.each
+names-are s m = each-from_list_all is_name (names_of s) m.setup.within.names.each
 
 pub axes-named : (s : Setup) → IsMachine s → AllByRecursion (λ (d : AxisDef). is_name d.name ≡ true) s.axes
 axes-named s m = each-unmap (λ n. is_name n ≡ true) (λ (d : AxisDef). d.name) s.axes (each-left _ (axis_names s) _ (names-are s m))
@@ -96,7 +96,7 @@ count-before : {X : Type 0} (xs before : List X) (x : X) (behind : List X) (most
 count-before xs before x behind most e few =
     let n : length (before ++ x ∷ behind) ≡ length before + suc (length behind) = length-append before (x ∷ behind) in
     let here : length (before ++ x ∷ behind) ≤ most = rw e at few in
-    unless_true (nat_le most (length before)) (λ h. let l = leb-true most (length before) h in omega (arith, n, here, l))
+    false_from_ne_true (nat_le most (length before)) (λ h. let l = leb-true most (length before) h in omega (arith, n, here, l))
 
 -- ---- names that are new
 
@@ -114,7 +114,7 @@ name-new t name is new = rw (is, any-none (λ n. bytes_eq n name) (names_of t) n
 axis-new : (s : Setup) → IsMachine s → (before : List AxisDef) (d : AxisDef) (behind : List AxisDef) → s.axes ≡ before ++ d ∷ behind →
     AllByRecursion (λ n. bytes_eq n d.name ≡ false) (names_of (at_axes s before))
 axis-new s m before d behind e =
-    each-both (λ n. bytes_eq n d.name ≡ false) (map (λ (a : AxisDef). a.name) before) []
+    each-append (λ n. bytes_eq n d.name ≡ false) (map (λ (a : AxisDef). a.name) before) []
     (names-differ (λ (a : AxisDef). a.name) [] before d behind (group_names s ++ (s.tasks ++ block_names s)) (names_of s) (rw e refl) m.setup.within.names.differ) tt
 
 group-new : (s : Setup) → IsMachine s → (before : List GroupDef) (d : GroupDef) (behind : List GroupDef) → s.groups ≡ before ++ d ∷ behind →
@@ -151,7 +151,7 @@ unfolding axis_fault
 axis-free s m before d behind e =
     rw (
       name-new (at_axes s before) d.name (item-of _ s.axes before d behind e (axes-named s m)) (axis-new s m before d behind e),
-      item-of (λ a. is_axis a ≡ true) s.axes before d behind e (each-passes is_axis s.axes m.setup.within.axes),
+      item-of (λ a. is_axis a ≡ true) s.axes before d behind e (each-from_list_all is_axis s.axes m.setup.within.axes),
       count-before s.axes before d behind MOST_AXES e m.setup.within.sizes.axes,
     ) refl
 
@@ -163,7 +163,7 @@ axis-adds : Given → (s : Setup) → IsMachine s → (before : List AxisDef) (d
     Ok (at_axes s (before ++ d ∷ []))
 unfolding axis_added
 axis-adds g s m before d behind e unused none =
-    let is : is_axis d ≡ true = item-of (λ a. is_axis a ≡ true) s.axes before d behind e (each-passes is_axis s.axes m.setup.within.axes) in
+    let is : is_axis d ≡ true = item-of (λ a. is_axis a ≡ true) s.axes before d behind e (each-from_list_all is_axis s.axes m.setup.within.axes) in
     let r : AreAxisRanges d = g.ranges d is in
     rw (
       item-of _ s.axes before d behind e (axes-named s m),
@@ -253,19 +253,19 @@ groups-are s m before d behind e = item-of (IsGroup (length s.axes)) s.groups be
 groups-long : (s : Setup) → IsMachine s → (before : List GroupDef) (d : GroupDef) (behind : List GroupDef) → s.groups ≡ before ++ d ∷ behind → length d.axes ≡ MOST_MEMBERS
 groups-long s m before d behind e = item-of (λ (g : GroupDef). length g.axes ≡ MOST_MEMBERS) s.groups before d behind e (recursion_from_All _ s.groups m.arrays)
 
-member-back : (s : Setup) → IsMachine s → (before : List GroupDef) (n : ℕ) → n < length s.axes → axis_named (at_groups s before) (axis_name s n) ≡ Ok n
-unfolding axis_named axis_at
+member-back : (s : Setup) → IsMachine s → (before : List GroupDef) (n : ℕ) → n < length s.axes → axis_named NO_VALUE (at_groups s before) (axis_name s n) ≡ Ok n
+unfolding axis_at
 member-back s m before n l = rw (axis-at s m n l) refl
 
 members-back : (s : Setup) → IsMachine s → (before : List GroupDef) (d : GroupDef) (behind : List GroupDef) → s.groups ≡ before ++ d ∷ behind →
-    each_of (axis_named (at_groups s before)) (parts_of (members_text s d)) ≡ Ok (members_of d)
+    each_of (axis_named NO_VALUE (at_groups s before)) (parts_of (members_text s d)) ≡ Ok (members_of d)
 unfolding members_text
 members-back s m before d behind e =
     let is = groups-are s m before d behind e in
     let count = group-members (length s.axes) d is (groups-long s m before d behind e) in
     let some = is.some in
     rw (texts-back (axis_name s) (members_of d) (omega (arith, count, some)) (each-weaker _ _ (λ n l. axis-without s m n l 59 refl) (members_of d) is.there))
-    (each-back (axis_named (at_groups s before)) (axis_name s) (members_of d) (each-weaker _ _ (λ n l. member-back s m before n l) (members_of d) is.there))
+    (each-back (axis_named NO_VALUE (at_groups s before)) (axis_name s) (members_of d) (each-weaker _ _ (λ n l. member-back s m before n l) (members_of d) is.there))
 
 group-free : (s : Setup) → IsMachine s → (before : List GroupDef) (d : GroupDef) (behind : List GroupDef) → s.groups ≡ before ++ d ∷ behind →
     group_fault (at_groups s before) d.name (members_of d) ≡ None
@@ -282,8 +282,8 @@ group-free s m before d behind e =
       name-new (at_groups s before) d.name (item-of _ s.groups before d behind e (groups-named s m)) (group-new s m before d behind e),
       free,
       count-before s.groups before d behind MOST_GROUPS e m.setup.within.sizes.groups,
-      unless_true (nat_lt MOST_MEMBERS (length (members_of d))) (λ h. let l = ltb-true MOST_MEMBERS (length (members_of d)) h in omega (arith, l, count, few)),
-      unless_true (nat_lt (length (members_of d)) 2) (λ h. let l = ltb-true (length (members_of d)) 2 h in omega (arith, l, count, some)),
+      false_from_ne_true (nat_lt MOST_MEMBERS (length (members_of d))) (λ h. let l = ltb-true MOST_MEMBERS (length (members_of d)) h in omega (arith, l, count, few)),
+      false_from_ne_true (nat_lt (length (members_of d)) 2) (λ h. let l = ltb-true (length (members_of d)) 2 h in omega (arith, l, count, some)),
     ) refl
 
 pub group-back : (s : Setup) → IsMachine s → (before : List GroupDef) (d : GroupDef) (behind : List GroupDef) → s.groups ≡ before ++ d ∷ behind →
@@ -327,7 +327,7 @@ task-back s m before d behind e =
 block-is : (s : Setup) → IsMachine s → (before : List BlockDef) (d : BlockDef) (behind : List BlockDef) → s.blocks ≡ before ++ d ∷ behind →
     has_block (length s.tasks) (length s.axes) (length s.groups) d.task d.kind d.object ≡ true
 block-is s m before d behind e =
-    item-of (λ b. is_block (length s.tasks) (length s.axes) (length s.groups) b ≡ true) s.blocks before d behind e (each-passes _ s.blocks m.setup.within.blocks)
+    item-of (λ b. is_block (length s.tasks) (length s.axes) (length s.groups) b ≡ true) s.blocks before d behind e (each-from_list_all _ s.blocks m.setup.within.blocks)
 
 object-back : (s : Setup) → IsMachine s → (before : List BlockDef) (d : BlockDef) → nat_lt d.object (if acts_on_group d.kind then length s.groups else length s.axes) ≡ true →
     object_at (at_blocks s before) d.kind (object_name s d) ≡ Some d.object
@@ -336,10 +336,6 @@ object-back s m before d there = elim (cases_Bool (acts_on_group d.kind)) [
   | inl on ↦ let l = ltb-true d.object (length s.groups) (rw on at there) in rw on (group-at s m d.object l)
   | inr off ↦ let l = ltb-true d.object (length s.axes) (rw off at there) in rw off (axis-at s m d.object l)
 ]
-
-or-true : (a : Bool) → (a || true) ≡ true
-or-true true = refl
-or-true false = refl
 
 object-is : (s : Setup) → IsMachine s → (before : List BlockDef) (d : BlockDef) → nat_lt d.object (if acts_on_group d.kind then length s.groups else length s.axes) ≡ true →
     is_object (at_blocks s before) (object_name s d) ≡ true

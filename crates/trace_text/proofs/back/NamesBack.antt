@@ -12,11 +12,9 @@ use Rattle.std.proofs.lemmas.Slice.Eq.{bytes_eq-Decides}
 use Rattle.motion_history.specs.Faults.{are_distinct, are_free, is_member}
 use Rattle.motion_history.specs.Members.{members_of}
 use Rattle.motion_history.specs.declared.config.GroupDef.{GroupDef}
+use Rattle.line_text.proofs.Texts.{bytes-same}
+use Rattle.motion_history.proofs.DistinctLemmas.{each-append, each-weaker}
 use Rattle.trace_text.proofs.back.PartsBack.{StandsAt, position-at}
-use Rattle.trace_text.proofs.back.Plain.{each-weaker}
-
-pub bytes-same : (xs : List ℕ) → bytes_eq xs xs ≡ true
-bytes-same xs = (bytes_eq-Decides xs xs).1 refl
 
 -- ---- facts of each item
 
@@ -27,10 +25,6 @@ each-left P (x ∷ xs) ys h = (h.0, each-left P xs ys h.1)
 pub each-right : {X : Type 0} (P : X → Type 0) (xs ys : List X) → AllByRecursion P (xs ++ ys) → AllByRecursion P ys
 each-right P [] ys h = h
 each-right P (x ∷ xs) ys h = each-right P xs ys h.1
-
-pub each-both : {X : Type 0} (P : X → Type 0) (xs ys : List X) → AllByRecursion P xs → AllByRecursion P ys → AllByRecursion P (xs ++ ys)
-each-both P [] ys h k = k
-each-both P (x ∷ xs) ys h k = (h.0, each-both P xs ys h.1 k)
 
 pub each-at : {X : Type 0} (P : X → Type 0) (xs : List X) (x : X) (ys : List X) → AllByRecursion P (xs ++ x ∷ ys) → P x
 each-at P xs x ys h = (each-right P xs (x ∷ ys) h).0
@@ -46,10 +40,6 @@ any-none p (x ∷ xs) h = rw (h.0, any-none p xs h.1) refl
 pub all-pass : {X : Type 0} (p : X → Bool) (xs : List X) → AllByRecursion (λ x. p x ≡ true) xs → list_all p xs ≡ true
 all-pass p [] h = refl
 all-pass p (x ∷ xs) h = rw (h.0, all-pass p xs h.1) refl
-
-pub each-passes : {X : Type 0} (p : X → Bool) (xs : List X) → list_all p xs ≡ true → AllByRecursion (λ x. p x ≡ true) xs
-each-passes p [] h = tt
-each-passes p (x ∷ xs) h = let parts = and_parts (p x) (list_all p xs) h in (parts.0, each-passes p xs parts.1)
 
 -- ---- lists without two equal items
 
@@ -111,7 +101,7 @@ without : (xs : List ℕ) (n : ℕ) (ys : List ℕ) → IsDistinct nat_eq (xs ++
 unfolding IsDistinct
 without [] n ys h = h.1
 without (x ∷ xs) n ys h =
-    (each-both (λ y. nat_eq x y ≡ false) xs ys (each-left (λ y. nat_eq x y ≡ false) xs (n ∷ ys) h.0) (each-right (λ y. nat_eq x y ≡ false) xs (n ∷ ys) h.0).1, without xs n ys h.1)
+    (each-append (λ y. nat_eq x y ≡ false) xs ys (each-left (λ y. nat_eq x y ≡ false) xs (n ∷ ys) h.0) (each-right (λ y. nat_eq x y ≡ false) xs (n ∷ ys) h.0).1, without xs n ys h.1)
 
 free-each : (axes : ℕ) (groups : List GroupDef) (ns more : List ℕ) → IsDistinct nat_eq (flat_map members_of groups ++ (ns ++ more)) →
     AllByRecursion (λ axis. nat_lt axis axes ≡ true) ns → list_all (λ axis. nat_lt axis axes && not (is_member groups axis)) ns ≡ true

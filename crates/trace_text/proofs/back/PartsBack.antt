@@ -5,8 +5,10 @@ use Rattle.std.proofs.Common.{◌∙◌, ap, arith, add-one}
 use Rattle.std.proofs.lemmas.List.Splits.{slice_split-cons_no, slice_split-cons_yes}
 use Rattle.std.proofs.lemmas.Bool.{lt-ltb}
 use Rattle.line_text.specs.Reading.{each_of}
-use Rattle.trace_columns.specs.Columns.{halves_of, is_colon}
-use Rattle.trace_text.specs.reading.Items.{is_semicolon, parts_of}
+use Rattle.machine_words.specs.Positions.{is_semicolon}
+use Rattle.line_text.specs.Numbers.{is_colon}
+use Rattle.trace_columns.specs.Columns.{halves_of}
+use Rattle.trace_text.specs.reading.Items.{parts_of}
 use Rattle.trace_text.proofs.back.Plain.{IsWithout}
 
 split-whole : {X : Type 0} (p : X → Bool) (xs : List X) → AllByRecursion (λ x. p x ≡ false) xs → slice_split p xs ≡ xs ∷ []

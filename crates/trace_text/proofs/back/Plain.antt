@@ -7,29 +7,17 @@ use Rattle.std.proofs.lemmas.Bool.{and_parts, ne_eqb}
 use Rattle.std.proofs.lemmas.Fmt.{decimal_by_steps}
 use Rattle.std.proofs.lemmas.Int.{ints}
 use Rattle.axis_state.specs.Names.{is_name, is_name_byte, is_letter}
+use Rattle.machine_words.proofs.Lists.{all-push}
+use Rattle.motion_history.proofs.DistinctLemmas.{each-append, each-weaker}
 
 -- a text has no byte of this value
 abbrev pub IsWithout : ℕ → List ℕ → Type 0
 IsWithout mark text = AllByRecursion (λ b. (b == mark) ≡ false) text
 
--- a text with one byte more
-pub each-push : {X : Type 0} (P : X → Type 0) (xs : List X) (x : X) → AllByRecursion P xs → P x → AllByRecursion P (xs ++ x ∷ [])
-each-push P [] x h p = (p, tt)
-each-push P (y ∷ xs) x h p = (h.0, each-push P xs x h.1 p)
-
--- two texts, one behind the other
-pub each-append : {X : Type 0} (P : X → Type 0) (xs ys : List X) → AllByRecursion P xs → AllByRecursion P ys → AllByRecursion P (xs ++ ys)
-each-append P [] ys h k = k
-each-append P (x ∷ xs) ys h k = (h.0, each-append P xs ys h.1 k)
-
-pub each-weaker : {X : Type 0} (P Q : X → Type 0) → ((x : X) → P x → Q x) → (xs : List X) → AllByRecursion P xs → AllByRecursion Q xs
-each-weaker P Q w [] h = tt
-each-weaker P Q w (x ∷ xs) h = (w x h.0, each-weaker P Q w xs h.1)
-
 digits-low : (n : ℕ) → n < 2 ^ 64 → AllByRecursion (λ b. b ≤ 57) (decimal n)
 digits-low = decimal_by_steps (λ n ds. AllByRecursion (λ b. b ≤ 57) ds)
     (λ n l. (omega arith, tt))
-    (λ n ds l h. each-push (λ b. b ≤ 57) ds (48 + n % 10) h (omega arith))
+    (λ n ds l h. all-push (λ b. b ≤ 57) ds (48 + n % 10) h (omega arith))
 
 low-without : (mark : ℕ) → 57 < mark → (text : List ℕ) → AllByRecursion (λ b. b ≤ 57) text → IsWithout mark text
 low-without mark high text h = each-weaker (λ b. b ≤ 57) (λ b. (b == mark) ≡ false) (λ b l. ne_eqb b mark (λ e. omega (arith, e, l, high))) text h

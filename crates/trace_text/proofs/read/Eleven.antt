@@ -2,7 +2,7 @@
 use Rattle.std.proofs.Common.{◌≡◌, ℕ, ◌<◌, ◌≤◌, List, [], ◌∷◌, Bor, length, get_or, refl, arith}
 use Rattle.std.specs.Prelude.{slice_index_or}
 use Rattle.line_text.specs.Texts.{texts}
-use Rattle.trace_text.proofs.read.Shown.{nowhere}
+use Rattle.line_text.proofs.Texts.{nowhere}
 
 -- eleven fields
 pub texts-eleven : (ws : List (Bor (List ℕ))) → 11 ≤ length ws → length ws < 12 →

@@ -16,6 +16,9 @@ use Rattle.fb_outputs.specs.declared.inputs.Input.TheVariants.{Position, Velocit
 use Rattle.fb_outputs.specs.declared.inputs.Inputs.{Inputs}
 use Rattle.fb_outputs.specs.declared.outputs.Outputs.{Outputs}
 use Rattle.line_text.specs.Reading.{◌>>=◌, each_of}
+use Rattle.line_text.specs.Rules.{broken_unless}
+use Rattle.machine_words.specs.Names.{axis_at, axis_named, block_at, task_at}
+use Rattle.machine_words.specs.Positions.{no_positions, positions_from}
 use Rattle.motion_history.specs.Calls.{axes_of, count_in}
 use Rattle.motion_history.specs.Setup.{Setup}
 use Rattle.motion_history.specs.declared.config.BlockDef.{BlockDef}
@@ -25,12 +28,10 @@ use Rattle.motion_history.specs.declared.sizes.TheConstants.{MOST_MEMBERS}
 use Rattle.motion_numbers.specs.declared.TheConstants.{MOST_NUMBER}
 use Rattle.trace_columns.specs.Columns.{flag_of, outputs_of, size_limited_of, unsigned_of}
 use Rattle.trace_text.specs.reading.Events.{call_by, call_meaning, end_meaning, reply_of}
-use Rattle.trace_text.specs.reading.Inputs.{cam_of, follow_of, gear_of, halves, input_of, inputs_of, joined_positions, last_of, mode_of, no_master, no_positions, positions_of, rates_of}
-use Rattle.trace_text.specs.reading.Rules.{unused}
+use Rattle.trace_text.specs.reading.Inputs.{cam_of, follow_of, gear_of, halves, input_of, inputs_of, joined_positions, last_of, mode_of, no_master, positions_of, rates_of}
+use Rattle.trace_text.specs.reading.Rules.{are_empty, is_empty, unused, value}
 use Rattle.trace_text.specs.reading.InputFields.{InputTexts}
-use Rattle.trace_text.specs.reading.Items.{axis_named, number, parts_of}
-use Rattle.trace_text.specs.reading.Names.{axis_at, block_at, task_at}
-use Rattle.trace_text.specs.reading.Rules.{are_empty, broken_unless, is_empty, value}
+use Rattle.trace_text.specs.reading.Items.{number, parts_of}
 use Rattle.trace_text.specs.TraceKept.{IsEntryRead}
 use Rattle.trace_text.specs.Writable.{IsWritableCall}
 use Rattle.trace_text.specs.declared.reading.inputs.Followed.{Followed}
@@ -39,13 +40,13 @@ use Rattle.trace_text.specs.declared.reading.inputs.Rates.{Rates}
 use Rattle.trace_text.specs.declared.found.FoundEntry.{FoundEntry}
 use Rattle.trace_text.specs.declared.found.FoundEntry.TheVariants as found
 use Rattle.trace_text.specs.declared.reading.rule.TheConstants.{NO_VALUE}
+use Rattle.line_text.proofs.Results as results
+use Rattle.line_text.proofs.Results.{bind_ok, holds, ok_is}
+use Rattle.machine_words.proofs.Names.{axis-within, block-within, task-within}
+use Rattle.machine_words.proofs.Smalls.{each-small}
+use Rattle.machine_words.proofs.Zeros.{IsSmall, small-at, zero-behind, zeros-at}
 use Rattle.trace_text.proofs.read.ColumnRanges.{number-range, outputs-id, unsigned-range}
 use Rattle.trace_text.proofs.read.ItemsKept.{HasArrays, IsArray}
-use Rattle.trace_text.proofs.read.Results.{bind_ok, holds, ok_is}
-use Rattle.trace_text.proofs.read.Results as results
-
-abbrev IsSmall : ℤ → Type 0
-IsSmall z = unsigned_abs z ≤ MOST_NUMBER
 
 -- ---- numbers
 
@@ -88,29 +89,6 @@ mode-left k text m h fails =
 
 -- ---- positions
 
-each-small : (texts : List (List ℕ)) (zs : List ℤ) → each_of number texts ≡ Ok zs → AllByRecursion IsSmall zs
-each-small [] zs h = subst (λ ys. AllByRecursion IsSmall ys) (ok_is (Ok []) [] zs refl h) tt
-each-small (text ∷ texts) zs h =
-    let first = bind_ok (number text) (λ y. each_of number texts >>= λ ys. Ok (y ∷ ys)) zs h in
-    let second = bind_ok (each_of number texts) (λ ys. Ok (first.0 ∷ ys)) zs first.2 in
-    let is : first.0 ∷ second.0 ≡ zs = ok_is (Ok (first.0 ∷ second.0)) (first.0 ∷ second.0) zs refl second.2 in
-    subst (λ ys. AllByRecursion IsSmall ys) is (number-small text first.0 first.1, each-small texts second.0 second.1)
-
-zeros-at : (k n : ℕ) → slice_index_or (replicate k (pos 0)) n (pos 0) ≡ pos 0
-zeros-at zero n = refl
-zeros-at (suc k) zero = refl
-zeros-at (suc k) (suc n) = zeros-at k n
-
-small-at : (zs : List ℤ) (k n : ℕ) → AllByRecursion IsSmall zs → IsSmall (slice_index_or (zs ++ replicate k (pos 0)) n (pos 0))
-small-at [] k n h = let zero' : IsSmall (pos 0) = lit≤ tt in subst IsSmall (sym (zeros-at k n)) zero'
-small-at (z ∷ zs) k zero h = h.0
-small-at (z ∷ zs) k (suc n) h = small-at zs k n h.1
-
-zero-behind : (zs : List ℤ) (k n : ℕ) → length zs ≤ n → slice_index_or (zs ++ replicate k (pos 0)) n (pos 0) ≡ pos 0
-zero-behind [] k n h = zeros-at k n
-zero-behind (z ∷ zs) k zero h = absurd (omega arith)
-zero-behind (z ∷ zs) k (suc n) h = zero-behind zs k n (omega arith)
-
 -- a block acts on no more axes than a group has
 count-few : (gs : List GroupDef) (n : ℕ) → AllByRecursion IsArray gs → count_in (slice_get gs n) ≤ MOST_MEMBERS
 count-few [] n h = lit≤ tt
@@ -135,14 +113,14 @@ padded-long zs few =
     omega (arith, long, zeros, few)
 
 joined-are : (axes : ℕ) (text : List ℕ) (ps : List ℤ) → axes ≤ MOST_MEMBERS → joined_positions axes text ≡ Ok ps → ArePositions true axes ps
-unfolding joined_positions
+unfolding joined_positions positions_from
 joined-are axes text ps room h =
     let places = bind_ok (each_of number (parts_of text)) _ ps h in
     let counted = bind_ok (broken_unless (length places.0 == axes) NO_VALUE) _ ps places.2 in
     let many : length places.0 ≡ axes = eqb-true _ _ (holds (length places.0 == axes) NO_VALUE counted.0 counted.1) in
     let all : List ℤ = places.0 ++ replicate (MOST_MEMBERS - length places.0) (pos 0) in
     let is : all ≡ ps = ok_is (Ok all) all ps refl counted.2 in
-    let small = each-small (parts_of text) places.0 places.1 in
+    let small = each-small number number-small (parts_of text) places.0 places.1 in
     subst (λ qs. ArePositions true axes qs) is (record {
       long = padded-long places.0 (omega (arith, many, room));
       each = λ n. record { left_out = λ fails. absurd (cc fails); size = small-at places.0 (MOST_MEMBERS - length places.0) n small };
@@ -169,27 +147,8 @@ positions-are s b text ps arrays h = elim (cases_Bool (takes b.kind Position)) [
 
 -- ---- what an axis follows
 
-position-within : {X : Type 0} (p : X → Bool) (xs : List X) (i : ℕ) → position p xs ≡ Some i → i < length xs
-position-within p xs i h =
-    elim (cases_Bool (nat_lt (position_or_len p xs) (length xs))) [
-      | inl yet ↦
-          let e : Some (position_or_len p xs) ≡ Some i = rw yet at h in
-          let is : position_or_len p xs ≡ i = cc in
-          subst (λ k. k < length xs) is (ltb-true _ _ yet)
-      | inr none ↦ let e : None ≡ Some i = rw none at h in absurd (cc)
-    ]
-
-axis-within : (s : Setup) (text : List ℕ) (n : ℕ) → axis_named s text ≡ Ok n → n < length s.axes
-unfolding axis_named axis_at
-axis-within s text n h = position-within _ s.axes n (results.found (axis_at s text) NO_VALUE n h)
-
-pub block-within : (s : Setup) (text : List ℕ) (n : ℕ) → block_at s text ≡ Some n → n < length s.blocks
-unfolding block_at
-block-within s text n h = position-within _ s.blocks n h
-
-pub task-within : (s : Setup) (text : List ℕ) (n : ℕ) → task_at s text ≡ Some n → n < length s.tasks
-unfolding task_at
-task-within s text n h = position-within _ s.tasks n h
+named-within : (s : Setup) (text : List ℕ) (n : ℕ) → axis_named NO_VALUE s text ≡ Ok n → n < length s.axes
+named-within s text n h = axis-within s text n (results.found (axis_at s text) NO_VALUE n h)
 
 record IsFollowed (s : Setup) (k : BlockKind) (f : Followed) : Type 0 where
   there : f.master < length s.axes
@@ -206,14 +165,14 @@ gear-followed : (s : Setup) (text : List ℕ) (f : Followed) → gear_of s text 
 unfolding gear_of
 gear-followed s text f h =
     let parts = bind_ok (halves text) _ f h in
-    let master = bind_ok (axis_named s parts.0.0) _ f parts.2 in
+    let master = bind_ok (axis_named NO_VALUE s parts.0.0) _ f parts.2 in
     let ratio = bind_ok (halves parts.0.1) _ f master.2 in
     let n = bind_ok (number ratio.0.0) _ f ratio.2 in
     let d = bind_ok (number ratio.0.1) _ f n.2 in
     let r : Followed = record { master = master.0; numerator = n.0; denominator = d.0; table = 0 } in
     let is : r ≡ f = ok_is (Ok r) r f refl d.2 in
     subst (λ x. IsFollowed s GearIn x) is (record {
-      there = axis-within s parts.0.0 master.0 master.1;
+      there = named-within s parts.0.0 master.0 master.1;
       master = λ fails. absurd (cc fails);
       numerator = record { left_out = λ fails. absurd (cc fails); size = number-small ratio.0.0 n.0 n.1 };
       denominator = record { left_out = λ fails. absurd (cc fails); size = number-small ratio.0.1 d.0 d.1 };
@@ -225,13 +184,13 @@ cam-followed : (s : Setup) (text : List ℕ) (f : Followed) → cam_of s text �
 unfolding cam_of
 cam-followed s text f h =
     let parts = bind_ok (halves text) _ f h in
-    let master = bind_ok (axis_named s parts.0.0) _ f parts.2 in
+    let master = bind_ok (axis_named NO_VALUE s parts.0.0) _ f parts.2 in
     let table = bind_ok (value (unsigned_of 0 65535 parts.0.1)) _ f master.2 in
     let r : Followed = record { master = master.0; numerator = pos 1; denominator = pos 1; table = table.0 } in
     let few = (unsigned-range 0 65535 parts.0.1 table.0 (results.found (unsigned_of 0 65535 parts.0.1) NO_VALUE table.0 table.1)).1 in
     let is : r ≡ f = ok_is (Ok r) r f refl table.2 in
     subst (λ x. IsFollowed s CamIn x) is (record {
-      there = axis-within s parts.0.0 master.0 master.1;
+      there = named-within s parts.0.0 master.0 master.1;
       master = λ fails. absurd (cc fails);
       numerator = one-taken _;
       denominator = one-taken _;

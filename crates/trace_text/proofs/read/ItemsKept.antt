@@ -1,5 +1,5 @@
 -- The groups of a machine that is read have arrays of their length.
-use Rattle.std.proofs.Common.{◌≡◌, ℕ, ◌+◌, ◌-◌, ◌≤◌, Bool, true, false, Option, Some, None, Ok, List, [], ◌∷◌, ◌++◌, length, refl, subst, arith}
+use Rattle.std.proofs.Common.{◌≡◌, ℕ, ◌+◌, ◌-◌, ◌≤◌, Bool, true, false, Option, Some, None, Ok, List, [], ◌∷◌, ◌++◌, length, refl, sym, subst, arith}
 use Rattle.std.specs.Prelude.{◌&&◌, ◌||◌, cond, nat_le, nat_lt, not, replicate}
 use Rattle.std.specs.List.{AllByRecursion}
 use Rattle.std.specs.Option.{ok_or}
@@ -9,6 +9,9 @@ use Rattle.axis_state.specs.Names.{is_name}
 use Rattle.cam_table.specs.CamTable.{is_cam_table}
 use Rattle.fb_outputs.specs.Names.{kind_named}
 use Rattle.line_text.specs.Reading.{each_of}
+use Rattle.line_text.specs.Rules.{broken_unless, in_range}
+use Rattle.machine_words.specs.Names.{axis_named, object_at, task_at}
+use Rattle.machine_words.specs.Rules.{broken_by}
 use Rattle.motion_history.specs.Faults.{are_free, axis_fault, block_fault, first_fault, group_fault, name_fault, task_fault}
 use Rattle.motion_history.specs.Members.{group_of}
 use Rattle.motion_history.specs.Setup.{Setup}
@@ -18,12 +21,13 @@ use Rattle.motion_history.specs.declared.fault.ConfigFault.TheVariants.{NameUnkn
 use Rattle.motion_history.specs.declared.refused.TraceVersion.{TraceVersion}
 use Rattle.motion_history.specs.declared.refused.TraceVersion.TheVariants.{One, Two}
 use Rattle.motion_history.specs.declared.sizes.TheConstants.{MOST_CYCLES, MOST_ENTRIES, MOST_GROUPS, MOST_MEMBERS, MOST_TABLES}
-use Rattle.trace_text.specs.reading.Items.{axis_added, axis_meaning, axis_named, block_meaning, group_meaning, in_range, is_object, limits_of, number, parts_of, placed_of, point, room_meaning, table_added, table_meaning, task_meaning}
-use Rattle.trace_text.specs.reading.Names.{object_at, task_at}
-use Rattle.trace_text.specs.reading.Rules.{are_empty, broken_by, broken_unless, value}
-use Rattle.trace_text.specs.declared.reading.rule.TheConstants.{NO_VALUE, REFUSED}
-use Rattle.trace_text.proofs.back.Plain.{each-push}
-use Rattle.trace_text.proofs.read.Results.{bind_ok, faultless, ok_is}
+use Rattle.trace_text.specs.reading.Items.{axis_added, axis_meaning, block_meaning, group_meaning, is_object, limits_of, number, parts_of, placed_of, point, room_meaning, table_meaning, task_meaning}
+use Rattle.trace_text.specs.reading.Rules.{are_empty, rule_of, value}
+use Rattle.trace_text.specs.declared.reading.rule.TheConstants.{ITEM_RULES, NO_VALUE, REFUSED}
+use Rattle.line_text.proofs.Results.{bind_ok, ok_is}
+use Rattle.machine_words.proofs.Faults.{faultless}
+use Rattle.machine_words.proofs.Lists.{all-push}
+use Rattle.machine_words.proofs.Tables.{table_added-is}
 
 -- the array of a group has its length, and the group has no more axes
 pub record IsArray (g : GroupDef) : Type 0 where
@@ -69,7 +73,7 @@ added-kept s t name limits behind h e =
     let named = bind_ok (broken_unless (is_name name) NO_VALUE) _ t e in
     let l = bind_ok (limits_of limits) _ t named.2 in
     let p = bind_ok (placed_of behind) _ t l.2 in
-    let fault = bind_ok (broken_by (axis_fault s name l.0 p.0.inc p.0.start)) _ t p.2 in
+    let fault = bind_ok (broken_by rule_of (axis_fault s name l.0 p.0.inc p.0.start)) _ t p.2 in
     let x : Setup = record s { axes = s.axes ++ record { name = name; limits = l.0; inc = p.0.inc; start = p.0.start; ready = p.0.ready } ∷ [] } in
     let is : x ≡ t = ok_is (Ok x) x t refl fault.2 in
     subst HasArrays is h
@@ -84,36 +88,27 @@ pub group-kept : (s t : Setup) (fields : List (List ℕ)) → HasArrays s → gr
 unfolding group_meaning
 group-kept s t (name ∷ members ∷ unused) h e =
     let named = bind_ok (broken_unless (is_name name && are_empty unused) NO_VALUE) _ t e in
-    let axes = bind_ok (each_of (axis_named s) (parts_of members)) _ t named.2 in
-    let fault = bind_ok (broken_by (group_fault s name axes.0)) _ t axes.2 in
-    let few = few-members s name axes.0 (faultless (group_fault s name axes.0) fault.0 fault.1) in
+    let axes = bind_ok (each_of (axis_named NO_VALUE s) (parts_of members)) _ t named.2 in
+    let fault = bind_ok (broken_by rule_of (group_fault s name axes.0)) _ t axes.2 in
+    let few = few-members s name axes.0 (faultless rule_of (group_fault s name axes.0) fault.0 fault.1) in
     let x : Setup = record s { groups = s.groups ++ group_of name axes.0 ∷ [] } in
     let is : x ≡ t = ok_is (Ok x) x t refl fault.2 in
-    subst HasArrays is (each-push IsArray s.groups (group_of name axes.0) h (group-array name axes.0 few))
+    subst HasArrays is (all-push IsArray s.groups (group_of name axes.0) h (group-array name axes.0 few))
 group-kept s t _ h e = absurd (cc e)
-
-points-kept : (s t : Setup) (parts : List (List ℕ)) → HasArrays s → table_added s parts ≡ Ok t → HasArrays t
-unfolding table_added
-points-kept s t parts h e =
-    let points = bind_ok (each_of point parts) _ t e in
-    let table = bind_ok (broken_unless (is_cam_table points.0) REFUSED) _ t points.2 in
-    let room = bind_ok (broken_unless (not (nat_le MOST_TABLES (length s.tables))) REFUSED) _ t table.2 in
-    let x : Setup = record s { tables = s.tables ++ points.0 ∷ [] } in
-    let is : x ≡ t = ok_is (Ok x) x t refl room.2 in
-    subst HasArrays is h
 
 pub table-kept : (s t : Setup) (fields : List (List ℕ)) → HasArrays s → table_meaning s fields ≡ Ok t → HasArrays t
 unfolding table_meaning
-table-kept s t (points ∷ unused) h e =
+table-kept s t (told ∷ unused) h e =
     let empty = bind_ok (broken_unless (are_empty unused) NO_VALUE) _ t e in
-    points-kept s t (parts_of points) h empty.2
+    let points = bind_ok (each_of point (parts_of told)) _ t empty.2 in
+    subst HasArrays (sym (table_added-is ITEM_RULES s t points.0 points.2)) h
 table-kept s t _ h e = absurd (cc e)
 
 pub task-kept : (s t : Setup) (fields : List (List ℕ)) → HasArrays s → task_meaning s fields ≡ Ok t → HasArrays t
 unfolding task_meaning
 task-kept s t (name ∷ unused) h e =
     let named = bind_ok (broken_unless (is_name name && are_empty unused) NO_VALUE) _ t e in
-    let fault = bind_ok (broken_by (task_fault s name)) _ t named.2 in
+    let fault = bind_ok (broken_by rule_of (task_fault s name)) _ t named.2 in
     let x : Setup = record s { tasks = s.tasks ++ name ∷ [] } in
     let is : x ≡ t = ok_is (Ok x) x t refl fault.2 in
     subst HasArrays is h
@@ -127,7 +122,7 @@ block-kept s t (name ∷ of_task ∷ of_kind ∷ of_object ∷ unused) h e =
     let kind = bind_ok (value (kind_named of_kind)) _ t task.2 in
     let there = bind_ok (broken_unless (is_object s of_object) NO_VALUE) _ t kind.2 in
     let object = bind_ok (ok_or (object_at s kind.0 of_object) REFUSED) _ t there.2 in
-    let fault = bind_ok (broken_by (block_fault s name task.0 kind.0 object.0)) _ t object.2 in
+    let fault = bind_ok (broken_by rule_of (block_fault s name task.0 kind.0 object.0)) _ t object.2 in
     let x : Setup = record s { blocks = s.blocks ++ record { name = name; task = task.0; kind = kind.0; object = object.0 } ∷ [] } in
     let is : x ≡ t = ok_is (Ok x) x t refl fault.2 in
     subst HasArrays is h
@@ -140,8 +135,8 @@ room-kept s t (cycles ∷ entries ∷ unused) h e =
     let c = bind_ok (number cycles) _ t e in
     let n = bind_ok (number entries) _ t c.2 in
     let empty = bind_ok (broken_unless (are_empty unused) NO_VALUE) _ t n.2 in
-    let few = bind_ok (in_range 1 MOST_CYCLES c.0) _ t empty.2 in
-    let room = bind_ok (in_range 1 MOST_ENTRIES n.0) _ t few.2 in
+    let few = bind_ok (in_range 1 MOST_CYCLES REFUSED c.0) _ t empty.2 in
+    let room = bind_ok (in_range 1 MOST_ENTRIES REFUSED n.0) _ t few.2 in
     let x : Setup = record s { cycles = few.0; entries = room.0 } in
     let is : x ≡ t = ok_is (Ok x) x t refl room.2 in
     subst HasArrays is h

@@ -1,21 +1,22 @@
 -- What always holds of a trace that is read.
 use Rattle.std.proofs.Common.{FitsSigned, w64, ◌^◌, ◌≡◌, ℕ, ◌+◌, ◌<◌, ◌≤◌, Bool, true, false, Some, None, Result, Ok, Err, List, [], ◌∷◌, ◌++◌, length, refl, sym, ◌∙◌, ap, subst, arith, inl, inr}
 use Rattle.std.specs.Prelude.{◌&&◌, ◌||◌, ◌==◌, codes, cond, nat_le}
-use Rattle.line_text.specs.Texts.{says}
-use Rattle.trace_text.specs.declared.records.TheConstants.{FIELDS}
-use Rattle.trace_text.proofs.back.ItemsBack.{unless_true}
 use Rattle.std.specs.List.{AllByRecursion}
 use Rattle.std.specs.Option.{ok_or, option_to_list}
-use Rattle.std.proofs.lemmas.Bool.{and_parts, cases_Bool, eqb-true, leb-false, leb-true, ltb-true}
+use Rattle.std.proofs.lemmas.Bool.{and_parts, cases_Bool, eqb-true, false_from_ne_true, leb-false, leb-true, ltb-true}
 use Rattle.std.proofs.lemmas.List.{length-append}
 use Rattle.std.proofs.lemmas.List.Elements.{All-from_recursion}
 use Rattle.line_text.specs.Reading.{at_line}
+use Rattle.line_text.specs.Rules.{broken_unless}
+use Rattle.line_text.specs.Texts.{says}
 use Rattle.motion_history.specs.Faults.{whole_fault}
 use Rattle.motion_history.specs.Setup.{IsSetup, Setup}
 use Rattle.motion_history.specs.declared.config.GroupDef.{GroupDef}
 use Rattle.motion_history.specs.declared.fault.ConfigFault.TheVariants.{TooFew}
 use Rattle.motion_history.specs.declared.refused.TraceVersion.{TraceVersion}
 use Rattle.motion_history.specs.declared.refused.TraceVersion.TheVariants.{One, Two}
+use Rattle.motion_history.specs.declared.sizes.TheConstants.{MOST_MEMBERS}
+use Rattle.trace_text.specs.declared.records.TheConstants.{FIELDS}
 use Rattle.trace_text.specs.reading.Events.{call_meaning, cycle_meaning, end_meaning}
 use Rattle.trace_text.specs.Found.{CycleFound}
 use Rattle.trace_text.specs.reading.Items.{axis_meaning, block_meaning, group_meaning, table_meaning, task_meaning, room_meaning, whole}
@@ -23,7 +24,7 @@ use Rattle.trace_text.specs.reading.Kinds.{is_entry_here, is_here, is_stage, kin
 use Rattle.trace_text.specs.reading.Reading.{are_same, command_of, cycle_after, drives_meaning, ending, fields_meaning, grows_meaning, header_meaning, is_ended, is_whole_cycle, later_meaning, meaning, opening, records_meaning, rows_meaning, trace_meaning, twelve_meaning, version_of, with_cycle, with_entry, with_item}
 use Rattle.trace_text.specs.Records.{header_fields}
 use Rattle.trace_text.specs.reading.Rows.{drive_meaning, grow_meaning, row_meaning}
-use Rattle.trace_text.specs.reading.Rules.{broken_unless, value}
+use Rattle.trace_text.specs.reading.Rules.{rule_of, value}
 use Rattle.trace_text.specs.reading.SoFar.{SoFar}
 use Rattle.trace_text.specs.TraceKept.{IsCycleRead, IsEntryRead, IsRowRead, IsTraceKept, places_with}
 use Rattle.trace_text.specs.TraceState.{TraceState}
@@ -35,12 +36,13 @@ use Rattle.trace_text.specs.declared.reading.kind.Stage.{Stage}
 use Rattle.trace_text.specs.declared.reading.kind.Stage.TheVariants as stage
 use Rattle.trace_text.specs.declared.reading.rule.TheConstants.{NOT_TWELVE, NO_HEADER, OUT_OF_PLACE, TOO_SHORT}
 use Rattle.trace_text.specs.RowRanges.{IsDriveEnd, IsGroupRow}
-use Rattle.motion_history.specs.declared.sizes.TheConstants.{MOST_MEMBERS}
+use Rattle.line_text.proofs.Results.{bind_ok, holds, ok_is}
+use Rattle.machine_words.proofs.Faults.{faultless}
+use Rattle.machine_words.proofs.Lists.{all-push}
+use Rattle.motion_history.proofs.DistinctLemmas.{each-append, each-weaker}
 use Rattle.trace_text.proofs.read.InputsKept.{call-read, end-read}
 use Rattle.trace_text.proofs.read.ItemsKept.{HasArrays, IsArray, axis-kept, block-kept, group-kept, room-kept, table-kept, task-kept}
-use Rattle.trace_text.proofs.back.Plain.{each-append, each-push, each-weaker}
 use Rattle.trace_text.proofs.read.RowsKept.{cycle-read, drive-read, grow-read, row-read}
-use Rattle.trace_text.proofs.read.Results.{bind_ok, faultless, holds, ok_is}
 
 -- the entries that were read
 abbrev AreRead : SoFar → Type 0
@@ -139,7 +141,7 @@ whole-fault false h = absurd (cc h)
 
 some-axis : (s : Setup) (u : Unit {0}) → whole s ≡ Ok u → 1 ≤ length s.axes
 some-axis s u h =
-    let none = faultless (whole_fault s) u h in
+    let none = faultless rule_of (whole_fault s) u h in
     let tests = whole-fault _ none in
     leb-true 1 (length s.axes) (and_parts _ _ (and_parts _ _ tests).0).0
 
@@ -157,7 +159,7 @@ entry-kept s t entry is h read e =
     let x = bind_ok entry _ t e in
     let w = bind_ok (whole s.setup) _ t x.2 in
     let y : SoFar = record s { stage = stage.Entries; found = s.found ++ x.0 ∷ [] } in
-    let all : AreRead y = each-push (IsEntryRead s.version s.setup) s.found x.0 (in-entries s.stage s is h.stage) (read x.0 (some-axis s.setup w.0 w.1) h.arrays x.1) in
+    let all : AreRead y = all-push (IsEntryRead s.version s.setup) s.found x.0 (in-entries s.stage s is h.stage) (read x.0 (some-axis s.setup w.0 w.1) h.arrays x.1) in
     subst Kept (ok_is (Ok y) y t refl w.2) (record { stage = all; arrays = h.arrays; drives = h.drives })
 
 fails-places : (v : TraceVersion) → 0 ≡ places_with v 0
@@ -165,7 +167,7 @@ fails-places One = refl
 fails-places Two = refl
 
 not-whole : (n : ℕ) (b : Bool) → 1 ≤ n → (nat_le n 0 && b) ≡ false
-not-whole n b h = rw (unless_true (nat_le n 0) (λ e. let l : n ≤ 0 = leb-true n 0 e in omega (arith, h, l))) refl
+not-whole n b h = rw (false_from_ne_true (nat_le n 0) (λ e. let l : n ≤ 0 = leb-true n 0 e in omega (arith, h, l))) refl
 
 begun : (v : TraceVersion) (s : Setup) (n : ℕ) → 1 ≤ length s.axes → 1 ≤ n → n < 2 ^ 32 → IsOpen v s (record { number = n; axes = []; groups = []; places = [] })
 begun v s n some from few = record {
@@ -204,7 +206,7 @@ after-kept s c is h read part = elim (cases_Bool (is_whole_cycle s.setup c)) [
         group_rows = part.group_rows;
         wide = part.wide;
       } in
-      rw passes (record { stage = each-push (IsEntryRead s.version s.setup) s.found (found.Cycle c) read here; arrays = h.arrays; drives = h.drives })
+      rw passes (record { stage = all-push (IsEntryRead s.version s.setup) s.found (found.Cycle c) read here; arrays = h.arrays; drives = h.drives })
   | inr fails ↦
       let rows : InRows (record s { cycle = c }) = record { read = read; cycle = record { part = part; open' = fails } } in
       rw fails (record { stage = still-rows s.stage (record s { cycle = c }) is rows; arrays = h.arrays; drives = h.drives })
@@ -229,7 +231,7 @@ rows-kept s t fields is few h e =
       places = places ∙ ap (λ k. k + length (option_to_list r.0.1)) now.cycle.part.places ∙ ap (λ k. places_with s.version (length s.cycle.axes) + k) row.places.count ∙ more-places s.version (length s.cycle.axes) ∙ ap (places_with s.version) (sym long);
       some = now.cycle.part.some;
       few = now.cycle.part.few;
-      rows = each-push IsRowRead s.cycle.axes r.0.0 now.cycle.part.rows row.row;
+      rows = all-push IsRowRead s.cycle.axes r.0.0 now.cycle.part.rows row.row;
       group_rows = now.cycle.part.group_rows;
       wide = each-append (FitsSigned w64) s.cycle.places (option_to_list r.0.1) now.cycle.part.wide row.places.wide;
     } in
@@ -255,7 +257,7 @@ grows-kept s t fields is many h e =
       some = now.cycle.part.some;
       few = now.cycle.part.few;
       rows = now.cycle.part.rows;
-      group_rows = each-push IsGroupRow s.cycle.groups r.0 now.cycle.part.group_rows (grow-read s.setup (length s.cycle.groups) fields r.0 r.1);
+      group_rows = all-push IsGroupRow s.cycle.groups r.0 now.cycle.part.group_rows (grow-read s.setup (length s.cycle.groups) fields r.0 r.1);
       wide = now.cycle.part.wide;
     } in
     subst Kept (ok_is (Ok (cycle_after s c)) (cycle_after s c) t refl r.2) (after-kept s c is h now.read part)
@@ -267,7 +269,7 @@ drives-kept s t fields h e =
     let w = bind_ok (whole s.setup) _ t d.2 in
     let y : SoFar = record s { stage = stage.Drives; drives = s.drives ++ d.0 ∷ [] } in
     let all : AreRead y = in-drives s.stage s h.stage in
-    let drives = each-push IsDriveEnd s.drives d.0 h.drives (drive-read s.setup (length s.drives) fields d.0 d.1) in
+    let drives = all-push IsDriveEnd s.drives d.0 h.drives (drive-read s.setup (length s.drives) fields d.0 d.1) in
     subst Kept (ok_is (Ok y) y t refl w.2) (record { stage = all; arrays = h.arrays; drives = drives })
 
 fields-kept : (s t : SoFar) (k : Kind) (fields : List (List ℕ)) → is_here s k ≡ true → Kept s → fields_meaning s k fields ≡ Ok t → Kept t

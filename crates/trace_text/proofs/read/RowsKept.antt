@@ -9,6 +9,7 @@ use Rattle.axis_state.specs.declared.definition.AxisRow.{AxisRow}
 use Rattle.cia402_machine.specs.declared.drive.DriveIn.{DriveIn}
 use Rattle.cia402_machine.specs.declared.drive.DriveOut.{DriveOut}
 use Rattle.group_state.specs.declared.state.GroupRow.{GroupRow}
+use Rattle.line_text.specs.Rules.{broken_unless}
 use Rattle.motion_history.specs.Setup.{Setup}
 use Rattle.motion_history.specs.declared.refused.TraceVersion.{TraceVersion}
 use Rattle.motion_history.specs.declared.refused.TraceVersion.TheVariants.{One, Two}
@@ -18,13 +19,13 @@ use Rattle.trace_text.specs.Records.{axis_name, group_name}
 use Rattle.trace_text.specs.reading.RowFields.{RowTexts}
 use Rattle.trace_text.specs.RowRanges.{IsDriveEnd, IsGroupRow}
 use Rattle.trace_text.specs.reading.Rows.{answer_of, count_of, drive_meaning, given_of, grow_meaning, mode_display_of, place_meaning, row_by, row_meaning, shown_of}
-use Rattle.trace_text.specs.reading.Rules.{are_empty, broken_unless, is_empty, value}
+use Rattle.trace_text.specs.reading.Rules.{are_empty, is_empty, value}
 use Rattle.trace_text.specs.TraceKept.{IsRowRead, places_with}
 use Rattle.trace_text.specs.declared.reading.row.Shown.{Shown}
 use Rattle.trace_text.specs.declared.reading.rule.TheConstants.{NO_VALUE}
 use Rattle.trace_text.specs.declared.drive_end.DriveEndRow.{DriveEndRow}
+use Rattle.line_text.proofs.Results.{bind_ok, found, ok_is}
 use Rattle.trace_text.proofs.read.ColumnRanges.{hex-range, number-range, unsigned-range, wide-range}
-use Rattle.trace_text.proofs.read.Results.{bind_ok, found, ok_is}
 
 -- a position of a drive
 count-read : (text : List ℕ) (z : ℤ) → count_of text ≡ Ok z → IsCount z

@@ -3,8 +3,8 @@ use Rattle.std.proofs.Common.{◌≡◌, ℕ, suc, ◌+◌, ◌<◌, true, false
 use Rattle.std.proofs.lemmas.Bool.{cases_Bool}
 use Rattle.line_text.specs.Texts.{says, texts}
 use Rattle.trace_text.specs.reading.Reading.{are_same}
-use Rattle.trace_text.proofs.read.Each.{word_at}
-use Rattle.trace_text.proofs.read.Shown.{nowhere}
+use Rattle.line_text.proofs.Each.{word_at}
+use Rattle.line_text.proofs.Texts.{nowhere}
 
 -- lists of other lengths are not the same
 pub unequal : (xs ys : List (List ℕ)) → (length xs ≡ length ys → ⊥) → are_same xs ys ≡ false

@@ -3,12 +3,13 @@
 use Rattle.std.specs.Prelude.{ℕ, ◌-◌, ◌^◌, Result, Ok, Err, List, [], ◌∷◌, slice_get}
 use Rattle.fb_outputs.specs.declared.outputs.Outputs.{Outputs}
 use Rattle.line_text.specs.Reading.{◌>>=◌}
+use Rattle.line_text.specs.Rules.{broken_unless}
+use Rattle.machine_words.specs.Names.{block_at, task_at}
 use Rattle.motion_history.specs.Setup.{Setup}
 use Rattle.trace_columns.specs.Columns.{outputs_of, unsigned_of}
 use Rattle.trace_text.specs.reading.InputFields.{InputTexts}
 use Rattle.trace_text.specs.reading.Inputs.{inputs_of}
-use Rattle.trace_text.specs.reading.Names.{block_at, task_at}
-use Rattle.trace_text.specs.reading.Rules.{are_empty, broken_unless, value}
+use Rattle.trace_text.specs.reading.Rules.{are_empty, value}
 use Rattle.trace_text.specs.declared.found.FoundEntry.{FoundEntry}
 use Rattle.trace_text.specs.declared.found.FoundEntry.TheVariants as found
 use Rattle.trace_text.specs.declared.reading.rule.TheConstants.{NO_VALUE}

@@ -11,14 +11,16 @@ use Rattle.fb_outputs.specs.declared.inputs.Input.TheVariants.{Position, Velocit
 use Rattle.fb_outputs.specs.declared.inputs.Inputs.{Inputs}
 use Rattle.fb_outputs.specs.declared.outputs.Outputs.{Outputs}
 use Rattle.line_text.specs.Reading.{◌>>=◌, each_of}
+use Rattle.line_text.specs.Rules.{broken_unless}
+use Rattle.machine_words.specs.Names.{axis_named, block_at, task_at}
+use Rattle.machine_words.specs.Positions.{no_positions, positions_from}
 use Rattle.motion_history.specs.Calls.{axes_of}
 use Rattle.motion_history.specs.Setup.{Setup}
 use Rattle.motion_history.specs.declared.config.BlockDef.{BlockDef}
 use Rattle.motion_history.specs.declared.sizes.TheConstants.{MOST_MEMBERS}
 use Rattle.trace_columns.specs.Columns.{flag_of, halves_of, outputs_of, unsigned_of}
-use Rattle.trace_text.specs.reading.Items.{axis_named, number, parts_of}
-use Rattle.trace_text.specs.reading.Names.{block_at, task_at}
-use Rattle.trace_text.specs.reading.Rules.{broken_unless, unused, value}
+use Rattle.trace_text.specs.reading.Items.{number, parts_of}
+use Rattle.trace_text.specs.reading.Rules.{unused, value}
 use Rattle.trace_text.specs.declared.reading.inputs.Followed.{Followed}
 use Rattle.trace_text.specs.declared.reading.inputs.Rates.{Rates}
 use Rattle.trace_text.specs.declared.reading.inputs.Last.{Last}
@@ -27,16 +29,12 @@ use Rattle.trace_text.specs.declared.found.FoundEntry.{FoundEntry}
 use Rattle.trace_text.specs.declared.found.FoundEntry.TheVariants as found
 use Rattle.trace_text.specs.declared.reading.rule.TheConstants.{NO_VALUE}
 
--- positions that are not taken
-abbrev pub no_positions : List ℤ
-no_positions = replicate MOST_MEMBERS (pos 0)
-
 -- so many positions, joined by semicolons, and 0 behind them
 unfoldable pub joined_positions : ℕ → List ℕ → Result (List ℤ) ℕ
 joined_positions axes text = do
   places ← each_of number (parts_of text)
   _ ← broken_unless (length places == axes) NO_VALUE
-  Ok (places ++ replicate (MOST_MEMBERS - length places) (pos 0))
+  Ok (positions_from places)
 
 -- the positions of a call, where its kind takes them
 unfoldable pub positions_of : Setup → BlockDef → List ℕ → Result (List ℤ) ℕ
@@ -63,7 +61,7 @@ halves text = value (halves_of text)
 unfoldable pub gear_of : Setup → List ℕ → Result Followed ℕ
 gear_of s text = do
   parts ← halves text
-  master ← axis_named s parts.0
+  master ← axis_named NO_VALUE s parts.0
   ratio ← halves parts.1
   n ← number ratio.0
   d ← number ratio.1
@@ -73,7 +71,7 @@ gear_of s text = do
 unfoldable pub cam_of : Setup → List ℕ → Result Followed ℕ
 cam_of s text = do
   parts ← halves text
-  master ← axis_named s parts.0
+  master ← axis_named NO_VALUE s parts.0
   table ← value (unsigned_of 0 65535 parts.1)
   Ok (record { master = master; numerator = pos 1; denominator = pos 1; table = table })
 

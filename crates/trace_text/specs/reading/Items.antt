@@ -1,28 +1,27 @@
 -- The items of a machine, read from the records of a trace: each is the fields behind its kind.
 -- This project's profile.
-use Rattle.std.specs.Prelude.{ℕ, ℤ, pos, ◌==◌, int_le, Bool, not, ◌&&◌, ◌||◌, nat_le, is_some, if◌then◌else◌, unsigned_abs, Result, Ok, Err, List, [], ◌∷◌, ◌++◌, length}
+use Rattle.std.specs.Prelude.{ℕ, ℤ, Bool, ◌&&◌, ◌||◌, is_some, Result, Ok, Err, List, [], ◌∷◌, ◌++◌}
 use Rattle.std.specs.List.{slice_split}
 use Rattle.std.specs.Option.{ok_or}
 use Rattle.axis_state.specs.Names.{is_name}
-use Rattle.cam_table.specs.CamTable.{is_cam_table}
 use Rattle.fb_outputs.specs.Names.{kind_named}
 use Rattle.kin_core.specs.declared.limits.Limits.{Limits}
 use Rattle.line_text.specs.Reading.{◌>>=◌, each_of}
+use Rattle.line_text.specs.Rules.{broken_unless, in_range}
+use Rattle.machine_words.specs.Names.{axis_at, axis_named, group_at, object_at, task_at}
+use Rattle.machine_words.specs.Positions.{is_semicolon}
+use Rattle.machine_words.specs.Rules.{broken_by}
+use Rattle.machine_words.specs.Tables.{table_added}
 use Rattle.motion_history.specs.Faults.{axis_fault, block_fault, group_fault, task_fault, whole_fault}
 use Rattle.motion_history.specs.Members.{group_of}
 use Rattle.motion_history.specs.Setup.{Setup}
 use Rattle.motion_history.specs.declared.refused.TraceVersion.{TraceVersion}
 use Rattle.motion_history.specs.declared.refused.TraceVersion.TheVariants.{One, Two}
-use Rattle.motion_history.specs.declared.sizes.TheConstants.{MOST_CYCLES, MOST_ENTRIES, MOST_TABLES}
+use Rattle.motion_history.specs.declared.sizes.TheConstants.{MOST_CYCLES, MOST_ENTRIES}
 use Rattle.trace_columns.specs.Columns.{flag_of, point_of, size_limited_of}
-use Rattle.trace_text.specs.reading.Names.{axis_at, group_at, object_at, task_at}
-use Rattle.trace_text.specs.reading.Rules.{are_empty, broken_by, broken_unless, value}
+use Rattle.trace_text.specs.reading.Rules.{are_empty, rule_of, value}
 use Rattle.trace_text.specs.declared.reading.item.Placed.{Placed}
-use Rattle.trace_text.specs.declared.reading.rule.TheConstants.{NO_VALUE, REFUSED}
-
--- a semicolon stands between the parts of a field
-abbrev pub is_semicolon : ℕ → Bool
-is_semicolon b = b == 59
+use Rattle.trace_text.specs.declared.reading.rule.TheConstants.{ITEM_RULES, NO_VALUE, REFUSED}
 
 -- the parts of a field
 unfoldable pub parts_of : List ℕ → List (List ℕ)
@@ -31,11 +30,6 @@ parts_of text = slice_split is_semicolon text
 -- a number that is an input or a limit; another field breaks its rule
 unfoldable pub number : List ℕ → Result ℤ ℕ
 number text = value (size_limited_of text)
-
--- a number outside its range breaks its rule
-unfoldable pub in_range : ℕ → ℕ → ℤ → Result ℕ ℕ
-in_range least most z =
-    if int_le (pos least) z && int_le z (pos most) then Ok (unsigned_abs z) else Err REFUSED
 
 -- the limits of an axis, in internal units, per cycle and per cycle per cycle
 unfoldable pub limits_of : List (List ℕ) → Result Limits ℕ
@@ -64,7 +58,7 @@ axis_added s name limits behind = do
   _ ← broken_unless (is_name name) NO_VALUE
   l ← limits_of limits
   p ← placed_of behind
-  _ ← broken_by (axis_fault s name l p.inc p.start)
+  _ ← broken_by rule_of (axis_fault s name l p.inc p.start)
   Ok (record s {
     axes = s.axes ++ record {
       name = name;
@@ -84,16 +78,12 @@ axis_meaning Two s (name ∷ lo ∷ hi ∷ vmax ∷ amax ∷ dmax ∷ behind) =
     axis_added s name (lo ∷ hi ∷ vmax ∷ amax ∷ dmax ∷ []) behind
 axis_meaning version s _ = Err NO_VALUE
 
--- the axis of this name; another name breaks its rule
-unfoldable pub axis_named : Setup → List ℕ → Result ℕ ℕ
-axis_named s name = value (axis_at s name)
-
 -- a group: its name and its axes
 unfoldable pub group_meaning : Setup → List (List ℕ) → Result Setup ℕ
 group_meaning s (name ∷ members ∷ unused) = do
   _ ← broken_unless (is_name name && are_empty unused) NO_VALUE
-  axes ← each_of (axis_named s) (parts_of members)
-  _ ← broken_by (group_fault s name axes)
+  axes ← each_of (axis_named NO_VALUE s) (parts_of members)
+  _ ← broken_by rule_of (group_fault s name axes)
   Ok (record s { groups = s.groups ++ group_of name axes ∷ [] })
 group_meaning s _ = Err NO_VALUE
 
@@ -101,26 +91,19 @@ group_meaning s _ = Err NO_VALUE
 unfoldable pub point : List ℕ → Result (ℤ × ℤ) ℕ
 point text = value (point_of text)
 
--- a cam table of the points of these texts is added
-unfoldable pub table_added : Setup → List (List ℕ) → Result Setup ℕ
-table_added s parts = do
-  points ← each_of point parts
-  _ ← broken_unless (is_cam_table points) REFUSED
-  _ ← broken_unless (not (nat_le MOST_TABLES (length s.tables))) REFUSED
-  Ok (record s { tables = s.tables ++ points ∷ [] })
-
 -- a cam table: its points
 unfoldable pub table_meaning : Setup → List (List ℕ) → Result Setup ℕ
-table_meaning s (points ∷ unused) = do
+table_meaning s (told ∷ unused) = do
   _ ← broken_unless (are_empty unused) NO_VALUE
-  table_added s (parts_of points)
+  points ← each_of point (parts_of told)
+  table_added ITEM_RULES s points
 table_meaning s _ = Err NO_VALUE
 
 -- a task: its name
 unfoldable pub task_meaning : Setup → List (List ℕ) → Result Setup ℕ
 task_meaning s (name ∷ unused) = do
   _ ← broken_unless (is_name name && are_empty unused) NO_VALUE
-  _ ← broken_by (task_fault s name)
+  _ ← broken_by rule_of (task_fault s name)
   Ok (record s { tasks = s.tasks ++ name ∷ [] })
 task_meaning s _ = Err NO_VALUE
 
@@ -137,7 +120,7 @@ block_meaning s (name ∷ of_task ∷ of_kind ∷ of_object ∷ unused) = do
   kind ← value (kind_named of_kind)
   _ ← broken_unless (is_object s of_object) NO_VALUE
   object ← ok_or (object_at s kind of_object) REFUSED
-  _ ← broken_by (block_fault s name task kind object)
+  _ ← broken_by rule_of (block_fault s name task kind object)
   Ok (record s {
     blocks = s.blocks ++ record {
       name = name;
@@ -154,11 +137,11 @@ room_meaning s (cycles ∷ entries ∷ unused) = do
   c ← number cycles
   e ← number entries
   _ ← broken_unless (are_empty unused) NO_VALUE
-  few_cycles ← in_range 1 MOST_CYCLES c
-  few_entries ← in_range 1 MOST_ENTRIES e
+  few_cycles ← in_range 1 MOST_CYCLES REFUSED c
+  few_entries ← in_range 1 MOST_ENTRIES REFUSED e
   Ok (record s { cycles = few_cycles; entries = few_entries })
 room_meaning s _ = Err NO_VALUE
 
 -- the machine has an axis, a task and a block
 abbrev pub whole : Setup → Result (Unit {0}) ℕ
-whole s = broken_by (whole_fault s)
+whole s = broken_by rule_of (whole_fault s)

@@ -3,10 +3,12 @@ use Rattle.std.specs.Prelude.{◌≡◌, ℕ, ◌+◌, ◌==◌, Bool, true, fal
 use Rattle.std.specs.Option.{ok_or, option_to_list}
 use Rattle.csv_records.specs.Records.{records_of}
 use Rattle.line_text.specs.Reading.{◌>>=◌, at_line}
+use Rattle.line_text.specs.Rules.{broken_unless}
 use Rattle.line_text.specs.Texts.{says}
 use Rattle.line_text.specs.declared.reader.LineRefused.{LineRefused}
 use Rattle.line_text.specs.declared.reader.LinesFault.{LinesFault}
 use Rattle.line_text.specs.declared.reader.LinesFault.TheVariants as lines
+use Rattle.machine_words.specs.Rules.{refused_by}
 use Rattle.motion_history.specs.Setup.{Setup}
 use Rattle.motion_history.specs.declared.refused.TextFault.{TextFault}
 use Rattle.motion_history.specs.declared.refused.TextFault.TheVariants.{Refused, OutOfMemory}
@@ -19,7 +21,7 @@ use Rattle.trace_text.specs.reading.Items.{axis_meaning, block_meaning, group_me
 use Rattle.trace_text.specs.reading.Kinds.{is_here, is_stage, kind_of}
 use Rattle.trace_text.specs.Records.{header_fields}
 use Rattle.trace_text.specs.reading.Rows.{drive_meaning, grow_meaning, row_meaning}
-use Rattle.trace_text.specs.reading.Rules.{broken_unless, value}
+use Rattle.trace_text.specs.reading.Rules.{value}
 use Rattle.trace_text.specs.reading.SoFar.{SoFar}
 use Rattle.trace_text.specs.TraceState.{TraceState}
 use Rattle.trace_text.specs.Words.{command_text, version_text}
@@ -221,18 +223,13 @@ unfoldable pub reading_of : List (List (List ℕ)) → Result TraceState LineRef
 reading_of records = records_meaning 0 opening records >>= λ s. at_line (length records) (ending s)
 
 -- a rule of a trace is told by the letter T
-abbrev pub told_as : LineRefused → TextRefused
-told_as r = record { place = r.line; rule = record { letter = 84; number = r.rule } }
-
--- a reading whose refusal is told so
-abbrev pub refused_by : {A : Type 0} → Result A LineRefused → Result A TextRefused
-refused_by (Ok x) = Ok x
-refused_by (Err r) = Err (told_as r)
+abbrev pub letter : ℕ
+letter = 84
 
 -- the trace that a text is, or its first record that breaks a rule, and the first rule that it
 -- breaks
 unfoldable pub trace_of : List ℕ → Result TraceState TextRefused
-trace_of text = refused_by (reading_of (records_of text))
+trace_of text = refused_by letter (reading_of (records_of text))
 
 -- the answer is this reading: the trace, or the refusal; or memory ran out
 abbrev pub ReadsBy : Result TraceState TextRefused → Result TraceState TextFault → Type 0

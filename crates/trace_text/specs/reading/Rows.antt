@@ -7,13 +7,13 @@ use Rattle.cia402_machine.specs.declared.drive.DriveIn.{DriveIn}
 use Rattle.cia402_machine.specs.declared.drive.DriveOut.{DriveOut}
 use Rattle.group_state.specs.declared.state.GroupRow.{GroupRow}
 use Rattle.line_text.specs.Reading.{◌>>=◌}
+use Rattle.line_text.specs.Rules.{broken_unless}
 use Rattle.motion_history.specs.Setup.{Setup}
 use Rattle.motion_history.specs.declared.refused.TraceVersion.{TraceVersion}
 use Rattle.motion_history.specs.declared.refused.TraceVersion.TheVariants.{One, Two}
 use Rattle.trace_columns.specs.Columns.{axis_state_of, drive_state_of, flag_of, group_state_of, hex_of, number_of, unsigned_of, wide_number_of}
-use Rattle.trace_text.specs.reading.Rules.{unused}
+use Rattle.trace_text.specs.reading.Rules.{are_empty, unused, value}
 use Rattle.trace_text.specs.Records.{axis_name, group_name}
-use Rattle.trace_text.specs.reading.Rules.{are_empty, broken_unless, value}
 use Rattle.trace_text.specs.declared.reading.row.Shown.{Shown}
 use Rattle.trace_text.specs.reading.RowFields.{RowTexts}
 use Rattle.trace_text.specs.declared.reading.rule.TheConstants.{NO_VALUE}

@@ -1,23 +1,19 @@
 -- The rules of a trace, and when one is broken. This project's profile.
-use Rattle.std.specs.Prelude.{ℕ, ◌==◌, Bool, if◌then◌else◌, Option, Some, None, Result, Ok, Err, List, length}
+use Rattle.std.specs.Prelude.{ℕ, ◌==◌, Bool, Option, Result, Ok, List, length}
 use Rattle.std.specs.List.{list_all}
 use Rattle.std.specs.Option.{ok_or}
 use Rattle.line_text.specs.Reading.{◌>>=◌}
+use Rattle.line_text.specs.Rules.{broken_unless}
 use Rattle.motion_history.specs.declared.fault.ConfigFault.{ConfigFault}
 use Rattle.trace_text.specs.declared.reading.rule.TheConstants.{NO_VALUE, REFUSED}
-
--- the rule is broken unless this holds
-abbrev pub broken_unless : Bool → ℕ → Result (Unit {0}) ℕ
-broken_unless holds rule = if holds then Ok tt else Err rule
 
 -- a field without a value of its column breaks its rule
 abbrev pub value : {A : Type 0} → Option A → Result A ℕ
 value found = ok_or found NO_VALUE
 
--- an item with a fault breaks its rule
-abbrev pub broken_by : Option ConfigFault → Result (Unit {0}) ℕ
-broken_by None = Ok tt
-broken_by (Some fault) = Err REFUSED
+-- each fault of an item breaks one rule
+abbrev pub rule_of : ConfigFault → ℕ
+rule_of fault = REFUSED
 
 -- whether a field is empty
 abbrev pub is_empty : List ℕ → Bool

@@ -8,10 +8,10 @@ ghost use Rattle.trace_text.specs.reading.InputFields.{fields_of};
 
 use crate::found::FoundEntry;
 use crate::reading::inputs::{InputFields, inputs_of};
-use crate::reading::name::{block_at, task_at};
-use crate::reading::rule::{NO_VALUE, are_empty, broken_unless, value};
+use crate::reading::rule::{NO_VALUE, are_empty, value};
 use fb_outputs::Outputs;
-use line_text::LineFault;
+use line_text::{LineFault, broken_unless};
+use machine_words::{block_at, task_at};
 use motion_history::Builder;
 use std::alloc::Global;
 use trace_columns::{outputs_of, unsigned_of, word_of};

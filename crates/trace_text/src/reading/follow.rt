@@ -5,10 +5,11 @@ ghost use Rattle.line_text.specs.Reading.{Gives};
 ghost use Rattle.trace_text.specs.reading.Inputs as spec;
 
 use crate::reading::inputs::Followed;
-use crate::reading::item::{axis_named, number};
+use crate::reading::item::number;
 use crate::reading::rule::{NO_VALUE, unused, value};
 use command_pool::BlockKind;
 use line_text::LineFault;
+use machine_words::axis_named;
 use motion_history::Builder;
 use trace_columns::{halves_of, word_of};
 
@@ -49,7 +50,7 @@ fn gear_of(machine: &Builder, text: &[u8]) -> Result<Followed, LineFault>
     ensures { Gives (λ f. f) (spec.gear_of machine.now text.now) result }
 {
     let (master, ratio) = halves(text)?;
-    let master = axis_named(machine, master)?;
+    let master = axis_named(machine, NO_VALUE, master)?;
     let (numerator, denominator) = halves(ratio)?;
     let numerator = number(numerator)?;
     let denominator = number(denominator)?;
@@ -67,7 +68,7 @@ fn cam_of(machine: &Builder, text: &[u8]) -> Result<Followed, LineFault>
     ensures { Gives (λ f. f) (spec.cam_of machine.now text.now) result }
 {
     let (master, table) = halves(text)?;
-    let master = axis_named(machine, master)?;
+    let master = axis_named(machine, NO_VALUE, master)?;
     let table = value(word_of(table))?;
     Ok(Followed {
         master,

@@ -1,18 +1,16 @@
 // The items of a machine, read from the records of a trace.
 
-ghost use Rattle.std.specs.Prelude.{◌≡◌, ◌≤◌, IfOk, unsigned_abs, if◌then◌else◌, None, Some};
+ghost use Rattle.std.specs.Prelude.{◌≡◌, ◌≤◌, IfOk, unsigned_abs};
 ghost use Rattle.line_text.specs.Reading.{Gives, Takes};
 ghost use Rattle.line_text.specs.Texts.{texts};
-ghost use Rattle.motion_history.specs.Faults as faults;
-ghost use Rattle.motion_history.specs.declared.fault.ConfigFault.{ConfigFault};
 ghost use Rattle.motion_numbers.specs.declared.TheConstants.{MOST_NUMBER};
 ghost use Rattle.trace_text.specs.reading.Items as spec;
 
-use crate::reading::name::{axis_at, group_at, object_at, task_at};
-use crate::reading::rule::{NO_VALUE, REFUSED, are_empty, broken_unless, refusal_of, value};
+use crate::reading::rule::{NO_VALUE, REFUSED, are_empty, refusal_of, value};
 use axis_state::{Limits, is_name};
 use fb_outputs::kind_named;
-use line_text::LineFault;
+use line_text::{LineFault, broken_unless, in_range};
+use machine_words::{axis_at, group_at, is_whole, object_at, task_at};
 use motion_history::{Builder, MOST_CYCLES, MOST_ENTRIES, TraceVersion};
 use std::alloc::{AllocError, Global};
 use trace_columns::{flag_of, number_of};
@@ -30,7 +28,7 @@ pub struct Placed {
 pub fn parts_of(alloc: Global, text: &[u8]) -> Result<Vec<&[u8]>, AllocError>
     ensures { IfOk result (λ v. texts v.items ≡ spec.parts_of text.now) }
 {
-    text.split(|b| *b == b';').collect(alloc)
+    machine_words::parts_of(alloc, text)
 }
 
 /// The number that a field is, an input or a limit.
@@ -42,20 +40,6 @@ pub fn number(text: &[u8]) -> Result<i64, LineFault>
     match number_of(text) {
         Some(number) => Ok(number),
         None => Err(LineFault::Rule(NO_VALUE)),
-    }
-}
-
-// The number where it lies between two, both included.
-#[tactic(auto, unfolding(crate::specs::reading::Items::in_range))]
-fn in_range(least: u32, most: u32, number: i64) -> Result<u32, LineFault>
-    ensures value { Gives (λ n. n) (spec.in_range least most number) result }
-    ensures least { IfOk result (λ n. least ≤ n) }
-    ensures most { IfOk result (λ n. n ≤ most) }
-{
-    if i64::from(least) <= number && number <= i64::from(most) {
-        Ok(number as u32)
-    } else {
-        Err(LineFault::Rule(REFUSED))
     }
 }
 
@@ -141,14 +125,6 @@ fn placed_of(fields: &[&[u8]]) -> Result<Placed, LineFault>
     Ok(Placed { inc, start, ready })
 }
 
-/// The number of the axis of this name.
-#[tactic(auto, unfolding(crate::specs::reading::Items::axis_named))]
-pub fn axis_named(machine: &Builder, name: &[u8]) -> Result<u8, LineFault>
-    ensures { Gives (λ n. n) (spec.axis_named machine.now name.now) result }
-{
-    value(axis_at(machine, name))
-}
-
 /// Adds the task of a record.
 #[tactic(auto, unfolding(crate::specs::reading::Items::task_meaning))]
 pub fn add_task(machine: &mut Builder, fields: &[&[u8]]) -> Result<(), LineFault>
@@ -204,8 +180,8 @@ pub fn set_room(machine: &mut Builder, fields: &[&[u8]]) -> Result<(), LineFault
     let cycles = number(cycles)?;
     let entries = number(entries)?;
     broken_unless(are_empty(unused), NO_VALUE)?;
-    let cycles = in_range(1, MOST_CYCLES, cycles)?;
-    let entries = in_range(1, MOST_ENTRIES, entries)?;
+    let cycles = in_range(1, MOST_CYCLES, REFUSED, cycles)?;
+    let entries = in_range(1, MOST_ENTRIES, REFUSED, entries)?;
     match machine.room(cycles, entries) {
         Ok(()) => Ok(()),
         Err(fault) => Err(refusal_of(fault)),
@@ -217,11 +193,4 @@ pub fn whole(machine: &Builder) -> Result<(), LineFault>
     ensures { Gives (λ u. u) (spec.whole machine.now) result }
 {
     broken_unless(is_whole(machine), REFUSED)
-}
-
-// Whether a machine has an axis, a task and a block.
-fn is_whole(machine: &Builder) -> bool
-    ensures { faults.whole_fault machine.now ≡ (if result then None else Some ConfigFault.TooFew) }
-{
-    1 <= machine.axes().len() && 1 <= machine.tasks().len() && 1 <= machine.blocks().len()
 }

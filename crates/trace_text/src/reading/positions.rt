@@ -3,31 +3,18 @@
 ghost use Rattle.std.specs.Prelude.{◌≡◌, ◌≤◌};
 ghost use Rattle.line_text.specs.Reading.{Gives, each_of};
 ghost use Rattle.line_text.specs.Texts.{texts};
-ghost use Rattle.motion_history.specs.Calls as calls;
+ghost use Rattle.machine_words.specs.Positions as positions;
 ghost use Rattle.trace_text.specs.reading.Inputs as spec;
 ghost use Rattle.trace_text.specs.reading.Items as items;
 ghost use Rattle.trace_text.specs.reading.Rules as rules;
 
 use crate::reading::item::{number, parts_of};
-use crate::reading::rule::{NO_VALUE, broken_unless, is_empty};
+use crate::reading::rule::{NO_VALUE, is_empty};
 use fb_outputs::{Input, takes};
-use line_text::LineFault;
+use line_text::{LineFault, broken_unless};
+use machine_words::{axes_of, positions_from};
 use motion_history::{BlockDef, Builder, MOST_MEMBERS};
 use std::alloc::Global;
-
-// On how many axes a block acts.
-fn axes_of(machine: &Builder, block: &BlockDef) -> usize
-    ensures value { result ≡ calls.axes_of machine.now block.now }
-    ensures few { result ≤ MOST_MEMBERS }
-{
-    if !block.kind.acts_on_group() {
-        return 1;
-    }
-    match machine.groups().get(block.object as usize) {
-        Some(group) => group.count as usize,
-        None => 0,
-    }
-}
 
 /// The positions of a call, where its kind takes them.
 #[tactic(auto, unfolding(crate::specs::reading::Inputs::positions_of))]
@@ -48,7 +35,7 @@ pub fn positions_of(
 
 // Positions that are not taken.
 fn no_positions(text: &[u8]) -> Result<[i64; MOST_MEMBERS], LineFault>
-    ensures { Gives (λ p. p) (rules.unused text.now spec.no_positions) result }
+    ensures { Gives (λ p. p) (rules.unused text.now positions.no_positions) result }
 {
     broken_unless(is_empty(text), NO_VALUE)?;
     Ok([0; MOST_MEMBERS])
@@ -69,9 +56,7 @@ fn joined_positions(
     };
     let places = numbers(alloc, parts.as_slice())?;
     broken_unless(places.len() == axes, NO_VALUE)?;
-    let mut positions = [0; MOST_MEMBERS];
-    positions[..axes].copy_from_slice(places.as_slice());
-    Ok(positions)
+    Ok(positions_from(places.as_slice()))
 }
 
 // The numbers that fields are.

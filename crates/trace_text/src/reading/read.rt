@@ -5,6 +5,7 @@ ghost use Rattle.csv.specs.Records.{fields_of};
 ghost use Rattle.csv_records.specs.Records.{records_of};
 ghost use Rattle.line_text.specs.Reading.{Takes, at_line};
 ghost use Rattle.line_text.specs.Texts.{texts};
+ghost use Rattle.machine_words.specs.Rules.{refused_by, told_as};
 ghost use Rattle.motion_history.specs.Setup.{IsSetup};
 ghost use Rattle.trace_text.specs.reading.Reading as spec;
 ghost use Rattle.trace_text.specs.reading.Reading.{ReadsBy, TakesRecords};
@@ -21,7 +22,8 @@ use crate::trace::Trace;
 use csv::ByteRecord;
 use csv_records::{field, next_record, open_records};
 use line_text::{LineFault, LineRefused, LinesFault};
-use motion_history::{Builder, Rule, TextFault, TextRefused, TraceVersion};
+use machine_words::refused_by;
+use motion_history::{Builder, TextFault, TraceVersion};
 use std::alloc::Global;
 
 /// The trace that a text is. A text that is none is refused at its first record that breaks a rule,
@@ -35,22 +37,16 @@ pub fn read_trace(alloc: Global, text: &[u8]) -> Result<Trace, TextFault>
     let mut reader = opened(alloc)?;
     match read_records(alloc, text, &mut reader) {
         Ok(last) => trace_of(reader, last),
-        Err(LinesFault::Refused(refused)) => Err(refused_by(refused)),
+        Err(LinesFault::Refused(refused)) => Err(refusal(refused)),
         Err(LinesFault::OutOfMemory) => Err(TextFault::OutOfMemory),
     }
 }
 
-// How a text is refused at this place.
-fn refused_by(refused: LineRefused) -> TextFault
-    ensures { result ≡ TextFault.Refused (spec.told_as refused) }
+// How a trace is refused at this place.
+fn refusal(refused: LineRefused) -> TextFault
+    ensures { result ≡ TextFault.Refused (told_as spec.letter refused) }
 {
-    TextFault::Refused(TextRefused {
-        place: refused.line,
-        rule: Rule {
-            letter: b'T',
-            number: refused.rule,
-        },
-    })
+    refused_by(b'T', refused)
 }
 
 // A trace before its first record.
@@ -136,11 +132,11 @@ fn fields_in(row: &ByteRecord) -> [&[u8]; FIELDS]
 #[tactic(auto, unfolding(crate::specs::reading::Reading::ending))]
 fn trace_of(reader: TraceReader, last: u64) -> Result<Trace, TextFault>
     requires { (t : TraceState) → spec.ending reader ≡ Ok t → IsSetup t.config → IsTraceKept t }
-    ensures reading { ReadsBy (spec.refused_by (at_line last (spec.ending reader))) result }
+    ensures reading { ReadsBy (refused_by spec.letter (at_line last (spec.ending reader))) result }
     ensures kept { IfOk result (λ t. IsTraceKept t) }
 {
     if !is_ended(&reader) {
-        return Err(refused_by(LineRefused {
+        return Err(refusal(LineRefused {
             line: last,
             rule: TOO_SHORT,
         }));

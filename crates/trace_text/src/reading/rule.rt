@@ -1,4 +1,4 @@
-// The rules of a trace by their numbers, and when one is broken.
+// The rules of a trace by their numbers, and its fields without a value.
 
 ghost use Rattle.std.specs.Prelude.{◌≡◌, ◌≢◌};
 ghost use Rattle.line_text.specs.Reading.{Gives};
@@ -6,7 +6,8 @@ ghost use Rattle.line_text.specs.Texts.{texts};
 ghost use Rattle.trace_text.specs.reading.Rules as spec;
 ghost use Rattle.motion_history.specs.declared.fault.ConfigFault.TheVariants.{OutOfMemory};
 
-use line_text::LineFault;
+use line_text::{LineFault, required};
+use machine_words::ItemRules;
 use motion_history::ConfigFault;
 
 /// A record hasn't twelve fields.
@@ -27,25 +28,17 @@ pub const REFUSED: u8 = 5;
 /// The text ends too early.
 pub const TOO_SHORT: u8 = 6;
 
-/// Breaks a rule unless this holds.
-pub fn broken_unless(holds: bool, rule: u8) -> Result<(), LineFault>
-    ensures { Gives (λ u. u) (spec.broken_unless holds rule) result }
-{
-    if holds {
-        Ok(())
-    } else {
-        Err(LineFault::Rule(rule))
-    }
-}
+/// The rules that the points of a cam table break.
+pub const ITEM_RULES: ItemRules = ItemRules {
+    wrong: REFUSED,
+    too_many: REFUSED,
+};
 
 /// The value of a field, which breaks its rule where it has none.
 pub fn value<T: Copy>(found: Option<T>) -> Result<T, LineFault>
     ensures { Gives (λ x. x) (spec.value found) result }
 {
-    match found {
-        Some(value) => Ok(value),
-        None => Err(LineFault::Rule(NO_VALUE)),
-    }
+    required(found, NO_VALUE)
 }
 
 /// Why a record is refused whose item has this fault.

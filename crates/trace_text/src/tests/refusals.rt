@@ -113,7 +113,7 @@ fn expect_refusals(
         };
         let text = joined(alloc, &[TOP, behind, record, b"\n"])?;
         assert_eq!(rt;
-            refusal(alloc, text.as_slice()),
+            refusal(alloc, text.as_slice())?,
             Some((number, rule.wrapping_sub(b'0'))),
             "{row:?}"
         );
@@ -138,7 +138,7 @@ fn refuses_rows(rt: HostRuntime) -> Result<(), Fail> {
 
 // Whole texts, of which some end too early.
 #[test]
-fn refuses_whole_texts(rt: HostRuntime) {
+fn refuses_whole_texts(rt: HostRuntime) -> Result<(), Fail> {
     let cases: [(&[u8], u64, u8); 14] = [
         (b"", 0, 6),
         (b"\n\r\n", 0, 6),
@@ -188,8 +188,9 @@ fn refuses_whole_texts(rt: HostRuntime) {
         (TOP, 11, 6),
     ];
     for (text, place, rule) in cases {
-        assert_eq!(&rt; refusal(rt.alloc(), text), Some((place, rule)), "{text:?}");
+        assert_eq!(&rt; refusal(rt.alloc(), text)?, Some((place, rule)), "{text:?}");
     }
+    Ok(())
 }
 
 // What `csv` takes: a byte order mark, CR LF, blank lines, quotes, and no line feed at the end.
@@ -203,11 +204,11 @@ fn takes_other_spellings_of_records(rt: HostRuntime) -> Result<(), Fail> {
         b"drive,X,0,OperationEnabled,0,,,,,,,",
     ];
     let text = joined(alloc, &quoted)?;
-    assert_eq!(&rt; refusal(alloc, text.as_slice()), None);
+    assert_eq!(&rt; refusal(alloc, text.as_slice())?, None);
     let late = joined(
         alloc,
         &[ONE_MOVE, b"drive,X,7,OperationEnabled,20,,,,,,,\n"],
     )?;
-    assert_eq!(&rt; refusal(alloc, late.as_slice()), Some((24, 3)));
+    assert_eq!(&rt; refusal(alloc, late.as_slice())?, Some((24, 3)));
     Ok(())
 }

@@ -8,12 +8,12 @@ ghost use Rattle.trace_text.specs.Records.{record_text, cycle_fields, row_fields
 ghost use Rattle.trace_text.specs.Records as spec;
 ghost use Rattle.trace_text.specs.Trace.{numbered, text_of};
 
-use crate::records::{axis_name, group_name, name_text, write_record, write_whole};
+use crate::records::{group_name, write_record, write_whole};
 use axis_state::{AxisDef, AxisRow};
 use csv::Writer;
 use group_state::GroupRow;
 use itoa::Buffer;
-use motion_history::{Config, OutOfMemory, TraceVersion};
+use motion_history::{Config, OutOfMemory, TraceVersion, axis_name, name_text};
 use std::io::Write;
 use trace_columns::{axis_state_text, flag_text, group_state_text, hex_text};
 

@@ -9,12 +9,12 @@ ghost use Rattle.trace_text.specs.writing.Parts.{drives_text, entry_text};
 ghost use Rattle.trace_text.specs.Records.{record_text, end_fields, drive_fields};
 
 use crate::drive_end::DriveEndRow;
-use crate::records::{axis_name, name_text, task_name, write_record};
+use crate::records::{task_name, write_record};
 use crate::writing::block_calls::write_call;
 use crate::writing::cycle_rows::write_cycle_and_rows;
 use csv::Writer;
 use itoa::Buffer;
-use motion_history::{Config, EntryLook, OutOfMemory, TraceVersion};
+use motion_history::{Config, EntryLook, OutOfMemory, TraceVersion, axis_name, name_text};
 use std::alloc::Global;
 use std::io::Write;
 use trace_columns::drive_state_text;

@@ -8,7 +8,7 @@ ghost use Rattle.trace_text.specs.Records as spec;
 ghost use Rattle.trace_text.specs.Records.{record_text};
 
 use crate::command::Command;
-use crate::records::{name_text, object_name, task_name, write_record};
+use crate::records::{object_name, task_name, write_record};
 use crate::writing::fields::{command_text, version_text};
 use crate::writing::parts::{members_text, points_text};
 use axis_state::{AxisDef, Name};
@@ -16,7 +16,7 @@ use cam_table::CamTable;
 use csv::Writer;
 use fb_outputs::kind_name;
 use itoa::Buffer;
-use motion_history::{BlockDef, Config, GroupDef, OutOfMemory, TraceVersion};
+use motion_history::{BlockDef, Config, GroupDef, OutOfMemory, TraceVersion, name_text};
 use std::alloc::Global;
 use std::io::Write;
 use trace_columns::flag_text;

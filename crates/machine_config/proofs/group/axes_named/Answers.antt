@@ -1,17 +1,18 @@
 -- Each step reads one more.
 use Rattle.std.proofs.lemmas.Result.{err_from_is_err_and}
-use Rattle.machine_config.specs.Groups.{axis_named}
 use Rattle.line_text.specs.Texts.{texts}
-use Rattle.machine_config.proofs.Each.{read-more, read-stops, text_at}
+use Rattle.machine_words.specs.Names.{axis_named}
+use Rattle.machine_config.specs.declared.rule.TheConstants.{WRONG_NAME}
+use Rattle.line_text.proofs.Each.{read-more, read-stops, word_at}
 use Rattle.machine_config.proofs.group.axes_named.Goals as goal
 
 pub returns-in_err-axis : goal.returns-in_err-axis
 returns-in_err-axis c =
     let p = err_from_is_err_and c.from_residual.result c.from_residual.ensures.1 in
-    let cut = text_at c.args.names.now c.loop-name.name-index c.loop-name-test.true in
-    rw (p.1, p.2) (read-stops (axis_named c.args.config.now) (texts c.args.names.now) c.loop-name.name-index _ _ _ cut c.in_err-axis.ensures c.loop-name.invariant)
+    let cut = word_at c.args.names.now c.loop-name.name-index c.loop-name-test.true in
+    rw (p.1, p.2) (read-stops (axis_named WRONG_NAME c.args.config.now) (texts c.args.names.now) c.loop-name.name-index _ _ _ cut c.in_err-axis.ensures c.loop-name.invariant)
 
 pub loop-name-preserved : goal.loop-name-preserved
 loop-name-preserved c =
-    let cut = text_at c.args.names.now c.loop-name.name-index c.loop-name-test.true in
-    rw c.in-Ok.ensures.items (read-more (axis_named c.args.config.now) (texts c.args.names.now) c.loop-name.name-index _ _ _ cut c.in_ok-axis.ensures c.loop-name.invariant)
+    let cut = word_at c.args.names.now c.loop-name.name-index c.loop-name-test.true in
+    rw c.in-Ok.ensures.items (read-more (axis_named WRONG_NAME c.args.config.now) (texts c.args.names.now) c.loop-name.name-index _ _ _ cut c.in_ok-axis.ensures c.loop-name.invariant)

@@ -1,7 +1,8 @@
 -- The parts of a point stand round its first colon.
 use Rattle.std.proofs.Common.{refl, arith}
 use Rattle.std.proofs.lemmas.Str.Pattern.{split_once_first}
-use Rattle.machine_config.specs.Quantities.{is_colon, point_of}
+use Rattle.line_text.specs.Numbers.{is_colon}
+use Rattle.machine_config.specs.Quantities.{point_of}
 use Rattle.machine_config.proofs.Colons.{none_passes, one_passes}
 use Rattle.machine_config.proofs.quantity.point_of.Goals as goal
 

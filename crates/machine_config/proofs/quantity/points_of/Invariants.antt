@@ -1,7 +1,7 @@
 -- The items so far are read.
 use Rattle.line_text.specs.Texts.{texts}
 use Rattle.machine_config.specs.Quantities.{point_of}
-use Rattle.machine_config.proofs.Each.{IsReadSoFar}
+use Rattle.line_text.proofs.Each.{IsReadSoFar}
 use Rattle.machine_config.proofs.quantity.points_of.Given as goal
 
 abbrev pub invariant-loop-word : goal.invariant-loop-word

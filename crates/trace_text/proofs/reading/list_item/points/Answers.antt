@@ -1,8 +1,8 @@
 -- Each step reads one more.
 use Rattle.std.proofs.lemmas.Result.{err_from_is_err_and}
-use Rattle.trace_text.specs.reading.Items.{point}
 use Rattle.line_text.specs.Texts.{texts}
-use Rattle.trace_text.proofs.read.Each.{read-more, read-stops, word_at}
+use Rattle.trace_text.specs.reading.Items.{point}
+use Rattle.line_text.proofs.Each.{read-more, read-stops, word_at}
 use Rattle.trace_text.proofs.reading.list_item.points.Goals as goal
 
 pub returns-in_err-point : goal.returns-in_err-point

@@ -2,9 +2,9 @@
 use Rattle.std.proofs.Common.{◌≡◌, arith, of_z, to_z, w64}
 use Rattle.std.proofs.lemmas.Int.{ints}
 use Rattle.std.proofs.lemmas.Result.{err_from_is_err_and}
-use Rattle.trace_text.specs.reading.Items.{number}
 use Rattle.line_text.specs.Texts.{texts}
-use Rattle.trace_text.proofs.read.Each.{read-more, read-stops, word_at}
+use Rattle.trace_text.specs.reading.Items.{number}
+use Rattle.line_text.proofs.Each.{read-more, read-stops, word_at}
 use Rattle.trace_text.proofs.reading.positions.numbers.Goals as goal
 
 pub returns-in_err-number : goal.returns-in_err-number

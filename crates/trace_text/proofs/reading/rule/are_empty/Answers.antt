@@ -3,7 +3,7 @@ use Rattle.std.proofs.Common.{◌∙◌, rules, tests}
 use Rattle.std.proofs.lemmas.Iterator.{YieldsList-from_slice}
 use Rattle.std.proofs.lemmas.Iterator.Search.{all_from_yields_List}
 use Rattle.trace_text.specs.reading.Rules.{are_empty, is_empty}
-use Rattle.trace_text.proofs.read.Shown.{list_all-texts}
+use Rattle.line_text.proofs.Texts.{list_all-texts}
 use Rattle.trace_text.proofs.reading.rule.are_empty.Goals as goal
 
 pub returns : goal.returns
