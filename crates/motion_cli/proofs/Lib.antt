@@ -1,12 +1,6 @@
-pub mod EndLaws
-pub mod Joined
-pub mod RunLaws
-pub mod DriveLaws
-pub mod StepLaws
-pub mod Outcomes
-pub mod CauseLaws
-pub mod HeadlineLaws
-pub mod LoadLaws
-pub mod LoadEnds
 pub mod SeedLaws
-pub mod TallyLaws
+pub mod PlanLaws
+pub mod FileLaws
+pub mod CauseLaws
+pub mod FaultLaws
+pub mod TraceLaws

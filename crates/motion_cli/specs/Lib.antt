@@ -1,13 +1,7 @@
-pub mod Drives
-pub mod Run
-pub mod Going
 pub mod WordList
-pub mod Asked
-pub mod Plans
-pub mod Ends
-pub mod Headline
-pub mod Causes
-pub mod Exits
 pub mod Args
 pub mod Seeds
-pub mod Loads
+pub mod Requests
+pub mod Plans
+pub mod Causes
+pub mod Ends

@@ -2,23 +2,18 @@
 //! ends with.
 #![tactic(auto)]
 
-mod benches;
-mod drives;
-mod lines;
-mod load;
 mod program;
-mod run;
-mod say;
+mod request;
 mod seed;
 mod serve;
-mod status;
-mod traces;
+mod usage;
 mod words;
 
+pub use job_ends::Status;
 pub use outside::{Files, OutOfMemory, Sink};
 pub use program::{top, top_of_args};
-pub use status::Status;
-pub use words::{Job, Words, words_from};
+pub use request::Job;
+pub use words::{Words, words_from};
 
 #[cfg(test)]
 mod tests;

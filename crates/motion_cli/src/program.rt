@@ -2,27 +2,27 @@
 
 ghost use Rattle.std.specs.Prelude.{◌≡◌, ◌≢◌, ◌⊎◌, ℕ, List, true, false, Some, None, Ok, Err, IfErr, IfOk, IsSome, OnErr};
 ghost use Rattle.std.specs.IoError.{error_kind};
+ghost use Rattle.bench_job.specs.Headline.{Headline, is_traced};
+ghost use Rattle.job_ends.specs.Causes.{is_fault};
+ghost use Rattle.job_ends.specs.Ends.{EndsBy, EndsEarly};
+ghost use Rattle.load_job.specs.Ends.{LoadLine};
 ghost use Rattle.motion_cli.specs.Args.{words_of};
-ghost use Rattle.motion_cli.specs.Asked.{request_of};
-ghost use Rattle.motion_cli.specs.Causes.{Asks, AsksInVain, ComesExactly, HasRoom, IsChecked, IsDone, IsIllegal, IsRefused, IsThere, IsTooLong, RunsTo, is_fault};
-ghost use Rattle.motion_cli.specs.Ends.{Ends, EndsBy, EndsEarly, is_traced};
-ghost use Rattle.motion_cli.specs.Headline.{Headline, Migrated};
-ghost use Rattle.motion_cli.specs.Loads.{EndsByWords, LoadLine};
+ghost use Rattle.motion_cli.specs.Causes.{Asks, AsksInVain, ComesExactly, HasRoom, IsChecked, IsDone, IsIllegal, IsRefused, IsThere, IsTooLong, RunsTo};
+ghost use Rattle.motion_cli.specs.Ends.{EndsByWords};
 ghost use Rattle.motion_cli.specs.Plans.{usage_plan};
-ghost use Rattle.motion_cli.specs.Seeds.{seed_of};
+ghost use Rattle.motion_cli.specs.Requests.{request_of, seed_of};
 ghost use Rattle.motion_history.specs.declared.refused.TextRefused.{TextRefused};
 ghost use Rattle.outside.specs.Faults.{Rose};
 ghost use Rattle.outside.specs.Told.{FileMap};
+ghost use Rattle.trace_jobs.specs.Migrated.{Migrated};
 
-use crate::lines::USAGE;
-use crate::load::run_load;
-use crate::run::RunFault;
-use crate::say::say_all;
+use crate::request::{Job, asked};
 use crate::serve::serve;
-use crate::status::Status;
-use crate::words::{Job, Words, request, seed, words_from};
-use load_gen::loads_fill_their_room;
-use motion_history::cycles_add_up;
+use crate::usage::say_usage;
+use crate::words::{Words, words_from};
+use bench_job::room_leads_to_ok;
+use bench_run::RunFault;
+use job_ends::{Status, ends_follow_plans};
 use outside::{Files, OutOfMemory, Sink};
 use std::alloc::Global;
 use std::env::Args;
@@ -52,7 +52,7 @@ pub fn top_of_args<F: Files, K: Sink>(
     match args {
         Ok(args) => top_of_words(words_from(alloc, args), alloc, files, out),
         Err(error) if error.kind() == ErrorKind::OutOfMemory => Status::OutOfMemory,
-        Err(_) => say_all(USAGE, Status::Usage, out),
+        Err(_) => say_usage(out),
     }
 }
 
@@ -134,36 +134,7 @@ pub fn top<F: Files, K: Sink>(alloc: Global, words: &Words, files: &mut F, out: 
         (Rose (K.count out.old) (K.count out.new) → ⊥) →
         (result ≡ Status.Ok) ⊎ (result ≡ Status.OutOfMemory) }
 {
-    cycles_add_up();
-    loads_fill_their_room();
-    dispatch(alloc, words, files, out)
-}
-
-// Does what the words ask for.
-fn dispatch<F: Files, K: Sink>(alloc: Global, words: &Words, files: &mut F, out: &mut K) -> Status
-    ensures { EndsByWords (F.told files.old) (Rose (F.count files.old) (F.count files.new))
-        words.now (record { count = K.count out.old; told = K.told out.old })
-        (record { count = K.count out.new; told = K.told out.new }) result }
-{
-    match seed(words) {
-        Some(number) => run_load(alloc, number, out),
-        None => serve_words(alloc, words, files, out),
-    }
-}
-
-// Does what the words ask for, if it is to be done with a file.
-fn serve_words<F: Files, K: Sink>(
-    alloc: Global,
-    words: &Words,
-    files: &mut F,
-    out: &mut K,
-) -> Status
-    ensures { Ends (F.told files.old) (Rose (F.count files.old) (F.count files.new))
-        (request_of words.now) (record { count = K.count out.old; told = K.told out.old })
-        (record { count = K.count out.new; told = K.told out.new }) result }
-{
-    match request(words) {
-        Some((job, name)) => serve(alloc, job, name, files, out),
-        None => say_all(USAGE, Status::Usage, out),
-    }
+    ends_follow_plans();
+    room_leads_to_ok();
+    serve(alloc, asked(words), files, out)
 }

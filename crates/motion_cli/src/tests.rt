@@ -4,7 +4,6 @@ mod loads;
 mod rows;
 mod states;
 mod traces;
-mod worked;
 
 use crate::*;
 use motion_history::Rule;

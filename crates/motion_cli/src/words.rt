@@ -1,27 +1,13 @@
 // The words of a call of the program.
 
-ghost use Rattle.std.specs.Prelude.{◌≡◌, ◌++◌, ◌∷◌, [], IfOk, OnErr, OnOk};
-ghost use Rattle.std.specs.Option.{option_map};
+ghost use Rattle.std.specs.Prelude.{◌≡◌, ◌++◌, ◌∷◌, [], IfOk, OnErr, OnOk, map};
+ghost use Rattle.std.specs.String.{string_bytes};
 ghost use Rattle.motion_cli.specs.Args.{words_of};
-ghost use Rattle.motion_cli.specs.Asked as spec;
-ghost use Rattle.motion_cli.specs.Seeds as seeds;
 
 use crate::OutOfMemory;
-use crate::seed::seed_in;
 use std::alloc::{AllocError, Global};
 use std::env::Args;
 use std::marker::Model;
-
-/// What the program does with a file.
-#[derive(Clone, Copy, Debug, PartialEq, Eq)]
-pub enum Job {
-    /// Runs a bench, and writes its trace.
-    Bench,
-    /// Replays a trace, and tells whether it is legal.
-    Check,
-    /// Replays a trace, and writes it in version 2.
-    Migrate,
-}
 
 /// The words with which the program is called, without its own name. Contracts see them as a list
 /// of texts.
@@ -60,6 +46,13 @@ impl Words {
         let text = String::from_str(self.alloc, word)?;
         Ok(push_text(&mut self.texts, text)?)
     }
+
+    /// The texts of the words.
+    pub fn texts(&self) -> &[String]
+        ensures { map string_bytes result.now ≡ self.now }
+    {
+        self.texts.as_slice()
+    }
 }
 
 // Adds a text behind the others.
@@ -77,57 +70,4 @@ pub fn words_from(alloc: Global, args: Args) -> Result<Words, OutOfMemory>
 {
     let texts = args.skip(1).collect(alloc)?;
     Ok(Words { alloc, texts })
-}
-
-/// What the words ask for: the job and its file.
-#[tactic(auto, unfolding(crate::specs::Asked::request_of))]
-pub fn request(words: &Words) -> Option<(Job, &str)>
-    ensures { option_map (λ r. record { job = r.0; name = r.1.now }) result ≡
-        spec.request_of words.now }
-{
-    match words.texts.as_slice() {
-        [word, file] if is_file(file.as_str()) => match first_word(word.as_str()) {
-            Some(job) => Some((job, file.as_str())),
-            None => None,
-        },
-        _ => None,
-    }
-}
-
-/// The seed of the load that the words ask for: they are `gen` and the seed.
-#[tactic(auto, unfolding(crate::specs::Seeds::seed_of))]
-pub fn seed(words: &Words) -> Option<u32>
-    ensures { result ≡ seeds.seed_of words.now }
-{
-    match words.texts.as_slice() {
-        [word, seed] if word.as_str() == "gen" => seed_in(seed.as_str()),
-        _ => None,
-    }
-}
-
-// What the first word asks for.
-#[tactic(auto, unfolding(crate::specs::Asked::job_of))]
-fn first_word(word: &str) -> Option<Job>
-    ensures { result ≡ spec.job_of word.now }
-{
-    if word == "bench" {
-        Some(Job::Bench)
-    } else if word == "check" {
-        Some(Job::Check)
-    } else if word == "migrate" {
-        Some(Job::Migrate)
-    } else {
-        None
-    }
-}
-
-// Whether a word may name a file.
-#[tactic(auto, unfolding(crate::specs::Asked::is_file))]
-fn is_file(word: &str) -> bool
-    ensures { result ≡ spec.is_file word.now }
-{
-    match word.as_bytes() {
-        [] => false,
-        [first, ..] => *first != b'-',
-    }
 }

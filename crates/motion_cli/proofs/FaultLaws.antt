@@ -1,0 +1,153 @@
+-- Usage and the faults, whatever the files tell.
+use Rattle.std.specs.Prelude.{◌≡◌, ◌≢◌, ◌⊎◌, refl, ℕ, true, false, Option, Some, None, IsSomeAnd, List}
+use Rattle.std.specs.Option.{option_and_then}
+use Rattle.std.proofs.Common.{◌∙◌, inl, inr, sym, ap, subst}
+use Rattle.std.proofs.lemmas.Bool.{cases_Bool}
+use Rattle.job_ends.specs.Causes.{is_fault, is_told}
+use Rattle.job_ends.specs.Ends.{Content, EndsBy, EndsEarly, Found, IsFound, Longer, Unread}
+use Rattle.job_ends.specs.Follows.{FollowPlans}
+use Rattle.job_ends.specs.Plans.{too_long_plan}
+use Rattle.job_ends.specs.declared.status.Status.{Status}
+use Rattle.job_ends.specs.declared.status.Status.TheVariants as status
+use Rattle.load_job.specs.Ends.{load_plan}
+use Rattle.outside.specs.Faults.{Rose}
+use Rattle.outside.specs.Told.{FileMap, LacksFile}
+use Rattle.trace_text.specs.writing.Writes.{Output}
+use Rattle.motion_cli.proofs.FileLaws.{ends-by, ends-for, plan_of}
+use Rattle.motion_cli.proofs.PlanLaws.{by-plan, not-told, of-plan, write-of-plan}
+use Rattle.motion_cli.specs.Causes.{Asks, AsksInVain, ComesExactly}
+use Rattle.motion_cli.specs.Ends.{EndsByFound, EndsByRequest}
+use Rattle.motion_cli.specs.Plans.{most_of, plan_of_text, usage_plan}
+use Rattle.motion_cli.specs.Requests.{FileJob, Request, file_of, load_of, of_file, of_load}
+use Rattle.motion_cli.specs.declared.request.Job.{Job}
+
+-- Usage
+no-usage : (r : FileJob) (found : Found) (old new : Output) (s : Status) →
+    EndsByFound r found old new s → (plan_of r found).status ≢ status.Usage
+no-usage r Unread old new s e h = absurd (cc)
+no-usage r Longer old new s e h = absurd (cc)
+no-usage r (Content text) old new s e h =
+    not-told (plan_of_text r.job r.name text).status status.Usage
+    (ends-for r.job r.name text old new s e).told refl h
+
+pub usage-comes : FollowPlans → (told : Option FileMap) (rose : Type 0) (asked : Option Request)
+    (old new : Output) (s : Status) → EndsByRequest told rose asked old new s →
+    ComesExactly s status.Usage
+    ((option_and_then file_of asked ≡ None) × (option_and_then load_of asked ≡ None))
+usage-comes follow told rose None old new s e =
+    record { only = λ h. (refl, refl); always = λ h. by-plan follow old new usage_plan s e }
+usage-comes follow told rose (Some (of_file r)) old new s (inl e) = record {
+  only = λ h. absurd (no-usage r e.found old new s e.ends
+      (of-plan follow old new (plan_of r e.found) s status.Usage
+      (ends-by r e.found old new s e.ends) h (λ x. absurd (cc)) (λ x. absurd (cc))));
+  always = λ h. absurd (let bad : Some r ≡ None = h.0 in cc);
+}
+usage-comes follow told rose (Some (of_file r)) old new s (inr e) = record {
+  only = λ h. absurd (let bad : status.OutOfMemory ≡ status.Usage = sym e.status ∙ h in cc);
+  always = λ h. absurd (let bad : Some r ≡ None = h.0 in cc);
+}
+usage-comes follow told rose (Some (of_load seed)) old new s e = record {
+  only = λ h. absurd (let bad : status.Ok ≡ status.Usage =
+      of-plan follow old new (load_plan seed) s status.Usage e.by.ends h (λ x. absurd (cc))
+      (λ x. absurd (cc)) in cc);
+  always = λ h. absurd (let bad : Some seed ≡ None = h.1 in cc);
+}
+
+-- ReadFault
+found-unread : FollowPlans → (told : Option FileMap) (rose : Type 0) (r : FileJob)
+    (old new : Output) (s : Status) (word : ℕ) (found : Found) →
+    IsFound told rose r.name (most_of r.job) found → EndsByFound r found old new s →
+    s ≡ status.ReadFault word → rose ⊎ LacksFile told r.name
+found-unread follow told rose r old new s word Unread is e h = is
+found-unread follow told rose r old new s word Longer is e h =
+    absurd (let bad : status.TooLong 1 ≡ status.ReadFault word =
+    of-plan follow old new (too_long_plan 1 r.name) s (status.ReadFault word) e h
+    (λ x. absurd (cc)) (λ x. absurd (cc)) in cc)
+found-unread follow told rose r old new s word (Content text) is e h =
+    let for = ends-for r.job r.name text old new s e in
+    absurd (not-told (plan_of_text r.job r.name text).status (status.ReadFault word) for.told refl
+    (of-plan follow old new (plan_of_text r.job r.name text) s (status.ReadFault word) for.ends h
+    (λ x. absurd (cc)) (λ x. absurd (cc))))
+
+pub unread-why : FollowPlans → (told : Option FileMap) (rose : Type 0) (asked : Option Request)
+    (old new : Output) (s : Status) (word : ℕ) → EndsByRequest told rose asked old new s →
+    s ≡ status.ReadFault word → rose ⊎ AsksInVain told (option_and_then file_of asked)
+unread-why follow told rose None old new s word e h =
+    absurd (let bad : status.Usage ≡ status.ReadFault word =
+    of-plan follow old new usage_plan s (status.ReadFault word) e h
+    (λ x. absurd (cc)) (λ x. absurd (cc)) in cc)
+unread-why follow told rose (Some (of_file r)) old new s word (inl e) h =
+    found-unread follow told rose r old new s word e.found e.is_found e.ends h
+unread-why follow told rose (Some (of_file r)) old new s word (inr e) h =
+    absurd (let bad : status.OutOfMemory ≡ status.ReadFault word = sym e.status ∙ h in cc)
+unread-why follow told rose (Some (of_load seed)) old new s word e h =
+    absurd (let bad : status.Ok ≡ status.ReadFault word =
+    of-plan follow old new (load_plan seed) s (status.ReadFault word) e.by.ends h
+    (λ x. absurd (cc)) (λ x. absurd (cc)) in cc)
+
+-- WriteFault
+no-write : (r : FileJob) (found : Found) (old new : Output) (s : Status) →
+    EndsByFound r found old new s → (plan_of r found).status ≢ status.WriteFault
+no-write r Unread old new s e h = absurd (cc)
+no-write r Longer old new s e h = absurd (cc)
+no-write r (Content text) old new s e h =
+    not-told (plan_of_text r.job r.name text).status status.WriteFault
+    (ends-for r.job r.name text old new s e).told refl h
+
+pub write-why : FollowPlans → (told : Option FileMap) (rose : Type 0) (asked : Option Request)
+    (old new : Output) (s : Status) → EndsByRequest told rose asked old new s →
+    s ≡ status.WriteFault → Rose old.count new.count
+write-why follow told rose None old new s e h =
+    write-of-plan follow old new usage_plan s e (λ x. absurd (cc)) h
+write-why follow told rose (Some (of_file r)) old new s (inl e) h =
+    write-of-plan follow old new (plan_of r e.found) s (ends-by r e.found old new s e.ends)
+    (no-write r e.found old new s e.ends) h
+write-why follow told rose (Some (of_file r)) old new s (inr e) h =
+    absurd (let bad : status.OutOfMemory ≡ status.WriteFault = sym e.status ∙ h in cc)
+write-why follow told rose (Some (of_load seed)) old new s e h =
+    write-of-plan follow old new (load_plan seed) s e.by.ends (λ x. absurd (cc)) h
+
+-- where the file is there and nothing fails, no fault comes but want of memory
+in-vain : (files : FileMap) (P : Job → List ℕ → Type 0) (asked : Option FileJob) →
+    AsksInVain (Some files) asked → Asks P files asked → ⊥
+in-vain files P None v h = v
+in-vain files P (Some r) v h = subst (λ o. IsSomeAnd o (P r.job)) v h
+
+neither : (A B : Type 0) → (A → ⊥) → (B → ⊥) → A ⊎ B → ⊥
+neither A B a b (inl h) = a h
+neither A B a b (inr h) = b h
+
+pub fault-by : FollowPlans → (files : FileMap) (rose : Type 0) (asked : Option Request)
+    (old new : Output) (s : Status) (P : Job → List ℕ → Type 0) →
+    EndsByRequest (Some files) rose asked old new s →
+    Asks P files (option_and_then file_of asked) → (rose → ⊥) → (Rose old.count new.count → ⊥) →
+    is_fault s ≡ true → s ≡ status.OutOfMemory
+fault-by follow files rose asked old new (status.ReadFault word) P e h r w f =
+    absurd (neither rose _ r (λ v. in-vain files P (option_and_then file_of asked) v h)
+    (unread-why follow (Some files) rose asked old new (status.ReadFault word) word e refl))
+fault-by follow files rose asked old new status.WriteFault P e h r w f =
+    absurd (w (write-why follow (Some files) rose asked old new status.WriteFault e refl))
+fault-by follow files rose asked old new status.OutOfMemory P e h r w f = refl
+fault-by follow files rose asked old new s P e h r w f = absurd (cc)
+
+pub faultless : FollowPlans → (files : FileMap) (rose : Type 0) (asked : Option Request)
+    (old new : Output) (s : Status) (P : Job → List ℕ → Type 0) →
+    EndsByRequest (Some files) rose asked old new s →
+    Asks P files (option_and_then file_of asked) → (rose → ⊥) → (Rose old.count new.count → ⊥) →
+    (is_fault s ≡ false) ⊎ (s ≡ status.OutOfMemory)
+faultless follow files rose asked old new s P e h r w = elim (cases_Bool (is_fault s)) [
+  | inl f ↦ inr (fault-by follow files rose asked old new s P e h r w f)
+  | inr f ↦ inl f
+]
+
+-- and where Ok has a cause, it comes, or memory ran out
+pub complete : FollowPlans → (files : FileMap) (rose : Type 0) (asked : Option Request)
+    (old new : Output) (s : Status) (P : Job → List ℕ → Type 0) {Cause : Type 0} →
+    EndsByRequest (Some files) rose asked old new s → ComesExactly s status.Ok Cause → Cause →
+    Asks P files (option_and_then file_of asked) → (rose → ⊥) → (Rose old.count new.count → ⊥) →
+    (s ≡ status.Ok) ⊎ (s ≡ status.OutOfMemory)
+complete follow files rose asked old new s P e comes cause h r w = by (comes.always cause)
+  where
+    by : (s ≡ status.Ok) ⊎ (is_fault s ≡ true) → (s ≡ status.Ok) ⊎ (s ≡ status.OutOfMemory)
+    by (inl ok) = inl ok
+    by (inr f) = inr (fault-by follow files rose asked old new s P e h r w f)

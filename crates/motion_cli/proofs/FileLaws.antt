@@ -1,0 +1,140 @@
+-- How the program ends by what a read of the file found.
+use Rattle.std.specs.Prelude.{◌≡◌, ◌⊎◌, ◌≤◌, ◌<◌, refl, ℕ, true, false, Option, Some, None, IsSomeAnd, List, length}
+use Rattle.std.proofs.Common.{◌∙◌, inl, inr, sym, ap, subst, arith}
+use Rattle.job_ends.specs.Causes.{EndsFor, is_fault, is_told}
+use Rattle.job_ends.specs.Ends.{Content, EndsBy, EndsEarly, EndsUnread, Found, IsFound, Longer, Unread}
+use Rattle.job_ends.specs.Follows.{FollowPlans}
+use Rattle.job_ends.specs.Plans.{Plan, too_long_plan, unread_plan}
+use Rattle.job_ends.specs.declared.status.Status.{Status}
+use Rattle.job_ends.specs.declared.status.Status.TheVariants as status
+use Rattle.outside.specs.Told.{FileMap, IsLonger, LacksFile}
+use Rattle.outside.specs.declared.files.FilesFault.{FilesFault}
+use Rattle.outside.specs.declared.files.FilesFault.TheVariants as files
+use Rattle.trace_text.specs.writing.Writes.{Output}
+use Rattle.motion_cli.proofs.PlanLaws.{by-plan, comes, comes-by-plan, faulted, not-told, same-cause, told-unfaulted}
+use Rattle.motion_cli.specs.Causes.{CauseOf, ComesExactly, IsTooLong, LeadsTo}
+use Rattle.motion_cli.specs.Ends.{EndsByFile, EndsByFound, EndsByText}
+use Rattle.motion_cli.specs.Plans.{most_of, plan_of_text}
+use Rattle.motion_cli.specs.Requests.{FileJob}
+use Rattle.motion_cli.specs.declared.request.Job.{Job}
+use Rattle.motion_cli.specs.declared.request.Job.TheVariants.{Bench, Check, Migrate}
+
+-- a file that wasn't read
+pub unread-ends : (told : Option FileMap) (rose : Type 0) (r : FileJob) (most : ℕ)
+    (old new : Output) (s : Status) (f : FilesFault) → most ≡ most_of r.job →
+    (f ≡ files.Failed → rose ⊎ LacksFile told r.name) →
+    (f ≡ files.TooLong → IsLonger told r.name most) → EndsUnread 1 r.name f old new s →
+    EndsByFile told rose r old new s ⊎ EndsEarly old new s
+unread-ends told rose r most old new s files.Failed is failed longer e =
+    inl (record { found = Unread; is_found = failed refl; ends = e })
+unread-ends told rose r most old new s files.TooLong is failed longer e = inl (record {
+  found = Longer;
+  is_found = let P : ℕ → Type 0 = λ n. IsLonger told r.name n in subst P is (longer refl);
+  ends = e;
+})
+unread-ends told rose r most old new s files.OutOfMemory is failed longer e = inr e
+
+-- a job with a text ends by its plan, for its cause
+pub ends-for : (job : Job) (name text : List ℕ) (old new : Output) (s : Status) →
+    EndsByText job name text old new s →
+    EndsFor old new (plan_of_text job name text) (CauseOf job text) s
+ends-for Bench name text old new s e = e.by
+ends-for Check name text old new s e = e.by
+ends-for Migrate name text old new s e = e.by
+
+-- the same text
+pub same-content : (job : Job) (name xs ys : List ℕ) (old new : Output) (s : Status) → xs ≡ ys →
+    EndsByText job name xs old new s → EndsByText job name ys old new s
+same-content job name xs ys old new s e by =
+    let P : List ℕ → Type 0 = λ t. EndsByText job name t old new s in subst P e by
+
+-- what a file leads to by what a read of it found
+abbrev pub plan_of : FileJob → Found → Plan
+plan_of r Unread = unread_plan 1 r.name
+plan_of r Longer = too_long_plan 1 r.name
+plan_of r (Content text) = plan_of_text r.job r.name text
+
+pub ends-by : (r : FileJob) (found : Found) (old new : Output) (s : Status) →
+    EndsByFound r found old new s → EndsBy old new (plan_of r found) s
+ends-by r Unread old new s e = e
+ends-by r Longer old new s e = e
+ends-by r (Content text) old new s e = (ends-for r.job r.name text old new s e).ends
+
+-- ---- what is told of a text
+
+no-longer : (job : Job) (o : Option (List ℕ)) (P : List ℕ → Type 0) →
+    ((text : List ℕ) → P text → length text ≤ most_of job) →
+    IsSomeAnd o (λ text. most_of job < length text) → IsSomeAnd o P → ⊥
+no-longer job None P within long h = h
+no-longer job (Some text) P within long h = let w = within text h in omega (arith, w, long)
+
+content-cause : (r : FileJob) (o : Option (List ℕ)) (text : List ℕ) (wanted : Status) →
+    o ≡ Some text → length text ≤ most_of r.job → CauseOf r.job text wanted →
+    IsSomeAnd o (LeadsTo wanted r.job)
+content-cause r o text wanted is within cause =
+    subst (λ x. IsSomeAnd x (LeadsTo wanted r.job)) (sym is)
+    (record { within = within; cause = cause })
+
+cause-content : (r : FileJob) (o : Option (List ℕ)) (text : List ℕ) (wanted : Status) →
+    o ≡ Some text → IsSomeAnd o (LeadsTo wanted r.job) → CauseOf r.job text wanted
+cause-content r o text wanted is h = (subst (λ x. IsSomeAnd x (LeadsTo wanted r.job)) is h).cause
+
+-- where a file couldn't be read a fault comes
+unread-fault : FollowPlans → (old new : Output) (name : List ℕ) (s : Status) →
+    EndsBy old new (unread_plan 1 name) s → is_fault s ≡ true
+unread-fault follow old new name s e = by (by-plan follow old new (unread_plan 1 name) s e)
+  where
+    by : (s ≡ status.ReadFault 1) ⊎ (is_fault s ≡ true) → is_fault s ≡ true
+    by (inl h) = ap is_fault h
+    by (inr h) = h
+
+-- a status that is told comes exactly of its cause
+pub found-comes : FollowPlans → (files : FileMap) (rose : Type 0) (r : FileJob) (old new : Output)
+    (s wanted : Status) → is_told wanted ≡ true → (found : Found) →
+    IsFound (Some files) rose r.name (most_of r.job) found → EndsByFound r found old new s →
+    ComesExactly s wanted (IsSomeAnd (files r.name) (LeadsTo wanted r.job))
+found-comes follow files rose r old new s wanted t Unread is e =
+    let f = told-unfaulted wanted t in
+    let other = not-told wanted (status.ReadFault 1) t refl in
+    let by = comes-by-plan follow old new (unread_plan 1 r.name) s wanted e f in
+    record {
+      only = λ h. absurd (other (sym (by.only h)));
+      always = λ h. inr (unread-fault follow old new r.name s e);
+    }
+found-comes follow files rose r old new s wanted t Longer is e =
+    let f = told-unfaulted wanted t in
+    let other = not-told wanted (status.TooLong 1) t refl in
+    same-cause s wanted (status.TooLong 1 ≡ wanted) _ (λ h. absurd (other (sym h)))
+    (λ h. absurd (no-longer r.job (files r.name) (LeadsTo wanted r.job) (λ text l. l.within) is h))
+    (comes-by-plan follow old new (too_long_plan 1 r.name) s wanted e f)
+found-comes follow files rose r old new s wanted t (Content text) is e =
+    same-cause s wanted (CauseOf r.job text wanted) _
+    (content-cause r (files r.name) text wanted is.0 is.1)
+    (cause-content r (files r.name) text wanted is.0)
+    (comes follow old new (plan_of_text r.job r.name text) (CauseOf r.job text) s
+    (ends-for r.job r.name text old new s e) wanted (told-unfaulted wanted t))
+
+-- ---- TooLong
+
+pub found-long : FollowPlans → (files : FileMap) (rose : Type 0) (r : FileJob) (old new : Output)
+    (s : Status) → (found : Found) → IsFound (Some files) rose r.name (most_of r.job) found →
+    EndsByFound r found old new s →
+    ComesExactly s (status.TooLong 1) (IsSomeAnd (files r.name) (IsTooLong r.job))
+found-long follow files rose r old new s Unread is e =
+    let by = comes-by-plan follow old new (unread_plan 1 r.name) s (status.TooLong 1) e refl in
+    record {
+      only = λ h. absurd (let bad : status.ReadFault 1 ≡ status.TooLong 1 = by.only h in cc);
+      always = λ h. inr (unread-fault follow old new r.name s e);
+    }
+found-long follow files rose r old new s Longer is e =
+    same-cause s (status.TooLong 1) (status.TooLong 1 ≡ status.TooLong 1) _ (λ h. is) (λ h. refl)
+    (comes-by-plan follow old new (too_long_plan 1 r.name) s (status.TooLong 1) e refl)
+found-long follow files rose r old new s (Content text) is e =
+    let for = ends-for r.job r.name text old new s e in
+    let other = not-told (plan_of_text r.job r.name text).status (status.TooLong 1) for.told refl in
+    same-cause s (status.TooLong 1) ((plan_of_text r.job r.name text).status ≡ status.TooLong 1) _
+    (λ h. absurd (other h)) (λ h. absurd (no-longer r.job (files r.name)
+    (λ x. length x ≤ most_of r.job) (λ x w. w) h
+    (subst (λ x. IsSomeAnd x (λ y. length y ≤ most_of r.job)) (sym is.0) is.1)))
+    (comes-by-plan follow old new (plan_of_text r.job r.name text) s (status.TooLong 1) for.ends
+    refl)

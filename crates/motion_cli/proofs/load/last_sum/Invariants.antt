@@ -1,7 +1,0 @@
--- There is no cycle among the entries that were looked at.
-use Rattle.std.proofs.Common.{◌≡◌, ◌-◌, take}
-use Rattle.motion_cli.specs.Loads.{last_rows}
-use Rattle.motion_cli.proofs.load.last_sum.Given as goal
-
-abbrev pub invariant-loop-behind : goal.invariant-loop-behind
-invariant-loop-behind l = last_rows (take (l.entries - l.behind) l.history.entries) ≡ last_rows l.history.entries
