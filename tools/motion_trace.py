@@ -247,7 +247,7 @@ class Trace:
         self._taken = 0                                     # of the one that was taken last
         self._forms = {kind: Form(kind, columns) for kind, columns in FORMS.items()}
         self.last_calls, self.last_ends, self.drives = [], [], []
-        self._advance()
+        self._advance(is_first=True)
         if self._kind() != "kind" or self._record != HEADER:
             raise self._misplaced(f"the header {','.join(HEADER)}")
         self._advance()
@@ -255,7 +255,7 @@ class Trace:
 
     # Records
 
-    def _advance(self):
+    def _advance(self, is_first=False):
         """Goes to the next record; None behind the last one."""
         try:
             self._record = next(self._records, None)
@@ -264,6 +264,8 @@ class Trace:
         if self._record is None:
             return
         self._number += 1
+        if is_first and self._record[0].lstrip().startswith("motion-bench"):
+            raise TraceError(1, "this is a bench: its trace is what ./motion bench gives for it")
         if len(self._record) != 12:
             raise TraceError(self._number, f"it has {len(self._record)} fields, and not twelve")
 

@@ -127,6 +127,10 @@ class Refusing(unittest.TestCase):
             with self.assertRaisesRegex(TraceError, f"record {count}: the text"):
                 trace_of("".join(records[:count]))
 
+    def test_a_bench_is_told_as_such(self):
+        with self.assertRaisesRegex(TraceError, "this is a bench"):
+            Trace(["motion-bench 1\n", "limit 20 40\n"])
+
     def test_line_without_end(self):
         with tempfile.NamedTemporaryFile("w") as file:
             file.write("kind" * motion_trace.LONGEST_LINE)

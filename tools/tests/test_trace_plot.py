@@ -158,9 +158,10 @@ class Refusals(unittest.TestCase):
     def test_statuses(self):
         status, _, told = plot("-", text="\n".join(HEAD[:4] + ["a,b"]).encode())
         self.assertEqual((status, told),
-                         (1, "trace_plot: -: record 5: it has 2 fields, and not twelve\n"))
-        self.assertEqual(plot("-", text=b"\xff\xfe\n")[0], 1)
-        self.assertEqual(plot("no_such_file")[0], 1)
+                         (3, "trace_plot: refused -: record 5: it has 2 fields, and not twelve\n"))
+        self.assertEqual(plot("-", text=b"\xff\xfe\n")[0], 3)
+        self.assertEqual(plot("no_such_file")[0], 4)
+        self.assertEqual(plot(EXAMPLES / "cell" / "cell.trace", "-o", "no_such_folder/f")[0], 6)
         cell = EXAMPLES / "cell" / "cell.trace"
         for words in (("--scale", "X=mm"), ("--scale", "Q=1mm"), ("--from", "0"), ("--width", "1"),
                       ("--from", "5", "--to", "4"), ("--columns", "1"), ("--cycle-us", "-1")):
