@@ -1,0 +1,15 @@
+pub mod Lists
+pub mod Zips
+pub mod OwnEntries
+pub mod JoinedEntries
+pub mod LoggedCalls
+pub mod TurnLaws
+pub mod CycleTurns
+pub mod InStep
+pub mod CycleSteps
+pub mod JoinedPasses
+pub mod WholeRun
+pub mod Meets
+pub mod Opening
+pub mod Started
+pub mod CycleLaws

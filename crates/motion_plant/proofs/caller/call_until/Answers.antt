@@ -1,0 +1,43 @@
+-- The call is made in a turn, or the kernel is full.
+use Rattle.std.proofs.Common.{rules, ◌≡◌, ◌≤◌, ◌++◌, ◌∷◌, [], sym, ap, ◌∙◌, refl, arith}
+use Rattle.motion_plant.proofs.TurnLaws.{call_came, call_spent, call_again, left_first}
+use Rattle.motion_plant.proofs.caller.call_until.Goals as goal
+
+pub returns-in-Made-clause-owns : goal.returns-in-Made-clause-owns
+returns-in-Made-clause-owns g c = (call_came _ _ _ _ c.loop.invariant.left c.loop.invariant.owns _ _
+    _ _ _ _ _ c.requires.task c.turn_call-answer.ensures.answer c.in-Made.is).owns
+
+pub returns-in-Made-clause-longer : goal.returns-in-Made-clause-longer
+returns-in-Made-clause-longer g c =
+    let r = call_came _ _ _ _ c.loop.invariant.left c.loop.invariant.owns _ _ _ _ _ _ _
+    c.requires.task c.turn_call-answer.ensures.answer c.in-Made.is in
+    let a = r.behind in
+    let b = r.longer in
+    omega arith
+
+pub returns-in-Made-clause-some : goal.returns-in-Made-clause-some
+returns-in-Made-clause-some g c =
+    let r = call_came _ _ _ _ c.loop.invariant.left c.loop.invariant.owns _ _ _ _ _ _ _
+    c.requires.task c.turn_call-answer.ensures.answer c.in-Made.is in
+    (r.before, r.made, r.cycles_is, r.late, r.behind, r.longer, r.few)
+
+pub returns-in-Full-clause-owns : goal.returns-in-Full-clause-owns
+returns-in-Full-clause-owns g c =
+    (call_spent _ _ _ _ c.loop.invariant.left c.loop.invariant.owns _ _ _ _ _ _
+    c.turn_call-answer.ensures.answer c.in-Full.is).0
+
+pub returns-in-Full-clause-longer : goal.returns-in-Full-clause-longer
+returns-in-Full-clause-longer g c =
+    (call_spent _ _ _ _ c.loop.invariant.left c.loop.invariant.owns _ _ _ _ _ _
+    c.turn_call-answer.ensures.answer c.in-Full.is).1.longer
+
+pub returns-in-Full-clause-none : goal.returns-in-Full-clause-none
+returns-in-Full-clause-none g c =
+    (call_spent _ _ _ _ c.loop.invariant.left c.loop.invariant.owns _ _ _ _ _ _
+    c.turn_call-answer.ensures.answer c.in-Full.is).1.made
+
+pub loop-preserved : goal.loop-preserved
+loop-preserved g c =
+    let r = call_again _ _ _ _ c.loop.invariant.left c.loop.invariant.owns _ _ _ _ _ _
+    c.turn_call-answer.ensures.answer c.in-Early.is in
+    record { left = r.1; owns = r.0 }

@@ -1,0 +1,11 @@
+-- As long as a call comes too early, nothing is made.
+use Rattle.std.proofs.Common.{◌≡◌}
+use Rattle.motion_plant.specs.Makers.{IsBy, Owns}
+use Rattle.motion_plant.proofs.TurnLaws.{LeavesAll}
+use Rattle.motion_plant.proofs.caller.call_until.Given as goal
+
+abbrev pub invariant-loop : goal.invariant-loop
+invariant-loop g l = record {
+  left : LeavesAll l.fn.pass l.pass;
+  owns : Owns (IsBy l.fn.pass.config l.task) l.pass.own l.pass.seen;
+}

@@ -1,0 +1,14 @@
+-- A stop behind the last cycle makes no entry.
+use Rattle.std.proofs.Common.{rules, ◌≡◌, subst, sym}
+use Rattle.motion_plant.specs.Cycling.{IsCycled}
+use Rattle.motion_plant.specs.Joined.{IsStopped}
+use Rattle.motion_plant.proofs.JoinedPasses.{stopped_over}
+use Rattle.motion_plant.proofs.finish.stop_if_over.Goals as goal
+
+pub returns-in-Over-clause-stopped : goal.returns-in-Over-clause-stopped
+returns-in-Over-clause-stopped g c = λ first ls lines cycled.
+    let s = c.turn_stop.ensures.stopped in
+    subst (λ x. IsStopped first ls c.turn_stop.new.pass lines x) (sym c.in-Over.is)
+    (stopped_over first ls c.args.pass.now c.turn_stop.new.pass lines s.0
+    (subst (λ x. IsCycled first ls c.args.pass.now lines x) c.in-Over.is cycled) s.1 s.2
+    c.turn_stop.ensures.lawful)

@@ -1,0 +1,21 @@
+-- The end of a task is made in a turn, or the kernel is full.
+use Rattle.std.proofs.Common.{rules, ◌≡◌, refl}
+use Rattle.motion_plant.proofs.TurnLaws.{end_made, end_full}
+use Rattle.motion_plant.proofs.task_job.end_task.Goals as goal
+
+pub returns-in-Made-clause-owns : goal.returns-in-Made-clause-owns
+returns-in-Made-clause-owns g c =
+    (end_made _ _ _ _ _ _ _ c.requires.owns c.turn_end-answer.ensures.answer c.in-Made.is).1
+
+pub returns-in-Made-clause-ended : goal.returns-in-Made-clause-ended
+returns-in-Made-clause-ended g c = λ e.
+    let r = end_made _ _ _ _ _ _ _ c.requires.owns c.turn_end-answer.ensures.answer c.in-Made.is in
+    (r.0, r.2.made)
+
+pub returns-in-Full-clause-owns : goal.returns-in-Full-clause-owns
+returns-in-Full-clause-owns g c =
+    (end_full _ _ _ _ _ _ c.requires.owns c.turn_end-answer.ensures.answer c.in-Full.is).0
+
+pub returns-in-Full-clause-refused : goal.returns-in-Full-clause-refused
+returns-in-Full-clause-refused g c =
+    λ e. (end_full _ _ _ _ _ _ c.requires.owns c.turn_end-answer.ensures.answer c.in-Full.is).1.made

@@ -1,0 +1,14 @@
+-- A program came to its end, and its task ended where there was room.
+use Rattle.std.proofs.Common.{rules, ◌≡◌, refl}
+use Rattle.motion_plant.proofs.LoggedCalls.{task_done}
+use Rattle.motion_plant.proofs.task_job.run_program.Goals as goal
+
+pub returns : goal.returns
+returns g c =
+    let m = c.make_calls-pass.ensures in
+    let e = c.end_task-ended.ensures in
+    record {
+      done = task_done c.args.pass c.args.task _ c.make_calls-pass.result.0
+          c.end_task-ended.new.pass c.end_task-ended.result m.fixed e.fixed e.owns m.calls m.follows
+          (m.through (search rules)) e.ended e.refused;
+    }

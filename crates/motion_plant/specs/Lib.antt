@@ -1,0 +1,11 @@
+pub mod Places
+pub mod Makers
+pub mod Calls
+pub mod TaskEnds
+pub mod Jobs
+pub mod Lines
+pub mod Driven
+pub mod Cycling
+pub mod Joined
+pub mod Ran
+pub mod Laws

@@ -1,0 +1,192 @@
+// The cycles: an answer of each drive, a turn, and an output to each drive.
+
+ghost use Rattle.std.specs.Prelude.{◌≡◌, ◌<◌, ◌≤◌, ◌+◌, [], List, Some, false, length, slice_get, slice_set};
+ghost use Rattle.drive_jobs.specs.LineState.{LineState};
+ghost use Rattle.kernel_turn.specs.PassState.{PassState};
+ghost use Rattle.motion_history.specs.declared.sizes.TheConstants.{MOST_CYCLES};
+ghost use Rattle.motion_plant.specs.Calls.{fixed_part};
+ghost use Rattle.motion_plant.specs.Cycling.{Cycled, IsCycled, IsCycling, Stepped};
+ghost use Rattle.motion_plant.specs.Lines.{IsInStep, with_answer, with_output};
+ghost use Rattle.motion_plant.specs.Makers.{IsUpTo, Owns};
+ghost use Rattle.motion_plant.specs.Places.{Each, zip_with};
+ghost use Rattle.setpoint_ring.specs.declared.TheConstants.{MOST_OUTPUTS};
+
+use crossbeam_utils::Backoff;
+use drive_jobs::Line;
+use kernel_turn::{DriveIn, DriveOut, KernelTurn, Pass, Turn};
+use std::sync::Wait;
+
+/// What the turns of one cycle came to.
+#[derive(Clone, Copy)]
+pub enum Step {
+    /// The cycle was made, and so many tasks live.
+    Made { live: u8 },
+    /// No cycle is left.
+    Over,
+    /// There is no room.
+    Full,
+}
+
+/// How the cycles came to their end.
+#[derive(Clone, Copy, PartialEq, Eq)]
+pub enum Ending {
+    /// No task lives.
+    Done,
+    /// No cycle is left.
+    Over,
+    /// There is no room.
+    Full,
+}
+
+// Takes the next answer of each drive.
+fn take_all<R: Wait>(rt: &R, lines: &mut Vec<Line>, ins: &mut [DriveIn])
+    requires width { length ins.old ≡ length lines.old.items }
+    ensures taken { lines.new.items ≡ zip_with with_answer lines.old.items ins.new }
+    ensures width { length ins.new ≡ length ins.old }
+{
+    for i in 0..lines.len() {
+        ins[i] = take_at(rt, lines, i);
+    }
+}
+
+// Takes the next answer of one drive.
+#[tactic(auto, unfolding(crate::specs::Lines::with_answer))]
+fn take_at<R: Wait>(rt: &R, lines: &mut Vec<Line>, i: usize) -> DriveIn
+    requires there { i < length lines.old.items }
+    ensures taken { (x : LineState) → slice_get lines.old.items i ≡ Some x →
+        lines.new.items ≡ slice_set lines.old.items i (with_answer x result) }
+    ensures len { length lines.new.items ≡ length lines.old.items }
+{
+    lines[i].take(rt)
+}
+
+// Gives one drive the output of a cycle.
+#[tactic(auto, unfolding(crate::specs::Lines::with_output))]
+fn push_at<R: Wait>(rt: &R, lines: &mut Vec<Line>, i: usize, number: u32, out: DriveOut)
+    requires there { i < length lines.old.items }
+    requires next { (x : LineState) → slice_get lines.old.items i ≡ Some x →
+        (number ≡ length x.outs + 1) × (x.ended ≡ false) }
+    requires few { number ≤ MOST_OUTPUTS }
+    ensures pushed { (x : LineState) → slice_get lines.old.items i ≡ Some x →
+        lines.new.items ≡ slice_set lines.old.items i (with_output x out) }
+    ensures len { length lines.new.items ≡ length lines.old.items }
+{
+    lines[i].push(rt, number, out);
+}
+
+// Gives each drive its output of a cycle.
+fn push_all<R: Wait>(rt: &R, lines: &mut Vec<Line>, outs: &[DriveOut], number: u32)
+    requires width { length outs.now ≡ length lines.old.items }
+    requires next { Each (λ i (x : LineState). (number ≡ length x.outs + 1) ×
+        (x.ended ≡ false)) lines.old.items }
+    requires few { number ≤ MOST_OUTPUTS }
+    ensures pushed { lines.new.items ≡ zip_with with_output lines.old.items outs.now }
+{
+    for i in 0..lines.len() {
+        push_at(rt, lines, i, number, outs[i]);
+    }
+}
+
+// Repeats a cycle's turn until it is made, or there is no cycle or no room.
+fn cycle_until<R: Wait>(
+    rt: &R,
+    turn: &KernelTurn,
+    pass: &mut Pass,
+    ins: &[DriveIn],
+    outs: &mut [DriveOut],
+    most: u32,
+) -> Step
+    requires own { pass.old.table ≡ turn.now }
+    requires owns { Owns (IsUpTo pass.old.config 0) pass.old.own pass.old.seen }
+    requires width { (length ins.now ≡ length pass.old.config.axes) ×
+        (length outs.old ≡ length pass.old.config.axes) }
+    requires most { most ≡ pass.old.config.cycles }
+    ensures fixed { fixed_part pass.new ≡ fixed_part pass.old }
+    ensures owns { Owns (IsUpTo pass.old.config 0) pass.new.own pass.new.seen }
+    ensures width { length outs.new ≡ length outs.old }
+    ensures step { Stepped pass.old.config ins.now outs.new pass.old pass.new result }
+{
+    let backoff = Backoff::new();
+    for _ in rt.forever() {
+        match turn.turn_cycle(rt, pass, ins, outs) {
+            Turn::Made { answer, .. } => return Step::Made { live: answer },
+            Turn::Full { cycles, .. } => {
+                if cycles == most {
+                    return Step::Over;
+                }
+                return Step::Full;
+            }
+            Turn::Early { .. } => backoff.snooze(),
+        }
+    }
+    unreachable!()
+}
+
+// One cycle: an answer of each drive, the turn, and an output to each drive.
+fn one_cycle<R: Wait>(
+    rt: &R,
+    turn: &KernelTurn,
+    pass: &mut Pass,
+    lines: &mut Vec<Line>,
+    ins: &mut [DriveIn],
+    outs: &mut [DriveOut],
+    made: u32,
+    most: u32,
+) -> Step
+    requires own { pass.old.table ≡ turn.now }
+    requires cycling { (first : PassState) × (ls : List LineState) ×
+        IsCycling first ls made pass.old lines.old.items }
+    requires width { (length ins.old ≡ length pass.old.config.axes) ×
+        (length outs.old ≡ length pass.old.config.axes) }
+    requires few { (pass.old.config.cycles ≤ MOST_CYCLES) × (most ≡ pass.old.config.cycles) }
+    ensures width { (length ins.new ≡ length ins.old) × (length outs.new ≡ length outs.old) }
+    ensures own { (pass.new.table ≡ pass.old.table) × (pass.new.config ≡ pass.old.config) }
+    ensures cycled { (first : PassState) → (ls : List LineState) →
+        IsCycling first ls made pass.old lines.old.items →
+        Cycled first ls made pass.new lines.new.items result }
+{
+    take_all(rt, lines, ins);
+    match cycle_until(rt, turn, pass, ins, outs, most) {
+        Step::Made { live } => {
+            push_all(rt, lines, outs, made + 1);
+            Step::Made { live }
+        }
+        Step::Over => Step::Over,
+        Step::Full => Step::Full,
+    }
+}
+
+/// Makes cycles until no task lives, or there is no cycle or no room. Waits for the drives' answers
+/// and while a task is quiet, so that it may never return.
+pub fn run_cycles<R: Wait>(
+    rt: &R,
+    turn: &KernelTurn,
+    pass: &mut Pass,
+    lines: &mut Vec<Line>,
+    ins: &mut [DriveIn],
+    outs: &mut [DriveOut],
+    most: u32,
+) -> Ending
+    requires own { pass.old.table ≡ turn.now }
+    requires fresh { (pass.old.own ≡ []) × Each (IsInStep []) lines.old.items }
+    requires width { (length lines.old.items ≡ length pass.old.config.axes) ×
+        (length ins.old ≡ length pass.old.config.axes) ×
+        (length outs.old ≡ length pass.old.config.axes) }
+    requires few { (pass.old.config.cycles ≤ MOST_CYCLES) × (most ≡ pass.old.config.cycles) }
+    ensures cycled { IsCycled pass.old lines.old.items pass.new lines.new.items result }
+{
+    let mut made = 0u32;
+    for _ in rt.forever() {
+        match one_cycle(rt, turn, pass, lines, ins, outs, made, most) {
+            Step::Made { live } => {
+                made += 1;
+                if live == 0 {
+                    return Ending::Done;
+                }
+            }
+            Step::Over => return Ending::Over,
+            Step::Full => return Ending::Full,
+        }
+    }
+    unreachable!()
+}

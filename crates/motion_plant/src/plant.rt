@@ -1,0 +1,112 @@
+// The run of a plant.
+
+ghost use Rattle.std.specs.Prelude.{◌≡◌, ◌≤◌, ◌+◌, IfErr, IfOk, OnOk, length};
+ghost use Rattle.std.specs.Arc.{arc_value};
+ghost use Rattle.std.specs.List.{All};
+ghost use Rattle.kernel_turn.specs.Turns.{opening_pass};
+ghost use Rattle.machine_drives.specs.Drives.{drives_at_opening};
+ghost use Rattle.motion_history.specs.Drives.{IsDrive};
+ghost use Rattle.motion_plant.specs.Ran.{PlantRan};
+ghost use Rattle.motion_plant.specs.declared.fault.PlantFault.TheVariants.{ThreadRefused};
+ghost use Rattle.outside.specs.Faults.{Rose};
+ghost use Rattle.plc_program.specs.Programs.{IsProgramOf};
+
+use crate::fault::PlantFault;
+use crate::finish::{PlantEnd, run_started};
+use crate::give_up::give_up;
+use crate::plant_job::PlantJob;
+use crate::rooms::{Rooms, make_rooms};
+use crate::starts::{start_drives, start_tasks};
+use kernel_turn::{Kernel, KernelTurn, Pass};
+use motion_history::{Config, DriveDefs};
+use outside::{Gate, Host, MOST_JOBS, Spawner};
+use plc_program::Program;
+use std::alloc::Global;
+use std::sync::{Arc, Wait};
+
+/// A machine, the program of its tasks, and the drives of its axes.
+#[derive(Drop)]
+pub struct Plant {
+    pub config: Config,
+    pub program: Arc<Program>,
+    pub drives: DriveDefs,
+}
+
+// Opens a kernel and its turns.
+fn open_turn(alloc: Global, config: &Config) -> Result<(Arc<KernelTurn>, Pass), PlantFault>
+    ensures first { IfOk result (λ r. r.1 ≡ opening_pass (arc_value r.0) config.now) }
+    ensures memory { IfErr result (λ e. e ≡ PlantFault.OutOfMemory) }
+{
+    let Ok(config) = config.copy(alloc) else {
+        return Err(PlantFault::OutOfMemory);
+    };
+    let Ok(kernel) = Kernel::open(alloc, config) else {
+        return Err(PlantFault::OutOfMemory);
+    };
+    let Ok((turn, pass)) = KernelTurn::open(alloc, kernel) else {
+        return Err(PlantFault::OutOfMemory);
+    };
+    let Ok(turn) = Arc::new(alloc, turn) else {
+        return Err(PlantFault::OutOfMemory);
+    };
+    Ok((turn, pass))
+}
+
+/// Runs a plant: a thread for each drive and each task, and the cycles here. Each turn of a task
+/// passes a twin of the gate. It returns once every thread was joined, also where one was refused
+/// or memory was wanting; and it waits for the drives, the tasks and the gate, so that it may never
+/// return.
+pub fn run_plant<H: Host + Wait, G: Gate + Drop + Send + 'static>(
+    rt: &H,
+    alloc: Global,
+    setup: &Plant,
+    spawner: &mut Spawner<H, PlantJob<G>>,
+    gate: &G,
+) -> Result<PlantEnd, PlantFault>
+    requires few { length spawner.old.jobs + 24 ≤ MOST_JOBS }
+    requires program { IsProgramOf setup.now.config (arc_value setup.now.program) }
+    requires each { length setup.now.drives ≡ length setup.now.config.axes }
+    requires drives { All IsDrive setup.now.drives }
+    ensures config { IfOk result (λ e. e.kernel.config ≡ setup.now.config) }
+    ensures ran { IfOk result (λ e. PlantRan setup.now.config (arc_value setup.now.program)
+        (drives_at_opening setup.now.config.axes setup.now.drives)
+        e.kernel.history e.drives.items) }
+    ensures started { OnOk result (length spawner.new.jobs ≡ length spawner.old.jobs +
+        length setup.now.config.axes + length setup.now.config.tasks) }
+    ensures refused { IfErr result (λ e. e ≡ ThreadRefused →
+        Rose spawner.old.faults spawner.new.faults) }
+{
+    let base = spawner.started();
+    let axes = setup.config.axes();
+    let tasks = setup.program.tasks();
+    let most = setup.config.cycles();
+    let Ok(
+        Rooms {
+            mut lines,
+            mut seats,
+            cycles,
+        },
+    ) = make_rooms(alloc, axes.len(), tasks as usize)
+    else {
+        return Err(PlantFault::OutOfMemory);
+    };
+    let (turn, mut pass) = open_turn(alloc, &setup.config)?;
+    if let Err(fault) = start_drives(spawner, alloc, axes, setup.drives.as_slice(), &mut lines) {
+        give_up(rt, spawner, base, &turn, pass, lines, &seats);
+        return Err(fault);
+    }
+    if let Err(fault) = start_tasks(
+        rt,
+        spawner,
+        &turn,
+        &mut pass,
+        &setup.program,
+        gate,
+        tasks,
+        &mut seats,
+    ) {
+        give_up(rt, spawner, base, &turn, pass, lines, &seats);
+        return Err(fault);
+    }
+    Ok(run_started(rt, spawner, base, &turn, pass, lines, &seats, cycles, most))
+}

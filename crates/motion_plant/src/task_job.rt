@@ -1,0 +1,157 @@
+// The job of a task: its program, called by a pass of the kernel's turns, and its end.
+
+ghost use Rattle.std.specs.Prelude.{◌≡◌, ◌<◌, ◌≤◌, ◌++◌, ◌∷◌, [], List, false, length, true};
+ghost use Rattle.std.specs.Arc.{arc_value};
+ghost use Rattle.motion_history.specs.Entries.{Entry, end_of};
+ghost use Rattle.motion_history.specs.declared.sizes.TheConstants.{MOST_CYCLES};
+ghost use Rattle.motion_plant.specs.Calls.{AreCalls, fixed_part, logged_calls};
+ghost use Rattle.motion_plant.specs.Makers.{IsBy, Owns, own_entries};
+ghost use Rattle.motion_plant.specs.TaskEnds.{TaskDone};
+ghost use Rattle.plc_program.specs.Programs.{IsProgramOf};
+ghost use Rattle.task_run.specs.Runs.{IsRun, lines_of};
+ghost use Rattle.task_run.specs.TaskCalls.{IsEndedBy, TaskCalls};
+ghost use Rattle.task_run.specs.Tasks.{first_state};
+
+use crate::caller::TurnCaller;
+use kernel_turn::{KernelTurn, Pass, Turn};
+use outside::Gate;
+use plc_program::Program;
+use std::sync::{Arc, Wait};
+use task_run::{TaskRun, run_task, tasks_have_their_own_lines};
+
+/// A task as it is given to a thread: its pass of the kernel's turns, its program and its run, and
+/// the gate of its turns.
+#[derive(Drop)]
+pub struct TaskJob<G: Gate + Drop> {
+    pub turn: Arc<KernelTurn>,
+    pub pass: Pass,
+    pub program: Arc<Program>,
+    pub run: TaskRun,
+    pub task: u8,
+    pub gate: G,
+}
+
+/// A task's pass, and whether the task has ended.
+#[derive(Drop)]
+pub struct TaskJobEnd {
+    pub pass: Pass,
+    pub ended: bool,
+}
+
+/// Runs a task's program, and ends the task where the program came to its end. Waits for its turns,
+/// and behind a rest for a cycle, so that it may never return.
+pub fn work_task<R: Wait, G: Gate + Drop>(rt: &R, job: TaskJob<G>) -> TaskJobEnd
+    requires own { job.pass.table ≡ arc_value job.turn }
+    requires unused { job.pass.own ≡ [] }
+    requires small { job.pass.config.cycles ≤ MOST_CYCLES }
+    requires program { IsProgramOf job.pass.config (arc_value job.program) }
+    requires run { IsRun (arc_value job.program) job.run
+        (first_state (lines_of (arc_value job.program) job.run)) }
+    requires task { job.run.task ≡ job.task }
+    ensures done { TaskDone job.pass job.task (lines_of (arc_value job.program) job.run) result }
+{
+    let TaskJob {
+        turn,
+        pass,
+        program,
+        run,
+        task,
+        gate,
+    } = job;
+    run_program(rt, &turn, &gate, pass, task, &program, run)
+}
+
+// Runs a program, and ends its task where it came to its end.
+fn run_program<R: Wait, G: Gate + Drop>(
+    rt: &R,
+    turn: &KernelTurn,
+    gate: &G,
+    pass: Pass,
+    task: u8,
+    program: &Program,
+    run: TaskRun,
+) -> TaskJobEnd
+    requires own { pass.table ≡ turn.now }
+    requires unused { pass.own ≡ [] }
+    requires small { pass.config.cycles ≤ MOST_CYCLES }
+    requires program { IsProgramOf pass.config program.now }
+    requires run { IsRun program.now run (first_state (lines_of program.now run)) }
+    requires task { run.task ≡ task }
+    ensures done { TaskDone pass task (lines_of program.now run) result }
+{
+    let (mut pass, through) = make_calls(rt, turn, gate, pass, task, program, run);
+    if !through {
+        return TaskJobEnd { pass, ended: false };
+    }
+    let ended = end_task(rt, turn, gate, &mut pass, task);
+    TaskJobEnd { pass, ended }
+}
+
+// Makes the calls of a program, and tells whether it came to its end.
+fn make_calls<R: Wait, G: Gate + Drop>(
+    rt: &R,
+    turn: &KernelTurn,
+    gate: &G,
+    pass: Pass,
+    task: u8,
+    program: &Program,
+    run: TaskRun,
+) -> (Pass, bool)
+    requires own { pass.table ≡ turn.now }
+    requires unused { pass.own ≡ [] }
+    requires small { pass.config.cycles ≤ MOST_CYCLES }
+    requires program { IsProgramOf pass.config program.now }
+    requires run { IsRun program.now run (first_state (lines_of program.now run)) }
+    requires task { run.task ≡ task }
+    ensures fixed { fixed_part result.0 ≡ fixed_part pass }
+    ensures owns { Owns (IsBy pass.config task) result.0.own result.0.seen }
+    ensures calls { AreCalls (own_entries result.0.own result.0.seen) }
+    ensures follows { TaskCalls (lines_of program.now run)
+        (logged_calls (own_entries result.0.own result.0.seen)) }
+    ensures through { result.1 ≡ true → IsEndedBy (lines_of program.now run)
+        (logged_calls (own_entries result.0.own result.0.seen)) }
+{
+    tasks_have_their_own_lines();
+    let mut run = run;
+    let mut caller = TurnCaller {
+        turn,
+        gate,
+        pass,
+        task,
+        asks_rest: false,
+        last: 0,
+        was_refused: false,
+    };
+    let through = run_task(rt, program, &mut run, &mut caller);
+    let TurnCaller { pass, .. } = caller;
+    (pass, through)
+}
+
+// Ends a task where there is room, and tells whether there was.
+fn end_task<R: Wait, G: Gate>(
+    rt: &R,
+    turn: &KernelTurn,
+    gate: &G,
+    pass: &mut Pass,
+    task: u8,
+) -> bool
+    requires own { pass.old.table ≡ turn.now }
+    requires task { task < length pass.old.config.tasks }
+    requires owns { Owns (IsBy pass.old.config task) pass.old.own pass.old.seen }
+    ensures fixed { fixed_part pass.new ≡ fixed_part pass.old }
+    ensures owns { Owns (IsBy pass.old.config task) pass.new.own pass.new.seen }
+    ensures ended { result ≡ true → (before : List Entry) ×
+        (own_entries pass.new.own pass.new.seen ≡ own_entries pass.old.own pass.old.seen ++
+        record { before = before; entry = end_of task } ∷ []) }
+    ensures refused { result ≡ false →
+        own_entries pass.new.own pass.new.seen ≡ own_entries pass.old.own pass.old.seen }
+{
+    gate.before(task);
+    let answer = turn.turn_end(rt, pass, task);
+    gate.after(task);
+    match answer {
+        Turn::Made { .. } => true,
+        Turn::Full { .. } => false,
+        Turn::Early { .. } => unreachable!(),
+    }
+}
