@@ -1,5 +1,5 @@
 -- Each cycle of a history is one of the entries that the cycles made.
-use Rattle.std.proofs.Common.{◌≡◌, ℕ, zero, suc, ◌+◌, ◌<◌, ◌≤◌, ◌++◌, ◌∷◌, [], List, length, Some, refl, sym, ap, ◌∙◌, arith, length-append}
+use Rattle.std.proofs.Common.{◌≡◌, ℕ, suc, ◌+◌, ◌<◌, ◌≤◌, ◌++◌, ◌∷◌, [], List, length, Some, ap, ◌∙◌, arith, length-append}
 use Rattle.std.specs.Prelude.{Bool, true, false, ◌==◌, slice_get}
 use Rattle.axis_state.specs.declared.definition.AxisRow.{AxisRow}
 use Rattle.drive_sim.specs.Sim.{DriveSim}

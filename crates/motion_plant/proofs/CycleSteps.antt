@@ -1,32 +1,24 @@
 -- A step of the loop of the cycles, and where it begins.
-use Rattle.std.proofs.Common.{◌≡◌, ℕ, zero, suc, ◌+◌, ◌<◌, ◌≤◌, List, [], ◌∷◌, ◌++◌, length, map, Option, Some, None, Bool, false, refl, sym, ap, ◌∙◌, subst, arith, append-nil, length-append, ◌⊎◌, ⊎_elim}
-use Rattle.std.specs.Prelude.{slice_get, slice_index_or}
-use Rattle.std.proofs.lemmas.Bool.{cases_lt as order}
-use Rattle.axis_state.specs.declared.definition.AxisRow.{AxisRow}
+use Rattle.std.proofs.Common.{◌≡◌, ℕ, zero, suc, ◌<◌, ◌≤◌, List, [], ◌∷◌, ◌++◌, length, map, refl, sym, ap, ◌∙◌, subst, arith}
+use Rattle.std.specs.Prelude.{slice_get}
 use Rattle.cia402_machine.specs.declared.drive.DriveIn.{DriveIn}
 use Rattle.cia402_machine.specs.declared.drive.DriveOut.{DriveOut}
 use Rattle.drive_jobs.specs.LineState.{LineState}
-use Rattle.group_state.specs.declared.state.GroupRow.{GroupRow}
 use Rattle.kernel_turn.specs.PassState.{PassState}
 use Rattle.machine_drives.specs.Drives.{outputs_in}
 use Rattle.motion_plant.specs.Calls.{fixed_part}
-use Rattle.motion_plant.specs.Cycling.{Cycled, EndsBy, IsCycle, IsCycled, IsCycling, MadeCycle, MadeNone}
+use Rattle.motion_plant.specs.Cycling.{Cycled, EndsBy, IsCycle, IsCycled, IsCycling, MadeCycle}
 use Rattle.motion_plant.specs.Driven.{IsAlive, cycle_with}
 use Rattle.motion_plant.specs.Lines.{HasColumn, IsInStep, entries_of, job_of, with_answer, with_output}
 use Rattle.motion_plant.specs.Makers.{IsUpTo, Logged, Owns, own_entries}
 use Rattle.motion_plant.specs.Places.{Each, zip_with}
-use Rattle.motion_history.specs.Columns.{no_row, rows_in}
-use Rattle.motion_history.specs.Entries.{Entry, call, cycle, end_of, cycles_of}
-use Rattle.motion_history.specs.Setup.{Setup}
-use Rattle.motion_kernel.specs.cycles.Cycles as machine
-use Rattle.motion_kernel.specs.Histories.{machine_after}
+use Rattle.motion_history.specs.Entries.{cycles_of}
 use Rattle.motion_kernel.specs.Tasks.{live_tasks}
 use Rattle.motion_plant.specs.declared.cycles.Ending.{Ending}
-use Rattle.motion_plant.specs.declared.cycles.Ending.TheVariants as endings
 use Rattle.motion_plant.specs.declared.cycles.Step.TheVariants as steps
 use Rattle.motion_plant.proofs.LoggedCalls.{entries_first, owns_first}
-use Rattle.motion_plant.proofs.Lists.{each_more, get_before, get_past, get_some, map_more, snoc_length}
-use Rattle.motion_plant.proofs.Zips.{zip_get, zip_kept, zip_length}
+use Rattle.motion_plant.proofs.Lists.{each_more, get_before, snoc_length}
+use Rattle.motion_plant.proofs.Zips.{zip_get, zip_length}
 use Rattle.motion_plant.proofs.InStep.{Taken, grown_in, grown_out, in_jobs, out_jobs, out_outs, out_ins, out_ended, outs_more, taken_each}
 
 module _ (first : PassState) (ls0 ls ls1 : List LineState) (made : ℕ) (k k' : PassState)

@@ -1,18 +1,17 @@
 -- What a cycle's turn leaves.
-use Rattle.std.proofs.Common.{◌≡◌, ◌≢◌, ℕ, zero, suc, ◌+◌, ◌<◌, ◌≤◌, ◌⊎◌, List, [], ◌∷◌, ◌++◌, length, Bool, true, false, refl, sym, ap, ◌∙◌, subst, arith, ⊎_elim}
-use Rattle.std.specs.Prelude.{◌||◌}
+use Rattle.std.proofs.Common.{◌≡◌, ◌≢◌, ℕ, List, [], ◌∷◌, ◌++◌, length, sym, ap, ◌∙◌, subst, arith, ⊎_elim}
 use Rattle.cia402_machine.specs.declared.drive.DriveIn.{DriveIn}
 use Rattle.cia402_machine.specs.declared.drive.DriveOut.{DriveOut}
-use Rattle.kernel_turn.specs.Events.{Makes, MakesEntry, cycle_of, outputs_of, quiet_of, with_entry}
+use Rattle.kernel_turn.specs.Events.{cycle_of, outputs_of, with_entry}
 use Rattle.kernel_turn.specs.PassState.{PassState}
 use Rattle.kernel_turn.specs.Turns.{CycleAnswered, FullOfEither}
 use Rattle.kernel_turn.specs.declared.turn.Turn.{Turn}
 use Rattle.kernel_turn.specs.declared.turn.Turn.TheVariants as turns
 use Rattle.motion_plant.specs.Calls.{fixed_part}
-use Rattle.motion_plant.specs.Cycling.{EndsBy, MadeCycle, MadeNone}
+use Rattle.motion_plant.specs.Cycling.{EndsBy, MadeCycle}
 use Rattle.motion_plant.specs.Driven.{cycle_with}
-use Rattle.motion_plant.specs.Makers.{IsUpTo, Owns, own_entries}
-use Rattle.motion_history.specs.Entries.{Entry, cycle_count, cycles_of}
+use Rattle.motion_plant.specs.Makers.{IsUpTo, Owns}
+use Rattle.motion_history.specs.Entries.{cycles_of}
 use Rattle.motion_history.specs.Setup.{Setup}
 use Rattle.motion_kernel.specs.KernelState.{KernelState}
 use Rattle.motion_kernel.specs.Tasks.{live_tasks, quiet_tasks}

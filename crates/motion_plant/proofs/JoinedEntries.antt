@@ -1,10 +1,10 @@
 -- The entries of joined tickets.
-use Rattle.std.proofs.Common.{◌≡◌, ℕ, zero, suc, ◌+◌, ◌<◌, ◌≤◌, List, [], ◌∷◌, ◌++◌, length, Bool, true, false, Option, Some, None, eq-eqb, eqb-true, refl, sym, ap, ◌∙◌, subst, arith, append_assoc, append-nil, ◌⊎◌, ⊎_elim}
+use Rattle.std.proofs.Common.{◌≡◌, ℕ, suc, ◌+◌, ◌<◌, ◌≤◌, List, [], ◌++◌, length, Bool, true, false, Some, eq-eqb, eqb-true, refl, sym, ap, ◌∙◌, subst, arith, append-nil, ⊎_elim}
 use Rattle.std.specs.Prelude.{slice_get, ◌&&◌, ◌==◌}
 use mathlib.Core.List.{IsPrefix}
 use Rattle.motion_history.specs.Entries.{Entry}
 use Rattle.motion_history.specs.Setup.{Setup}
-use Rattle.motion_plant.specs.Makers.{IsBy, IsUpTo, Logged, Owns, entries_by, entries_where, is_in, maker_of, own_entries, own_entries_by}
+use Rattle.motion_plant.specs.Makers.{IsBy, IsUpTo, Owns, entries_by, entries_where, is_in, maker_of, own_entries, own_entries_by}
 use Rattle.motion_plant.proofs.OwnEntries.{in_parts, in_left, in_right, no_true, same_true, where_more, where_same, where_none, entries_is, entries_prefix, owns_prefix}
 use Rattle.std.proofs.lemmas.Bool.{and_parts}
 use Rattle.motion_plant.proofs.Lists.{get_some}

@@ -1,5 +1,5 @@
 -- Stops, joins and the close, one by one.
-use Rattle.std.proofs.Common.{◌≡◌, ◌≢◌, ℕ, zero, suc, ◌+◌, ◌-◌, ◌<◌, ◌≤◌, List, [], ◌∷◌, ◌++◌, length, Bool, true, false, Option, Some, None, refl, sym, ap, ◌∙◌, subst, arith, append_assoc, append-nil, ◌⊎◌, ⊎_elim}
+use Rattle.std.proofs.Common.{◌≡◌, ℕ, zero, suc, ◌+◌, ◌<◌, ◌≤◌, List, [], ◌∷◌, ◌++◌, length, Bool, true, false, Some, refl, sym, ap, ◌∙◌, subst, arith, append_assoc, append-nil, ⊎_elim}
 use Rattle.std.specs.Prelude.{slice_get, ◌||◌, ◌==◌}
 use mathlib.Core.List.{IsPrefix}
 use Rattle.std.proofs.Common.{eq-eqb}
@@ -9,18 +9,17 @@ use Rattle.drive_jobs.specs.LineState.{LineState}
 use Rattle.kernel_turn.specs.PassState.{PassState}
 use Rattle.kernel_turn.specs.Times.{one, times, once_below}
 use Rattle.kernel_turn.specs.Turns.{IsFound, IsJoined, IsLawful, pass_after_stop}
-use Rattle.motion_plant.specs.Calls.{fixed_part}
-use Rattle.motion_plant.specs.Cycling.{EndsBy, IsCycle, IsCycled}
+use Rattle.motion_plant.specs.Cycling.{IsCycle, IsCycled}
 use Rattle.motion_plant.specs.Driven.{IsAlive}
 use Rattle.motion_plant.specs.Jobs.{job_lines}
-use Rattle.motion_plant.specs.Joined.{HasMade, IsJoinedUpTo, IsSeated, IsStopped, kept_part}
+use Rattle.motion_plant.specs.Joined.{HasMade, IsJoinedUpTo, IsStopped, kept_part}
 use Rattle.motion_plant.specs.Lines.{HasColumn}
 use Rattle.motion_plant.specs.Makers.{IsBy, IsUpTo, Logged, Owns, is_in, own_entries, own_entries_by}
 use Rattle.motion_plant.specs.Places.{Each}
 use Rattle.motion_plant.specs.TaskEnds.{TaskDone, TaskMade}
 use Rattle.motion_plant.proofs.OwnEntries.{entries_prefix, owns_prefix}
 use Rattle.motion_plant.proofs.JoinedEntries.{joined_new, joined_old, joined_owns, cycles_first}
-use Rattle.motion_history.specs.Entries.{Entry, cycles_of}
+use Rattle.motion_history.specs.Entries.{Entry}
 use Rattle.motion_history.specs.Setup.{Setup}
 use Rattle.motion_kernel.specs.KernelState.{KernelState}
 use Rattle.motion_plant.specs.declared.cycles.Ending.{Ending}

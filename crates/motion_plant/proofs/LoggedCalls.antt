@@ -1,10 +1,10 @@
 -- The calls among logged entries, entry by entry.
-use Rattle.std.proofs.Common.{◌≡◌, ℕ, suc, ◌+◌, ◌<◌, ◌≤◌, List, [], ◌∷◌, ◌++◌, map, Bool, true, false, refl, sym, ap, ◌∙◌, subst, arith, append_assoc, append-nil}
+use Rattle.std.proofs.Common.{◌≡◌, ℕ, ◌+◌, ◌≤◌, List, [], ◌∷◌, ◌++◌, map, Bool, true, false, refl, sym, ap, ◌∙◌, subst, arith, append_assoc, append-nil}
 use Rattle.fb_outputs.specs.declared.inputs.Inputs.{Inputs}
 use Rattle.fb_outputs.specs.declared.outputs.Outputs.{Outputs}
 use Rattle.motion_plant.specs.Calls.{AreCalls, calls_in, entry_of, fixed_part, logged_calls}
 use Rattle.motion_plant.specs.Makers.{IsBy, Logged, Owns, own_entries}
-use Rattle.motion_plant.specs.TaskEnds.{TaskDone, TaskMade, end_if}
+use Rattle.motion_plant.specs.TaskEnds.{TaskDone, TaskMade}
 use Rattle.motion_plant.proofs.OwnEntries.{entries_none, owns_none}
 use Rattle.motion_history.specs.Entries.{Entry, call, end_of, cycles_of}
 use Rattle.kernel_turn.specs.PassState.{PassState}

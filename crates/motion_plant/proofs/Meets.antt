@@ -1,5 +1,5 @@
 -- The joins and the close give the whole.
-use Rattle.std.proofs.Common.{◌≡◌, ℕ, zero, suc, ◌+◌, ◌<◌, ◌≤◌, List, [], ◌∷◌, ◌++◌, length, map, take, Option, Some, None, Bool, true, false, refl, sym, ap, ◌∙◌, subst, arith, append_assoc, append-nil, length-append, ◌⊎◌, inl, inr}
+use Rattle.std.proofs.Common.{◌≡◌, ℕ, suc, ◌+◌, ◌<◌, ◌≤◌, List, length, map, take, Option, Some, Bool, true, false, refl, sym, ap, ◌∙◌, subst, arith, length-append, inl, inr}
 use Rattle.std.specs.Prelude.{slice_get, ◌||◌}
 use mathlib.Core.List.{IsPrefix}
 use Rattle.std.specs.declared.snapshot.Snapshot.{Snapshot}
@@ -8,27 +8,25 @@ use Rattle.drive_jobs.specs.Log.{IsLogOf}
 use Rattle.drive_jobs.specs.LineState.{LineState}
 use Rattle.drive_jobs.specs.declared.drive_job.DriveJob.{DriveJob}
 use Rattle.drive_sim.specs.Runs.{answers_of, drive_after}
-use Rattle.drive_sim.specs.Sim.{DriveSim}
 use Rattle.drive_sim.specs.Steps.{answer_of}
 use Rattle.kernel_turn.specs.PassState.{PassState}
 use Rattle.kernel_turn.specs.Turns.{IsClosed}
 use Rattle.machine_drives.specs.Drives.{outputs_in}
-use Rattle.motion_plant.specs.Cycling.{EndsBy, IsCycle}
+use Rattle.motion_plant.specs.Cycling.{EndsBy}
 use Rattle.motion_plant.specs.Driven.{IsAlive, IsDriven, cycle_with}
 use Rattle.motion_plant.specs.Jobs.{job_lines, line_job}
-use Rattle.motion_plant.specs.Joined.{HasMade, IsJoinedUpTo, IsSeated, IsStopped, kept_part}
-use Rattle.motion_plant.specs.Lines.{HasColumn, IsLogAt, drive_of, ended_line, entries_of, job_of}
+use Rattle.motion_plant.specs.Joined.{HasMade, IsJoinedUpTo, IsSeated, IsStopped}
+use Rattle.motion_plant.specs.Lines.{IsLogAt, drive_of, ended_line, entries_of, job_of}
 use Rattle.motion_plant.specs.Makers.{Logged, entries_by, own_entries, own_entries_by}
 use Rattle.motion_plant.specs.Places.{Each}
 use Rattle.motion_plant.specs.Ran.{DriveMeets, EndsSo, PlantMeets}
 use Rattle.motion_plant.specs.TaskEnds.{TaskMade}
 use Rattle.motion_plant.proofs.JoinedEntries.{all_own}
-use Rattle.motion_history.specs.Entries.{Entry, cycles_of}
+use Rattle.motion_history.specs.Entries.{Entry}
 use Rattle.motion_history.specs.Setup.{Setup}
 use Rattle.motion_kernel.specs.Histories.{IsLegal}
 use Rattle.motion_kernel.specs.KernelState.{KernelState}
 use Rattle.motion_laws.specs.Laws.{KeepsLaws}
-use Rattle.motion_kernel.specs.Tasks.{live_tasks}
 use Rattle.atomic_table.specs.Seated.{TableId}
 use Rattle.motion_plant.specs.declared.plant_job.PlantJob.{PlantJob}
 use Rattle.motion_plant.specs.declared.plant_job.PlantJob.TheVariants as jobs_of

@@ -1,7 +1,6 @@
 -- The entries of tickets, entry by entry.
-use Rattle.std.proofs.Common.{◌≡◌, ◌≢◌, ℕ, zero, suc, ◌+◌, ◌<◌, ◌≤◌, List, [], ◌∷◌, ◌++◌, length, Bool, true, false, Option, Some, None, eqb, eq-eqb, eqb-true, refl, sym, ap, ◌∙◌, subst, arith, length-append, append_assoc, append-nil, ◌⊎◌, ⊎_elim, inl, inr}
-use Rattle.std.specs.Prelude.{slice_get, ◌||◌, ◌==◌, ◌&&◌}
-use Rattle.std.proofs.lemmas.Bool.{cases_lt as order}
+use Rattle.std.proofs.Common.{◌≡◌, ℕ, suc, ◌+◌, ◌<◌, ◌≤◌, List, [], ◌∷◌, ◌++◌, length, Bool, true, false, Some, eq-eqb, eqb-true, refl, sym, ap, ◌∙◌, subst, arith, length-append, append_assoc, append-nil, ◌⊎◌, ⊎_elim, inl, inr}
+use Rattle.std.specs.Prelude.{slice_get, ◌||◌, ◌==◌}
 use Rattle.motion_history.specs.Entries.{Entry}
 use Rattle.motion_plant.specs.Makers.{Logged, Owns, entries_where, is_in, own_entries, with_front}
 use Rattle.motion_plant.proofs.Lists.{get_before, get_some, snoc_length, some_is}

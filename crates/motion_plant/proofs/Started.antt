@@ -1,5 +1,5 @@
 -- What was started, one by one.
-use Rattle.std.proofs.Common.{◌≡◌, ℕ, suc, zero, ◌+◌, ◌<◌, ◌≤◌, List, [], ◌∷◌, ◌++◌, length, map, Option, Some, None, refl, sym, ap, ◌∙◌, subst, arith, append_assoc, append-nil, length-append}
+use Rattle.std.proofs.Common.{◌≡◌, ℕ, suc, ◌+◌, List, [], ◌∷◌, ◌++◌, length, map, Option, Some, refl, sym, ap, ◌∙◌, subst, arith, append_assoc, append-nil, length-append}
 use Rattle.std.specs.Prelude.{slice_get, false}
 use Rattle.std.specs.declared.snapshot.Snapshot.{Snapshot}
 use Rattle.atomic_table.specs.Seated.{TableId}
@@ -7,11 +7,11 @@ use Rattle.axis_state.specs.declared.definition.AxisDef.{AxisDef}
 use Rattle.drive_jobs.specs.LineState.{LineState}
 use Rattle.drive_sim.specs.Sim.{DriveSim}
 use Rattle.kernel_turn.specs.PassState.{PassState}
-use Rattle.machine_drives.specs.Drives.{drive_at_opening, drives_at_opening, outputs_in}
+use Rattle.machine_drives.specs.Drives.{drive_at_opening, drives_at_opening}
 use Rattle.motion_plant.specs.Driven.{IsDriven}
 use Rattle.motion_plant.specs.Jobs.{IsSeat, job_lines, line_job, seat_job}
 use Rattle.motion_plant.specs.Joined.{IsSeated}
-use Rattle.motion_plant.specs.Lines.{IsInStep, IsNewLine, drive_of, entries_of}
+use Rattle.motion_plant.specs.Lines.{IsInStep, IsNewLine, drive_of}
 use Rattle.motion_plant.specs.Makers.{entries_by}
 use Rattle.motion_plant.specs.Places.{Each}
 use Rattle.motion_plant.specs.Ran.{DriveMeets, PlantMeets, PlantRan}

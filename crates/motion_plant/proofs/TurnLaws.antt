@@ -1,18 +1,18 @@
 -- What a turn leaves.
-use Rattle.std.proofs.Common.{◌≡◌, ℕ, suc, ◌+◌, ◌<◌, ◌≤◌, List, [], ◌∷◌, ◌++◌, length, Bool, true, false, Option, Some, None, refl, sym, ap, ◌∙◌, subst, arith, append-nil}
+use Rattle.std.proofs.Common.{◌≡◌, ℕ, suc, ◌+◌, ◌≤◌, List, [], ◌∷◌, ◌++◌, length, Option, Some, None, refl, sym, ap, ◌∙◌, subst, arith, append-nil}
 use Rattle.std.specs.Prelude.{slice_get, IsSomeAnd}
 use mathlib.Core.List.{IsPrefix}
 use Rattle.fb_outputs.specs.declared.inputs.Inputs.{Inputs}
 use Rattle.fb_outputs.specs.declared.outputs.Outputs.{Outputs}
-use Rattle.kernel_turn.specs.Events.{CallTold, EndTold, Makes, MakesEntry, MakesNone, call_of, with_entry}
+use Rattle.kernel_turn.specs.Events.{call_of, with_entry}
 use Rattle.kernel_turn.specs.PassState.{PassState}
-use Rattle.kernel_turn.specs.Turns.{CallAnswered, EndAnswered, IsFound, TakesTurn, pass_after, tickets_of}
+use Rattle.kernel_turn.specs.Turns.{CallAnswered, EndAnswered, IsFound, pass_after}
 use Rattle.kernel_turn.specs.declared.turn.Turn.{Turn}
 use Rattle.kernel_turn.specs.declared.turn.Turn.TheVariants as turns
 use Rattle.motion_plant.specs.Calls.{fixed_part}
-use Rattle.motion_plant.specs.Makers.{IsBy, Logged, Owns, maker_of, own_entries, task_of}
+use Rattle.motion_plant.specs.Makers.{IsBy, Owns, own_entries, task_of}
 use Rattle.motion_plant.proofs.OwnEntries.{entries_prefix, entries_more, owns_prefix, owns_snoc}
-use Rattle.motion_history.specs.Entries.{Entry, call, cycle, end_of, cycle_count, cycles_of}
+use Rattle.motion_history.specs.Entries.{Entry, call, end_of, cycle_count, cycles_of}
 use Rattle.motion_history.specs.Setup.{Setup}
 use Rattle.motion_history.specs.declared.config.BlockDef.{BlockDef}
 use Rattle.motion_kernel.specs.KernelState.{KernelState}

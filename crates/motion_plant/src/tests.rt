@@ -52,15 +52,23 @@ fn machine(alloc: Global, cycles: u32, entries: u32) -> Result<Builder, Fail>
     Ok(builder)
 }
 
+// A drive without a lag and faults.
+fn plain_drive(alloc: Global) -> DriveDef
+    ensures { IsDrive result }
+{
+    DriveDef {
+        lag: 0,
+        faults: FaultList::new(alloc),
+    }
+}
+
 // The drives of two axes.
 fn two_drives(alloc: Global) -> Result<DriveDefs, Fail>
     ensures { IfOk result (λ drives. All IsDrive drives) }
 {
     let mut drives = DriveDefs::new(alloc);
-    let faults = FaultList::new(alloc);
-    drives.push(DriveDef { lag: 0, faults })?;
-    let faults = FaultList::new(alloc);
-    drives.push(DriveDef { lag: 0, faults })?;
+    drives.push(plain_drive(alloc))?;
+    drives.push(plain_drive(alloc))?;
     Ok(drives)
 }
 
@@ -108,16 +116,17 @@ fn expect_whole<H: Host + Wait + Abort, G: Gate + Drop + Send + 'static>(
     Ok(())
 }
 
-// How a run of the machine ends that has so many cycles and entries.
-fn expect_ending(
-    rt: HostRuntime,
+// A run of the machine with so many cycles and entries ends so.
+fn expect_ending<H: Host + Wait + Abort>(
+    rt: &H,
+    alloc: Global,
     cycles: u32,
     entries: u32,
     ending: RunEnding,
 ) -> Result<(), Fail> {
-    let setup = plant(rt.alloc(), cycles, entries)?;
-    let mut spawner = Spawner::new(rt, rt.alloc());
-    let Ok(end) = run_plant(&rt, rt.alloc(), &setup, &mut spawner, &OpenGate) else {
+    let setup = plant(alloc, cycles, entries)?;
+    let mut spawner = Spawner::new(*rt, alloc);
+    let Ok(end) = run_plant(rt, alloc, &setup, &mut spawner, &OpenGate) else {
         return Err("a run".into());
     };
     assert_eq!(rt; ending_of(&end.kernel), ending);
@@ -155,6 +164,6 @@ fn a_refused_start_ends_what_was_started(rt: HostRuntime) -> Result<(), Fail> {
 
 #[test]
 fn cycles_and_room_may_be_spent(rt: HostRuntime) -> Result<(), Fail> {
-    expect_ending(rt, 20, 20_000, RunEnding::CyclesOver)?;
-    expect_ending(rt, 2_000, 10, RunEnding::HistoryFull)
+    expect_ending(&rt, rt.alloc(), 20, 20_000, RunEnding::CyclesOver)?;
+    expect_ending(&rt, rt.alloc(), 2_000, 10, RunEnding::HistoryFull)
 }

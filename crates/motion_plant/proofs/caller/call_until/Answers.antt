@@ -1,6 +1,6 @@
 -- The call is made in a turn, or the kernel is full.
-use Rattle.std.proofs.Common.{rules, ◌≡◌, ◌≤◌, ◌++◌, ◌∷◌, [], sym, ap, ◌∙◌, refl, arith}
-use Rattle.motion_plant.proofs.TurnLaws.{call_came, call_spent, call_again, left_first}
+use Rattle.std.proofs.Common.{arith}
+use Rattle.motion_plant.proofs.TurnLaws.{call_came, call_spent, call_again}
 use Rattle.motion_plant.proofs.caller.call_until.Goals as goal
 
 pub returns-in-Made-clause-owns : goal.returns-in-Made-clause-owns

@@ -1,5 +1,4 @@
 -- As long as a call comes too early, nothing is made.
-use Rattle.std.proofs.Common.{◌≡◌}
 use Rattle.motion_plant.specs.Makers.{IsBy, Owns}
 use Rattle.motion_plant.proofs.TurnLaws.{LeavesAll}
 use Rattle.motion_plant.proofs.caller.call_until.Given as goal

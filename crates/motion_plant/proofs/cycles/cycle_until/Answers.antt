@@ -1,7 +1,6 @@
 -- The cycle is made in a turn, or none is left, or the kernel is full.
-use Rattle.std.proofs.Common.{rules, ◌≡◌, refl, ap, ◌∙◌, sym, arith}
+use Rattle.std.proofs.Common.{rules}
 use Rattle.motion_plant.proofs.CycleTurns.{cycle_made, cycle_over, cycle_full, cycle_none}
-use Rattle.motion_plant.proofs.TurnLaws.{left_first}
 use Rattle.motion_plant.proofs.cycles.cycle_until.Goals as goal
 
 pub returns-in-Made-clause-owns : goal.returns-in-Made-clause-owns

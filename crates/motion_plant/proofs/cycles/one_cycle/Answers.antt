@@ -1,5 +1,5 @@
 -- A step of the loop, by what the turns came to.
-use Rattle.std.proofs.Common.{rules, ◌≡◌, length, refl, ap, ◌∙◌, sym, arith, subst}
+use Rattle.std.proofs.Common.{◌≡◌, length, ap, ◌∙◌, sym, subst}
 use Rattle.kernel_turn.specs.PassState.{PassState}
 use Rattle.motion_plant.specs.Cycling.{EndsBy, MadeCycle}
 use Rattle.motion_plant.specs.Lines.{with_answer}

@@ -1,8 +1,7 @@
 -- The output of one line more goes in.
-use Rattle.std.proofs.Common.{rules, ◌≡◌, ap, ◌∙◌, sym, subst, arith, ◌++◌, take, drop}
-use Rattle.std.specs.Prelude.{slice_get, slice_set}
+use Rattle.std.proofs.Common.{rules, ap, ◌∙◌, sym}
+use Rattle.std.specs.Prelude.{slice_get}
 use Rattle.motion_plant.specs.Lines.{with_output}
-use Rattle.motion_plant.specs.Places.{zip_with}
 use Rattle.motion_plant.proofs.Zips.{zip_over, zip_here}
 use Rattle.motion_plant.proofs.Lists.{get_there, get_at}
 use Rattle.motion_plant.proofs.cycles.push_all.Goals as goal

@@ -1,5 +1,5 @@
 -- The line gets its next output.
-use Rattle.std.proofs.Common.{rules, ◌≡◌, ap, ◌∙◌, sym}
+use Rattle.std.proofs.Common.{ap, ◌∙◌, sym}
 use Rattle.std.specs.Prelude.{slice_set}
 use Rattle.motion_plant.specs.Lines.{with_output}
 use Rattle.motion_plant.proofs.Lists.{get_or_at, some_is}

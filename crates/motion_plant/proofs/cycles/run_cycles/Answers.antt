@@ -1,5 +1,5 @@
 -- No cycle so far.
-use Rattle.std.proofs.Common.{rules, ◌≡◌, arith}
+use Rattle.std.proofs.Common.{arith}
 use Rattle.motion_plant.proofs.CycleSteps.{cycling_first}
 use Rattle.motion_plant.proofs.cycles.run_cycles.Goals as goal
 

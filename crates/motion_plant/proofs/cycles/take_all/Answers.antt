@@ -1,8 +1,7 @@
 -- The answer of one line more is taken.
-use Rattle.std.proofs.Common.{rules, ◌≡◌, ap, ◌∙◌, sym, subst, arith, ◌++◌, take, drop}
-use Rattle.std.specs.Prelude.{slice_get, slice_set}
+use Rattle.std.proofs.Common.{rules, ap, ◌∙◌}
+use Rattle.std.specs.Prelude.{slice_get}
 use Rattle.motion_plant.specs.Lines.{with_answer}
-use Rattle.motion_plant.specs.Places.{zip_with}
 use Rattle.motion_plant.proofs.Zips.{zip_set, zip_here}
 use Rattle.motion_plant.proofs.Lists.{get_there, length_set}
 use Rattle.motion_plant.proofs.cycles.take_all.Goals as goal

@@ -1,5 +1,5 @@
 -- One line more is told of its end.
-use Rattle.std.proofs.Common.{rules, ◌≡◌, ap, ◌∙◌, sym, refl, length, arith}
+use Rattle.std.proofs.Common.{rules, ap, ◌∙◌}
 use Rattle.std.specs.Prelude.{slice_set}
 use Rattle.motion_plant.specs.Lines.{ended_line}
 use Rattle.motion_plant.proofs.Lists.{get_or_at, map_set, map_length}

@@ -1,5 +1,5 @@
 -- What was started has stood still until it is joined, and the close gives the whole.
-use Rattle.std.proofs.Common.{rules, ◌≡◌, ◌+◌, length, refl, ap, ◌∙◌, sym, arith, subst}
+use Rattle.std.proofs.Common.{length, ap, ◌∙◌, sym, arith, subst}
 use Rattle.kernel_turn.specs.PassState.{PassState}
 use Rattle.motion_plant.specs.Lines.{ended_line}
 use Rattle.motion_plant.specs.Makers.{IsUpTo, Owns}

@@ -1,5 +1,5 @@
 -- A stop behind the last cycle makes no entry.
-use Rattle.std.proofs.Common.{rules, ◌≡◌, subst, sym}
+use Rattle.std.proofs.Common.{subst, sym}
 use Rattle.motion_plant.specs.Cycling.{IsCycled}
 use Rattle.motion_plant.specs.Joined.{IsStopped}
 use Rattle.motion_plant.proofs.JoinedPasses.{stopped_over}

@@ -1,5 +1,5 @@
 -- One task more is joined.
-use Rattle.std.proofs.Common.{rules, ◌≡◌, ◌+◌, ◌≤◌, length, refl, ap, ◌∙◌, sym, arith, None, Some}
+use Rattle.std.proofs.Common.{rules, ◌+◌, ap, ◌∙◌, arith, None}
 use Rattle.std.specs.Prelude.{slice_get}
 use Rattle.outside.specs.Started.{Started}
 use Rattle.motion_plant.proofs.Lists.{get_or_at, get_else}

@@ -1,5 +1,5 @@
 -- The jobs of the drives are those that were started.
-use Rattle.std.proofs.Common.{rules, ◌≡◌, refl}
+use Rattle.std.proofs.Common.{refl}
 use Rattle.motion_plant.proofs.Meets.{still_started}
 use Rattle.motion_plant.proofs.give_up.give_up.Goals as goal
 

@@ -1,6 +1,6 @@
 -- The log of one line more is had.
-use Rattle.std.proofs.Common.{rules, ◌≡◌, ◌≢◌, ◌+◌, ◌≤◌, length, refl, ap, ◌∙◌, sym, arith, subst, None, Some}
-use Rattle.std.specs.Prelude.{slice_get, slice_set}
+use Rattle.std.proofs.Common.{rules, ◌≡◌, ◌+◌, length, ap, ◌∙◌, sym, arith, subst, None}
+use Rattle.std.specs.Prelude.{slice_get}
 use Rattle.outside.specs.Started.{Started}
 use Rattle.motion_plant.specs.Lines.{IsLogAt}
 use Rattle.motion_plant.specs.Places.{Each}

@@ -1,6 +1,6 @@
 -- The pass of one task more is joined.
-use Rattle.std.proofs.Common.{rules, ◌≡◌, ◌≢◌, ◌+◌, ◌≤◌, ◌<◌, suc, ℕ, length, refl, ap, ◌∙◌, sym, arith, subst, None, Some}
-use Rattle.std.specs.Prelude.{slice_get, slice_set}
+use Rattle.std.proofs.Common.{rules, ◌≡◌, ◌+◌, ◌<◌, suc, length, refl, ap, ◌∙◌, arith, subst, None}
+use Rattle.std.specs.Prelude.{slice_get}
 use Rattle.outside.specs.Started.{Started}
 use Rattle.kernel_turn.specs.PassState.{PassState}
 use Rattle.motion_plant.specs.Jobs.{job_lines}

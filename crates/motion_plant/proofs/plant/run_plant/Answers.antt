@@ -1,10 +1,8 @@
 -- What was started stands from the first number on; and the run is that of the machine.
-use Rattle.std.proofs.Common.{rules, ◌≡◌, ◌+◌, ◌++◌, refl, ap, ◌∙◌, sym, arith, subst, [], length, map, append-nil}
+use Rattle.std.proofs.Common.{rules, ◌++◌, ap, ◌∙◌, sym, arith, subst, [], length, map, append-nil}
 use Rattle.std.specs.Arc.{arc_value}
-use Rattle.axis_state.specs.declared.definition.AxisDef.{AxisDef}
 use Rattle.kernel_turn.specs.PassState.{PassState}
 use Rattle.motion_history.specs.Setup.{Setup}
-use Rattle.motion_history.specs.declared.drives.DriveDef.{DriveDef}
 use Rattle.motion_plant.specs.Jobs.{seat_job}
 use Rattle.motion_plant.specs.Lines.{IsNewLine}
 use Rattle.motion_plant.specs.Places.{Each}

@@ -1,5 +1,5 @@
 -- One drive more is started; it can be opened.
-use Rattle.std.proofs.Common.{rules, ◌≡◌, ◌+◌, ap, ◌∙◌, sym, arith}
+use Rattle.std.proofs.Common.{rules, ◌∙◌}
 use Rattle.motion_plant.proofs.Lists.{get_or_at}
 use Rattle.motion_plant.proofs.Opening.{can_open}
 use Rattle.motion_plant.proofs.Started.{line_more, started_more}

@@ -1,5 +1,5 @@
 -- The drives so far were started, each with a line that is new.
-use Rattle.std.proofs.Common.{◌≡◌, ◌≤◌, ◌+◌, ◌++◌, length, map}
+use Rattle.std.proofs.Common.{◌≡◌, ◌≤◌, ◌++◌, map}
 use Rattle.std.specs.Prelude.{vec_len, vec_capacity}
 use Rattle.motion_plant.specs.Jobs.{line_job}
 use Rattle.motion_plant.specs.Lines.{IsNewLine}

@@ -1,6 +1,5 @@
 -- One task more is started.
-use Rattle.std.proofs.Common.{rules, ◌≡◌, suc, ◌+◌, ap, ◌∙◌, sym, arith}
-use Rattle.kernel_turn.specs.PassState.{PassState}
+use Rattle.std.proofs.Common.{rules, ◌≡◌, suc, ◌+◌, ap, ◌∙◌, arith}
 use Rattle.kernel_turn.specs.Turns.{pass_after_split}
 use Rattle.motion_plant.proofs.Started.{seat_more, started_more}
 use Rattle.motion_plant.specs.Jobs.{seat_job}

@@ -1,5 +1,5 @@
 -- The tasks so far were started, each by a pass of its own.
-use Rattle.std.proofs.Common.{◌≡◌, ◌≤◌, ◌+◌, ◌++◌, length, map}
+use Rattle.std.proofs.Common.{◌≡◌, ◌≤◌, ◌++◌, map}
 use Rattle.std.specs.Prelude.{vec_len, vec_capacity}
 use Rattle.std.specs.Arc.{arc_value}
 use Rattle.motion_plant.specs.Jobs.{IsSeat, seat_job}

@@ -1,5 +1,4 @@
 -- The end of a task is made in a turn, or the kernel is full.
-use Rattle.std.proofs.Common.{rules, ◌≡◌, refl}
 use Rattle.motion_plant.proofs.TurnLaws.{end_made, end_full}
 use Rattle.motion_plant.proofs.task_job.end_task.Goals as goal
 

@@ -1,5 +1,5 @@
 -- A caller that has made nothing makes the calls of a program.
-use Rattle.std.proofs.Common.{rules, ◌≡◌, [], refl, sym, ap, subst, ◌∙◌, arith}
+use Rattle.std.proofs.Common.{refl, sym, ap, subst, arith}
 use Rattle.std.specs.List.{AllByRecursion}
 use Rattle.motion_plant.specs.Calls.{AreCalls, logged_calls}
 use Rattle.motion_plant.specs.Makers.{IsBy}

@@ -1,5 +1,5 @@
 -- A program came to its end, and its task ended where there was room.
-use Rattle.std.proofs.Common.{rules, ◌≡◌, refl}
+use Rattle.std.proofs.Common.{rules}
 use Rattle.motion_plant.proofs.LoggedCalls.{task_done}
 use Rattle.motion_plant.proofs.task_job.run_program.Goals as goal
 

@@ -1,11 +1,9 @@
 -- A call that was made is the next of the task, and comes late enough.
-use Rattle.std.proofs.Common.{rules, ◌≡◌, ◌≤◌, ◌+◌, ◌++◌, ◌∷◌, [], true, false, refl, sym, ap, subst, ◌∙◌, arith}
+use Rattle.std.proofs.Common.{◌≡◌, false, sym, ap, subst, ◌∙◌, arith}
 use Rattle.kernel_turn.specs.PassState.{PassState}
-use Rattle.motion_plant.specs.Calls.{logged_calls}
-use Rattle.motion_plant.specs.Makers.{IsBy, Owns, own_entries}
+use Rattle.motion_plant.specs.Makers.{IsBy, Owns}
 use Rattle.motion_history.specs.Setup.{Setup}
 use Rattle.motion_plant.proofs.LoggedCalls.{last_call, may_follow, one_call, still_calls}
-use Rattle.task_run.specs.Callers.{cycles_from}
 use Rattle.motion_plant.proofs.caller.TurnCallerCaller.call.Goals as goal
 
 pub invariant_of-self : goal.invariant_of-self
