@@ -9,6 +9,7 @@ use Rattle.bench_run.specs.declared.bench.RunFault.{RunFault}
 use Rattle.bench_text.specs.BenchState.{BenchState, BrakesAsItSpeedsUp, IsBench}
 use Rattle.bench_text.specs.Reading.{ReadsBy, bench_of}
 use Rattle.drive_sim.specs.Sim.{DriveSim}
+use Rattle.job_ends.specs.Causes.{is_traced}
 use Rattle.job_ends.specs.Ends.{EndsBy, status_by}
 use Rattle.job_ends.specs.Follows.{FollowPlans}
 use Rattle.job_ends.specs.Plans.{Plan, plan_of_reading, refused_plan}
@@ -27,7 +28,7 @@ use Rattle.trace_text.specs.writing.Writes.{Output, Writes}
 use Rattle.trace_text.specs.declared.command.Command.TheVariants as command
 use Rattle.trace_text.specs.declared.writing.write.TraceFault.{TraceFault}
 use Rattle.bench_job.specs.Ends.{EndsByBench}
-use Rattle.bench_job.specs.Headline.{RunsBy, is_traced}
+use Rattle.bench_job.specs.Headline.{RunsBy}
 use Rattle.bench_job.specs.Plans.{bench_plan, drive_ends, plan_of_bench, status_of}
 use Rattle.bench_job.proofs.CauseLaws.{ends-for}
 use Rattle.bench_job.proofs.HeadlineLaws.{headline-of}

@@ -5,7 +5,7 @@ use Rattle.bench_run.specs.InStep.{IsInStep}
 use Rattle.bench_run.specs.Run.{run_of}
 use Rattle.bench_text.specs.BenchState.{BenchState}
 use Rattle.bench_text.specs.Reading.{bench_of}
-use Rattle.job_ends.specs.Causes.{is_fault}
+use Rattle.job_ends.specs.Causes.{is_fault, is_traced}
 use Rattle.job_ends.specs.Ends.{EndsBy}
 use Rattle.job_ends.specs.Follows.{FollowPlans}
 use Rattle.job_ends.specs.Plans.{plan_of_reading}
@@ -16,7 +16,7 @@ use Rattle.motion_history.specs.Entries.{cycles_of}
 use Rattle.motion_history.specs.declared.refused.TextRefused.{TextRefused}
 use Rattle.outside.specs.Told.{FileMap, HasFile}
 use Rattle.trace_text.specs.writing.Writes.{Output}
-use Rattle.bench_job.specs.Headline.{Headline, RunsBy, is_traced}
+use Rattle.bench_job.specs.Headline.{Headline, RunsBy}
 use Rattle.bench_job.specs.Plans.{bench_plan, drive_ends, plan_of_bench}
 
 -- a status that stands for a trace is no fault

@@ -1,12 +1,12 @@
 -- How the job ends. This project's profile.
 use Rattle.std.specs.Prelude.{◌≡◌, ℕ, true, Option, Ok, List}
 use Rattle.bench_text.specs.Reading.{bench_of}
-use Rattle.job_ends.specs.Causes.{EndsFor}
+use Rattle.job_ends.specs.Causes.{EndsFor, is_traced}
 use Rattle.job_ends.specs.declared.status.Status.{Status}
 use Rattle.outside.specs.Told.{FileMap, HasFile}
 use Rattle.trace_text.specs.writing.Writes.{Output}
 use Rattle.bench_job.specs.Causes.{BenchCause}
-use Rattle.bench_job.specs.Headline.{Headline, RunsBy, is_traced}
+use Rattle.bench_job.specs.Headline.{Headline, RunsBy}
 use Rattle.bench_job.specs.Plans.{bench_plan}
 
 -- it ended by the plan of the text, for its cause; and where the status stands for a trace, the run

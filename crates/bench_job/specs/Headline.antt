@@ -1,13 +1,13 @@
 -- What the trace of a bench stands for. This project's profile.
-use Rattle.std.specs.Prelude.{◌≡◌, ℕ, Bool, true, false, Option, Ok, List, map}
+use Rattle.std.specs.Prelude.{◌≡◌, ℕ, true, Option, Ok, List, map}
 use Rattle.std.specs.Io.KnownBytes.{Appends}
 use Rattle.bench_run.specs.InStep.{TakesAnswers, drives_of}
 use Rattle.bench_run.specs.LegalRun.{IsLegalRun}
 use Rattle.bench_run.specs.Run.{run_of}
 use Rattle.bench_text.specs.BenchState.{BenchState}
 use Rattle.bench_text.specs.Reading.{bench_of}
+use Rattle.job_ends.specs.Causes.{is_traced}
 use Rattle.job_ends.specs.declared.status.Status.{Status}
-use Rattle.job_ends.specs.declared.status.Status.TheVariants as status
 use Rattle.machine_drives.specs.Drives.{drive_end}
 use Rattle.motion_history.specs.Entries.{Entry, cycles_of}
 use Rattle.motion_kernel.specs.Histories.{IsLegal}
@@ -16,13 +16,6 @@ use Rattle.outside.specs.Told.{FileMap, HasFile}
 use Rattle.trace_text.specs.Trace.{trace_text}
 use Rattle.trace_text.specs.declared.command.Command.TheVariants.{Bench}
 use Rattle.trace_text.specs.declared.drive_end.DriveEndRow.{DriveEndRow}
-
--- the statuses that stand for the trace of a bench
-abbrev pub is_traced : Status → Bool
-is_traced status.Ok = true
-is_traced status.CyclesOver = true
-is_traced status.HistoryFull = true
-is_traced _ = false
 
 -- where the status stands for a trace, the run of the bench that was read is legal
 abbrev pub RunsBy : (BenchState → Type 0) → Status → Type 0

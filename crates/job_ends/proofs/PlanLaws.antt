@@ -1,5 +1,5 @@
 -- What plans say of ends.
-use Rattle.std.specs.Prelude.{◌≡◌, ◌⊎◌, refl, ℕ, true, false, Option, Result, Ok, Err, List, IfOk}
+use Rattle.std.specs.Prelude.{◌≡◌, ◌≢◌, ◌⊎◌, refl, ℕ, true, false, Option, Result, Ok, Err, List, IfOk}
 use Rattle.std.specs.Io.KnownBytes.{Appends}
 use Rattle.std.specs.declared.alloc.AllocError.{AllocError}
 use Rattle.std.proofs.Common.{Vec, Global, ◌∙◌, inl, inr, sym, ap, subst}
@@ -9,7 +9,7 @@ use Rattle.outside.specs.declared.files.FilesFault.TheVariants as files
 use Rattle.trace_text.specs.writing.Writes.{Output, Writes, WritesPrefix}
 use Rattle.trace_text.specs.declared.writing.write.TraceFault.{TraceFault}
 use Rattle.trace_text.specs.declared.writing.write.TraceFault.TheVariants as fault
-use Rattle.job_ends.specs.Causes.{is_fault}
+use Rattle.job_ends.specs.Causes.{ComesExactly, is_fault}
 use Rattle.job_ends.specs.Ends.{EndsBy, EndsEarly, EndsUnread, Says, status_by}
 use Rattle.job_ends.specs.Plans.{Plan, too_long_plan, unread_plan}
 use Rattle.job_ends.specs.declared.status.Status.{Status}
@@ -62,6 +62,52 @@ whole-by old new text p s (Err fault.OutOfMemory) ws e f =
 pub whole : (old new : Output) (plan : Plan) (s : Status) → EndsBy old new plan s →
     is_fault s ≡ false → (s ≡ plan.status) × Appends old.told new.told plan.text
 whole old new plan s e = whole-by old new plan.text plan.status s e.written e.writes e.status
+
+-- a status that is no fault comes exactly where it is the plan's
+comes-by : (s p wanted : Status) (R : Type 0) →
+    (s ≡ p) ⊎ (((s ≡ status.WriteFault) × R) ⊎ (s ≡ status.OutOfMemory)) →
+    is_fault wanted ≡ false → ComesExactly s wanted (p ≡ wanted)
+comes-by s p wanted R (inl e) f = record { only = λ h. sym e ∙ h; always = λ h. inl (e ∙ h) }
+comes-by s p wanted R (inr (inl e)) f = record {
+  only = λ h. absurd (let bad : true ≡ false = sym (ap is_fault e.0) ∙ ap is_fault h ∙ f in cc);
+  always = λ h. inr (ap is_fault e.0);
+}
+comes-by s p wanted R (inr (inr e)) f = record {
+  only = λ h. absurd (let bad : true ≡ false = sym (ap is_fault e) ∙ ap is_fault h ∙ f in cc);
+  always = λ h. inr (ap is_fault e);
+}
+
+pub comes : (old new : Output) (plan : Plan) (s wanted : Status) → EndsBy old new plan s →
+    is_fault wanted ≡ false → ComesExactly s wanted (plan.status ≡ wanted)
+comes old new plan s wanted e =
+    comes-by s plan.status wanted (Rose old.count new.count) (statuses old new plan s e)
+
+-- a status that neither writing nor want of memory brings is the plan's
+only-by : (s p wanted : Status) (R : Type 0) →
+    (s ≡ p) ⊎ (((s ≡ status.WriteFault) × R) ⊎ (s ≡ status.OutOfMemory)) → s ≡ wanted →
+    wanted ≢ status.WriteFault → wanted ≢ status.OutOfMemory → p ≡ wanted
+only-by s p wanted R (inl e) h w m = sym e ∙ h
+only-by s p wanted R (inr (inl e)) h w m = absurd (w (sym h ∙ e.0))
+only-by s p wanted R (inr (inr e)) h w m = absurd (m (sym h ∙ e))
+
+pub only : (old new : Output) (plan : Plan) (s wanted : Status) → EndsBy old new plan s →
+    s ≡ wanted → wanted ≢ status.WriteFault → wanted ≢ status.OutOfMemory → plan.status ≡ wanted
+only old new plan s wanted e =
+    only-by s plan.status wanted (Rose old.count new.count) (statuses old new plan s e)
+
+-- WriteFault comes where the count of faults rose
+write-by : (s p : Status) (R : Type 0) →
+    (s ≡ p) ⊎ (((s ≡ status.WriteFault) × R) ⊎ (s ≡ status.OutOfMemory)) → p ≢ status.WriteFault →
+    s ≡ status.WriteFault → R
+write-by s p R (inl e) other h = absurd (other (sym e ∙ h))
+write-by s p R (inr (inl e)) other h = e.1
+write-by s p R (inr (inr e)) other h =
+    absurd (let bad : status.OutOfMemory ≡ status.WriteFault = sym e ∙ h in cc)
+
+pub write : (old new : Output) (plan : Plan) (s : Status) → EndsBy old new plan s →
+    plan.status ≢ status.WriteFault → s ≡ status.WriteFault → Rose old.count new.count
+write old new plan s e =
+    write-by s plan.status (Rose old.count new.count) (statuses old new plan s e)
 
 -- why a file wasn't read was said
 pub unread-said : (word : ℕ) (name : List ℕ) (f : FilesFault) (old new : Output) (s : Status) →

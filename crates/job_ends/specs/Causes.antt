@@ -1,5 +1,5 @@
 -- Why a job ends with its status. This project's profile.
-use Rattle.std.specs.Prelude.{◌≡◌, ℕ, Bool, true, false, Option, Some, None, Result, Ok, Err}
+use Rattle.std.specs.Prelude.{◌≡◌, ◌⊎◌, ℕ, Bool, true, false, Option, Some, None, Result, Ok, Err}
 use Rattle.motion_history.specs.declared.refused.Rule.{Rule}
 use Rattle.motion_history.specs.declared.refused.TextRefused.{TextRefused}
 use Rattle.trace_text.specs.writing.Writes.{Output}
@@ -23,6 +23,18 @@ is_told (status.TooLong word) = false
 is_told status.WriteFault = false
 is_told status.OutOfMemory = false
 is_told _ = true
+
+-- the statuses that stand for the trace of a run
+abbrev pub is_traced : Status → Bool
+is_traced status.Ok = true
+is_traced status.CyclesOver = true
+is_traced status.HistoryFull = true
+is_traced _ = false
+
+-- a status comes only where its cause is, and there always, but where a fault comes in its place
+pub record ComesExactly (s wanted : Status) (Cause : Type 0) : Type 0 where
+  pub only : s ≡ wanted → Cause
+  pub always : Cause → (s ≡ wanted) ⊎ (is_fault s ≡ true)
 
 -- a reading's refusal, if it is refused
 abbrev pub refusal_by : {A : Type 0} → Result A TextRefused → Option TextRefused

@@ -1,5 +1,6 @@
 pub mod Plans
 pub mod Ends
+pub mod Files
 pub mod Follows
 pub mod Causes
 pub mod Exits

@@ -1,11 +1,13 @@
 //! How a job of the program ends: its status, and what is said in place of its text.
 #![tactic(auto)]
 
+mod files;
 mod laws;
 mod lines;
 mod saying;
 mod status;
 
+pub use files::read_text;
 pub use laws::ends_follow_plans;
 pub use lines::joined;
 pub use outside::{Files, FilesFault, OutOfMemory, Sink};
