@@ -1,0 +1,4 @@
+pub mod WordList
+pub mod Args
+pub mod Seeds
+pub mod Requests

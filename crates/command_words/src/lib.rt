@@ -1,0 +1,13 @@
+//! The words of a call of the program `motion`, and what they ask for.
+#![tactic(auto)]
+
+mod request;
+mod seed;
+mod words;
+
+pub use out_of_memory::OutOfMemory;
+pub use request::{Job, Request, asked};
+pub use words::{Words, words_from};
+
+#[cfg(test)]
+mod tests;
