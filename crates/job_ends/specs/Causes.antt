@@ -15,12 +15,13 @@ is_fault status.WriteFault = true
 is_fault status.OutOfMemory = true
 is_fault _ = false
 
--- whether a job may end so by what it was given: not by its words, its files or a fault
+-- whether a job may end so by what it was given: not by its words, its files, a thread or a fault
 abbrev pub is_told : Status → Bool
 is_told status.Usage = false
 is_told (status.ReadFault word) = false
 is_told (status.TooLong word) = false
 is_told status.WriteFault = false
+is_told status.ThreadRefused = false
 is_told status.OutOfMemory = false
 is_told _ = true
 

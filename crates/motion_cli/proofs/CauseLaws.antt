@@ -1,24 +1,26 @@
 -- Each status comes of its cause, whatever was asked.
-use Rattle.std.specs.Prelude.{◌≡◌, ◌≢◌, ◌⊎◌, refl, ℕ, true, false, Option, Some, None, IsSome, IsSomeAnd, List}
+use Rattle.std.specs.Prelude.{◌≡◌, ◌≢◌, ◌⊎◌, refl, ℕ, true, false, Option, Some, None, IsSome, IsSomeAnd, Err, List}
 use Rattle.std.specs.Option.{option_and_then}
 use Rattle.std.proofs.Common.{◌∙◌, inl, inr, sym, ap}
 use Rattle.bench_job.specs.Causes.{BenchCause, HasRoomFor}
-use Rattle.job_ends.specs.Causes.{is_fault, is_told}
+use Rattle.job_ends.specs.Causes.{ComesExactly, is_fault, is_told}
 use Rattle.job_ends.specs.Ends.{EndsBy, EndsEarly}
 use Rattle.job_ends.specs.Follows.{FollowPlans}
 use Rattle.job_ends.specs.declared.status.Status.{Status}
 use Rattle.job_ends.specs.declared.status.Status.TheVariants as status
 use Rattle.load_job.specs.Ends.{LoadCause, load_plan}
+use Rattle.motion_history.specs.declared.refused.TextRefused.{TextRefused}
 use Rattle.outside.specs.Told.{FileMap}
+use Rattle.run_job.specs.Causes.{is_of_run}
 use Rattle.trace_text.specs.writing.Writes.{Output}
 use Rattle.motion_cli.proofs.FileLaws.{found-comes, found-long}
-use Rattle.motion_cli.proofs.PlanLaws.{comes, comes-by-plan, faulted, not-told, same-cause, told-unfaulted}
-use Rattle.motion_cli.specs.Causes.{Asks, ComesExactly, HasRoom, IsDone, IsTooLong, LeadsTo}
+use Rattle.motion_cli.proofs.PlanLaws.{comes, faulted, not-told, same-cause, told-unfaulted}
+use Rattle.motion_cli.specs.Causes.{Asks, AsksRun, HasRoom, IsDone, IsRefused, IsTooLong, LeadsTo}
 use Rattle.motion_cli.specs.Ends.{EndsByRequest}
 use Rattle.motion_cli.specs.Plans.{usage_plan}
-use Rattle.motion_cli.specs.Requests.{FileJob, Request, file_of, load_of, of_file, of_load}
-use Rattle.motion_cli.specs.declared.request.Job.{Job}
-use Rattle.motion_cli.specs.declared.request.Job.TheVariants.{Bench, Check, Migrate}
+use Rattle.command_words.specs.Requests.{FileJob, Request, file_of, files_of, load_of, of_file, of_load, of_run}
+use Rattle.command_words.specs.declared.request.Job.{Job}
+use Rattle.command_words.specs.declared.request.Job.TheVariants.{Bench, Check, Migrate}
 
 -- one of two causes, where the other can't be
 first-alone : (A : Type 0) → A ⊎ ⊥ → A
@@ -29,24 +31,41 @@ second-alone : (A : Type 0) → ⊥ ⊎ A → A
 second-alone A (inl h) = absurd h
 second-alone A (inr h) = h
 
--- a status that is told of what was given comes exactly where a file leads to it, or a load
-pub told-comes : FollowPlans → (files : FileMap) (rose : Type 0) (asked : Option Request)
-    (old new : Output) (s wanted : Status) → EndsByRequest (Some files) rose asked old new s →
-    is_told wanted ≡ true →
+-- a run has no status of another job
+pub no-run : (s wanted : Status) → is_of_run s ≡ true → is_of_run wanted ≡ false → s ≡ wanted → ⊥
+no-run s wanted k n e = let bad : true ≡ false = sym k ∙ ap is_of_run e ∙ n in cc
+
+-- nothing of the kind is asked
+not-asked : {A : Type 0} (r : A) → Some r ≡ None → ⊥
+not-asked r e = absurd (cc)
+
+-- where no run is asked, or it isn't a run's, a status that is told of what was given comes exactly
+-- where a file leads to it, or a load
+pub told-comes : FollowPlans → (files : FileMap) (rose refused : Type 0) (Started : ℕ → Type 0)
+    (asked : Option Request) (old new : Output) (s wanted : Status) →
+    EndsByRequest (Some files) rose refused Started asked old new s → is_told wanted ≡ true →
+    (option_and_then files_of asked ≡ None) ⊎ (is_of_run wanted ≡ false) →
     ComesExactly s wanted (Asks (LeadsTo wanted) files (option_and_then file_of asked) ⊎
     IsSomeAnd (option_and_then load_of asked) (λ n. LoadCause wanted))
-told-comes follow files rose None old new s wanted e t =
+told-comes follow files rose refused Started None old new s wanted e t apart =
     let other = not-told wanted status.Usage t refl in
     same-cause s wanted (status.Usage ≡ wanted) _ (λ h. absurd (other (sym h)))
     (λ h. absurd (first-alone ⊥ h))
-    (comes-by-plan follow old new usage_plan s wanted e (told-unfaulted wanted t))
-told-comes follow files rose (Some (of_file r)) old new s wanted (inl e) t =
+    (follow.comes old new usage_plan s wanted e (told-unfaulted wanted t))
+told-comes follow files rose refused Started (Some (of_file r)) old new s wanted (inl e) t apart =
     same-cause s wanted _ _ (λ h. inl h)
     (first-alone (IsSomeAnd (files r.name) (LeadsTo wanted r.job)))
     (found-comes follow files rose r old new s wanted t e.found e.is_found e.ends)
-told-comes follow files rose (Some (of_file r)) old new s wanted (inr e) t =
+told-comes follow files rose refused Started (Some (of_file r)) old new s wanted (inr e) t apart =
     faulted s wanted _ (told-unfaulted wanted t) (ap is_fault e.status)
-told-comes follow files rose (Some (of_load seed)) old new s wanted e t =
+told-comes follow files rose refused Started (Some (of_run r)) old new s wanted e t (inl none) =
+    absurd (not-asked r none)
+told-comes follow files rose refused Started (Some (of_run r)) old new s wanted e t (inr n) =
+    record {
+      only = λ h. absurd (no-run s wanted e.kind n h);
+      always = λ h. absurd (first-alone ⊥ h);
+    }
+told-comes follow files rose refused Started (Some (of_load seed)) old new s wanted e t apart =
     same-cause s wanted _ _ (λ h. inr h) (second-alone (LoadCause wanted))
     (comes follow old new (load_plan seed) LoadCause s e.by wanted (told-unfaulted wanted t))
 
@@ -56,13 +75,15 @@ no-load A B o none (inl h) = h
 no-load A B None none (inr h) = absurd h
 no-load A B (Some n) none (inr h) = absurd (none h)
 
-pub file-comes : FollowPlans → (files : FileMap) (rose : Type 0) (asked : Option Request)
-    (old new : Output) (s wanted : Status) → EndsByRequest (Some files) rose asked old new s →
-    is_told wanted ≡ true → (LoadCause wanted → ⊥) →
+pub file-comes : FollowPlans → (files : FileMap) (rose refused : Type 0) (Started : ℕ → Type 0)
+    (asked : Option Request) (old new : Output) (s wanted : Status) →
+    EndsByRequest (Some files) rose refused Started asked old new s → is_told wanted ≡ true →
+    (LoadCause wanted → ⊥) →
+    (option_and_then files_of asked ≡ None) ⊎ (is_of_run wanted ≡ false) →
     ComesExactly s wanted (Asks (LeadsTo wanted) files (option_and_then file_of asked))
-file-comes follow files rose asked old new s wanted e t none =
+file-comes follow files rose refused Started asked old new s wanted e t none apart =
     same-cause s wanted _ _ (no-load _ (LoadCause wanted) (option_and_then load_of asked) none)
-    (λ h. inl h) (told-comes follow files rose asked old new s wanted e t)
+    (λ h. inl h) (told-comes follow files rose refused Started asked old new s wanted e t apart)
 
 -- a load always has its cause to end with Ok
 load-some : (A : Type 0) (o : Option ℕ) → A ⊎ IsSomeAnd o (λ n. LoadCause status.Ok) → A ⊎ IsSome o
@@ -76,29 +97,82 @@ some-load A None (inr h) = absurd (let bad : false ≡ true = h in cc)
 some-load A (Some n) (inr h) = inr tt
 
 -- Ok
-pub ok-comes : FollowPlans → (files : FileMap) (rose : Type 0) (asked : Option Request)
-    (old new : Output) (s : Status) → EndsByRequest (Some files) rose asked old new s →
-    ComesExactly s status.Ok
+pub ok-comes : FollowPlans → (files : FileMap) (rose refused : Type 0) (Started : ℕ → Type 0)
+    (asked : Option Request) (old new : Output) (s : Status) →
+    EndsByRequest (Some files) rose refused Started asked old new s →
+    option_and_then files_of asked ≡ None → ComesExactly s status.Ok
     (Asks IsDone files (option_and_then file_of asked) ⊎ IsSome (option_and_then load_of asked))
-ok-comes follow files rose asked old new s e =
+ok-comes follow files rose refused Started asked old new s e none =
     same-cause s status.Ok _ _ (load-some _ (option_and_then load_of asked))
     (some-load _ (option_and_then load_of asked))
-    (told-comes follow files rose asked old new s status.Ok e refl)
+    (told-comes follow files rose refused Started asked old new s status.Ok e refl (inl none))
+
+-- what tells of a text comes of a file, or of the files of a run
+text-only : (s wanted : Status) (A B : Type 0) → ComesExactly s wanted A → (B → ⊥) →
+    ComesExactly s wanted (A ⊎ B)
+text-only s wanted A B e none = same-cause s wanted A (A ⊎ B) (λ h. inl h) (λ h. only h) e
+  where
+    only : A ⊎ B → A
+    only (inl h) = h
+    only (inr h) = absurd (none h)
+
+run-only : (s wanted : Status) (A B : Type 0) → ComesExactly s wanted B → (A → ⊥) →
+    ComesExactly s wanted (A ⊎ B)
+run-only s wanted A B e none = same-cause s wanted B (A ⊎ B) (λ h. inr h) (λ h. only h) e
+  where
+    only : A ⊎ B → B
+    only (inl h) = absurd (none h)
+    only (inr h) = h
+
+-- TextRefused
+pub refused-comes : FollowPlans → (files : FileMap) (rose refused : Type 0)
+    (Started : ℕ → Type 0) (asked : Option Request) (old new : Output) (s : Status) (word : ℕ)
+    (r : TextRefused) → EndsByRequest (Some files) rose refused Started asked old new s →
+    ComesExactly s (status.TextRefused word r.place r.rule)
+    (Asks (IsRefused word r) files (option_and_then file_of asked) ⊎
+    AsksRun (λ x. x ≡ Err (status.TextRefused word r.place r.rule)) files
+    (option_and_then files_of asked))
+refused-comes follow files rose refused Started None old new s word r e =
+    text-only s _ _ _ (file-comes follow files rose refused Started None old new s
+    (status.TextRefused word r.place r.rule) e refl (λ h. h) (inl refl)) (λ h. h)
+refused-comes follow files rose refused Started (Some (of_file q)) old new s word r e =
+    text-only s _ _ _ (file-comes follow files rose refused Started (Some (of_file q)) old new s
+    (status.TextRefused word r.place r.rule) e refl (λ h. h) (inl refl)) (λ h. h)
+refused-comes follow files rose refused Started (Some (of_run q)) old new s word r e =
+    run-only s _ _ _ (e.of_text files (status.TextRefused word r.place r.rule) refl refl) (λ h. h)
+refused-comes follow files rose refused Started (Some (of_load seed)) old new s word r e =
+    text-only s _ _ _ (file-comes follow files rose refused Started (Some (of_load seed)) old new s
+    (status.TextRefused word r.place r.rule) e refl (λ h. h) (inl refl)) (λ h. h)
 
 -- TooLong
-pub long-comes : FollowPlans → (files : FileMap) (rose : Type 0) (asked : Option Request)
-    (old new : Output) (s : Status) → EndsByRequest (Some files) rose asked old new s →
-    ComesExactly s (status.TooLong 1) (Asks IsTooLong files (option_and_then file_of asked))
-long-comes follow files rose None old new s e =
-    same-cause s (status.TooLong 1) (status.Usage ≡ status.TooLong 1) _
-    (λ h. absurd (let bad : status.Usage ≡ status.TooLong 1 = h in cc)) (λ h. absurd h)
-    (comes-by-plan follow old new usage_plan s (status.TooLong 1) e refl)
-long-comes follow files rose (Some (of_file r)) old new s (inl e) =
-    found-long follow files rose r old new s e.found e.is_found e.ends
-long-comes follow files rose (Some (of_file r)) old new s (inr e) =
-    faulted s (status.TooLong 1) _ refl (ap is_fault e.status)
-long-comes follow files rose (Some (of_load seed)) old new s e =
-    comes follow old new (load_plan seed) LoadCause s e.by (status.TooLong 1) refl
+pub long-comes : FollowPlans → (files : FileMap) (rose refused : Type 0) (Started : ℕ → Type 0)
+    (asked : Option Request) (old new : Output) (s : Status) (word : ℕ) →
+    EndsByRequest (Some files) rose refused Started asked old new s →
+    ComesExactly s (status.TooLong word)
+    (((word ≡ 1) × Asks IsTooLong files (option_and_then file_of asked)) ⊎
+    AsksRun (λ x. x ≡ Err (status.TooLong word)) files (option_and_then files_of asked))
+long-comes follow files rose refused Started None old new s word e =
+    same-cause s (status.TooLong word) (status.Usage ≡ status.TooLong word) _
+    (λ h. absurd (let bad : status.Usage ≡ status.TooLong word = h in cc)) (λ h. absurd (neither h))
+    (follow.comes old new usage_plan s (status.TooLong word) e refl)
+  where
+    neither : ((word ≡ 1) × ⊥) ⊎ ⊥ → ⊥
+    neither (inl h) = h.1
+    neither (inr h) = h
+long-comes follow files rose refused Started (Some (of_file r)) old new s word (inl e) =
+    text-only s _ _ _ (found-long follow files rose r old new s word e.found e.is_found e.ends)
+    (λ h. h)
+long-comes follow files rose refused Started (Some (of_file r)) old new s word (inr e) =
+    faulted s (status.TooLong word) _ refl (ap is_fault e.status)
+long-comes follow files rose refused Started (Some (of_run r)) old new s word e =
+    run-only s _ _ _ (e.of_text files (status.TooLong word) refl refl) (λ h. h.1)
+long-comes follow files rose refused Started (Some (of_load seed)) old new s word e =
+    same-cause s (status.TooLong word) ⊥ _ (λ h. absurd h) (λ h. absurd (neither h))
+    (comes follow old new (load_plan seed) LoadCause s e.by (status.TooLong word) refl)
+  where
+    neither : ((word ≡ 1) × ⊥) ⊎ ⊥ → ⊥
+    neither (inl h) = h.1
+    neither (inr h) = h
 
 -- where there is room enough a bench is run to its end
 enough-room : ((text : List ℕ) → HasRoomFor text → BenchCause text status.Ok) → (job : Job)

@@ -1,9 +1,10 @@
 -- Usage and the faults, whatever the files tell.
-use Rattle.std.specs.Prelude.{◌≡◌, ◌≢◌, ◌⊎◌, refl, ℕ, true, false, Option, Some, None, IsSomeAnd, List}
+use Rattle.std.specs.Prelude.{◌≡◌, ◌≢◌, ◌⊎◌, refl, ℕ, true, false, Option, Some, None, IsSome, IsSomeAnd, List}
+use Rattle.std.specs.Result.{IsOk}
 use Rattle.std.specs.Option.{option_and_then}
 use Rattle.std.proofs.Common.{◌∙◌, inl, inr, sym, ap, subst}
 use Rattle.std.proofs.lemmas.Bool.{cases_Bool}
-use Rattle.job_ends.specs.Causes.{is_fault, is_told}
+use Rattle.job_ends.specs.Causes.{ComesExactly, is_fault, is_told, is_traced}
 use Rattle.job_ends.specs.Ends.{Content, EndsBy, EndsEarly, Found, IsFound, Longer, Unread}
 use Rattle.job_ends.specs.Follows.{FollowPlans}
 use Rattle.job_ends.specs.Plans.{too_long_plan}
@@ -12,14 +13,16 @@ use Rattle.job_ends.specs.declared.status.Status.TheVariants as status
 use Rattle.load_job.specs.Ends.{load_plan}
 use Rattle.outside.specs.Faults.{Rose}
 use Rattle.outside.specs.Told.{FileMap, LacksFile}
+use Rattle.run_job.specs.Causes.{LacksWord}
 use Rattle.trace_text.specs.writing.Writes.{Output}
+use Rattle.motion_cli.proofs.CauseLaws.{no-run}
 use Rattle.motion_cli.proofs.FileLaws.{ends-by, ends-for, plan_of}
-use Rattle.motion_cli.proofs.PlanLaws.{by-plan, not-told, of-plan, write-of-plan}
-use Rattle.motion_cli.specs.Causes.{Asks, AsksInVain, ComesExactly}
+use Rattle.motion_cli.proofs.PlanLaws.{by-plan, not-told}
+use Rattle.motion_cli.specs.Causes.{AreThere, Asks, AsksInVain, AsksRun, RunsInVain}
 use Rattle.motion_cli.specs.Ends.{EndsByFound, EndsByRequest}
 use Rattle.motion_cli.specs.Plans.{most_of, plan_of_text, usage_plan}
-use Rattle.motion_cli.specs.Requests.{FileJob, Request, file_of, load_of, of_file, of_load}
-use Rattle.motion_cli.specs.declared.request.Job.{Job}
+use Rattle.command_words.specs.Requests.{FileJob, Request, RunFiles, file_of, files_of, load_of, of_file, of_load, of_run}
+use Rattle.command_words.specs.declared.request.Job.{Job}
 
 -- Usage
 no-usage : (r : FileJob) (found : Found) (old new : Output) (s : Status) →
@@ -30,27 +33,32 @@ no-usage r (Content text) old new s e h =
     not-told (plan_of_text r.job r.name text).status status.Usage
     (ends-for r.job r.name text old new s e).told refl h
 
-pub usage-comes : FollowPlans → (told : Option FileMap) (rose : Type 0) (asked : Option Request)
-    (old new : Output) (s : Status) → EndsByRequest told rose asked old new s →
-    ComesExactly s status.Usage
-    ((option_and_then file_of asked ≡ None) × (option_and_then load_of asked ≡ None))
-usage-comes follow told rose None old new s e =
-    record { only = λ h. (refl, refl); always = λ h. by-plan follow old new usage_plan s e }
-usage-comes follow told rose (Some (of_file r)) old new s (inl e) = record {
+pub usage-comes : FollowPlans → (told : Option FileMap) (rose refused : Type 0)
+    (Started : ℕ → Type 0) (asked : Option Request) (old new : Output) (s : Status) →
+    EndsByRequest told rose refused Started asked old new s → ComesExactly s status.Usage
+    ((option_and_then file_of asked ≡ None) × (option_and_then load_of asked ≡ None) ×
+    (option_and_then files_of asked ≡ None))
+usage-comes follow told rose refused Started None old new s e =
+    record { only = λ h. (refl, refl, refl); always = λ h. by-plan follow old new usage_plan s e }
+usage-comes follow told rose refused Started (Some (of_file r)) old new s (inl e) = record {
   only = λ h. absurd (no-usage r e.found old new s e.ends
-      (of-plan follow old new (plan_of r e.found) s status.Usage
+      (follow.only old new (plan_of r e.found) s status.Usage
       (ends-by r e.found old new s e.ends) h (λ x. absurd (cc)) (λ x. absurd (cc))));
   always = λ h. absurd (let bad : Some r ≡ None = h.0 in cc);
 }
-usage-comes follow told rose (Some (of_file r)) old new s (inr e) = record {
+usage-comes follow told rose refused Started (Some (of_file r)) old new s (inr e) = record {
   only = λ h. absurd (let bad : status.OutOfMemory ≡ status.Usage = sym e.status ∙ h in cc);
   always = λ h. absurd (let bad : Some r ≡ None = h.0 in cc);
 }
-usage-comes follow told rose (Some (of_load seed)) old new s e = record {
+usage-comes follow told rose refused Started (Some (of_run r)) old new s e = record {
+  only = λ h. absurd (no-run s status.Usage e.kind refl h);
+  always = λ h. absurd (let bad : Some r ≡ None = h.1.1 in cc);
+}
+usage-comes follow told rose refused Started (Some (of_load seed)) old new s e = record {
   only = λ h. absurd (let bad : status.Ok ≡ status.Usage =
-      of-plan follow old new (load_plan seed) s status.Usage e.by.ends h (λ x. absurd (cc))
+      follow.only old new (load_plan seed) s status.Usage e.by.ends h (λ x. absurd (cc))
       (λ x. absurd (cc)) in cc);
-  always = λ h. absurd (let bad : Some seed ≡ None = h.1 in cc);
+  always = λ h. absurd (let bad : Some seed ≡ None = h.1.0 in cc);
 }
 
 -- ReadFault
@@ -61,28 +69,74 @@ found-unread : FollowPlans → (told : Option FileMap) (rose : Type 0) (r : File
 found-unread follow told rose r old new s word Unread is e h = is
 found-unread follow told rose r old new s word Longer is e h =
     absurd (let bad : status.TooLong 1 ≡ status.ReadFault word =
-    of-plan follow old new (too_long_plan 1 r.name) s (status.ReadFault word) e h
+    follow.only old new (too_long_plan 1 r.name) s (status.ReadFault word) e h
     (λ x. absurd (cc)) (λ x. absurd (cc)) in cc)
 found-unread follow told rose r old new s word (Content text) is e h =
     let for = ends-for r.job r.name text old new s e in
     absurd (not-told (plan_of_text r.job r.name text).status (status.ReadFault word) for.told refl
-    (of-plan follow old new (plan_of_text r.job r.name text) s (status.ReadFault word) for.ends h
+    (follow.only old new (plan_of_text r.job r.name text) s (status.ReadFault word) for.ends h
     (λ x. absurd (cc)) (λ x. absurd (cc))))
 
-pub unread-why : FollowPlans → (told : Option FileMap) (rose : Type 0) (asked : Option Request)
-    (old new : Output) (s : Status) (word : ℕ) → EndsByRequest told rose asked old new s →
-    s ≡ status.ReadFault word → rose ⊎ AsksInVain told (option_and_then file_of asked)
-unread-why follow told rose None old new s word e h =
+-- it failed for a file, or for one of a run
+run-unread : (told : Option FileMap) (rose : Type 0) (r : RunFiles) (word : ℕ) →
+    rose ⊎ IsSomeAnd told (λ files. LacksWord files r.config r.program word) →
+    rose ⊎ (⊥ ⊎ RunsInVain told (Some r) word)
+run-unread told rose r word (inl h) = inl h
+run-unread told rose r word (inr h) = inr (inr h)
+
+file-unread : (told : Option FileMap) (rose : Type 0) (r : FileJob) (word : ℕ) →
+    rose ⊎ LacksFile told r.name →
+    rose ⊎ (AsksInVain told (Some r) ⊎ RunsInVain told None word)
+file-unread told rose r word (inl h) = inl h
+file-unread told rose r word (inr h) = inr (inl h)
+
+pub unread-why : FollowPlans → (told : Option FileMap) (rose refused : Type 0)
+    (Started : ℕ → Type 0) (asked : Option Request) (old new : Output) (s : Status) (word : ℕ) →
+    EndsByRequest told rose refused Started asked old new s → s ≡ status.ReadFault word →
+    rose ⊎ (AsksInVain told (option_and_then file_of asked) ⊎
+    RunsInVain told (option_and_then files_of asked) word)
+unread-why follow told rose refused Started None old new s word e h =
     absurd (let bad : status.Usage ≡ status.ReadFault word =
-    of-plan follow old new usage_plan s (status.ReadFault word) e h
+    follow.only old new usage_plan s (status.ReadFault word) e h
     (λ x. absurd (cc)) (λ x. absurd (cc)) in cc)
-unread-why follow told rose (Some (of_file r)) old new s word (inl e) h =
-    found-unread follow told rose r old new s word e.found e.is_found e.ends h
-unread-why follow told rose (Some (of_file r)) old new s word (inr e) h =
+unread-why follow told rose refused Started (Some (of_file r)) old new s word (inl e) h =
+    file-unread told rose r word
+    (found-unread follow told rose r old new s word e.found e.is_found e.ends h)
+unread-why follow told rose refused Started (Some (of_file r)) old new s word (inr e) h =
     absurd (let bad : status.OutOfMemory ≡ status.ReadFault word = sym e.status ∙ h in cc)
-unread-why follow told rose (Some (of_load seed)) old new s word e h =
+unread-why follow told rose refused Started (Some (of_run r)) old new s word e h =
+    run-unread told rose r word (e.unread word h)
+unread-why follow told rose refused Started (Some (of_load seed)) old new s word e h =
     absurd (let bad : status.Ok ≡ status.ReadFault word =
-    of-plan follow old new (load_plan seed) s (status.ReadFault word) e.by.ends h
+    follow.only old new (load_plan seed) s (status.ReadFault word) e.by.ends h
+    (λ x. absurd (cc)) (λ x. absurd (cc)) in cc)
+
+-- ThreadRefused
+never-refused : (r : FileJob) (found : Found) (old new : Output) (s : Status) →
+    EndsByFound r found old new s → (plan_of r found).status ≢ status.ThreadRefused
+never-refused r Unread old new s e h = absurd (cc)
+never-refused r Longer old new s e h = absurd (cc)
+never-refused r (Content text) old new s e h =
+    not-told (plan_of_text r.job r.name text).status status.ThreadRefused
+    (ends-for r.job r.name text old new s e).told refl h
+
+pub refused-why : FollowPlans → (told : Option FileMap) (rose refused : Type 0)
+    (Started : ℕ → Type 0) (asked : Option Request) (old new : Output) (s : Status) →
+    EndsByRequest told rose refused Started asked old new s → s ≡ status.ThreadRefused → refused
+refused-why follow told rose refused Started None old new s e h =
+    absurd (let bad : status.Usage ≡ status.ThreadRefused =
+    follow.only old new usage_plan s status.ThreadRefused e h
+    (λ x. absurd (cc)) (λ x. absurd (cc)) in cc)
+refused-why follow told rose refused Started (Some (of_file r)) old new s (inl e) h =
+    absurd (never-refused r e.found old new s e.ends
+    (follow.only old new (plan_of r e.found) s status.ThreadRefused
+    (ends-by r e.found old new s e.ends) h (λ x. absurd (cc)) (λ x. absurd (cc))))
+refused-why follow told rose refused Started (Some (of_file r)) old new s (inr e) h =
+    absurd (let bad : status.OutOfMemory ≡ status.ThreadRefused = sym e.status ∙ h in cc)
+refused-why follow told rose refused Started (Some (of_run r)) old new s e h = e.refuses h
+refused-why follow told rose refused Started (Some (of_load seed)) old new s e h =
+    absurd (let bad : status.Ok ≡ status.ThreadRefused =
+    follow.only old new (load_plan seed) s status.ThreadRefused e.by.ends h
     (λ x. absurd (cc)) (λ x. absurd (cc)) in cc)
 
 -- WriteFault
@@ -94,60 +148,114 @@ no-write r (Content text) old new s e h =
     not-told (plan_of_text r.job r.name text).status status.WriteFault
     (ends-for r.job r.name text old new s e).told refl h
 
-pub write-why : FollowPlans → (told : Option FileMap) (rose : Type 0) (asked : Option Request)
-    (old new : Output) (s : Status) → EndsByRequest told rose asked old new s →
-    s ≡ status.WriteFault → Rose old.count new.count
-write-why follow told rose None old new s e h =
-    write-of-plan follow old new usage_plan s e (λ x. absurd (cc)) h
-write-why follow told rose (Some (of_file r)) old new s (inl e) h =
-    write-of-plan follow old new (plan_of r e.found) s (ends-by r e.found old new s e.ends)
+pub write-why : FollowPlans → (told : Option FileMap) (rose refused : Type 0)
+    (Started : ℕ → Type 0) (asked : Option Request) (old new : Output) (s : Status) →
+    EndsByRequest told rose refused Started asked old new s → s ≡ status.WriteFault →
+    Rose old.count new.count
+write-why follow told rose refused Started None old new s e h =
+    follow.write old new usage_plan s e (λ x. absurd (cc)) h
+write-why follow told rose refused Started (Some (of_file r)) old new s (inl e) h =
+    follow.write old new (plan_of r e.found) s (ends-by r e.found old new s e.ends)
     (no-write r e.found old new s e.ends) h
-write-why follow told rose (Some (of_file r)) old new s (inr e) h =
+write-why follow told rose refused Started (Some (of_file r)) old new s (inr e) h =
     absurd (let bad : status.OutOfMemory ≡ status.WriteFault = sym e.status ∙ h in cc)
-write-why follow told rose (Some (of_load seed)) old new s e h =
-    write-of-plan follow old new (load_plan seed) s e.by.ends (λ x. absurd (cc)) h
+write-why follow told rose refused Started (Some (of_run r)) old new s e h = e.unwritten h
+write-why follow told rose refused Started (Some (of_load seed)) old new s e h =
+    follow.write old new (load_plan seed) s e.by.ends (λ x. absurd (cc)) h
 
--- where the file is there and nothing fails, no fault comes but want of memory
+-- where the files are there and nothing fails, no fault comes but want of memory
 in-vain : (files : FileMap) (P : Job → List ℕ → Type 0) (asked : Option FileJob) →
     AsksInVain (Some files) asked → Asks P files asked → ⊥
 in-vain files P None v h = v
 in-vain files P (Some r) v h = subst (λ o. IsSomeAnd o (P r.job)) v h
 
+none-there : {A : Type 0} (o : Option A) → IsSome o → o ≡ None → ⊥
+none-there None h e = absurd (let bad : false ≡ true = h in cc)
+none-there (Some x) h e = absurd (cc)
+
+run-in-vain : (files : FileMap) (asked : Option RunFiles) (word : ℕ) →
+    RunsInVain (Some files) asked word → AreThere files asked → ⊥
+run-in-vain files None word v h = v
+run-in-vain files (Some r) word (inl v) h = none-there (files r.config) h.0 v.1
+run-in-vain files (Some r) word (inr v) h = none-there (files r.program) h.1 v.1
+
+-- the words ask for a file that is there, or for a run of two such
+abbrev pub IsAllThere : (Job → List ℕ → Type 0) → FileMap → Option Request → Type 0
+IsAllThere P files asked =
+    Asks P files (option_and_then file_of asked) ⊎ AreThere files (option_and_then files_of asked)
+
+no-file : (files : FileMap) (P : Job → List ℕ → Type 0) (asked : Option Request) (word : ℕ) →
+    IsAllThere P files asked → AsksInVain (Some files) (option_and_then file_of asked) ⊎
+    RunsInVain (Some files) (option_and_then files_of asked) word → ⊥
+no-file files P None word (inl h) v = h
+no-file files P None word (inr h) v = h
+no-file files P (Some (of_file r)) word (inl h) (inl v) = in-vain files P (Some r) v h
+no-file files P (Some (of_file r)) word (inl h) (inr v) = v
+no-file files P (Some (of_file r)) word (inr h) v = h
+no-file files P (Some (of_run r)) word (inl h) v = h
+no-file files P (Some (of_run r)) word (inr h) (inl v) = v
+no-file files P (Some (of_run r)) word (inr h) (inr v) = run-in-vain files (Some r) word v h
+no-file files P (Some (of_load seed)) word (inl h) v = h
+no-file files P (Some (of_load seed)) word (inr h) v = h
+
 neither : (A B : Type 0) → (A → ⊥) → (B → ⊥) → A ⊎ B → ⊥
 neither A B a b (inl h) = a h
 neither A B a b (inr h) = b h
 
-pub fault-by : FollowPlans → (files : FileMap) (rose : Type 0) (asked : Option Request)
-    (old new : Output) (s : Status) (P : Job → List ℕ → Type 0) →
-    EndsByRequest (Some files) rose asked old new s →
-    Asks P files (option_and_then file_of asked) → (rose → ⊥) → (Rose old.count new.count → ⊥) →
-    is_fault s ≡ true → s ≡ status.OutOfMemory
-fault-by follow files rose asked old new (status.ReadFault word) P e h r w f =
-    absurd (neither rose _ r (λ v. in-vain files P (option_and_then file_of asked) v h)
-    (unread-why follow (Some files) rose asked old new (status.ReadFault word) word e refl))
-fault-by follow files rose asked old new status.WriteFault P e h r w f =
-    absurd (w (write-why follow (Some files) rose asked old new status.WriteFault e refl))
-fault-by follow files rose asked old new status.OutOfMemory P e h r w f = refl
-fault-by follow files rose asked old new s P e h r w f = absurd (cc)
+pub fault-by : FollowPlans → (files : FileMap) (rose refused : Type 0) (Started : ℕ → Type 0)
+    (asked : Option Request) (old new : Output) (s : Status) (P : Job → List ℕ → Type 0) →
+    EndsByRequest (Some files) rose refused Started asked old new s → IsAllThere P files asked →
+    (rose → ⊥) → (Rose old.count new.count → ⊥) → is_fault s ≡ true → s ≡ status.OutOfMemory
+fault-by follow files rose refused Started asked old new (status.ReadFault word) P e h r w f =
+    absurd (neither rose _ r (λ v. no-file files P asked word h v)
+    (unread-why follow (Some files) rose refused Started asked old new (status.ReadFault word) word
+    e refl))
+fault-by follow files rose refused Started asked old new status.WriteFault P e h r w f =
+    absurd (w (write-why follow (Some files) rose refused Started asked old new status.WriteFault e
+    refl))
+fault-by follow files rose refused Started asked old new status.OutOfMemory P e h r w f = refl
+fault-by follow files rose refused Started asked old new s P e h r w f = absurd (cc)
 
-pub faultless : FollowPlans → (files : FileMap) (rose : Type 0) (asked : Option Request)
-    (old new : Output) (s : Status) (P : Job → List ℕ → Type 0) →
-    EndsByRequest (Some files) rose asked old new s →
-    Asks P files (option_and_then file_of asked) → (rose → ⊥) → (Rose old.count new.count → ⊥) →
+pub faultless : FollowPlans → (files : FileMap) (rose refused : Type 0) (Started : ℕ → Type 0)
+    (asked : Option Request) (old new : Output) (s : Status) (P : Job → List ℕ → Type 0) →
+    EndsByRequest (Some files) rose refused Started asked old new s → IsAllThere P files asked →
+    (rose → ⊥) → (Rose old.count new.count → ⊥) →
     (is_fault s ≡ false) ⊎ (s ≡ status.OutOfMemory)
-faultless follow files rose asked old new s P e h r w = elim (cases_Bool (is_fault s)) [
-  | inl f ↦ inr (fault-by follow files rose asked old new s P e h r w f)
-  | inr f ↦ inl f
-]
+faultless follow files rose refused Started asked old new s P e h r w =
+    elim (cases_Bool (is_fault s)) [
+      | inl f ↦ inr (fault-by follow files rose refused Started asked old new s P e h r w f)
+      | inr f ↦ inl f
+    ]
 
 -- and where Ok has a cause, it comes, or memory ran out
-pub complete : FollowPlans → (files : FileMap) (rose : Type 0) (asked : Option Request)
-    (old new : Output) (s : Status) (P : Job → List ℕ → Type 0) {Cause : Type 0} →
-    EndsByRequest (Some files) rose asked old new s → ComesExactly s status.Ok Cause → Cause →
-    Asks P files (option_and_then file_of asked) → (rose → ⊥) → (Rose old.count new.count → ⊥) →
-    (s ≡ status.Ok) ⊎ (s ≡ status.OutOfMemory)
-complete follow files rose asked old new s P e comes cause h r w = by (comes.always cause)
+pub complete : FollowPlans → (files : FileMap) (rose refused : Type 0) (Started : ℕ → Type 0)
+    (asked : Option Request) (old new : Output) (s : Status) (P : Job → List ℕ → Type 0)
+    {Cause : Type 0} → EndsByRequest (Some files) rose refused Started asked old new s →
+    ComesExactly s status.Ok Cause → Cause → IsAllThere P files asked → (rose → ⊥) →
+    (Rose old.count new.count → ⊥) → (s ≡ status.Ok) ⊎ (s ≡ status.OutOfMemory)
+complete follow files rose refused Started asked old new s P e comes cause h r w =
+    by (comes.always cause)
   where
     by : (s ≡ status.Ok) ⊎ (is_fault s ≡ true) → (s ≡ status.Ok) ⊎ (s ≡ status.OutOfMemory)
     by (inl ok) = inl ok
-    by (inr f) = inr (fault-by follow files rose asked old new s P e h r w f)
+    by (inr f) = inr (fault-by follow files rose refused Started asked old new s P e h r w f)
+
+-- words that ask for a file ask for no run
+pub file-no-run : (files : FileMap) (P : Job → List ℕ → Type 0) (asked : Option Request) →
+    Asks P files (option_and_then file_of asked) → option_and_then files_of asked ≡ None
+file-no-run files P None h = absurd h
+file-no-run files P (Some (of_file r)) h = refl
+file-no-run files P (Some (of_run r)) h = absurd h
+file-no-run files P (Some (of_load seed)) h = absurd h
+
+-- a run whose files give a plant has a trace
+pub complete-run : (files : FileMap) (rose refused : Type 0) (Started : ℕ → Type 0)
+    (asked : Option Request) (old new : Output) (s : Status) →
+    EndsByRequest (Some files) rose refused Started asked old new s →
+    AsksRun IsOk files (option_and_then files_of asked) → (rose → ⊥) → (refused → ⊥) →
+    (Rose old.count new.count → ⊥) → (is_traced s ≡ true) ⊎ (s ≡ status.OutOfMemory)
+complete-run files rose refused Started None old new s e h r f w = absurd h
+complete-run files rose refused Started (Some (of_file q)) old new s e h r f w = absurd h
+complete-run files rose refused Started (Some (of_run q)) old new s e h r f w =
+    e.complete files refl h r f w
+complete-run files rose refused Started (Some (of_load seed)) old new s e h r f w = absurd h

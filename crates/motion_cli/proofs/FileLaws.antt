@@ -11,13 +11,14 @@ use Rattle.outside.specs.Told.{FileMap, IsLonger, LacksFile}
 use Rattle.outside.specs.declared.files.FilesFault.{FilesFault}
 use Rattle.outside.specs.declared.files.FilesFault.TheVariants as files
 use Rattle.trace_text.specs.writing.Writes.{Output}
-use Rattle.motion_cli.proofs.PlanLaws.{by-plan, comes, comes-by-plan, faulted, not-told, same-cause, told-unfaulted}
-use Rattle.motion_cli.specs.Causes.{CauseOf, ComesExactly, IsTooLong, LeadsTo}
+use Rattle.motion_cli.proofs.PlanLaws.{by-plan, comes, faulted, not-told, same-cause, told-unfaulted}
+use Rattle.job_ends.specs.Causes.{ComesExactly}
+use Rattle.motion_cli.specs.Causes.{CauseOf, IsTooLong, LeadsTo}
 use Rattle.motion_cli.specs.Ends.{EndsByFile, EndsByFound, EndsByText}
 use Rattle.motion_cli.specs.Plans.{most_of, plan_of_text}
-use Rattle.motion_cli.specs.Requests.{FileJob}
-use Rattle.motion_cli.specs.declared.request.Job.{Job}
-use Rattle.motion_cli.specs.declared.request.Job.TheVariants.{Bench, Check, Migrate}
+use Rattle.command_words.specs.Requests.{FileJob}
+use Rattle.command_words.specs.declared.request.Job.{Job}
+use Rattle.command_words.specs.declared.request.Job.TheVariants.{Bench, Check, Migrate}
 
 -- a file that wasn't read
 pub unread-ends : (told : Option FileMap) (rose : Type 0) (r : FileJob) (most : ℕ)
@@ -96,7 +97,7 @@ pub found-comes : FollowPlans → (files : FileMap) (rose : Type 0) (r : FileJob
 found-comes follow files rose r old new s wanted t Unread is e =
     let f = told-unfaulted wanted t in
     let other = not-told wanted (status.ReadFault 1) t refl in
-    let by = comes-by-plan follow old new (unread_plan 1 r.name) s wanted e f in
+    let by = follow.comes old new (unread_plan 1 r.name) s wanted e f in
     record {
       only = λ h. absurd (other (sym (by.only h)));
       always = λ h. inr (unread-fault follow old new r.name s e);
@@ -106,7 +107,7 @@ found-comes follow files rose r old new s wanted t Longer is e =
     let other = not-told wanted (status.TooLong 1) t refl in
     same-cause s wanted (status.TooLong 1 ≡ wanted) _ (λ h. absurd (other (sym h)))
     (λ h. absurd (no-longer r.job (files r.name) (LeadsTo wanted r.job) (λ text l. l.within) is h))
-    (comes-by-plan follow old new (too_long_plan 1 r.name) s wanted e f)
+    (follow.comes old new (too_long_plan 1 r.name) s wanted e f)
 found-comes follow files rose r old new s wanted t (Content text) is e =
     same-cause s wanted (CauseOf r.job text wanted) _
     (content-cause r (files r.name) text wanted is.0 is.1)
@@ -117,24 +118,27 @@ found-comes follow files rose r old new s wanted t (Content text) is e =
 -- ---- TooLong
 
 pub found-long : FollowPlans → (files : FileMap) (rose : Type 0) (r : FileJob) (old new : Output)
-    (s : Status) → (found : Found) → IsFound (Some files) rose r.name (most_of r.job) found →
-    EndsByFound r found old new s →
-    ComesExactly s (status.TooLong 1) (IsSomeAnd (files r.name) (IsTooLong r.job))
-found-long follow files rose r old new s Unread is e =
-    let by = comes-by-plan follow old new (unread_plan 1 r.name) s (status.TooLong 1) e refl in
+    (s : Status) (word : ℕ) → (found : Found) →
+    IsFound (Some files) rose r.name (most_of r.job) found → EndsByFound r found old new s →
+    ComesExactly s (status.TooLong word)
+    ((word ≡ 1) × IsSomeAnd (files r.name) (IsTooLong r.job))
+found-long follow files rose r old new s word Unread is e =
+    let by = follow.comes old new (unread_plan 1 r.name) s (status.TooLong word) e refl in
     record {
-      only = λ h. absurd (let bad : status.ReadFault 1 ≡ status.TooLong 1 = by.only h in cc);
+      only = λ h. absurd (let bad : status.ReadFault 1 ≡ status.TooLong word = by.only h in cc);
       always = λ h. inr (unread-fault follow old new r.name s e);
     }
-found-long follow files rose r old new s Longer is e =
-    same-cause s (status.TooLong 1) (status.TooLong 1 ≡ status.TooLong 1) _ (λ h. is) (λ h. refl)
-    (comes-by-plan follow old new (too_long_plan 1 r.name) s (status.TooLong 1) e refl)
-found-long follow files rose r old new s (Content text) is e =
+found-long follow files rose r old new s word Longer is e =
+    same-cause s (status.TooLong word) (status.TooLong 1 ≡ status.TooLong word) _
+    (λ h. (let same : word ≡ 1 = cc in same, is)) (λ h. ap status.TooLong (sym h.0))
+    (follow.comes old new (too_long_plan 1 r.name) s (status.TooLong word) e refl)
+found-long follow files rose r old new s word (Content text) is e =
     let for = ends-for r.job r.name text old new s e in
-    let other = not-told (plan_of_text r.job r.name text).status (status.TooLong 1) for.told refl in
-    same-cause s (status.TooLong 1) ((plan_of_text r.job r.name text).status ≡ status.TooLong 1) _
+    let other = not-told (plan_of_text r.job r.name text).status (status.TooLong word) for.told refl
+    in
+    same-cause s (status.TooLong word)
+    ((plan_of_text r.job r.name text).status ≡ status.TooLong word) _
     (λ h. absurd (other h)) (λ h. absurd (no-longer r.job (files r.name)
-    (λ x. length x ≤ most_of r.job) (λ x w. w) h
+    (λ x. length x ≤ most_of r.job) (λ x w. w) h.1
     (subst (λ x. IsSomeAnd x (λ y. length y ≤ most_of r.job)) (sym is.0) is.1)))
-    (comes-by-plan follow old new (plan_of_text r.job r.name text) s (status.TooLong 1) for.ends
-    refl)
+    (follow.comes old new (plan_of_text r.job r.name text) s (status.TooLong word) for.ends refl)

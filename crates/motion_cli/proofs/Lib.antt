@@ -1,4 +1,3 @@
-pub mod SeedLaws
 pub mod PlanLaws
 pub mod FileLaws
 pub mod CauseLaws

@@ -10,7 +10,7 @@ use Rattle.job_ends.specs.declared.status.Status.{Status}
 use Rattle.job_ends.specs.declared.status.Status.TheVariants as status
 use Rattle.outside.specs.Faults.{Rose}
 use Rattle.trace_text.specs.writing.Writes.{Output}
-use Rattle.motion_cli.specs.Causes.{ComesExactly}
+use Rattle.job_ends.specs.Causes.{ComesExactly}
 
 -- the status of a plan, or a fault
 by-statuses : (s p : Status) (R : Type 0) →
@@ -24,34 +24,6 @@ pub by-plan : FollowPlans → (old new : Output) (p : Plan) (s : Status) → End
     (s ≡ p.status) ⊎ (is_fault s ≡ true)
 by-plan follow old new p s e =
     by-statuses s p.status (Rose old.count new.count) (follow.statuses old new p s e)
-
--- a status that neither writing nor want of memory brings is the plan's
-other-statuses : (s p wanted : Status) (R : Type 0) →
-    (s ≡ p) ⊎ (((s ≡ status.WriteFault) × R) ⊎ (s ≡ status.OutOfMemory)) → s ≡ wanted →
-    wanted ≢ status.WriteFault → wanted ≢ status.OutOfMemory → p ≡ wanted
-other-statuses s p wanted R (inl e) h w m = sym e ∙ h
-other-statuses s p wanted R (inr (inl e)) h w m = absurd (w (sym h ∙ e.0))
-other-statuses s p wanted R (inr (inr e)) h w m = absurd (m (sym h ∙ e))
-
-pub of-plan : FollowPlans → (old new : Output) (p : Plan) (s wanted : Status) →
-    EndsBy old new p s → s ≡ wanted → wanted ≢ status.WriteFault → wanted ≢ status.OutOfMemory →
-    p.status ≡ wanted
-of-plan follow old new p s wanted e =
-    other-statuses s p.status wanted (Rose old.count new.count) (follow.statuses old new p s e)
-
--- WriteFault comes where the count of faults rose
-write-statuses : (s p : Status) (R : Type 0) →
-    (s ≡ p) ⊎ (((s ≡ status.WriteFault) × R) ⊎ (s ≡ status.OutOfMemory)) → p ≢ status.WriteFault →
-    s ≡ status.WriteFault → R
-write-statuses s p R (inl e) other h = absurd (other (sym e ∙ h))
-write-statuses s p R (inr (inl e)) other h = e.1
-write-statuses s p R (inr (inr e)) other h =
-    absurd (let bad : status.OutOfMemory ≡ status.WriteFault = sym e ∙ h in cc)
-
-pub write-of-plan : FollowPlans → (old new : Output) (p : Plan) (s : Status) → EndsBy old new p s →
-    p.status ≢ status.WriteFault → s ≡ status.WriteFault → Rose old.count new.count
-write-of-plan follow old new p s e =
-    write-statuses s p.status (Rose old.count new.count) (follow.statuses old new p s e)
 
 -- a status with a test that fails of the plan's and of faults
 pub test-statuses : (test : Status → Bool) → test status.WriteFault ≡ false →
@@ -90,15 +62,6 @@ same-cause s wanted A B to from e =
 pub unfaulted : (s p : Status) → (s ≡ p) ⊎ (is_fault s ≡ true) → is_fault s ≡ false → s ≡ p
 unfaulted s p (inl e) f = e
 unfaulted s p (inr e) f = absurd (let bad : true ≡ false = sym e ∙ f in cc)
-
--- a status of a plan comes where it is wanted
-pub comes-by-plan : FollowPlans → (old new : Output) (p : Plan) (s wanted : Status) →
-    EndsBy old new p s → is_fault wanted ≡ false → ComesExactly s wanted (p.status ≡ wanted)
-comes-by-plan follow old new p s wanted e f = elim (cases_Bool (is_fault s)) [
-  | inl t ↦ faulted s wanted _ f t
-  | inr n ↦ let same = unfaulted s p.status (by-plan follow old new p s e) n in
-      record { only = λ h. sym same ∙ h; always = λ h. inl (same ∙ h) }
-]
 
 -- each status comes exactly of its cause
 pub comes : FollowPlans → (old new : Output) (p : Plan) (Cause : Status → Type 0) (s : Status) →

@@ -1,23 +1,20 @@
 -- When each status comes. This project's profile.
-use Rattle.std.specs.Prelude.{◌≡◌, ◌⊎◌, ◌≤◌, ◌<◌, ℕ, true, Option, Some, None, IsSomeAnd, Result, List, length}
+use Rattle.std.specs.Prelude.{◌≤◌, ◌<◌, ℕ, Option, Some, None, IsSome, IsSomeAnd, Result, List, length}
 use Rattle.bench_job.specs.Causes.{BenchCause, HasRoomFor}
 use Rattle.bench_job.specs.Plans.{status_of}
 use Rattle.bench_run.specs.declared.bench.RunFault.{RunFault}
-use Rattle.job_ends.specs.Causes.{is_fault}
 use Rattle.job_ends.specs.declared.status.Status.{Status}
 use Rattle.job_ends.specs.declared.status.Status.TheVariants as status
+use Rattle.machine_config.specs.declared.machine.Machine.{Machine}
 use Rattle.motion_history.specs.declared.refused.TextRefused.{TextRefused}
 use Rattle.outside.specs.Told.{FileMap, LacksFile}
+use Rattle.plc_program.specs.Reading.{Outcome}
+use Rattle.run_job.specs.Causes.{LacksWord, plant_in}
 use Rattle.trace_jobs.specs.Causes.{CheckCause, MigrateCause}
 use Rattle.motion_cli.specs.Plans.{most_of}
-use Rattle.motion_cli.specs.Requests.{FileJob}
-use Rattle.motion_cli.specs.declared.request.Job.{Job}
-use Rattle.motion_cli.specs.declared.request.Job.TheVariants.{Bench, Check, Migrate}
-
--- a status comes only where its cause is, and there always, but where a fault comes in its place
-pub record ComesExactly (s wanted : Status) (Cause : Type 0) : Type 0 where
-  pub only : s ≡ wanted → Cause
-  pub always : Cause → (s ≡ wanted) ⊎ (is_fault s ≡ true)
+use Rattle.command_words.specs.Requests.{FileJob, RunFiles}
+use Rattle.command_words.specs.declared.request.Job.{Job}
+use Rattle.command_words.specs.declared.request.Job.TheVariants.{Bench, Check, Migrate}
 
 -- the words ask for a file that is there, and of the job and the text this holds
 abbrev pub Asks : (Job → List ℕ → Type 0) → FileMap → Option FileJob → Type 0
@@ -27,6 +24,22 @@ Asks P files (Some r) = IsSomeAnd (files r.name) (P r.job)
 -- the words ask for a file that the told files lack
 abbrev pub AsksInVain : Option FileMap → Option FileJob → Type 0
 AsksInVain told asked = IsSomeAnd asked (λ (r : FileJob). LacksFile told r.name)
+
+-- the words ask for a run, and this holds of what its two files give
+abbrev pub AsksRun : (Result (Machine × Outcome) Status → Type 0) → FileMap → Option RunFiles →
+    Type 0
+AsksRun P files None = ⊥
+AsksRun P files (Some r) = P (plant_in files r.config r.program)
+
+-- the words ask for a run, and both its files are there
+abbrev pub AreThere : FileMap → Option RunFiles → Type 0
+AreThere files None = ⊥
+AreThere files (Some r) = IsSome (files r.config) × IsSome (files r.program)
+
+-- the words ask for a run, and the file of this word isn't there
+abbrev pub RunsInVain : Option FileMap → Option RunFiles → ℕ → Type 0
+RunsInVain told asked word = IsSomeAnd asked (λ (r : RunFiles). IsSomeAnd told
+    (λ files. LacksWord files r.config r.program word))
 
 -- a text is longer than 16 MiB where it is to be run, and than 256 MiB where it is a trace
 abbrev pub IsTooLong : Job → List ℕ → Type 0
@@ -47,9 +60,9 @@ pub record LeadsTo (s : Status) (job : Job) (text : List ℕ) : Type 0 where
   pub within : length text ≤ most_of job
   pub cause : CauseOf job text s
 
--- it has no reading: its first place that breaks a rule, and the rule
-abbrev pub IsRefused : TextRefused → Job → List ℕ → Type 0
-IsRefused r = LeadsTo (status.TextRefused 1 r.place r.rule)
+-- it is that of word 1 and has no reading: its first place that breaks a rule, and the rule
+abbrev pub IsRefused : ℕ → TextRefused → Job → List ℕ → Type 0
+IsRefused word r = LeadsTo (status.TextRefused word r.place r.rule)
 
 -- it is a bench that is to be run, and whose run ends so
 abbrev pub RunsTo : Result (Unit {0}) RunFault → Job → List ℕ → Type 0

@@ -6,12 +6,13 @@ use Rattle.job_ends.specs.Plans.{too_long_plan, unread_plan}
 use Rattle.job_ends.specs.declared.status.Status.{Status}
 use Rattle.load_job.specs.Ends.{EndsByLoad}
 use Rattle.outside.specs.Told.{FileMap}
+use Rattle.run_job.specs.Ends.{EndsByRun}
 use Rattle.trace_jobs.specs.Ends.{EndsByCheck, EndsByMigrate}
 use Rattle.trace_text.specs.writing.Writes.{Output}
 use Rattle.motion_cli.specs.Plans.{most_of, usage_plan}
-use Rattle.motion_cli.specs.Requests.{FileJob, Request, asked_of, of_file, of_load}
-use Rattle.motion_cli.specs.declared.request.Job.{Job}
-use Rattle.motion_cli.specs.declared.request.Job.TheVariants.{Bench, Check, Migrate}
+use Rattle.command_words.specs.Requests.{FileJob, Request, asked_of, of_file, of_load, of_run}
+use Rattle.command_words.specs.declared.request.Job.{Job}
+use Rattle.command_words.specs.declared.request.Job.TheVariants.{Bench, Check, Migrate}
 
 -- it ended as the job leads to with a text
 abbrev pub EndsByText : Job → List ℕ → List ℕ → Output → Output → Status → Type 0
@@ -32,15 +33,19 @@ pub record EndsByFile (told : Option FileMap) (rose : Type 0) (r : FileJob) (old
   pub is_found : IsFound told rose r.name (most_of r.job) found
   pub ends : EndsByFound r found old new s
 
--- how the program ends: words that are no request are told what is one; else it is as the file or
--- the load leads to, or there was no memory to read the file
-abbrev pub EndsByRequest : Option FileMap → Type 0 → Option Request → Output → Output → Status →
-    Type 0
-EndsByRequest told rose None old new s = EndsBy old new usage_plan s
-EndsByRequest told rose (Some (of_file r)) old new s =
+-- how the program ends: words that are no request are told what is one; else it is as the file, the
+-- run or the load leads to, or there was no memory to read the file
+abbrev pub EndsByRequest : Option FileMap → Type 0 → Type 0 → (ℕ → Type 0) → Option Request →
+    Output → Output → Status → Type 0
+EndsByRequest told rose refused Started None old new s = EndsBy old new usage_plan s
+EndsByRequest told rose refused Started (Some (of_file r)) old new s =
     EndsByFile told rose r old new s ⊎ EndsEarly old new s
-EndsByRequest told rose (Some (of_load seed)) old new s = EndsByLoad seed old new s
+EndsByRequest told rose refused Started (Some (of_run r)) old new s =
+    EndsByRun told rose refused Started r.config r.program old new s
+EndsByRequest told rose refused Started (Some (of_load seed)) old new s = EndsByLoad seed old new s
 
 -- how the program ends by its words
-abbrev pub EndsByWords : Option FileMap → Type 0 → List (List ℕ) → Output → Output → Status → Type 0
-EndsByWords told rose words old new s = EndsByRequest told rose (asked_of words) old new s
+abbrev pub EndsByWords : Option FileMap → Type 0 → Type 0 → (ℕ → Type 0) → List (List ℕ) →
+    Output → Output → Status → Type 0
+EndsByWords told rose refused Started words old new s =
+    EndsByRequest told rose refused Started (asked_of words) old new s

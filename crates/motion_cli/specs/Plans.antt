@@ -4,8 +4,8 @@ use Rattle.bench_job.specs.Plans.{bench_plan}
 use Rattle.job_ends.specs.Plans.{Plan}
 use Rattle.job_ends.specs.declared.status.Status.TheVariants as status
 use Rattle.trace_jobs.specs.Plans.{check_plan, migrate_plan}
-use Rattle.motion_cli.specs.declared.request.Job.{Job}
-use Rattle.motion_cli.specs.declared.request.Job.TheVariants.{Bench, Check, Migrate}
+use Rattle.command_words.specs.declared.request.Job.{Job}
+use Rattle.command_words.specs.declared.request.Job.TheVariants.{Bench, Check, Migrate}
 
 -- the line that tells which words the program takes
 abbrev pub usage_line : List ℕ

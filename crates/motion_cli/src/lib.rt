@@ -3,17 +3,14 @@
 #![tactic(auto)]
 
 mod program;
-mod request;
-mod seed;
 mod serve;
 mod usage;
-mod words;
 
+pub use command_words::{Job, Words, words_from};
 pub use job_ends::Status;
-pub use outside::{Files, OutOfMemory, Sink};
+pub use outside::{Files, Gate, Host, OutOfMemory, Sink, Spawner};
 pub use program::{top, top_of_args};
-pub use request::Job;
-pub use words::{Words, words_from};
+pub use run_job::PlantJob;
 
 #[cfg(test)]
 mod tests;

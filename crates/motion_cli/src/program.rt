@@ -1,43 +1,52 @@
 // The top call of the program.
 
-ghost use Rattle.std.specs.Prelude.{◌≡◌, ◌≢◌, ◌⊎◌, ℕ, List, true, false, Some, None, Ok, Err, IfErr, IfOk, IsSome, OnErr};
+ghost use Rattle.std.specs.Prelude.{◌≡◌, ◌≢◌, ◌⊎◌, ◌≤◌, ◌+◌, ℕ, List, length, true, false, Some, None, Ok, Err, IfErr, IfOk, IsSome, OnErr};
 ghost use Rattle.std.specs.IoError.{error_kind};
-ghost use Rattle.bench_job.specs.Headline.{Headline, is_traced};
-ghost use Rattle.job_ends.specs.Causes.{is_fault};
+ghost use Rattle.std.specs.Result.{IsOk};
+ghost use Rattle.bench_job.specs.Headline.{Headline};
+ghost use Rattle.command_words.specs.Args.{words_of};
+ghost use Rattle.command_words.specs.Requests.{RunFiles, request_of, run_of, seed_of};
+ghost use Rattle.job_ends.specs.Causes.{ComesExactly, is_fault, is_traced};
 ghost use Rattle.job_ends.specs.Ends.{EndsBy, EndsEarly};
 ghost use Rattle.load_job.specs.Ends.{LoadLine};
-ghost use Rattle.motion_cli.specs.Args.{words_of};
-ghost use Rattle.motion_cli.specs.Causes.{Asks, AsksInVain, ComesExactly, HasRoom, IsChecked, IsDone, IsIllegal, IsRefused, IsThere, IsTooLong, RunsTo};
+ghost use Rattle.motion_cli.specs.Causes.{AreThere, Asks, AsksInVain, AsksRun, HasRoom, IsChecked, IsDone, IsIllegal, IsRefused, IsThere, IsTooLong, RunsInVain, RunsTo};
 ghost use Rattle.motion_cli.specs.Ends.{EndsByWords};
 ghost use Rattle.motion_cli.specs.Plans.{usage_plan};
-ghost use Rattle.motion_cli.specs.Requests.{request_of, seed_of};
 ghost use Rattle.motion_history.specs.declared.refused.TextRefused.{TextRefused};
 ghost use Rattle.outside.specs.Faults.{Rose};
 ghost use Rattle.outside.specs.Told.{FileMap};
+ghost use Rattle.run_job.specs.Headline.{RunHeadline};
 ghost use Rattle.trace_jobs.specs.Migrated.{Migrated};
 
-use crate::request::{Job, asked};
 use crate::serve::serve;
 use crate::usage::say_usage;
-use crate::words::{Words, words_from};
 use bench_job::room_leads_to_ok;
 use bench_run::RunFault;
+use command_words::{Job, Words, asked, words_from};
 use job_ends::{Status, ends_follow_plans};
-use outside::{Files, OutOfMemory, Sink};
+use outside::{Files, Gate, Host, MOST_JOBS, OutOfMemory, Sink, Spawner};
+use run_job::PlantJob;
 use std::alloc::Global;
 use std::env::Args;
 use std::io::{self, ErrorKind};
+use std::sync::Wait;
 
 /// Does what the arguments of the process ask for: `top` by their words. Arguments that are no
 /// texts are a faulty command line.
-pub fn top_of_args<F: Files, K: Sink>(
+pub fn top_of_args<F: Files, K: Sink, H: Host + Wait, G: Gate + Drop + Send + 'static>(
+    rt: &H,
     alloc: Global,
     args: io::Result<Args>,
     files: &mut F,
     out: &mut K,
+    spawner: &mut Spawner<H, PlantJob<G>>,
+    gate: &G,
 ) -> Status
+    requires few { length spawner.old.jobs + 24 ≤ MOST_JOBS }
     ensures words { IfOk args (λ all. EndsByWords (F.told files.old)
-        (Rose (F.count files.old) (F.count files.new)) (words_of all)
+        (Rose (F.count files.old) (F.count files.new))
+        (Rose spawner.old.faults spawner.new.faults)
+        (λ n. length spawner.new.jobs ≡ length spawner.old.jobs + n) (words_of all)
         (record { count = K.count out.old; told = K.told out.old })
         (record { count = K.count out.new; told = K.told out.new }) result ⊎
         EndsEarly (record { count = K.count out.old; told = K.told out.old })
@@ -50,21 +59,30 @@ pub fn top_of_args<F: Files, K: Sink>(
         (record { count = K.count out.new; told = K.told out.new }) result) }
 {
     match args {
-        Ok(args) => top_of_words(words_from(alloc, args), alloc, files, out),
+        Ok(args) => {
+            let words = words_from(alloc, args);
+            top_of_words(rt, alloc, words, files, out, spawner, gate)
+        }
         Err(error) if error.kind() == ErrorKind::OutOfMemory => Status::OutOfMemory,
         Err(_) => say_usage(out),
     }
 }
 
 // Does what the words ask for, if there was memory for them.
-fn top_of_words<F: Files, K: Sink>(
-    words: Result<Words, OutOfMemory>,
+fn top_of_words<F: Files, K: Sink, H: Host + Wait, G: Gate + Drop + Send + 'static>(
+    rt: &H,
     alloc: Global,
+    words: Result<Words, OutOfMemory>,
     files: &mut F,
     out: &mut K,
+    spawner: &mut Spawner<H, PlantJob<G>>,
+    gate: &G,
 ) -> Status
+    requires few { length spawner.old.jobs + 24 ≤ MOST_JOBS }
     ensures words { IfOk words (λ all. EndsByWords (F.told files.old)
-        (Rose (F.count files.old) (F.count files.new)) all
+        (Rose (F.count files.old) (F.count files.new))
+        (Rose spawner.old.faults spawner.new.faults)
+        (λ n. length spawner.new.jobs ≡ length spawner.old.jobs + n) all
         (record { count = K.count out.old; told = K.told out.old })
         (record { count = K.count out.new; told = K.told out.new }) result) }
     ensures memory { OnErr words (EndsEarly
@@ -72,20 +90,33 @@ fn top_of_words<F: Files, K: Sink>(
         (record { count = K.count out.new; told = K.told out.new }) result) }
 {
     match words {
-        Ok(words) => top(alloc, &words, files, out),
+        Ok(words) => top(rt, alloc, &words, files, out, spawner, gate),
         Err(OutOfMemory) => Status::OutOfMemory,
     }
 }
 
-/// Does what the words ask for with the files, writes to the output, and answers how it ended.
+/// Does what the words ask for with the files, writes to the output, and answers how it ended. A
+/// run starts its threads by the spawner, and each turn of a task passes a twin of the gate.
 ///
-/// Where it answers Ok, CyclesOver or HistoryFull to `bench`, what was written is the trace of a
-/// bench, as the headline says; where it answers Ok to `migrate`, the trace that was read, in
-/// version 2; where it answers Ok to `gen`, the line of the load that the seed generates. Each
-/// status comes of its cause; and where the file is there and no count of faults rose, no fault
-/// comes but want of memory.
-pub fn top<F: Files, K: Sink>(alloc: Global, words: &Words, files: &mut F, out: &mut K) -> Status
+/// Where it answers Ok, CyclesOver or HistoryFull to `bench` or `run`, what was written is the
+/// trace of a bench or of a run, as the headlines say; where it answers Ok to `migrate`, the trace
+/// that was read, in version 2; where it answers Ok to `gen`, the line of the load that the seed
+/// generates. Each status comes of its cause; and where the files are there and no count of faults
+/// rose, no fault comes but want of memory. A run waits for its threads, so that it may never
+/// return.
+pub fn top<F: Files, K: Sink, H: Host + Wait, G: Gate + Drop + Send + 'static>(
+    rt: &H,
+    alloc: Global,
+    words: &Words,
+    files: &mut F,
+    out: &mut K,
+    spawner: &mut Spawner<H, PlantJob<G>>,
+    gate: &G,
+) -> Status
+    requires few { length spawner.old.jobs + 24 ≤ MOST_JOBS }
     ensures ends { EndsByWords (F.told files.old) (Rose (F.count files.old) (F.count files.new))
+        (Rose spawner.old.faults spawner.new.faults)
+        (λ n. length spawner.new.jobs ≡ length spawner.old.jobs + n)
         words.now (record { count = K.count out.old; told = K.told out.old })
         (record { count = K.count out.new; told = K.told out.new }) result }
     ensures load { (seed : ℕ) → seed_of words.now ≡ Some seed → result ≡ Status.Ok →
@@ -94,26 +125,37 @@ pub fn top<F: Files, K: Sink>(alloc: Global, words: &Words, files: &mut F, out: 
         request_of words.now ≡ Some (record { job = Job.Bench; name = name }) →
         is_traced result ≡ true →
         Headline (F.told files.old) name (K.told out.old) (K.told out.new) }
+    ensures headline_run { (names : RunFiles) → run_of words.now ≡ Some names →
+        is_traced result ≡ true →
+        RunHeadline (F.told files.old) names.config names.program (K.told out.old) (K.told out.new)
+        (λ n. length spawner.new.jobs ≡ length spawner.old.jobs + n) result }
     ensures migrated { (name : List ℕ) →
         request_of words.now ≡ Some (record { job = Job.Migrate; name = name }) →
         result ≡ Status.Ok → Migrated (F.told files.old) name (K.told out.old) (K.told out.new) }
-    ensures usage { ComesExactly result Status.Usage
-        ((request_of words.now ≡ None) × (seed_of words.now ≡ None)) }
+    ensures usage { ComesExactly result Status.Usage ((request_of words.now ≡ None) ×
+        (seed_of words.now ≡ None) × (run_of words.now ≡ None)) }
     ensures read_fault { (word : ℕ) → result ≡ Status.ReadFault word →
         Rose (F.count files.old) (F.count files.new) ⊎
-        AsksInVain (F.told files.old) (request_of words.now) }
-    ensures too_long { (map : FileMap) → F.told files.old ≡ Some map →
-        ComesExactly result (Status.TooLong 1) (Asks IsTooLong map (request_of words.now)) }
-    ensures refused { (map : FileMap) (r : TextRefused) → F.told files.old ≡ Some map →
-        ComesExactly result (Status.TextRefused 1 r.place r.rule)
-        (Asks (IsRefused r) map (request_of words.now)) }
+        (AsksInVain (F.told files.old) (request_of words.now) ⊎
+        RunsInVain (F.told files.old) (run_of words.now) word) }
+    ensures too_long { (map : FileMap) (word : ℕ) → F.told files.old ≡ Some map →
+        ComesExactly result (Status.TooLong word)
+        (((word ≡ 1) × Asks IsTooLong map (request_of words.now)) ⊎
+        AsksRun (λ r. r ≡ Err (Status.TooLong word)) map (run_of words.now)) }
+    ensures refused { (map : FileMap) (word : ℕ) (r : TextRefused) → F.told files.old ≡ Some map →
+        ComesExactly result (Status.TextRefused word r.place r.rule)
+        (Asks (IsRefused word r) map (request_of words.now) ⊎
+        AsksRun (λ x. x ≡ Err (Status.TextRefused word r.place r.rule)) map
+        (run_of words.now)) }
+    ensures thread_refused { result ≡ Status.ThreadRefused →
+        Rose spawner.old.faults spawner.new.faults }
     ensures cycles_over { (map : FileMap) → F.told files.old ≡ Some map →
-        ComesExactly result Status.CyclesOver
+        run_of words.now ≡ None → ComesExactly result Status.CyclesOver
         (Asks (RunsTo (Err RunFault.CyclesOver)) map (request_of words.now)) }
     ensures history_full { (map : FileMap) → F.told files.old ≡ Some map →
-        ComesExactly result Status.HistoryFull
+        run_of words.now ≡ None → ComesExactly result Status.HistoryFull
         (Asks (RunsTo (Err RunFault.HistoryFull)) map (request_of words.now)) }
-    ensures ok { (map : FileMap) → F.told files.old ≡ Some map →
+    ensures ok { (map : FileMap) → F.told files.old ≡ Some map → run_of words.now ≡ None →
         ComesExactly result Status.Ok
         (Asks IsDone map (request_of words.now) ⊎ IsSome (seed_of words.now)) }
     ensures legal { (map : FileMap) (entries : ℕ) → F.told files.old ≡ Some map →
@@ -124,7 +166,7 @@ pub fn top<F: Files, K: Sink>(alloc: Global, words: &Words, files: &mut F, out: 
         (Asks (IsIllegal place) map (request_of words.now)) }
     ensures write_fault { result ≡ Status.WriteFault → Rose (K.count out.old) (K.count out.new) }
     ensures faultless { (map : FileMap) → F.told files.old ≡ Some map →
-        Asks IsThere map (request_of words.now) →
+        Asks IsThere map (request_of words.now) ⊎ AreThere map (run_of words.now) →
         (Rose (F.count files.old) (F.count files.new) → ⊥) →
         (Rose (K.count out.old) (K.count out.new) → ⊥) →
         (is_fault result ≡ false) ⊎ (result ≡ Status.OutOfMemory) }
@@ -133,8 +175,14 @@ pub fn top<F: Files, K: Sink>(alloc: Global, words: &Words, files: &mut F, out: 
         (Rose (F.count files.old) (F.count files.new) → ⊥) →
         (Rose (K.count out.old) (K.count out.new) → ⊥) →
         (result ≡ Status.Ok) ⊎ (result ≡ Status.OutOfMemory) }
+    ensures complete_run { (map : FileMap) → F.told files.old ≡ Some map →
+        AsksRun IsOk map (run_of words.now) →
+        (Rose (F.count files.old) (F.count files.new) → ⊥) →
+        (Rose spawner.old.faults spawner.new.faults → ⊥) →
+        (Rose (K.count out.old) (K.count out.new) → ⊥) →
+        (is_traced result ≡ true) ⊎ (result ≡ Status.OutOfMemory) }
 {
     ends_follow_plans();
     room_leads_to_ok();
-    serve(alloc, asked(words), files, out)
+    serve(rt, alloc, asked(words), files, out, spawner, gate)
 }

@@ -1,35 +1,47 @@
 // What is asked is done.
 
-ghost use Rattle.std.specs.Prelude.{◌≡◌, ◌⊎◌};
+ghost use Rattle.std.specs.Prelude.{◌≡◌, ◌≤◌, ◌+◌, ◌⊎◌, length};
 ghost use Rattle.std.specs.Option.{option_map};
 ghost use Rattle.job_ends.specs.Ends.{EndsEarly};
 ghost use Rattle.motion_cli.specs.Ends.{EndsByFile, EndsByRequest, EndsByText};
 ghost use Rattle.motion_cli.specs.Plans as plans;
-ghost use Rattle.motion_cli.specs.Requests.{told};
+ghost use Rattle.command_words.specs.Requests.{told};
 ghost use Rattle.outside.specs.Faults.{Rose};
 
-use crate::request::{Job, Request};
 use crate::usage::say_usage;
 use bench_job::run_text;
+use command_words::{Job, Request};
 use job_ends::{Status, say_unread};
 use load_job::run_load;
-use outside::{Files, Sink};
+use outside::{Files, Gate, Host, MOST_JOBS, Sink, Spawner};
+use run_job::{PlantJob, RunNames, run_files};
 use std::alloc::Global;
+use std::sync::Wait;
 use trace_jobs::{check_text, migrate_text};
 
 /// Does what is asked, or tells what can be asked.
-pub fn serve<F: Files, K: Sink>(
+pub fn serve<F: Files, K: Sink, H: Host + Wait, G: Gate + Drop + Send + 'static>(
+    rt: &H,
     alloc: Global,
     asked: Option<Request<'_>>,
     files: &mut F,
     out: &mut K,
+    spawner: &mut Spawner<H, PlantJob<G>>,
+    gate: &G,
 ) -> Status
+    requires few { length spawner.old.jobs + 24 ≤ MOST_JOBS }
     ensures { EndsByRequest (F.told files.old) (Rose (F.count files.old) (F.count files.new))
+        (Rose spawner.old.faults spawner.new.faults)
+        (λ n. length spawner.new.jobs ≡ length spawner.old.jobs + n)
         (option_map told asked.entry) (record { count = K.count out.old; told = K.told out.old })
         (record { count = K.count out.new; told = K.told out.new }) result }
 {
     match asked {
         Some(Request::File { job, name }) => serve_file(alloc, job, name, files, out),
+        Some(Request::Run { config, program }) => {
+            let names = RunNames { config, program };
+            run_files(rt, alloc, &names, files, out, spawner, gate)
+        }
         Some(Request::Load { seed }) => run_load(alloc, seed, out),
         None => say_usage(out),
     }

@@ -2,12 +2,13 @@
 mod failures;
 mod loads;
 mod rows;
+mod runs;
 mod states;
 mod traces;
 
 use crate::*;
 use motion_history::Rule;
-use outside::{MemoryFiles, MemorySink};
+use outside::{MemoryFiles, MemorySink, OpenGate};
 use std::io::{Error, ErrorKind};
 use std::test::Fail;
 
@@ -98,7 +99,9 @@ fn status(
     for word in words {
         list.push(word)?;
     }
-    Ok(top(rt.alloc(), &list, files, out))
+    let mut spawner: Spawner<HostRuntime, PlantJob<OpenGate>> = Spawner::new(*rt, rt.alloc());
+    let status = top(rt, rt.alloc(), &list, files, out, &mut spawner, &OpenGate);
+    Ok(status)
 }
 
 // The files of the tests, of which the listed reads fail.

@@ -1,22 +1,24 @@
 -- Each clause follows from how the program ended.
-use Rattle.std.specs.Prelude.{◌≡◌, refl, Some}
-use Rattle.std.proofs.Common.{inl, subst}
+use Rattle.std.specs.Prelude.{◌≡◌, refl, ℕ, ◌+◌, Some, length}
+use Rattle.std.proofs.Common.{inl, inr, subst}
+use Rattle.command_words.specs.Requests.{asked_of}
 use Rattle.job_ends.specs.declared.status.Status.TheVariants as status
 use Rattle.outside.specs.Faults.{Rose}
 use Rattle.outside.specs.Told.{FileMap}
 use Rattle.trace_text.specs.writing.Writes.{Output}
-use Rattle.motion_cli.proofs.CauseLaws.{enough, file-comes, long-comes, ok-comes}
-use Rattle.motion_cli.proofs.FaultLaws.{complete, faultless, unread-why, usage-comes, write-why}
-use Rattle.motion_cli.proofs.TraceLaws.{headline-of, line-of, migrated-of}
+use Rattle.motion_cli.proofs.CauseLaws.{enough, file-comes, long-comes, ok-comes, refused-comes}
+use Rattle.motion_cli.proofs.FaultLaws.{complete, complete-run, faultless, file-no-run, refused-why, unread-why, usage-comes, write-why}
+use Rattle.motion_cli.proofs.TraceLaws.{headline-of, line-of, migrated-of, run-of}
 use Rattle.motion_cli.specs.Causes.{HasRoom, IsThere}
 use Rattle.motion_cli.specs.Ends.{EndsByRequest}
-use Rattle.motion_cli.specs.Requests.{asked_of}
 use Rattle.motion_cli.proofs.program.top.Goals as goal
 
 pub returns : goal.returns
 returns g c =
     let told = g.F.Files.told c.args.files.now in
     let rose = Rose (g.F.Files.count c.args.files.now) (g.F.Files.count c.serve.new.files) in
+    let refused = Rose c.args.spawner.now.faults c.serve.new.spawner.faults in
+    let Started : ℕ → Type 0 = λ n. length c.serve.new.spawner.jobs ≡ length c.args.spawner.now.jobs + n in
     let asked = asked_of c.args.words.now in
     let old : Output = record {
       count = g.K.Sink.count c.args.out.now;
@@ -28,32 +30,44 @@ returns g c =
     } in
     let s = c.serve.result in
     let follow = c.ends_follow_plans.ensures in
-    let by : EndsByRequest told rose asked old new s =
-    subst (λ a. EndsByRequest told rose a old new s) c.asked.ensures c.serve.ensures in
-    let at : (map : FileMap) → told ≡ Some map → EndsByRequest (Some map) rose asked old new s =
-    λ map t. subst (λ x. EndsByRequest x rose asked old new s) t by in
+    let by : EndsByRequest told rose refused Started asked old new s =
+    subst (λ a. EndsByRequest told rose refused Started a old new s) c.asked.ensures
+    c.serve.ensures in
+    let at : (map : FileMap) → told ≡ Some map →
+        EndsByRequest (Some map) rose refused Started asked old new s =
+    λ map t. subst (λ x. EndsByRequest x rose refused Started asked old new s) t by in
     record {
       ends = by;
-      load = λ n is h. line-of told rose asked n old new s by is h;
-      headline = λ name a h. headline-of follow told rose asked name old new s by a h;
-      migrated = λ name a h. migrated-of follow told rose asked name old new s by a h;
-      usage = usage-comes follow told rose asked old new s by;
-      read_fault = λ word h. unread-why follow told rose asked old new s word by h;
-      too_long = λ map t. long-comes follow map rose asked old new s (at map t);
-      refused = λ map r t. file-comes follow map rose asked old new s
-          (status.TextRefused 1 r.place r.rule) (at map t) refl (λ h. h);
-      cycles_over = λ map t. file-comes follow map rose asked old new s status.CyclesOver (at map t)
-          refl (λ h. h);
-      history_full = λ map t. file-comes follow map rose asked old new s status.HistoryFull
-          (at map t) refl (λ h. h);
-      ok = λ map t. ok-comes follow map rose asked old new s (at map t);
-      legal = λ map n t. file-comes follow map rose asked old new s (status.Legal n) (at map t) refl
-          (λ h. h);
-      illegal = λ map p t. file-comes follow map rose asked old new s (status.Illegal p) (at map t)
-          refl (λ h. h);
-      write_fault = λ h. write-why follow told rose asked old new s by h;
-      faultless = λ map t h r w. faultless follow map rose asked old new s IsThere (at map t) h r w;
-      complete = λ map t h r w. complete follow map rose asked old new s HasRoom (at map t)
-          (ok-comes follow map rose asked old new s (at map t))
-          (inl (enough c.room_leads_to_ok.ensures map _ h)) h r w;
+      load = λ n is h. line-of told rose refused Started asked n old new s by is h;
+      headline = λ name a h. headline-of follow told rose refused Started asked name old new s by a
+          h;
+      headline_run = λ names a h. run-of told rose refused Started asked names old new s by a h;
+      migrated = λ name a h. migrated-of follow told rose refused Started asked name old new s by a
+          h;
+      usage = usage-comes follow told rose refused Started asked old new s by;
+      read_fault = λ word h. unread-why follow told rose refused Started asked old new s word by h;
+      too_long = λ map word t. long-comes follow map rose refused Started asked old new s word
+          (at map t);
+      refused = λ map word r t. refused-comes follow map rose refused Started asked old new s word r
+          (at map t);
+      thread_refused = λ h. refused-why follow told rose refused Started asked old new s by h;
+      cycles_over = λ map t none. file-comes follow map rose refused Started asked old new s
+          status.CyclesOver (at map t) refl (λ h. h) (inl none);
+      history_full = λ map t none. file-comes follow map rose refused Started asked old new s
+          status.HistoryFull (at map t) refl (λ h. h) (inl none);
+      ok = λ map t none. ok-comes follow map rose refused Started asked old new s (at map t) none;
+      legal = λ map n t. file-comes follow map rose refused Started asked old new s
+          (status.Legal n) (at map t) refl (λ h. h) (inr refl);
+      illegal = λ map p t. file-comes follow map rose refused Started asked old new s
+          (status.Illegal p) (at map t) refl (λ h. h) (inr refl);
+      write_fault = λ h. write-why follow told rose refused Started asked old new s by h;
+      faultless = λ map t h r w. faultless follow map rose refused Started asked old new s IsThere
+          (at map t) h r w;
+      complete = λ map t h r w. complete follow map rose refused Started asked old new s HasRoom
+          (at map t)
+          (ok-comes follow map rose refused Started asked old new s (at map t)
+          (file-no-run map HasRoom asked h))
+          (inl (enough c.room_leads_to_ok.ensures map _ h)) (inl h) r w;
+      complete_run = λ map t h r f w. complete-run map rose refused Started asked old new s
+          (at map t) h r f w;
     }

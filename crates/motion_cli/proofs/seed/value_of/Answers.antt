@@ -1,6 +1,0 @@
--- Parsing digits fails only beyond 32 bits.
-use Rattle.motion_cli.proofs.SeedLaws.{digits-beyond}
-use Rattle.motion_cli.proofs.seed.value_of.Goals as goal
-
-pub returns-in-Err : goal.returns-in-Err
-returns-in-Err c = digits-beyond c.args.digits.now c.parse.result _ c.requires c.parse.ensures.value.0 c.in-Err.is

@@ -1,0 +1,139 @@
+-- What the trace of a run stands for.
+use Rattle.std.specs.Prelude.{◌≡◌, ◌⊎◌, refl, ℕ, ◌+◌, true, false, Option, Some, List, map, slice_get}
+use Rattle.std.proofs.Common.{◌∙◌, inl, inr, sym, ap, subst, arith}
+use Rattle.drive_sim.specs.Sim.{DriveSim}
+use Rattle.job_ends.specs.Causes.{is_fault, is_traced}
+use Rattle.job_ends.specs.Ends.{EndsBy, EndsEarly}
+use Rattle.job_ends.specs.Follows.{FollowPlans}
+use Rattle.job_ends.specs.declared.status.Status.{Status}
+use Rattle.job_ends.specs.declared.status.Status.TheVariants as status
+use Rattle.machine_drives.specs.Drives.{drives_at_opening}
+use Rattle.motion_history.specs.Entries.{Entry}
+use Rattle.motion_plant.specs.Ran.{DriveMeets}
+use Rattle.outside.specs.Faults.{Rose}
+use Rattle.outside.specs.Told.{FileMap}
+use Rattle.plc_program.specs.Reading.{Outcome}
+use Rattle.setpoint_ring.specs.declared.logs.DriveLog.{DriveLog}
+use Rattle.trace_text.specs.writing.Writes.{Output}
+use Rattle.run_job.proofs.CauseLaws.{Planned, TellsBy, TellsOf, no-plant, planned}
+use Rattle.run_job.proofs.EndLaws.{Statuses, complete-by, kind-by, of-text-by, refuses-of, unread-of, unwritten-of}
+use Rattle.run_job.proofs.RowLaws.{AreReadBack, rows-same}
+use Rattle.run_job.specs.Causes.{is_of_text, plant_in}
+use Rattle.run_job.specs.Ends.{Course, EndsByBoth, EndsByRun, WritesRun}
+use Rattle.run_job.specs.Headline.{HasEnded, RunHeadline}
+use Rattle.run_job.specs.Plans.{end_row, refused_plan, run_plan}
+
+traced-unfaulted : (s : Status) → is_traced s ≡ true → is_fault s ≡ false
+traced-unfaulted status.Ok t = refl
+traced-unfaulted status.CyclesOver t = refl
+traced-unfaulted status.HistoryFull t = refl
+traced-unfaulted s t = absurd (cc)
+
+-- ---- where there is no trace
+
+untraced : (s p : Status) (R : Type 0) → Statuses s p R → is_traced p ≡ false →
+    is_traced s ≡ true → ⊥
+untraced s p R (inl e) n t = let bad : true ≡ false = sym t ∙ ap is_traced e ∙ n in cc
+untraced s p R (inr (inl e)) n t = let bad : true ≡ false = sym t ∙ ap is_traced e.0 in cc
+untraced s p R (inr (inr e)) n t = let bad : true ≡ false = sym t ∙ ap is_traced e in cc
+
+text-untraced : (s : Status) → is_of_text s ≡ true → is_traced s ≡ false
+text-untraced (status.TooLong word) t = refl
+text-untraced (status.TextRefused word place rule) t = refl
+text-untraced s t = absurd (cc)
+
+tells-untraced : {A : Type 0} (told : Option FileMap) (rose : Type 0) (f : FileMap → _)
+    (p : Status) → TellsOf {A} told rose f p → is_traced p ≡ false
+tells-untraced told rose f p (inl (word, is, h)) = ap is_traced is
+tells-untraced told rose f p (inr h) = text-untraced p h.0
+
+none-traced : {A : Type 0} → FollowPlans → (told : Option FileMap) (rose : Type 0) (f : FileMap → _)
+    (old new : Output) (s : Status) → EndsEarly old new s ⊎ TellsBy {A} told rose f old new s →
+    is_traced s ≡ true → ⊥
+none-traced follow told rose f old new s (inl e) t =
+    let bad : true ≡ false = sym t ∙ ap is_traced e.status in cc
+none-traced follow told rose f old new s (inr h) t =
+    untraced s h.plan.status (Rose old.count new.count)
+    (follow.statuses old new h.plan s h.ends)
+    (tells-untraced told rose f h.plan.status h.tells) t
+
+-- ---- where there is one
+
+pub ran-headline : FollowPlans → AreReadBack → (told : Option FileMap) (refuses : Type 0)
+    (Started : ℕ → Type 0) (config program : List ℕ) (old new : Output) (s : Status) →
+    (b : EndsByBoth told refuses Started config program old new s) →
+    WritesRun Started b.outcome.setup b.outcome.program b.machine.drives old new s →
+    is_traced s ≡ true → RunHeadline told config program old.told new.told Started s
+ran-headline follow back told refuses Started config program old new s b w t =
+    let setup = b.outcome.setup in
+    let drives = drives_at_opening setup.axes b.machine.drives in
+    let plan = run_plan w.writes.status setup w.history (map end_row w.logs) in
+    let whole = follow.whole old new plan s w.writes.ends (traced-unfaulted s t) in
+    let meets : (i : ℕ) (d : DriveSim) (g : DriveLog) → slice_get drives i ≡ Some d →
+    slice_get w.logs i ≡ Some g → DriveMeets d (0 + i) w.history g =
+    λ i d g x y. let here : i ≡ 0 + i = omega arith in
+    subst (λ k. DriveMeets d k w.history g) here (w.ran.drives_meet i d g x y) in
+    record {
+      config_text = b.gives.text;
+      machine = b.machine;
+      config_file = b.gives.is_text.file;
+      configures = b.gives.means;
+      program_text = b.tasks.text;
+      tasks = b.outcome.program;
+      setup = setup;
+      program_file = b.tasks.is_text.file;
+      spelled = b.tasks.means;
+      started = w.started;
+      history = w.history;
+      legal = w.ran.legal;
+      laws = w.ran.laws;
+      made = w.ran.tasks;
+      driven = w.ran.driven;
+      in_time = w.ran.in_time;
+      drives = map end_row w.logs;
+      taken = rows-same back w.history 0 drives w.logs w.ran.logged meets;
+      ended = subst (λ x. HasEnded x setup w.history) (sym whole.0) w.writes.ended;
+      written = whole.1;
+    }
+
+both-headline : FollowPlans → AreReadBack → (told : Option FileMap) (refuses : Type 0)
+    (Started : ℕ → Type 0) (config program : List ℕ) (old new : Output) (s : Status) →
+    EndsByBoth told refuses Started config program old new s → is_traced s ≡ true →
+    RunHeadline told config program old.told new.told Started s
+both-headline follow back told refuses Started config program old new s b t = by b.ends
+  where
+    by : _ → RunHeadline told config program old.told new.told Started s
+    by (inl w) = ran-headline follow back told refuses Started config program old new s b w t
+    by (inr (inl h)) = absurd (untraced s status.ThreadRefused (Rose old.count new.count)
+        (follow.statuses old new refused_plan s h.1) refl t)
+    by (inr (inr h)) = absurd (let bad : true ≡ false = sym t ∙ ap is_traced h.status in cc)
+
+pub headline-of : FollowPlans → AreReadBack → (told : Option FileMap) (rose refuses : Type 0)
+    (Started : ℕ → Type 0) (config program : List ℕ) (old new : Output) (s : Status) →
+    Course told rose refuses Started config program old new s → is_traced s ≡ true →
+    RunHeadline told config program old.told new.told Started s
+headline-of follow back told rose refuses Started config program old new s (inl h) t =
+    absurd (none-traced follow told rose (λ files. plant_in files config program) old new s
+    (no-plant told rose config program old new s h) t)
+headline-of follow back told rose refuses Started config program old new s (inr b) t =
+    both-headline follow back told refuses Started config program old new s b t
+
+-- all that the end of a run says
+pub ended : FollowPlans → AreReadBack → (told : Option FileMap) (rose refuses : Type 0)
+    (Started : ℕ → Type 0) (config program : List ℕ) (old new : Output) (s : Status) →
+    Course told rose refuses Started config program old new s →
+    EndsByRun told rose refuses Started config program old new s
+ended follow back told rose refuses Started config program old new s course =
+    let by = planned told rose refuses Started config program old new s course in
+    record {
+      course = course;
+      headline = headline-of follow back told rose refuses Started config program old new s course;
+      refuses = refuses-of follow told rose refuses config program old new s by;
+      unread = λ word. unread-of follow told rose refuses config program old new s word by;
+      unwritten = unwritten-of follow told rose refuses config program old new s by;
+      of_text = λ files wanted e t. of-text-by follow files rose refuses config program old new s
+          wanted t (subst (λ x. Planned x rose refuses config program old new s) e by);
+      complete = λ files e. complete-by follow files rose refuses config program old new s
+          (subst (λ x. Planned x rose refuses config program old new s) e by);
+      kind = kind-by follow told rose refuses config program old new s by;
+    }

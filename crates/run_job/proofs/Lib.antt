@@ -1,0 +1,5 @@
+pub mod RowLaws
+pub mod CauseLaws
+pub mod LackLaws
+pub mod EndLaws
+pub mod HeadlineLaws

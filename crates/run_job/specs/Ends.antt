@@ -1,0 +1,88 @@
+-- How the job ends. This project's profile.
+use Rattle.std.specs.Prelude.{◌≡◌, ◌⊎◌, ℕ, ◌+◌, Option, Some, IsSomeAnd, Err, List, length, map, true}
+use Rattle.std.specs.Result.{IsOk}
+use Rattle.job_ends.specs.Causes.{ComesExactly, is_traced}
+use Rattle.job_ends.specs.Ends.{EndsBy, EndsEarly}
+use Rattle.job_ends.specs.declared.status.Status.{Status}
+use Rattle.job_ends.specs.declared.status.Status.TheVariants as status
+use Rattle.machine_config.specs.declared.machine.Machine.{Machine}
+use Rattle.machine_drives.specs.Drives.{drives_at_opening}
+use Rattle.motion_history.specs.Entries.{Entry}
+use Rattle.motion_history.specs.Setup.{Setup}
+use Rattle.motion_history.specs.declared.drives.DriveDef.{DriveDef}
+use Rattle.motion_plant.specs.Ran.{PlantRan}
+use Rattle.outside.specs.Faults.{Rose}
+use Rattle.outside.specs.Told.{FileMap}
+use Rattle.plc_program.specs.Reading.{Outcome}
+use Rattle.plc_program.specs.declared.program.Instruction.{Instruction}
+use Rattle.setpoint_ring.specs.declared.logs.DriveLog.{DriveLog}
+use Rattle.trace_text.specs.writing.Writes.{Output}
+use Rattle.run_job.specs.Causes.{LacksWord, is_of_run, is_of_text, plant_in}
+use Rattle.run_job.specs.Headline.{HasEnded, RunHeadline}
+use Rattle.run_job.specs.Plans.{end_row, refused_plan, run_plan}
+use Rattle.run_job.specs.Plants.{GivesMachine, GivesProgram, NoPlant}
+
+-- the trace of a history with these logs was written, with the status that tells how it ended
+pub record WritesTrace (setup : Setup) (h : List Entry) (logs : List DriveLog) (old new : Output)
+    (s : Status) : Type 0 where
+  pub status : Status
+  pub ended : HasEnded status setup h
+  pub ends : EndsBy old new (run_plan status setup h (map end_row logs)) s
+
+-- a plant ran, and the trace of its history was written
+pub record WritesRun (Started : ℕ → Type 0) (setup : Setup) (program : List (List Instruction))
+    (drives : List DriveDef) (old new : Output) (s : Status) : Type 0 where
+  pub started : Started (length setup.axes + length setup.tasks)
+  pub history : List Entry
+  pub logs : List DriveLog
+  pub ran : PlantRan setup program (drives_at_opening setup.axes drives) history logs
+  pub writes : WritesTrace setup history logs old new s
+
+-- how the job ends with a plant: it ran; or a thread was refused, and it was said so; or memory ran
+-- out
+abbrev pub EndsByPlant : Type 0 → (ℕ → Type 0) → Setup → List (List Instruction) →
+    List DriveDef → Output → Output → Status → Type 0
+EndsByPlant refused Started setup program drives old new s =
+    WritesRun Started setup program drives old new s ⊎
+    ((refused × EndsBy old new refused_plan s) ⊎ EndsEarly old new s)
+
+-- how it ends where the files give a machine and its program
+pub record EndsByBoth (told : Option FileMap) (refused : Type 0) (Started : ℕ → Type 0)
+    (config program : List ℕ) (old new : Output) (s : Status) : Type 0 where
+  pub machine : Machine
+  pub outcome : Outcome
+  pub gives : GivesMachine told config machine
+  pub tasks : GivesProgram told program machine outcome
+  pub ends : EndsByPlant refused Started outcome.setup outcome.program machine.drives old new s
+
+-- how it ends: the files give no plant, or they give one
+abbrev pub Course : Option FileMap → Type 0 → Type 0 → (ℕ → Type 0) → List ℕ → List ℕ →
+    Output → Output → Status → Type 0
+Course told rose refused Started config program old new s =
+    NoPlant told rose config program old new s ⊎
+    EndsByBoth told refused Started config program old new s
+
+-- how the job ends by its files, and what that says of its status
+pub record EndsByRun (told : Option FileMap) (rose refused : Type 0) (Started : ℕ → Type 0)
+    (config program : List ℕ) (old new : Output) (s : Status) : Type 0 where
+  pub course : Course told rose refused Started config program old new s
+  -- where it stands for a trace, the headline holds of what was written
+  pub headline : is_traced s ≡ true →
+      RunHeadline told config program old.told new.told Started s
+  -- a thread was refused only where the count of refused starts rose
+  pub refuses : s ≡ status.ThreadRefused → refused
+  -- a file couldn't be read only where reading failed, or it is told that there is none
+  pub unread : (word : ℕ) → s ≡ status.ReadFault word → rose ⊎
+      IsSomeAnd told (λ files. LacksWord files config program word)
+  -- writing failed only where the count of its faults rose
+  pub unwritten : s ≡ status.WriteFault → Rose old.count new.count
+  -- what tells of a file's text comes exactly where the files lead to it
+  pub of_text : (files : FileMap) (wanted : Status) → told ≡ Some files →
+      is_of_text wanted ≡ true →
+      ComesExactly s wanted (plant_in files config program ≡ Err wanted)
+  -- where the files give a plant and no count rose there is a trace, or memory ran out
+  pub complete : (files : FileMap) → told ≡ Some files →
+      IsOk (plant_in files config program) → (rose → ⊥) → (refused → ⊥) →
+      (Rose old.count new.count → ⊥) → (is_traced s ≡ true) ⊎ (s ≡ status.OutOfMemory)
+  -- and it is one of a run's statuses
+  pub kind : is_of_run s ≡ true

@@ -1,0 +1,5 @@
+pub mod Plants
+pub mod Plans
+pub mod Causes
+pub mod Headline
+pub mod Ends

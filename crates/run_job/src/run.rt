@@ -1,0 +1,76 @@
+// The machine of two files is run.
+
+ghost use Rattle.std.specs.Prelude.{◌≡◌, ◌≤◌, ◌+◌, length};
+ghost use Rattle.std.specs.Arc.{arc_value};
+ghost use Rattle.std.specs.List.{All};
+ghost use Rattle.motion_history.specs.Drives.{IsDrive};
+ghost use Rattle.outside.specs.Faults.{Rose};
+ghost use Rattle.plc_program.specs.Programs.{IsProgramOf};
+ghost use Rattle.run_job.specs.Ends.{EndsByPlant, EndsByRun};
+
+use crate::names::RunNames;
+use crate::reading::read_plant;
+use crate::trace::write_run;
+use cia402_machine::statuswords_are_read_back;
+use job_ends::{Status, ends_follow_plans, say_all};
+use motion_plant::{Plant, PlantFault, PlantJob, run_plant};
+use outside::{Files, Gate, Host, MOST_JOBS, Sink, Spawner};
+use std::alloc::Global;
+use std::sync::Wait;
+
+/// Runs the machine that the first file configures with the program of its tasks that the second
+/// is: a thread for each drive and each task, and the cycles here. Each turn of a task passes a
+/// twin of the gate. Nothing is written before every thread was joined; it waits for the drives,
+/// the tasks and the gate, so that it may never return.
+pub fn run_files<F: Files, K: Sink, H: Host + Wait, G: Gate + Drop + Send + 'static>(
+    rt: &H,
+    alloc: Global,
+    names: &RunNames<'_>,
+    files: &mut F,
+    out: &mut K,
+    spawner: &mut Spawner<H, PlantJob<G>>,
+    gate: &G,
+) -> Status
+    requires few { length spawner.old.jobs + 24 ≤ MOST_JOBS }
+    ensures { EndsByRun (F.told files.old) (Rose (F.count files.old) (F.count files.new))
+        (Rose spawner.old.faults spawner.new.faults)
+        (λ n. length spawner.new.jobs ≡ length spawner.old.jobs + n)
+        names.now.config.now names.now.program.now
+        (record { count = K.count out.old; told = K.told out.old })
+        (record { count = K.count out.new; told = K.told out.new }) result }
+{
+    ends_follow_plans();
+    statuswords_are_read_back();
+    match read_plant(alloc, names, files, out) {
+        Ok(plant) => run_read(rt, alloc, &plant, out, spawner, gate),
+        Err(status) => status,
+    }
+}
+
+// Runs a plant, and writes its trace.
+fn run_read<K: Sink, H: Host + Wait, G: Gate + Drop + Send + 'static>(
+    rt: &H,
+    alloc: Global,
+    plant: &Plant,
+    out: &mut K,
+    spawner: &mut Spawner<H, PlantJob<G>>,
+    gate: &G,
+) -> Status
+    requires few { length spawner.old.jobs + 24 ≤ MOST_JOBS }
+    requires program { IsProgramOf plant.now.config (arc_value plant.now.program) }
+    requires each { length plant.now.drives ≡ length plant.now.config.axes }
+    requires drives { All IsDrive plant.now.drives }
+    ensures { EndsByPlant (Rose spawner.old.faults spawner.new.faults)
+        (λ n. length spawner.new.jobs ≡ length spawner.old.jobs + n)
+        plant.now.config (arc_value plant.now.program) plant.now.drives
+        (record { count = K.count out.old; told = K.told out.old })
+        (record { count = K.count out.new; told = K.told out.new }) result }
+{
+    match run_plant(rt, alloc, plant, spawner, gate) {
+        Ok(end) => write_run(alloc, &end, out),
+        Err(PlantFault::ThreadRefused) => {
+            say_all(b"thread refused\n", Status::ThreadRefused, out)
+        }
+        Err(PlantFault::OutOfMemory) => Status::OutOfMemory,
+    }
+}

@@ -1,0 +1,70 @@
+// The trace of a run is written.
+
+ghost use Rattle.std.specs.Prelude.{◌≡◌, IfOk, length, map};
+ghost use Rattle.job_ends.specs.Ends.{EndsBy};
+ghost use Rattle.motion_plant.specs.Ran.{EndsSo};
+ghost use Rattle.run_job.specs.Plans as plans;
+ghost use Rattle.run_job.specs.Traces.{WritesTrace};
+
+use cia402_machine::{DriveState, state_of};
+use job_ends::{Status, ends_follow_plans, status_by};
+use motion_history::TraceVersion;
+use motion_plant::{PlantEnd, RunEnding, ending_of};
+use outside::Sink;
+use setpoint_ring::DriveLog;
+use std::alloc::{AllocError, Global};
+use trace_text::{Command, DriveEndRow, write_trace};
+
+/// Writes the trace of a plant's run, and answers how the run ended.
+pub fn write_run<K: Sink>(alloc: Global, end: &PlantEnd, out: &mut K) -> Status
+    requires ends { EndsSo end.now.kernel.config end.now.kernel.history }
+    requires each { length end.now.drives.items ≡ length end.now.kernel.config.axes }
+    ensures { WritesTrace end.now.kernel.config end.now.kernel.history end.now.drives.items
+        (record { count = K.count out.old; told = K.told out.old })
+        (record { count = K.count out.new; told = K.told out.new }) result }
+{
+    ends_follow_plans();
+    let status = status_of(ending_of(&end.kernel));
+    let Ok(rows) = end_rows(alloc, end.drives.as_slice()) else {
+        return Status::OutOfMemory;
+    };
+    let written = write_trace(
+        alloc,
+        TraceVersion::Two,
+        Command::Run,
+        end.kernel.config(),
+        end.kernel.history(),
+        rows.as_slice(),
+        out,
+    );
+    status_by(status, written)
+}
+
+// The status that a run ends with.
+fn status_of(ending: RunEnding) -> Status
+    ensures { result ≡ plans.status_of ending }
+{
+    match ending {
+        RunEnding::Ok => Status::Ok,
+        RunEnding::CyclesOver => Status::CyclesOver,
+        RunEnding::HistoryFull => Status::HistoryFull,
+    }
+}
+
+// What a drive took, by its log.
+fn end_row(log: &DriveLog) -> DriveEndRow
+    ensures { result ≡ plans.end_row log.now }
+{
+    DriveEndRow {
+        taken: log.taken,
+        state: state_of(log.last.statusword).unwrap_or(DriveState::NotReady),
+        actual: log.last.actual,
+    }
+}
+
+// What each drive took, by its log.
+fn end_rows(alloc: Global, logs: &[DriveLog]) -> Result<Vec<DriveEndRow>, AllocError>
+    ensures { IfOk result (λ v. v.items ≡ map plans.end_row logs.now) }
+{
+    logs.iter().map(end_row).collect(alloc)
+}
