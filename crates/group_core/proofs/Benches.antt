@@ -14,15 +14,6 @@ pub queue-without : (f : Wanted → Wanted) (lists : List (List Wanted)) → que
 queue-without f [] = refl
 queue-without f (q ∷ qs) = refl
 
-pub as-many : {A B : Type 0} (f : A → B) (xs : List A) → length (map f xs) ≡ length xs
-as-many f [] = refl
-as-many f (x ∷ xs) = ap suc (as-many f xs)
-
--- a group that loses an owner has its axes
-pub axes-without : (owner : ℕ) (g : Group) → (group_without owner g).axes ≡ g.axes
-unfolding group_without
-axes-without owner g = refl
-
 -- two groups whose axes have the same limits have as many
 pub same-axes : (limits : List Limits) (g h : Group) (p q : Option OnPath) (ws vs : List Wanted) → IsGroupKept limits g p ws → IsGroupKept limits h q vs → g.axes ≡ h.axes
 same-axes limits g h p q ws vs k l = sym k.limits_are.each.one_each ∙ l.limits_are.each.one_each
