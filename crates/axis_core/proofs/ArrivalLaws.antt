@@ -28,7 +28,7 @@ use Rattle.command_pool.specs.Waiting.{last_of, without}
 use Rattle.kin_core.specs.Toward.{toward_zero}
 use Rattle.axis_core.specs.Arrivals as turn
 use Rattle.axis_core.specs.Arrivals.{toward, slowing, Carried, Course, GoesOn, IsAtEnd, IsTurn, IsUnderWay, RunsWithin, Turn, bound_of, course_by, course_of, turn_by, turn_of}
-use Rattle.axis_core.specs.AxisKept.{AreNumbers, AreRatesWithin, IsCoreKept, IsInState, IsMoveWithin, IsReady, IsRunning}
+use Rattle.axis_core.specs.AxisKept.{AreNumbers, IsCoreKept, IsInState, IsMoveWithin, IsReady, IsRunning}
 use Rattle.buffer_modes.specs.Owners.{active_without}
 use Rattle.axis_core.specs.Calls.{core_after_admission, core_after_command, core_after_verdict, axis_without_owner, core_after_disabling, core_after_power, queue_in, core_with_queued}
 use Rattle.axis_core.specs.Cores.{Core, axis_under, core_after_ending}

@@ -1,11 +1,11 @@
 -- An instance is told of the end of each command that it has, once.
-use Rattle.std.specs.Prelude.{◌≤◌, ◌≡◌, refl, map, ℕ, ◌+◌, Bool, true, false, ◌&&◌, ◌||◌, is_none, nat_eq, ℤ, ◌+ℤ◌, Option, Some, None, List, [], ◌∷◌, ◌++◌, slice_get, if◌then◌else◌}
-use Rattle.std.proofs.Common.{sym, ◌∙◌, ap, arith, inl, inr}
+use Rattle.std.specs.Prelude.{◌≤◌, ◌≡◌, refl, ℕ, ◌+◌, Bool, true, false, ◌&&◌, ◌||◌, is_none, nat_eq, ℤ, ◌+ℤ◌, Option, Some, None, List, [], ◌∷◌, ◌++◌, slice_get, if◌then◌else◌}
+use Rattle.std.proofs.Common.{◌∙◌, ap, arith, inl, inr}
 use Rattle.std.proofs.lemmas.Bool.{cases_eq, ne_eqb}
 use Rattle.axis_state.specs.Diagram.{next_of}
 use Rattle.axis_state.specs.declared.diagram.AxisEvent.TheVariants.{StopReleased}
 use Rattle.axis_state.specs.declared.state.AxisState.{AxisState}
-use Rattle.buffer_modes.specs.Owners.{is_owner, one_of, owner_by, told, waits_of}
+use Rattle.buffer_modes.specs.Owners.{is_owner, owner_by, told, waits_of}
 use Rattle.buffer_modes.specs.Queue.{active_note, end_notes, is_aborting, is_active_at_once, behind}
 use Rattle.buffer_modes.specs.Resets.{replaced_note, reset_owner}
 use Rattle.axis_core.specs.Calls.{core_after_admission, core_after_command, core_after_verdict, axis_without_owner, core_after_disabling, core_after_power, queue_in, core_with_queued}
@@ -21,8 +21,7 @@ use Rattle.axis_core.specs.blocks.Moves.{known_target_of, position_of, with_targ
 use Rattle.axis_core.specs.blocks.Reset.{after_reset, may_reset, reset_axis, reset_notes}
 use Rattle.axis_core.specs.declared.reason.Reason.{Reason}
 use Rattle.cia402_machine.specs.declared.drive.DriveIn.{DriveIn}
-use Rattle.command_pool.specs.Waiting as pool
-use Rattle.command_pool.specs.Waiting.{last_of, told_to, notes_of, without}
+use Rattle.command_pool.specs.Waiting.{last_of, told_to, notes_of}
 use Rattle.command_pool.specs.declared.ending.Finish.{Finish}
 use Rattle.command_pool.specs.declared.ending.Finish.TheVariants as finish
 use Rattle.command_pool.specs.declared.kind.BlockKind.{BlockKind}

@@ -1,11 +1,10 @@
 -- The instance that has the active command is told how it ends.
 use Rattle.std.specs.Prelude.{◌≡◌, refl, ℕ, Bool, true, false, ◌&&◌, ◌||◌, nat_eq, ℤ, ◌+ℤ◌, Option, Some, None, is_none, List, [], ◌∷◌, ◌++◌, slice_get, if◌then◌else◌}
 use Rattle.std.specs.List.{Contains}
-use Rattle.std.proofs.Common.{sym, ap, subst, arith}
+use Rattle.std.proofs.Common.{sym, subst, arith}
 use Rattle.std.proofs.lemmas.List.Elements.{Contains-append_left, Contains-append_right}
-use Rattle.buffer_modes.specs.Owners.{owner_by}
 use Rattle.buffer_modes.specs.Queue.{active_note, is_active_at_once, is_aborting, end_notes}
-use Rattle.command_pool.specs.Waiting.{last_of, told_to, notes_of}
+use Rattle.command_pool.specs.Waiting.{last_of, notes_of}
 use Rattle.command_pool.specs.declared.ending.Finish.{Finish}
 use Rattle.command_pool.specs.declared.ending.Finish.TheVariants as finish
 use Rattle.command_pool.specs.declared.kind.BlockKind.{BlockKind}

@@ -1,6 +1,6 @@
 -- What becomes of the commands of an axis in a call and in a cycle (PLCopen Motion Control Part 1,
 -- BufferMode).
-use Rattle.std.specs.Prelude.{◌≡◌, ◌≢◌, Bool, true, false, ◌&&◌, nat_eq, if◌then◌else◌, ℤ, ◌+ℤ◌, Option, Some, None, is_some, List, [], ◌∷◌, slice_get}
+use Rattle.std.specs.Prelude.{Bool, true, false, ◌&&◌, nat_eq, if◌then◌else◌, ℤ, ◌+ℤ◌, Option, Some, None, is_some, List, [], ◌∷◌, slice_get}
 use Rattle.buffer_modes.specs.Fates.{Fate, goes_on, replaced}
 use Rattle.buffer_modes.specs.Queue.{is_active_at_once}
 use Rattle.command_pool.specs.Waiting.{last_of}

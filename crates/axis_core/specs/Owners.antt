@@ -1,12 +1,9 @@
 -- Which instance has a command of an axis, how often, and how often it is told of an end (PLCopen
 -- Motion Control Part 1, general rules).
-use Rattle.std.specs.Prelude.{◌≡◌, ℕ, ◌+◌, map, Option, Some, None, List, ◌≤◌}
-use Rattle.std.specs.List.{Contains}
+use Rattle.std.specs.Prelude.{ℕ, ◌+◌, map, Option, Some, None, ◌≤◌}
 use Rattle.buffer_modes.specs.Owners.{is_owner, owner_by, waits_of}
-use Rattle.command_pool.specs.declared.ending.Finish.{Finish}
 use Rattle.command_pool.specs.declared.kind.BlockKind.{BlockKind}
 use Rattle.command_pool.specs.declared.kind.BlockKind.TheVariants as kind
-use Rattle.command_pool.specs.declared.notes.Note.{Note}
 use Rattle.command_pool.specs.declared.wanted.Wanted.{Wanted}
 use Rattle.command_pool.specs.Waiting as pool
 use Rattle.axis_core.specs.Calls.{axis_without_owner}

@@ -1,5 +1,5 @@
 -- What becomes of the active command, and who is told of it.
-use Rattle.std.specs.Prelude.{◌≡◌, ◌≢◌, refl, ℕ, Bool, Option, Some, None, List, []}
+use Rattle.std.specs.Prelude.{◌≡◌, ◌≢◌, refl, ℕ, Bool, Option, Some, None, List}
 use Rattle.std.specs.List.{Contains}
 use Rattle.std.proofs.Common.{◌∙◌, sym, ap, subst, arith}
 use Rattle.command_pool.specs.Waiting.{told_to}

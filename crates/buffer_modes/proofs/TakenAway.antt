@@ -1,5 +1,5 @@
 -- An instance whose commands are taken away, and the others.
-use Rattle.std.specs.Prelude.{◌≡◌, refl, ℕ, ◌+◌, Bool, true, false, nat_eq, Option, Some, None, List, [], ◌∷◌, if◌then◌else◌, map}
+use Rattle.std.specs.Prelude.{◌≡◌, refl, ℕ, Bool, true, false, nat_eq, Option, Some, None, List, [], ◌∷◌, if◌then◌else◌, map}
 use Rattle.std.proofs.Common.{sym, ◌∙◌, ap, arith}
 use Rattle.std.proofs.lemmas.Bool.{eqb-true}
 use Rattle.command_pool.specs.Waiting.{detached, without}

@@ -1,6 +1,6 @@
 -- What the laws of owners, of what they are told, and of fates say (PLCopen Motion Control Part 1, general rules).
 use Rattle.std.specs.Prelude.{◌≡◌, ◌≢◌, ◌≤◌, ℕ, ◌+◌, Bool, false, nat_eq, Option, Some, None, List, [], ◌∷◌, ◌++◌, length, map}
-use Rattle.command_pool.specs.Waiting.{detached, notes_of, told_to, without}
+use Rattle.command_pool.specs.Waiting.{detached, notes_of, told_to}
 use Rattle.command_pool.specs.declared.ending.Finish.{Finish}
 use Rattle.command_pool.specs.declared.notes.Note.{Note}
 use Rattle.command_pool.specs.declared.wanted.Wanted.{Wanted}

@@ -1,10 +1,9 @@
 -- What a bench keeps of its group.
-use Rattle.std.specs.Prelude.{◌≡◌, refl, ℕ, suc, Option, List, [], ◌∷◌, length, map}
-use Rattle.std.proofs.Common.{◌∙◌, ap, sym}
+use Rattle.std.specs.Prelude.{◌≡◌, refl, Option, List, [], ◌∷◌, map}
+use Rattle.std.proofs.Common.{◌∙◌, sym}
 use Rattle.command_pool.specs.Waiting.{queue_of}
 use Rattle.command_pool.specs.declared.wanted.Wanted.{Wanted}
 use Rattle.kin_core.specs.declared.limits.Limits.{Limits}
-use Rattle.group_core.specs.Calls.{group_without}
 use Rattle.group_core.specs.GroupKept.{IsGroupKept}
 use Rattle.group_core.specs.Tracks.{OnPath}
 use Rattle.group_core.specs.declared.group.Group.{Group}

@@ -1,9 +1,9 @@
 -- A cycle, from what its parts made.
-use Rattle.std.specs.Prelude.{◌≡◌, refl, ℕ, ◌+◌, ◌≤◌, Bool, not, ◌&&◌, nat_eq, ℤ, Option, Some, None, IfSome, List, [], ◌∷◌, ◌++◌, length}
+use Rattle.std.specs.Prelude.{◌≡◌, refl, ℕ, ◌+◌, ◌≤◌, Bool, not, ◌&&◌, nat_eq, ℤ, Option, Some, None, IfSome, List, ◌++◌, length}
 use Rattle.std.proofs.Common.{◌∙◌, sym, ap, subst, arith}
 use Rattle.std.proofs.lemmas.List.{length-append}
 use Rattle.buffer_modes.specs.Queue.{active_note}
-use Rattle.command_pool.specs.Waiting.{note_of, notes_of, told_to}
+use Rattle.command_pool.specs.Waiting.{notes_of}
 use Rattle.command_pool.specs.declared.ending.Finish.{Finish}
 use Rattle.command_pool.specs.declared.ending.Finish.TheVariants as finish
 use Rattle.command_pool.specs.declared.notes.Note.{Note}

@@ -1,6 +1,6 @@
 -- A fate is what becomes of the active command.
 use Rattle.std.specs.Prelude.{◌≡◌, ◌≢◌, refl, ℕ, Bool, true, false, ◌||◌, ℤ, Option, Some, None, is_none, List, [], ◌∷◌, ◌++◌, slice_get, if◌then◌else◌}
-use Rattle.std.proofs.Common.{◌∙◌, sym, ap, subst}
+use Rattle.std.proofs.Common.{sym, ap, subst}
 use Rattle.axis_state.specs.declared.state.AxisState.{AxisState}
 use Rattle.buffer_modes.specs.Owners.{IsSame}
 use Rattle.buffer_modes.specs.Queue.{Commands, behind, is_aborting, active_note}

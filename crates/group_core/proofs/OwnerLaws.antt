@@ -1,15 +1,13 @@
 -- An instance is told of the end of each command that it has, once.
-use Rattle.std.specs.Prelude.{◌≡◌, refl, map, ℕ, ◌+◌, Bool, true, false, not, ◌&&◌, ◌||◌, is_none, is_some, nat_eq, ℤ, Option, Some, None, List, [], ◌∷◌, ◌++◌, if◌then◌else◌}
-use Rattle.std.proofs.Common.{sym, ◌∙◌, ap, arith}
+use Rattle.std.specs.Prelude.{◌≡◌, refl, ℕ, ◌+◌, Bool, true, false, not, ◌&&◌, ◌||◌, is_none, is_some, nat_eq, ℤ, Option, Some, None, List, [], ◌∷◌, ◌++◌, if◌then◌else◌}
+use Rattle.std.proofs.Common.{◌∙◌, ap, arith}
 use Rattle.buffer_modes.specs.Owners.{is_owner, owner_by, told, waits_of}
 use Rattle.buffer_modes.specs.Queue.{active_note, is_aborting}
-use Rattle.command_pool.specs.Waiting as pool
-use Rattle.command_pool.specs.Waiting.{notes_of, told_to, without}
+use Rattle.command_pool.specs.Waiting.{notes_of, told_to}
 use Rattle.command_pool.specs.declared.ending.Finish.{Finish}
 use Rattle.command_pool.specs.declared.ending.Finish.TheVariants as finish
 use Rattle.command_pool.specs.declared.kind.BlockKind.{BlockKind}
 use Rattle.command_pool.specs.declared.kind.BlockKind.TheVariants as kind
-use Rattle.command_pool.specs.declared.notes.Note.{Note}
 use Rattle.command_pool.specs.declared.wanted.Wanted.{Wanted}
 use Rattle.group_state.specs.Diagram.{next_of}
 use Rattle.group_state.specs.declared.diagram.GroupEvent.TheVariants as event

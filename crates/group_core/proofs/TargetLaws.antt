@@ -20,7 +20,7 @@ use Rattle.group_core.specs.Fates.{cycle_fate, ending_fate, is_failing}
 use Rattle.group_state.specs.declared.state.GroupState.{GroupState}
 use Rattle.group_state.specs.declared.state.GroupState.TheVariants as state
 use Rattle.group_core.specs.Cores.{Core, ended, ended_by, failed, line_begun, settled_on, taken_over}
-use Rattle.group_core.specs.Cycles.{Advance, advanced, advanced_with, answered, cycled, group_released, moved, opening, over_at_rest, path_after, path_released, path_taken, released, step_of, ending_of}
+use Rattle.group_core.specs.Cycles.{Advance, advanced, advanced_with, answered, cycled, moved, opening, over_at_rest, path_after, path_released, path_taken, released, step_of, ending_of}
 use Rattle.group_core.specs.GroupKept.{IsCoreKept, IsInState, IsPathOf, is_within}
 use Rattle.group_core.specs.Kinds.{ending_by}
 use Rattle.group_core.specs.Refusals.{limits_in, refusal_of}
@@ -210,10 +210,6 @@ pub opens-toward : (axes : ℕ) → Goes (opening axes)
 opens-toward axes = none_toward None
 
 -- the path on which the axes take their places in a cycle
-failed_path : (n : ℕ) (c : Core) → (failed n c).path ≡ c.path
-unfolding failed
-failed_path n c = refl
-
 taken_way : (g : Group) (o : Option OnPath) (p q : OnPath) → o ≡ Some p → path_after g o ≡ Some q →
     IsSameWay p q
 taken_way g None p q e f = absurd (cc)

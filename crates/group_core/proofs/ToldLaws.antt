@@ -1,11 +1,10 @@
 -- The instance that has the active command is told how it ends.
 use Rattle.std.specs.Prelude.{◌≡◌, refl, ℕ, Bool, true, false, ◌||◌, ℤ, Option, Some, None, is_none, List, [], ◌∷◌, ◌++◌, slice_get, if◌then◌else◌}
 use Rattle.std.specs.List.{Contains}
-use Rattle.std.proofs.Common.{sym, ap, subst, arith}
+use Rattle.std.proofs.Common.{sym, subst, arith}
 use Rattle.std.proofs.lemmas.List.Elements.{Contains-append_left, Contains-append_right}
-use Rattle.buffer_modes.specs.Owners.{owner_by}
 use Rattle.buffer_modes.specs.Queue.{active_note, end_notes, is_aborting}
-use Rattle.command_pool.specs.Waiting.{notes_of, told_to}
+use Rattle.command_pool.specs.Waiting.{notes_of}
 use Rattle.command_pool.specs.declared.ending.Finish.{Finish}
 use Rattle.command_pool.specs.declared.ending.Finish.TheVariants as finish
 use Rattle.command_pool.specs.declared.kind.BlockKind.{BlockKind}

@@ -1,6 +1,6 @@
 -- What becomes of the active command of a group in a call and in a cycle (PLCopen Motion Control
 -- Part 4; BufferMode of Part 1).
-use Rattle.std.specs.Prelude.{◌≡◌, ◌≢◌, Bool, false, not, ◌&&◌, nat_eq, if◌then◌else◌, ℤ, Option, Some, None, List, slice_get}
+use Rattle.std.specs.Prelude.{Bool, false, not, ◌&&◌, nat_eq, if◌then◌else◌, ℤ, Option, Some, None, List, slice_get}
 use Rattle.buffer_modes.specs.Fates.{Fate, goes_on, replaced}
 use Rattle.buffer_modes.specs.Queue.{is_active_at_once}
 use Rattle.command_pool.specs.declared.ending.Finish.{Finish}

@@ -1,5 +1,5 @@
 -- MC_Halt and MC_Stop, and the hold of a Stop on Stopping (PLCopen Motion Control Part 1).
-use Rattle.std.specs.Prelude.{ℕ, Result, Ok, Bool, true, ◌&&◌, not, if◌then◌else◌, ℤ, pos, Option, Some, None, is_some, List, [], ◌∷◌}
+use Rattle.std.specs.Prelude.{ℕ, Result, Ok, Bool, ◌&&◌, not, if◌then◌else◌, ℤ, pos, Option, None, is_some, List, [], ◌∷◌}
 use Rattle.std.specs.Ordering.{int_eq}
 use Rattle.axis_state.specs.Diagram.{next_of}
 use Rattle.axis_state.specs.declared.diagram.AxisEvent.{AxisEvent}

@@ -1,5 +1,5 @@
 -- MC_GroupHalt and MC_GroupStop, and the hold on GroupStopping (PLCopen Motion Control Part 4).
-use Rattle.std.specs.Prelude.{ℕ, Bool, true, ◌&&◌, not, if◌then◌else◌, ℤ, pos, Option, Some, None, is_some, List, [], ◌∷◌}
+use Rattle.std.specs.Prelude.{ℕ, Bool, ◌&&◌, not, if◌then◌else◌, ℤ, pos, Option, Some, None, is_some, List, [], ◌∷◌}
 use Rattle.std.specs.Ordering.{int_eq}
 use Rattle.buffer_modes.specs.Owners.{is_released}
 use Rattle.command_pool.specs.declared.ending.Finish.{Finish}

@@ -4,7 +4,6 @@ use Rattle.axis_state.specs.States.{is_stopping}
 use Rattle.axis_core.specs.declared.axis.Axis.{Axis}
 use Rattle.command_pool.specs.declared.kind.BlockKind.{BlockKind}
 use Rattle.command_pool.specs.declared.kind.BlockKind.TheVariants as kind
-use Rattle.command_pool.specs.declared.wanted.Wanted.{Wanted}
 use Rattle.fb_outputs.specs.InstanceState.{InstanceState}
 use Rattle.fb_outputs.specs.Steps as instance
 use Rattle.group_core.specs.States as group_states

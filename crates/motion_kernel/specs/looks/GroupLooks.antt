@@ -3,7 +3,6 @@ use Rattle.std.specs.Prelude.{ℕ, zero, suc, Bool, pos, List, length, replicate
 use Rattle.axis_core.specs.declared.axis.Axis.{Axis}
 use Rattle.axis_state.specs.declared.state.AxisState.TheVariants.{Disabled}
 use Rattle.group_core.specs.declared.look.GroupLook.{GroupLook}
-use Rattle.kin_core.specs.declared.limits.Limits.{Limits}
 use Rattle.motion_history.specs.Setup.{Setup}
 use Rattle.motion_kernel.specs.Machine.{Machine, axis_among, group_at}
 use Rattle.motion_kernel.specs.members.Members.{member_at, members_at}

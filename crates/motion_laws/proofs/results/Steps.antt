@@ -6,7 +6,6 @@ use Rattle.axis_core.specs.Calls.{core_after_command, core_after_power}
 use Rattle.axis_core.specs.Cores as cores
 use Rattle.axis_core.specs.Cycles.{core_after_cycle}
 use Rattle.axis_core.specs.Fates as axis_fates
-use Rattle.axis_core.specs.Owners as axis
 use Rattle.axis_core.specs.Refusals as axis_refusals
 use Rattle.axis_core.specs.declared.look.AxisLook.{AxisLook}
 use Rattle.buffer_modes.specs.Fates.{TellsOwner}
@@ -19,7 +18,6 @@ use Rattle.group_core.specs.Calls.{commanded, powered_off}
 use Rattle.group_core.specs.Cores as group_cores
 use Rattle.group_core.specs.Cycles as group_cycles
 use Rattle.group_core.specs.Fates as group_fates
-use Rattle.group_core.specs.Owners as group
 use Rattle.group_core.specs.declared.look.GroupLook.{GroupLook}
 use Rattle.motion_history.specs.Setup.{Setup}
 use Rattle.motion_kernel.specs.cycles.Cycles.{look_of_group}

@@ -7,7 +7,6 @@ use Rattle.buffer_modes.specs.Owners.{active_without, is_owner, owner_by}
 use Rattle.command_pool.specs.Waiting.{without}
 use Rattle.command_pool.specs.declared.wanted.Wanted.{Wanted}
 use Rattle.fb_outputs.specs.InstanceState.{InstanceState}
-use Rattle.group_core.specs.Calls as group_calls
 use Rattle.group_core.specs.Calls.{group_without, powered_off}
 use Rattle.motion_history.specs.Setup.{Setup}
 use Rattle.motion_kernel.specs.calls.Calls.{after_power, group_without_power, with_axis_core, with_group_core, with_instance, without_owner}

@@ -11,7 +11,6 @@ use Rattle.fb_outputs.specs.InstanceState.{InstanceState}
 use Rattle.group_core.specs.Calls as group_calls
 use Rattle.group_core.specs.Cores as groups
 use Rattle.group_core.specs.Cycles as group_cycles
-use Rattle.group_core.specs.Owners as group_owners
 use Rattle.group_core.specs.Refusals as group_refusals
 use Rattle.group_core.specs.States as group_states
 use Rattle.group_core.specs.blocks.Halts as group_halts
