@@ -28,17 +28,19 @@ use Rattle.command_pool.specs.Waiting.{last_of, without}
 use Rattle.kin_core.specs.Toward.{toward_zero}
 use Rattle.axis_core.specs.Arrivals as turn
 use Rattle.axis_core.specs.Arrivals.{toward, slowing, Carried, Course, GoesOn, IsAtEnd, IsTurn, IsUnderWay, RunsWithin, Turn, bound_of, course_by, course_of, turn_by, turn_of}
-use Rattle.axis_core.specs.AxisKept.{AreNumbers, AreRatesWithin, IsCoreKept, IsInState, IsMoveWithin, IsReady, IsRunning}
-use Rattle.axis_core.specs.Calls.{active_without, core_after_admission, core_after_command, core_after_verdict, axis_without_owner, core_after_disabling, core_after_power, queue_in, core_with_queued}
+use Rattle.axis_core.specs.AxisKept.{AreNumbers, IsCoreKept, IsInState, IsMoveWithin, IsReady, IsRunning}
+use Rattle.buffer_modes.specs.Owners.{active_without}
+use Rattle.axis_core.specs.Calls.{core_after_admission, core_after_command, core_after_verdict, axis_without_owner, core_after_disabling, core_after_power, queue_in, core_with_queued}
 use Rattle.axis_core.specs.Cores.{Core, axis_under, core_after_ending}
 use Rattle.axis_core.specs.Cycles.{Advance, advance_in_cycle, advance_by_progress, advance_without_error, advance_by_command, core_after_answer, axis_after_braking, core_after_cycle, axis_after_progress, axis_after_word, core_after_going_on, core_after_advance, progress_in_cycle, progress_by_step, core_after_step}
 use Rattle.axis_core.specs.Drives.{answer_error_of, is_driven, is_operational, is_within, axis_at_drive}
-use Rattle.axis_core.specs.Fates.{Fate, admitted_fate, asked_fate, command_fate, cycle_fate, ending_fate, goes_on, is_blended, moved_fate, power_fate, replaced}
+use Rattle.buffer_modes.specs.Fates.{Fate, goes_on, replaced}
+use Rattle.axis_core.specs.Fates.{admitted_fate, asked_fate, command_fate, cycle_fate, ending_fate, is_blended, moved_fate, power_fate}
 use Rattle.axis_core.specs.Kinds.{ending_by, is_reached, wish_by}
 use Rattle.axis_core.specs.Motions.{is_slowing}
 use Rattle.axis_core.specs.Ranges.{IsBetween}
 use Rattle.axis_core.specs.Refusals.{Asked, refusal_of}
-use Rattle.axis_core.specs.States.{is_error_stop, is_synchronized}
+use Rattle.axis_state.specs.States.{is_error_stop, is_synchronized}
 use Rattle.axis_core.specs.Steps.{ends_where, axis_after_step, old_step_of, step_for_wish, taken_step_in}
 use Rattle.axis_core.specs.blocks.Halts.{halt_ending, halt_wish, leaves_stopping, axis_after_stop}
 use Rattle.axis_core.specs.blocks.Moves.{blended_with, is_crossing, is_move, known_target_of, move_ending, move_ending_with, move_step_with, move_wish, stands_at_target, target_of, with_target}
@@ -46,7 +48,7 @@ use Rattle.axis_core.specs.blocks.Path.{place_on_path}
 use Rattle.axis_core.specs.blocks.Power.{is_powered}
 use Rattle.axis_core.specs.blocks.Reset.{after_reset, may_reset, reset_axis}
 use Rattle.axis_core.specs.declared.axis.Axis.{Axis}
-use Rattle.axis_core.specs.declared.axis.PendingReset.{PendingReset}
+use Rattle.buffer_modes.specs.declared.reset.PendingReset.{PendingReset}
 use Rattle.axis_core.specs.declared.look.AxisLook.{AxisLook}
 use Rattle.axis_core.specs.declared.progress.Progress.{Progress}
 use Rattle.axis_core.specs.declared.reason.Reason.{Reason}
@@ -54,6 +56,7 @@ use Rattle.axis_core.proofs.KeptCycles.{all-three, driven-without-error}
 use Rattle.axis_core.proofs.FateLaws.{queued-later}
 use Rattle.axis_core.proofs.KeptMoves.{eq-of, kept-of}
 use Rattle.axis_core.proofs.KeptRows.{Place, place-ended_by}
+use Rattle.axis_core.proofs.KeptRanges.{rates-of}
 
 -- two axes that are alike in limits, setpoints and command
 pub record AreAlike (a b : Axis) : Type 0 where
@@ -533,17 +536,6 @@ halt-within kind.Halt l w h n = n
 halt-within kind.Stop l w h n = n
 halt-within _ l w h n = absurd (cc)
 
--- rates within the limits are in their ranges
-pub rates-within : (l : Limits) (w : Wanted) → AreLimits l → AreRatesWithin l w → AreRates w.rates
-rates-within l w limits r = record {
-  least_velocity = r.velocity.above;
-  most_velocity = let b = r.velocity.below in omega (arith, ints);
-  least_acceleration = r.ramps.acceleration.above;
-  most_acceleration = let b = r.ramps.acceleration.below in omega (arith, ints);
-  least_deceleration = r.ramps.deceleration.above;
-  most_deceleration = let b = r.ramps.deceleration.below in omega (arith, ints);
-}
-
 move-runs : PlansEnd → (a : Axis) (w : Wanted) (target : ℤ) (rates : Rates) → AreLimits a.limits → a.limits.hi ≤ℤ pos MOST_PLACE → IsMoveWithin a.limits w →
     target_of w ≡ target → w.rates ≡ rates → IsKept a.limits a.previous a.setpoint → IsDoneWithin (bound_of (toward target rates) a) a.limits rates target a.previous a.setpoint
 move-runs law a w target rates limits top m goal by_rates kept =
@@ -555,7 +547,7 @@ move-runs law a w target rates limits top m goal by_rates kept =
       acceleration = m.rates.ramps.acceleration.below;
       deceleration = m.rates.ramps.deceleration.below;
     } in
-    let are = rates-within a.limits w limits m.rates in
+    let are = rates-of a.limits w limits m.rates in
     let P : ℤ → Type 0 = plan.IsMoveWithin a.limits rates in
     let Q : Rates → Type 0 = λ r. plan.IsMoveWithin a.limits r m.target in
     law.moves a.limits rates target a.previous a.setpoint limits (omega (arith, ints)) (subst AreRates by_rates are) (subst P (fixed ∙ goal) (subst Q by_rates within)) kept

@@ -23,14 +23,16 @@ use Rattle.motion_numbers.specs.declared.TheConstants.{MOST_WAY}
 use Rattle.trapezoid_plan.specs.MoveRun.{move_taken_of}
 use Rattle.axis_core.specs.AxisKept.{AreNumbers, AreRatesWithin, AreWaiting, IsCoreKept}
 use Rattle.axis_core.specs.Blended.{BlendingCarried, BlendingGoesOn, HasStep, IsBlended, IsBlending, cycles_of_blend, cycles_to_cross}
-use Rattle.axis_core.specs.Calls.{active_without, axis_without_owner, core_after_admission, core_after_command, core_after_disabling, core_after_power, core_after_verdict, core_with_queued, queue_in}
+use Rattle.buffer_modes.specs.Owners.{active_without}
+use Rattle.axis_core.specs.Calls.{axis_without_owner, core_after_admission, core_after_command, core_after_disabling, core_after_power, core_after_verdict, core_with_queued, queue_in}
 use Rattle.axis_core.specs.Cores.{Core, axis_under, core_after_ending}
 use Rattle.axis_core.specs.Cycles.{Advance, advance_by_progress, axis_after_progress, core_after_advance, core_after_cycle}
-use Rattle.axis_core.specs.Fates.{admitted_fate, asked_fate, command_fate, cycle_fate, ending_fate, goes_on, is_blended, moved_fate, power_fate, replaced}
+use Rattle.buffer_modes.specs.Fates.{goes_on, replaced}
+use Rattle.axis_core.specs.Fates.{admitted_fate, asked_fate, command_fate, cycle_fate, ending_fate, is_blended, moved_fate, power_fate}
 use Rattle.axis_core.specs.Owners.{core_without_owner}
 use Rattle.axis_core.specs.Ranges.{IsBetween}
 use Rattle.axis_core.specs.Refusals.{Asked, refusal_of}
-use Rattle.axis_core.specs.States.{is_error_stop}
+use Rattle.axis_state.specs.States.{is_error_stop}
 use Rattle.axis_core.specs.Steps.{axis_after_step, ends_where, taken_step_in}
 use Rattle.axis_core.specs.blocks.Moves.{blend_of, blended_with, is_done_by, is_move, known_target_of, move_step_with, move_target_of, second_by, second_move_of, target_of, where_applies, with_target}
 use Rattle.axis_core.specs.blocks.Power.{is_powered}
@@ -38,10 +40,12 @@ use Rattle.axis_core.specs.declared.axis.Axis.{Axis}
 use Rattle.axis_core.specs.declared.blocks.moves.SecondMove.{SecondMove}
 use Rattle.axis_core.specs.declared.look.AxisLook.{AxisLook}
 use Rattle.axis_core.specs.declared.reason.Reason.{Reason}
-use Rattle.axis_core.proofs.ArrivalLaws.{AreAlike, active-runs, advances-by, ending-move, followed-move, move-within, progress_at, rates-within, same-int}
+use Rattle.axis_core.proofs.ArrivalLaws.{AreAlike, active-runs, advances-by, ending-move, followed-move, move-within, progress_at, same-int}
 use Rattle.axis_core.proofs.DoneLaws.{IsTested, by-cycle, takes-step, where-applies}
 use Rattle.axis_core.proofs.FateLaws.{queued-later}
 use Rattle.axis_core.proofs.KeptMoves.{kept-of}
+use Rattle.axis_core.proofs.KeptCycles.{on-place}
+use Rattle.axis_core.proofs.KeptRanges.{rates-of}
 
 -- the second move is the same by whomever the two commands are owned
 second-owned : (w v next other : Wanted) (b : Option Blend) (t : Option ℤ) → v.rates ≡ w.rates → other.rates ≡ next.rates →
@@ -254,11 +258,6 @@ blending-cycled tested n look c kept u =
     (λ error a ws. blending-faulted n error c.axis.active u.first a ws (some-blending n c.axis c.waiting u) u.active)
     (blending-moved tested n look c runs u)
 
--- a fixed target of a move
-fixed-target : (b : Bool) (o : Option ℤ) (t : ℤ) → (if b then o else None) ≡ Some t → (b ≡ true) × (o ≡ Some t)
-fixed-target true o t h = (refl, h)
-fixed-target false o t h = absurd (cc)
-
 -- the command that is the second move
 record IsSecond (w : Wanted) (s : SecondMove) (v : Wanted) : Type 0 where
   mode : Blend
@@ -269,7 +268,7 @@ record IsSecond (w : Wanted) (s : SecondMove) (v : Wanted) : Type 0 where
 
 second-by-says : (w v : Wanted) (b : Option Blend) (t : Option ℤ) (s : SecondMove) → move_target_of (Some v) ≡ t → second_by w v b t ≡ Some s → IsSecond w s v
 second-by-says w v (Some b) (Some t) s e h =
-    let f = fixed-target (is_move v.kind) v.target t e in
+    let f = on-place (is_move v.kind) v.target t e in
     let g : s.target ≡ t = cc in
     record {
       mode = b;
@@ -307,7 +306,7 @@ second-within l w v s limits numbers is =
     record {
       mode = is.mode;
       within = m.1;
-      rates = subst AreRates same (rates-within l v limits r);
+      rates = subst AreRates same (rates-of l v limits r);
       velocity = subst (λ (x : Rates). x.v ≤ℤ l.vmax) same r.velocity.below;
       deceleration = subst (λ (x : Rates). x.d ≤ℤ l.dmax) same r.ramps.deceleration.below;
       passing = is.velocity ∙ ap (λ (x : Rates). blend_velocity_of is.mode w.rates.v x.v) same;
@@ -367,7 +366,7 @@ given-of law c w s kept e move next =
     let m = move-within w.kind a.limits a.inc a.offset a.setpoint w move i.numbers i.ready in
     let fixed : m.target ≡ target_of w = sym (ap (λ o. unwrap_or o (pos 0)) m.fixed) in
     let goal = subst (λ x. IsBetween a.limits.lo x a.limits.hi) fixed m.within in
-    let rates = rates-within a.limits w limits m.rates in
+    let rates = rates-of a.limits w limits m.rates in
     let second = second-in a.limits w c.waiting s limits kept.waiting next in
     let runs = (active-runs a.state a.driven (is_powered a) a.was_off a.previous a.setpoint a.active w e kept.axis.state).1 in
     let least = law.least second.mode w.rates.v s.rates.v rates.least_velocity (second.rates).least_velocity in

@@ -27,15 +27,16 @@ use Rattle.axis_core.specs.Kinds.{event_of}
 use Rattle.axis_core.specs.Owners.{owner_brought}
 use Rattle.motion_numbers.specs.Ranges.{is_outside}
 use Rattle.axis_core.specs.Refusals.{refusal_of}
-use Rattle.axis_core.specs.States.{is_error_stop, is_stopping, is_synchronized}
+use Rattle.axis_state.specs.States.{is_error_stop, is_stopping, is_synchronized}
 use Rattle.axis_core.specs.Steps.{axis_after_step}
-use Rattle.axis_core.specs.blocks.Halts.{is_at_rest, is_released, leaves_stopping, axis_after_stop}
+use Rattle.buffer_modes.specs.Owners.{is_released}
+use Rattle.axis_core.specs.blocks.Halts.{is_at_rest, leaves_stopping, axis_after_stop}
 use Rattle.axis_core.specs.blocks.Moves.{known_target_of, position_of, target_of, with_target}
 use Rattle.axis_core.specs.blocks.Path.{is_on_path, axis_on_path, state_on_path, axis_after_path, place_on_path}
 use Rattle.axis_core.specs.blocks.Power.{state_when_driven}
 use Rattle.axis_core.specs.blocks.Reset.{after_reset, may_reset, reset_axis, state_after_reset}
 use Rattle.axis_core.specs.declared.axis.Axis.{Axis}
-use Rattle.axis_core.specs.declared.axis.PendingReset.{PendingReset}
+use Rattle.buffer_modes.specs.declared.reset.PendingReset.{PendingReset}
 use Rattle.axis_core.specs.declared.look.AxisLook.{AxisLook}
 use Rattle.axis_core.specs.declared.progress.Progress.{Progress}
 use Rattle.axis_core.proofs.Events.{error_from}

@@ -18,14 +18,14 @@ use Rattle.axis_core.specs.Cores.{Core, axis_under, axis_under_by, core_after_en
 use Rattle.axis_core.specs.Cycles.{Advance, advance_by_command, advance_by_progress, advance_in_cycle, advance_without_error, axis_after_braking, axis_after_progress, core_after_advance, core_after_answer, core_after_cycle, core_after_going_on, core_after_step, progress_in_cycle}
 use Rattle.axis_core.specs.Drives.{answer_error_of, axis_at_drive, is_driven}
 use Rattle.axis_core.specs.Refusals.{Asked, refusal_of}
-use Rattle.axis_core.specs.States.{is_error_stop}
+use Rattle.axis_state.specs.States.{is_error_stop}
 use Rattle.axis_core.specs.Steps.{axis_after_step}
 use Rattle.axis_core.specs.blocks.Halts.{axis_after_stop, leaves_stopping}
 use Rattle.axis_core.specs.blocks.Moves.{known_target_of, position_of, target_of, with_target}
 use Rattle.axis_core.specs.blocks.Path.{axis_after_path, axis_on_path, place_on_path}
 use Rattle.axis_core.specs.blocks.Reset.{after_reset, may_reset, reset_axis}
 use Rattle.axis_core.specs.declared.axis.Axis.{Axis}
-use Rattle.axis_core.specs.declared.axis.PendingReset.{PendingReset}
+use Rattle.buffer_modes.specs.declared.reset.PendingReset.{PendingReset}
 use Rattle.axis_core.specs.declared.look.AxisLook.{AxisLook}
 use Rattle.axis_core.specs.declared.progress.Progress.{Progress}
 use Rattle.axis_core.specs.declared.reason.Reason.{Reason}

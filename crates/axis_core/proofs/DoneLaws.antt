@@ -15,8 +15,9 @@ use Rattle.axis_core.specs.AxisKept.{IsCoreKept, IsRunning}
 use Rattle.axis_core.specs.Cores.{Core, core_after_ending}
 use Rattle.axis_core.specs.Cycles.{Advance, advance_by_progress, core_after_answer, core_after_cycle, axis_after_progress, axis_after_word, core_after_going_on, core_after_advance, progress_in_cycle, progress_by_step, core_after_step}
 use Rattle.axis_core.specs.Drives.{answer_error_of, is_driven, axis_at_drive}
-use Rattle.axis_core.specs.Fates.{Fate, cycle_fate, ending_fate, goes_on, is_blended, moved_fate, replaced}
-use Rattle.axis_core.specs.States.{is_error_stop}
+use Rattle.buffer_modes.specs.Fates.{Fate, goes_on, replaced}
+use Rattle.axis_core.specs.Fates.{cycle_fate, ending_fate, is_blended, moved_fate}
+use Rattle.axis_state.specs.States.{is_error_stop}
 use Rattle.axis_core.specs.Steps.{ends_where, step_for_wish, taken_step_in}
 use Rattle.axis_core.specs.blocks.Halts.{axis_after_stop}
 use Rattle.axis_core.specs.blocks.Moves.{blended_with, is_crossing, is_move, move_step_with, second_move_of, stands_at_target, target_of, where_applies}

@@ -8,7 +8,7 @@ use Rattle.command_pool.specs.declared.kind.BlockKind.{BlockKind}
 use Rattle.command_pool.specs.declared.kind.BlockKind.TheVariants as kind
 use Rattle.axis_core.specs.Cores.{MayBegin}
 use Rattle.axis_core.specs.Kinds.{may_wait}
-use Rattle.axis_core.specs.States.{is_error_stop}
+use Rattle.axis_state.specs.States.{is_error_stop}
 
 -- an axis that is not in ErrorStop may have an error
 pub error_from : (s : AxisState) → is_error_stop s ≡ false → IsFrom s event.Error

@@ -13,41 +13,26 @@ use Rattle.command_pool.specs.declared.ending.Finish.TheVariants as finish
 use Rattle.command_pool.specs.declared.kind.BlockKind.{BlockKind}
 use Rattle.command_pool.specs.declared.kind.BlockKind.TheVariants as kind
 use Rattle.command_pool.specs.declared.wanted.Wanted.{Wanted}
-use Rattle.axis_core.specs.Calls.{queue_in, core_with_queued, core_after_joining, core_after_admission, core_after_verdict, core_after_command, core_after_power, core_after_disabling, active_without, axis_without_owner}
+use Rattle.axis_core.specs.Calls.{queue_in, core_with_queued, core_after_joining, core_after_admission, core_after_verdict, core_after_command, core_after_power, core_after_disabling, axis_without_owner}
 use Rattle.axis_core.specs.Cores.{Core, axis_under, axis_under_by, core_after_error, core_after_end, core_after_ending, core_after_take_over, core_taken_by}
 use Rattle.axis_core.specs.Cycles.{Advance, advance_in_cycle, advance_by_progress, advance_without_error, advance_by_command, core_after_answer, axis_after_braking, core_after_cycle, axis_after_progress, core_after_going_on, core_after_advance, progress_in_cycle, core_after_step}
 use Rattle.axis_core.specs.Drives.{answer_error_of, is_driven, axis_at_drive}
-use Rattle.axis_core.specs.Fates.{Fate, goes_on, replaced, joined_fate, admitted_fate, asked_fate, command_fate, power_fate, taker_by, taker_of, ending_fate, is_blended, moved_fate, cycle_fate, IsFate}
+use Rattle.buffer_modes.specs.Fates.{Fate, goes_on, replaced, IsFate}
+use Rattle.axis_core.specs.Fates.{joined_fate, admitted_fate, asked_fate, command_fate, power_fate, taker_by, taker_of, ending_fate, is_blended, moved_fate, cycle_fate}
 use Rattle.motion_numbers.specs.Ranges.{is_outside}
 use Rattle.axis_core.specs.Refusals.{Asked, refusal_of}
-use Rattle.axis_core.specs.States.{is_error_stop}
+use Rattle.axis_state.specs.States.{is_error_stop}
 use Rattle.axis_core.specs.blocks.Gear.{velocity_command}
 use Rattle.axis_core.specs.blocks.Halts.{leaves_stopping, axis_after_stop}
 use Rattle.axis_core.specs.blocks.Moves.{known_target_of, position_of, target_of, with_target}
 use Rattle.axis_core.specs.blocks.Path.{axis_on_path, axis_after_path, place_on_path}
 use Rattle.axis_core.specs.blocks.Reset.{after_reset, may_reset, reset_axis}
 use Rattle.axis_core.specs.declared.axis.Axis.{Axis}
-use Rattle.axis_core.specs.declared.axis.PendingReset.{PendingReset}
+use Rattle.buffer_modes.specs.declared.reset.PendingReset.{PendingReset}
 use Rattle.axis_core.specs.declared.look.AxisLook.{AxisLook}
 use Rattle.axis_core.specs.declared.progress.Progress.{Progress}
 use Rattle.axis_core.specs.declared.reason.Reason.{Reason}
-
-same-command : (active : Option Wanted) → IsSame active active
-same-command None = tt
-same-command (Some w) = refl
-
--- a command that goes on, by a blend or not
-going-by : (blends : Bool) (active : Option Wanted) → IsFate (record { ends = None; begins = None; blends = blends }) active active
-going-by blends active = record { begins = λ w h. absurd (cc); ends = λ h g. absurd (h refl); goes_on = λ h g. same-command active; was = λ h. absurd (h refl) }
-
--- a command that is replaced by none, or by another
-replaced-none : (f : Finish) (active : Option Wanted) → IsFate (replaced f active None) active None
-replaced-none f None = going-by false None
-replaced-none f (Some w) = record { begins = λ v h. h; ends = λ h g. refl; goes_on = λ h g. absurd (cc); was = λ h g. cc }
-
-replaced-some : (f : Finish) (active : Option Wanted) (w : Wanted) → IsFate (replaced f active (Some w)) active (Some w)
-replaced-some f None w = record { begins = λ v h. h; ends = λ h g. absurd (h refl); goes_on = λ h g. absurd (cc); was = λ h. absurd (h refl) }
-replaced-some f (Some v) w = record { begins = λ u h. h; ends = λ h g. absurd (cc); goes_on = λ h g. absurd (cc); was = λ h g. cc }
+use Rattle.buffer_modes.specs.Laws.{AreFates, AreTakenAway}
 
 -- the active command after the first that waits took over
 begun-active : (b : Bool) (w : Wanted) (target : ℤ) (c : Core) →
@@ -76,26 +61,6 @@ taker-same _ t w a = refl
 takers-same : (ws : List Wanted) (a : Axis) → taker_of ws (record a { active = None; reached = false }) ≡ taker_of ws a
 takers-same [] a = refl
 takers-same (w ∷ ws) a = taker-same w.kind w.target w a
-
-fate-taken : (blends : Bool) (f : Finish) (active now next : Option Wanted) → active ≢ None → now ≡ next →
-    IsFate (record { ends = Some f; begins = next; blends = blends }) active now
-fate-taken blends f active now next some e = record {
-  begins = λ w h. e ∙ h;
-  ends = λ h g. e ∙ g;
-  goes_on = λ h g. absurd (cc);
-  was = λ h. some;
-}
-
--- a command ends, or goes on
-fate-ended : (blends : Bool) (ending : Option Finish) (active : Option Wanted) (c : Core) → c.axis.active ≡ active → (ending ≢ None → active ≢ None) →
-    IsFate (ending_fate blends ending c.waiting c.axis) active (core_after_ending ending c).axis.active
-unfolding core_after_end core_after_error
-fate-ended blends None active c e some = let P : Option Wanted → Type 0 = IsFate (record { ends = None; begins = None; blends = blends }) active in subst P (sym e) (going-by blends active)
-fate-ended blends (Some (finish.Error n)) active c e some = fate-taken false (finish.Error n) active None None (some (λ h. cc)) refl
-fate-ended blends (Some finish.Done) active c e some =
-    fate-taken blends finish.Done active _ (taker_of c.waiting c.axis) (some (λ h. cc)) (taken-active c.waiting _ refl ∙ takers-same c.waiting c.axis)
-fate-ended blends (Some finish.Aborted) active c e some =
-    fate-taken blends finish.Aborted active _ (taker_of c.waiting c.axis) (some (λ h. cc)) (taken-active c.waiting _ refl ∙ takers-same c.waiting c.axis)
 
 -- an axis that advances keeps its active command and its pending Reset; only where it has an active one may that end
 pub record Advances (active : Option Wanted) (before : Option PendingReset) (step : Advance) : Type 0 where
@@ -139,12 +104,6 @@ pub advances : (next : Option Wanted) (look : AxisLook) (a : Axis) → Advances 
 unfolding advance_in_cycle
 advances next look a = by-state (is_error_stop a.state) next look a
 
-fate-moved : (look : AxisLook) (c : Core) → IsFate (moved_fate look c) c.axis.active (core_after_advance look c).axis.active
-fate-moved look c =
-    let step = advance_in_cycle (slice_get c.waiting 0) look c.axis in
-    let on = advances (slice_get c.waiting 0) look c.axis in
-    fate-ended (is_blended c.axis.active c) step.ending c.axis.active (record c { axis = step.axis }) on.same on.ends
-
 -- what holds of both outcomes of a test
 pub both-ways : {A B : Type 0} (b : Bool) (f g : A) (x y : B) (R : A → B → Type 0) → R f x → R g y → R (if b then f else g) (if b then x else y)
 both-ways true f g x y R p q = p
@@ -165,12 +124,6 @@ reset-active : (o : Option PendingReset) (input : DriveIn) (a : Axis) → (reset
 reset-active None input a = refl
 reset-active (Some p) input a = reset-one (may_reset input a) a
 
-fate-run : (b : Bool) (driven : Bool) (look : AxisLook) (c : Core) →
-    IsFate (if b then moved_fate look c else goes_on) c.axis.active (if b then core_after_going_on look c else record c { axis = axis_at_drive driven look.input c.axis }).axis.active
-fate-run true driven look c =
-    let P : Option Wanted → Type 0 = IsFate (moved_fate look c) c.axis.active in subst P (sym (left-active look (core_after_advance look c).axis)) (fate-moved look c)
-fate-run false driven look c = going-by false c.axis.active
-
 -- a failed axis runs without a command
 failed-moved : (n : ℕ) (look : AxisLook) (c : Core) → (core_after_advance look (core_after_error n c)).axis.active ≡ None
 unfolding core_after_error advance_in_cycle
@@ -182,14 +135,6 @@ unfolding core_after_error
 failed-run n true driven look c = left-active look (core_after_advance look (core_after_error n c)).axis ∙ failed-moved n look c
 failed-run n false driven look c = refl
 
-fate-answered : (b : Bool) (n : ℕ) (driven : Bool) (look : AxisLook) (c : Core) →
-    IsFate (if b then (if driven && c.axis.driven then moved_fate look c else goes_on) else replaced (finish.Error n) c.axis.active None)
-    c.axis.active (core_after_step look driven (if b then c else core_after_error n c)).axis.active
-fate-answered true n driven look c = fate-run (driven && c.axis.driven) driven look c
-fate-answered false n driven look c =
-    let P : Option Wanted → Type 0 = IsFate (replaced (finish.Error n) c.axis.active None) c.axis.active in
-    subst P (sym (failed-run n (driven && (core_after_error n c).axis.driven) driven look c)) (replaced-none (finish.Error n) c.axis.active)
-
 -- the active command after a cycle is that after the run
 cycled-active : (look : AxisLook) (c : Core) → (core_after_cycle look c).axis.active ≡ (core_after_step look (is_driven c.axis look.input) (core_after_answer look.input c)).axis.active
 unfolding core_after_cycle
@@ -197,68 +142,105 @@ cycled-active look c =
     let r = core_after_step look (is_driven c.axis look.input) (core_after_answer look.input c) in
     reset-active r.axis.reset look.input r.axis
 
--- the fate of a cycle
-pub fate-cycled : (look : AxisLook) (c : Core) → IsFate (cycle_fate look c) c.axis.active (core_after_cycle look c).axis.active
-unfolding cycle_fate
-fate-cycled look c =
-    let P : Option Wanted → Type 0 = IsFate (cycle_fate look c) c.axis.active in
-    subst P (sym (cycled-active look c))
-    (fate-answered (nat_eq (answer_error_of c.axis look.input) 0) (answer_error_of c.axis look.input) (is_driven c.axis look.input) look c)
-
--- a command of an axis that stays what it is
-same-fate : (before now : Option Wanted) → now ≡ before → IsFate goes_on before now
-same-fate before now e = let P : Option Wanted → Type 0 = IsFate goes_on before in subst P (sym e) (going-by false before)
-
 pub queued-later : (aborting : Bool) (active : Option Wanted) (ws : List Wanted) (w : Wanted) → (aborting || is_none active) ≡ false →
     (if aborting then record { active = Some w; waiting = [] } else behind active ws w).active ≡ active
 queued-later true active ws w h = absurd (cc)
 queued-later false None ws w h = absurd (cc)
 queued-later false (Some a) ws w h = refl
 
-joined-by : (b : Bool) (w : Wanted) (c : Core) → is_active_at_once (queue_in c) w ≡ b →
-    IsFate (if b then replaced finish.Aborted c.axis.active (Some w) else goes_on) c.axis.active
-    (if b then record (core_with_queued w c) { axis = axis_under w (core_with_queued w c).axis } else core_with_queued w c).axis.active
-unfolding axis_under_by
-joined-by true w c h = replaced-some finish.Aborted c.axis.active w
-joined-by false w c h = same-fate c.axis.active _ (queued-later (is_aborting w.mode) c.axis.active c.waiting w h)
-
-fate-joined : (w : Wanted) (c : Core) → IsFate (joined_fate w c) c.axis.active (core_after_joining w c).axis.active
-fate-joined w c = joined-by (is_active_at_once (queue_in c) w) w c refl
-
-fate-admitted : (k : BlockKind) (w : Wanted) (c : Core) → IsFate (admitted_fate k w c) c.axis.active (core_after_admission k w c).axis.active
-unfolding axis_under_by
-fate-admitted kind.Reset w c = going-by false c.axis.active
-fate-admitted kind.GearOut w c = replaced-some finish.Aborted c.axis.active (velocity_command w c.axis)
-fate-admitted kind.CamOut w c = replaced-some finish.Aborted c.axis.active (velocity_command w c.axis)
-fate-admitted _ w c = fate-joined w c
-
-fate-asked : (r : Option Reason) (w : Wanted) (c : Core) → IsFate (asked_fate r w c) c.axis.active (core_after_verdict r w c).axis.active
-fate-asked None w c = fate-admitted w.kind (with_target (known_target_of c.axis (last_of c.waiting) w) w) c
-fate-asked (Some reason) w c = going-by false c.axis.active
-
--- the fate of a command
-pub fate-commanded : (q : Asked) (c : Core) → IsFate (command_fate q c) c.axis.active (core_after_command q c).axis.active
-unfolding command_fate core_after_command
-fate-commanded q c = fate-asked (refusal_of q) q.wanted c
-
--- the fate of a Power
-pub fate-powered : (enable : Bool) (c : Core) → IsFate (power_fate enable c) c.axis.active (core_after_power enable c).axis.active
-unfolding power_fate core_after_power
-fate-powered true c = going-by false c.axis.active
-fate-powered false c =
-    let wished : Core = record c { axis = record c.axis { power = false; was_off = true } } in
-    both-ways (is_error_stop c.axis.state) goes_on (replaced finish.Aborted c.axis.active None) wished (core_after_disabling wished)
-    (λ (f : Fate) (d : Core). IsFate f c.axis.active d.axis.active) (going-by false c.axis.active) (replaced-none finish.Aborted c.axis.active)
-
-same-owned : (owner : ℕ) (active : Option Wanted) → IsSame active (active_without owner active)
-same-owned owner None = tt
-same-owned owner (Some w) = refl
-
--- an axis whose owner is taken away, and one that goes on its group's path
-pub fate-detached : (owner : ℕ) (a : Axis) → IsSame a.active (axis_without_owner owner a).active
-unfolding axis_without_owner
-fate-detached owner a = same-owned owner a.active
-
 pub fate-on_path : (on : Bool) (a : Axis) → (axis_on_path on a).active ≡ a.active
 unfolding axis_on_path
 fate-on_path on a = refl
+
+module _ (fates : AreFates) (taken : AreTakenAway) where
+  open fates use {going, ended, over}
+
+  -- a command that goes on, by a blend or not
+  going-by : (blends : Bool) (active : Option Wanted) → IsFate (record { ends = None; begins = None; blends = blends }) active active
+  going-by blends active = going blends active active refl
+
+  -- a command that is replaced by none, or by another
+  replaced-none : (f : Finish) (active : Option Wanted) → IsFate (replaced f active None) active None
+  replaced-none f active = ended f active None None refl
+
+  replaced-some : (f : Finish) (active : Option Wanted) (w : Wanted) → IsFate (replaced f active (Some w)) active (Some w)
+  replaced-some f active w = ended f active (Some w) (Some w) refl
+
+  -- a command ends, or goes on
+  fate-ended : (blends : Bool) (ending : Option Finish) (active : Option Wanted) (c : Core) → c.axis.active ≡ active → (ending ≢ None → active ≢ None) →
+      IsFate (ending_fate blends ending c.waiting c.axis) active (core_after_ending ending c).axis.active
+  unfolding core_after_end core_after_error
+  fate-ended blends None active c e some = let P : Option Wanted → Type 0 = IsFate (record { ends = None; begins = None; blends = blends }) active in subst P (sym e) (going-by blends active)
+  fate-ended blends (Some (finish.Error n)) active c e some = over false (finish.Error n) active None None (some (λ h. cc)) refl
+  fate-ended blends (Some finish.Done) active c e some =
+      over blends finish.Done active (taker_of c.waiting c.axis) _ (some (λ h. cc)) (taken-active c.waiting _ refl ∙ takers-same c.waiting c.axis)
+  fate-ended blends (Some finish.Aborted) active c e some =
+      over blends finish.Aborted active (taker_of c.waiting c.axis) _ (some (λ h. cc)) (taken-active c.waiting _ refl ∙ takers-same c.waiting c.axis)
+
+  fate-moved : (look : AxisLook) (c : Core) → IsFate (moved_fate look c) c.axis.active (core_after_advance look c).axis.active
+  fate-moved look c =
+      let step = advance_in_cycle (slice_get c.waiting 0) look c.axis in
+      let on = advances (slice_get c.waiting 0) look c.axis in
+      fate-ended (is_blended c.axis.active c) step.ending c.axis.active (record c { axis = step.axis }) on.same on.ends
+
+  fate-run : (b : Bool) (driven : Bool) (look : AxisLook) (c : Core) →
+      IsFate (if b then moved_fate look c else goes_on) c.axis.active (if b then core_after_going_on look c else record c { axis = axis_at_drive driven look.input c.axis }).axis.active
+  fate-run true driven look c =
+      let P : Option Wanted → Type 0 = IsFate (moved_fate look c) c.axis.active in subst P (sym (left-active look (core_after_advance look c).axis)) (fate-moved look c)
+  fate-run false driven look c = going-by false c.axis.active
+
+  fate-answered : (b : Bool) (n : ℕ) (driven : Bool) (look : AxisLook) (c : Core) →
+      IsFate (if b then (if driven && c.axis.driven then moved_fate look c else goes_on) else replaced (finish.Error n) c.axis.active None)
+      c.axis.active (core_after_step look driven (if b then c else core_after_error n c)).axis.active
+  fate-answered true n driven look c = fate-run (driven && c.axis.driven) driven look c
+  fate-answered false n driven look c =
+      let P : Option Wanted → Type 0 = IsFate (replaced (finish.Error n) c.axis.active None) c.axis.active in
+      subst P (sym (failed-run n (driven && (core_after_error n c).axis.driven) driven look c)) (replaced-none (finish.Error n) c.axis.active)
+
+  -- the fate of a cycle
+  pub fate-cycled : (look : AxisLook) (c : Core) → IsFate (cycle_fate look c) c.axis.active (core_after_cycle look c).axis.active
+  unfolding cycle_fate
+  fate-cycled look c =
+      let P : Option Wanted → Type 0 = IsFate (cycle_fate look c) c.axis.active in
+      subst P (sym (cycled-active look c))
+      (fate-answered (nat_eq (answer_error_of c.axis look.input) 0) (answer_error_of c.axis look.input) (is_driven c.axis look.input) look c)
+
+  joined-by : (b : Bool) (w : Wanted) (c : Core) → is_active_at_once (queue_in c) w ≡ b →
+      IsFate (if b then replaced finish.Aborted c.axis.active (Some w) else goes_on) c.axis.active
+      (if b then record (core_with_queued w c) { axis = axis_under w (core_with_queued w c).axis } else core_with_queued w c).axis.active
+  unfolding axis_under_by
+  joined-by true w c h = replaced-some finish.Aborted c.axis.active w
+  joined-by false w c h = going false c.axis.active _ (queued-later (is_aborting w.mode) c.axis.active c.waiting w h)
+
+  fate-joined : (w : Wanted) (c : Core) → IsFate (joined_fate w c) c.axis.active (core_after_joining w c).axis.active
+  fate-joined w c = joined-by (is_active_at_once (queue_in c) w) w c refl
+
+  fate-admitted : (k : BlockKind) (w : Wanted) (c : Core) → IsFate (admitted_fate k w c) c.axis.active (core_after_admission k w c).axis.active
+  unfolding axis_under_by
+  fate-admitted kind.Reset w c = going-by false c.axis.active
+  fate-admitted kind.GearOut w c = replaced-some finish.Aborted c.axis.active (velocity_command w c.axis)
+  fate-admitted kind.CamOut w c = replaced-some finish.Aborted c.axis.active (velocity_command w c.axis)
+  fate-admitted _ w c = fate-joined w c
+
+  fate-asked : (r : Option Reason) (w : Wanted) (c : Core) → IsFate (asked_fate r w c) c.axis.active (core_after_verdict r w c).axis.active
+  fate-asked None w c = fate-admitted w.kind (with_target (known_target_of c.axis (last_of c.waiting) w) w) c
+  fate-asked (Some reason) w c = going-by false c.axis.active
+
+  -- the fate of a command
+  pub fate-commanded : (q : Asked) (c : Core) → IsFate (command_fate q c) c.axis.active (core_after_command q c).axis.active
+  unfolding command_fate core_after_command
+  fate-commanded q c = fate-asked (refusal_of q) q.wanted c
+
+  -- the fate of a Power
+  pub fate-powered : (enable : Bool) (c : Core) → IsFate (power_fate enable c) c.axis.active (core_after_power enable c).axis.active
+  unfolding power_fate core_after_power
+  fate-powered true c = going-by false c.axis.active
+  fate-powered false c =
+      let wished : Core = record c { axis = record c.axis { power = false; was_off = true } } in
+      both-ways (is_error_stop c.axis.state) goes_on (replaced finish.Aborted c.axis.active None) wished (core_after_disabling wished)
+      (λ (f : Fate) (d : Core). IsFate f c.axis.active d.axis.active) (going-by false c.axis.active) (replaced-none finish.Aborted c.axis.active)
+
+  -- an axis whose owner is taken away, and one that goes on its group's path
+  pub fate-detached : (owner : ℕ) (a : Axis) → IsSame a.active (axis_without_owner owner a).active
+  unfolding axis_without_owner
+  fate-detached owner a = taken.same owner a.active

@@ -10,7 +10,7 @@ use Rattle.axis_core.specs.Calls.{core_after_admission, core_after_command, core
 use Rattle.axis_core.specs.Cores.{Core, axis_under, axis_under_by}
 use Rattle.axis_core.specs.Refusals.{Asked, refusal_of}
 use Rattle.axis_core.specs.Rows.{Stays}
-use Rattle.axis_core.specs.States.{is_error_stop}
+use Rattle.axis_state.specs.States.{is_error_stop}
 use Rattle.axis_core.specs.blocks.Moves.{known_target_of, with_target}
 use Rattle.axis_core.specs.blocks.Path.{axis_on_path}
 use Rattle.axis_core.specs.declared.axis.Axis.{Axis}

@@ -26,7 +26,7 @@ use Rattle.axis_core.specs.Kinds.{tests_of}
 use Rattle.axis_core.specs.Ranges.{IsBetween}
 use Rattle.motion_numbers.specs.Ranges.{is_outside}
 use Rattle.axis_core.specs.Refusals.{holds, is_target_outside, refusal_of}
-use Rattle.axis_core.specs.States.{is_disabled, is_error_stop, is_homing, is_stopping}
+use Rattle.axis_state.specs.States.{is_disabled, is_error_stop, is_homing, is_stopping}
 use Rattle.axis_core.specs.blocks.Gear.{is_bad_ratio, out_event, velocity_command}
 use Rattle.axis_core.specs.blocks.Home.{breaks_counts, has_counts}
 use Rattle.axis_core.specs.blocks.Moves.{command_before, known_target_of, move_target_of, position_of, relative_target_of, target_from, with_target}

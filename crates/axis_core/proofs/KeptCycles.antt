@@ -23,13 +23,14 @@ use Rattle.axis_core.specs.Cycles.{advance_in_cycle, advance_without_error, core
 use Rattle.axis_core.specs.Drives.{actual_of, answer_error_of, has_fault, is_driven, is_enabled, is_operational, is_within, new_error_of, reads_fault, axis_at_drive}
 use Rattle.axis_core.specs.Kept.{HasDrive, MayGoOn}
 use Rattle.motion_numbers.specs.Ranges.{is_outside}
-use Rattle.axis_core.specs.States.{is_error_stop, is_stopping}
-use Rattle.axis_core.specs.blocks.Halts.{is_at_rest, is_released, axis_after_stop}
+use Rattle.axis_state.specs.States.{is_error_stop, is_stopping}
+use Rattle.buffer_modes.specs.Owners.{is_released}
+use Rattle.axis_core.specs.blocks.Halts.{is_at_rest, axis_after_stop}
 use Rattle.axis_core.specs.blocks.Path.{is_on_path, place_on_path}
 use Rattle.axis_core.specs.blocks.Power.{state_when_driven, is_powered}
 use Rattle.axis_core.specs.blocks.Reset.{after_reset, may_reset, reset_axis, state_after_reset, reset_notes}
 use Rattle.axis_core.specs.declared.axis.Axis.{Axis}
-use Rattle.axis_core.specs.declared.axis.PendingReset.{PendingReset}
+use Rattle.buffer_modes.specs.declared.reset.PendingReset.{PendingReset}
 use Rattle.axis_core.specs.declared.look.AxisLook.{AxisLook}
 use Rattle.axis_core.proofs.KeptMoves.{Laws, OffsetsAreSmall, by-command, concluded, takes-place, brakes, stopped-idle, idle-of, eq-of}
 use Rattle.axis_core.proofs.KeptRanges.{go-on-of}

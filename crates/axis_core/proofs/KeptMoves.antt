@@ -22,7 +22,7 @@ use Rattle.axis_core.specs.Cores.{Core, core_after_end, core_after_ending, core_
 use Rattle.axis_core.specs.Cycles.{Advance, advance_by_progress, advance_without_error, advance_by_command, axis_after_braking, braking_step, progress_by_step}
 use Rattle.axis_core.specs.Kinds.{ending_by, is_reached, wish_by}
 use Rattle.axis_core.specs.Ranges.{IsBetween}
-use Rattle.axis_core.specs.States.{is_error_stop, is_synchronized}
+use Rattle.axis_state.specs.States.{is_error_stop, is_synchronized}
 use Rattle.axis_core.specs.Steps.{ends_where, axis_after_step, old_step_of, step_for_wish, taken_step_in}
 use Rattle.axis_core.specs.blocks.Home.{axis_after_home}
 use Rattle.axis_core.specs.blocks.Moves.{blended_with, is_crossing, stands_at_target, target_of}

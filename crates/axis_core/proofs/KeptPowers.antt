@@ -15,12 +15,13 @@ use Rattle.kin_core.specs.declared.limits.Limits.{Limits}
 use Rattle.std.specs.Option.{option_copied}
 use Rattle.axis_core.specs.Asking.{MayAsk}
 use Rattle.axis_core.specs.AxisKept.{AreNumbers, AreRampsWithin, AreRatesWithin, AreWaiting, IsActive, IsAxisDef, IsAxisKept, IsBased, IsCoreKept, IsInState, IsQueueKept, IsReady, IsSet, MayQueue}
-use Rattle.axis_core.specs.Calls.{active_without, axis_without_owner, core_after_disabling, core_after_power}
+use Rattle.buffer_modes.specs.Owners.{active_without}
+use Rattle.axis_core.specs.Calls.{axis_without_owner, core_after_disabling, core_after_power}
 use Rattle.axis_core.specs.Cores.{Core}
 use Rattle.axis_core.specs.Cycles.{axis_at_opening}
 use Rattle.axis_core.specs.Demands.{IsMade}
 use Rattle.axis_core.specs.Kept.{AreSmallTargets, HasDrive, IsSmallTarget}
-use Rattle.axis_core.specs.States.{is_error_stop}
+use Rattle.axis_state.specs.States.{is_error_stop}
 use Rattle.axis_core.specs.blocks.Path.{axis_on_path, state_on_path}
 use Rattle.axis_core.specs.blocks.Power.{is_powered}
 use Rattle.axis_core.specs.declared.axis.Axis.{Axis}

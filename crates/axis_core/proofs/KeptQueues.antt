@@ -8,7 +8,8 @@ use Rattle.kin_core.specs.declared.limits.Limits.{Limits}
 use Rattle.command_pool.specs.declared.kind.BlockKind.{BlockKind}
 use Rattle.command_pool.specs.declared.kind.BlockKind.TheVariants as kind
 use Rattle.axis_core.specs.AxisKept.{AreNumbers, AreWaiting, IsQueueKept, MayQueue}
-use Rattle.axis_core.specs.Calls.{active_without, axis_without_owner}
+use Rattle.buffer_modes.specs.Owners.{active_without}
+use Rattle.axis_core.specs.Calls.{axis_without_owner}
 use Rattle.axis_core.specs.declared.axis.Axis.{Axis}
 use Rattle.axis_core.proofs.KeptPowers.{queue-owned}
 

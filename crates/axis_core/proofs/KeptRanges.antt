@@ -38,7 +38,7 @@ ramps-of l w are r =
       most_deceleration = let u = d.below in let t = are.dmax_in_range in omega (arith, ints);
     }
 
-rates-of : (l : Limits) (w : Wanted) → AreLimits l → AreRatesWithin l w → AreRates w.rates
+pub rates-of : (l : Limits) (w : Wanted) → AreLimits l → AreRatesWithin l w → AreRates w.rates
 rates-of l w are r =
     let v = r.velocity in
     let p = ramps-of l w are r.ramps in

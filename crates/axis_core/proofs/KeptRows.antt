@@ -29,16 +29,17 @@ use Rattle.axis_core.specs.Kinds.{wish_by}
 use Rattle.axis_core.specs.Ranges.{IsBetween}
 use Rattle.motion_numbers.specs.Ranges.{is_outside}
 use Rattle.axis_core.specs.Rows.{KeepsSpell, spell_of}
-use Rattle.axis_core.specs.States.{is_error_stop, is_stopping}
+use Rattle.axis_state.specs.States.{is_error_stop, is_stopping}
 use Rattle.axis_core.specs.Steps.{axis_after_step, old_step_of, step_for_wish, taken_step_in}
-use Rattle.axis_core.specs.blocks.Halts.{is_at_rest, is_released, axis_after_stop}
+use Rattle.buffer_modes.specs.Owners.{is_released}
+use Rattle.axis_core.specs.blocks.Halts.{is_at_rest, axis_after_stop}
 use Rattle.axis_core.specs.blocks.Home.{axis_after_home}
 use Rattle.axis_core.specs.blocks.Moves.{target_of, with_target}
 use Rattle.axis_core.specs.blocks.Path.{is_on_path, axis_after_path, place_on_path}
 use Rattle.axis_core.specs.blocks.Power.{is_powered}
 use Rattle.axis_core.specs.blocks.Reset.{after_reset, may_reset, reset_axis}
 use Rattle.axis_core.specs.declared.axis.Axis.{Axis}
-use Rattle.axis_core.specs.declared.axis.PendingReset.{PendingReset}
+use Rattle.buffer_modes.specs.declared.reset.PendingReset.{PendingReset}
 use Rattle.axis_core.specs.declared.look.AxisLook.{AxisLook}
 use Rattle.axis_core.specs.declared.progress.Progress.{Progress}
 use Rattle.axis_core.proofs.KeptCycles.{IsSeen, on-place, driven-says, begins-within, error-not-driven, run-of}

@@ -1,6 +1,7 @@
 -- A moving axis has a command, and comes on its group's path by on_path alone.
 use Rattle.std.specs.Prelude.{◌≡◌, refl, ℕ, Bool, true, false, not, ◌&&◌, nat_eq, ℤ, ◌+ℤ◌, Option, Some, None, is_some, List, [], ◌∷◌, ◌++◌, slice_get, if◌then◌else◌, Result, Ok, Err}
 use Rattle.std.proofs.Common.{◌∙◌, sym, ap}
+use Rattle.std.proofs.lemmas.Bool.{and_right}
 use Rattle.axis_state.specs.Diagram.{next_of}
 use Rattle.axis_state.specs.declared.definition.AxisDef.{AxisDef}
 use Rattle.axis_state.specs.declared.diagram.AxisEvent.TheVariants as event
@@ -15,14 +16,15 @@ use Rattle.command_pool.specs.declared.kind.BlockKind.{BlockKind}
 use Rattle.command_pool.specs.declared.kind.BlockKind.TheVariants as kind
 use Rattle.command_pool.specs.declared.wanted.Wanted.{Wanted}
 use Rattle.axis_core.specs.AxisKept.{IsCoreKept, fits}
-use Rattle.axis_core.specs.Calls.{active_without, core_after_admission, core_after_command, core_after_verdict, axis_without_owner, core_after_disabling, core_after_power, queue_in, core_with_queued}
+use Rattle.buffer_modes.specs.Owners.{active_without}
+use Rattle.axis_core.specs.Calls.{core_after_admission, core_after_command, core_after_verdict, axis_without_owner, core_after_disabling, core_after_power, queue_in, core_with_queued}
 use Rattle.axis_core.specs.Cores.{Core, axis_under, axis_under_by, core_after_end, core_after_ending, core_after_error, state_after_last, core_after_take_over, core_taken_by}
 use Rattle.axis_core.specs.Cycles.{Advance, advance_in_cycle, advance_by_progress, advance_without_error, advance_by_command, core_after_answer, axis_after_braking, core_after_cycle, axis_after_word, core_after_going_on, core_after_advance, axis_at_opening, progress_in_cycle, progress_by_step, core_after_step}
 use Rattle.axis_core.specs.Drives.{answer_error_of, is_driven, axis_at_drive}
 use Rattle.axis_core.specs.Kinds.{ending_by, wish_by}
 use Rattle.axis_core.specs.Led.{HasCommand, StaysLed, is_of_command}
 use Rattle.axis_core.specs.Refusals.{Asked, refusal_of}
-use Rattle.axis_core.specs.States.{is_error_stop, is_synchronized}
+use Rattle.axis_state.specs.States.{is_error_stop, is_synchronized}
 use Rattle.axis_core.specs.Steps.{axis_after_step, step_for_wish}
 use Rattle.axis_core.specs.blocks.Gear.{velocity_command}
 use Rattle.axis_core.specs.blocks.Halts.{leaves_stopping}
@@ -32,7 +34,7 @@ use Rattle.axis_core.specs.blocks.Power.{state_when_driven}
 use Rattle.axis_core.specs.blocks.Reset.{after_reset, may_reset, reset_axis, state_after_reset}
 use Rattle.motion_numbers.specs.Ranges.{is_outside}
 use Rattle.axis_core.specs.declared.axis.Axis.{Axis}
-use Rattle.axis_core.specs.declared.axis.PendingReset.{PendingReset}
+use Rattle.buffer_modes.specs.declared.reset.PendingReset.{PendingReset}
 use Rattle.axis_core.specs.declared.look.AxisLook.{AxisLook}
 use Rattle.axis_core.specs.declared.progress.Progress.{Progress}
 use Rattle.axis_core.specs.declared.reason.Reason.{Reason}
@@ -55,13 +57,9 @@ as-before a b s t = record {
   path = λ h. (λ i. is_synchronized (sym s i) && not (sym t i)) ∙ h;
 }
 
-off : (x : Bool) → (x && false) ≡ false
-off true = refl
-off false = refl
-
 -- an axis with an active command, and one that an error stops
 with-active : (a : Axis) (w : Wanted) → a.active ≡ Some w → IsLed a
-with-active a w e = record { command = λ h. ap is_some e; path = ap (λ o. is_synchronized a.state && not (is_some o)) e ∙ off (is_synchronized a.state) }
+with-active a w e = record { command = λ h. ap is_some e; path = ap (λ o. is_synchronized a.state && not (is_some o)) e ∙ and_right (is_synchronized a.state) false refl }
 
 begins : (w : Wanted) (a : Axis) → IsLed (axis_under w a)
 unfolding axis_under_by

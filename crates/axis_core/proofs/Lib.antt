@@ -1,5 +1,4 @@
 pub mod SmallTargets
-pub mod Queues
 pub mod Moving
 pub mod Blends
 pub mod Events

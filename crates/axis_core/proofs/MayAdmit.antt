@@ -20,7 +20,7 @@ use Rattle.axis_core.specs.Demands.{IsMade, asked_in}
 use Rattle.axis_core.specs.Kept.{MayAdmit, MayLeave}
 use Rattle.axis_core.specs.Kinds.{tests_of}
 use Rattle.axis_core.specs.Refusals.{Asked, first_holding, holds, refusal_of}
-use Rattle.axis_core.specs.States.{is_disabled, is_error_stop, is_homing, is_standstill, is_stopping}
+use Rattle.axis_state.specs.States.{is_disabled, is_error_stop, is_homing, is_standstill, is_stopping}
 use Rattle.axis_core.specs.blocks.Power.{is_powered}
 use Rattle.axis_core.specs.declared.reason.Reason.{Reason}
 use Rattle.axis_core.specs.declared.reason.Reason.TheVariants.{QueueFull}

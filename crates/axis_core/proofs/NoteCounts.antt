@@ -3,7 +3,7 @@ use Rattle.std.specs.Prelude.{ℕ, ◌+◌, ◌≤◌, Bool, true, false, nat_eq
 use Rattle.std.proofs.Common.{arith, length-append}
 use Rattle.buffer_modes.specs.Queue.{active_note}
 use Rattle.cia402_machine.specs.declared.drive.DriveIn.{DriveIn}
-use Rattle.command_pool.specs.Waiting.{notes_of, told_to}
+use Rattle.command_pool.specs.Waiting.{notes_of}
 use Rattle.command_pool.specs.declared.ending.Finish.{Finish}
 use Rattle.command_pool.specs.declared.ending.Finish.TheVariants as finish
 use Rattle.command_pool.specs.declared.kind.BlockKind.{BlockKind}
@@ -15,77 +15,64 @@ use Rattle.axis_core.specs.Drives.{answer_error_of, axis_at_drive}
 use Rattle.motion_numbers.specs.Ranges.{is_outside}
 use Rattle.axis_core.specs.blocks.Moves.{with_target}
 use Rattle.axis_core.specs.declared.look.AxisLook.{AxisLook}
-
--- at most one note tells of a command's end
-told-count : (o : Option ℕ) (f : Finish) → length (told_to o f) ≤ 1
-told-count None f = omega arith
-told-count (Some n) f = omega arith
-
-active-count : (f : Finish) (o : Option Wanted) → length (active_note f o) ≤ 1
-active-count f None = omega arith
-active-count f (Some w) = told-count w.owner f
-
-notes-count : (f : Finish) (ws : List Wanted) → length (notes_of f ws) ≤ length ws
-notes-count f [] = omega arith
-notes-count f (w ∷ ws) =
-    let n = told-count w.owner f in
-    let m = notes-count f ws in
-    let l = length-append (told_to w.owner f) (notes_of f ws) in
-    omega arith
+use Rattle.buffer_modes.specs.Laws.{AreOwners}
 
 -- so many notes after a core, where so many were there and so many commands waited
 abbrev pub IsCounted : ℕ → Core → Core → Type 0
 IsCounted more before after = length after.notes ≤ length before.notes + length before.waiting + more
 
-failed-count : (n : ℕ) (c : Core) → IsCounted 1 c (core_after_error n c)
-unfolding core_after_error
-failed-count n c =
-    let a = active-count (finish.Error n) c.axis.active in
-    let w = notes-count finish.Aborted c.waiting in
-    let l = length-append c.notes (active_note (finish.Error n) c.axis.active ++ notes_of finish.Aborted c.waiting) in
-    let m = length-append (active_note (finish.Error n) c.axis.active) (notes_of finish.Aborted c.waiting) in
-    omega arith
+module _ (owners : AreOwners) where
+  open owners use {few_active as active-count, few_waiting as notes-count}
 
-begun_from-count : (w : Wanted) (t : ℤ) (c : Core) → IsCounted 1 c (core_under_from w t c)
-begun_from-count w t c =
-    elim (is_outside c.axis.limits.lo t c.axis.limits.hi) as (λ o. IsCounted 1 c (if o then core_after_error 106 (record c { axis = record c.axis { active = Some w } }) else record c { axis = axis_under (with_target (Some t) w) c.axis }))
-    [ true ↦ failed-count 106 (record c { axis = record c.axis { active = Some w } }) | false ↦ omega arith ]
+  failed-count : (n : ℕ) (c : Core) → IsCounted 1 c (core_after_error n c)
+  unfolding core_after_error
+  failed-count n c =
+      let a = active-count (finish.Error n) c.axis.active in
+      let w = notes-count finish.Aborted c.waiting in
+      let l = length-append c.notes (active_note (finish.Error n) c.axis.active ++ notes_of finish.Aborted c.waiting) in
+      let m = length-append (active_note (finish.Error n) c.axis.active) (notes_of finish.Aborted c.waiting) in
+      omega arith
 
-taken_over_by-count : (k : BlockKind) (t : Option ℤ) (w : Wanted) (c : Core) → IsCounted 1 c (core_taken_by k t w c)
-taken_over_by-count kind.MoveRelative None w c = begun_from-count w _ c
-taken_over_by-count kind.MoveRelative (Some t) w c = omega arith
-taken_over_by-count _ t w c = omega arith
+  begun_from-count : (w : Wanted) (t : ℤ) (c : Core) → IsCounted 1 c (core_under_from w t c)
+  begun_from-count w t c =
+      elim (is_outside c.axis.limits.lo t c.axis.limits.hi) as (λ o. IsCounted 1 c (if o then core_after_error 106 (record c { axis = record c.axis { active = Some w } }) else record c { axis = axis_under (with_target (Some t) w) c.axis }))
+      [ true ↦ failed-count 106 (record c { axis = record c.axis { active = Some w } }) | false ↦ omega arith ]
 
-taken_over-count : (ws : List Wanted) (c : Core) → length (core_after_take_over ws c).notes ≤ length c.notes + length ws + 1
-taken_over-count [] c = omega arith
-taken_over-count (w ∷ ws) c = let n = taken_over_by-count w.kind w.target w (record c { waiting = ws }) in omega arith
+  taken_over_by-count : (k : BlockKind) (t : Option ℤ) (w : Wanted) (c : Core) → IsCounted 1 c (core_taken_by k t w c)
+  taken_over_by-count kind.MoveRelative None w c = begun_from-count w _ c
+  taken_over_by-count kind.MoveRelative (Some t) w c = omega arith
+  taken_over_by-count _ t w c = omega arith
 
-ended-count : (f : Finish) (c : Core) → IsCounted 2 c (core_after_end f c)
-unfolding core_after_end
-ended-count f c =
-    let a = active-count f c.axis.active in
-    let l = length-append c.notes (active_note f c.axis.active) in
-    let n = taken_over-count c.waiting (record c { axis = record c.axis { active = None; reached = false }; notes = c.notes ++ active_note f c.axis.active }) in
-    omega arith
+  taken_over-count : (ws : List Wanted) (c : Core) → length (core_after_take_over ws c).notes ≤ length c.notes + length ws + 1
+  taken_over-count [] c = omega arith
+  taken_over-count (w ∷ ws) c = let n = taken_over_by-count w.kind w.target w (record c { waiting = ws }) in omega arith
 
-ended_by-count : (o : Option Finish) (c : Core) → IsCounted 2 c (core_after_ending o c)
-ended_by-count None c = omega arith
-ended_by-count (Some (finish.Error n)) c = let m = failed-count n c in omega arith
-ended_by-count (Some finish.Done) c = ended-count finish.Done c
-ended_by-count (Some finish.Aborted) c = ended-count finish.Aborted c
+  ended-count : (f : Finish) (c : Core) → IsCounted 2 c (core_after_end f c)
+  unfolding core_after_end
+  ended-count f c =
+      let a = active-count f c.axis.active in
+      let l = length-append c.notes (active_note f c.axis.active) in
+      let n = taken_over-count c.waiting (record c { axis = record c.axis { active = None; reached = false }; notes = c.notes ++ active_note f c.axis.active }) in
+      omega arith
 
-moved-count : (look : AxisLook) (c : Core) → IsCounted 2 c (core_after_advance look c)
-moved-count look c =
-    let step = advance_in_cycle (slice_get c.waiting 0) look c.axis in ended_by-count step.ending (record c { axis = step.axis })
+  ended_by-count : (o : Option Finish) (c : Core) → IsCounted 2 c (core_after_ending o c)
+  ended_by-count None c = omega arith
+  ended_by-count (Some (finish.Error n)) c = let m = failed-count n c in omega arith
+  ended_by-count (Some finish.Done) c = ended-count finish.Done c
+  ended_by-count (Some finish.Aborted) c = ended-count finish.Aborted c
 
-pub run-count : (look : AxisLook) (driven : Bool) (c : Core) → IsCounted 2 c (core_after_step look driven c)
-run-count look driven c =
-    elim (driven && c.axis.driven) as (λ b. IsCounted 2 c (if b then core_after_going_on look c else record c { axis = axis_at_drive driven look.input c.axis }))
-    [ true ↦ moved-count look c | false ↦ omega arith ]
+  moved-count : (look : AxisLook) (c : Core) → IsCounted 2 c (core_after_advance look c)
+  moved-count look c =
+      let step = advance_in_cycle (slice_get c.waiting 0) look c.axis in ended_by-count step.ending (record c { axis = step.axis })
 
-pub answered-count : (input : DriveIn) (c : Core) → length (core_after_answer input c).notes + length (core_after_answer input c).waiting ≤ length c.notes + length c.waiting + 1
-unfolding core_after_error
-answered-count input c =
-    elim (nat_eq (answer_error_of c.axis input) 0) as (λ b. length (if b then c else core_after_error (answer_error_of c.axis input) c).notes
-    + length (if b then c else core_after_error (answer_error_of c.axis input) c).waiting ≤ length c.notes + length c.waiting + 1)
-    [ true ↦ omega arith | false ↦ let n = failed-count (answer_error_of c.axis input) c in omega (arith, n) ]
+  pub run-count : (look : AxisLook) (driven : Bool) (c : Core) → IsCounted 2 c (core_after_step look driven c)
+  run-count look driven c =
+      elim (driven && c.axis.driven) as (λ b. IsCounted 2 c (if b then core_after_going_on look c else record c { axis = axis_at_drive driven look.input c.axis }))
+      [ true ↦ moved-count look c | false ↦ omega arith ]
+
+  pub answered-count : (input : DriveIn) (c : Core) → length (core_after_answer input c).notes + length (core_after_answer input c).waiting ≤ length c.notes + length c.waiting + 1
+  unfolding core_after_error
+  answered-count input c =
+      elim (nat_eq (answer_error_of c.axis input) 0) as (λ b. length (if b then c else core_after_error (answer_error_of c.axis input) c).notes
+      + length (if b then c else core_after_error (answer_error_of c.axis input) c).waiting ≤ length c.notes + length c.waiting + 1)
+      [ true ↦ omega arith | false ↦ let n = failed-count (answer_error_of c.axis input) c in omega (arith, n) ]

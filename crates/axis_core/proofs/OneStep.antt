@@ -13,7 +13,7 @@ use Rattle.axis_core.specs.Cores.{Core, MayTakeOver, core_after_ending, core_aft
 use Rattle.axis_core.specs.Cycles.{advance_or_stand, core_after_answer, core_after_step}
 use Rattle.axis_core.specs.Kept.{MayEnd}
 use Rattle.axis_core.specs.Drives.{answer_error_of, axis_at_drive, is_driven}
-use Rattle.axis_core.specs.States.{is_stopping}
+use Rattle.axis_state.specs.States.{is_stopping}
 use Rattle.axis_core.specs.blocks.Halts.{axis_after_stop}
 use Rattle.axis_core.specs.blocks.Power.{state_when_driven}
 use Rattle.axis_core.specs.declared.axis.Axis.{Axis}

@@ -11,14 +11,14 @@ use Rattle.axis_core.specs.AxisKept.{IsCoreKept, IsInState, IsLook, IsRunning, M
 use Rattle.axis_core.specs.Cores.{Core, core_after_ending}
 use Rattle.axis_core.specs.Cycles.{Advance, advance_in_cycle, advance_without_error, axis_after_word, core_after_advance, core_after_answer, core_after_cycle, core_after_going_on, core_after_reset, core_after_step}
 use Rattle.axis_core.specs.Drives.{answer_error_of, is_driven}
-use Rattle.axis_core.specs.States.{is_error_stop, is_stopping, is_synchronized}
+use Rattle.axis_state.specs.States.{is_error_stop, is_stopping, is_synchronized}
 use Rattle.axis_core.specs.Steps.{axis_after_step}
 use Rattle.axis_core.specs.blocks.Halts.{axis_after_stop}
 use Rattle.axis_core.specs.blocks.Path.{axis_after_path, is_on_path, place_on_path}
 use Rattle.axis_core.specs.blocks.Power.{is_powered}
 use Rattle.axis_core.specs.blocks.Reset.{after_reset, may_reset, reset_axis}
 use Rattle.axis_core.specs.declared.axis.Axis.{Axis}
-use Rattle.axis_core.specs.declared.axis.PendingReset.{PendingReset}
+use Rattle.buffer_modes.specs.declared.reset.PendingReset.{PendingReset}
 use Rattle.axis_core.specs.declared.look.AxisLook.{AxisLook}
 use Rattle.axis_core.proofs.ArrivalLaws.{still-driven}
 use Rattle.axis_core.proofs.DefinitionLaws.{by-if}

@@ -23,11 +23,12 @@ use Rattle.axis_core.specs.Kinds.{ending_by, tests_of, wish_by}
 use Rattle.motion_numbers.specs.Ranges.{is_outside}
 use Rattle.axis_core.specs.Refusals.{Asked, first_holding, holds, refusal_of}
 use Rattle.axis_core.specs.Shown.{AreShown, IsAxisError, IsShown}
-use Rattle.axis_core.specs.States.{is_error_stop, is_stopping, is_synchronized}
+use Rattle.axis_state.specs.States.{is_error_stop, is_stopping, is_synchronized}
 use Rattle.axis_core.specs.Steps.{ends_where, wish_within_limits, is_braking, is_safe_step, axis_after_step, old_step_of, step_toward, step_for_wish, taken_step_in}
 use Rattle.axis_core.specs.blocks.Cam.{cam_wish_where}
 use Rattle.axis_core.specs.blocks.Gear.{gear_step_of}
-use Rattle.axis_core.specs.blocks.Halts.{hold_by, is_at_rest, is_released, axis_after_stop}
+use Rattle.buffer_modes.specs.Owners.{is_released}
+use Rattle.axis_core.specs.blocks.Halts.{hold_by, is_at_rest, axis_after_stop}
 use Rattle.axis_core.specs.blocks.Moves.{known_target_of, target_of, with_target}
 use Rattle.axis_core.specs.blocks.Path.{is_on_path, axis_on_path, state_on_path, axis_after_path, place_on_path}
 use Rattle.axis_core.specs.blocks.Power.{state_when_driven}
@@ -35,7 +36,7 @@ use Rattle.axis_core.specs.blocks.Reset.{after_reset, may_reset, reset_axis, sta
 use Rattle.axis_core.specs.blocks.Velocity.{step_to_velocity}
 use Rattle.follow_plan.specs.Gear.{gear_toward_of}
 use Rattle.axis_core.specs.declared.axis.Axis.{Axis}
-use Rattle.axis_core.specs.declared.axis.PendingReset.{PendingReset}
+use Rattle.buffer_modes.specs.declared.reset.PendingReset.{PendingReset}
 use Rattle.axis_core.specs.declared.look.AxisLook.{AxisLook}
 use Rattle.axis_core.specs.declared.progress.Progress.{Progress}
 use Rattle.axis_core.proofs.KeptCycles.{on-place}

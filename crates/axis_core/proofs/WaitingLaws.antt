@@ -19,7 +19,7 @@ use Rattle.axis_core.specs.Drives.{answer_error_of, is_driven, axis_at_drive}
 use Rattle.axis_core.specs.Kept.{MayAdmit}
 use Rattle.motion_numbers.specs.Ranges.{is_outside}
 use Rattle.axis_core.specs.Refusals.{refusal_of}
-use Rattle.axis_core.specs.States.{is_error_stop}
+use Rattle.axis_state.specs.States.{is_error_stop}
 use Rattle.axis_core.specs.blocks.Moves.{known_target_of, position_of, with_target}
 use Rattle.axis_core.specs.declared.look.AxisLook.{AxisLook}
 use Rattle.axis_core.proofs.MayAdmit.{may-admit}

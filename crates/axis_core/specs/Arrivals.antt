@@ -10,7 +10,7 @@ use Rattle.command_pool.specs.declared.wanted.Wanted.{Wanted}
 use Rattle.kin_core.specs.declared.limits.Limits.{Limits}
 use Rattle.trapezoid_plan.specs.CyclesBound.{cycles_bound_of}
 use Rattle.trapezoid_plan.specs.MoveRun.{IsDoneWithin, IsAtRestWithin}
-use Rattle.axis_core.specs.Fates.{Fate}
+use Rattle.buffer_modes.specs.Fates.{Fate}
 use Rattle.axis_core.specs.blocks.Moves.{target_of}
 use Rattle.axis_core.specs.declared.axis.Axis.{Axis}
 use Rattle.axis_core.specs.declared.blocks.moves.SecondMove.{SecondMove}

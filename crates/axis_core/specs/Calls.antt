@@ -10,13 +10,14 @@ use Rattle.command_pool.specs.declared.kind.BlockKind.TheVariants as kind
 use Rattle.command_pool.specs.declared.wanted.Wanted.{Wanted}
 use Rattle.axis_core.specs.Cores.{Core, core_after_all_ends, axis_under, axis_under_by}
 use Rattle.axis_core.specs.Refusals.{Asked, number_of, refusal_of}
-use Rattle.axis_core.specs.States.{is_error_stop}
+use Rattle.axis_state.specs.States.{is_error_stop}
 use Rattle.axis_core.specs.blocks.Gear.{out_event, velocity_command}
 use Rattle.axis_core.specs.blocks.Moves.{known_target_of, with_target}
-use Rattle.axis_core.specs.blocks.Reset.{replaced_note, reset_pending}
+use Rattle.buffer_modes.specs.Owners.{active_without}
+use Rattle.buffer_modes.specs.Resets.{replaced_note, reset_without}
+use Rattle.axis_core.specs.blocks.Reset.{reset_pending}
 use Rattle.axis_core.specs.blocks.Power.{axis_with_wish, axis_without_power}
 use Rattle.axis_core.specs.declared.axis.Axis.{Axis}
-use Rattle.axis_core.specs.declared.axis.PendingReset.{PendingReset}
 use Rattle.axis_core.specs.declared.reason.Reason.{Reason}
 
 -- a Reset is pending, in the place of another one. MC_Reset
@@ -98,16 +99,6 @@ core_after_power true c = record c { axis = axis_with_wish true c.axis }
 core_after_power false c =
     let wished = record c { axis = axis_with_wish false c.axis } in
     if is_error_stop c.axis.state then wished else core_after_disabling wished
-
--- an active command without this owner
-abbrev pub active_without : ℕ → Option Wanted → Option Wanted
-active_without owner None = None
-active_without owner (Some w) = Some (record w { owner = without owner w.owner })
-
--- a pending Reset without this owner
-abbrev pub reset_without : ℕ → Option PendingReset → Option PendingReset
-reset_without owner None = None
-reset_without owner (Some p) = Some (record { owner = without owner p.owner })
 
 -- an axis without this owner of its active command, its pending Reset and its hold
 unfoldable pub axis_without_owner : ℕ → Axis → Axis

@@ -18,7 +18,7 @@ use Rattle.kin_core.specs.Toward.{toward_zero}
 use Rattle.axis_core.specs.Cores.{Core, core_after_ending, core_after_error}
 use Rattle.axis_core.specs.Drives.{answer_error_of, is_driven, axis_at_drive}
 use Rattle.axis_core.specs.Kinds.{ending_by, is_reached, wish_by}
-use Rattle.axis_core.specs.States.{is_error_stop}
+use Rattle.axis_state.specs.States.{is_error_stop}
 use Rattle.axis_core.specs.Steps.{axis_after_step, old_step_of, step_for_wish, taken_step_in}
 use Rattle.axis_core.specs.blocks.Halts.{axis_after_stop}
 use Rattle.axis_core.specs.blocks.Home.{axis_after_home}

@@ -9,7 +9,7 @@ use Rattle.cia402_machine.specs.declared.drive.DriveIn.{DriveIn}
 use Rattle.cia402_machine.specs.declared.drive.DriveState.{DriveState}
 use Rattle.cia402_machine.specs.declared.drive.DriveState.TheVariants.{OperationEnabled}
 use Rattle.motion_numbers.specs.Ranges.{is_outside}
-use Rattle.axis_core.specs.States.{is_error_stop}
+use Rattle.axis_state.specs.States.{is_error_stop}
 use Rattle.axis_core.specs.blocks.Power.{state_when_driven, is_powered}
 use Rattle.axis_core.specs.declared.axis.Axis.{Axis}
 

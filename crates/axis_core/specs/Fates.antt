@@ -1,7 +1,7 @@
 -- What becomes of the commands of an axis in a call and in a cycle (PLCopen Motion Control Part 1,
 -- BufferMode).
-use Rattle.std.specs.Prelude.{◌≡◌, ◌≢◌, Bool, true, false, ◌&&◌, nat_eq, if◌then◌else◌, ℤ, ◌+ℤ◌, Option, Some, None, is_some, List, [], ◌∷◌, slice_get}
-use Rattle.buffer_modes.specs.Owners.{IsSame}
+use Rattle.std.specs.Prelude.{Bool, true, false, ◌&&◌, nat_eq, if◌then◌else◌, ℤ, ◌+ℤ◌, Option, Some, None, is_some, List, [], ◌∷◌, slice_get}
+use Rattle.buffer_modes.specs.Fates.{Fate, goes_on, replaced}
 use Rattle.buffer_modes.specs.Queue.{is_active_at_once}
 use Rattle.command_pool.specs.Waiting.{last_of}
 use Rattle.command_pool.specs.declared.ending.Finish.{Finish}
@@ -15,28 +15,12 @@ use Rattle.axis_core.specs.Cycles.{advance_in_cycle}
 use Rattle.axis_core.specs.Drives.{answer_error_of, is_driven}
 use Rattle.motion_numbers.specs.Ranges.{is_outside}
 use Rattle.axis_core.specs.Refusals.{Asked, refusal_of}
-use Rattle.axis_core.specs.States.{is_error_stop}
+use Rattle.axis_state.specs.States.{is_error_stop}
 use Rattle.axis_core.specs.blocks.Gear.{velocity_command}
 use Rattle.axis_core.specs.blocks.Moves.{blended_with, is_move, known_target_of, position_of, with_target}
 use Rattle.axis_core.specs.declared.axis.Axis.{Axis}
 use Rattle.axis_core.specs.declared.look.AxisLook.{AxisLook}
 use Rattle.axis_core.specs.declared.reason.Reason.{Reason}
-
--- how the active command ends, if it does, which one becomes active, if one does, and whether the
--- active one is a move that is blended
-pub record Fate : Type 0 where
-  pub ends : Option Finish
-  pub begins : Option Wanted
-  pub blends : Bool
-
--- the active command goes on; without one none begins
-abbrev pub goes_on : Fate
-goes_on = record { ends = None; begins = None; blends = false }
-
--- an active command ends so, and this one begins
-abbrev pub replaced : Finish → Option Wanted → Option Wanted → Fate
-replaced f None next = record { ends = None; begins = next; blends = false }
-replaced f (Some w) next = record { ends = Some f; begins = next; blends = false }
 
 -- a command that joins the others is active at once, or waits
 abbrev pub joined_fate : Wanted → Core → Fate
@@ -111,10 +95,3 @@ cycle_fate look c =
     if nat_eq (answer_error_of c.axis look.input) 0
     then (if is_driven c.axis look.input && c.axis.driven then moved_fate look c else goes_on)
     else replaced (finish.Error (answer_error_of c.axis look.input)) c.axis.active None
-
--- a fate is what the active command before a call or a cycle and the one after it show
-pub record IsFate (f : Fate) (before now : Option Wanted) : Type 0 where
-  pub begins : (w : Wanted) → f.begins ≡ Some w → now ≡ Some w
-  pub ends : f.ends ≢ None → f.begins ≡ None → now ≡ None
-  pub goes_on : f.ends ≡ None → f.begins ≡ None → IsSame before now
-  pub was : f.ends ≢ None → before ≢ None

@@ -13,7 +13,7 @@ use Rattle.axis_state.specs.declared.diagram.AxisEvent.TheVariants as event
 use Rattle.buffer_modes.specs.Queue.{is_full}
 use Rattle.axis_core.specs.Cores.{Core, MayBegin, MayTakeOver}
 use Rattle.axis_core.specs.Ranges.{IsBetween}
-use Rattle.axis_core.specs.States.{is_error_stop}
+use Rattle.axis_state.specs.States.{is_error_stop}
 use Rattle.axis_core.specs.blocks.Moves.{move_target_of, target_of}
 use Rattle.command_pool.specs.declared.wanted.Follow.{Follow}
 use Rattle.command_pool.specs.declared.wanted.Follow.TheVariants as follow

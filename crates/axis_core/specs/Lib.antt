@@ -1,6 +1,5 @@
 pub mod Along
 pub mod Ranges
-pub mod States
 pub mod Steps
 pub mod blocks
 pub mod Drives

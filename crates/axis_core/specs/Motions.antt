@@ -7,7 +7,7 @@ use Rattle.command_pool.specs.declared.kind.BlockKind.{BlockKind}
 use Rattle.command_pool.specs.declared.kind.BlockKind.TheVariants as kind
 use Rattle.command_pool.specs.declared.wanted.Wanted.{Wanted}
 use Rattle.trapezoid_plan.specs.MoveRun.{halt_taken_of, move_taken_of}
-use Rattle.axis_core.specs.Fates.{Fate}
+use Rattle.buffer_modes.specs.Fates.{Fate}
 use Rattle.axis_core.specs.blocks.Moves.{target_of}
 use Rattle.axis_core.specs.declared.axis.Axis.{Axis}
 use Rattle.axis_core.specs.declared.blocks.moves.SecondMove.{SecondMove}

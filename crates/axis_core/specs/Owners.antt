@@ -1,30 +1,15 @@
 -- Which instance has a command of an axis, how often, and how often it is told of an end (PLCopen
 -- Motion Control Part 1, general rules).
-use Rattle.std.specs.Prelude.{◌≡◌, ℕ, ◌+◌, map, Option, Some, None, List, ◌≤◌}
-use Rattle.std.specs.List.{Contains}
+use Rattle.std.specs.Prelude.{ℕ, ◌+◌, map, Option, Some, None, ◌≤◌}
 use Rattle.buffer_modes.specs.Owners.{is_owner, owner_by, waits_of}
-use Rattle.command_pool.specs.declared.ending.Finish.{Finish}
 use Rattle.command_pool.specs.declared.kind.BlockKind.{BlockKind}
 use Rattle.command_pool.specs.declared.kind.BlockKind.TheVariants as kind
-use Rattle.command_pool.specs.declared.notes.Note.{Note}
 use Rattle.command_pool.specs.declared.wanted.Wanted.{Wanted}
 use Rattle.command_pool.specs.Waiting as pool
 use Rattle.axis_core.specs.Calls.{axis_without_owner}
 use Rattle.axis_core.specs.Cores.{Core}
-use Rattle.axis_core.specs.Fates.{Fate}
-use Rattle.axis_core.specs.declared.axis.PendingReset.{PendingReset}
+use Rattle.buffer_modes.specs.Resets.{reset_owner}
 use Rattle.axis_core.specs.declared.reason.Reason.{Reason}
-
--- among some notes one tells the instance that has the active command how that ended, where this
--- fate ends it
-abbrev pub TellsOwner : Fate → Option Wanted → List Note → Type 0
-TellsOwner f active notes = (owner : ℕ) (g : Finish) → f.ends ≡ Some g →
-    owner_by active ≡ Some owner → Contains notes (record { owner = owner; finish = g })
-
--- the owner of a pending Reset
-abbrev pub reset_owner : Option PendingReset → Option ℕ
-reset_owner None = None
-reset_owner (Some p) = p.owner
 
 -- how many commands of the axis this instance has: the active one, those that wait and a pending
 -- Reset

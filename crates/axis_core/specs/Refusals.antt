@@ -6,7 +6,7 @@ use Rattle.command_pool.specs.declared.kind.BlockKind.{BlockKind}
 use Rattle.command_pool.specs.declared.wanted.Wanted.{Wanted}
 use Rattle.axis_core.specs.Kinds.{tests_of}
 use Rattle.motion_numbers.specs.Ranges.{is_outside}
-use Rattle.axis_core.specs.States.{is_disabled, is_error_stop, is_homing, is_standstill, is_stopping}
+use Rattle.axis_state.specs.States.{is_disabled, is_error_stop, is_homing, is_standstill, is_stopping}
 use Rattle.axis_core.specs.blocks.Cam.{is_no_table}
 use Rattle.axis_core.specs.blocks.Gear.{is_bad_ratio, is_master, is_not_following}
 use Rattle.axis_core.specs.blocks.Home.{breaks_counts}

@@ -1,7 +1,7 @@
 -- What an axis shows of its errors and of its Stop.
 use Rattle.std.specs.Prelude.{◌≡◌, ℕ, ◌≤◌, true, false, Option, None}
 use Rattle.axis_state.specs.declared.state.AxisState.{AxisState}
-use Rattle.axis_core.specs.States.{is_error_stop, is_stopping}
+use Rattle.axis_state.specs.States.{is_error_stop, is_stopping}
 use Rattle.axis_core.specs.declared.axis.Axis.{Axis}
 
 -- the number of an axis error. This project's profile

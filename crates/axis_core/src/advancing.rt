@@ -8,7 +8,7 @@ ghost use Rattle.axis_state.specs.Diagram.{IsFrom};
 ghost use Rattle.axis_state.specs.declared.diagram.AxisEvent.TheVariants as event;
 ghost use Rattle.axis_core.specs.Drives as drives;
 ghost use Rattle.axis_core.specs.Kept.{HasDrive, IsMoving, IsTarget, MayAdvance};
-ghost use Rattle.axis_core.specs.States as states;
+ghost use Rattle.axis_state.specs.States as states;
 ghost use Rattle.axis_core.specs.Steps.{axis_after_step};
 ghost use Rattle.axis_core.specs.blocks.Moves.{target_of};
 ghost use Rattle.axis_core.specs.declared.axis.Axis.{Axis};

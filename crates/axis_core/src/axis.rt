@@ -1,6 +1,7 @@
 // What an axis is between two events.
 
 use axis_state::AxisState;
+use buffer_modes::PendingReset;
 use command_pool::Wanted;
 use kin_core::Limits;
 
@@ -15,13 +16,6 @@ pub const MOST_TARGET: u64 = 8_000_000_000_000_000_000;
 /// The greatest size of an offset after a Home, in internal units, before it is looked at whether
 /// the axis has counts with it.
 pub const MOST_MOVED: u64 = 9_200_000_000_000_000_000;
-
-/// A Reset that is done in a later cycle.
-#[derive(Clone, Copy, Debug, PartialEq, Eq)]
-pub struct PendingReset {
-    /// The instance that reports its end, where it still has one.
-    pub owner: Option<u16>,
-}
 
 /// An axis. Positions and steps are in internal units.
 #[derive(Clone, Copy)]

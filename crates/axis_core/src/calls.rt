@@ -8,10 +8,10 @@ ghost use Rattle.axis_core.specs.Calls as spec;
 ghost use Rattle.axis_core.specs.Cores.{core_at, MayBegin};
 ghost use Rattle.axis_core.specs.Demands.{IsMade, asked_in};
 ghost use Rattle.axis_core.specs.Kept.{MayAdmit, MayLeave};
-ghost use Rattle.axis_core.specs.States.{is_error_stop};
+ghost use Rattle.axis_state.specs.States.{is_error_stop};
 ghost use Rattle.axis_core.specs.blocks.Moves.{with_target};
 
-use crate::axis::{Axis, PendingReset};
+use crate::axis::Axis;
 use crate::blocks::gear::velocity_command;
 use crate::blocks::power::{switch_off, wish};
 use crate::blocks::reset::await_reset;
@@ -19,7 +19,7 @@ use crate::blocks::targets::known_target;
 use crate::refusing::{Asking, refusal_of};
 use crate::taking_over::{end_all, enter};
 use axis_state::{AxisEvent, AxisState, axis_next, offsets_are_small};
-use buffer_modes::admit;
+use buffer_modes::{admit, disown_active, disown_reset};
 use command_pool::{BlockKind, CommandPool, Finish, Notes, Refusal, Wanted, without};
 
 // The velocity command goes on where a gear or a cam is left.
@@ -174,30 +174,12 @@ pub fn power(enable: bool, axis: &mut Axis, pool: &mut CommandPool, list: u8, no
     }
 }
 
-// An active command without this owner.
-fn disown(owner: u16, active: &mut Option<Wanted>)
-    ensures { active.new ≡ spec.active_without owner active.old }
-{
-    if let Some(wanted) = active {
-        wanted.owner = without(wanted.owner, owner);
-    }
-}
-
-// A pending Reset without this owner.
-fn disown_reset(owner: u16, reset: &mut Option<PendingReset>)
-    ensures { reset.new ≡ spec.reset_without owner reset.old }
-{
-    if let Some(pending) = reset {
-        pending.owner = without(pending.owner, owner);
-    }
-}
-
 /// Takes an owner away from the active command, the pending Reset and the hold.
 #[tactic(auto, unfolding(crate::specs::Calls::axis_without_owner))]
 pub fn detach(owner: u16, axis: &mut Axis)
     ensures { axis.new ≡ spec.axis_without_owner owner axis.old }
 {
-    disown(owner, &mut axis.active);
+    disown_active(owner, &mut axis.active);
     disown_reset(owner, &mut axis.reset);
     axis.hold = without(axis.hold, owner);
 }

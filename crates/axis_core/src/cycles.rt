@@ -20,6 +20,7 @@ use axis_state::{
     AxisRow, DriveIn, DriveOut, MOST_COUNTED, counts_are_read_back, homing_keeps_counts,
     offsets_are_small, setpoints_have_counts, target_count,
 };
+use buffer_modes::ends_tell_their_owners;
 use cia402_machine::{CYCLIC_SYNCHRONOUS_POSITION, ENABLE_OPERATION, next_controlword, state_of};
 use command_pool::{CommandPool, Notes};
 use kin_core::{braking_steps_are_only_cut, standing_is_kept, taken_steps_keep};
@@ -89,6 +90,7 @@ fn cycle_axis(look: &AxisLook, axis: &mut Axis, pool: &mut CommandPool, list: u8
     ensures kept { IsCoreKept (core_at axis.new pool.new list notes.new) }
     ensures limits { KeepsSpell axis.old (spec.row_shown look.now.input axis.new) axis.new }
 {
+    ends_tell_their_owners();
     taken_steps_keep();
     braking_steps_are_only_cut();
     standing_is_kept();

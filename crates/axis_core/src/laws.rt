@@ -9,13 +9,14 @@ ghost use Rattle.axis_core.specs.Calls.{core_after_command, axis_without_owner, 
 ghost use Rattle.axis_core.specs.Cores.{Core};
 ghost use Rattle.axis_core.specs.Cycles.{core_after_cycle, axis_at_opening, row_shown};
 ghost use Rattle.axis_core.specs.Demands.{IsMade, asked_in};
-ghost use Rattle.axis_core.specs.Fates.{IsFate, command_fate, power_fate, cycle_fate};
+ghost use Rattle.axis_core.specs.Fates.{command_fate, power_fate, cycle_fate};
 ghost use Rattle.axis_core.specs.Led.{HasCommand, StaysLed};
 ghost use Rattle.axis_core.specs.Drives.{answer_error_of};
 ghost use Rattle.axis_core.specs.Steps.{is_safe_step, taken_step_in};
 ghost use Rattle.axis_state.specs.declared.state.AxisState.TheVariants as state;
 ghost use Rattle.kin_core.specs.Admissible.{AreLimits, IsKept, IsSafe, IsTakenStep};
-ghost use Rattle.axis_core.specs.Owners.{AreApart, TellsOwner, owns, owner_brought, core_without_owner};
+ghost use Rattle.buffer_modes.specs.Fates.{IsFate, TellsOwner};
+ghost use Rattle.axis_core.specs.Owners.{AreApart, owns, owner_brought, core_without_owner};
 ghost use Rattle.axis_core.specs.Refusals.{Asked, refusal_of};
 ghost use Rattle.axis_core.specs.Rows.{KeepsSpell, Stays};
 ghost use Rattle.axis_core.specs.Shown.{IsShown};
@@ -27,6 +28,9 @@ ghost use Rattle.axis_core.specs.declared.axis.Axis.{Axis};
 
 use axis_state::{
     counts_are_read_back, homing_keeps_counts, offsets_are_small, setpoints_have_counts,
+};
+use buffer_modes::{
+    ends_tell_their_owners, fates_are_of_the_active_command, owners_are_taken_away,
 };
 use kin_core::{braking_steps_are_only_cut, standing_is_kept, taken_steps_keep};
 
@@ -94,7 +98,10 @@ pub fn fates_are_told()
     ensures path { (on : Bool) (a : Axis) → (axis_on_path on a).active ≡ a.active }
     ensures cycle { (look : AxisLook) (c : Core) →
         IsFate (cycle_fate look c) c.axis.active (core_after_cycle look c).axis.active }
-{}
+{
+    fates_are_of_the_active_command();
+    owners_are_taken_away();
+}
 
 /// The owner of the active command is told how it ends; and each instance is told of each command
 /// that it has no longer, once, and of no other: what it has and what it was told stay the same
@@ -118,7 +125,10 @@ pub fn ends_are_told_once()
     ensures taken_away { (k : ℕ) (c : Core) → owns k (core_without_owner k c) ≡ 0 }
     ensures left { (j k : ℕ) (c : Core) → nat_eq k j ≡ false →
         owns j (core_without_owner k c) ≡ owns j c }
-{}
+{
+    ends_tell_their_owners();
+    owners_are_taken_away();
+}
 
 /// Owners stay apart: where no instance has two commands of the axis, none has after a command that
 /// is asked by one that has none, after a Power, a cycle, and where an owner is taken away.
@@ -130,7 +140,10 @@ pub fn owners_stay_apart()
     ensures cycle { (look : AxisLook) (c : Core) → AreApart c → c.notes ≡ [] →
         AreApart (core_after_cycle look c) }
     ensures detach { (owner : ℕ) (c : Core) → AreApart c → AreApart (core_without_owner owner c) }
-{}
+{
+    ends_tell_their_owners();
+    owners_are_taken_away();
+}
 
 /// The taken step is the safe step nearest to the wanted one, and a step is safe exactly where it
 /// is taken as it is wanted: so is the place of a cam that is InSync.

@@ -23,8 +23,9 @@ mod taking_over;
 #[cfg(test)]
 mod tests;
 
-pub use axis::{Axis, PendingReset};
+pub use axis::Axis;
 pub use axis_state::{AxisDef, AxisRow, AxisState, DriveIn, DriveOut, Limits};
+pub use buffer_modes::PendingReset;
 pub use command_pool::{
     BlockKind, BufferMode, CommandPool, Finish, Follow, Note, Notes, OutOfMemory, Rates, Refusal,
     Wanted,

@@ -1,5 +1,5 @@
 -- The rows of an axis while it is driven, and when they keep its limits.
-use Rattle.std.specs.Prelude.{IsTrue, Bool, if◌then◌else◌, ℤ, ◌+ℤ◌, ◌-ℤ◌, ◌≤ℤ◌, Option, Some, None, List, [], ◌∷◌}
+use Rattle.std.specs.Prelude.{IsTrue, if◌then◌else◌, ℤ, ◌+ℤ◌, ◌-ℤ◌, ◌≤ℤ◌, Option, Some, None, List, [], ◌∷◌}
 use Rattle.kin_core.specs.declared.limits.Limits.{Limits}
 use Rattle.kin_core.specs.Admissible.{IsAdmissible}
 use Rattle.axis_state.specs.declared.definition.AxisDef.{AxisDef}

@@ -1,0 +1,3 @@
+pub mod Owners
+mod TakenAway
+mod Fates

@@ -1,5 +1,6 @@
 -- Which instance has a command, how often, and how often it is told of an end (PLCopen Motion Control Part 1, general rules).
-use Rattle.std.specs.Prelude.{◌≡◌, ℕ, ◌+◌, Bool, true, false, nat_eq, Option, Some, None, List, [], ◌∷◌}
+use Rattle.std.specs.Prelude.{◌≡◌, ℕ, ◌+◌, Bool, true, false, not, nat_eq, Option, Some, None, List, [], ◌∷◌}
+use Rattle.command_pool.specs.Waiting.{without}
 use Rattle.command_pool.specs.declared.notes.Note.{Note}
 use Rattle.command_pool.specs.declared.wanted.Wanted.{Wanted}
 
@@ -7,6 +8,16 @@ use Rattle.command_pool.specs.declared.wanted.Wanted.{Wanted}
 abbrev pub owner_by : Option Wanted → Option ℕ
 owner_by None = None
 owner_by (Some w) = w.owner
+
+-- an active command without this owner
+abbrev pub active_without : ℕ → Option Wanted → Option Wanted
+active_without owner None = None
+active_without owner (Some w) = Some (record w { owner = without owner w.owner })
+
+-- whether nobody holds a state of stopping: no instance has it, or its Execute is false. MC_Stop and MC_GroupStop
+abbrev pub is_released : Option ℕ → Bool → Bool
+is_released None held = true
+is_released (Some owner) held = not held
 
 -- 1 where an owner is this instance, else 0
 abbrev pub one_of : Bool → ℕ

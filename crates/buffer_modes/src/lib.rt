@@ -2,7 +2,11 @@
 #![tactic(auto)]
 
 mod joining;
+mod laws;
+mod reset;
 #[cfg(test)]
 mod tests;
 
 pub use joining::{QueueFull, abort_all, admit, take_over};
+pub use laws::{ends_tell_their_owners, fates_are_of_the_active_command, owners_are_taken_away};
+pub use reset::{PendingReset, disown_active, disown_reset, tell_reset};

@@ -150,9 +150,7 @@ fn reached_after(kind: BlockKind, edge: Edge, reached: bool) -> bool
 {
     match edge {
         Edge::Rising => is_power(kind) && reached,
-        Edge::High => reached,
-        Edge::Falling => reached,
-        Edge::Low => reached,
+        Edge::High | Edge::Falling | Edge::Low => reached,
     }
 }
 
@@ -163,8 +161,7 @@ fn progress_after(progress: Progress, edge: Edge) -> Progress
     match edge {
         Edge::Rising => Progress::Idle,
         Edge::High => progress,
-        Edge::Falling => without_shown(progress),
-        Edge::Low => without_shown(progress),
+        Edge::Falling | Edge::Low => without_shown(progress),
     }
 }
 
@@ -174,16 +171,7 @@ fn without_shown(progress: Progress) -> Progress
 {
     match progress {
         Progress::Ended { shown: true, .. } => Progress::Idle,
-        Progress::Ended {
-            finish,
-            shown: false,
-        } => Progress::Ended {
-            finish,
-            shown: false,
-        },
-        Progress::Idle => Progress::Idle,
-        Progress::Waiting => Progress::Waiting,
-        Progress::Active => Progress::Active,
+        _ => progress,
     }
 }
 

@@ -1,10 +1,9 @@
 -- What a bench keeps of its group.
-use Rattle.std.specs.Prelude.{◌≡◌, refl, ℕ, suc, Option, List, [], ◌∷◌, length, map}
-use Rattle.std.proofs.Common.{◌∙◌, ap, sym}
+use Rattle.std.specs.Prelude.{◌≡◌, refl, Option, List, [], ◌∷◌, map}
+use Rattle.std.proofs.Common.{◌∙◌, sym}
 use Rattle.command_pool.specs.Waiting.{queue_of}
 use Rattle.command_pool.specs.declared.wanted.Wanted.{Wanted}
 use Rattle.kin_core.specs.declared.limits.Limits.{Limits}
-use Rattle.group_core.specs.Calls.{group_without}
 use Rattle.group_core.specs.GroupKept.{IsGroupKept}
 use Rattle.group_core.specs.Tracks.{OnPath}
 use Rattle.group_core.specs.declared.group.Group.{Group}
@@ -13,15 +12,6 @@ use Rattle.group_core.specs.declared.group.Group.{Group}
 pub queue-without : (f : Wanted → Wanted) (lists : List (List Wanted)) → queue_of (map (map f) lists) 0 ≡ map f (queue_of lists 0)
 queue-without f [] = refl
 queue-without f (q ∷ qs) = refl
-
-pub as-many : {A B : Type 0} (f : A → B) (xs : List A) → length (map f xs) ≡ length xs
-as-many f [] = refl
-as-many f (x ∷ xs) = ap suc (as-many f xs)
-
--- a group that loses an owner has its axes
-pub axes-without : (owner : ℕ) (g : Group) → (group_without owner g).axes ≡ g.axes
-unfolding group_without
-axes-without owner g = refl
 
 -- two groups whose axes have the same limits have as many
 pub same-axes : (limits : List Limits) (g h : Group) (p q : Option OnPath) (ws vs : List Wanted) → IsGroupKept limits g p ws → IsGroupKept limits h q vs → g.axes ≡ h.axes

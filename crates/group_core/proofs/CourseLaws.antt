@@ -1,9 +1,9 @@
 -- Commands of a group come to their end in time.
-use Rattle.std.specs.Prelude.{◌≡◌, refl, ℕ, zero, suc, ◌+◌, ◌/◌, ◌≤◌, Bool, true, false, not, ◌&&◌, ◌||◌, nat_eq, ℤ, pos, ◌≤ℤ◌, ◌-ℤ◌, unsigned_abs, Option, Some, None, is_none, is_some, List, if◌then◌else◌}
+use Rattle.std.specs.Prelude.{◌≡◌, refl, ℕ, zero, suc, ◌+◌, ◌/◌, ◌≤◌, Bool, true, false, not, ◌||◌, nat_eq, ℤ, pos, ◌≤ℤ◌, ◌-ℤ◌, unsigned_abs, Option, Some, None, is_none, is_some, List, if◌then◌else◌}
 use Rattle.std.specs.Int.{int_min}
 use Rattle.std.specs.Ordering.{int_eq}
 use Rattle.std.proofs.Common.{◌∙◌, sym, ap, subst, arith, inl, inr}
-use Rattle.std.proofs.lemmas.Bool.{and_parts}
+use Rattle.std.proofs.lemmas.Bool.{and_parts, and_right}
 use Rattle.std.proofs.lemmas.Int.{ints, clamps}
 use Rattle.buffer_modes.specs.Queue.{is_aborting}
 use Rattle.command_pool.specs.Rates.{AreRates}
@@ -21,11 +21,13 @@ use Rattle.kin_core.specs.declared.limits.Limits.{Limits}
 use Rattle.motion_numbers.specs.declared.TheConstants.{MOST_WAY}
 use Rattle.trapezoid_plan.specs.CyclesBound.{cycles_bound_of}
 use Rattle.trapezoid_plan.specs.MoveRun.{IsAtRestWithin, IsDoneWithin, IsMoveWithin}
-use Rattle.group_core.specs.Calls.{active_without, admitted_by, asked_in, braked_for, commanded, commanded_by, disowned, group_without, powered_off, queued, waits_for_rest}
+use Rattle.buffer_modes.specs.Owners.{active_without}
+use Rattle.group_core.specs.Calls.{admitted_by, asked_in, braked_for, commanded, commanded_by, disowned, group_without, powered_off, queued, waits_for_rest}
 use Rattle.group_core.specs.Cores.{Core, ended_by, failed, line_begun}
 use Rattle.group_core.specs.Courses.{Braked, BrakesOn, Carried, Course, GoesOn, IsAtEnd, IsBraking, IsEnd, IsUnderWay, RunsWithin, along, bound_of, course_by, course_of, is_line_done, slowing}
 use Rattle.group_core.specs.Cycles.{Advance, advanced, answered, cycled, ending_of, moved, over_at_rest, path_after, path_over, path_taken, released, reset_cycled}
-use Rattle.group_core.specs.Fates.{Fate, admitted_fate, asked_fate, command_fate, cycle_fate, goes_on, is_failing, power_off_fate, replaced}
+use Rattle.buffer_modes.specs.Fates.{Fate, goes_on, replaced}
+use Rattle.group_core.specs.Fates.{admitted_fate, asked_fate, command_fate, cycle_fate, is_failing, power_off_fate}
 use Rattle.group_core.specs.GroupKept.{AreNumbers, IsCoreKept, IsDeceleration, IsLook, IsMade}
 use Rattle.group_core.specs.Kinds.{ending_by, step_by, tests_of}
 use Rattle.group_core.specs.Refusals.{holds, limits_in, refusal_of}
@@ -346,12 +348,8 @@ never-fails : (s : GroupState) → is_error_stop s ≡ true → may_fail s ≡ f
 never-fails state.GroupErrorStop h = refl
 never-fails _ h = absurd (cc)
 
-none-both : (b : Bool) → (b && false) ≡ false
-none-both true = refl
-none-both false = refl
-
 same-answered : (members : GroupLook) (c : Core) → is_error_stop c.group.state ≡ true → answered members.error c ≡ c
-same-answered members c h = rw (never-fails c.group.state h, none-both (not (nat_eq members.error 0))) refl
+same-answered members c h = rw (never-fails c.group.state h, and_right (not (nat_eq members.error 0)) false refl) refl
 
 -- it doesn't leave GroupStopping, where it isn't
 never-leaves : (s : GroupState) → is_error_stop s ≡ true → is_stopping s ≡ false

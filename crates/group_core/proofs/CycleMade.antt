@@ -1,9 +1,9 @@
 -- A cycle, from what its parts made.
-use Rattle.std.specs.Prelude.{◌≡◌, refl, ℕ, ◌+◌, ◌≤◌, Bool, not, ◌&&◌, nat_eq, ℤ, Option, Some, None, IfSome, List, [], ◌∷◌, ◌++◌, length}
+use Rattle.std.specs.Prelude.{◌≡◌, refl, ℕ, ◌+◌, ◌≤◌, Bool, not, ◌&&◌, nat_eq, ℤ, Option, Some, None, IfSome, List, ◌++◌, length}
 use Rattle.std.proofs.Common.{◌∙◌, sym, ap, subst, arith}
 use Rattle.std.proofs.lemmas.List.{length-append}
 use Rattle.buffer_modes.specs.Queue.{active_note}
-use Rattle.command_pool.specs.Waiting.{note_of, notes_of, told_to}
+use Rattle.command_pool.specs.Waiting.{notes_of}
 use Rattle.command_pool.specs.declared.ending.Finish.{Finish}
 use Rattle.command_pool.specs.declared.ending.Finish.TheVariants as finish
 use Rattle.command_pool.specs.declared.notes.Note.{Note}
@@ -23,6 +23,7 @@ use Rattle.group_core.specs.declared.look.GroupLook.{GroupLook}
 use Rattle.group_core.proofs.KeptCalls.{by-if}
 use Rattle.group_core.proofs.KeptCycles.{answered-kept, answered-look, may-take-over, stepped}
 use Rattle.group_core.proofs.KeptParts.{Laws, stepping-of}
+use Rattle.buffer_modes.specs.Laws.{AreOwners}
 
 -- the step, the end of the command and what then takes over
 moved-made : (members : GroupLook) (p : Option OnPath) (list : ℕ) (lists1 lists3 : List (List Wanted)) (notes1 notes3 : List Note) (g1 g2 g3 : Group) (p2 p3 : Option OnPath)
@@ -73,35 +74,6 @@ some-always P (Some f) h = h
 pub take-as : (members : GroupLook) (s t : List ℤ) (a b : GroupState) (ws : List Wanted) → s ≡ t → a ≡ b → MayTakeOver members t b ws → MayTakeOver members s a ws
 take-as members s t a b ws e f h = rw (e, f) h
 
--- how many notes there are
-told-few : (owner : Option ℕ) (f : Finish) → length (told_to owner f) ≤ 1
-told-few None f = omega arith
-told-few (Some o) f = omega arith
-
-waiting-few : (f : Finish) (ws : List Wanted) → length (notes_of f ws) ≤ length ws
-waiting-few f [] = omega arith
-waiting-few f (w ∷ ws) = omega (arith, length-append (note_of f w) (notes_of f ws), told-few w.owner f, waiting-few f ws)
-
-active-few : (f : Finish) (o : Option Wanted) → length (active_note f o) ≤ 1
-active-few f None = omega arith
-active-few f (Some w) = told-few w.owner f
-
-failed-few : (n : ℕ) (c : Core) → length (failed n c).notes ≤ length c.notes + 1 + length c.waiting
-unfolding failed
-failed-few n c =
-    omega (
-      arith,
-      length-append c.notes (active_note (finish.Error n) c.group.active ++ notes_of finish.Aborted c.waiting),
-      length-append (active_note (finish.Error n) c.group.active) (notes_of finish.Aborted c.waiting),
-      active-few (finish.Error n) c.group.active,
-      waiting-few finish.Aborted c.waiting,
-    )
-
-pub answered-few : (error : ℕ) (c : Core) → length (answered error c).notes ≤ length c.notes + 1 + length c.waiting
-answered-few error c =
-    by-if (λ (x : Core). length x.notes ≤ length c.notes + 1 + length c.waiting) (not (nat_eq error 0) && may_fail c.group.state) (failed error c) c
-    (λ h. failed-few error c) (λ h. omega arith)
-
 -- a group after an error of a member was read, as it was read
 pub read-kept : (error : ℕ) (limits : List Limits) (before read : Core) → read ≡ answered error before → IsCoreKept limits before → IsCoreKept limits read
 read-kept error limits before read e k = subst (IsCoreKept limits) (sym e) (answered-kept error limits before k)
@@ -109,12 +81,32 @@ read-kept error limits before read e k = subst (IsCoreKept limits) (sym e) (answ
 pub read-look : (members : GroupLook) (before read : Core) → read ≡ answered members.error before → IsLook before.group members → IsLook read.group members
 read-look members before read e l = subst (λ (x : Core). IsLook x.group members) (sym e) (answered-look members.error members before l)
 
-pub read-few : (error : ℕ) (before read : Core) → read ≡ answered error before → length read.notes ≤ length before.notes + 1 + length before.waiting
-read-few error before read e = subst (λ (x : Core). length x.notes ≤ length before.notes + 1 + length before.waiting) (sym e) (answered-few error before)
-
 -- the first command that waits may take over, where the axes then stand
 pub taker-may : Laws → (members : GroupLook) (read : Core) (o : Option Finish) (s : List ℤ) (g : GroupState) → IsLook read.group members → IsCoreKept (limits_in members) read →
     s ≡ places_at (path_after read.group read.path) members.setpoints → g ≡ read.group.state → IfSome o (λ f. MayTakeOver members s g read.waiting)
 taker-may laws members read o s g l k e f =
     some-always (MayTakeOver members s g read.waiting) o
     (take-as members s _ g _ read.waiting e f (may-take-over members _ _ (stepped laws members read l k)))
+
+module _ (owners : AreOwners) where
+  open owners use {few_active as active-few, few_waiting as waiting-few}
+
+  -- how many notes there are
+  failed-few : (n : ℕ) (c : Core) → length (failed n c).notes ≤ length c.notes + 1 + length c.waiting
+  unfolding failed
+  failed-few n c =
+      omega (
+        arith,
+        length-append c.notes (active_note (finish.Error n) c.group.active ++ notes_of finish.Aborted c.waiting),
+        length-append (active_note (finish.Error n) c.group.active) (notes_of finish.Aborted c.waiting),
+        active-few (finish.Error n) c.group.active,
+        waiting-few finish.Aborted c.waiting,
+      )
+
+  pub answered-few : (error : ℕ) (c : Core) → length (answered error c).notes ≤ length c.notes + 1 + length c.waiting
+  answered-few error c =
+      by-if (λ (x : Core). length x.notes ≤ length c.notes + 1 + length c.waiting) (not (nat_eq error 0) && may_fail c.group.state) (failed error c) c
+      (λ h. failed-few error c) (λ h. omega arith)
+
+  pub read-few : (error : ℕ) (before read : Core) → read ≡ answered error before → length read.notes ≤ length before.notes + 1 + length before.waiting
+  read-few error before read e = subst (λ (x : Core). length x.notes ≤ length before.notes + 1 + length before.waiting) (sym e) (answered-few error before)

@@ -29,7 +29,8 @@ use Rattle.group_core.specs.Lines.{MayTakeOver}
 use Rattle.group_core.specs.Refusals.{limits_in}
 use Rattle.group_core.specs.States.{is_error_stop, is_stopping, may_fail}
 use Rattle.group_core.specs.Tracks.{OnPath, is_moving, is_running, moved_by, place_on, places_at}
-use Rattle.group_core.specs.blocks.Halts.{halt_ending, is_released, leaves_stopping}
+use Rattle.buffer_modes.specs.Owners.{is_released}
+use Rattle.group_core.specs.blocks.Halts.{halt_ending, leaves_stopping}
 use Rattle.group_core.specs.declared.group.Group.{Group}
 use Rattle.group_core.specs.declared.group.Motion.{Motion}
 use Rattle.group_core.specs.declared.look.GroupLook.{GroupLook}

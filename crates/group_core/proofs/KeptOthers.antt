@@ -1,7 +1,8 @@
 -- What opening, a detachment and a GroupReset keep of a group.
-use Rattle.std.specs.Prelude.{◌≡◌, refl, ◌⊎◌, ℕ, Bool, true, false, not, ◌&&◌, Option, Some, None, is_some, List, [], ◌∷◌, map}
+use Rattle.std.specs.Prelude.{◌≡◌, refl, ◌⊎◌, ℕ, Bool, true, false, ◌&&◌, Option, Some, None, is_some, List, [], ◌∷◌, map}
 use Rattle.std.specs.List.{list_any}
 use Rattle.std.proofs.Common.{◌∙◌, sym, ap, inl, inr}
+use Rattle.std.proofs.lemmas.Bool.{not-true}
 use Rattle.command_pool.specs.Waiting as pool
 use Rattle.command_pool.specs.declared.kind.BlockKind.{BlockKind}
 use Rattle.command_pool.specs.declared.kind.BlockKind.TheVariants as kind
@@ -9,7 +10,8 @@ use Rattle.command_pool.specs.declared.wanted.Wanted.{Wanted}
 use Rattle.group_state.specs.declared.state.GroupState.{GroupState}
 use Rattle.group_state.specs.declared.state.GroupState.TheVariants as state
 use Rattle.kin_core.specs.declared.limits.Limits.{Limits}
-use Rattle.group_core.specs.Calls.{active_without, disowned, group_without}
+use Rattle.buffer_modes.specs.Owners.{active_without}
+use Rattle.group_core.specs.Calls.{disowned, group_without}
 use Rattle.group_core.specs.Cores.{Core}
 use Rattle.group_core.specs.Cycles.{opening, reset_cycled, reset_where}
 use Rattle.group_core.specs.GroupKept.{AreGroupLimits, AreNumbers, AreWaiting, IsActive, IsCoreKept, IsCount, IsInState}
@@ -18,7 +20,7 @@ use Rattle.group_core.specs.States.{is_error_stop, is_moved}
 use Rattle.group_core.specs.Tracks.{OnPath}
 use Rattle.group_core.specs.blocks.Reset.{after_reset, may_reset, reset_by, reset_from}
 use Rattle.group_core.specs.declared.group.Group.{Group}
-use Rattle.group_core.specs.declared.group.PendingReset.{PendingReset}
+use Rattle.buffer_modes.specs.declared.reset.PendingReset.{PendingReset}
 use Rattle.group_core.specs.declared.look.GroupLook.{GroupLook}
 use Rattle.group_core.proofs.KeptCalls.{by-if, the-active}
 
@@ -138,10 +140,6 @@ reset-by-kept (Some r) members limits c k =
       queue = reset-queue m c.group.state c.waiting k.queue;
     })
     (λ h. record { axes = k.axes; limits_are = k.limits_are; state = k.state; active = k.active; path = k.path; waiting = k.waiting; queue = k.queue })
-  where
-    not-true : (b : Bool) → not b ≡ true → b ≡ false
-    not-true true h = absurd (cc)
-    not-true false h = refl
 
 pub reset-kept : (members : GroupLook) (limits : List Limits) (c : Core) → IsCoreKept limits c → IsCoreKept limits (reset_cycled members c)
 unfolding reset_where

@@ -22,4 +22,3 @@ pub mod KeptParts
 pub mod NoneHolds
 pub mod Places
 pub mod Pools
-pub mod Queues

@@ -1,281 +1,204 @@
 -- An instance is told of the end of each command that it has, once.
-use Rattle.std.specs.Prelude.{◌≡◌, refl, map, ℕ, ◌+◌, Bool, true, false, not, ◌&&◌, ◌||◌, is_none, is_some, nat_eq, ℤ, Option, Some, None, List, [], ◌∷◌, ◌++◌, if◌then◌else◌}
-use Rattle.std.proofs.Common.{sym, ◌∙◌, ap, arith}
-use Rattle.std.proofs.lemmas.Bool.{eqb-true}
+use Rattle.std.specs.Prelude.{◌≡◌, refl, ℕ, ◌+◌, Bool, true, false, not, ◌&&◌, ◌||◌, is_none, is_some, nat_eq, ℤ, Option, Some, None, List, [], ◌∷◌, ◌++◌, if◌then◌else◌}
+use Rattle.std.proofs.Common.{◌∙◌, ap, arith}
 use Rattle.buffer_modes.specs.Owners.{is_owner, owner_by, told, waits_of}
 use Rattle.buffer_modes.specs.Queue.{active_note, is_aborting}
-use Rattle.command_pool.specs.Waiting as pool
-use Rattle.command_pool.specs.Waiting.{notes_of, told_to, without}
+use Rattle.command_pool.specs.Waiting.{notes_of, told_to}
 use Rattle.command_pool.specs.declared.ending.Finish.{Finish}
 use Rattle.command_pool.specs.declared.ending.Finish.TheVariants as finish
 use Rattle.command_pool.specs.declared.kind.BlockKind.{BlockKind}
 use Rattle.command_pool.specs.declared.kind.BlockKind.TheVariants as kind
-use Rattle.command_pool.specs.declared.notes.Note.{Note}
 use Rattle.command_pool.specs.declared.wanted.Wanted.{Wanted}
 use Rattle.group_state.specs.Diagram.{next_of}
 use Rattle.group_state.specs.declared.diagram.GroupEvent.TheVariants as event
-use Rattle.group_core.specs.Calls.{active_without, admitted_by, asked_in, braked_for, commanded, commanded_by, disowned, group_without, halted, line_joined, powered_off, queued, reset_without, waits_for_rest}
+use Rattle.buffer_modes.specs.Resets.{replaced_note, reset_owner}
+use Rattle.group_core.specs.Calls.{admitted_by, asked_in, braked_for, commanded, commanded_by, disowned, group_without, halted, line_joined, powered_off, queued, waits_for_rest}
 use Rattle.group_core.specs.Cores.{Core, all_ended, ended, ended_by, failed, line_begun, taken_over}
 use Rattle.group_core.specs.Cycles.{answered, cycled, ending_of, moved, path_after, released, reset_cycled, reset_where}
-use Rattle.group_core.specs.Owners.{brought, brought_by, owns, reset_owner}
+use Rattle.group_core.specs.Owners.{brought, brought_by, owns}
 use Rattle.group_core.specs.Refusals.{refusal_of, states_in}
 use Rattle.group_core.specs.States.{may_fail}
 use Rattle.group_core.specs.Tracks.{places_at}
 use Rattle.group_core.specs.blocks.Halts.{leaves_stopping}
 use Rattle.group_core.specs.blocks.Line.{braking_for}
-use Rattle.group_core.specs.blocks.Reset.{after_reset, may_reset, replaced_note, reset_by, reset_notes}
+use Rattle.group_core.specs.blocks.Reset.{after_reset, may_reset, reset_by, reset_notes}
 use Rattle.group_core.specs.declared.group.Group.{Group}
-use Rattle.group_core.specs.declared.group.PendingReset.{PendingReset}
+use Rattle.buffer_modes.specs.declared.reset.PendingReset.{PendingReset}
 use Rattle.group_core.specs.declared.look.GroupLook.{GroupLook}
 use Rattle.group_core.specs.declared.reason.Reason.{Reason}
 use Rattle.group_core.proofs.KeptCalls.{by-if, joining}
+use Rattle.buffer_modes.specs.Laws.{AreOwners, AreTakenAway}
 
 -- what an instance has and what it was told, together
 abbrev pub sum : ℕ → Core → ℕ
 sum k c = owns k c + told k c.notes
 
-told-more : (k : ℕ) (xs ys : List Note) → told k (xs ++ ys) ≡ told k xs + told k ys
-told-more k [] ys = omega arith
-told-more k (x ∷ xs) ys = let t = told-more k xs ys in omega arith
+module _ (owners : AreOwners) (taken : AreTakenAway) where
+  open owners use {nobody, waits_more as waits-more, told_more as told-more, told_once as told-to, told_active as told-active, told_waiting as told-waiting, told_reset as told-replaced}
+  open taken use {active as gone-active, waiting as gone-waiting, reset as gone-reset, others_active as other-active, others_waiting as other-waiting, others_reset as other-reset}
 
-told-to : (k : ℕ) (o : Option ℕ) (f : Finish) → told k (told_to o f) ≡ is_owner k o
-unfolding is_owner
-told-to k None f = refl
-told-to k (Some n) f = omega arith
+  -- where all commands are ended, all that have one are told
+  told-all : (k : ℕ) (f : Finish) (c : Core) → told k (all_ended f c).notes ≡ told k c.notes + is_owner k (owner_by c.group.active) + waits_of k c.waiting
+  told-all k f c =
+      let a = told-more k c.notes (active_note f c.group.active ++ notes_of finish.Aborted c.waiting) in
+      let b = told-more k (active_note f c.group.active) (notes_of finish.Aborted c.waiting) in
+      let d = told-active k f c.group.active in
+      let e = told-waiting k finish.Aborted c.waiting in
+      omega arith
 
-told-active : (k : ℕ) (f : Finish) (o : Option Wanted) → told k (active_note f o) ≡ is_owner k (owner_by o)
-unfolding is_owner
-told-active k f None = refl
-told-active k f (Some w) = told-to k w.owner f
+  sum-failed : (k n : ℕ) (c : Core) → sum k (failed n c) ≡ sum k c
+  unfolding failed
+  sum-failed k n c =
+      let a = told-all k (finish.Error n) c in
+      let z = nobody k in
+      omega arith
 
-told-waiting : (k : ℕ) (f : Finish) (ws : List Wanted) → told k (notes_of f ws) ≡ waits_of k ws
-told-waiting k f [] = refl
-told-waiting k f (w ∷ ws) =
-    let a = told-more k (told_to w.owner f) (notes_of f ws) in
-    let b = told-to k w.owner f in
-    let c = told-waiting k f ws in
-    omega arith
+  sum-halted : (k : ℕ) (members : GroupLook) (w : Wanted) (c : Core) → sum k (halted members w c) ≡ sum k c + is_owner k w.owner
+  sum-halted k members w c =
+      let a = told-all k finish.Aborted c in
+      omega arith
 
-nobody : (k : ℕ) → is_owner k None ≡ 0
-unfolding is_owner
-nobody k = refl
+  braking-nobody : (k : ℕ) (active : Option Wanted) → is_owner k (owner_by (braking_for active)) ≡ 0
+  braking-nobody k None = nobody k
+  braking-nobody k (Some w) = nobody k
 
--- where all commands are ended, all that have one are told
-told-all : (k : ℕ) (f : Finish) (c : Core) → told k (all_ended f c).notes ≡ told k c.notes + is_owner k (owner_by c.group.active) + waits_of k c.waiting
-told-all k f c =
-    let a = told-more k c.notes (active_note f c.group.active ++ notes_of finish.Aborted c.waiting) in
-    let b = told-more k (active_note f c.group.active) (notes_of finish.Aborted c.waiting) in
-    let d = told-active k f c.group.active in
-    let e = told-waiting k finish.Aborted c.waiting in
-    omega arith
+  sum-braked : (k : ℕ) (w : Wanted) (c : Core) → sum k (braked_for w c) ≡ sum k c + is_owner k w.owner
+  sum-braked k w c =
+      let a = told-all k finish.Aborted c in
+      let b = braking-nobody k c.group.active in
+      omega arith
 
-sum-failed : (k n : ℕ) (c : Core) → sum k (failed n c) ≡ sum k c
-unfolding failed
-sum-failed k n c =
-    let a = told-all k (finish.Error n) c in
-    let z = nobody k in
-    omega arith
+  -- a line that joins the queue
+  sum-joining : (k : ℕ) (aborts : Bool) (active : Option Wanted) (w : Wanted) (c : Core) → c.group.active ≡ active → sum k (joining aborts active w c) ≡ sum k c + is_owner k w.owner
+  sum-joining k true active w c e =
+      let a = told-all k finish.Aborted c in
+      omega arith
+  sum-joining k false None w c e =
+      let a = told-more k c.notes [] in
+      let z = ap (λ o. is_owner k (owner_by o)) e ∙ nobody k in
+      omega arith
+  sum-joining k false (Some v) w c e =
+      let a = told-more k c.notes [] in
+      let z : is_owner k (owner_by c.group.active) ≡ is_owner k v.owner = ap (λ o. is_owner k (owner_by o)) e in
+      let m = waits-more k c.waiting w in
+      omega arith
 
-sum-halted : (k : ℕ) (members : GroupLook) (w : Wanted) (c : Core) → sum k (halted members w c) ≡ sum k c + is_owner k w.owner
-sum-halted k members w c =
-    let a = told-all k finish.Aborted c in
-    omega arith
+  -- where the line is active at once, it stands in the queue already
+  begun-active : (k : ℕ) (aborts : Bool) (active : Option Wanted) (members : GroupLook) (w : Wanted) (c : Core) → (aborts || is_none active) ≡ true →
+      sum k (line_begun members members.setpoints w (joining aborts active w c)) ≡ sum k (joining aborts active w c)
+  begun-active k true active members w c h = refl
+  begun-active k false None members w c h = refl
+  begun-active k false (Some v) members w c h = absurd (cc)
 
-braking-nobody : (k : ℕ) (active : Option Wanted) → is_owner k (owner_by (braking_for active)) ≡ 0
-braking-nobody k None = nobody k
-braking-nobody k (Some w) = nobody k
+  sum-line : (k : ℕ) (members : GroupLook) (w : Wanted) (c : Core) → sum k (line_joined members w c) ≡ sum k c + is_owner k w.owner
+  sum-line k members w c =
+      by-if (λ (x : Core). sum k x ≡ sum k c + is_owner k w.owner) (waits_for_rest w c.path) (braked_for w c) _ (λ h. sum-braked k w c)
+      (λ h. by-if (λ (x : Core). sum k x ≡ sum k c + is_owner k w.owner) (is_aborting w.mode || is_none c.group.active) (line_begun members members.setpoints w (queued w c)) (queued w c)
+      (λ g. begun-active k (is_aborting w.mode) c.group.active members w c g ∙ sum-joining k (is_aborting w.mode) c.group.active w c refl)
+      (λ g. sum-joining k (is_aborting w.mode) c.group.active w c refl))
 
-sum-braked : (k : ℕ) (w : Wanted) (c : Core) → sum k (braked_for w c) ≡ sum k c + is_owner k w.owner
-sum-braked k w c =
-    let a = told-all k finish.Aborted c in
-    let b = braking-nobody k c.group.active in
-    omega arith
+  sum-admitted : (b : BlockKind) (k : ℕ) (members : GroupLook) (w : Wanted) (c : Core) → sum k (admitted_by b members w c) ≡ sum k c + is_owner k (brought_by b w)
+  sum-admitted kind.GroupStop k members w c = sum-halted k members w c
+  sum-admitted kind.GroupHalt k members w c = sum-halted k members w c
+  sum-admitted kind.MoveLinearAbsolute k members w c = sum-line k members w c
+  sum-admitted kind.GroupReset k members w c =
+      let a = told-more k c.notes (replaced_note c.group.reset) in
+      let b = told-replaced k c.group.reset in
+      omega arith
+  sum-admitted _ k members w c = let z = nobody k in omega arith
 
-waits-more : (k : ℕ) (ws : List Wanted) (w : Wanted) → waits_of k (ws ++ w ∷ []) ≡ waits_of k ws + is_owner k w.owner
-waits-more k [] w = omega arith
-waits-more k (v ∷ ws) w = let t = waits-more k ws w in omega arith
+  sum-asked : (o : Option Reason) (k : ℕ) (members : GroupLook) (w : Wanted) (c : Core) → sum k (commanded_by o members w c) ≡ sum k c + is_owner k (brought o w)
+  sum-asked None k members w c = sum-admitted w.kind k members w c
+  sum-asked (Some r) k members w c = let z = nobody k in omega arith
 
--- a line that joins the queue
-sum-joining : (k : ℕ) (aborts : Bool) (active : Option Wanted) (w : Wanted) (c : Core) → c.group.active ≡ active → sum k (joining aborts active w c) ≡ sum k c + is_owner k w.owner
-sum-joining k true active w c e =
-    let a = told-all k finish.Aborted c in
-    omega arith
-sum-joining k false None w c e =
-    let a = told-more k c.notes [] in
-    let z = ap (λ o. is_owner k (owner_by o)) e ∙ nobody k in
-    omega arith
-sum-joining k false (Some v) w c e =
-    let a = told-more k c.notes [] in
-    let z : is_owner k (owner_by c.group.active) ≡ is_owner k v.owner = ap (λ o. is_owner k (owner_by o)) e in
-    let m = waits-more k c.waiting w in
-    omega arith
+  pub once-command : (k : ℕ) (w : Wanted) (jerk : ℤ) (members : GroupLook) (c : Core) →
+      owns k (commanded w jerk members c) + told k (commanded w jerk members c).notes ≡ owns k c + told k c.notes + is_owner k (brought (refusal_of (asked_in c w jerk members)) w)
+  unfolding commanded
+  once-command k w jerk members c = sum-asked (refusal_of (asked_in c w jerk members)) k members w c
 
--- where the line is active at once, it stands in the queue already
-begun-active : (k : ℕ) (aborts : Bool) (active : Option Wanted) (members : GroupLook) (w : Wanted) (c : Core) → (aborts || is_none active) ≡ true →
-    sum k (line_begun members members.setpoints w (joining aborts active w c)) ≡ sum k (joining aborts active w c)
-begun-active k true active members w c h = refl
-begun-active k false None members w c h = refl
-begun-active k false (Some v) members w c h = absurd (cc)
+  pub once-off : (k : ℕ) (c : Core) → owns k (powered_off c) + told k (powered_off c).notes ≡ owns k c + told k c.notes
+  unfolding powered_off
+  once-off k c = by-if (λ (x : Core). sum k x ≡ sum k c) (may_fail c.group.state) (failed 102 c) c (λ h. sum-failed k 102 c) (λ h. refl)
 
-sum-line : (k : ℕ) (members : GroupLook) (w : Wanted) (c : Core) → sum k (line_joined members w c) ≡ sum k c + is_owner k w.owner
-sum-line k members w c =
-    by-if (λ (x : Core). sum k x ≡ sum k c + is_owner k w.owner) (waits_for_rest w c.path) (braked_for w c) _ (λ h. sum-braked k w c)
-    (λ h. by-if (λ (x : Core). sum k x ≡ sum k c + is_owner k w.owner) (is_aborting w.mode || is_none c.group.active) (line_begun members members.setpoints w (queued w c)) (queued w c)
-    (λ g. begun-active k (is_aborting w.mode) c.group.active members w c g ∙ sum-joining k (is_aborting w.mode) c.group.active w c refl)
-    (λ g. sum-joining k (is_aborting w.mode) c.group.active w c refl))
+  -- an end tells the owner, and the next command keeps its own
+  sum-taken : (k : ℕ) (members : GroupLook) (s : List ℤ) (ws : List Wanted) (c : Core) → c.group.active ≡ None → c.waiting ≡ ws → sum k (taken_over members s ws c) ≡ sum k c
+  sum-taken k members s [] c none same = refl
+  sum-taken k members s (w ∷ ws) c none same =
+      let e : waits_of k c.waiting ≡ is_owner k w.owner + waits_of k ws = ap (waits_of k) same in
+      let z = ap (λ o. is_owner k (owner_by o)) none ∙ nobody k in
+      omega arith
 
-told-replaced : (k : ℕ) (p : Option PendingReset) → told k (replaced_note p) ≡ is_owner k (reset_owner p)
-told-replaced k None = sym (nobody k)
-told-replaced k (Some p) = told-to k p.owner finish.Aborted
+  sum-ended : (k : ℕ) (members : GroupLook) (s : List ℤ) (f : Finish) (c : Core) → sum k (ended members s f c) ≡ sum k c
+  unfolding ended
+  sum-ended k members s f c =
+      let t = sum-taken k members s c.waiting (record c { group = record c.group { active = None }; notes = c.notes ++ active_note f c.group.active }) refl refl in
+      let a = told-more k c.notes (active_note f c.group.active) in
+      let b = told-active k f c.group.active in
+      let z = nobody k in
+      omega arith
 
-sum-admitted : (b : BlockKind) (k : ℕ) (members : GroupLook) (w : Wanted) (c : Core) → sum k (admitted_by b members w c) ≡ sum k c + is_owner k (brought_by b w)
-sum-admitted kind.GroupStop k members w c = sum-halted k members w c
-sum-admitted kind.GroupHalt k members w c = sum-halted k members w c
-sum-admitted kind.MoveLinearAbsolute k members w c = sum-line k members w c
-sum-admitted kind.GroupReset k members w c =
-    let a = told-more k c.notes (replaced_note c.group.reset) in
-    let b = told-replaced k c.group.reset in
-    omega arith
-sum-admitted _ k members w c = let z = nobody k in omega arith
+  sum-ended-by : (k : ℕ) (members : GroupLook) (s : List ℤ) (o : Option Finish) (c : Core) → sum k (ended_by members s o c) ≡ sum k c
+  sum-ended-by k members s None c = refl
+  sum-ended-by k members s (Some f) c = sum-ended k members s f c
 
-sum-asked : (o : Option Reason) (k : ℕ) (members : GroupLook) (w : Wanted) (c : Core) → sum k (commanded_by o members w c) ≡ sum k c + is_owner k (brought o w)
-sum-asked None k members w c = sum-admitted w.kind k members w c
-sum-asked (Some r) k members w c = let z = nobody k in omega arith
+  sum-moved : (k : ℕ) (members : GroupLook) (c : Core) → sum k (moved members c) ≡ sum k c
+  sum-moved k members c =
+      sum-ended-by k members (places_at (path_after c.group c.path) members.setpoints) (ending_of c.group c.path) (record c { path = path_after c.group c.path })
 
-pub once-command : (k : ℕ) (w : Wanted) (jerk : ℤ) (members : GroupLook) (c : Core) →
-    owns k (commanded w jerk members c) + told k (commanded w jerk members c).notes ≡ owns k c + told k c.notes + is_owner k (brought (refusal_of (asked_in c w jerk members)) w)
-unfolding commanded
-once-command k w jerk members c = sum-asked (refusal_of (asked_in c w jerk members)) k members w c
+  abbrev WithGroup : ℕ → Core → Group → Type 0
+  WithGroup k c g = sum k (record c { group = g }) ≡ sum k c
 
-pub once-off : (k : ℕ) (c : Core) → owns k (powered_off c) + told k (powered_off c).notes ≡ owns k c + told k c.notes
-unfolding powered_off
-once-off k c = by-if (λ (x : Core). sum k x ≡ sum k c) (may_fail c.group.state) (failed 102 c) c (λ h. sum-failed k 102 c) (λ h. refl)
+  sum-released : (k : ℕ) (held : Bool) (c : Core) → sum k (released held c) ≡ sum k c
+  sum-released k held c =
+      by-if (WithGroup k c) (leaves_stopping held c.group c.path) (record c.group { state = next_of event.StopReleased; hold = None }) c.group (λ h. refl) (λ h. refl)
 
--- an end tells the owner, and the next command keeps its own
-sum-taken : (k : ℕ) (members : GroupLook) (s : List ℤ) (ws : List Wanted) (c : Core) → c.group.active ≡ None → c.waiting ≡ ws → sum k (taken_over members s ws c) ≡ sum k c
-sum-taken k members s [] c none same = refl
-sum-taken k members s (w ∷ ws) c none same =
-    let e : waits_of k c.waiting ≡ is_owner k w.owner + waits_of k ws = ap (waits_of k) same in
-    let z = ap (λ o. is_owner k (owner_by o)) none ∙ nobody k in
-    omega arith
+  sum-answered : (k error : ℕ) (c : Core) → sum k (answered error c) ≡ sum k c
+  sum-answered k error c =
+      by-if (λ (x : Core). sum k x ≡ sum k c) (not (nat_eq error 0) && may_fail c.group.state) (failed error c) c (λ h. sum-failed k error c) (λ h. refl)
 
-sum-ended : (k : ℕ) (members : GroupLook) (s : List ℤ) (f : Finish) (c : Core) → sum k (ended members s f c) ≡ sum k c
-unfolding ended
-sum-ended k members s f c =
-    let t = sum-taken k members s c.waiting (record c { group = record c.group { active = None }; notes = c.notes ++ active_note f c.group.active }) refl refl in
-    let a = told-more k c.notes (active_note f c.group.active) in
-    let b = told-active k f c.group.active in
-    let z = nobody k in
-    omega arith
+  pub once-cycle : (k : ℕ) (members : GroupLook) (c : Core) → owns k (cycled members c) + told k (cycled members c).notes ≡ owns k c + told k c.notes
+  unfolding cycled
+  once-cycle k members c =
+      sum-released k members.stop_held (moved members (answered members.error c)) ∙ sum-moved k members (answered members.error c) ∙ sum-answered k members.error c
 
-sum-ended-by : (k : ℕ) (members : GroupLook) (s : List ℤ) (o : Option Finish) (c : Core) → sum k (ended_by members s o c) ≡ sum k c
-sum-ended-by k members s None c = refl
-sum-ended-by k members s (Some f) c = sum-ended k members s f c
+  -- a GroupReset that is done tells its owner
+  sum-reset : (k : ℕ) (o : Option PendingReset) (members : GroupLook) (c : Core) → c.group.reset ≡ o →
+      sum k (record c { group = reset_by o (states_in members) (is_some c.path) c.group; notes = c.notes ++ reset_notes o (is_some c.path) c.group }) ≡ sum k c
+  sum-reset k None members c e = let a = told-more k c.notes [] in omega arith
+  sum-reset k (Some p) members c e = by (may_reset (is_some c.path) c.group)
+    where
+      z : is_owner k None ≡ 0
+      z = nobody k
 
-sum-moved : (k : ℕ) (members : GroupLook) (c : Core) → sum k (moved members c) ≡ sum k c
-sum-moved k members c =
-    sum-ended-by k members (places_at (path_after c.group c.path) members.setpoints) (ending_of c.group c.path) (record c { path = path_after c.group c.path })
+      owner : is_owner k (reset_owner c.group.reset) ≡ is_owner k p.owner
+      owner = ap (λ o. is_owner k (reset_owner o)) e
 
-abbrev WithGroup : ℕ → Core → Group → Type 0
-WithGroup k c g = sum k (record c { group = g }) ≡ sum k c
+      by : (b : Bool) → sum k (record c {
+        group = (if b then after_reset (states_in members) c.group else c.group);
+        notes = c.notes ++ (if b then told_to p.owner finish.Done else []);
+      }) ≡ sum k c
+      by true =
+          let a = told-more k c.notes (told_to p.owner finish.Done) in
+          let d = told-to k p.owner finish.Done in
+          omega (arith, a, d, z, owner)
+      by false = let a = told-more k c.notes [] in omega arith
 
-sum-released : (k : ℕ) (held : Bool) (c : Core) → sum k (released held c) ≡ sum k c
-sum-released k held c =
-    by-if (WithGroup k c) (leaves_stopping held c.group c.path) (record c.group { state = next_of event.StopReleased; hold = None }) c.group (λ h. refl) (λ h. refl)
+  pub once-reset : (k : ℕ) (members : GroupLook) (c : Core) → owns k (reset_cycled members c) + told k (reset_cycled members c).notes ≡ owns k c + told k c.notes
+  unfolding reset_where
+  once-reset k members c = sum-reset k c.group.reset members c refl
 
-sum-answered : (k error : ℕ) (c : Core) → sum k (answered error c) ≡ sum k c
-sum-answered k error c =
-    by-if (λ (x : Core). sum k x ≡ sum k c) (not (nat_eq error 0) && may_fail c.group.state) (failed error c) c (λ h. sum-failed k error c) (λ h. refl)
+  pub taken-away : (k : ℕ) (c : Core) → owns k (disowned k c) ≡ 0
+  unfolding group_without
+  taken-away k c =
+      let a = gone-active k c.group.active in
+      let b = gone-waiting k c.waiting in
+      let d = gone-reset k c.group.reset in
+      omega arith
 
-pub once-cycle : (k : ℕ) (members : GroupLook) (c : Core) → owns k (cycled members c) + told k (cycled members c).notes ≡ owns k c + told k c.notes
-unfolding cycled
-once-cycle k members c =
-    sum-released k members.stop_held (moved members (answered members.error c)) ∙ sum-moved k members (answered members.error c) ∙ sum-answered k members.error c
-
--- a GroupReset that is done tells its owner
-sum-reset : (k : ℕ) (o : Option PendingReset) (members : GroupLook) (c : Core) → c.group.reset ≡ o →
-    sum k (record c { group = reset_by o (states_in members) (is_some c.path) c.group; notes = c.notes ++ reset_notes o (is_some c.path) c.group }) ≡ sum k c
-sum-reset k None members c e = let a = told-more k c.notes [] in omega arith
-sum-reset k (Some p) members c e = by (may_reset (is_some c.path) c.group)
-  where
-    z : is_owner k None ≡ 0
-    z = nobody k
-
-    owner : is_owner k (reset_owner c.group.reset) ≡ is_owner k p.owner
-    owner = ap (λ o. is_owner k (reset_owner o)) e
-
-    by : (b : Bool) → sum k (record c {
-      group = (if b then after_reset (states_in members) c.group else c.group);
-      notes = c.notes ++ (if b then told_to p.owner finish.Done else []);
-    }) ≡ sum k c
-    by true =
-        let a = told-more k c.notes (told_to p.owner finish.Done) in
-        let d = told-to k p.owner finish.Done in
-        omega (arith, a, d, z, owner)
-    by false = let a = told-more k c.notes [] in omega arith
-
-pub once-reset : (k : ℕ) (members : GroupLook) (c : Core) → owns k (reset_cycled members c) + told k (reset_cycled members c).notes ≡ owns k c + told k c.notes
-unfolding reset_where
-once-reset k members c = sum-reset k c.group.reset members c refl
-
--- an owner that is taken away has nothing, and no other loses anything
-gone : (k : ℕ) (o : Option ℕ) → is_owner k (without k o) ≡ 0
-unfolding is_owner
-gone k None = refl
-gone k (Some n) = by (nat_eq n k) refl
-  where
-    by : (b : Bool) → nat_eq n k ≡ b → is_owner k (if b then None else Some n) ≡ 0
-    by true e = refl
-    by false e = rw e refl
-
-gone-active : (k : ℕ) (o : Option Wanted) → is_owner k (owner_by (active_without k o)) ≡ 0
-gone-active k None = nobody k
-gone-active k (Some w) = gone k w.owner
-
-gone-waiting : (k : ℕ) (ws : List Wanted) → waits_of k (map (pool.detached k) ws) ≡ 0
-gone-waiting k [] = refl
-gone-waiting k (w ∷ ws) = let a = gone k w.owner in let b = gone-waiting k ws in omega arith
-
-gone-reset : (k : ℕ) (o : Option PendingReset) → is_owner k (reset_owner (reset_without k o)) ≡ 0
-gone-reset k None = nobody k
-gone-reset k (Some p) = gone k p.owner
-
-pub taken-away : (k : ℕ) (c : Core) → owns k (disowned k c) ≡ 0
-unfolding group_without
-taken-away k c =
-    let a = gone-active k c.group.active in
-    let b = gone-waiting k c.waiting in
-    let d = gone-reset k c.group.reset in
-    omega arith
-
-other : (j k : ℕ) (o : Option ℕ) → nat_eq k j ≡ false → is_owner j (without k o) ≡ is_owner j o
-unfolding is_owner
-other j k None h = refl
-other j k (Some n) h = by (nat_eq n k) refl
-  where
-    by : (b : Bool) → nat_eq n k ≡ b → is_owner j (if b then None else Some n) ≡ is_owner j (Some n)
-    by true e =
-        let same : n ≡ k = eqb-true n k e in
-        let no : nat_eq n j ≡ false = ap (λ x. nat_eq x j) same ∙ h in
-        rw no refl
-    by false e = refl
-
-other-active : (j k : ℕ) (o : Option Wanted) → nat_eq k j ≡ false → is_owner j (owner_by (active_without k o)) ≡ is_owner j (owner_by o)
-other-active j k None h = refl
-other-active j k (Some w) h = other j k w.owner h
-
-other-waiting : (j k : ℕ) (ws : List Wanted) → nat_eq k j ≡ false → waits_of j (map (pool.detached k) ws) ≡ waits_of j ws
-other-waiting j k [] h = refl
-other-waiting j k (w ∷ ws) h = let a = other j k w.owner h in let b = other-waiting j k ws h in omega arith
-
-other-reset : (j k : ℕ) (o : Option PendingReset) → nat_eq k j ≡ false → is_owner j (reset_owner (reset_without k o)) ≡ is_owner j (reset_owner o)
-other-reset j k None h = refl
-other-reset j k (Some p) h = other j k p.owner h
-
-pub left-alone : (j k : ℕ) (c : Core) → nat_eq k j ≡ false → owns j (disowned k c) ≡ owns j c
-unfolding group_without
-left-alone j k c h =
-    let a = other-active j k c.group.active h in
-    let b = other-waiting j k c.waiting h in
-    let d = other-reset j k c.group.reset h in
-    omega arith
+  pub left-alone : (j k : ℕ) (c : Core) → nat_eq k j ≡ false → owns j (disowned k c) ≡ owns j c
+  unfolding group_without
+  left-alone j k c h =
+      let a = other-active j k c.group.active h in
+      let b = other-waiting j k c.waiting h in
+      let d = other-reset j k c.group.reset h in
+      omega arith

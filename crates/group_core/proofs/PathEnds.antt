@@ -2,7 +2,7 @@
 use Rattle.std.specs.Prelude.{◌≡◌, refl, ◌⊎◌, ℕ, ◌<◌, Bool, true, false, not, ◌&&◌, ℤ, pos, Option, Some, None, is_some, List, [], ◌∷◌, ◌++◌, if◌then◌else◌}
 use Rattle.std.specs.Ordering.{int_eq}
 use Rattle.std.proofs.Common.{◌∙◌, sym, ap, subst, arith, inl, inr}
-use Rattle.std.proofs.lemmas.Bool.{and_parts}
+use Rattle.std.proofs.lemmas.Bool.{and_parts, not-true}
 use Rattle.std.proofs.lemmas.Int.{ints}
 use Rattle.buffer_modes.specs.Queue.{active_note}
 use Rattle.command_pool.specs.declared.ending.Finish.{Finish}
@@ -22,7 +22,8 @@ use Rattle.group_core.specs.Members.{StandsOn}
 use Rattle.group_core.specs.Refusals.{limits_in}
 use Rattle.group_core.specs.States.{is_error_stop, is_stopping}
 use Rattle.group_core.specs.Tracks.{OnPath, beginning, is_moving, moved_by, place_on, places_at}
-use Rattle.group_core.specs.blocks.Halts.{is_released, leaves_stopping}
+use Rattle.buffer_modes.specs.Owners.{is_released}
+use Rattle.group_core.specs.blocks.Halts.{leaves_stopping}
 use Rattle.group_core.specs.blocks.Line.{line_ending, way_to}
 use Rattle.group_core.specs.declared.group.Group.{Group}
 use Rattle.group_core.specs.declared.group.Motion.{Motion}
@@ -103,10 +104,6 @@ choose-left : (members : GroupLook) (places : List ℤ) (q : OnPath) (b : Bool) 
     Left members places q (if b then None else o)
 choose-left members places q true o h l = left-none members places q o (h refl) l
 choose-left members places q false o h l = l
-
-not-true : (b : Bool) → not b ≡ true → b ≡ false
-not-true true h = absurd (cc)
-not-true false h = refl
 
 leaves-rests : (held : Bool) (g : Group) (o : Option OnPath) → leaves_stopping held g o ≡ true → is_moving o ≡ false
 leaves-rests held g o h =

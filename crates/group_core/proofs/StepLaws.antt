@@ -2,6 +2,7 @@
 use Rattle.std.specs.Prelude.{◌≡◌, ◌↔◌, refl, Bool, true, false, not, ◌&&◌, ℤ, pos, Option, Some, None, is_some, List, if◌then◌else◌}
 use Rattle.std.specs.Ordering.{int_eq}
 use Rattle.std.proofs.Common.{◌∙◌, sym, ap, subst}
+use Rattle.std.proofs.lemmas.Bool.{and_right}
 use Rattle.command_pool.specs.declared.ending.Finish.{Finish}
 use Rattle.command_pool.specs.declared.ending.Finish.TheVariants as finish
 use Rattle.command_pool.specs.declared.kind.BlockKind.{BlockKind}
@@ -20,7 +21,8 @@ use Rattle.group_core.specs.Kinds.{ending_by, step_by}
 use Rattle.group_core.specs.Refusals.{limits_in, refusal_of}
 use Rattle.group_core.specs.States.{is_error_stop, is_stopping}
 use Rattle.group_core.specs.Tracks.{OnPath, braking_step_of, is_moving, line_step_of, moved_by, places_at}
-use Rattle.group_core.specs.blocks.Halts.{is_released, leaves_stopping}
+use Rattle.buffer_modes.specs.Owners.{is_released}
+use Rattle.group_core.specs.blocks.Halts.{leaves_stopping}
 use Rattle.group_core.specs.declared.group.Group.{Group}
 use Rattle.group_core.specs.declared.group.Motion.{Motion}
 use Rattle.group_core.specs.declared.look.GroupLook.{GroupLook}
@@ -137,13 +139,9 @@ unfolding commanded
 refused-stays w jerk members c r h = ap (λ o. commanded_by o members w c) h
 
 -- where the command goes on, so does the group on its path
-and-false : (b : Bool) → (b && false) ≡ false
-and-false true = refl
-and-false false = refl
-
 stays-stopping : (held : Bool) (g : Group) (p : Option OnPath) (w : Wanted) → g.active ≡ Some w → leaves_stopping held g p ≡ false
 stays-stopping held g p w e =
-    let none : (is_stopping g.state && not (is_some g.active)) ≡ false = ap (λ (a : Option Wanted). is_stopping g.state && not (is_some a)) e ∙ and-false (is_stopping g.state) in
+    let none : (is_stopping g.state && not (is_some g.active)) ≡ false = ap (λ (a : Option Wanted). is_stopping g.state && not (is_some a)) e ∙ and_right (is_stopping g.state) false refl in
     ap (λ b. (b && not (is_moving p)) && is_released g.hold held) none
 
 stays-on : (held : Bool) (c : Core) (w : Wanted) → c.group.active ≡ Some w → is_error_stop c.group.state ≡ false → over_at_rest (released held c) ≡ c

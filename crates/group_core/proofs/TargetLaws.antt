@@ -13,12 +13,14 @@ use Rattle.command_pool.specs.declared.wanted.Wanted.{Wanted}
 use Rattle.kin_core.specs.declared.limits.Limits.{Limits}
 use Rattle.linear_path.specs.Line.{coordinate_of, longest_way_of, place_between}
 use Rattle.linear_path.proofs.LineIsPath.{line_ends, line_limits_to}
-use Rattle.group_core.specs.Calls.{active_without, admitted_by, asked_in, braked_for, commanded, commanded_by, group_without, line_joined, powered_off, queued, waits_for_rest}
-use Rattle.group_core.specs.Fates.{Fate, cycle_fate, ending_fate, is_failing, replaced}
+use Rattle.buffer_modes.specs.Owners.{active_without}
+use Rattle.group_core.specs.Calls.{admitted_by, asked_in, braked_for, commanded, commanded_by, group_without, line_joined, powered_off, queued, waits_for_rest}
+use Rattle.buffer_modes.specs.Fates.{Fate, replaced}
+use Rattle.group_core.specs.Fates.{cycle_fate, ending_fate, is_failing}
 use Rattle.group_state.specs.declared.state.GroupState.{GroupState}
 use Rattle.group_state.specs.declared.state.GroupState.TheVariants as state
 use Rattle.group_core.specs.Cores.{Core, ended, ended_by, failed, line_begun, settled_on, taken_over}
-use Rattle.group_core.specs.Cycles.{Advance, advanced, advanced_with, answered, cycled, group_released, moved, opening, over_at_rest, path_after, path_released, path_taken, released, step_of, ending_of}
+use Rattle.group_core.specs.Cycles.{Advance, advanced, advanced_with, answered, cycled, moved, opening, over_at_rest, path_after, path_released, path_taken, released, step_of, ending_of}
 use Rattle.group_core.specs.GroupKept.{IsCoreKept, IsInState, IsPathOf, is_within}
 use Rattle.group_core.specs.Kinds.{ending_by}
 use Rattle.group_core.specs.Refusals.{limits_in, refusal_of}
@@ -33,6 +35,9 @@ use Rattle.group_core.specs.declared.look.GroupLook.{GroupLook}
 use Rattle.group_core.specs.declared.reason.Reason.{Reason}
 use Rattle.group_core.proofs.KeptCycles.{int-same}
 use Rattle.group_core.proofs.Places.{place-of-axis}
+use Rattle.group_core.proofs.FateLaws.{released-active}
+use Rattle.group_core.proofs.MemberLaws.{same-path}
+use Rattle.group_core.proofs.StepLaws.{not-failing}
 
 -- a group goes toward its line's targets
 abbrev Goes : Core → Type 0
@@ -180,15 +185,10 @@ moved_toward members c h =
     ended_toward members _ _ (record c { path = path_after c.group c.path })
     (after_toward c.group c.group.active c.path h)
 
-released_active : (held : Bool) (g : Group) (p : Option OnPath) →
-    (group_released held g p).active ≡ g.active
-released_active held g p = by_if (λ (x : Group). x.active ≡ g.active) (leaves_stopping held g p) _ g
-    refl refl
-
 released_toward : (held : Bool) (c : Core) → Goes c → Goes (released held c)
 released_toward held c h =
     subst (λ o. IsToward o (path_released held c.group c.path))
-    (sym (released_active held c.group c.path))
+    (sym (released-active held c.group c.path))
     (by_if (IsToward c.group.active) (leaves_stopping held c.group c.path) None c.path
     (off_toward c.group.active) h)
 
@@ -210,14 +210,6 @@ pub opens-toward : (axes : ℕ) → Goes (opening axes)
 opens-toward axes = none_toward None
 
 -- the path on which the axes take their places in a cycle
-failed_path : (n : ℕ) (c : Core) → (failed n c).path ≡ c.path
-unfolding failed
-failed_path n c = refl
-
-answered_path : (error : ℕ) (c : Core) → (answered error c).path ≡ c.path
-answered_path error c = by_if (λ (x : Core). x.path ≡ c.path)
-    (not (nat_eq error 0) && may_fail c.group.state) (failed error c) c (failed_path error c) refl
-
 taken_way : (g : Group) (o : Option OnPath) (p q : OnPath) → o ≡ Some p → path_after g o ≡ Some q →
     IsSameWay p q
 taken_way g None p q e f = absurd (cc)
@@ -230,7 +222,7 @@ pub takes-way : (members : GroupLook) (c : Core) (p q : OnPath) → c.path ≡ S
     path_taken members c ≡ Some q → IsSameWay p q
 takes-way members c p q e f =
     let first = answered members.error c in
-    taken_way first.group first.path p q (answered_path members.error c ∙ e) f
+    taken_way first.group first.path p q (same-path members.error c ∙ e) f
 
 -- at the end of a path each axis stands at its target
 pub ends-at-targets : (limits : List Limits) (axes : ℕ) (p : OnPath) → IsPathOf axes limits p →
@@ -402,10 +394,6 @@ no_error error true may z m e = eqb-true error 0 z
 no_error error false true z m e = absurd (cc)
 no_error error false false z m e = absurd (cc)
 
-not_failing : (members : GroupLook) (c : Core) → is_failing members c ≡ false →
-    answered members.error c ≡ c
-not_failing members c e = ap (λ b. if b then failed members.error c else c) e
-
 done_on : (members : GroupLook) (c : Core) (w : Wanted) (o : Option OnPath) → c.path ≡ o →
     IsCoreKept (limits_in members) c → c.group.active ≡ Some w →
     is_failing members c ≡ false → ending_of c.group o ≡ Some finish.Done → IsDoneOn members c w
@@ -418,7 +406,7 @@ done_on members c w (Some p) at kept active fine done =
       before = p;
       after = q;
       path = at;
-      takes = ap (λ (x : Core). path_after x.group x.path) (not_failing members c fine) ∙ ap
+      takes = ap (λ (x : Core). path_after x.group x.path) (not-failing members c fine) ∙ ap
           (path_after c.group) at;
       same = step_same c.group p;
       rests = last.rests;

@@ -15,9 +15,10 @@ use Rattle.group_core.specs.Tracks.{OnPath, is_moving}
 use Rattle.group_core.specs.blocks.Enable.{disabled, enabled}
 use Rattle.group_core.specs.blocks.Halts.{halted_path, way_here}
 use Rattle.group_core.specs.blocks.Line.{braking_for}
-use Rattle.group_core.specs.blocks.Reset.{replaced_note, reset_pending}
+use Rattle.buffer_modes.specs.Owners.{active_without}
+use Rattle.buffer_modes.specs.Resets.{replaced_note, reset_without}
+use Rattle.group_core.specs.blocks.Reset.{reset_pending}
 use Rattle.group_core.specs.declared.group.Group.{Group}
-use Rattle.group_core.specs.declared.group.PendingReset.{PendingReset}
 use Rattle.group_core.specs.declared.look.GroupLook.{GroupLook}
 use Rattle.group_core.specs.declared.reason.Reason.{Reason}
 
@@ -123,16 +124,6 @@ answer_of w jerk members c = answer_by (refusal_of (asked_in c w jerk members)) 
 -- a Power with Enable false on a member: the group has error 102 where it may have one. MC_Power
 unfoldable pub powered_off : Core → Core
 powered_off c = if may_fail c.group.state then failed 102 c else c
-
--- an active command without this owner
-abbrev pub active_without : ℕ → Option Wanted → Option Wanted
-active_without owner None = None
-active_without owner (Some w) = Some (record w { owner = without owner w.owner })
-
--- a pending GroupReset without this owner
-abbrev pub reset_without : ℕ → Option PendingReset → Option PendingReset
-reset_without owner None = None
-reset_without owner (Some p) = Some (record { owner = without owner p.owner })
 
 -- a group without this owner of its active command, its pending GroupReset and its hold
 unfoldable pub group_without : ℕ → Group → Group

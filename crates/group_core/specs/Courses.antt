@@ -11,7 +11,7 @@ use Rattle.command_pool.specs.declared.wanted.Wanted.{Wanted}
 use Rattle.trapezoid_plan.specs.CyclesBound.{cycles_bound_of}
 use Rattle.trapezoid_plan.specs.MoveRun.{IsAtRestWithin, IsDoneWithin}
 use Rattle.group_core.specs.Cores.{Core}
-use Rattle.group_core.specs.Fates.{Fate}
+use Rattle.buffer_modes.specs.Fates.{Fate}
 use Rattle.group_core.specs.States.{is_error_stop}
 use Rattle.group_core.specs.Tracks.{OnPath, cut, moved_by}
 use Rattle.group_core.specs.declared.group.Motion.{Motion}

@@ -1,7 +1,7 @@
 -- What becomes of the active command of a group in a call and in a cycle (PLCopen Motion Control
 -- Part 4; BufferMode of Part 1).
-use Rattle.std.specs.Prelude.{◌≡◌, ◌≢◌, Bool, not, ◌&&◌, nat_eq, if◌then◌else◌, ℤ, Option, Some, None, List, slice_get}
-use Rattle.buffer_modes.specs.Owners.{IsSame}
+use Rattle.std.specs.Prelude.{Bool, false, not, ◌&&◌, nat_eq, if◌then◌else◌, ℤ, Option, Some, None, List, slice_get}
+use Rattle.buffer_modes.specs.Fates.{Fate, goes_on, replaced}
 use Rattle.buffer_modes.specs.Queue.{is_active_at_once}
 use Rattle.command_pool.specs.declared.ending.Finish.{Finish}
 use Rattle.command_pool.specs.declared.ending.Finish.TheVariants as finish
@@ -16,20 +16,6 @@ use Rattle.group_core.specs.States.{may_fail}
 use Rattle.group_core.specs.blocks.Line.{braking_for}
 use Rattle.group_core.specs.declared.look.GroupLook.{GroupLook}
 use Rattle.group_core.specs.declared.reason.Reason.{Reason}
-
--- how the active command ends, if it does, and which one becomes active, if one does
-pub record Fate : Type 0 where
-  pub ends : Option Finish
-  pub begins : Option Wanted
-
--- the active command goes on; without one none begins
-abbrev pub goes_on : Fate
-goes_on = record { ends = None; begins = None }
-
--- an active command ends so, and this one begins
-abbrev pub replaced : Finish → Option Wanted → Option Wanted → Fate
-replaced f None next = record { ends = None; begins = next }
-replaced f (Some w) next = record { ends = Some f; begins = next }
 
 -- a line brakes a path that moves, is active at once, or waits
 abbrev pub line_fate : Wanted → Core → Fate
@@ -64,7 +50,8 @@ power_off_fate c =
 -- the active command goes on, or ends so and the first that waits begins
 abbrev pub ending_fate : Option Finish → List Wanted → Fate
 ending_fate None ws = goes_on
-ending_fate (Some f) ws = record { ends = Some f; begins = slice_get ws 0 }
+ending_fate (Some f) ws =
+    record { ends = Some f; begins = slice_get ws 0; blends = false }
 
 -- whether an error of a member stops the group in a cycle
 abbrev pub is_failing : GroupLook → Core → Bool
@@ -75,10 +62,3 @@ unfoldable pub cycle_fate : GroupLook → Core → Fate
 cycle_fate members c =
     if is_failing members c then replaced (finish.Error members.error) c.group.active None
     else ending_fate (ending_of c.group c.path) c.waiting
-
--- a fate is what the active command before a call or a cycle and the one after it show
-pub record IsFate (f : Fate) (before now : Option Wanted) : Type 0 where
-  pub begins : (w : Wanted) → f.begins ≡ Some w → now ≡ Some w
-  pub ends : f.ends ≢ None → f.begins ≡ None → now ≡ None
-  pub goes_on : f.ends ≡ None → f.begins ≡ None → IsSame before now
-  pub was : f.ends ≢ None → before ≢ None

@@ -1,27 +1,13 @@
 -- Which instance has a command of a group, how often, and how often it is told of an end (PLCopen
 -- Motion Control Part 1, general rules).
-use Rattle.std.specs.Prelude.{◌≡◌, ℕ, ◌+◌, Option, Some, None, List}
-use Rattle.std.specs.List.{Contains}
+use Rattle.std.specs.Prelude.{ℕ, ◌+◌, Option, Some, None}
 use Rattle.buffer_modes.specs.Owners.{is_owner, owner_by, waits_of}
-use Rattle.command_pool.specs.declared.ending.Finish.{Finish}
 use Rattle.command_pool.specs.declared.kind.BlockKind.{BlockKind}
 use Rattle.command_pool.specs.declared.kind.BlockKind.TheVariants as kind
-use Rattle.command_pool.specs.declared.notes.Note.{Note}
 use Rattle.command_pool.specs.declared.wanted.Wanted.{Wanted}
 use Rattle.group_core.specs.Cores.{Core}
-use Rattle.group_core.specs.Fates.{Fate}
-use Rattle.group_core.specs.declared.group.PendingReset.{PendingReset}
+use Rattle.buffer_modes.specs.Resets.{reset_owner}
 use Rattle.group_core.specs.declared.reason.Reason.{Reason}
-
--- some notes tell the owner of the active command how that ended, where this fate ends it
-abbrev pub TellsOwner : Fate → Option Wanted → List Note → Type 0
-TellsOwner f active notes = (owner : ℕ) (g : Finish) → f.ends ≡ Some g →
-    owner_by active ≡ Some owner → Contains notes (record { owner = owner; finish = g })
-
--- the owner of a pending GroupReset
-abbrev pub reset_owner : Option PendingReset → Option ℕ
-reset_owner None = None
-reset_owner (Some p) = p.owner
 
 -- how many commands of the group this instance has, a pending GroupReset among them
 abbrev pub owns : ℕ → Core → ℕ

@@ -13,7 +13,8 @@ use Rattle.linear_path.specs.Path.{limits_at}
 use Rattle.motion_numbers.specs.Ranges.{is_outside}
 use Rattle.motion_numbers.specs.declared.TheConstants.{MOST_STEP}
 use Rattle.group_core.specs.Kinds.{may_come, tests_of}
-use Rattle.group_core.specs.States.{is_disabled, is_homing, is_in_error_stop, is_in_stopping, is_moved}
+use Rattle.axis_state.specs.States as axis
+use Rattle.group_core.specs.States.{is_moved}
 use Rattle.group_core.specs.declared.group.Group.{Group}
 use Rattle.group_core.specs.declared.look.GroupLook.{GroupLook}
 use Rattle.group_core.specs.declared.reason.Reason.{Reason}
@@ -73,10 +74,10 @@ is_blending m = true
 
 -- whether a reason to refuse a command holds
 unfoldable pub holds : Reason → Asked → Bool
-holds NotPowered q = list_any is_disabled (states_in q.members)
-holds InErrorStop q = list_any is_in_error_stop (states_in q.members)
-holds InStopping q = list_any is_in_stopping (states_in q.members)
-holds InHoming q = list_any is_homing (states_in q.members)
+holds NotPowered q = list_any axis.is_disabled (states_in q.members)
+holds InErrorStop q = list_any axis.is_error_stop (states_in q.members)
+holds InStopping q = list_any axis.is_stopping (states_in q.members)
+holds InHoming q = list_any axis.is_homing (states_in q.members)
 holds BadVelocity q = is_no_rate q.wanted.rates.v
 holds BadAcceleration q = is_no_rate q.wanted.rates.a
 holds BadDeceleration q = is_no_rate q.wanted.rates.d

@@ -22,26 +22,6 @@ may_fail state.GroupMoving = true
 may_fail state.GroupStopping = true
 may_fail s = false
 
--- whether an axis is Disabled
-abbrev pub is_disabled : AxisState → Bool
-is_disabled axis.Disabled = true
-is_disabled s = false
-
--- whether an axis is in ErrorStop
-abbrev pub is_in_error_stop : AxisState → Bool
-is_in_error_stop axis.ErrorStop = true
-is_in_error_stop s = false
-
--- whether an axis is in Stopping
-abbrev pub is_in_stopping : AxisState → Bool
-is_in_stopping axis.Stopping = true
-is_in_stopping s = false
-
--- whether an axis is in Homing
-abbrev pub is_homing : AxisState → Bool
-is_homing axis.Homing = true
-is_homing s = false
-
 -- whether an axis is not in Standstill
 abbrev pub is_moved : AxisState → Bool
 is_moved axis.Standstill = false

@@ -19,6 +19,7 @@ use crate::look::{GroupLook, GroupStep};
 use crate::moving::step_along;
 use crate::states::{is_error_stop, is_stopping, may_fail};
 use crate::taking_over::{end_by, fail};
+use buffer_modes::ends_tell_their_owners;
 use command_pool::{CommandPool, Finish, Notes};
 use group_state::{GroupEvent, group_next};
 use kin_core::{braking_steps_are_only_cut, standing_is_kept, taken_steps_keep};
@@ -97,6 +98,7 @@ fn run(
     ensures others { pool.new ≡ slice_set pool.old list (queue_of pool.new list) }
     ensures kept { IsCoreKept (limits_in members.now) (core_at on.new pool.new list notes.new) }
 {
+    ends_tell_their_owners();
     standing_is_kept();
     taken_steps_keep();
     braking_steps_are_only_cut();

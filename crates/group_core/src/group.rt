@@ -1,15 +1,9 @@
 // What a group is between two events.
 
+use buffer_modes::PendingReset;
 use command_pool::Wanted;
 use group_state::GroupState;
 use kin_core::Limits;
-
-/// A GroupReset that is done in a later cycle.
-#[derive(Clone, Copy, Debug, PartialEq, Eq)]
-pub struct PendingReset {
-    /// The instance that reports its end, where it still has one.
-    pub owner: Option<u16>,
-}
 
 /// A group, apart from the path that its axes are on.
 #[derive(Clone, Copy)]

@@ -9,10 +9,11 @@ ghost use Rattle.group_core.specs.Changes.{IsNext};
 ghost use Rattle.group_core.specs.Cores.{Core};
 ghost use Rattle.group_core.specs.Courses.{Braked, Carried, Course, IsBraking, IsUnderWay, Leads, bound_of, course_of, is_line_done, is_slowing, slowing};
 ghost use Rattle.group_core.specs.Cycles.{answered, cycled, opening, path_taken, reset_cycled, reset_where, step_of};
-ghost use Rattle.group_core.specs.Fates.{IsFate, command_fate, cycle_fate, is_failing, power_off_fate};
+ghost use Rattle.group_core.specs.Fates.{command_fate, cycle_fate, is_failing, power_off_fate};
 ghost use Rattle.group_core.specs.GroupKept.{AreGroupLimits, IsCoreKept, IsCount, IsLook, IsMade};
 ghost use Rattle.group_core.specs.Members.{StandsOn, TakesSafely};
-ghost use Rattle.group_core.specs.Owners.{TellsOwner, brought, owns};
+ghost use Rattle.buffer_modes.specs.Fates.{IsFate, TellsOwner};
+ghost use Rattle.group_core.specs.Owners.{brought, owns};
 ghost use Rattle.group_core.specs.Refusals.{limits_in, refusal_of};
 ghost use Rattle.group_core.specs.Shown.{IsShown};
 ghost use Rattle.group_core.specs.States.{is_error_stop};
@@ -23,6 +24,9 @@ ghost use Rattle.group_core.specs.declared.reason.Reason.{Reason};
 ghost use Rattle.kin_core.specs.declared.limits.Limits.{Limits};
 ghost use Rattle.linear_path.specs.Line.{coordinate_of};
 
+use buffer_modes::{
+    ends_tell_their_owners, fates_are_of_the_active_command, owners_are_taken_away,
+};
 use command_pool::BlockKind;
 use kin_core::{braking_steps_are_only_cut, standing_is_kept, taken_steps_keep};
 use linear_path::{LinePath, steps_along_a_path_are_safe};
@@ -105,7 +109,10 @@ pub fn fates_are_told()
         IsFate (cycle_fate members c) c.group.active (cycled members c).group.active }
     ensures reset { (members : GroupLook) (on_path : Bool) (g : Group) →
         (reset_where members on_path g).active ≡ g.active }
-{}
+{
+    fates_are_of_the_active_command();
+    owners_are_taken_away();
+}
 
 /// While no error of a member stops the group, a line goes on by the taken move step of its path,
 /// by its rates cut to those of the path, and is Done exactly where it stands at the end with step
@@ -195,7 +202,10 @@ pub fn ends_are_told_once()
         ≡ owns k c + told k c.notes }
     ensures taken_away { (k : ℕ) (c : Core) → owns k (disowned k c) ≡ 0 }
     ensures left { (j k : ℕ) (c : Core) → nat_eq k j ≡ false → owns j (disowned k c) ≡ owns j c }
-{}
+{
+    ends_tell_their_owners();
+    owners_are_taken_away();
+}
 
 /// A group changes its state by the diagram alone: each call, each cycle and each GroupReset takes
 /// at most one of its rows, from a state of that row; an owner that is taken away changes none.

@@ -22,11 +22,12 @@ mod target_laws;
 mod tests;
 
 pub use axis_state::AxisState;
+pub use buffer_modes::PendingReset;
 pub use command_pool::{
     BlockKind, BufferMode, CommandPool, Finish, Follow, Note, Notes, OutOfMemory, Rates, Refusal,
     Wanted,
 };
-pub use group::{Group, GroupOnPath, Motion, PendingReset, Track};
+pub use group::{Group, GroupOnPath, Motion, Track};
 pub use group_state::{GroupRow, GroupState};
 pub use kin_core::Limits;
 pub use laws::{

@@ -2,6 +2,7 @@
 
 ghost use Rattle.std.specs.List.{list_any};
 ghost use Rattle.std.specs.Prelude.{◌≡◌};
+ghost use Rattle.axis_state.specs.States as axes;
 ghost use Rattle.group_core.specs.States as spec;
 
 use axis_state::AxisState;
@@ -32,40 +33,40 @@ pub fn may_fail(state: GroupState) -> bool
 }
 
 /// Whether any of some axes is Disabled.
-pub fn any_disabled(axes: &[AxisState]) -> bool
-    ensures { result ≡ list_any spec.is_disabled axes.now }
+pub fn any_disabled(states: &[AxisState]) -> bool
+    ensures { result ≡ list_any axes.is_disabled states.now }
 {
-    axes.iter()
+    states.iter()
         .any(|state| matches!(state, AxisState::Disabled))
 }
 
 /// Whether any of some axes is in ErrorStop.
-pub fn any_in_error_stop(axes: &[AxisState]) -> bool
-    ensures { result ≡ list_any spec.is_in_error_stop axes.now }
+pub fn any_in_error_stop(states: &[AxisState]) -> bool
+    ensures { result ≡ list_any axes.is_error_stop states.now }
 {
-    axes.iter()
+    states.iter()
         .any(|state| matches!(state, AxisState::ErrorStop))
 }
 
 /// Whether any of some axes is in Stopping.
-pub fn any_in_stopping(axes: &[AxisState]) -> bool
-    ensures { result ≡ list_any spec.is_in_stopping axes.now }
+pub fn any_in_stopping(states: &[AxisState]) -> bool
+    ensures { result ≡ list_any axes.is_stopping states.now }
 {
-    axes.iter()
+    states.iter()
         .any(|state| matches!(state, AxisState::Stopping))
 }
 
 /// Whether any of some axes is in Homing.
-pub fn any_homing(axes: &[AxisState]) -> bool
-    ensures { result ≡ list_any spec.is_homing axes.now }
+pub fn any_homing(states: &[AxisState]) -> bool
+    ensures { result ≡ list_any axes.is_homing states.now }
 {
-    axes.iter().any(|state| matches!(state, AxisState::Homing))
+    states.iter().any(|state| matches!(state, AxisState::Homing))
 }
 
 /// Whether any of some axes is not in Standstill.
-pub fn any_moved(axes: &[AxisState]) -> bool
-    ensures { result ≡ list_any spec.is_moved axes.now }
+pub fn any_moved(states: &[AxisState]) -> bool
+    ensures { result ≡ list_any spec.is_moved states.now }
 {
-    axes.iter()
+    states.iter()
         .any(|state| !matches!(state, AxisState::Standstill))
 }

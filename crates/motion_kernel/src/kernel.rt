@@ -1,6 +1,6 @@
 // The kernel: its state is the replay of its history.
 
-ghost use Rattle.std.specs.Prelude.{◌≡◌, ◌<◌, ◌+◌, ◌-◌, ◌++◌, ◌∷◌, [], length, map, IfOk, IsSomeAnd, slice_get, All, true, false};
+ghost use Rattle.std.specs.Prelude.{◌≡◌, ◌<◌, ◌≤◌, ◌+◌, ◌-◌, ◌++◌, ◌∷◌, [], length, map, IfOk, IsSomeAnd, slice_get, All, true, false};
 ghost use Rattle.axis_state.specs.Counts.{IsCount};
 ghost use Rattle.axis_state.specs.declared.definition.AxisRow.{AxisRow};
 ghost use Rattle.cia402_machine.specs.declared.drive.DriveIn.{DriveIn};
@@ -185,6 +185,15 @@ impl Kernel {
         ensures { result ≡ self.now.config.cycles - cycles_of self.now.history }
     {
         self.history.cycles_left()
+    }
+
+    /// How many cycles were made, at most the configured number.
+    pub fn cycles_made(&self) -> u32
+        ensures cycles { result ≡ cycles_of self.now.history }
+        ensures few { result ≤ self.now.config.cycles }
+    {
+        let _ = self.history();
+        self.config().cycles() - self.cycles_left()
     }
 
     /// How many tasks live: those that have not ended.

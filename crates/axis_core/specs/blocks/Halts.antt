@@ -1,16 +1,17 @@
 -- MC_Halt and MC_Stop, and the hold of a Stop on Stopping (PLCopen Motion Control Part 1).
-use Rattle.std.specs.Prelude.{ℕ, Result, Ok, Bool, true, ◌&&◌, not, if◌then◌else◌, ℤ, pos, Option, Some, None, is_some, List, [], ◌∷◌}
+use Rattle.std.specs.Prelude.{ℕ, Result, Ok, Bool, ◌&&◌, not, if◌then◌else◌, ℤ, pos, Option, None, is_some, List, [], ◌∷◌}
 use Rattle.std.specs.Ordering.{int_eq}
 use Rattle.axis_state.specs.Diagram.{next_of}
 use Rattle.axis_state.specs.declared.diagram.AxisEvent.{AxisEvent}
 use Rattle.axis_state.specs.declared.diagram.AxisEvent.TheVariants.{DiscreteActive, StopAdmitted, StopReleased}
+use Rattle.buffer_modes.specs.Owners.{is_released}
 use Rattle.command_pool.specs.declared.ending.Finish.{Finish}
 use Rattle.command_pool.specs.declared.ending.Finish.TheVariants as finish
 use Rattle.command_pool.specs.declared.kind.BlockKind.{BlockKind}
 use Rattle.command_pool.specs.declared.kind.BlockKind.TheVariants as kind
 use Rattle.command_pool.specs.declared.wanted.Wanted.{Wanted}
 use Rattle.kin_core.specs.Toward.{toward_zero}
-use Rattle.axis_core.specs.States.{is_stopping}
+use Rattle.axis_state.specs.States.{is_stopping}
 use Rattle.axis_core.specs.Steps.{ends_where, old_step_of}
 use Rattle.axis_core.specs.declared.axis.Axis.{Axis}
 use Rattle.axis_core.specs.declared.look.AxisLook.{AxisLook}
@@ -52,11 +53,6 @@ halt_ending step = ends_where (is_rest step) finish.Done
 abbrev pub hold_by : BlockKind → Option ℕ → Option ℕ
 hold_by kind.Stop owner = owner
 hold_by k owner = None
-
--- whether nobody holds Stopping: no instance has it, or its Execute is false
-abbrev pub is_released : Option ℕ → Bool → Bool
-is_released None held = true
-is_released (Some owner) held = not held
 
 -- whether the axis is at rest: its last step was 0. This project's profile
 abbrev pub is_at_rest : Axis → Bool

@@ -4,7 +4,7 @@ use Rattle.axis_state.specs.Diagram.{next_of}
 use Rattle.axis_state.specs.declared.state.AxisState.{AxisState}
 use Rattle.axis_state.specs.declared.state.AxisState.TheVariants as state
 use Rattle.axis_state.specs.declared.diagram.AxisEvent.TheVariants.{GroupActive, PathRest}
-use Rattle.axis_core.specs.States.{is_synchronized}
+use Rattle.axis_state.specs.States.{is_synchronized}
 use Rattle.axis_core.specs.declared.axis.Axis.{Axis}
 use Rattle.axis_core.specs.declared.look.AxisLook.{AxisLook}
 

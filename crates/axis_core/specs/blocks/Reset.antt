@@ -10,19 +10,14 @@ use Rattle.command_pool.specs.declared.ending.Finish.TheVariants as finish
 use Rattle.command_pool.specs.declared.notes.Note.{Note}
 use Rattle.command_pool.specs.declared.wanted.Wanted.{Wanted}
 use Rattle.axis_core.specs.Drives.{has_fault}
-use Rattle.axis_core.specs.States.{is_error_stop}
+use Rattle.axis_state.specs.States.{is_error_stop}
 use Rattle.axis_core.specs.blocks.Halts.{is_at_rest}
 use Rattle.axis_core.specs.declared.axis.Axis.{Axis}
-use Rattle.axis_core.specs.declared.axis.PendingReset.{PendingReset}
+use Rattle.buffer_modes.specs.declared.reset.PendingReset.{PendingReset}
 
 -- a Reset is pending
 abbrev pub reset_pending : Wanted → Axis → Axis
 reset_pending w a = record a { reset = Some (record { owner = w.owner }) }
-
--- what is told of a pending Reset that another one replaces
-abbrev pub replaced_note : Option PendingReset → List Note
-replaced_note None = []
-replaced_note (Some p) = told_to p.owner finish.Aborted
 
 -- whether a pending Reset is done: outside ErrorStop at once, else where the drive has no fault and
 -- the axis is not driven or at rest. The conditions are this project's profile

@@ -1,7 +1,7 @@
 // The axis on its group's path (PLCopen Motion Control Part 4).
 
 ghost use Rattle.std.specs.Prelude.{◌≡◌, true};
-ghost use Rattle.axis_core.specs.States.{is_synchronized};
+ghost use Rattle.axis_state.specs.States.{is_synchronized};
 ghost use Rattle.axis_core.specs.Steps.{axis_after_step};
 ghost use Rattle.axis_core.specs.blocks.Path as spec;
 

@@ -1,7 +1,7 @@
 // MC_Power: its Enable is taken at each call (PLCopen Motion Control Part 1).
 
 ghost use Rattle.std.specs.Prelude.{◌≡◌, false, ◌&&◌, not};
-ghost use Rattle.axis_core.specs.States.{is_error_stop};
+ghost use Rattle.axis_state.specs.States.{is_error_stop};
 ghost use Rattle.axis_core.specs.blocks.Power as spec;
 
 use crate::axis::Axis;

@@ -1,32 +1,23 @@
 // MC_Reset: it is pending until a cycle in which it may be done (PLCopen Motion Control Part 1).
 
 ghost use Rattle.std.specs.Prelude.{◌≡◌, ◌<◌, ◌++◌, length};
-ghost use Rattle.command_pool.specs.Waiting.{told_to};
+ghost use Rattle.buffer_modes.specs.Resets.{replaced_note};
 ghost use Rattle.axis_core.specs.blocks.Reset as spec;
 
-use crate::axis::{Axis, PendingReset};
+use crate::axis::Axis;
 use crate::driving::has_fault;
 use axis_state::{AxisEvent, AxisState, DriveIn, axis_next};
-use command_pool::{Finish, Note, Notes, Wanted};
-
-// Tells an owner, if there is one, how its Reset ended.
-fn tell(pending: &PendingReset, finish: Finish, notes: &mut Notes)
-    requires { length notes.old < 12 }
-    ensures { notes.new ≡ notes.old ++ told_to pending.now.owner finish }
-{
-    if let Some(owner) = pending.owner {
-        notes.add(Note { owner, finish });
-    }
-}
+use buffer_modes::{PendingReset, tell_reset};
+use command_pool::{Finish, Notes, Wanted};
 
 /// A Reset is pending; one that it replaces is aborted.
 pub fn await_reset(wanted: &Wanted, axis: &mut Axis, notes: &mut Notes)
     requires { length notes.old < 12 }
     ensures axis { axis.new ≡ spec.reset_pending wanted.now axis.old }
-    ensures notes { notes.new ≡ notes.old ++ spec.replaced_note axis.old.reset }
+    ensures notes { notes.new ≡ notes.old ++ replaced_note axis.old.reset }
 {
     if let Some(pending) = &axis.reset {
-        tell(pending, Finish::Aborted, notes);
+        tell_reset(pending, Finish::Aborted, notes);
     }
     axis.reset = Some(PendingReset {
         owner: wanted.owner,
@@ -72,6 +63,6 @@ pub fn reset(input: &DriveIn, axis: &mut Axis, notes: &mut Notes)
     };
     if may_reset(input, axis) {
         finish_reset(axis);
-        tell(&pending, Finish::Done, notes);
+        tell_reset(&pending, Finish::Done, notes);
     }
 }

@@ -1,6 +1,7 @@
 -- MC_GroupHalt and MC_GroupStop, and the hold on GroupStopping (PLCopen Motion Control Part 4).
-use Rattle.std.specs.Prelude.{ℕ, Bool, true, ◌&&◌, not, if◌then◌else◌, ℤ, pos, Option, Some, None, is_some, List, [], ◌∷◌}
+use Rattle.std.specs.Prelude.{ℕ, Bool, ◌&&◌, not, if◌then◌else◌, ℤ, pos, Option, Some, None, is_some, List, [], ◌∷◌}
 use Rattle.std.specs.Ordering.{int_eq}
+use Rattle.buffer_modes.specs.Owners.{is_released}
 use Rattle.command_pool.specs.declared.ending.Finish.{Finish}
 use Rattle.command_pool.specs.declared.ending.Finish.TheVariants as finish
 use Rattle.command_pool.specs.declared.kind.BlockKind.{BlockKind}
@@ -32,11 +33,6 @@ halted_path here limits p = if is_moving p then p else Some (beginning here limi
 abbrev pub hold_by : BlockKind → Option ℕ → Option ℕ
 hold_by kind.GroupStop owner = owner
 hold_by k owner = None
-
--- whether nobody holds GroupStopping: no instance has it, or its Execute is false
-abbrev pub is_released : Option ℕ → Bool → Bool
-is_released None held = true
-is_released (Some owner) held = not held
 
 -- whether the group leaves GroupStopping: its GroupStop is done, nothing moves, nobody holds it
 abbrev pub leaves_stopping : Bool → Group → Option OnPath → Bool

@@ -12,16 +12,11 @@ use Rattle.group_state.specs.declared.state.GroupState.{GroupState}
 use Rattle.group_state.specs.declared.state.GroupState.TheVariants as state
 use Rattle.group_core.specs.States.{is_error_stop, is_moved}
 use Rattle.group_core.specs.declared.group.Group.{Group}
-use Rattle.group_core.specs.declared.group.PendingReset.{PendingReset}
+use Rattle.buffer_modes.specs.declared.reset.PendingReset.{PendingReset}
 
 -- a GroupReset is pending
 abbrev pub reset_pending : Wanted → Group → Group
 reset_pending w g = record g { reset = Some (record { owner = w.owner }) }
-
--- what is told of a pending GroupReset that another one replaces
-abbrev pub replaced_note : Option PendingReset → List Note
-replaced_note None = []
-replaced_note (Some p) = told_to p.owner finish.Aborted
 
 -- whether a pending GroupReset is done: in GroupErrorStop once there is no path, else at once
 abbrev pub may_reset : Bool → Group → Bool

@@ -2,6 +2,7 @@
 // Control Part 4).
 
 ghost use Rattle.std.specs.Prelude.{◌≡◌};
+ghost use Rattle.buffer_modes.specs.Owners.{is_released};
 ghost use Rattle.group_core.specs.blocks.Halts as spec;
 
 use crate::reason::Reason::{self, *};
@@ -30,7 +31,7 @@ pub fn hold_by(kind: BlockKind, owner: Option<u16>) -> Option<u16>
 
 /// Whether nobody holds GroupStopping.
 pub fn is_released(hold: Option<u16>, held: bool) -> bool
-    ensures { result ≡ spec.is_released hold held }
+    ensures { result ≡ is_released hold held }
 {
     hold.is_none() || !held
 }

@@ -2,35 +2,26 @@
 // 4).
 
 ghost use Rattle.std.specs.Prelude.{◌≡◌, ◌<◌, ◌≤◌, ◌++◌, length};
-ghost use Rattle.command_pool.specs.Waiting.{told_to};
+ghost use Rattle.buffer_modes.specs.Resets.{replaced_note};
 ghost use Rattle.group_core.specs.Cycles.{reset_where};
 ghost use Rattle.group_core.specs.Refusals as refusals;
 ghost use Rattle.group_core.specs.blocks.Reset as spec;
 
-use crate::group::{Group, PendingReset};
+use crate::group::Group;
 use crate::look::{GroupLook, states_in};
 use crate::states::{any_moved, is_error_stop};
-use command_pool::{Finish, Note, Notes, Wanted};
+use buffer_modes::{PendingReset, tell_reset};
+use command_pool::{Finish, Notes, Wanted};
 use group_state::{GroupEvent, GroupState, group_next};
-
-// Tells an owner, if there is one, how its GroupReset ended.
-fn tell(pending: &PendingReset, finish: Finish, notes: &mut Notes)
-    requires { length notes.old < 12 }
-    ensures { notes.new ≡ notes.old ++ told_to pending.now.owner finish }
-{
-    if let Some(owner) = pending.owner {
-        notes.add(Note { owner, finish });
-    }
-}
 
 /// A GroupReset is pending; one that it replaces is aborted.
 pub fn await_reset(wanted: &Wanted, group: &mut Group, notes: &mut Notes)
     requires { length notes.old < 12 }
     ensures group { group.new ≡ spec.reset_pending wanted.now group.old }
-    ensures notes { notes.new ≡ notes.old ++ spec.replaced_note group.old.reset }
+    ensures notes { notes.new ≡ notes.old ++ replaced_note group.old.reset }
 {
     if let Some(pending) = &group.reset {
-        tell(pending, Finish::Aborted, notes);
+        tell_reset(pending, Finish::Aborted, notes);
     }
     group.reset = Some(PendingReset {
         owner: wanted.owner,
@@ -78,6 +69,6 @@ pub fn reset(members: &GroupLook, on_path: bool, group: &mut Group, notes: &mut 
     };
     if may_reset(on_path, group) {
         finish_reset(members, group);
-        tell(&pending, Finish::Done, notes);
+        tell_reset(&pending, Finish::Done, notes);
     }
 }

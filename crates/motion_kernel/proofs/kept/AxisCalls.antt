@@ -7,7 +7,7 @@ use Rattle.axis_core.specs.Calls.{core_after_command, core_after_power}
 use Rattle.axis_core.specs.Cores as cores
 use Rattle.axis_core.specs.Demands as demands
 use Rattle.axis_core.specs.Refusals.{Asked}
-use Rattle.axis_core.specs.States.{is_error_stop, is_synchronized}
+use Rattle.axis_state.specs.States.{is_error_stop, is_synchronized}
 use Rattle.axis_core.specs.blocks.Path.{is_on_path}
 use Rattle.axis_core.specs.declared.axis.Axis.{Axis}
 use Rattle.axis_state.specs.declared.state.AxisState.{AxisState}

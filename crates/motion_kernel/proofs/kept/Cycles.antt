@@ -11,7 +11,8 @@ use Rattle.motion_history.specs.declared.config.BlockDef.{BlockDef}
 use Rattle.motion_kernel.specs.cycles.Cycles.{after_cycle, around_in, cycled, stepped_in}
 use Rattle.motion_kernel.specs.looks.DriveAnswers.{answer_at}
 use Rattle.motion_kernel.specs.cycles.AxisCycles.{axes_cycled}
-use Rattle.motion_kernel.specs.cycles.Showing.{axes_shown, found_by, groups_shown, instance_found, instances_found, owner_of, with_found}
+use Rattle.buffer_modes.specs.Owners.{owner_by}
+use Rattle.motion_kernel.specs.cycles.Showing.{axes_shown, found_by, groups_shown, instance_found, instances_found, with_found}
 use Rattle.motion_kernel.specs.looks.AxisLooks.{pair_of}
 use Rattle.motion_kernel.specs.Machine.{Machine, PlacedGroup, axis_among, group_among}
 use Rattle.motion_kernel.specs.kept.Machine.{IsMachineKept}
@@ -37,12 +38,12 @@ axes_length : (n : ℕ) (axes : List Axis) (is : List InstanceState) → length 
 unfolding axes_shown
 axes_length zero axes is = refl
 axes_length (suc n) axes is =
-    shown_length (owner_of (axis_among axes n).active) (axis_among axes n).reached (axes_shown n axes is) ∙ axes_length n axes is
+    shown_length (owner_by (axis_among axes n).active) (axis_among axes n).reached (axes_shown n axes is) ∙ axes_length n axes is
 
 groups_length : (n : ℕ) (groups : List PlacedGroup) (is : List InstanceState) → length (groups_shown n groups is) ≡ length is
 unfolding groups_shown
 groups_length zero groups is = refl
-groups_length (suc n) groups is = shown_length (owner_of (group_among groups n).group.active) _ (groups_shown n groups is) ∙ groups_length n groups is
+groups_length (suc n) groups is = shown_length (owner_by (group_among groups n).group.active) _ (groups_shown n groups is) ∙ groups_length n groups is
 
 found_length : (o : Option BlockDef) (axes : List Axis) (groups : List PlacedGroup) (k : ℕ) (is : List InstanceState) →
     length (instance_found o axes groups k is) ≡ length is

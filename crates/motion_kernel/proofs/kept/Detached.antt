@@ -3,10 +3,11 @@ use Rattle.std.specs.Prelude.{◌≡◌, refl, ℕ, ◌+◌, ◌<◌, not, ◌&&
 use Rattle.std.proofs.Common.{arith, ap, sym, subst, ◌∙◌}
 use Rattle.std.proofs.lemmas.List.{get_or-map, length-map}
 use Rattle.axis_core.specs.AxisKept as axis
-use Rattle.axis_core.specs.Calls.{active_without, axis_without_owner}
+use Rattle.buffer_modes.specs.Owners.{active_without}
+use Rattle.axis_core.specs.Calls.{axis_without_owner}
 use Rattle.axis_core.specs.Cores as cores
 use Rattle.axis_core.specs.Owners.{core_without_owner}
-use Rattle.axis_core.specs.States.{is_synchronized}
+use Rattle.axis_state.specs.States.{is_synchronized}
 use Rattle.axis_core.specs.blocks.Path.{is_on_path}
 use Rattle.axis_core.specs.declared.axis.Axis.{Axis}
 use Rattle.command_pool.specs.Waiting.{detached, queue_of}

@@ -10,7 +10,7 @@ use Rattle.group_core.specs.States.{is_error_stop}
 use Rattle.group_core.specs.Tracks.{OnPath}
 use Rattle.group_core.specs.blocks.Reset.{after_reset, may_reset, reset_by, reset_from}
 use Rattle.group_core.specs.declared.group.Group.{Group}
-use Rattle.group_core.specs.declared.group.PendingReset.{PendingReset}
+use Rattle.buffer_modes.specs.declared.reset.PendingReset.{PendingReset}
 use Rattle.group_core.specs.declared.look.GroupLook.{GroupLook}
 use Rattle.group_state.specs.declared.state.GroupState.{GroupState}
 use Rattle.group_state.specs.declared.state.GroupState.TheVariants as state

@@ -5,7 +5,7 @@ use Rattle.std.proofs.lemmas.Bool.{cases_Bool, cases_eq}
 use Rattle.std.proofs.lemmas.List.{get_or-set_other, get_or-set_same, length-set}
 use Rattle.axis_core.specs.AxisKept as axis
 use Rattle.axis_core.specs.Cores as cores
-use Rattle.axis_core.specs.States.{is_synchronized}
+use Rattle.axis_state.specs.States.{is_synchronized}
 use Rattle.axis_core.specs.blocks.Path.{axis_on_path, is_on_path, state_on_path}
 use Rattle.axis_core.specs.declared.axis.Axis.{Axis}
 use Rattle.axis_state.specs.declared.state.AxisState.{AxisState}

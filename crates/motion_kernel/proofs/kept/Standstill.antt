@@ -8,7 +8,7 @@ use Rattle.axis_core.specs.AxisKept as axis
 use Rattle.axis_core.specs.Cores as cores
 use Rattle.axis_core.specs.blocks.Power.{is_powered}
 use Rattle.axis_state.specs.declared.state.AxisState.{AxisState}
-use Rattle.axis_state.specs.declared.state.AxisState.TheVariants.{Disabled, ErrorStop, Standstill, Homing, Stopping, DiscreteMotion, ContinuousMotion, SynchronizedMotion}
+use Rattle.axis_state.specs.declared.state.AxisState.TheVariants.{Standstill}
 use Rattle.command_pool.specs.declared.wanted.Wanted.{Wanted}
 use Rattle.group_core.specs.Refusals.{states_in}
 use Rattle.group_core.specs.States.{is_moved}

@@ -1,10 +1,9 @@
 -- What the instances show after a cycle (PLCopen Motion Control Part 1, general rules).
 use Rattle.std.specs.Prelude.{ℕ, zero, suc, Bool, false, ◌&&◌, Option, Some, None, List, length, slice_get, slice_set}
-use Rattle.axis_core.specs.States.{is_stopping}
+use Rattle.axis_state.specs.States.{is_stopping}
 use Rattle.axis_core.specs.declared.axis.Axis.{Axis}
 use Rattle.command_pool.specs.declared.kind.BlockKind.{BlockKind}
 use Rattle.command_pool.specs.declared.kind.BlockKind.TheVariants as kind
-use Rattle.command_pool.specs.declared.wanted.Wanted.{Wanted}
 use Rattle.fb_outputs.specs.InstanceState.{InstanceState}
 use Rattle.fb_outputs.specs.Steps as instance
 use Rattle.group_core.specs.States as group_states
@@ -13,15 +12,11 @@ use Rattle.motion_history.specs.Setup.{Setup}
 use Rattle.motion_history.specs.declared.config.BlockDef.{BlockDef}
 use Rattle.motion_kernel.specs.Machine.{Machine, PlacedGroup, axis_among, group_among, instance_at}
 use Rattle.motion_kernel.specs.calls.Telling.{is_holder, shown_active}
-
--- the owner of a command
-abbrev pub owner_of : Option Wanted → Option ℕ
-owner_of None = None
-owner_of (Some w) = w.owner
+use Rattle.buffer_modes.specs.Owners.{owner_by}
 
 -- the owner of an axis's active command is told what that has reached
 abbrev pub axis_shown : Axis → List InstanceState → List InstanceState
-axis_shown a instances = shown_active (owner_of a.active) a.reached instances
+axis_shown a instances = shown_active (owner_by a.active) a.reached instances
 
 -- so are those of the first n axes
 unfoldable pub axes_shown : ℕ → List Axis → List InstanceState → List InstanceState
@@ -30,7 +25,7 @@ axes_shown (suc n) axes instances = axis_shown (axis_among axes n) (axes_shown n
 
 -- no command of a group reaches anything but its end
 abbrev pub group_shown : PlacedGroup → List InstanceState → List InstanceState
-group_shown g instances = shown_active (owner_of g.group.active) false instances
+group_shown g instances = shown_active (owner_by g.group.active) false instances
 
 unfoldable pub groups_shown : ℕ → List PlacedGroup → List InstanceState → List InstanceState
 groups_shown zero groups instances = instances

@@ -14,7 +14,7 @@ use Rattle.std.specs.List.{AllByRecursion}
 use Rattle.motion_history.specs.Members.{members_of}
 use Rattle.motion_history.specs.Setup.{Setup, IsSetup}
 use Rattle.motion_history.specs.declared.config.GroupDef.{GroupDef}
-use Rattle.motion_kernel.specs.looks.GroupLooks.{no_limits}
+use Rattle.linear_path.specs.Path.{no_limits}
 use Rattle.motion_kernel.specs.Machine.{Machine, PlacedGroup, axis_at, axis_core_at, group_at, group_core_at}
 use Rattle.motion_kernel.specs.members.Members.{members_at, membership_of}
 use Rattle.motion_kernel.specs.declared.memberships.Membership.{Membership}

@@ -3,11 +3,11 @@ use Rattle.std.specs.Prelude.{ℕ, zero, suc, Bool, pos, List, length, replicate
 use Rattle.axis_core.specs.declared.axis.Axis.{Axis}
 use Rattle.axis_state.specs.declared.state.AxisState.TheVariants.{Disabled}
 use Rattle.group_core.specs.declared.look.GroupLook.{GroupLook}
-use Rattle.kin_core.specs.declared.limits.Limits.{Limits}
 use Rattle.motion_history.specs.Setup.{Setup}
 use Rattle.motion_kernel.specs.Machine.{Machine, axis_among, group_at}
 use Rattle.motion_kernel.specs.members.Members.{member_at, members_at}
 use Rattle.motion_kernel.specs.calls.Telling.{is_held}
+use Rattle.linear_path.specs.Path.{no_limits}
 
 -- a look with an axis at a place of it
 abbrev pub with_member : ℕ → Axis → GroupLook → GroupLook
@@ -22,10 +22,6 @@ unfoldable pub with_members : ℕ → List Axis → List ℕ → GroupLook → G
 with_members zero axes members look = look
 with_members (suc n) axes members look =
     with_member n (axis_among axes (member_at members n)) (with_members n axes members look)
-
--- the limits of no axis
-abbrev pub no_limits : Limits
-no_limits = record { lo = pos 0; hi = pos 0; vmax = pos 0; amax = pos 0; dmax = pos 0 }
 
 -- a look without an axis
 abbrev pub look_at_none : ℕ → ℕ → Bool → GroupLook

@@ -5,7 +5,8 @@ use Rattle.std.proofs.lemmas.Bool.{eqb-false, eqb-true}
 use Rattle.std.proofs.lemmas.List.{get_or-map, length-map, length-set}
 use Rattle.axis_core.specs.Calls.{axis_without_owner, core_after_command, core_after_power}
 use Rattle.axis_core.specs.Cores as cores
-use Rattle.axis_core.specs.Fates.{Fate, command_fate, goes_on, power_fate}
+use Rattle.buffer_modes.specs.Fates.{Fate, goes_on}
+use Rattle.axis_core.specs.Fates.{command_fate, power_fate}
 use Rattle.axis_core.specs.Refusals.{Asked}
 use Rattle.axis_core.specs.blocks.Path.{axis_on_path, is_on_path}
 use Rattle.axis_core.specs.declared.axis.Axis.{Axis}

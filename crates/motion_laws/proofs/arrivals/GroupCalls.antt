@@ -16,7 +16,8 @@ use Rattle.fb_outputs.specs.declared.instance.Edge.{Edge}
 use Rattle.fb_outputs.specs.declared.instance.Edge.TheVariants as edge
 use Rattle.group_core.specs.Calls.{commanded, disowned, powered_off}
 use Rattle.group_core.specs.Cores.{Core}
-use Rattle.group_core.specs.Fates.{Fate, command_fate, goes_on, power_off_fate}
+use Rattle.buffer_modes.specs.Fates.{Fate, goes_on}
+use Rattle.group_core.specs.Fates.{command_fate, power_off_fate}
 use Rattle.group_core.specs.GroupKept.{IsCoreKept, IsLook, IsMade}
 use Rattle.group_core.specs.Refusals.{limits_in}
 use Rattle.group_core.specs.declared.look.GroupLook.{GroupLook}

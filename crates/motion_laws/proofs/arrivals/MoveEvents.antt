@@ -7,7 +7,8 @@ use Rattle.axis_core.specs.Blended.{BlendingCarried, BlendingGoesOn, HasStep, Is
 use Rattle.axis_core.specs.Calls.{axis_without_owner, core_after_command, core_after_power}
 use Rattle.axis_core.specs.Cores as cores
 use Rattle.axis_core.specs.Cycles.{core_after_cycle}
-use Rattle.axis_core.specs.Fates.{Fate, IsFate, command_fate, cycle_fate, goes_on, power_fate}
+use Rattle.buffer_modes.specs.Fates.{Fate, IsFate, goes_on}
+use Rattle.axis_core.specs.Fates.{command_fate, cycle_fate, power_fate}
 use Rattle.axis_core.specs.Owners.{core_without_owner}
 use Rattle.axis_core.specs.Refusals.{Asked}
 use Rattle.axis_core.specs.blocks.Moves.{blended_with, is_move, target_of}
@@ -112,7 +113,7 @@ stays before now h = record {
   was = λ d. absurd (d refl);
 }
 
-chained : (f : Fate) (a b c : Option Wanted) → IsSame a b → IsFate f b c → IsFate f a c
+pub chained : (f : Fate) (a b c : Option Wanted) → IsSame a b → IsFate f b c → IsFate f a c
 chained f a b c s h = record {
   begins = h.begins;
   ends = h.ends;

@@ -5,9 +5,10 @@ use Rattle.axis_core.specs.Arrivals.{Carried, Course, toward, slowing, IsMoveDon
 use Rattle.axis_core.specs.Blended.{BlendingCarried, IsBlending, cycles_of_blend, cycles_to_cross}
 use Rattle.axis_core.specs.Cores as cores
 use Rattle.axis_core.specs.Cycles.{core_after_cycle}
-use Rattle.axis_core.specs.Fates.{Fate, IsFate, admitted_fate, asked_fate, command_fate, cycle_fate, goes_on, joined_fate, power_fate, replaced}
+use Rattle.buffer_modes.specs.Fates.{Fate, IsFate, goes_on, replaced}
+use Rattle.axis_core.specs.Fates.{admitted_fate, asked_fate, command_fate, cycle_fate, joined_fate, power_fate}
 use Rattle.axis_core.specs.Refusals.{Asked, refusal_of}
-use Rattle.axis_core.specs.States.{is_error_stop}
+use Rattle.axis_state.specs.States.{is_error_stop}
 use Rattle.axis_core.specs.blocks.Gear.{velocity_command}
 use Rattle.axis_core.specs.declared.reason.Reason.{Reason}
 use Rattle.axis_core.specs.blocks.Moves.{blended_with, is_move, known_target_of, target_of, with_target}

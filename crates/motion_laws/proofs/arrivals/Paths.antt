@@ -12,7 +12,8 @@ use Rattle.group_core.specs.Cores.{Core}
 use Rattle.group_core.specs.Courses.{Carried, Course, GoesOn, IsUnderWay, along, bound_of, course_of, slowing}
 use Rattle.group_core.specs.Cycles as group
 use Rattle.group_core.specs.Cycles.{path_taken, reset_cycled, reset_where}
-use Rattle.group_core.specs.Fates.{Fate, IsFate, command_fate, cycle_fate, goes_on, power_off_fate}
+use Rattle.buffer_modes.specs.Fates.{Fate, IsFate}
+use Rattle.group_core.specs.Fates.{command_fate, cycle_fate, power_off_fate}
 use Rattle.group_core.specs.GroupKept.{IsCoreKept, IsLook, IsMade}
 use Rattle.group_core.specs.Refusals.{limits_in}
 use Rattle.group_core.specs.Tracks.{OnPath}
@@ -36,7 +37,7 @@ use Rattle.motion_kernel.specs.looks.GroupLooks.{group_look}
 use Rattle.motion_kernel.specs.Machine.{Machine, group_at, group_core_at}
 use Rattle.motion_kernel.specs.kept.Machine.{AreWhole, IsMachineKept}
 use Rattle.motion_kernel.specs.kept.Ready.{MayCall}
-use Rattle.motion_laws.proofs.arrivals.MoveEvents.{as_it_is, nothing_before, same_again}
+use Rattle.motion_laws.proofs.arrivals.MoveEvents.{as_it_is, chained, stays}
 use Rattle.motion_kernel.proofs.cycles.Rows.{axes_count}
 use Rattle.motion_laws.proofs.arrivals.GroupCalls.{IsByFate, IsThere, by_call}
 use Rattle.motion_kernel.proofs.kept.Events.{IsAsLarge, axis_event_size, group_beside_axis, group_beside_group, group_event_size, group_written}
@@ -90,22 +91,6 @@ pub record GroupLaws : Type 0 where
   pub courses : CoursesEnd
 
 -- the fate of every event of a group is what its active command shows
-stays : (before now : Option Wanted) → IsSame before now → IsFate goes_on before now
-stays before now h = record {
-  begins = λ w e. absurd (cc);
-  ends = λ d e. absurd (d refl);
-  goes_on = λ e f. h;
-  was = λ d. absurd (d refl);
-}
-
-chained : (f : Fate) (a b c : Option Wanted) → IsSame a b → IsFate f b c → IsFate f a c
-chained f a b c s h = record {
-  begins = h.begins;
-  ends = h.ends;
-  goes_on = λ x y. same_again a b c s (h.goes_on x y);
-  was = λ d e. h.was d (nothing_before a b s e);
-}
-
 fates_by : GroupLaws → (c : Core) → IsByFate c (λ f x. IsFate f c.group.active x.group.active)
 fates_by laws c = record {
   rests = stays c.group.active c.group.active (as_it_is c.group.active);

@@ -19,7 +19,8 @@ use Rattle.group_core.specs.Calls.{asked_in, commanded, group_without, powered_o
 use Rattle.group_core.specs.Cores.{Core}
 use Rattle.group_core.specs.Cycles as group
 use Rattle.group_core.specs.Cycles.{path_taken, step_of}
-use Rattle.group_core.specs.Fates.{Fate, admitted_fate, asked_fate, command_fate, cycle_fate, goes_on, line_fate, power_off_fate, replaced}
+use Rattle.buffer_modes.specs.Fates.{Fate, goes_on, replaced}
+use Rattle.group_core.specs.Fates.{admitted_fate, asked_fate, command_fate, cycle_fate, line_fate, power_off_fate}
 use Rattle.group_core.specs.GroupKept.{IsCoreKept, IsPathOf}
 use Rattle.group_core.specs.Refusals.{limits_in, refusal_of}
 use Rattle.group_core.specs.States.{may_fail}

@@ -1,5 +1,5 @@
 -- Every axis and every path of a kept machine can be stopped.
-use Rattle.std.specs.Prelude.{◌≡◌, ℕ, ◌<◌, ℤ, Bool, true, false, Some, length, map}
+use Rattle.std.specs.Prelude.{◌≡◌, ℕ, ◌<◌, true, Some, length, map}
 use Rattle.std.proofs.Common.{arith, subst}
 use Rattle.group_core.specs.GroupKept.{IsPathOf}
 use Rattle.group_core.specs.Tracks.{OnPath}

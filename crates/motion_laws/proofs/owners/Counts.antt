@@ -6,12 +6,12 @@ use Rattle.std.proofs.lemmas.List.{get_or-set_other}
 use Rattle.axis_core.specs.Calls.{core_after_admission, core_after_command, core_after_joining, core_after_leaving, core_after_verdict, queue_in}
 use Rattle.axis_core.specs.Calls as axis_calls
 use Rattle.axis_core.specs.Cores.{Core}
-use Rattle.axis_core.specs.Owners.{owner_brought, owner_brought_by, owns, reset_owner}
+use Rattle.buffer_modes.specs.Resets.{replaced_note, reset_owner}
+use Rattle.axis_core.specs.Owners.{owner_brought, owner_brought_by, owns}
 use Rattle.axis_core.specs.Refusals as axis_refusals
 use Rattle.axis_core.specs.Refusals.{Asked}
 use Rattle.axis_core.specs.blocks.Moves.{known_target_of, with_target}
-use Rattle.axis_core.specs.blocks.Reset as axis_reset
-use Rattle.axis_core.specs.declared.axis.PendingReset as axis_pending
+use Rattle.buffer_modes.specs.declared.reset.PendingReset.{PendingReset}
 use Rattle.axis_core.specs.declared.reason.Reason as axis_reason
 use Rattle.buffer_modes.specs.Owners.{is_owner, one_of, owner_by, told, waits_of}
 use Rattle.buffer_modes.specs.Queue.{active_note, end_notes, is_aborting, is_active_at_once, noted}
@@ -31,8 +31,6 @@ use Rattle.group_core.specs.Kinds as group_kinds
 use Rattle.group_core.specs.Owners as group_owners
 use Rattle.group_core.specs.Refusals as group_refusals
 use Rattle.group_core.specs.blocks.Line.{line_tests}
-use Rattle.group_core.specs.blocks.Reset as group_reset
-use Rattle.group_core.specs.declared.group.PendingReset as group_pending
 use Rattle.group_core.specs.declared.look.GroupLook.{GroupLook}
 use Rattle.group_core.specs.declared.reason.Reason as group_reason
 use Rattle.group_core.specs.declared.reason.Reason.TheVariants as group_reasons
@@ -147,8 +145,8 @@ none_noted k active ws w a e =
 abbrev Untold : ℕ → Core → Type 0
 Untold k c = told k c.notes ≡ 0
 
-none_replaced : (k : ℕ) (o : Option axis_pending.PendingReset) → is_owner k (reset_owner o) ≡ 0 →
-    told k (axis_reset.replaced_note o) ≡ 0
+none_replaced : (k : ℕ) (o : Option PendingReset) → is_owner k (reset_owner o) ≡ 0 →
+    told k (replaced_note o) ≡ 0
 none_replaced k None e = refl
 none_replaced k (Some p) e = none_to k p.owner finish.Aborted e
 
@@ -200,15 +198,10 @@ GroupUntold k c = told k c.notes ≡ 0
 record GroupHasNone (k : ℕ) (c : groups.Core) : Type 0 where
   active : is_owner k (owner_by c.group.active) ≡ 0
   waiting : waits_of k c.waiting ≡ 0
-  reset : is_owner k (group_owners.reset_owner c.group.reset) ≡ 0
+  reset : is_owner k (reset_owner c.group.reset) ≡ 0
 
 group_has_none : (k : ℕ) (c : groups.Core) → group_owners.owns k c ≡ 0 → GroupHasNone k c
 group_has_none k c e = record { active = omega arith; waiting = omega arith; reset = omega arith }
-
-group_replaced : (k : ℕ) (o : Option group_pending.PendingReset) → is_owner k
-    (group_owners.reset_owner o) ≡ 0 → told k (group_reset.replaced_note o) ≡ 0
-group_replaced k None e = refl
-group_replaced k (Some p) e = none_to k p.owner finish.Aborted e
 
 halted_untold : (k : ℕ) (c : groups.Core) → GroupHasNone k c → GroupUntold k c →
     told k (c.notes ++ end_notes finish.Aborted (group_calls.queue_in c)) ≡ 0
@@ -227,7 +220,7 @@ group_admitted : (k : ℕ) (kind : BlockKind) (members : GroupLook) (w : Wanted)
     GroupHasNone k c → GroupUntold k c →
     GroupUntold k (group_calls.admitted_by kind members w c)
 group_admitted k kind.GroupReset members w c h e = none_more k c.notes _ e
-    (group_replaced k c.group.reset h.reset)
+    (none_replaced k c.group.reset h.reset)
 group_admitted k kind.GroupStop members w c h e = halted_untold k c h e
 group_admitted k kind.GroupHalt members w c h e = halted_untold k c h e
 group_admitted k kind.MoveLinearAbsolute members w c h e = line_untold k members w c h e

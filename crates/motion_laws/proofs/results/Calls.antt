@@ -33,7 +33,7 @@ use Rattle.motion_laws.proofs.owners.commands.Freed.{asks, instances_without}
 use Rattle.motion_laws.proofs.owners.commands.Calls.{power_execute}
 use Rattle.motion_laws.proofs.results.Steps.{TellLaws}
 use Rattle.motion_laws.proofs.results.Events.{HasEnded, progress_in}
-use Rattle.motion_laws.proofs.results.Commands.{IsSameAt, beside, ended_beside, axis_test, group_test, axis_else, power_spares, power_tells, power_tells_group, command_spares, command_tells, group_command_spares, group_command_tells}
+use Rattle.motion_laws.proofs.results.Commands.{IsSameAt, beside, ended_beside, ends_where, ends_else, power_spares, power_tells, power_tells_group, command_spares, command_tells, group_command_spares, group_command_tells}
 
 -- the machine in which a rising edge asks
 abbrev free_of : ℕ → Inputs → Machine → Machine
@@ -97,8 +97,8 @@ rising_tells laws s j k b i m n f d within l there h owns ends =
     let q = first.instances in
     let size = length-set m.instances k v in
     let fate = axis_fates.command_fate (asked_of_axis s k n b.kind i free) (axis_core_at free n) in
-    let on_axis = axis_else (acts_on_group b.kind) _ f ends in
-    let here = axis_test (nat_eq b.object n) fate f on_axis.1 in
+    let on_axis = ends_else (acts_on_group b.kind) _ f ends in
+    let here = ends_where (nat_eq b.object n) fate f on_axis.1 in
     let is : b.object ≡ n = eqb-true b.object n here.0 in
     let left : active_at free j (an_axis n) ≡ 1 =
     active_left j k (with_execute k i m) (an_axis n) d l ∙ owns in
@@ -125,8 +125,8 @@ rising_tells_group laws s j k b i m g f d within l there h owns ends =
     let size = length-set m.instances k v in
     let w = wanted_of k b.kind i in
     let fate = group_fates.command_fate w i.jerk (group_look s free g 0) (group_core_at free g) in
-    let on_group = group_test (acts_on_group b.kind) _ f ends in
-    let here = group_test (nat_eq b.object g) fate f on_group.1 in
+    let on_group = ends_where (acts_on_group b.kind) _ f ends in
+    let here = ends_where (nat_eq b.object g) fate f on_group.1 in
     let is : b.object ≡ g = eqb-true b.object g here.0 in
     let left : active_at free j (a_group g) ≡ 1 =
     active_left j k (with_execute k i m) (a_group g) d l ∙ owns in
@@ -206,7 +206,7 @@ asking_tells laws s kind.Power j k b i m n f is at d within l there h owns ends 
     let v = instance.called (instance_at m.instances k) i.execute in
     let y = with_execute k i m in
     let good = power_execute s k b m v at (ap is_power is) h in
-    let test = axis_test (nat_eq b.object n)
+    let test = ends_where (nat_eq b.object n)
     (axis_fates.power_fate i.execute (axis_core_at y n)) f ends in
     let same : b.object ≡ n = eqb-true b.object n test.0 in
     let size = length-set m.instances k v in

@@ -6,6 +6,7 @@ use Rattle.std.proofs.lemmas.List.{get_or-set_other}
 use Rattle.axis_core.specs.Calls.{core_after_command, core_after_power}
 use Rattle.axis_core.specs.Fates as axis_fates
 use Rattle.axis_core.specs.Refusals as axis_refusals
+use Rattle.buffer_modes.specs.Fates.{Fate, goes_on}
 use Rattle.buffer_modes.specs.Owners.{owner_by}
 use Rattle.command_pool.specs.declared.ending.Finish.{Finish}
 use Rattle.command_pool.specs.declared.kind.BlockKind.{BlockKind}
@@ -59,25 +60,15 @@ pub ended_beside : (m : Machine) (k j : ℕ) (i : InstanceState) (f : Finish) �
 ended_beside m k j i f d e = ap (λ (x : InstanceState). x.progress) (beside m k j i d) ∙ e
 
 -- a fate by a test that ends a command
-pub axis_test : (b : Bool) (x : axis_fates.Fate) (f : Finish) →
-    (if b then x else axis_fates.goes_on).ends ≡ Some f → (b ≡ true) × (x.ends ≡ Some f)
-axis_test true x f e = (refl, e)
-axis_test false x f e = absurd (cc)
+pub ends_where : (b : Bool) (x : Fate) (f : Finish) →
+    (if b then x else goes_on).ends ≡ Some f → (b ≡ true) × (x.ends ≡ Some f)
+ends_where true x f e = (refl, e)
+ends_where false x f e = absurd (cc)
 
-pub group_test : (b : Bool) (x : group_fates.Fate) (f : Finish) →
-    (if b then x else group_fates.goes_on).ends ≡ Some f → (b ≡ true) × (x.ends ≡ Some f)
-group_test true x f e = (refl, e)
-group_test false x f e = absurd (cc)
-
-group_else : (b : Bool) (x : group_fates.Fate) (f : Finish) →
-    (if b then group_fates.goes_on else x).ends ≡ Some f → (b ≡ false) × (x.ends ≡ Some f)
-group_else true x f e = absurd (cc)
-group_else false x f e = (refl, e)
-
-pub axis_else : (b : Bool) (x : axis_fates.Fate) (f : Finish) →
-    (if b then axis_fates.goes_on else x).ends ≡ Some f → (b ≡ false) × (x.ends ≡ Some f)
-axis_else true x f e = absurd (cc)
-axis_else false x f e = (refl, e)
+pub ends_else : (b : Bool) (x : Fate) (f : Finish) →
+    (if b then goes_on else x).ends ≡ Some f → (b ≡ false) × (x.ends ≡ Some f)
+ends_else true x f e = absurd (cc)
+ends_else false x f e = (refl, e)
 
 -- a Power
 power_changes : OwnerLaws → (s : Setup) (j n : ℕ) (enable : Bool) (m : Machine) → IsGood s m →
@@ -153,7 +144,7 @@ off_tells : TellLaws → (s : Setup) (j g : ℕ) (o : Option Membership) (m x : 
     (group_entry.fate_by_power_off o m g).ends ≡ Some f → HasEnded f j (group_without_power o x)
 off_tells laws s j g None m x f l there h same owns ends = absurd (cc)
 off_tells laws s j g (Some at) m x f l there h same owns ends =
-    let test = group_test (nat_eq at.group g) (group_fates.power_off_fate (group_core_at m g)) f
+    let test = ends_where (nat_eq at.group g) (group_fates.power_off_fate (group_core_at m g)) f
     ends in
     let is : at.group ≡ g = eqb-true at.group g test.0 in
     let here : g < length x.groups = subst (λ y. y < length x.groups) is (l at refl) in
@@ -171,12 +162,12 @@ pub power_tells_group : TellLaws → (s : Setup) (j g n : ℕ) (enable : Bool) (
     (f : Finish) → n < length m.axes → j < length m.instances → IsGood s m →
     has_commands_on (slice_get s.blocks j) (a_group g) ≡ true →
     active_at m j (a_group g) ≡ 1 →
-    (if enable then group_fates.goes_on
+    (if enable then goes_on
     else group_entry.fate_by_power_off (membership_of s n) m g).ends ≡ Some f →
     HasEnded f j (after_power s n enable m)
 unfolding after_power
 power_tells_group laws s j g n enable m f l there h on owns ends =
-    let off = group_else enable (group_entry.fate_by_power_off (membership_of s n) m g) f ends in
+    let off = ends_else enable (group_entry.fate_by_power_off (membership_of s n) m g) f ends in
     let c = core_after_power enable (axis_core_at m n) in
     let powered = with_axis_core m n c in
     let good = power_good laws.owners s n enable m l h in

@@ -15,7 +15,7 @@ use Rattle.motion_history.specs.Setup.{Setup}
 use Rattle.motion_history.specs.declared.config.BlockDef.{BlockDef}
 use Rattle.motion_kernel.specs.cycles.Cycles.{look_of_axis, look_of_group, after_cycle, around_in, cycled, stepped_in}
 use Rattle.motion_kernel.specs.cycles.AxisCycles.{axes_cycled}
-use Rattle.motion_kernel.specs.cycles.Showing.{axes_shown, found_by, groups_shown, instance_found, instances_found, owner_of, told_found, with_found}
+use Rattle.motion_kernel.specs.cycles.Showing.{axes_shown, found_by, groups_shown, instance_found, instances_found, told_found, with_found}
 use Rattle.motion_kernel.specs.Machine.{Machine, PlacedGroup, axis_among, axis_at, axis_core_at, group_at, group_core_at, instance_at, no_instance}
 use Rattle.motion_kernel.specs.kept.Machine.{IsMachineKept}
 use Rattle.motion_kernel.specs.calls.Telling.{shown_active}
@@ -48,7 +48,7 @@ axes_shown_spare : (s : Setup) (m : Machine) (n k : ℕ) (is : List InstanceStat
 unfolding axes_shown
 axes_shown_spare s m zero k is h l none = refl
 axes_shown_spare s m (suc n) k is h l none =
-    owner_spares (owner_of (axis_at m n).active) (axis_at m n).reached (axes_shown n m.axes is) k
+    owner_spares (owner_by (axis_at m n).active) (axis_at m n).reached (axes_shown n m.axes is) k
     (λ j e. no_owner m k j none (axis_active_shown s m n j h (omega arith) e))
     ∙ axes_shown_spare s m n k is h (omega arith) none
 
@@ -58,7 +58,7 @@ groups_shown_spare : (s : Setup) (m : Machine) (n k : ℕ) (is : List InstanceSt
 unfolding groups_shown
 groups_shown_spare s m zero k is h l none = refl
 groups_shown_spare s m (suc n) k is h l none =
-    owner_spares (owner_of (group_at m n).group.active) false (groups_shown n m.groups is) k
+    owner_spares (owner_by (group_at m n).group.active) false (groups_shown n m.groups is) k
     (λ j e. no_owner m k j none (group_active_shown s m n j h (omega arith) e))
     ∙ groups_shown_spare s m n k is h (omega arith) none
 

@@ -6,9 +6,9 @@ use Rattle.axis_core.specs.Calls.{core_after_command, core_after_power}
 use Rattle.axis_core.specs.Cores as cores
 use Rattle.axis_core.specs.Cycles.{core_after_cycle}
 use Rattle.axis_core.specs.Fates as axis_fates
-use Rattle.axis_core.specs.Owners as axis
 use Rattle.axis_core.specs.Refusals as axis_refusals
 use Rattle.axis_core.specs.declared.look.AxisLook.{AxisLook}
+use Rattle.buffer_modes.specs.Fates.{TellsOwner}
 use Rattle.buffer_modes.specs.Owners.{owner_by}
 use Rattle.cia402_machine.specs.declared.drive.DriveIn.{DriveIn}
 use Rattle.command_pool.specs.declared.ending.Finish.{Finish}
@@ -18,7 +18,6 @@ use Rattle.group_core.specs.Calls.{commanded, powered_off}
 use Rattle.group_core.specs.Cores as group_cores
 use Rattle.group_core.specs.Cycles as group_cycles
 use Rattle.group_core.specs.Fates as group_fates
-use Rattle.group_core.specs.Owners as group
 use Rattle.group_core.specs.declared.look.GroupLook.{GroupLook}
 use Rattle.motion_history.specs.Setup.{Setup}
 use Rattle.motion_kernel.specs.cycles.Cycles.{look_of_group}
@@ -41,19 +40,19 @@ use Rattle.motion_laws.proofs.results.Events.{HasEnded, IsSpared, ended_spared, 
 pub record TellLaws : Type 0 where
   pub owners : OwnerLaws
   pub command : (q : axis_refusals.Asked) (c : cores.Core) →
-      axis.TellsOwner (axis_fates.command_fate q c) c.axis.active (core_after_command q c).notes
+      TellsOwner (axis_fates.command_fate q c) c.axis.active (core_after_command q c).notes
   pub power : (enable : Bool) (c : cores.Core) →
-      axis.TellsOwner (axis_fates.power_fate enable c) c.axis.active
+      TellsOwner (axis_fates.power_fate enable c) c.axis.active
       (core_after_power enable c).notes
   pub cycle : (look : AxisLook) (c : cores.Core) →
-      axis.TellsOwner (axis_fates.cycle_fate look c) c.axis.active (core_after_cycle look c).notes
+      TellsOwner (axis_fates.cycle_fate look c) c.axis.active (core_after_cycle look c).notes
   pub group_command : (w : Wanted) (jerk : ℤ) (members : GroupLook) (c : group_cores.Core) →
-      group.TellsOwner (group_fates.command_fate w jerk members c) c.group.active
+      TellsOwner (group_fates.command_fate w jerk members c) c.group.active
       (commanded w jerk members c).notes
   pub group_power_off : (c : group_cores.Core) →
-      group.TellsOwner (group_fates.power_off_fate c) c.group.active (powered_off c).notes
+      TellsOwner (group_fates.power_off_fate c) c.group.active (powered_off c).notes
   pub group_cycle : (members : GroupLook) (c : group_cores.Core) →
-      group.TellsOwner (group_fates.cycle_fate members c) c.group.active
+      TellsOwner (group_fates.cycle_fate members c) c.group.active
       (group_cycles.cycled members c).notes
 
 -- what the step of a group, the cycle of an axis and a GroupReset change

@@ -1,7 +1,7 @@
 -- Whoever loses its command is told how it ended, and shows it at its next call.
 use Rattle.std.specs.Prelude.{◌≡◌, refl, ℕ, ◌+◌, ◌<◌, Bool, true, false, not, ◌&&◌, nat_eq, if◌then◌else◌, Option, Some, None, List, [], ◌∷◌, ◌++◌, length, slice_get}
 use Rattle.std.proofs.Common.{arith, ap, sym, subst, ◌∙◌, inl, inr}
-use Rattle.std.proofs.lemmas.Bool.{and_parts, cases_Bool, eqb-true}
+use Rattle.std.proofs.lemmas.Bool.{and_parts, cases_Bool, eqb-true, not-true}
 use Rattle.buffer_modes.specs.Owners.{owner_by}
 use Rattle.command_pool.specs.declared.ending.Finish.{Finish}
 use Rattle.command_pool.specs.declared.ending.Finish.TheVariants as finish
@@ -111,10 +111,6 @@ record HasBlock (s : Setup) (k : ℕ) : Type 0 where
   is : slice_get s.blocks k ≡ Some block
   other : is_power block.kind ≡ false
 
-is_not : (b : Bool) → not b ≡ true → b ≡ false
-is_not true e = absurd (cc)
-is_not false e = refl
-
 block_of : (s : Setup) (k : ℕ) (o : Object) → has_commands_on (slice_get s.blocks k) o ≡ true →
     HasBlock s k
 block_of s k o on = block_by (slice_get s.blocks k) refl on
@@ -123,7 +119,7 @@ block_of s k o on = block_by (slice_get s.blocks k) refl on
         HasBlock s k
     block_by None at e = absurd (cc)
     block_by (Some b) at e =
-        record { block = b; is = at; other = is_not (is_power b.kind) (and_parts _ _ e).0 }
+        record { block = b; is = at; other = not-true (is_power b.kind) (and_parts _ _ e).0 }
 
 own_ends_none : (s : Setup) (m : Machine) (k : ℕ) (i : Inputs) (reply : Outputs) (o : Object)
     (f : Finish) → HasBlock s k → is_rising m k i ≡ false →

@@ -1,7 +1,8 @@
 -- What becomes of the active command of an axis in each entry of a history (PLCopen Motion Control
 -- Part 1, BufferMode).
 use Rattle.std.specs.Prelude.{ℕ, nat_eq, if◌then◌else◌, Option, Some, None, slice_get}
-use Rattle.axis_core.specs.Fates.{Fate, command_fate, cycle_fate, goes_on, power_fate}
+use Rattle.buffer_modes.specs.Fates.{Fate, goes_on}
+use Rattle.axis_core.specs.Fates.{command_fate, cycle_fate, power_fate}
 use Rattle.command_pool.specs.Kinds.{acts_on_group}
 use Rattle.command_pool.specs.declared.kind.BlockKind.{BlockKind}
 use Rattle.command_pool.specs.declared.kind.BlockKind.TheVariants as kind

@@ -9,7 +9,8 @@ use Rattle.fb_outputs.specs.declared.inputs.Inputs.{Inputs}
 use Rattle.fb_outputs.specs.declared.instance.Edge.{Edge}
 use Rattle.fb_outputs.specs.declared.instance.Edge.TheVariants as edge
 use Rattle.group_core.specs.Cycles.{path_taken}
-use Rattle.group_core.specs.Fates.{Fate, command_fate, cycle_fate, goes_on, power_off_fate}
+use Rattle.buffer_modes.specs.Fates.{Fate, goes_on}
+use Rattle.group_core.specs.Fates.{command_fate, cycle_fate, power_off_fate}
 use Rattle.group_core.specs.Tracks.{OnPath}
 use Rattle.motion_history.specs.Entries.{Entry, call, cycle, end_of}
 use Rattle.motion_history.specs.Setup.{Setup}

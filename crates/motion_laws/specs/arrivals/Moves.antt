@@ -2,7 +2,7 @@
 use Rattle.std.specs.Prelude.{◌≡◌, ℕ, ◌+◌, ◌<◌, ◌≤◌, true, Option, Some, None, option_map, List, [], ◌∷◌, ◌++◌, length, slice_get}
 use Rattle.axis_core.specs.Arrivals.{Course, IsMoveDone, IsTurn, Turn, bound_of, course_of, end_turn_of, turn_of}
 use Rattle.axis_core.specs.Blended.{HasStep, IsBlended, cycles_of_blend, cycles_to_cross}
-use Rattle.axis_core.specs.Fates.{Fate, IsFate}
+use Rattle.buffer_modes.specs.Fates.{Fate, IsFate}
 use Rattle.axis_core.specs.blocks.Moves.{blended_with, is_move, target_of}
 use Rattle.axis_core.specs.declared.blocks.moves.SecondMove.{SecondMove}
 use Rattle.command_pool.specs.declared.ending.Finish.TheVariants as finish

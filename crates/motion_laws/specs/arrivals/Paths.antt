@@ -5,7 +5,7 @@ use Rattle.command_pool.specs.declared.ending.Finish.TheVariants as finish
 use Rattle.command_pool.specs.declared.kind.BlockKind.TheVariants as kind
 use Rattle.command_pool.specs.declared.wanted.Wanted.{Wanted}
 use Rattle.group_core.specs.Courses.{Course, IsEnd, bound_of, course_of}
-use Rattle.group_core.specs.Fates.{IsFate}
+use Rattle.buffer_modes.specs.Fates.{IsFate}
 use Rattle.group_core.specs.Tracks.{OnPath}
 use Rattle.linear_path.specs.Line.{coordinate_of}
 use Rattle.motion_history.specs.Entries.{Entry, cycle_count, cycles_of}

@@ -55,8 +55,8 @@ TellsNext s k f m es = (before later : List Entry) (i : Inputs) (reply : Outputs
 -- what an entry tells an instance, with the entries behind it
 pub record KeepsResults (s : Setup) (m : Machine) (e : Entry) (more : List Entry) (k : ℕ)
     : Type 0 where
-  -- the instance whose active command ends tells so at its next call, unless a rising edge takes the
-  -- command from it
+  -- the instance whose active command ends tells so at its next call, unless a rising edge takes
+  -- the command from it
   pub told : (o : Object) (f : Finish) → IsThere m o → active_at m k o ≡ 1 →
       end_in s m e o ≡ Some f → takes_away m k e ≡ false → TellsNext s k f (after s m e) more
   -- and one without a command is told nothing

@@ -46,8 +46,8 @@ reset-requires c =
     let ran = ran-made look old c.is_driven-driven.result _ c.pass-ending.new.axis c.leave_stopping.new.axis c.pass-ending.result
     (core_at c.end_by.new.axis c.end_by.new.pool c.args.list c.end_by.new.notes) c.requires.kept c.is_driven-driven.ensures c.first.ensures
     c.pass-ending.ensures.axis c.pass-ending.ensures.ending c.end_by.ensures.after c.leave_stopping.ensures in
-    let n = answered-count look.input old in
-    let m = run-count look (is_driven c.args.axis.now look.input) (core_after_answer look.input old) in
+    let n = answered-count c.ends_tell_their_owners.ensures.owners look.input old in
+    let m = run-count c.ends_tell_their_owners.ensures.owners look (is_driven c.args.axis.now look.input) (core_after_answer look.input old) in
     let few = c.waiting.ensures.few in
     let count = c.waiting.ensures.count in
     let none : length c.args.notes.now ≡ 0 = ap length c.requires.room in

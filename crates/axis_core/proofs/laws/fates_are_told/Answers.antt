@@ -3,4 +3,13 @@ use Rattle.axis_core.proofs.FateLaws.{fate-commanded, fate-powered, fate-detache
 use Rattle.axis_core.proofs.laws.fates_are_told.Goals as goal
 
 pub returns : goal.returns
-returns c = record { command = fate-commanded; power = fate-powered; detach = fate-detached; path = fate-on_path; cycle = fate-cycled }
+returns c =
+    let fates = c.fates_are_of_the_active_command.ensures in
+    let taken = c.owners_are_taken_away.ensures in
+    record {
+      command = fate-commanded fates taken;
+      power = fate-powered fates taken;
+      detach = fate-detached fates taken;
+      path = fate-on_path;
+      cycle = fate-cycled fates taken;
+    }

@@ -1,13 +1,12 @@
 -- The first command that waits is taken out, and takes over.
 use Rattle.std.specs.Prelude.{◌≡◌, refl, List, [], ◌∷◌, drop, slice_get, slice_set}
 use Rattle.std.proofs.Common.{◌∙◌, sym, ap}
-use Rattle.std.proofs.lemmas.List.{get_or-set_same}
+use Rattle.std.proofs.lemmas.List.{get_or-set_same, set-set}
 use Rattle.command_pool.specs.Waiting.{queue_of}
 use Rattle.command_pool.specs.declared.notes.Note.{Note}
 use Rattle.command_pool.specs.declared.wanted.Wanted.{Wanted}
 use Rattle.axis_core.specs.Cores.{core_after_end, core_after_take_over, core_with_next}
 use Rattle.axis_core.specs.declared.axis.Axis.{Axis}
-use Rattle.axis_core.proofs.Queues.{set_twice}
 use Rattle.axis_core.proofs.taking_over.end.Goals as goal
 
 next-taken : (ws : List Wanted) (a : Axis) (notes : List Note) → core_after_take_over ws (record { axis = a; waiting = ws; notes = notes })
@@ -19,7 +18,7 @@ pub returns-in-Some-clause-others : goal.returns-in-Some-clause-others
 returns-in-Some-clause-others c =
     c.fail.ensures.others
     ∙ ap (λ pool. slice_set pool c.args.list (queue_of c.fail.new.pool c.args.list)) c.pop_first-next.ensures.rest
-    ∙ set_twice c.args.pool.now c.args.list _ _
+    ∙ set-set c.args.pool.now c.args.list _ _
 
 pub returns-in_default-clause-after : goal.returns-in_default-clause-after
 unfolding core_after_end

@@ -1,6 +1,7 @@
 -- A cycle, from what its parts made.
 use Rattle.std.specs.Prelude.{◌≡◌, length, slice_set}
 use Rattle.std.proofs.Common.{◌∙◌, sym, ap, subst, arith}
+use Rattle.std.proofs.lemmas.List.{set-set}
 use Rattle.command_pool.specs.Waiting.{queue_of}
 use Rattle.group_core.specs.Cores.{Core, core_in}
 use Rattle.group_core.specs.Cycles.{cycled}
@@ -10,7 +11,6 @@ use Rattle.group_core.specs.Seen.{core_at, on_path}
 use Rattle.group_core.specs.declared.group.Group.{Group}
 use Rattle.group_core.proofs.CycleMade.{cycle-made, may-step, read-few, read-kept, read-look, taker-may}
 use Rattle.group_core.proofs.KeptCycles.{cycled-kept}
-use Rattle.group_core.proofs.Queues.{set_twice}
 use Rattle.group_core.proofs.cycles.run.Goals as goal
 
 pub advance-ending-requires : goal.advance-ending-requires
@@ -25,7 +25,7 @@ pub end_by-requires-clause-room : goal.end_by-requires-clause-room
 end_by-requires-clause-room c =
     let before : Core = core_at c.args.on.now c.args.pool.now c.args.list c.args.notes.now in
     let read : Core = core_in c.answer.new.group (on_path c.args.on.now.track) c.answer.new.pool c.args.list c.answer.new.notes in
-    let few = read-few c.args.members.now.error before read (c.answer.ensures.after (on_path c.args.on.now.track)) in
+    let few = read-few c.ends_tell_their_owners.ensures.owners c.args.members.now.error before read (c.answer.ensures.after (on_path c.args.on.now.track)) in
     let none : length c.args.notes.now ≡ 0 = ap length c.requires.room in
     omega (arith, few, none, c.waiting.ensures.few, c.waiting.ensures.count)
 
@@ -56,7 +56,7 @@ pub returns-clause-others : goal.returns-clause-others
 returns-clause-others c =
     c.end_by.ensures.others
     ∙ ap (λ pool. slice_set pool c.args.list (queue_of c.end_by.new.pool c.args.list)) c.answer.ensures.others
-    ∙ set_twice c.args.pool.now c.args.list _ _
+    ∙ set-set c.args.pool.now c.args.list _ _
 
 pub returns-clause-kept : goal.returns-clause-kept
 returns-clause-kept c =

@@ -1,5 +1,5 @@
 -- States follow their diagrams in a call.
-use Rattle.std.specs.Prelude.{◌≡◌, refl, ◌⊎◌, ℕ, zero, suc, ◌<◌, Bool, true, false, ◌&&◌, if◌then◌else◌, Option, Some, None, is_some, Result, List, [], ◌∷◌, length, slice_get, slice_set}
+use Rattle.std.specs.Prelude.{◌≡◌, refl, ◌⊎◌, ℕ, zero, suc, ◌<◌, Bool, true, false, if◌then◌else◌, Option, Some, None, is_some, Result, List, [], ◌∷◌, length, slice_get, slice_set}
 use Rattle.std.proofs.Common.{arith, ap, sym, subst, ◌∙◌, inl, inr}
 use Rattle.std.proofs.lemmas.Bool.{cases_Bool}
 use Rattle.axis_core.specs.AxisKept as axis

@@ -7,7 +7,7 @@ use Rattle.axis_core.specs.Drives.{answer_error_of, has_fault, is_driven, new_er
 use Rattle.axis_core.specs.Kinds.{ending_by, wish_by}
 use Rattle.axis_core.specs.Refusals as axis_refusals
 use Rattle.axis_core.specs.Refusals.{Asked}
-use Rattle.axis_core.specs.States.{is_error_stop}
+use Rattle.axis_state.specs.States.{is_error_stop}
 use Rattle.axis_core.specs.Steps.{ends_where, is_braking, is_safe_step, old_step_of, step_for_wish, step_toward, wish_within_limits}
 use Rattle.axis_core.specs.blocks.Cam.{cam_wish_where}
 use Rattle.axis_core.specs.blocks.Gear.{gear_step_of}
@@ -16,7 +16,8 @@ use Rattle.axis_core.specs.blocks.Path.{place_on_path}
 use Rattle.axis_core.specs.blocks.Reset as axis_reset
 use Rattle.axis_core.specs.blocks.Velocity.{step_to_velocity}
 use Rattle.axis_core.specs.declared.axis.Axis.{Axis}
-use Rattle.axis_core.specs.declared.axis.PendingReset as axis_pending
+use Rattle.buffer_modes.specs.Resets.{replaced_note}
+use Rattle.buffer_modes.specs.declared.reset.PendingReset.{PendingReset}
 use Rattle.axis_core.specs.declared.look.AxisLook.{AxisLook}
 use Rattle.axis_core.specs.declared.reason.Reason as axis_reason
 use Rattle.axis_core.specs.declared.reason.Reason.TheVariants as axis_reasons
@@ -86,7 +87,7 @@ unfolding core_after_error
 failed_told n c e h = both c.notes _ h (all_told (finish.Error n) (queue_in c) e)
 
 -- a command that is asked of an axis
-replaced_told : (o : Option axis_pending.PendingReset) → AreNumbered (axis_reset.replaced_note o)
+pub replaced_told : (o : Option PendingReset) → AreNumbered (replaced_note o)
 replaced_told None = tt
 replaced_told (Some p) = one_told p.owner finish.Aborted tt
 
@@ -268,7 +269,7 @@ answer_told input c h =
     told_where (nat_eq (answer_error_of c.axis input) 0) c _ h
     (λ e. failed_told (answer_error_of c.axis input) c (answer_numbered c.axis input e) h)
 
-done_told : (o : Option axis_pending.PendingReset) (input : DriveIn) (a : Axis) → AreNumbered
+done_told : (o : Option PendingReset) (input : DriveIn) (a : Axis) → AreNumbered
     (axis_reset.reset_notes o input a)
 done_told None input a = tt
 done_told (Some p) input a = by_if AreNumbered (axis_reset.may_reset input a) _ _

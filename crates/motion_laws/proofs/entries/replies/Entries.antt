@@ -19,7 +19,8 @@ use Rattle.motion_kernel.specs.calls.Calls.{after_call, called, called_where}
 use Rattle.motion_kernel.specs.looks.AxisLooks.{Surroundings, axis_look}
 use Rattle.motion_kernel.specs.cycles.Cycles.{after_cycle, around_in, cycled, stepped_in}
 use Rattle.motion_kernel.specs.cycles.AxisCycles.{axes_cycled}
-use Rattle.motion_kernel.specs.cycles.Showing.{axes_shown, found_by, groups_shown, instance_found, instances_found, owner_of, told_found, with_found}
+use Rattle.buffer_modes.specs.Owners.{owner_by}
+use Rattle.motion_kernel.specs.cycles.Showing.{axes_shown, found_by, groups_shown, instance_found, instances_found, told_found, with_found}
 use Rattle.motion_kernel.specs.cycles.GroupResets.{core_after_reset, groups_reset}
 use Rattle.motion_kernel.specs.cycles.GroupSteps.{error_of_group, groups_stepped, look_in_cycle}
 use Rattle.motion_kernel.specs.looks.GroupLooks.{group_look}
@@ -161,14 +162,14 @@ unfolding axes_shown
 axes_shown_so s zero axes is h = h
 axes_shown_so s (suc n) axes is h =
     let a = axis_among axes n in
-    shown_so s (owner_of a.active) a.reached (axes_shown n axes is) (axes_shown_so s n axes is h)
+    shown_so s (owner_by a.active) a.reached (axes_shown n axes is) (axes_shown_so s n axes is h)
 
 groups_shown_so : (s : Setup) (n : ℕ) (groups : List PlacedGroup) (is : List InstanceState) →
     AreOfBlocks s is → AreOfBlocks s (groups_shown n groups is)
 unfolding groups_shown
 groups_shown_so s zero groups is h = h
 groups_shown_so s (suc n) groups is h =
-    shown_so s (owner_of (group_among groups n).group.active) false (groups_shown n groups is)
+    shown_so s (owner_by (group_among groups n).group.active) false (groups_shown n groups is)
     (groups_shown_so s n groups is h)
 
 told_so : (s : Setup) (o : Option Bool) (k : ℕ) (is : List InstanceState) → AreOfBlocks s is →

@@ -23,13 +23,13 @@ use Rattle.group_core.specs.Tracks.{OnPath}
 use Rattle.group_core.specs.blocks.Reset as group_reset
 use Rattle.group_core.specs.declared.group.Group.{Group}
 use Rattle.group_core.specs.declared.group.Motion.{Motion}
-use Rattle.group_core.specs.declared.group.PendingReset as group_pending
+use Rattle.buffer_modes.specs.declared.reset.PendingReset.{PendingReset}
 use Rattle.group_core.specs.declared.look.GroupLook.{GroupLook}
 use Rattle.group_core.specs.declared.reason.Reason as group_reason
 use Rattle.motion_kernel.specs.looks.DriveAnswers.{answer_at, first_error}
 use Rattle.motion_kernel.specs.Machine.{axis_among}
 use Rattle.motion_kernel.proofs.Sizes.{by_if}
-use Rattle.motion_laws.proofs.entries.replies.AxisNumbers.{AreNumbered, both, one_told, active_told, all_told, queue_told, EndsWell, IsNumberOrNone, answer_numbered}
+use Rattle.motion_laws.proofs.entries.replies.AxisNumbers.{AreNumbered, both, one_told, active_told, all_told, queue_told, EndsWell, IsNumberOrNone, answer_numbered, replaced_told}
 
 -- what a group has told so far
 abbrev GroupTells : groups.Core → Type 0
@@ -41,10 +41,6 @@ unfolding groups.failed
 group_failed n c e h = both c.notes _ h (all_told (finish.Error n) (group_calls.queue_in c) e)
 
 -- a command that is asked of a group
-group_replaced : (o : Option group_pending.PendingReset) → AreNumbered (group_reset.replaced_note o)
-group_replaced None = tt
-group_replaced (Some p) = one_told p.owner finish.Aborted tt
-
 line_told : (members : GroupLook) (w : Wanted) (c : groups.Core) → GroupTells c → GroupTells
     (group_calls.line_joined members w c)
 line_told members w c h =
@@ -58,7 +54,7 @@ group_admitted : (k : BlockKind) (members : GroupLook) (w : Wanted) (c : groups.
     GroupTells c → GroupTells (group_calls.admitted_by k members w c)
 group_admitted kind.GroupEnable members w c h = h
 group_admitted kind.GroupDisable members w c h = h
-group_admitted kind.GroupReset members w c h = both c.notes _ h (group_replaced c.group.reset)
+group_admitted kind.GroupReset members w c h = both c.notes _ h (replaced_told c.group.reset)
 group_admitted kind.GroupStop members w c h = both c.notes _ h
     (all_told finish.Aborted (group_calls.queue_in c) tt)
 group_admitted kind.GroupHalt members w c h = both c.notes _ h
@@ -145,7 +141,7 @@ group_cycle_told members c i h =
     (group_advances stopped.group stopped.path) (group_answered members.error c i h)
 
 -- a GroupReset
-group_done : (o : Option group_pending.PendingReset) (on_path : Bool) (g : Group) → AreNumbered
+group_done : (o : Option PendingReset) (on_path : Bool) (g : Group) → AreNumbered
     (group_reset.reset_notes o on_path g)
 group_done None on_path g = tt
 group_done (Some p) on_path g = by_if AreNumbered (group_reset.may_reset on_path g) _ _

@@ -1,21 +1,21 @@
 -- How many commands of an instance are active on an axis, and how many wait: by each event of it.
 use Rattle.std.specs.Prelude.{◌≡◌, refl, ℕ, ◌+◌, ◌≤◌, Bool, true, false, ◌&&◌, ◌||◌, nat_eq, is_none, ℤ, if◌then◌else◌, Option, Some, None, Result, Ok, Err, List, [], ◌∷◌, ◌++◌, slice_get}
-use Rattle.std.proofs.Common.{arith, ap, sym, subst, ◌∙◌}
+use Rattle.std.proofs.Common.{arith, ap, sym, ◌∙◌}
 use Rattle.axis_core.specs.Calls as axis_calls
 use Rattle.axis_core.specs.Calls.{core_after_admission, core_after_command, core_after_joining, core_after_leaving, core_after_power, core_after_verdict, core_with_queued, queue_in}
 use Rattle.axis_core.specs.Cores.{Core, axis_under, axis_under_by, core_after_end, core_after_ending, core_after_error, core_after_take_over, core_taken_by}
 use Rattle.axis_core.specs.Cycles.{Advance, advance_by_command, advance_by_progress, advance_in_cycle, advance_without_error, axis_after_progress, core_after_answer, core_after_cycle, core_after_step, progress_in_cycle}
 use Rattle.axis_core.specs.Drives.{answer_error_of, axis_at_drive, is_driven}
-use Rattle.axis_core.specs.Owners.{reset_owner}
+use Rattle.buffer_modes.specs.Resets.{reset_owner}
 use Rattle.axis_core.specs.Refusals as axis_refusals
 use Rattle.axis_core.specs.Refusals.{Asked}
-use Rattle.axis_core.specs.States.{is_error_stop}
+use Rattle.axis_state.specs.States.{is_error_stop}
 use Rattle.axis_core.specs.blocks.Halts.{axis_after_stop, leaves_stopping}
 use Rattle.axis_core.specs.blocks.Moves.{known_target_of, target_of, with_target}
 use Rattle.axis_core.specs.blocks.Path.{place_on_path}
 use Rattle.axis_core.specs.blocks.Reset as axis_reset
 use Rattle.axis_core.specs.declared.axis.Axis.{Axis}
-use Rattle.axis_core.specs.declared.axis.PendingReset as axis_pending
+use Rattle.buffer_modes.specs.declared.reset.PendingReset.{PendingReset}
 use Rattle.axis_core.specs.declared.look.AxisLook.{AxisLook}
 use Rattle.axis_core.specs.declared.progress.Progress as axis_progress
 use Rattle.axis_core.specs.declared.reason.Reason as axis_reason
@@ -275,7 +275,7 @@ answer_waits k input c =
     by_if (WaitsNoMore k c) (nat_eq (answer_error_of c.axis input) 0) _ _ (omega arith)
     (failed_waits k (answer_error_of c.axis input) c)
 
-reset_waits : (k : ℕ) (o : Option axis_pending.PendingReset) (input : DriveIn) (a : Axis) →
+reset_waits : (k : ℕ) (o : Option PendingReset) (input : DriveIn) (a : Axis) →
     a.reset ≡ o →
     is_owner k (reset_owner (axis_reset.reset_axis o input a).reset) ≤ is_owner k
     (reset_owner a.reset)

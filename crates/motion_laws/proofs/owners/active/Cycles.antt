@@ -11,7 +11,7 @@ use Rattle.fb_outputs.specs.Steps as instance
 use Rattle.motion_history.specs.Setup.{Setup}
 use Rattle.motion_history.specs.declared.config.BlockDef.{BlockDef}
 use Rattle.motion_kernel.specs.cycles.Cycles.{after_cycle, cycled}
-use Rattle.motion_kernel.specs.cycles.Showing.{axes_shown, found_by, groups_shown, instance_found, instances_found, owner_of, told_found, with_found}
+use Rattle.motion_kernel.specs.cycles.Showing.{axes_shown, found_by, groups_shown, instance_found, instances_found, told_found, with_found}
 use Rattle.motion_kernel.specs.Machine.{Machine, PlacedGroup, axis_at, group_at, instance_at, machine_at_opening}
 use Rattle.motion_kernel.specs.kept.Machine.{IsMachineKept}
 use Rattle.motion_laws.specs.owners.Commands.{ActiveAreShown, CommandsAreShown, active_at, commands_at}
@@ -36,7 +36,7 @@ found_in k (Some j) l = elim (cases_Bool (nat_eq j k)) [
 ]
 
 owner_found : (k : ℕ) (active : Option Wanted) → 0 < is_owner k (owner_by active) →
-    owner_of active ≡ Some k
+    owner_by active ≡ Some k
 owner_found k None l = let n = none_owned k in absurd (omega arith)
 owner_found k (Some w) l = found_in k w.owner l
 

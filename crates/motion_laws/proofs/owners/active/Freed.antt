@@ -2,12 +2,11 @@
 use Rattle.std.specs.Prelude.{◌≡◌, refl, ℕ, ◌<◌, Bool, false, nat_eq, if◌then◌else◌, Option, Some, None, length, slice_get}
 use Rattle.std.proofs.Common.{arith, ap, sym, ◌∙◌, inl, inr}
 use Rattle.std.proofs.lemmas.Bool.{cases_Bool, eqb-true}
-use Rattle.axis_core.specs.Calls.{active_without, axis_without_owner, core_after_power}
-use Rattle.buffer_modes.specs.Owners.{is_owner, owner_by}
+use Rattle.axis_core.specs.Calls.{axis_without_owner, core_after_power}
+use Rattle.buffer_modes.specs.Owners.{active_without, is_owner, owner_by}
 use Rattle.command_pool.specs.Waiting.{without}
 use Rattle.command_pool.specs.declared.wanted.Wanted.{Wanted}
 use Rattle.fb_outputs.specs.InstanceState.{InstanceState}
-use Rattle.group_core.specs.Calls as group_calls
 use Rattle.group_core.specs.Calls.{group_without, powered_off}
 use Rattle.motion_history.specs.Setup.{Setup}
 use Rattle.motion_kernel.specs.calls.Calls.{after_power, group_without_power, with_axis_core, with_group_core, with_instance, without_owner}
@@ -76,24 +75,18 @@ without_other k j (Some n) d = elim (cases_Bool (nat_eq n k)) [
   | inr e ↦ ap (λ b. is_owner j (if b then None else Some n)) e
 ]
 
-axis_active_left : (k j : ℕ) (active : Option Wanted) → nat_eq k j ≡ false → is_owner j
+active_by_others : (k j : ℕ) (active : Option Wanted) → nat_eq k j ≡ false → is_owner j
     (owner_by (active_without k active)) ≡ is_owner j (owner_by active)
-axis_active_left k j None d = refl
-axis_active_left k j (Some w) d = without_other k j w.owner d
-
-group_active_left : (k j : ℕ) (active : Option Wanted) → nat_eq k j ≡ false →
-    is_owner j (owner_by (group_calls.active_without k active)) ≡ is_owner j
-    (owner_by active)
-group_active_left k j None d = refl
-group_active_left k j (Some w) d = without_other k j w.owner d
+active_by_others k j None d = refl
+active_by_others k j (Some w) d = without_other k j w.owner d
 
 pub active_left : (j k : ℕ) (m : Machine) (o : Object) → nat_eq k j ≡ false → IsThere m o → active_at
     (without_owner k m) j o ≡ active_at m j o
 unfolding axis_without_owner group_without
-active_left j k m (an_axis n) d l = ap (active_of j) (axis_disowned k n m l) ∙ axis_active_left k j
+active_left j k m (an_axis n) d l = ap (active_of j) (axis_disowned k n m l) ∙ active_by_others k j
     (axis_at m n).active d
 active_left j k m (a_group i) d l = ap (group_active_of j) (group_disowned k i m l)
-    ∙ group_active_left k j (group_at m i).group.active d
+    ∙ active_by_others k j (group_at m i).group.active d
 
 -- the machine in which a call asks
 abbrev pub OthersActive : Setup → ℕ → Machine → Type 0

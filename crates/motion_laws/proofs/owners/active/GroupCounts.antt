@@ -11,14 +11,14 @@ use Rattle.fb_outputs.specs.InstanceState.{InstanceState}
 use Rattle.group_core.specs.Calls as group_calls
 use Rattle.group_core.specs.Cores as groups
 use Rattle.group_core.specs.Cycles as group_cycles
-use Rattle.group_core.specs.Owners as group_owners
 use Rattle.group_core.specs.Refusals as group_refusals
 use Rattle.group_core.specs.States as group_states
 use Rattle.group_core.specs.blocks.Halts as group_halts
 use Rattle.group_core.specs.blocks.Line.{braking_for}
 use Rattle.group_core.specs.blocks.Reset as group_reset
 use Rattle.group_core.specs.declared.group.Group.{Group}
-use Rattle.group_core.specs.declared.group.PendingReset as group_pending
+use Rattle.buffer_modes.specs.Resets.{reset_owner}
+use Rattle.buffer_modes.specs.declared.reset.PendingReset.{PendingReset}
 use Rattle.group_core.specs.declared.look.GroupLook.{GroupLook}
 use Rattle.group_core.specs.declared.reason.Reason as group_reason
 use Rattle.group_core.specs.Tracks.{OnPath, places_at}
@@ -32,7 +32,7 @@ abbrev pub group_active_of : ℕ → groups.Core → ℕ
 group_active_of k c = is_owner k (owner_by c.group.active)
 
 abbrev pub group_waiting_of : ℕ → groups.Core → ℕ
-group_waiting_of k c = waits_of k c.waiting + is_owner k (group_owners.reset_owner c.group.reset)
+group_waiting_of k c = waits_of k c.waiting + is_owner k (reset_owner c.group.reset)
 
 abbrev pub GroupNoMore : ℕ → groups.Core → groups.Core → Type 0
 GroupNoMore k c d = HasNoMore (group_active_of k c) (group_waiting_of k c) (group_active_of k d)
@@ -186,21 +186,21 @@ group_cycle_waits k members c =
     let one = group_answered_waits k members.error c in
     let two = group_ended_waits k members (places_at path members.setpoints)
     (group_cycles.ending_of stopped.group stopped.path) (record stopped { path = path }) in
-    let same = ap (λ o. is_owner k (group_owners.reset_owner o))
+    let same = ap (λ o. is_owner k (reset_owner o))
     (released_reset members.stop_held moved.group moved.path) in
     omega arith
 
-group_reset_owner : (k : ℕ) (o : Option group_pending.PendingReset) (members : GroupLook)
+group_reset_owner : (k : ℕ) (o : Option PendingReset) (members : GroupLook)
     (on_path : Bool) (g : Group) → g.reset ≡ o →
     is_owner k
-    (group_owners.reset_owner
+    (reset_owner
     (group_reset.reset_by o (group_refusals.states_in members) on_path g).reset) ≤ is_owner k
-    (group_owners.reset_owner g.reset)
+    (reset_owner g.reset)
 group_reset_owner k None members on_path g e = omega arith
 group_reset_owner k (Some p) members on_path g e =
     let n = none_owned k in
-    by_if (λ (x : Group). is_owner k (group_owners.reset_owner x.reset) ≤ is_owner k
-    (group_owners.reset_owner g.reset)) (group_reset.may_reset on_path g) _ _
+    by_if (λ (x : Group). is_owner k (reset_owner x.reset) ≤ is_owner k
+    (reset_owner g.reset)) (group_reset.may_reset on_path g) _ _
     (omega arith) (omega arith)
 
 pub group_reset_waits : (k : ℕ) (members : GroupLook) (c : groups.Core) → GroupWaitsNoMore k c

@@ -3,13 +3,13 @@ use Rattle.std.specs.Prelude.{◌≡◌, refl, ℕ, zero, suc, ◌<◌, ◌≤�
 use Rattle.std.proofs.Common.{arith, sym, subst, ◌∙◌, inl, inr}
 use Rattle.std.proofs.lemmas.Bool.{cases_eq}
 use Rattle.std.proofs.lemmas.List.{get_or-set_other}
-use Rattle.buffer_modes.specs.Owners.{told}
+use Rattle.buffer_modes.specs.Owners.{owner_by, told}
 use Rattle.fb_outputs.specs.InstanceState.{InstanceState}
 use Rattle.fb_outputs.specs.Steps as instance
 use Rattle.fb_outputs.specs.declared.instance.Progress.{Progress}
 use Rattle.fb_outputs.specs.declared.instance.Progress.TheVariants.{Idle, Waiting, Active, Ended}
 use Rattle.motion_history.specs.Setup.{Setup}
-use Rattle.motion_kernel.specs.cycles.Showing.{axes_shown, groups_shown, owner_of}
+use Rattle.motion_kernel.specs.cycles.Showing.{axes_shown, groups_shown}
 use Rattle.motion_kernel.specs.Machine.{Machine, PlacedGroup, axis_at, group_among, group_at, instance_at, no_instance}
 use Rattle.motion_kernel.specs.calls.Telling.{shown_active, shown_at}
 use Rattle.motion_laws.specs.owners.Commands.{CommandsAreShown, active_at, active_shown}
@@ -66,7 +66,7 @@ told_one m (Some j) reached is one has h = record {
   ];
 }
 
-axis_has : (m : Machine) (n k : ℕ) → n < length m.axes → owner_of (axis_at m n).active ≡ Some k →
+axis_has : (m : Machine) (n k : ℕ) → n < length m.axes → owner_by (axis_at m n).active ≡ Some k →
     HasActive m k
 axis_has m n k l e = record {
   object = an_axis n;
@@ -75,7 +75,7 @@ axis_has m n k l e = record {
       (axis_at m n).active e;
 }
 
-group_has : (m : Machine) (j k : ℕ) → j < length m.groups → owner_of (group_at m j).group.active
+group_has : (m : Machine) (j k : ℕ) → j < length m.groups → owner_by (group_at m j).group.active
     ≡ Some k → HasActive m k
 group_has m j k l e = record {
   object = a_group j;
@@ -89,7 +89,7 @@ pub axes_are_told : (s : Setup) (m : Machine) (n : ℕ) (is : List InstanceState
 unfolding axes_shown
 axes_are_told s m zero is h l told = told
 axes_are_told s m (suc n) is h l told =
-    told_one m (owner_of (axis_at m n).active) (axis_at m n).reached (axes_shown n m.axes is)
+    told_one m (owner_by (axis_at m n).active) (axis_at m n).reached (axes_shown n m.axes is)
     (λ k e. axis_active_shown s m n k h (omega arith) e)
     (λ k e. axis_has m n k (omega arith) e) (axes_are_told s m n is h (omega arith) told)
 
@@ -98,7 +98,7 @@ pub groups_are_told : (s : Setup) (m : Machine) (n : ℕ) (is : List InstanceSta
 unfolding groups_shown
 groups_are_told s m zero is h l told = told
 groups_are_told s m (suc n) is h l told =
-    told_one m (owner_of (group_at m n).group.active) false (groups_shown n m.groups is)
+    told_one m (owner_by (group_at m n).group.active) false (groups_shown n m.groups is)
     (λ k e. group_active_shown s m n k h (omega arith) e)
     (λ k e. group_has m n k (omega arith) e) (groups_are_told s m n is h (omega arith) told)
 
@@ -115,7 +115,7 @@ unfolding groups_shown
 groups_grow zero groups is k = omega arith
 groups_grow (suc n) groups is k =
     let one = groups_grow n groups is k in
-    let more = told_grows (owner_of (group_among groups n).group.active) false
+    let more = told_grows (owner_by (group_among groups n).group.active) false
     (groups_shown n groups is) k in
     omega arith
 
@@ -133,42 +133,42 @@ told_is m (Some j) reached is k same one e =
 
 pub axes_done : (s : Setup) (m : Machine) (n : ℕ) (is : List InstanceState) → CommandsAreShown s m →
     n ≤ length m.axes → AsShown m is → (i k : ℕ) → i < n →
-    owner_of (axis_at m i).active ≡ Some k → active_by (axes_shown n m.axes is) k ≡ 1
+    owner_by (axis_at m i).active ≡ Some k → active_by (axes_shown n m.axes is) k ≡ 1
 unfolding axes_shown
 axes_done s m zero is h l same i k b e = absurd (omega arith)
 axes_done s m (suc n) is h l same i k b e = elim (cases_eq i n) [
   | inl x ↦
-      told_is m (owner_of (axis_at m n).active) (axis_at m n).reached (axes_shown n m.axes is) k
+      told_is m (owner_by (axis_at m n).active) (axis_at m n).reached (axes_shown n m.axes is) k
       (axes_told s m n is h (omega arith) same)
       (axis_active_shown s m i k h (omega arith) e)
-      (subst (λ y. owner_of (axis_at m y).active ≡ Some k) x e)
+      (subst (λ y. owner_by (axis_at m y).active ≡ Some k) x e)
   | inr d ↦
       let one = axes_done s m n is h (omega arith) same i k (omega arith) e in
-      let more = told_grows (owner_of (axis_at m n).active) (axis_at m n).reached
+      let more = told_grows (owner_by (axis_at m n).active) (axis_at m n).reached
       (axes_shown n m.axes is) k in
       let most = most_active
-      (instance_at (shown_active (owner_of (axis_at m n).active) (axis_at m n).reached
+      (instance_at (shown_active (owner_by (axis_at m n).active) (axis_at m n).reached
       (axes_shown n m.axes is)) k).progress in
       omega arith
 ]
 
 pub groups_done : (s : Setup) (m : Machine) (n : ℕ) (is : List InstanceState) → CommandsAreShown s m →
     n ≤ length m.groups → AsShown m is → (j k : ℕ) → j < n →
-    owner_of (group_at m j).group.active ≡ Some k → active_by (groups_shown n m.groups is) k ≡ 1
+    owner_by (group_at m j).group.active ≡ Some k → active_by (groups_shown n m.groups is) k ≡ 1
 unfolding groups_shown
 groups_done s m zero is h l same j k b e = absurd (omega arith)
 groups_done s m (suc n) is h l same j k b e = elim (cases_eq j n) [
   | inl x ↦
-      told_is m (owner_of (group_at m n).group.active) false (groups_shown n m.groups is) k
+      told_is m (owner_by (group_at m n).group.active) false (groups_shown n m.groups is) k
       (groups_told s m n is h (omega arith) same)
       (group_active_shown s m j k h (omega arith) e)
-      (subst (λ y. owner_of (group_at m y).group.active ≡ Some k) x e)
+      (subst (λ y. owner_by (group_at m y).group.active ≡ Some k) x e)
   | inr d ↦
       let one = groups_done s m n is h (omega arith) same j k (omega arith) e in
-      let more = told_grows (owner_of (group_at m n).group.active) false
+      let more = told_grows (owner_by (group_at m n).group.active) false
       (groups_shown n m.groups is) k in
       let most = most_active
-      (instance_at (shown_active (owner_of (group_at m n).group.active) false
+      (instance_at (shown_active (owner_by (group_at m n).group.active) false
       (groups_shown n m.groups is)) k).progress in
       omega arith
 ]

@@ -14,7 +14,7 @@ use Rattle.motion_kernel.specs.calls.Calls.{with_axis_core, with_group_core}
 use Rattle.motion_kernel.specs.looks.AxisLooks.{Surroundings, axis_look}
 use Rattle.motion_kernel.specs.cycles.Cycles.{after_cycle, around_in, cycled, stepped_in}
 use Rattle.motion_kernel.specs.cycles.AxisCycles.{axes_cycled}
-use Rattle.motion_kernel.specs.cycles.Showing.{axes_shown, found_by, groups_shown, instance_found, instances_found, owner_of, told_found, with_found}
+use Rattle.motion_kernel.specs.cycles.Showing.{axes_shown, found_by, groups_shown, instance_found, instances_found, told_found, with_found}
 use Rattle.motion_kernel.specs.cycles.GroupResets.{groups_reset}
 use Rattle.motion_kernel.specs.cycles.GroupSteps.{groups_stepped, look_in_cycle}
 use Rattle.motion_kernel.specs.looks.GroupLooks.{group_look}
@@ -95,20 +95,20 @@ pub at_least : (b : Bool) (n c : ℕ) → 1 ≤ c → c ≡ (if b then n else 0)
 at_least true n c l e m = omega arith
 at_least false n c l e m = absurd (omega arith)
 
-pub active_owner : (k : ℕ) (active : Option Wanted) → owner_of active ≡ Some k → is_owner k
+pub active_owner : (k : ℕ) (active : Option Wanted) → owner_by active ≡ Some k → is_owner k
     (owner_by active) ≡ 1
 active_owner k None e = absurd (cc)
 active_owner k (Some w) e = ap (is_owner k) e ∙ owner_is k
 
 pub axis_active_shown : (s : Setup) (m : Machine) (n k : ℕ) → CommandsAreShown s m →
-    n < length m.axes → owner_of (axis_at m n).active ≡ Some k → shown_by m.instances k ≡ 1
+    n < length m.axes → owner_by (axis_at m n).active ≡ Some k → shown_by m.instances k ≡ 1
 axis_active_shown s m n k h l e =
     let one = active_owner k (axis_at m n).active e in
     at_least _ _ (commands_at m k (an_axis n)) (omega arith) (h k (an_axis n) l)
     (most_one (instance_at m.instances k).progress)
 
 pub group_active_shown : (s : Setup) (m : Machine) (j k : ℕ) → CommandsAreShown s m →
-    j < length m.groups → owner_of (group_at m j).group.active ≡ Some k → shown_by m.instances k ≡ 1
+    j < length m.groups → owner_by (group_at m j).group.active ≡ Some k → shown_by m.instances k ≡ 1
 group_active_shown s m j k h l e =
     let one = active_owner k (group_at m j).group.active e in
     at_least _ _ (commands_at m k (a_group j)) (omega arith) (h k (a_group j) l)
@@ -131,7 +131,7 @@ pub axes_told : (s : Setup) (m : Machine) (n : ℕ) (is : List InstanceState) �
 unfolding axes_shown
 axes_told s m zero is h l same = same
 axes_told s m (suc n) is h l same =
-    told_active m (owner_of (axis_at m n).active) (axis_at m n).reached (axes_shown n m.axes is)
+    told_active m (owner_by (axis_at m n).active) (axis_at m n).reached (axes_shown n m.axes is)
     (λ k e. axis_active_shown s m n k h (omega arith) e)
     (axes_told s m n is h (omega arith) same)
 
@@ -141,7 +141,7 @@ pub groups_told : (s : Setup) (m : Machine) (n : ℕ) (is : List InstanceState) 
 unfolding groups_shown
 groups_told s m zero is h l same = same
 groups_told s m (suc n) is h l same =
-    told_active m (owner_of (group_at m n).group.active) false (groups_shown n m.groups is)
+    told_active m (owner_by (group_at m n).group.active) false (groups_shown n m.groups is)
     (λ k e. group_active_shown s m n k h (omega arith) e)
     (groups_told s m n is h (omega arith) same)
 

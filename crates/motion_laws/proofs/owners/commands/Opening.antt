@@ -1,5 +1,5 @@
 -- At opening nobody has a command, and none shows one.
-use Rattle.std.specs.Prelude.{◌≡◌, refl, ℕ, zero, suc, ◌+◌, Option, List, [], ◌∷◌, length, map, replicate}
+use Rattle.std.specs.Prelude.{◌≡◌, refl, ℕ, zero, suc, ◌+◌, Option, List, [], ◌∷◌, length, map}
 use Rattle.std.proofs.Common.{ap}
 use Rattle.axis_core.specs.Cycles.{axis_at_opening}
 use Rattle.axis_core.specs.Owners as axis

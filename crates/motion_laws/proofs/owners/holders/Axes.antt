@@ -8,13 +8,13 @@ use Rattle.axis_core.specs.Cycles.{Advance, advance_by_command, advance_by_progr
 use Rattle.axis_core.specs.Drives.{answer_error_of, axis_at_drive, is_driven}
 use Rattle.axis_core.specs.Refusals as axis_refusals
 use Rattle.axis_core.specs.Refusals.{Asked}
-use Rattle.axis_core.specs.States.{is_error_stop}
+use Rattle.axis_state.specs.States.{is_error_stop}
 use Rattle.axis_core.specs.blocks.Halts as axis_halts
 use Rattle.axis_core.specs.blocks.Moves.{known_target_of, position_of, target_of, with_target}
 use Rattle.axis_core.specs.blocks.Path.{place_on_path}
 use Rattle.axis_core.specs.blocks.Reset as axis_reset
 use Rattle.axis_core.specs.declared.axis.Axis.{Axis}
-use Rattle.axis_core.specs.declared.axis.PendingReset as axis_pending
+use Rattle.buffer_modes.specs.declared.reset.PendingReset.{PendingReset}
 use Rattle.axis_core.specs.declared.look.AxisLook.{AxisLook}
 use Rattle.axis_core.specs.declared.progress.Progress as axis_progress
 use Rattle.axis_core.specs.declared.reason.Reason as axis_reason
@@ -210,7 +210,7 @@ answered_so input c =
     (record { hold = λ k e. e; waiting = λ k l. l })
     (record { hold = none_stays c.axis.hold; waiting = λ k l. absurd (omega arith) })
 
-reset_hold : (o : Option axis_pending.PendingReset) (input : DriveIn) (a : Axis) →
+reset_hold : (o : Option PendingReset) (input : DriveIn) (a : Axis) →
     (axis_reset.reset_axis o input a).hold ≡ a.hold
 reset_hold None input a = refl
 reset_hold (Some p) input a = by_if (λ (x : Axis). x.hold ≡ a.hold)

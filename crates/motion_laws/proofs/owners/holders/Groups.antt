@@ -17,7 +17,7 @@ use Rattle.group_core.specs.Tracks.{OnPath, places_at}
 use Rattle.group_core.specs.blocks.Halts as group_halts
 use Rattle.group_core.specs.blocks.Reset as group_reset
 use Rattle.group_core.specs.declared.group.Group.{Group}
-use Rattle.group_core.specs.declared.group.PendingReset as group_pending
+use Rattle.buffer_modes.specs.declared.reset.PendingReset.{PendingReset}
 use Rattle.group_core.specs.declared.look.GroupLook.{GroupLook}
 use Rattle.group_core.specs.declared.reason.Reason as group_reason
 use Rattle.motion_kernel.proofs.Sizes.{by_if}
@@ -106,7 +106,7 @@ group_cycle_holds members c k e =
       | inr waits ↦ inr (so.waiting k waits)
     ]
 
-group_reset_hold : (o : Option group_pending.PendingReset) (members : GroupLook) (on_path : Bool)
+group_reset_hold : (o : Option PendingReset) (members : GroupLook) (on_path : Bool)
     (g : Group) →
     (group_reset.reset_by o (group_refusals.states_in members) on_path g).hold ≡ g.hold
 group_reset_hold None members on_path g = refl

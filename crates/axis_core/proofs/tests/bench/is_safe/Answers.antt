@@ -9,7 +9,7 @@ use Rattle.command_pool.specs.declared.wanted.Wanted.{Wanted}
 use Rattle.kin_core.specs.Admissible.{IsAdmissible, IsKept, IsSafe}
 use Rattle.kin_core.specs.declared.limits.Limits.{Limits}
 use Rattle.axis_core.specs.AxisKept.{IsAxisKept, IsInState}
-use Rattle.axis_core.specs.States.{is_synchronized}
+use Rattle.axis_state.specs.States.{is_synchronized}
 use Rattle.axis_core.specs.blocks.Path.{is_on_path}
 use Rattle.axis_core.specs.blocks.Power.{is_powered}
 use Rattle.axis_core.specs.declared.axis.Axis.{Axis}
