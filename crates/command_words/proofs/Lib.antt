@@ -1,2 +1,4 @@
 pub mod SeedLaws
 pub mod Texts
+pub mod CommandLaws
+pub mod ParseLaws

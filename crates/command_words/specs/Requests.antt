@@ -71,7 +71,7 @@ grammar =
 unfoldable pub asked_by : List (List ℕ) → Option Request
 asked_by [] = None
 asked_by (word ∷ operands) = option_and_then (λ (line : Line). line.asks operands)
-    (find (λ (line : Line). bytes_eq word line.word) grammar)
+    (find (λ (line : Line). bytes_eq line.word word) grammar)
 
 -- what the words ask for, if they are a request
 unfoldable pub asked_of : List (List ℕ) → Option Request

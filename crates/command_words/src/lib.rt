@@ -1,6 +1,7 @@
 //! The words of a call of the program `motion`, and what they ask for.
 #![tactic(auto)]
 
+mod commands;
 mod request;
 mod seed;
 mod words;

@@ -1,15 +1,21 @@
 // What the words of a call ask for.
 
-ghost use Rattle.std.specs.Prelude.{◌≡◌, ◌∷◌, [], map};
+ghost use Rattle.std.specs.Prelude.{◌≡◌, ◌≢◌, IfOk, None, map, true};
 ghost use Rattle.std.specs.List.{list_all};
 ghost use Rattle.std.specs.Option.{option_map};
 ghost use Rattle.std.specs.String.{string_bytes};
+ghost use Rattle.clap.specs.Words.{found_of, kind_of, rows_of, subcommand_rows_of};
+ghost use Rattle.command_words.specs.Commands as commands;
 ghost use Rattle.command_words.specs.Requests as spec;
-ghost use Rattle.command_words.specs.Requests.{of_load, told};
-ghost use Rattle.command_words.specs.Seeds as seeds;
+ghost use Rattle.command_words.specs.Requests.{told};
 
+use crate::commands::motion;
 use crate::seed::seed_in;
 use crate::words::Words;
+use clap::error::ErrorKind;
+use clap::{ArgMatches, Error};
+use out_of_memory::OutOfMemory;
+use std::alloc::Global;
 
 /// What the program does with one file.
 #[derive(Clone, Copy, Debug, PartialEq, Eq)]
@@ -34,15 +40,17 @@ pub enum Request<'a> {
 }
 
 /// What the words ask for, by the grammar of the words. No word may be empty or begin with `-`.
+///
+/// The words are read with `clap`, which takes memory.
 #[tactic(auto, using(crate::proofs::Texts::are_plain), unfolding(crate::specs::Requests::asked_of))]
-pub fn asked(words: &Words) -> Option<Request<'_>>
-    ensures { option_map told result ≡ spec.asked_of words.now }
+pub fn asked(alloc: Global, words: &Words) -> Result<Option<Request<'_>>, OutOfMemory>
+    ensures { IfOk result (λ request. option_map told request ≡ spec.asked_of words.now) }
 {
     let texts = words.texts();
     if are_plain(texts) {
-        asked_by(texts)
+        asked_by(alloc, texts)
     } else {
-        None
+        Ok(None)
     }
 }
 
@@ -64,59 +72,79 @@ fn is_plain(text: &String) -> bool
     }
 }
 
-// What plain words ask for.
-#[tactic(auto, unfolding(crate::specs::Requests::asked_by))]
-fn asked_by(texts: &[String]) -> Option<Request<'_>>
-    ensures { option_map told result ≡ spec.asked_by (map string_bytes texts.now) }
+// What plain words ask for: what the command asks for that they name, with its operands.
+fn asked_by(alloc: Global, texts: &[String]) -> Result<Option<Request<'_>>, OutOfMemory>
+    requires { list_all spec.is_plain (map string_bytes texts.now) ≡ true }
+    ensures { IfOk result (λ request.
+        option_map told request ≡ spec.asked_by (map string_bytes texts.now)) }
 {
-    match texts {
-        [word, operand] => one_asked(word.as_str(), operand.as_str()),
-        [word, config, program] => run_asked(word.as_str(), config.as_str(), program.as_str()),
-        _ => None,
+    match motion(alloc)?.try_get_matches_from(texts) {
+        Ok(matches) => Ok(request_found(&matches)),
+        Err(error) => refused(&error),
     }
 }
 
-// What a word asks for with one operand.
-#[tactic(auto, unfolding(crate::specs::Requests::asked_by))]
-fn one_asked<'a>(word: &str, operand: &'a str) -> Option<Request<'a>>
-    ensures { option_map told result ≡ spec.asked_by (word.now ∷ operand.now ∷ []) }
+// No request was found, unless memory was wanting.
+fn refused<'a>(error: &Error) -> Result<Option<Request<'a>>, OutOfMemory>
+    ensures { IfOk result (λ request.
+        (request ≡ None) × (kind_of error.now ≢ ErrorKind.OutOfMemory)) }
 {
-    match word {
-        "bench" => Some(Request::File {
-            job: Job::Bench,
-            name: operand,
-        }),
-        "check" => Some(Request::File {
-            job: Job::Check,
-            name: operand,
-        }),
-        "migrate" => Some(Request::File {
-            job: Job::Migrate,
-            name: operand,
-        }),
-        "gen" => load_asked(operand),
-        _ => None,
-    }
-}
-
-// The load of the seed that a word is.
-fn load_asked(word: &str) -> Option<Request<'_>>
-    ensures { option_map told result ≡ option_map of_load (seeds.seed_in word.now) }
-{
-    match seed_in(word) {
-        Some(seed) => Some(Request::Load { seed }),
-        None => None,
-    }
-}
-
-// What a word asks for with two operands.
-#[tactic(auto, unfolding(crate::specs::Requests::asked_by))]
-fn run_asked<'a>(word: &str, config: &'a str, program: &'a str) -> Option<Request<'a>>
-    ensures { option_map told result ≡ spec.asked_by (word.now ∷ config.now ∷ program.now ∷ []) }
-{
-    if word == "run" {
-        Some(Request::Run { config, program })
+    if error.kind() == ErrorKind::OutOfMemory {
+        Err(OutOfMemory)
     } else {
-        None
+        Ok(None)
     }
+}
+
+// What the command asks for that was found.
+fn request_found<'a>(matches: &ArgMatches<'a>) -> Option<Request<'a>>
+    ensures { option_map told result ≡ commands.request_found (subcommand_rows_of matches.now) }
+{
+    let (name, operands) = matches.subcommand()?;
+    request_in(name, operands)
+}
+
+// What a command asks for with its operands.
+#[tactic(auto, using(crate::proofs::Texts::in_row), unfolding(crate::specs::Commands::request_in))]
+fn request_in<'a>(name: &str, operands: &ArgMatches<'a>) -> Option<Request<'a>>
+    ensures { option_map told result
+        ≡ commands.request_in name.now (rows_of (found_of operands.now)) }
+{
+    match name {
+        "bench" => file_in(Job::Bench, operands.get_str("FILE")),
+        "run" => run_in(operands.get_str("CONFIG"), operands.get_str("PROGRAM")),
+        "check" => file_in(Job::Check, operands.get_str("TRACE")),
+        "gen" => load_in(operands.get_str("SEED")),
+        "migrate" => file_in(Job::Migrate, operands.get_str("TRACE")),
+        _ => None,
+    }
+}
+
+// A job with the file that an operand names.
+fn file_in(job: Job, name: Option<&str>) -> Option<Request<'_>>
+    ensures { option_map told result
+        ≡ commands.file_in job (option_map (λ text. text.now) name.entry) }
+{
+    let name = name?;
+    Some(Request::File { job, name })
+}
+
+// A run with the files that two operands name.
+fn run_in<'a>(config: Option<&'a str>, program: Option<&'a str>) -> Option<Request<'a>>
+    ensures { option_map told result
+        ≡ commands.run_in (option_map (λ text. text.now) config.entry)
+        (option_map (λ text. text.now) program.entry) }
+{
+    let config = config?;
+    let program = program?;
+    Some(Request::Run { config, program })
+}
+
+// The load of the seed that an operand is.
+fn load_in(word: Option<&str>) -> Option<Request<'static>>
+    ensures { option_map told result
+        ≡ commands.load_in (option_map (λ text. text.now) word.entry) }
+{
+    let seed = seed_in(word?)?;
+    Some(Request::Load { seed })
 }

@@ -45,7 +45,7 @@ fn takes_each_line(rt: HostRuntime) -> Result<(), Fail> {
     ];
     for (texts, wanted) in cases {
         let words = words_of(&rt, texts)?;
-        assert_eq!(rt; asked(&words), wanted, "{texts:?}");
+        assert_eq!(rt; asked(rt.alloc(), &words)?, wanted, "{texts:?}");
     }
     Ok(())
 }
@@ -95,7 +95,7 @@ fn refuses_other_words(rt: HostRuntime) -> Result<(), Fail> {
     ];
     for texts in cases {
         let words = words_of(&rt, texts)?;
-        assert_eq!(rt; asked(&words), None, "{texts:?}");
+        assert_eq!(rt; asked(rt.alloc(), &words)?, None, "{texts:?}");
     }
     Ok(())
 }

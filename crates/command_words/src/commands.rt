@@ -1,0 +1,69 @@
+// The commands that the words are read with.
+
+ghost use Rattle.std.specs.Prelude.{◌≡◌, IfOk, false};
+ghost use Rattle.clap.specs.Words.{rule_of};
+ghost use Rattle.command_words.specs.Commands as spec;
+ghost use Rattle.command_words.specs.Commands.{IsCommand};
+
+use clap::{Arg, Command};
+use std::alloc::{AllocError, Global};
+
+/// The program with its commands, each with its operands.
+pub fn motion<'a>(alloc: Global) -> Result<Command<'a>, AllocError>
+    ensures { IfOk result (IsCommand spec.motion) }
+{
+    let bench = command_of_one(alloc, "bench", "FILE")?;
+    let run = command_of_two(alloc, "run", "CONFIG", "PROGRAM")?;
+    let check = command_of_one(alloc, "check", "TRACE")?;
+    let load = command_of_one(alloc, "gen", "SEED")?;
+    let migrate = command_of_one(alloc, "migrate", "TRACE")?;
+    bare_motion(alloc)
+        .subcommand(bench)?
+        .subcommand(run)?
+        .subcommand(check)?
+        .subcommand(load)?
+        .subcommand(migrate)
+}
+
+// The program without its commands: it wants one, and has none but its own.
+fn bare_motion<'a>(alloc: Global) -> Command<'a>
+    ensures { IsCommand spec.bare_motion result }
+{
+    Command::new(alloc, "motion")
+        .no_binary_name(true)
+        .disable_help_flag(true)
+        .disable_help_subcommand(true)
+        .subcommand_required(true)
+}
+
+// A command with one operand.
+fn command_of_one<'a>(
+    alloc: Global,
+    name: &'a str,
+    only: &'a str,
+) -> Result<Command<'a>, AllocError>
+    ensures { IfOk result (IsCommand (spec.command_of_one name.entry.now only.entry.now)) }
+{
+    Command::new(alloc, name).arg(operand(alloc, only))
+}
+
+// A command with two operands.
+fn command_of_two<'a>(
+    alloc: Global,
+    name: &'a str,
+    first: &'a str,
+    second: &'a str,
+) -> Result<Command<'a>, AllocError>
+    ensures { IfOk result
+        (IsCommand (spec.command_of_two name.entry.now first.entry.now second.entry.now)) }
+{
+    command_of_one(alloc, name, first)?.arg(operand(alloc, second))
+}
+
+// A word that has to stand behind a command's name.
+fn operand<'a>(alloc: Global, name: &'a str) -> Arg<'a>
+    ensures rule { rule_of result ≡ spec.operand name.entry.now }
+    ensures local { result.global ≡ false }
+{
+    Arg::new(alloc, name).required(true)
+}
