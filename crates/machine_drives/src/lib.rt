@@ -5,5 +5,5 @@ mod drives;
 mod laws;
 
 pub use drives::{answer_all, end_row, end_rows, open_drive, open_drives, step_all};
-pub use laws::drives_follow_their_outputs;
+pub use laws::{drives_can_be_opened, drives_follow_their_outputs};
 pub use motion_history::OutOfMemory;
