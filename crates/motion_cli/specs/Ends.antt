@@ -44,8 +44,8 @@ EndsByRequest told rose refused Started (Some (of_run r)) old new s =
     EndsByRun told rose refused Started r.config r.program old new s
 EndsByRequest told rose refused Started (Some (of_load seed)) old new s = EndsByLoad seed old new s
 
--- how the program ends by its words
+-- how the program ends by its words, unless there was no memory to read them
 abbrev pub EndsByWords : Option FileMap → Type 0 → Type 0 → (ℕ → Type 0) → List (List ℕ) →
     Output → Output → Status → Type 0
 EndsByWords told rose refused Started words old new s =
-    EndsByRequest told rose refused Started (asked_of words) old new s
+    EndsByRequest told rose refused Started (asked_of words) old new s ⊎ EndsEarly old new s

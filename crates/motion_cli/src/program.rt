@@ -184,5 +184,8 @@ pub fn top<F: Files, K: Sink, H: Host + Wait + Sync, G: Gate + Drop + Send + 'st
 {
     ends_follow_plans();
     room_leads_to_ok();
-    serve(rt, alloc, asked(words), files, out, spawner, gate)
+    match asked(alloc, words) {
+        Ok(asked) => serve(rt, alloc, asked, files, out, spawner, gate),
+        Err(OutOfMemory) => Status::OutOfMemory,
+    }
 }

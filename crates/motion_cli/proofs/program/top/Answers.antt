@@ -8,13 +8,14 @@ use Rattle.outside.specs.Told.{FileMap}
 use Rattle.trace_text.specs.writing.Writes.{Output}
 use Rattle.motion_cli.proofs.CauseLaws.{enough, file-comes, long-comes, ok-comes, refused-comes}
 use Rattle.motion_cli.proofs.FaultLaws.{complete, complete-run, faultless, file-no-run, refused-why, unread-why, usage-comes, write-why}
+use Rattle.motion_cli.proofs.PlanLaws.{faulted}
 use Rattle.motion_cli.proofs.TraceLaws.{headline-of, line-of, migrated-of, run-of}
 use Rattle.motion_cli.specs.Causes.{HasRoom, IsThere}
 use Rattle.motion_cli.specs.Ends.{EndsByRequest}
 use Rattle.motion_cli.proofs.program.top.Goals as goal
 
-pub returns : goal.returns
-returns g c =
+pub returns-in-Ok : goal.returns-in-Ok
+returns-in-Ok g c =
     let told = g.F.Files.told c.args.files.now in
     let rose = Rose (g.F.Files.count c.args.files.now) (g.F.Files.count c.serve.new.files) in
     let refused = Rose c.args.spawner.now.faults c.serve.new.spawner.faults in
@@ -31,13 +32,13 @@ returns g c =
     let s = c.serve.result in
     let follow = c.ends_follow_plans.ensures in
     let by : EndsByRequest told rose refused Started asked old new s =
-    subst (λ a. EndsByRequest told rose refused Started a old new s) c.asked.ensures
+    subst (λ a. EndsByRequest told rose refused Started a old new s) c.in-Ok.ensures
     c.serve.ensures in
     let at : (map : FileMap) → told ≡ Some map →
     EndsByRequest (Some map) rose refused Started asked old new s =
     λ map t. subst (λ x. EndsByRequest x rose refused Started asked old new s) t by in
     record {
-      ends = by;
+      ends = inl by;
       load = λ n is h. line-of told rose refused Started asked n old new s by is h;
       headline = λ name a h. headline-of follow told rose refused Started asked name old new s by a
           h;
@@ -71,3 +72,26 @@ returns g c =
       complete_run = λ map t h r f w. complete-run map rose refused Started asked old new s
           (at map t) h r f w;
     }
+
+pub returns-in-Err : goal.returns-in-Err
+returns-in-Err g c = record {
+  ends = inr (record { status = refl; output = refl });
+  load = λ n is h. absurd (cc);
+  headline = λ name a h. absurd (cc);
+  headline_run = λ names a h. absurd (cc);
+  migrated = λ name a h. absurd (cc);
+  usage = faulted _ _ _ refl refl;
+  read_fault = λ word h. absurd (cc);
+  too_long = λ map word t. faulted _ _ _ refl refl;
+  refused = λ map word r t. faulted _ _ _ refl refl;
+  thread_refused = λ h. absurd (cc);
+  cycles_over = λ map t none. faulted _ _ _ refl refl;
+  history_full = λ map t none. faulted _ _ _ refl refl;
+  ok = λ map t none. faulted _ _ _ refl refl;
+  legal = λ map n t. faulted _ _ _ refl refl;
+  illegal = λ map p t. faulted _ _ _ refl refl;
+  write_fault = λ h. absurd (cc);
+  faultless = λ map t h r w. inr refl;
+  complete = λ map t h r w. inr refl;
+  complete_run = λ map t h r f w. inr refl;
+}
