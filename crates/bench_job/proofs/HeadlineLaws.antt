@@ -5,7 +5,7 @@ use Rattle.bench_run.specs.InStep.{IsInStep}
 use Rattle.bench_run.specs.Run.{run_of}
 use Rattle.bench_text.specs.BenchState.{BenchState}
 use Rattle.bench_text.specs.Reading.{bench_of}
-use Rattle.job_ends.specs.Causes.{is_fault, is_traced}
+use Rattle.job_ends.specs.Causes.{is_traced}
 use Rattle.job_ends.specs.Ends.{EndsBy}
 use Rattle.job_ends.specs.Follows.{FollowPlans}
 use Rattle.job_ends.specs.Plans.{plan_of_reading}
@@ -19,13 +19,6 @@ use Rattle.trace_text.specs.writing.Writes.{Output}
 use Rattle.bench_job.specs.Headline.{Headline, RunsBy}
 use Rattle.bench_job.specs.Plans.{bench_plan, drive_ends, plan_of_bench}
 
--- a status that stands for a trace is no fault
-traced-unfaulted : (s : Status) → is_traced s ≡ true → is_fault s ≡ false
-traced-unfaulted status.Ok t = refl
-traced-unfaulted status.CyclesOver t = refl
-traced-unfaulted status.HistoryFull t = refl
-traced-unfaulted s t = absurd (cc)
-
 -- a bench that was run
 read-headline : FollowPlans → ((b : BenchState) → IsInStep b) → (name text : List ℕ)
     (old new : Output) (s : Status) (reading : Result BenchState TextRefused) →
@@ -33,7 +26,7 @@ read-headline : FollowPlans → ((b : BenchState) → IsInStep b) → (name text
     RunsBy (λ b. bench_of text ≡ Ok b) s → (files : Option FileMap) → HasFile files name text →
     is_traced s ≡ true → Headline files name old.told new.told
 read-headline follow step name text old new s (Err r) is e runs files file t =
-    let whole = follow.whole old new _ s e (traced-unfaulted s t) in
+    let whole = follow.traces old new _ s e t in
     let bad : false ≡ true = sym (ap is_traced whole.0) ∙ t in absurd (cc)
 read-headline follow step name text old new s (Ok b) is e runs files file t =
     let in-step = step b in
@@ -50,7 +43,7 @@ read-headline follow step name text old new s (Ok b) is e runs files file t =
       laws = legal.laws;
       drives = drive_ends (run_of b);
       taken = ap (map (drive_end (cycles_of (run_of b).history))) in-step.drives;
-      written = (follow.whole old new _ s e (traced-unfaulted s t)).1;
+      written = (follow.traces old new _ s e t).1;
     }
 
 pub headline-of : FollowPlans → ((b : BenchState) → IsInStep b) → (name text : List ℕ)

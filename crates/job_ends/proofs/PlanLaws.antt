@@ -9,7 +9,7 @@ use Rattle.outside.specs.declared.files.FilesFault.TheVariants as files
 use Rattle.trace_text.specs.writing.Writes.{Output, Writes, WritesPrefix}
 use Rattle.trace_text.specs.declared.writing.write.TraceFault.{TraceFault}
 use Rattle.trace_text.specs.declared.writing.write.TraceFault.TheVariants as fault
-use Rattle.job_ends.specs.Causes.{ComesExactly, is_fault}
+use Rattle.job_ends.specs.Causes.{ComesExactly, is_fault, is_traced}
 use Rattle.job_ends.specs.Ends.{EndsBy, EndsEarly, EndsUnread, Says, status_by}
 use Rattle.job_ends.specs.Plans.{Plan, too_long_plan, unread_plan}
 use Rattle.job_ends.specs.declared.status.Status.{Status}
@@ -62,6 +62,17 @@ whole-by old new text p s (Err fault.OutOfMemory) ws e f =
 pub whole : (old new : Output) (plan : Plan) (s : Status) → EndsBy old new plan s →
     is_fault s ≡ false → (s ≡ plan.status) × Appends old.told new.told plan.text
 whole old new plan s e = whole-by old new plan.text plan.status s e.written e.writes e.status
+
+traced-unfaulted : (s : Status) → is_traced s ≡ true → is_fault s ≡ false
+traced-unfaulted status.Ok t = refl
+traced-unfaulted status.CyclesOver t = refl
+traced-unfaulted status.HistoryFull t = refl
+traced-unfaulted s t = absurd (cc)
+
+-- so it is where the status stands for a trace
+pub traces : (old new : Output) (plan : Plan) (s : Status) → EndsBy old new plan s →
+    is_traced s ≡ true → (s ≡ plan.status) × Appends old.told new.told plan.text
+traces old new plan s e t = whole old new plan s e (traced-unfaulted s t)
 
 -- a status that is no fault comes exactly where it is the plan's
 comes-by : (s p wanted : Status) (R : Type 0) →

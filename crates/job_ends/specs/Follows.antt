@@ -1,11 +1,11 @@
 -- What plans say of ends. This project's profile.
-use Rattle.std.specs.Prelude.{◌≡◌, ◌≢◌, ◌⊎◌, ℕ, false, Result, List, IfOk}
+use Rattle.std.specs.Prelude.{◌≡◌, ◌≢◌, ◌⊎◌, ℕ, true, false, Result, List, IfOk}
 use Rattle.std.specs.Io.KnownBytes.{Appends}
 use Rattle.std.proofs.Common.{Vec, Global}
 use Rattle.std.specs.declared.alloc.AllocError.{AllocError}
 use Rattle.outside.specs.Faults.{Rose}
 use Rattle.trace_text.specs.writing.Writes.{Output}
-use Rattle.job_ends.specs.Causes.{ComesExactly, is_fault}
+use Rattle.job_ends.specs.Causes.{ComesExactly, is_fault, is_traced}
 use Rattle.job_ends.specs.Ends.{EndsBy, EndsEarly, Says}
 use Rattle.job_ends.specs.Plans.{Plan}
 use Rattle.job_ends.specs.declared.status.Status.{Status}
@@ -26,6 +26,8 @@ pub record FollowPlans : Type 0 where
       (s ≡ status.OutOfMemory))
   pub whole : (old new : Output) (plan : Plan) (s : Status) → EndsBy old new plan s →
       is_fault s ≡ false → (s ≡ plan.status) × Appends old.told new.told plan.text
+  pub traces : (old new : Output) (plan : Plan) (s : Status) → EndsBy old new plan s →
+      is_traced s ≡ true → (s ≡ plan.status) × Appends old.told new.told plan.text
   pub comes : (old new : Output) (plan : Plan) (s wanted : Status) → EndsBy old new plan s →
       is_fault wanted ≡ false → ComesExactly s wanted (plan.status ≡ wanted)
   pub only : (old new : Output) (plan : Plan) (s wanted : Status) → EndsBy old new plan s →

@@ -25,14 +25,6 @@ pub by-plan : FollowPlans → (old new : Output) (p : Plan) (s : Status) → End
 by-plan follow old new p s e =
     by-statuses s p.status (Rose old.count new.count) (follow.statuses old new p s e)
 
--- a status with a test that fails of the plan's and of faults
-pub test-statuses : (test : Status → Bool) → test status.WriteFault ≡ false →
-    test status.OutOfMemory ≡ false → (s p : Status) (R : Type 0) → test p ≡ false →
-    (s ≡ p) ⊎ (((s ≡ status.WriteFault) × R) ⊎ (s ≡ status.OutOfMemory)) → test s ≡ false
-test-statuses test w m s p R n (inl e) = ap test e ∙ n
-test-statuses test w m s p R n (inr (inl e)) = ap test e.0 ∙ w
-test-statuses test w m s p R n (inr (inr e)) = ap test e ∙ m
-
 -- a status that is told of what was given is not this one
 pub not-told : (s wanted : Status) → is_told s ≡ true → is_told wanted ≡ false → s ≢ wanted
 not-told s wanted t f e = let bad : true ≡ false = sym t ∙ ap is_told e ∙ f in absurd (cc)

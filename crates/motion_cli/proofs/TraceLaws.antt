@@ -10,12 +10,10 @@ use Rattle.job_ends.specs.Plans.{Plan, too_long_plan, unread_plan}
 use Rattle.job_ends.specs.declared.status.Status.{Status}
 use Rattle.job_ends.specs.declared.status.Status.TheVariants as status
 use Rattle.load_job.specs.Ends.{LoadLine}
-use Rattle.outside.specs.Faults.{Rose}
 use Rattle.outside.specs.Told.{FileMap}
 use Rattle.run_job.specs.Headline.{RunHeadline}
 use Rattle.trace_jobs.specs.Migrated.{Migrated}
 use Rattle.trace_text.specs.writing.Writes.{Output}
-use Rattle.motion_cli.proofs.PlanLaws.{test-statuses}
 use Rattle.motion_cli.specs.Ends.{EndsByFound, EndsByRequest}
 use Rattle.motion_cli.specs.Plans.{most_of}
 use Rattle.command_words.specs.Requests.{FileJob, Request, RunFiles, file_of, files_of, load_of, of_file, of_load, of_run}
@@ -25,9 +23,8 @@ use Rattle.command_words.specs.declared.request.Job.TheVariants.{Bench, Migrate}
 untraced : FollowPlans → (old new : Output) (p : Plan) (s : Status) → EndsBy old new p s →
     is_traced p.status ≡ false → is_traced s ≡ true → ⊥
 untraced follow old new p s e n t =
-    let none = test-statuses is_traced refl refl s p.status (Rose old.count new.count) n
-    (follow.statuses old new p s e) in
-    let bad : true ≡ false = sym t ∙ none in absurd (cc)
+    let same = follow.traces old new p s e t in
+    let bad : true ≡ false = sym t ∙ ap is_traced same.0 ∙ n in absurd (cc)
 
 found-headline : FollowPlans → (told : Option FileMap) (rose : Type 0) (name : List ℕ)
     (old new : Output) (s : Status) (found : Found) → IsFound told rose name (most_of Bench) found →

@@ -33,7 +33,7 @@ use std::sync::Wait;
 
 /// Does what the arguments of the process ask for: `top` by their words. Arguments that are no
 /// texts are a faulty command line.
-pub fn top_of_args<F: Files, K: Sink, H: Host + Wait, G: Gate + Drop + Send + 'static>(
+pub fn top_of_args<F: Files, K: Sink, H: Host + Wait + Sync, G: Gate + Drop + Send + 'static>(
     rt: &H,
     alloc: Global,
     args: io::Result<Args>,
@@ -69,7 +69,7 @@ pub fn top_of_args<F: Files, K: Sink, H: Host + Wait, G: Gate + Drop + Send + 's
 }
 
 // Does what the words ask for, if there was memory for them.
-fn top_of_words<F: Files, K: Sink, H: Host + Wait, G: Gate + Drop + Send + 'static>(
+fn top_of_words<F: Files, K: Sink, H: Host + Wait + Sync, G: Gate + Drop + Send + 'static>(
     rt: &H,
     alloc: Global,
     words: Result<Words, OutOfMemory>,
@@ -104,7 +104,7 @@ fn top_of_words<F: Files, K: Sink, H: Host + Wait, G: Gate + Drop + Send + 'stat
 /// generates. Each status comes of its cause; and where the files are there and no count of faults
 /// rose, no fault comes but want of memory. A run waits for its threads, so that it may never
 /// return.
-pub fn top<F: Files, K: Sink, H: Host + Wait, G: Gate + Drop + Send + 'static>(
+pub fn top<F: Files, K: Sink, H: Host + Wait + Sync, G: Gate + Drop + Send + 'static>(
     rt: &H,
     alloc: Global,
     words: &Words,

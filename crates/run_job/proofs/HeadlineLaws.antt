@@ -2,40 +2,34 @@
 use Rattle.std.specs.Prelude.{◌≡◌, ◌⊎◌, refl, ℕ, ◌+◌, true, false, Option, Some, List, map, slice_get}
 use Rattle.std.proofs.Common.{◌∙◌, inl, inr, sym, ap, subst, arith}
 use Rattle.drive_sim.specs.Sim.{DriveSim}
-use Rattle.job_ends.specs.Causes.{is_fault, is_traced}
+use Rattle.job_ends.specs.Causes.{is_traced}
 use Rattle.job_ends.specs.Ends.{EndsBy, EndsEarly}
 use Rattle.job_ends.specs.Follows.{FollowPlans}
+use Rattle.job_ends.specs.Plans.{Plan}
 use Rattle.job_ends.specs.declared.status.Status.{Status}
 use Rattle.job_ends.specs.declared.status.Status.TheVariants as status
 use Rattle.machine_drives.specs.Drives.{drives_at_opening}
 use Rattle.motion_history.specs.Entries.{Entry}
 use Rattle.motion_plant.specs.Ran.{DriveMeets}
-use Rattle.outside.specs.Faults.{Rose}
 use Rattle.outside.specs.Told.{FileMap}
 use Rattle.plc_program.specs.Reading.{Outcome}
 use Rattle.setpoint_ring.specs.declared.logs.DriveLog.{DriveLog}
 use Rattle.trace_text.specs.writing.Writes.{Output}
 use Rattle.run_job.proofs.CauseLaws.{Planned, TellsBy, TellsOf, no-plant, planned}
-use Rattle.run_job.proofs.EndLaws.{Statuses, complete-by, kind-by, of-text-by, refuses-of, unread-of, unwritten-of}
+use Rattle.run_job.proofs.EndLaws.{complete-by, kind-by, of-text-by, refuses-of, unread-of, unwritten-of}
 use Rattle.run_job.proofs.RowLaws.{AreReadBack, rows-same}
 use Rattle.run_job.specs.Causes.{is_of_text, plant_in}
 use Rattle.run_job.specs.Ends.{Course, EndsByBoth, EndsByRun, WritesRun}
 use Rattle.run_job.specs.Headline.{HasEnded, RunHeadline}
 use Rattle.run_job.specs.Plans.{end_row, refused_plan, run_plan}
 
-traced-unfaulted : (s : Status) → is_traced s ≡ true → is_fault s ≡ false
-traced-unfaulted status.Ok t = refl
-traced-unfaulted status.CyclesOver t = refl
-traced-unfaulted status.HistoryFull t = refl
-traced-unfaulted s t = absurd (cc)
-
 -- ---- where there is no trace
 
-untraced : (s p : Status) (R : Type 0) → Statuses s p R → is_traced p ≡ false →
-    is_traced s ≡ true → ⊥
-untraced s p R (inl e) n t = let bad : true ≡ false = sym t ∙ ap is_traced e ∙ n in cc
-untraced s p R (inr (inl e)) n t = let bad : true ≡ false = sym t ∙ ap is_traced e.0 in cc
-untraced s p R (inr (inr e)) n t = let bad : true ≡ false = sym t ∙ ap is_traced e in cc
+untraced : FollowPlans → (old new : Output) (p : Plan) (s : Status) → EndsBy old new p s →
+    is_traced p.status ≡ false → is_traced s ≡ true → ⊥
+untraced follow old new p s e n t =
+    let same = follow.traces old new p s e t in
+    let bad : true ≡ false = sym t ∙ ap is_traced same.0 ∙ n in cc
 
 text-untraced : (s : Status) → is_of_text s ≡ true → is_traced s ≡ false
 text-untraced (status.TooLong word) t = refl
@@ -53,9 +47,7 @@ none-traced : {A : Type 0} → FollowPlans → (told : Option FileMap) (rose : T
 none-traced follow told rose f old new s (inl e) t =
     let bad : true ≡ false = sym t ∙ ap is_traced e.status in cc
 none-traced follow told rose f old new s (inr h) t =
-    untraced s h.plan.status (Rose old.count new.count)
-    (follow.statuses old new h.plan s h.ends)
-    (tells-untraced told rose f h.plan.status h.tells) t
+    untraced follow old new h.plan s h.ends (tells-untraced told rose f h.plan.status h.tells) t
 
 -- ---- where there is one
 
@@ -68,7 +60,7 @@ ran-headline follow back told refuses Started config program old new s b w t =
     let setup = b.outcome.setup in
     let drives = drives_at_opening setup.axes b.machine.drives in
     let plan = run_plan w.writes.status setup w.history (map end_row w.logs) in
-    let whole = follow.whole old new plan s w.writes.ends (traced-unfaulted s t) in
+    let whole = follow.traces old new plan s w.writes.ends t in
     let meets : (i : ℕ) (d : DriveSim) (g : DriveLog) → slice_get drives i ≡ Some d →
     slice_get w.logs i ≡ Some g → DriveMeets d (0 + i) w.history g =
     λ i d g x y. let here : i ≡ 0 + i = omega arith in
@@ -104,8 +96,7 @@ both-headline follow back told refuses Started config program old new s b t = by
   where
     by : _ → RunHeadline told config program old.told new.told Started s
     by (inl w) = ran-headline follow back told refuses Started config program old new s b w t
-    by (inr (inl h)) = absurd (untraced s status.ThreadRefused (Rose old.count new.count)
-        (follow.statuses old new refused_plan s h.1) refl t)
+    by (inr (inl h)) = absurd (untraced follow old new refused_plan s h.1 refl t)
     by (inr (inr h)) = absurd (let bad : true ≡ false = sym t ∙ ap is_traced h.status in cc)
 
 pub headline-of : FollowPlans → AreReadBack → (told : Option FileMap) (rose refuses : Type 0)

@@ -105,18 +105,15 @@ fn run_with(
         words.push(word)?;
     }
     let mut out = MemorySink::new(alloc, &[], u32::MAX)?;
-    let mut spawner: Spawner<HostRuntime, PlantJob<OpenGate>> =
-        Spawner::refusing(*rt, alloc, refused)?;
+    let mut spawner: Spawner<HostRuntime, PlantJob<OpenGate>> = Spawner::refusing(
+        *rt, alloc, refused,
+    )?;
     let status = top(rt, alloc, &words, files, &mut out, &mut spawner, &OpenGate);
     Ok((status, Vec::from_slice(alloc, out.bytes())?))
 }
 
 // How a run of these texts ends, and what it writes.
-fn run_texts(
-    rt: &HostRuntime,
-    machine: &[u8],
-    program: &[u8],
-) -> Result<(Status, Vec<u8>), Fail> {
+fn run_texts(rt: &HostRuntime, machine: &[u8], program: &[u8]) -> Result<(Status, Vec<u8>), Fail> {
     run_with(rt, &mut two_files(rt, machine, program, &[])?, &[])
 }
 

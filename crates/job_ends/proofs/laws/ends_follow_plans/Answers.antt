@@ -1,5 +1,5 @@
 -- The law of plans.
-use Rattle.job_ends.proofs.PlanLaws.{comes, early, only, said, statuses, whole, write}
+use Rattle.job_ends.proofs.PlanLaws.{comes, early, only, said, statuses, traces, whole, write}
 use Rattle.job_ends.proofs.laws.ends_follow_plans.Goals as goal
 
 pub returns : goal.returns
@@ -8,6 +8,7 @@ returns c = record {
   said = said c.parts_are_beginnings.ensures.none;
   statuses = statuses;
   whole = whole;
+  traces = traces;
   comes = comes;
   only = only;
   write = write;

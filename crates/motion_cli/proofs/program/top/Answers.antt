@@ -34,7 +34,7 @@ returns g c =
     subst (λ a. EndsByRequest told rose refused Started a old new s) c.asked.ensures
     c.serve.ensures in
     let at : (map : FileMap) → told ≡ Some map →
-        EndsByRequest (Some map) rose refused Started asked old new s =
+    EndsByRequest (Some map) rose refused Started asked old new s =
     λ map t. subst (λ x. EndsByRequest x rose refused Started asked old new s) t by in
     record {
       ends = by;
