@@ -1,5 +1,5 @@
--- What becomes of the active command of an axis or group, and who is told of it (PLCopen Motion Control Part 1,
--- buffer modes).
+-- What becomes of the active command of an axis or group, and who is told of it (PLCopen Motion
+-- Control Part 1, buffer modes).
 use Rattle.std.specs.Prelude.{◌≡◌, ◌≢◌, ℕ, Bool, false, Option, Some, None, List}
 use Rattle.std.specs.List.{Contains}
 use Rattle.command_pool.specs.declared.ending.Finish.{Finish}
@@ -7,8 +7,8 @@ use Rattle.command_pool.specs.declared.notes.Note.{Note}
 use Rattle.command_pool.specs.declared.wanted.Wanted.{Wanted}
 use Rattle.buffer_modes.specs.Owners.{IsSame, owner_by}
 
--- how the active command ends, if it does, which one becomes active, if one does, and whether the active one is a
--- move that is blended, as one of an axis may be
+-- how the active command ends, if it does, which one becomes active, if one does, and whether the
+-- active one is a move that is blended, as one of an axis may be
 pub record Fate : Type 0 where
   pub ends : Option Finish
   pub begins : Option Wanted
@@ -30,7 +30,8 @@ pub record IsFate (f : Fate) (before now : Option Wanted) : Type 0 where
   pub goes_on : f.ends ≡ None → f.begins ≡ None → IsSame before now
   pub was : f.ends ≢ None → before ≢ None
 
--- among some notes one tells the instance that has the active command how that ended, where this fate ends it
+-- among some notes one tells the instance that has the active command how that ended, where this
+-- fate ends it
 abbrev pub TellsOwner : Fate → Option Wanted → List Note → Type 0
 TellsOwner f active notes = (owner : ℕ) (g : Finish) → f.ends ≡ Some g →
     owner_by active ≡ Some owner → Contains notes (record { owner = owner; finish = g })

@@ -1,4 +1,5 @@
--- What the laws of owners, of what they are told, and of fates say (PLCopen Motion Control Part 1, general rules).
+-- What the laws of owners, of what they are told, and of fates say (PLCopen Motion Control Part 1,
+-- general rules).
 use Rattle.std.specs.Prelude.{◌≡◌, ◌≢◌, ◌≤◌, ℕ, ◌+◌, Bool, false, nat_eq, Option, Some, None, List, [], ◌∷◌, ◌++◌, length, map}
 use Rattle.command_pool.specs.Waiting.{detached, notes_of, told_to}
 use Rattle.command_pool.specs.declared.ending.Finish.{Finish}
@@ -18,16 +19,19 @@ pub record AreOwners : Type 0 where
   pub waits_more : (k : ℕ) (ws : List Wanted) (w : Wanted) →
       waits_of k (ws ++ w ∷ []) ≡ waits_of k ws + is_owner k w.owner
   -- notes and others behind them
-  pub told_more : (k : ℕ) (notes others : List Note) → told k (notes ++ others) ≡ told k notes + told k others
+  pub told_more : (k : ℕ) (notes others : List Note) →
+      told k (notes ++ others) ≡ told k notes + told k others
   -- an owner is told once
   pub told_once : (k : ℕ) (o : Option ℕ) (f : Finish) → told k (told_to o f) ≡ is_owner k o
   -- of the active command's end its owner is told
   pub told_active : (k : ℕ) (f : Finish) (active : Option Wanted) →
       told k (active_note f active) ≡ is_owner k (owner_by active)
   -- of the ends of those that wait theirs are
-  pub told_waiting : (k : ℕ) (f : Finish) (ws : List Wanted) → told k (notes_of f ws) ≡ waits_of k ws
+  pub told_waiting : (k : ℕ) (f : Finish) (ws : List Wanted) →
+      told k (notes_of f ws) ≡ waits_of k ws
   -- so is that of a Reset that is replaced
-  pub told_reset : (k : ℕ) (p : Option PendingReset) → told k (replaced_note p) ≡ is_owner k (reset_owner p)
+  pub told_reset : (k : ℕ) (p : Option PendingReset) →
+      told k (replaced_note p) ≡ is_owner k (reset_owner p)
   -- at most one note tells of the active command's end
   pub few_active : (f : Finish) (active : Option Wanted) → length (active_note f active) ≤ 1
   -- and at most one of each that waits
@@ -36,7 +40,8 @@ pub record AreOwners : Type 0 where
 -- what an instance has after its commands were taken away from it, and what the others have
 pub record AreTakenAway : Type 0 where
   -- it has no active command
-  pub active : (k : ℕ) (active : Option Wanted) → is_owner k (owner_by (active_without k active)) ≡ 0
+  pub active : (k : ℕ) (active : Option Wanted) →
+      is_owner k (owner_by (active_without k active)) ≡ 0
   -- none that waits
   pub waiting : (k : ℕ) (ws : List Wanted) → waits_of k (map (detached k) ws) ≡ 0
   -- and no pending Reset
@@ -62,14 +67,16 @@ pub record AreFates : Type 0 where
   pub ended : (f : Finish) (before next now : Option Wanted) → now ≡ next →
       IsFate (replaced f before next) before now
   -- it ends, blended or not
-  pub over : (blends : Bool) (f : Finish) (before next now : Option Wanted) → before ≢ None → now ≡ next →
+  pub over : (blends : Bool) (f : Finish) (before next now : Option Wanted) →
+      before ≢ None → now ≡ next →
       IsFate (record { ends = Some f; begins = next; blends = blends }) before now
 
 -- what is told to the owner of the active command
 pub record AreTellings : Type 0 where
   -- where the note of each end is among some notes, they tell it
   pub tells : (f : Fate) (active : Option Wanted) (notes : List Note) →
-      ((g : Finish) → f.ends ≡ Some g → AreAmong (active_note g active) notes) → TellsOwner f active notes
+      ((g : Finish) → f.ends ≡ Some g → AreAmong (active_note g active) notes) →
+      TellsOwner f active notes
   -- so where one that is replaced ends
   pub replaces : (f : Finish) (active next : Option Wanted) (notes : List Note) →
       AreAmong (active_note f active) notes → TellsOwner (replaced f active next) active notes

@@ -1,4 +1,5 @@
--- Which instance has a command, how often, and how often it is told of an end (PLCopen Motion Control Part 1, general rules).
+-- Which instance has a command, how often, and how often it is told of an end (PLCopen Motion
+-- Control Part 1, general rules).
 use Rattle.std.specs.Prelude.{◌≡◌, ℕ, ◌+◌, Bool, true, false, not, nat_eq, Option, Some, None, List, [], ◌∷◌}
 use Rattle.command_pool.specs.Waiting.{without}
 use Rattle.command_pool.specs.declared.notes.Note.{Note}
@@ -14,7 +15,8 @@ abbrev pub active_without : ℕ → Option Wanted → Option Wanted
 active_without owner None = None
 active_without owner (Some w) = Some (record w { owner = without owner w.owner })
 
--- whether nobody holds a state of stopping: no instance has it, or its Execute is false. MC_Stop and MC_GroupStop
+-- whether nobody holds a state of stopping: no instance has it, or its Execute is false. MC_Stop
+-- and MC_GroupStop
 abbrev pub is_released : Option ℕ → Bool → Bool
 is_released None held = true
 is_released (Some owner) held = not held

@@ -1,4 +1,5 @@
--- A Reset of an axis or a group that is pending (PLCopen Motion Control Part 1, MC_Reset; Part 4, MC_GroupReset).
+-- A Reset of an axis or a group that is pending (PLCopen Motion Control Part 1, MC_Reset; Part 4,
+-- MC_GroupReset).
 use Rattle.std.specs.Prelude.{ℕ, Option, Some, None, List, []}
 use Rattle.command_pool.specs.Waiting.{told_to, without}
 use Rattle.command_pool.specs.declared.ending.Finish.TheVariants as finish

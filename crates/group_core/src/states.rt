@@ -36,7 +36,8 @@ pub fn may_fail(state: GroupState) -> bool
 pub fn any_disabled(states: &[AxisState]) -> bool
     ensures { result ≡ list_any axes.is_disabled states.now }
 {
-    states.iter()
+    states
+        .iter()
         .any(|state| matches!(state, AxisState::Disabled))
 }
 
@@ -44,7 +45,8 @@ pub fn any_disabled(states: &[AxisState]) -> bool
 pub fn any_in_error_stop(states: &[AxisState]) -> bool
     ensures { result ≡ list_any axes.is_error_stop states.now }
 {
-    states.iter()
+    states
+        .iter()
         .any(|state| matches!(state, AxisState::ErrorStop))
 }
 
@@ -52,7 +54,8 @@ pub fn any_in_error_stop(states: &[AxisState]) -> bool
 pub fn any_in_stopping(states: &[AxisState]) -> bool
     ensures { result ≡ list_any axes.is_stopping states.now }
 {
-    states.iter()
+    states
+        .iter()
         .any(|state| matches!(state, AxisState::Stopping))
 }
 
@@ -60,13 +63,16 @@ pub fn any_in_stopping(states: &[AxisState]) -> bool
 pub fn any_homing(states: &[AxisState]) -> bool
     ensures { result ≡ list_any axes.is_homing states.now }
 {
-    states.iter().any(|state| matches!(state, AxisState::Homing))
+    states
+        .iter()
+        .any(|state| matches!(state, AxisState::Homing))
 }
 
 /// Whether any of some axes is not in Standstill.
 pub fn any_moved(states: &[AxisState]) -> bool
     ensures { result ≡ list_any spec.is_moved states.now }
 {
-    states.iter()
+    states
+        .iter()
         .any(|state| !matches!(state, AxisState::Standstill))
 }

@@ -2,7 +2,7 @@
 
 ghost use Rattle.std.specs.Prelude.{◌≡◌, ◌<◌, ◌≤◌, IsSomeAnd, length, slice_get};
 ghost use Rattle.motion_history.specs.Calls.{IsCall};
-ghost use Rattle.motion_history.specs.Entries.{cycles_of, end_of};
+ghost use Rattle.motion_history.specs.Entries.{end_of};
 ghost use Rattle.motion_kernel.specs.KernelState.{room_of};
 ghost use Rattle.kernel_turn.specs.Events.{CallTold, CycleTold, EndTold, Makes, call_of, cycle_of};
 
@@ -16,15 +16,6 @@ fn entries_made(kernel: &Kernel) -> u64
     ensures fits { length kernel.now.history ≤ room_of kernel.now }
 {
     kernel.history().entries()
-}
-
-// How many cycles were made, at most the configured number.
-fn cycles_made(kernel: &Kernel) -> u32
-    ensures cycles { result ≡ cycles_of kernel.now.history }
-    ensures few { result ≤ kernel.now.config.cycles }
-{
-    let _ = kernel.history();
-    kernel.config().cycles() - kernel.cycles_left()
 }
 
 // Calls a block where there is room and the history has at least so many cycles.
@@ -41,7 +32,7 @@ pub fn try_call(
     ensures told { CallTold after instance inputs.now kernel.old result }
 {
     let entries = entries_made(kernel);
-    let cycles = cycles_made(kernel);
+    let cycles = kernel.cycles_made();
     if kernel.room_left() == 0 {
         return Turn::Full { entries, cycles };
     }
@@ -66,7 +57,7 @@ pub fn try_cycle(kernel: &mut Kernel, ins: &[DriveIn], outs: &mut [DriveOut]) ->
     ensures told { CycleTold ins.now outs.old outs.new kernel.old kernel.new result }
 {
     let entries = entries_made(kernel);
-    let cycles = cycles_made(kernel);
+    let cycles = kernel.cycles_made();
     if kernel.room_left() == 0 {
         return Turn::Full { entries, cycles };
     }
@@ -81,7 +72,7 @@ pub fn try_cycle(kernel: &mut Kernel, ins: &[DriveIn], outs: &mut [DriveOut]) ->
     kernel.cycle(ins, outs);
     Turn::Made {
         ticket: entries,
-        cycles: cycles_made(kernel),
+        cycles: kernel.cycles_made(),
         answer: kernel.live_tasks(),
     }
 }
@@ -93,7 +84,7 @@ pub fn try_end(kernel: &mut Kernel, task: u8) -> Turn<()>
     ensures told { EndTold kernel.old result }
 {
     let entries = entries_made(kernel);
-    let cycles = cycles_made(kernel);
+    let cycles = kernel.cycles_made();
     if kernel.room_left() == 0 {
         return Turn::Full { entries, cycles };
     }
