@@ -50,14 +50,18 @@ file-read word other o read e =
     by (inl h) = text-read word other o h
     by (inr (text, h)) = absurd (reading-read word other (read text) h)
 
+-- a machine and its program
+abbrev both : Machine → Outcome → Result (Machine × Outcome) Status
+both m o = Ok (m, o)
+
 done-read : (files : FileMap) (program : List ℕ) (word : ℕ) (m : Machine) →
-    (program_in files program m >>= λ o. Ok (m, o)) ≡ Err (status.ReadFault word) →
+    (program_in files program m >>= both m) ≡ Err (status.ReadFault word) →
     (word ≡ 2) × (files program ≡ None)
 done-read files program word m e =
-    by (either-fails (program_in files program m) (λ o. Ok (m, o)) (status.ReadFault word) e)
+    by (either-fails (program_in files program m) (both m) (status.ReadFault word) e)
   where
     by : (program_in files program m ≡ Err (status.ReadFault word)) ⊎
-        ((o : Outcome) × (Ok (m, o) ≡ Err (status.ReadFault word))) →
+        ((o : Outcome) × (both m o ≡ Err (status.ReadFault word))) →
         (word ≡ 2) × (files program ≡ None)
     by (inl h) = file-read 2 word (files program) (program_of m.cycle_us m.config) h
     by (inr (o, h)) = absurd (cc)
@@ -68,11 +72,11 @@ pub lacks-word : (files : FileMap) (config program : List ℕ) (word : ℕ) →
 unfolding plant_in
 lacks-word files config program word e =
     by (either-fails (machine_in files config)
-    (λ m. program_in files program m >>= λ o. Ok (m, o)) (status.ReadFault word) e)
+    (λ m. program_in files program m >>= both m) (status.ReadFault word) e)
   where
     by : (machine_in files config ≡ Err (status.ReadFault word)) ⊎
         ((m : Machine) ×
-        ((program_in files program m >>= λ o. Ok (m, o)) ≡ Err (status.ReadFault word))) →
+        ((program_in files program m >>= both m) ≡ Err (status.ReadFault word))) →
         LacksWord files config program word
     by (inl h) = inl (file-read 1 word (files config) machine_of h)
     by (inr (m, h)) = inr (done-read files program word m h)

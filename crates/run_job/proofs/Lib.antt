@@ -1,3 +1,4 @@
+pub mod PlantLaws
 pub mod RowLaws
 pub mod CauseLaws
 pub mod LackLaws
