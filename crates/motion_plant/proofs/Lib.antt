@@ -10,6 +10,5 @@ pub mod CycleSteps
 pub mod JoinedPasses
 pub mod WholeRun
 pub mod Meets
-pub mod Opening
 pub mod Started
 pub mod CycleLaws

@@ -15,19 +15,33 @@ use outside::Gate;
 use std::sync::Wait;
 use task_run::Caller;
 
+/// Where a task makes its turns: the kernel's turns, the gate of each, and the task's number.
+#[derive(Drop)]
+pub struct TaskTurns<'a, G: Gate + Drop> {
+    pub turn: &'a KernelTurn,
+    pub gate: &'a G,
+    pub task: u8,
+}
+
+/// A call that is to be made, once so many cycles were made.
+#[derive(Drop)]
+pub struct NextCall<'a> {
+    pub after: u32,
+    pub instance: u16,
+    pub inputs: &'a Inputs,
+}
+
 /// Makes the calls of a task by a pass of a kernel's turns, each turn through a gate.
 #[derive(Drop)]
 pub struct TurnCaller<'a, G: Gate + Drop> {
-    pub turn: &'a KernelTurn,
-    pub gate: &'a G,
+    pub turns: &'a TaskTurns<'a, G>,
     pub pass: Pass,
-    pub task: u8,
     pub asks_rest: bool,
     /// How many cycles came before the last call.
     pub last: u32,
     pub was_refused: bool,
-    pub ghost own: { pass.table ≡ turn.now },
-    pub ghost owns: { Owns (IsBy pass.config task) pass.own pass.seen },
+    pub ghost own: { pass.table ≡ turns.now.turn.now },
+    pub ghost owns: { Owns (IsBy pass.config turns.now.task) pass.own pass.seen },
     pub ghost calls: { AreCalls (own_entries pass.own pass.seen) },
     pub ghost last_is: { last ≡
         cycles_from 0 (logged_calls (own_entries pass.own pass.seen)) },
@@ -46,24 +60,19 @@ impl<'a, G: Gate + Drop> Caller for TurnCaller<'a, G> {
 
     ghost told = { λ c. record {
       config = c.pass.config;
-      task = c.task;
+      task = c.turns.now.task;
       calls = logged_calls (own_entries c.pass.own c.pass.seen);
       rests = c.asks_rest;
       refused = c.was_refused;
     } };
 
     fn call<R: Wait>(&mut self, rt: &R, instance: u16, inputs: &Inputs) -> Option<Outputs> {
-        let after = first_cycle(self.asks_rest, self.last);
-        match call_until(
-            rt,
-            self.turn,
-            self.gate,
-            &mut self.pass,
-            self.task,
-            after,
+        let next = NextCall {
+            after: first_cycle(self.asks_rest, self.last),
             instance,
             inputs,
-        ) {
+        };
+        match call_until(rt, self.turns, &mut self.pass, &next) {
             Some((reply, cycles)) => {
                 self.last = cycles;
                 self.asks_rest = false;
@@ -90,36 +99,40 @@ fn first_cycle(rests: bool, last: u32) -> u32
 }
 
 // Repeats a call until it is made or refused.
-fn call_until<R: Wait, G: Gate>(
+fn call_until<R: Wait, G: Gate + Drop>(
     rt: &R,
-    turn: &KernelTurn,
-    gate: &G,
+    turns: &TaskTurns<G>,
     pass: &mut Pass,
-    task: u8,
-    after: u32,
-    instance: u16,
-    inputs: &Inputs,
+    next: &NextCall,
 ) -> Option<(Outputs, u32)>
-    requires own { pass.old.table ≡ turn.now }
-    requires task { IsSomeAnd (slice_get pass.old.config.blocks instance) (λ b. b.task ≡ task) }
-    requires call { IsCall pass.old.config instance inputs.now }
-    requires owns { Owns (IsBy pass.old.config task) pass.old.own pass.old.seen }
+    requires own { pass.old.table ≡ turns.now.turn.now }
+    requires task { IsSomeAnd (slice_get pass.old.config.blocks next.now.instance)
+        (λ b. b.task ≡ turns.now.task) }
+    requires call { IsCall pass.old.config next.now.instance next.now.inputs.now }
+    requires owns { Owns (IsBy pass.old.config turns.now.task) pass.old.own pass.old.seen }
     ensures fixed { fixed_part pass.new ≡ fixed_part pass.old }
-    ensures owns { Owns (IsBy pass.old.config task) pass.new.own pass.new.seen }
+    ensures owns { Owns (IsBy pass.old.config turns.now.task) pass.new.own pass.new.seen }
     ensures longer { cycles_of pass.old.seen ≤ cycles_of pass.new.seen }
     ensures some { IfSome result (λ r. (before : List Entry) ×
         (own_entries pass.new.own pass.new.seen ≡ own_entries pass.old.own pass.old.seen ++
-        record { before = before; entry = call instance inputs.now r.0 } ∷ []) ×
-        (r.1 ≡ cycles_of before) × (after ≤ r.1) × (cycles_of pass.old.seen ≤ r.1) ×
+        record { before = before; entry = call next.now.instance next.now.inputs.now r.0 } ∷ []) ×
+        (r.1 ≡ cycles_of before) × (next.now.after ≤ r.1) × (cycles_of pass.old.seen ≤ r.1) ×
         (r.1 ≤ cycles_of pass.new.seen) × (r.1 ≤ pass.old.config.cycles)) }
     ensures none { IfNone result
         (own_entries pass.new.own pass.new.seen ≡ own_entries pass.old.own pass.old.seen) }
 {
     let backoff = Backoff::new();
     for _ in rt.forever() {
-        gate.before(task);
-        let answer = turn.turn_call(rt, pass, task, after, instance, inputs);
-        gate.after(task);
+        turns.gate.before(turns.task);
+        let answer = turns.turn.turn_call(
+            rt,
+            pass,
+            turns.task,
+            next.after,
+            next.instance,
+            next.inputs,
+        );
+        turns.gate.after(turns.task);
         match answer {
             Turn::Made { cycles, answer, .. } => return Some((answer, cycles)),
             Turn::Full { .. } => return None,

@@ -1,6 +1,6 @@
 // The cycles: an answer of each drive, a turn, and an output to each drive.
 
-ghost use Rattle.std.specs.Prelude.{◌≡◌, ◌<◌, ◌≤◌, ◌+◌, [], List, Some, false, length, slice_get, slice_set};
+ghost use Rattle.std.specs.Prelude.{◌≡◌, ◌<◌, ◌≤◌, ◌+◌, [], List, Some, false, length, slice_get, slice_set, vec_len};
 ghost use Rattle.drive_jobs.specs.LineState.{LineState};
 ghost use Rattle.kernel_turn.specs.PassState.{PassState};
 ghost use Rattle.motion_history.specs.declared.sizes.TheConstants.{MOST_CYCLES};
@@ -11,6 +11,7 @@ ghost use Rattle.motion_plant.specs.Makers.{IsUpTo, Owns};
 ghost use Rattle.motion_plant.specs.Places.{Each, zip_with};
 ghost use Rattle.setpoint_ring.specs.declared.TheConstants.{MOST_OUTPUTS};
 
+use crate::rooms::CycleRoom;
 use crossbeam_utils::Backoff;
 use drive_jobs::Line;
 use kernel_turn::{DriveIn, DriveOut, KernelTurn, Pass, Turn};
@@ -128,27 +129,29 @@ fn one_cycle<R: Wait>(
     turn: &KernelTurn,
     pass: &mut Pass,
     lines: &mut Vec<Line>,
-    ins: &mut [DriveIn],
-    outs: &mut [DriveOut],
-    made: u32,
-    most: u32,
+    room: &mut CycleRoom,
 ) -> Step
     requires own { pass.old.table ≡ turn.now }
     requires cycling { (first : PassState) × (ls : List LineState) ×
-        IsCycling first ls made pass.old lines.old.items }
-    requires width { (length ins.old ≡ length pass.old.config.axes) ×
-        (length outs.old ≡ length pass.old.config.axes) }
-    requires few { (pass.old.config.cycles ≤ MOST_CYCLES) × (most ≡ pass.old.config.cycles) }
-    ensures width { (length ins.new ≡ length ins.old) × (length outs.new ≡ length outs.old) }
+        IsCycling first ls room.old.made pass.old lines.old.items }
+    requires width { (vec_len room.old.ins ≡ length pass.old.config.axes) ×
+        (vec_len room.old.outs ≡ length pass.old.config.axes) }
+    requires few { (pass.old.config.cycles ≤ MOST_CYCLES) ×
+        (room.old.most ≡ pass.old.config.cycles) }
+    ensures width { (vec_len room.new.ins ≡ vec_len room.old.ins) ×
+        (vec_len room.new.outs ≡ vec_len room.old.outs) }
+    ensures kept { (room.new.made ≡ room.old.made) × (room.new.most ≡ room.old.most) }
     ensures own { (pass.new.table ≡ pass.old.table) × (pass.new.config ≡ pass.old.config) }
     ensures cycled { (first : PassState) → (ls : List LineState) →
-        IsCycling first ls made pass.old lines.old.items →
-        Cycled first ls made pass.new lines.new.items result }
+        IsCycling first ls room.old.made pass.old lines.old.items →
+        Cycled first ls room.old.made pass.new lines.new.items result }
 {
+    let ins = room.ins.as_mut_slice();
+    let outs = room.outs.as_mut_slice();
     take_all(rt, lines, ins);
-    match cycle_until(rt, turn, pass, ins, outs, most) {
+    match cycle_until(rt, turn, pass, ins, outs, room.most) {
         Step::Made { live } => {
-            push_all(rt, lines, outs, made + 1);
+            push_all(rt, lines, outs, room.made + 1);
             Step::Made { live }
         }
         Step::Over => Step::Over,
@@ -163,23 +166,22 @@ pub fn run_cycles<R: Wait>(
     turn: &KernelTurn,
     pass: &mut Pass,
     lines: &mut Vec<Line>,
-    ins: &mut [DriveIn],
-    outs: &mut [DriveOut],
-    most: u32,
+    room: &mut CycleRoom,
 ) -> Ending
     requires own { pass.old.table ≡ turn.now }
-    requires fresh { (pass.old.own ≡ []) × Each (IsInStep []) lines.old.items }
+    requires fresh { (pass.old.own ≡ []) × Each (IsInStep []) lines.old.items ×
+        (room.old.made ≡ 0) }
     requires width { (length lines.old.items ≡ length pass.old.config.axes) ×
-        (length ins.old ≡ length pass.old.config.axes) ×
-        (length outs.old ≡ length pass.old.config.axes) }
-    requires few { (pass.old.config.cycles ≤ MOST_CYCLES) × (most ≡ pass.old.config.cycles) }
+        (vec_len room.old.ins ≡ length pass.old.config.axes) ×
+        (vec_len room.old.outs ≡ length pass.old.config.axes) }
+    requires few { (pass.old.config.cycles ≤ MOST_CYCLES) ×
+        (room.old.most ≡ pass.old.config.cycles) }
     ensures cycled { IsCycled pass.old lines.old.items pass.new lines.new.items result }
 {
-    let mut made = 0u32;
     for _ in rt.forever() {
-        match one_cycle(rt, turn, pass, lines, ins, outs, made, most) {
+        match one_cycle(rt, turn, pass, lines, room) {
             Step::Made { live } => {
-                made += 1;
+                room.made += 1;
                 if live == 0 {
                     return Ending::Done;
                 }

@@ -1,6 +1,7 @@
 // From the start of all jobs to the close of the kernel's turns.
 
 ghost use Rattle.std.specs.Prelude.{◌≡◌, ◌≤◌, ◌+◌, [], List, Some, false, length, map, slice_get, true, vec_capacity, vec_len};
+ghost use Rattle.std.specs.Arc.{arc_value};
 ghost use Rattle.drive_jobs.specs.LineState.{LineState};
 ghost use Rattle.kernel_turn.specs.PassState.{PassState};
 ghost use Rattle.motion_history.specs.declared.sizes.TheConstants.{MOST_CYCLES};
@@ -15,7 +16,7 @@ ghost use Rattle.outside.specs.declared.TheConstants.{MOST_JOBS};
 use crate::cycles::{Ending, run_cycles};
 use crate::joins::{finish_drives, finish_tasks};
 use crate::plant_job::PlantJob;
-use crate::rooms::{CycleRoom, Seats};
+use crate::rooms::{CycleRoom, OpenKernel, StartedJobs};
 use drive_jobs::Line;
 use kernel_turn::{Kernel, KernelTurn, Pass};
 use motion_laws::histories_keep_their_laws;
@@ -57,46 +58,45 @@ pub fn end_all(lines: &mut Vec<Line>)
 pub fn run_started<H: Host + Wait, G: Gate + Drop + Send + 'static>(
     rt: &H,
     spawner: &mut Spawner<H, PlantJob<G>>,
-    base: u32,
-    turn: &KernelTurn,
-    pass: Pass,
-    lines: Vec<Line>,
-    seats: &Seats<G>,
+    opened: OpenKernel,
+    jobs: StartedJobs<G>,
     room: CycleRoom,
-    most: u32,
 ) -> PlantEnd
-    requires started { AreDrivesAt spawner.old.jobs base lines.items ×
-        AreTasksAt spawner.old.jobs (base + length lines.items) seats.now.items }
-    requires few { (base + length lines.items + length seats.now.items ≤ MOST_JOBS) ×
-        (pass.config.cycles ≤ MOST_CYCLES) × (most ≡ pass.config.cycles) }
-    requires own { (pass.table ≡ turn.now) × (pass.opening ≡ true) × (pass.own ≡ []) ×
-        (pass.out ≡ length seats.now.items) × (pass.made_stop ≡ false) }
-    requires seats { Each (IsSeated turn.now pass.config) seats.now.items }
-    requires fresh { Each (IsInStep []) lines.items }
-    requires width { (length lines.items ≡ length pass.config.axes) ×
-        (vec_len room.ins ≡ length pass.config.axes) ×
-        (vec_len room.outs ≡ length pass.config.axes) }
-    requires room { (room.logs.items ≡ []) × (length lines.items ≤ vec_capacity room.logs) }
-    ensures meets { PlantMeets pass.config lines.items seats.now.items
+    requires started { AreDrivesAt spawner.old.jobs jobs.base jobs.lines.items ×
+        AreTasksAt spawner.old.jobs (jobs.base + length jobs.lines.items) jobs.seats.items }
+    requires few { (jobs.base + length jobs.lines.items + length jobs.seats.items ≤ MOST_JOBS) ×
+        (opened.pass.config.cycles ≤ MOST_CYCLES) }
+    requires own { (opened.pass.table ≡ arc_value opened.turn) × (opened.pass.opening ≡ true) ×
+        (opened.pass.own ≡ []) × (opened.pass.out ≡ length jobs.seats.items) ×
+        (opened.pass.made_stop ≡ false) }
+    requires seats { Each (IsSeated (arc_value opened.turn) opened.pass.config) jobs.seats.items }
+    requires fresh { Each (IsInStep []) jobs.lines.items }
+    requires width { (length jobs.lines.items ≡ length opened.pass.config.axes) ×
+        (vec_len room.ins ≡ length opened.pass.config.axes) ×
+        (vec_len room.outs ≡ length opened.pass.config.axes) }
+    requires room { (room.made ≡ 0) × (room.most ≡ opened.pass.config.cycles) ×
+        (jobs.logs.items ≡ []) × (length jobs.lines.items ≤ vec_capacity jobs.logs) }
+    ensures meets { PlantMeets opened.pass.config jobs.lines.items jobs.seats.items
         result.kernel.history result.drives.items }
-    ensures config { result.kernel.config ≡ pass.config }
-    ensures logs { length result.drives.items ≡ length lines.items }
+    ensures config { result.kernel.config ≡ opened.pass.config }
+    ensures logs { length result.drives.items ≡ length jobs.lines.items }
     ensures same { (spawner.new.faults ≡ spawner.old.faults) ×
         (length spawner.new.jobs ≡ length spawner.old.jobs) }
 {
-    let CycleRoom {
-        mut ins,
-        mut outs,
+    let OpenKernel { turn, mut pass } = opened;
+    let StartedJobs {
+        base,
+        mut lines,
+        seats,
         mut logs,
-    } = room;
-    let mut pass = pass;
-    let mut lines = lines;
-    let ending = run_cycles(rt, turn, &mut pass, &mut lines, &mut ins, &mut outs, most);
-    stop_if_over(rt, turn, &mut pass, ending);
+    } = jobs;
+    let mut room = room;
+    let ending = run_cycles(rt, &turn, &mut pass, &mut lines, &mut room);
+    stop_if_over(rt, &turn, &mut pass, ending);
     end_all(&mut lines);
     let drives = lines.len() as u32;
     finish_drives(spawner, base, &mut lines, &mut logs);
-    finish_tasks(rt, spawner, base + drives, turn, &mut pass, seats);
+    finish_tasks(spawner, base + drives, &turn, &mut pass, &seats);
     let kernel = turn.close(rt, pass);
     histories_keep_their_laws();
     kernel.history();

@@ -1,6 +1,7 @@
 // The way out where not all jobs could be started.
 
 ghost use Rattle.std.specs.Prelude.{◌≡◌, ◌≤◌, ◌+◌, ℕ, Some, length, slice_get};
+ghost use Rattle.std.specs.Arc.{arc_value};
 ghost use Rattle.motion_plant.specs.Jobs.{AreDrivesAt, AreTasksAt};
 ghost use Rattle.motion_plant.specs.Places.{Each};
 ghost use Rattle.outside.specs.declared.TheConstants.{MOST_JOBS};
@@ -8,9 +9,8 @@ ghost use Rattle.outside.specs.declared.TheConstants.{MOST_JOBS};
 use crate::finish::end_all;
 use crate::joins::{join_drive, join_task};
 use crate::plant_job::PlantJob;
-use crate::rooms::Seats;
+use crate::rooms::{OpenKernel, Seats, StartedJobs};
 use drive_jobs::Line;
-use kernel_turn::{KernelTurn, Pass};
 use outside::{Gate, Host, Spawner};
 use std::sync::Wait;
 
@@ -47,26 +47,28 @@ fn drop_tasks<H: Host + Wait, G: Gate + Drop + Send + 'static>(
 }
 
 /// Stops the kernel, so that the tasks end, tells the drives that no output comes, and joins all
-/// that were started from a number on.
+/// that were started.
 pub fn give_up<H: Host + Wait, G: Gate + Drop + Send + 'static>(
     rt: &H,
     spawner: &mut Spawner<H, PlantJob<G>>,
-    base: u32,
-    turn: &KernelTurn,
-    pass: Pass,
-    lines: Vec<Line>,
-    seats: &Seats<G>,
+    opened: OpenKernel,
+    jobs: StartedJobs<G>,
 )
-    requires started { AreDrivesAt spawner.old.jobs base lines.items ×
-        AreTasksAt spawner.old.jobs (base + length lines.items) seats.now.items }
-    requires few { base + length lines.items + length seats.now.items ≤ MOST_JOBS }
-    requires own { pass.table ≡ turn.now }
+    requires started { AreDrivesAt spawner.old.jobs jobs.base jobs.lines.items ×
+        AreTasksAt spawner.old.jobs (jobs.base + length jobs.lines.items) jobs.seats.items }
+    requires few { jobs.base + length jobs.lines.items + length jobs.seats.items ≤ MOST_JOBS }
+    requires own { opened.pass.table ≡ arc_value opened.turn }
     ensures same { spawner.new.faults ≡ spawner.old.faults }
 {
-    let mut pass = pass;
-    let mut lines = lines;
+    let OpenKernel { turn, mut pass } = opened;
+    let StartedJobs {
+        base,
+        mut lines,
+        seats,
+        ..
+    } = jobs;
     turn.turn_stop(rt, &mut pass);
     end_all(&mut lines);
     drop_drives(spawner, base, &lines);
-    drop_tasks(spawner, base + lines.len() as u32, seats);
+    drop_tasks(spawner, base + lines.len() as u32, &seats);
 }

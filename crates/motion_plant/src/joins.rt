@@ -98,7 +98,6 @@ pub fn finish_drives<H: Host + Wait, G: Gate + Drop + Send + 'static>(
 
 // Joins a task, and its pass into the opening pass.
 fn finish_task<H: Host + Wait, G: Gate + Drop + Send + 'static>(
-    rt: &H,
     spawner: &mut Spawner<H, PlantJob<G>>,
     number: u32,
     turn: &KernelTurn,
@@ -119,7 +118,6 @@ fn finish_task<H: Host + Wait, G: Gate + Drop + Send + 'static>(
 
 /// Joins the tasks, whose jobs begin at a number, and their passes into the opening pass.
 pub fn finish_tasks<H: Host + Wait, G: Gate + Drop + Send + 'static>(
-    rt: &H,
     spawner: &mut Spawner<H, PlantJob<G>>,
     base: u32,
     turn: &KernelTurn,
@@ -140,6 +138,6 @@ pub fn finish_tasks<H: Host + Wait, G: Gate + Drop + Send + 'static>(
         (length spawner.new.jobs ≡ length spawner.old.jobs) }
 {
     for i in 0..seats.len() {
-        finish_task(rt, spawner, base + i as u32, turn, pass, &seats[i]);
+        finish_task(spawner, base + i as u32, turn, pass, &seats[i]);
     }
 }

@@ -15,9 +15,9 @@ use crate::fault::PlantFault;
 use crate::finish::{PlantEnd, run_started};
 use crate::give_up::give_up;
 use crate::plant_job::PlantJob;
-use crate::rooms::{Rooms, make_rooms};
-use crate::starts::{start_drives, start_tasks};
-use kernel_turn::{Kernel, KernelTurn, Pass};
+use crate::rooms::{OpenKernel, make_cycle_room, make_room};
+use crate::starts::{Shared, start_drives, start_tasks};
+use kernel_turn::{Kernel, KernelTurn};
 use motion_history::{Config, DriveDefs};
 use outside::{Gate, Host, MOST_JOBS, Spawner};
 use plc_program::Program;
@@ -33,8 +33,8 @@ pub struct Plant {
 }
 
 // Opens a kernel and its turns.
-fn open_turn(alloc: Global, config: &Config) -> Result<(Arc<KernelTurn>, Pass), PlantFault>
-    ensures first { IfOk result (λ r. r.1 ≡ opening_pass (arc_value r.0) config.now) }
+fn open_turn(alloc: Global, config: &Config) -> Result<OpenKernel, PlantFault>
+    ensures first { IfOk result (λ r. r.pass ≡ opening_pass (arc_value r.turn) config.now) }
     ensures memory { IfErr result (λ e. e ≡ PlantFault.OutOfMemory) }
 {
     let Ok(config) = config.copy(alloc) else {
@@ -49,7 +49,7 @@ fn open_turn(alloc: Global, config: &Config) -> Result<(Arc<KernelTurn>, Pass), 
     let Ok(turn) = Arc::new(alloc, turn) else {
         return Err(PlantFault::OutOfMemory);
     };
-    Ok((turn, pass))
+    Ok(OpenKernel { turn, pass })
 }
 
 /// Runs a plant: a thread for each drive and each task, and the cycles here. Each turn of a task
@@ -76,37 +76,28 @@ pub fn run_plant<H: Host + Wait, G: Gate + Drop + Send + 'static>(
     ensures refused { IfErr result (λ e. e ≡ ThreadRefused →
         Rose spawner.old.faults spawner.new.faults) }
 {
-    let base = spawner.started();
     let axes = setup.config.axes();
-    let tasks = setup.program.tasks();
-    let most = setup.config.cycles();
-    let Ok(
-        Rooms {
-            mut lines,
-            mut seats,
-            cycles,
-        },
-    ) = make_rooms(alloc, axes.len(), tasks as usize)
-    else {
+    let tasks = setup.program.tasks() as usize;
+    let Ok(mut jobs) = make_room(alloc, spawner.started(), axes.len(), tasks) else {
         return Err(PlantFault::OutOfMemory);
     };
-    let (turn, mut pass) = open_turn(alloc, &setup.config)?;
-    if let Err(fault) = start_drives(spawner, alloc, axes, setup.drives.as_slice(), &mut lines) {
-        give_up(rt, spawner, base, &turn, pass, lines, &seats);
+    let Ok(room) = make_cycle_room(alloc, axes.len(), setup.config.cycles()) else {
+        return Err(PlantFault::OutOfMemory);
+    };
+    let mut opened = open_turn(alloc, &setup.config)?;
+    let defs = setup.drives.as_slice();
+    if let Err(fault) = start_drives(spawner, alloc, axes, defs, &mut jobs.lines) {
+        give_up(rt, spawner, opened, jobs);
         return Err(fault);
     }
-    if let Err(fault) = start_tasks(
-        rt,
-        spawner,
-        &turn,
-        &mut pass,
-        &setup.program,
+    let shared = Shared {
+        turn: &opened.turn,
+        program: &setup.program,
         gate,
-        tasks,
-        &mut seats,
-    ) {
-        give_up(rt, spawner, base, &turn, pass, lines, &seats);
+    };
+    if let Err(fault) = start_tasks(spawner, &shared, &mut opened.pass, &mut jobs.seats) {
+        give_up(rt, spawner, opened, jobs);
         return Err(fault);
     }
-    Ok(run_started(rt, spawner, base, &turn, pass, lines, &seats, cycles, most))
+    Ok(run_started(rt, spawner, opened, jobs, room))
 }

@@ -1,32 +1,44 @@
-// The memory that a plant takes before it starts anything.
+// What a plant keeps of what it has started, and the memory that it takes before it starts anything.
 
 ghost use Rattle.std.specs.Prelude.{◌≡◌, ◌<◌, ◌≤◌, ◌+◌, ◌++◌, ◌∷◌, [], IfOk, vec_capacity, vec_len};
 
 use crate::task_job::TaskJob;
 use drive_jobs::Line;
-use kernel_turn::{DriveIn, DriveOut};
+use kernel_turn::{DriveIn, DriveOut, KernelTurn, Pass};
 use outside::Gate;
 use setpoint_ring::DriveLog;
 use std::alloc::{AllocError, Global};
 use std::snapshot::Snapshot;
+use std::sync::Arc;
+
+/// A kernel that was opened: its turns, and the opening pass.
+#[derive(Drop)]
+pub struct OpenKernel {
+    pub turn: Arc<KernelTurn>,
+    pub pass: Pass,
+}
 
 /// The jobs of the tasks, as they were started, by their numbers.
 pub type Seats<G> = Vec<Snapshot<TaskJob<G>>>;
 
-/// Room for the lines to the drives, for the tasks, and for what the cycles need.
+/// What was started, from the job of this number on: the drives, with the lines to them, and the
+/// tasks; and room for the drives' logs.
 #[derive(Drop)]
-pub struct Rooms<G: Gate + Drop> {
+pub struct StartedJobs<G: Gate + Drop> {
+    pub base: u32,
     pub lines: Vec<Line>,
     pub seats: Seats<G>,
-    pub cycles: CycleRoom,
+    pub logs: Vec<DriveLog>,
 }
 
-/// Room for an answer and an output of each drive, and for the drives' logs.
+/// Room for an answer and an output of each drive, how many cycles were made, and how many there
+/// may be.
 #[derive(Drop)]
 pub struct CycleRoom {
     pub ins: Vec<DriveIn>,
     pub outs: Vec<DriveOut>,
-    pub logs: Vec<DriveLog>,
+    pub made: u32,
+    pub most: u32,
 }
 
 const NO_ANSWER: DriveIn = DriveIn {
@@ -41,28 +53,43 @@ const NO_OUTPUT: DriveOut = DriveOut {
     target: 0,
 };
 
-/// Room for so many drives and tasks.
-pub fn make_rooms<G: Gate + Drop>(
+/// Room for so many drives and tasks, of which none was started.
+pub fn make_room<G: Gate + Drop>(
     alloc: Global,
+    base: u32,
     drives: usize,
     tasks: usize,
-) -> Result<Rooms<G>, AllocError>
+) -> Result<StartedJobs<G>, AllocError>
     requires few { (drives ≤ 1000) × (tasks ≤ 1000) }
+    ensures base { IfOk result (λ r. r.base ≡ base) }
     ensures lines { IfOk result (λ r. (r.lines.items ≡ []) × (drives ≤ vec_capacity r.lines)) }
     ensures seats { IfOk result (λ r. (r.seats.items ≡ []) × (tasks ≤ vec_capacity r.seats)) }
-    ensures cycles { IfOk result (λ r. (vec_len r.cycles.ins ≡ drives) ×
-        (vec_len r.cycles.outs ≡ drives) × (r.cycles.logs.items ≡ []) ×
-        (drives ≤ vec_capacity r.cycles.logs)) }
+    ensures logs { IfOk result (λ r. (r.logs.items ≡ []) × (drives ≤ vec_capacity r.logs)) }
 {
     let lines = Vec::with_capacity(alloc, drives)?;
     let seats = Vec::with_capacity(alloc, tasks)?;
-    let ins = vec![in alloc; NO_ANSWER; drives]?;
-    let outs = vec![in alloc; NO_OUTPUT; drives]?;
     let logs = Vec::with_capacity(alloc, drives)?;
-    Ok(Rooms {
+    Ok(StartedJobs {
+        base,
         lines,
         seats,
-        cycles: CycleRoom { ins, outs, logs },
+        logs,
+    })
+}
+
+/// Room for the cycles of so many drives, of which none was made.
+pub fn make_cycle_room(alloc: Global, drives: usize, most: u32) -> Result<CycleRoom, AllocError>
+    requires few { drives ≤ 1000 }
+    ensures width { IfOk result (λ r. (vec_len r.ins ≡ drives) × (vec_len r.outs ≡ drives)) }
+    ensures none { IfOk result (λ r. (r.made ≡ 0) × (r.most ≡ most)) }
+{
+    let ins = vec![in alloc; NO_ANSWER; drives]?;
+    let outs = vec![in alloc; NO_OUTPUT; drives]?;
+    Ok(CycleRoom {
+        ins,
+        outs,
+        made: 0,
+        most,
     })
 }
 

@@ -24,7 +24,7 @@ use axis_state::AxisDef;
 use drive_jobs::{Line, start_line};
 use drive_sim::Drive;
 use kernel_turn::{KernelTurn, Pass};
-use machine_drives::open_drive;
+use machine_drives::{drives_can_be_opened, open_drive};
 use motion_history::DriveDef;
 use outside::{Gate, Host, MOST_JOBS, Spawner};
 use plc_program::Program;
@@ -80,6 +80,7 @@ pub fn start_drives<H: Host + Wait, G: Gate + Drop + Send + 'static>(
         Rose spawner.old.faults spawner.new.faults) }
     ensures faults { OnOk result (spawner.new.faults ≡ spawner.old.faults) }
 {
+    drives_can_be_opened();
     for i in 0..axes.len() {
         let Ok(drive) = open_drive(alloc, &axes[i], &defs[i]) else {
             return Err(PlantFault::OutOfMemory);
@@ -90,25 +91,31 @@ pub fn start_drives<H: Host + Wait, G: Gate + Drop + Send + 'static>(
     Ok(())
 }
 
+/// What the tasks of a plant share: the kernel's turns, the program, and the gate whose twins they
+/// get.
+#[derive(Drop)]
+pub struct Shared<'a, G: Gate + Drop> {
+    pub turn: &'a Arc<KernelTurn>,
+    pub program: &'a Arc<Program>,
+    pub gate: &'a G,
+}
+
 // Starts a task by a pass that is split from this one, and shows its job.
 fn start_task<H: Host + Wait, G: Gate + Drop + Send + 'static>(
-    rt: &H,
     spawner: &mut Spawner<H, PlantJob<G>>,
-    turn: &Arc<KernelTurn>,
+    shared: &Shared<G>,
     pass: &mut Pass,
-    program: &Arc<Program>,
-    gate: &G,
     task: u8,
 ) -> Result<Snapshot<TaskJob<G>>, PlantFault>
     requires few { length spawner.old.jobs < MOST_JOBS }
-    requires own { (pass.old.table ≡ arc_value turn.now) × (pass.old.opening ≡ true) ×
+    requires own { (pass.old.table ≡ arc_value shared.now.turn.now) × (pass.old.opening ≡ true) ×
         (pass.old.out < MOST_OUT) }
     requires small { pass.old.config.cycles ≤ MOST_CYCLES }
-    requires program { IsProgramOf pass.old.config (arc_value program.now) }
-    requires task { task < length (arc_value program.now) }
+    requires program { IsProgramOf pass.old.config (arc_value shared.now.program.now) }
+    requires task { task < length (arc_value shared.now.program.now) }
     ensures started { IfOk result (λ s.
         (spawner.new.jobs ≡ spawner.old.jobs ++ seat_job s ∷ []) ×
-        IsSeat (arc_value program.now) pass.old task s.value ×
+        IsSeat (arc_value shared.now.program.now) pass.old task s.value ×
         (pass.new ≡ pass_after_split pass.old)) }
     ensures kept { OnErr result (spawner.new.jobs ≡ spawner.old.jobs) }
     ensures faults { OnOk result (spawner.new.faults ≡ spawner.old.faults) }
@@ -116,18 +123,18 @@ fn start_task<H: Host + Wait, G: Gate + Drop + Send + 'static>(
     ensures refused { IfErr result (λ e. e ≡ ThreadRefused →
         Rose spawner.old.faults spawner.new.faults) }
 {
-    let (Ok(theirs), Ok(copy), Ok(gate)) = (
-        Arc::try_clone(turn),
-        Arc::try_clone(program),
-        gate.twin(),
+    let (Ok(turn), Ok(program), Ok(gate)) = (
+        Arc::try_clone(shared.turn),
+        Arc::try_clone(shared.program),
+        shared.gate.twin(),
     ) else {
         return Err(PlantFault::OutOfMemory);
     };
-    let run = TaskRun::open(program, task);
+    let run = TaskRun::open(shared.program, task);
     let job = TaskJob {
-        turn: theirs,
-        pass: turn.split(pass),
-        program: copy,
+        turn,
+        pass: shared.turn.split(pass),
+        program,
         run,
         task,
         gate,
@@ -142,35 +149,33 @@ fn start_task<H: Host + Wait, G: Gate + Drop + Send + 'static>(
 /// Starts the tasks of a program in their order, up to the first that can't be started; the jobs of
 /// those that were started are shown in any case.
 pub fn start_tasks<H: Host + Wait, G: Gate + Drop + Send + 'static>(
-    rt: &H,
     spawner: &mut Spawner<H, PlantJob<G>>,
-    turn: &Arc<KernelTurn>,
+    shared: &Shared<G>,
     pass: &mut Pass,
-    program: &Arc<Program>,
-    gate: &G,
-    tasks: u8,
     seats: &mut Seats<G>,
 ) -> Result<(), PlantFault>
     requires none { seats.old.items ≡ [] }
-    requires tasks { tasks ≡ length (arc_value program.now) }
-    requires room { (tasks ≤ vec_capacity seats.old) × (tasks ≤ MOST_TASKS) }
-    requires few { length spawner.old.jobs + tasks ≤ MOST_JOBS }
-    requires own { (pass.old.table ≡ arc_value turn.now) × (pass.old.opening ≡ true) ×
+    requires room { (length (arc_value shared.now.program.now) ≤ vec_capacity seats.old) ×
+        (length (arc_value shared.now.program.now) ≤ MOST_TASKS) }
+    requires few { length spawner.old.jobs + length (arc_value shared.now.program.now) ≤
+        MOST_JOBS }
+    requires own { (pass.old.table ≡ arc_value shared.now.turn.now) × (pass.old.opening ≡ true) ×
         (pass.old.out ≡ 0) }
     requires small { pass.old.config.cycles ≤ MOST_CYCLES }
-    requires program { IsProgramOf pass.old.config (arc_value program.now) }
+    requires program { IsProgramOf pass.old.config (arc_value shared.now.program.now) }
     ensures started { spawner.new.jobs ≡ spawner.old.jobs ++ map seat_job seats.new.items }
-    ensures few { length seats.new.items ≤ tasks }
-    ensures seats { OnOk result ((length seats.new.items ≡ tasks) ×
-        Each (λ n s. IsSeat (arc_value program.now) pass.old n s.value) seats.new.items ×
-        (pass.new ≡ record pass.old { out = tasks })) }
+    ensures few { length seats.new.items ≤ length (arc_value shared.now.program.now) }
+    ensures seats { OnOk result
+        ((length seats.new.items ≡ length (arc_value shared.now.program.now)) ×
+        Each (λ n s. IsSeat (arc_value shared.now.program.now) pass.old n s.value) seats.new.items ×
+        (pass.new ≡ record pass.old { out = length (arc_value shared.now.program.now) })) }
     ensures own { pass.new.table ≡ pass.old.table }
     ensures refused { IfErr result (λ e. e ≡ ThreadRefused →
         Rose spawner.old.faults spawner.new.faults) }
     ensures faults { OnOk result (spawner.new.faults ≡ spawner.old.faults) }
 {
-    for i in 0..tasks {
-        let seat = start_task(rt, spawner, turn, pass, program, gate, i)?;
+    for i in 0..shared.program.tasks() {
+        let seat = start_task(spawner, shared, pass, i)?;
         push_within(seats, seat);
     }
     Ok(())

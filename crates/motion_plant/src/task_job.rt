@@ -12,7 +12,7 @@ ghost use Rattle.task_run.specs.Runs.{IsRun, lines_of};
 ghost use Rattle.task_run.specs.TaskCalls.{IsEndedBy, TaskCalls};
 ghost use Rattle.task_run.specs.Tasks.{first_state};
 
-use crate::caller::TurnCaller;
+use crate::caller::{TaskTurns, TurnCaller};
 use kernel_turn::{KernelTurn, Pass, Turn};
 use outside::Gate;
 use plc_program::Program;
@@ -58,53 +58,54 @@ pub fn work_task<R: Wait, G: Gate + Drop>(rt: &R, job: TaskJob<G>) -> TaskJobEnd
         task,
         gate,
     } = job;
-    run_program(rt, &turn, &gate, pass, task, &program, run)
+    let turns = TaskTurns {
+        turn: &turn,
+        gate: &gate,
+        task,
+    };
+    run_program(rt, &turns, pass, &program, run)
 }
 
 // Runs a program, and ends its task where it came to its end.
 fn run_program<R: Wait, G: Gate + Drop>(
     rt: &R,
-    turn: &KernelTurn,
-    gate: &G,
+    turns: &TaskTurns<G>,
     pass: Pass,
-    task: u8,
     program: &Program,
     run: TaskRun,
 ) -> TaskJobEnd
-    requires own { pass.table ≡ turn.now }
+    requires own { pass.table ≡ turns.now.turn.now }
     requires unused { pass.own ≡ [] }
     requires small { pass.config.cycles ≤ MOST_CYCLES }
     requires program { IsProgramOf pass.config program.now }
     requires run { IsRun program.now run (first_state (lines_of program.now run)) }
-    requires task { run.task ≡ task }
-    ensures done { TaskDone pass task (lines_of program.now run) result }
+    requires task { run.task ≡ turns.now.task }
+    ensures done { TaskDone pass turns.now.task (lines_of program.now run) result }
 {
-    let (mut pass, through) = make_calls(rt, turn, gate, pass, task, program, run);
+    let (mut pass, through) = make_calls(rt, turns, pass, program, run);
     if !through {
         return TaskJobEnd { pass, ended: false };
     }
-    let ended = end_task(rt, turn, gate, &mut pass, task);
+    let ended = end_task(rt, turns, &mut pass);
     TaskJobEnd { pass, ended }
 }
 
 // Makes the calls of a program, and tells whether it came to its end.
 fn make_calls<R: Wait, G: Gate + Drop>(
     rt: &R,
-    turn: &KernelTurn,
-    gate: &G,
+    turns: &TaskTurns<G>,
     pass: Pass,
-    task: u8,
     program: &Program,
     run: TaskRun,
 ) -> (Pass, bool)
-    requires own { pass.table ≡ turn.now }
+    requires own { pass.table ≡ turns.now.turn.now }
     requires unused { pass.own ≡ [] }
     requires small { pass.config.cycles ≤ MOST_CYCLES }
     requires program { IsProgramOf pass.config program.now }
     requires run { IsRun program.now run (first_state (lines_of program.now run)) }
-    requires task { run.task ≡ task }
+    requires task { run.task ≡ turns.now.task }
     ensures fixed { fixed_part result.0 ≡ fixed_part pass }
-    ensures owns { Owns (IsBy pass.config task) result.0.own result.0.seen }
+    ensures owns { Owns (IsBy pass.config turns.now.task) result.0.own result.0.seen }
     ensures calls { AreCalls (own_entries result.0.own result.0.seen) }
     ensures follows { TaskCalls (lines_of program.now run)
         (logged_calls (own_entries result.0.own result.0.seen)) }
@@ -114,10 +115,8 @@ fn make_calls<R: Wait, G: Gate + Drop>(
     tasks_have_their_own_lines();
     let mut run = run;
     let mut caller = TurnCaller {
-        turn,
-        gate,
+        turns,
         pass,
-        task,
         asks_rest: false,
         last: 0,
         was_refused: false,
@@ -128,27 +127,21 @@ fn make_calls<R: Wait, G: Gate + Drop>(
 }
 
 // Ends a task where there is room, and tells whether there was.
-fn end_task<R: Wait, G: Gate>(
-    rt: &R,
-    turn: &KernelTurn,
-    gate: &G,
-    pass: &mut Pass,
-    task: u8,
-) -> bool
-    requires own { pass.old.table ≡ turn.now }
-    requires task { task < length pass.old.config.tasks }
-    requires owns { Owns (IsBy pass.old.config task) pass.old.own pass.old.seen }
+fn end_task<R: Wait, G: Gate + Drop>(rt: &R, turns: &TaskTurns<G>, pass: &mut Pass) -> bool
+    requires own { pass.old.table ≡ turns.now.turn.now }
+    requires task { turns.now.task < length pass.old.config.tasks }
+    requires owns { Owns (IsBy pass.old.config turns.now.task) pass.old.own pass.old.seen }
     ensures fixed { fixed_part pass.new ≡ fixed_part pass.old }
-    ensures owns { Owns (IsBy pass.old.config task) pass.new.own pass.new.seen }
+    ensures owns { Owns (IsBy pass.old.config turns.now.task) pass.new.own pass.new.seen }
     ensures ended { result ≡ true → (before : List Entry) ×
         (own_entries pass.new.own pass.new.seen ≡ own_entries pass.old.own pass.old.seen ++
-        record { before = before; entry = end_of task } ∷ []) }
+        record { before = before; entry = end_of turns.now.task } ∷ []) }
     ensures refused { result ≡ false →
         own_entries pass.new.own pass.new.seen ≡ own_entries pass.old.own pass.old.seen }
 {
-    gate.before(task);
-    let answer = turn.turn_end(rt, pass, task);
-    gate.after(task);
+    turns.gate.before(turns.task);
+    let answer = turns.turn.turn_end(rt, pass, turns.task);
+    turns.gate.after(turns.task);
     match answer {
         Turn::Made { .. } => true,
         Turn::Full { .. } => false,

@@ -18,17 +18,17 @@ push_all-requires-clause-width g c =
     let axes = ap (λ (p : PassState). length p.config.axes) k.fixed in
     let w : length old ≡ length c.args.pass.now.config.axes = k.width ∙ sym axes in
     let t = ap length c.take_all.ensures.taken ∙ zip_length with_answer old c.take_all.new.ins
-    (c.take_all.ensures.width ∙ c.requires.width.0 ∙ sym w) in
-    c.cycle_until.ensures.width ∙ c.requires.width.1 ∙ sym w ∙ sym t
+    (c.take_all.ensures.width ∙ c.as_mut_slice-ins.ensures.len ∙ c.requires.width.0 ∙ sym w) in
+    c.cycle_until.ensures.width ∙ c.as_mut_slice-outs.ensures.len ∙ c.requires.width.1 ∙ sym w ∙ sym t
 
 pub push_all-requires-clause-next : goal.push_all-requires-clause-next
 push_all-requires-clause-next g c =
     let old = c.args.lines.now.items in
     let k = c.requires.cycling.2 in
     let axes = ap (λ (p : PassState). length p.config.axes) k.fixed in
-    let lx = c.take_all.ensures.width ∙ c.requires.width.0 ∙ axes ∙ sym k.width in
+    let lx = c.take_all.ensures.width ∙ c.as_mut_slice-ins.ensures.len ∙ c.requires.width.0 ∙ axes ∙ sym k.width in
     next_each _ c.take_all.new.lines.items _ c.take_all.new.ins c.take_all.new.lines.items
-    c.args.made
+    c.args.room.now.made
     (grown_in _ _ c.take_all.new.ins old c.take_all.new.lines.items k.stand k.cycles lx
     c.take_all.ensures.taken)
     (taken_each _ c.take_all.new.ins old c.take_all.new.lines.items k.stand
@@ -39,12 +39,13 @@ returns-in-Made-clause-cycled g c = λ first ls k.
     let axes = ap (λ (p : PassState). length p.config.axes) k.fixed in
     let config = ap (λ (p : PassState). p.config) k.fixed in
     let w = axes ∙ sym k.width in
-    cycled_made first ls c.args.lines.now.items c.take_all.new.lines.items c.args.made
+    let ins = c.as_mut_slice-ins.ensures.len ∙ c.requires.width.0 in
+    cycled_made first ls c.args.lines.now.items c.take_all.new.lines.items c.args.room.now.made
     c.args.pass.now c.cycle_until.new.pass c.take_all.new.ins k
-    (c.take_all.ensures.width ∙ c.requires.width.0 ∙ w) c.take_all.ensures.taken
+    (c.take_all.ensures.width ∙ ins ∙ w) c.take_all.ensures.taken
     c.cycle_until.ensures.fixed
     c.push_all.new.lines.items c.cycle_until.new.outs c.in-Made.live (c.cycle_until.ensures.width ∙
-    c.requires.width.1 ∙ w) c.push_all.ensures.pushed
+    c.as_mut_slice-outs.ensures.len ∙ c.requires.width.1 ∙ w) c.push_all.ensures.pushed
     (subst (λ (s : Setup). Owns (IsUpTo s 0) c.cycle_until.new.pass.own c.cycle_until.new.pass.seen)
     config c.cycle_until.ensures.owns)
     (subst (λ (s : Setup). MadeCycle s c.take_all.new.ins c.cycle_until.new.outs c.in-Made.live
@@ -55,9 +56,10 @@ returns-in-Over-clause-cycled g c = λ first ls k.
     let axes = ap (λ (p : PassState). length p.config.axes) k.fixed in
     let config = ap (λ (p : PassState). p.config) k.fixed in
     let w = axes ∙ sym k.width in
-    cycled_none first ls c.args.lines.now.items c.take_all.new.lines.items c.args.made
+    let ins = c.as_mut_slice-ins.ensures.len ∙ c.requires.width.0 in
+    cycled_none first ls c.args.lines.now.items c.take_all.new.lines.items c.args.room.now.made
     c.args.pass.now c.cycle_until.new.pass c.take_all.new.ins k
-    (c.take_all.ensures.width ∙ c.requires.width.0 ∙ w) c.take_all.ensures.taken
+    (c.take_all.ensures.width ∙ ins ∙ w) c.take_all.ensures.taken
     c.cycle_until.ensures.fixed endings.Over
     (subst (λ (s : Setup). Owns (IsUpTo s 0) c.cycle_until.new.pass.own c.cycle_until.new.pass.seen)
     config c.cycle_until.ensures.owns)
@@ -70,9 +72,10 @@ returns-in-Full-clause-cycled g c = λ first ls k.
     let axes = ap (λ (p : PassState). length p.config.axes) k.fixed in
     let config = ap (λ (p : PassState). p.config) k.fixed in
     let w = axes ∙ sym k.width in
-    cycled_none first ls c.args.lines.now.items c.take_all.new.lines.items c.args.made
+    let ins = c.as_mut_slice-ins.ensures.len ∙ c.requires.width.0 in
+    cycled_none first ls c.args.lines.now.items c.take_all.new.lines.items c.args.room.now.made
     c.args.pass.now c.cycle_until.new.pass c.take_all.new.ins k
-    (c.take_all.ensures.width ∙ c.requires.width.0 ∙ w) c.take_all.ensures.taken
+    (c.take_all.ensures.width ∙ ins ∙ w) c.take_all.ensures.taken
     c.cycle_until.ensures.fixed endings.Full
     (subst (λ (s : Setup). Owns (IsUpTo s 0) c.cycle_until.new.pass.own c.cycle_until.new.pass.seen)
     config c.cycle_until.ensures.owns)

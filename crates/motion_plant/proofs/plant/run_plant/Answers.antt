@@ -15,9 +15,9 @@ pub give_up-requires-clause-started : goal.give_up-requires-clause-started
 give_up-requires-clause-started g c κs within =
     let e = ap length c.in-Ok.ensures.seats.0 in (
       drives_started c.start_drives.new.spawner.jobs c.args.spawner.now.jobs
-          c.start_drives.new.lines.items [] c.started-base.result (c.start_drives.ensures.started ∙
-          sym (append-nil _)) c.started-base.ensures,
-      λ n x at. let l = get_some c.in-Ok.field-0.seats.items n x at in absurd (omega arith),
+          c.start_drives.new.lines.items [] c.in-Ok.jobs.base (c.start_drives.ensures.started ∙
+          sym (append-nil _)) (c.in-Ok.ensures.base ∙ c.started.ensures),
+      λ n x at. let l = get_some c.in-Ok.jobs.seats.items n x at in absurd (omega arith),
     )
 
 pub give_up-requires-in-Err-start_tasks-clause-started :
@@ -27,10 +27,10 @@ give_up-requires-in-Err-start_tasks-clause-started g c κs within =
     ap (λ js. js ++ map seat_job c.start_tasks.new.seats.items) c.start_drives.ensures.started
     in (
       drives_started c.start_tasks.new.spawner.jobs c.args.spawner.now.jobs
-          c.start_drives.new.lines.items _ c.started-base.result jobs c.started-base.ensures,
+          c.start_drives.new.lines.items _ c.in-Ok.jobs.base jobs (c.in-Ok.ensures.base ∙ c.started.ensures),
       tasks_started c.start_tasks.new.spawner.jobs c.args.spawner.now.jobs
-          c.start_drives.new.lines.items c.start_tasks.new.seats.items c.started-base.result jobs
-          c.started-base.ensures,
+          c.start_drives.new.lines.items c.start_tasks.new.seats.items c.in-Ok.jobs.base jobs
+          (c.in-Ok.ensures.base ∙ c.started.ensures),
     )
 
 pub run_started-requires-clause-started : goal.run_started-requires-clause-started
@@ -39,26 +39,26 @@ run_started-requires-clause-started g c κs within =
     ap (λ js. js ++ map seat_job c.start_tasks.new.seats.items) c.start_drives.ensures.started
     in (
       drives_started c.start_tasks.new.spawner.jobs c.args.spawner.now.jobs
-          c.start_drives.new.lines.items _ c.started-base.result jobs c.started-base.ensures,
+          c.start_drives.new.lines.items _ c.in-Ok.jobs.base jobs (c.in-Ok.ensures.base ∙ c.started.ensures),
       tasks_started c.start_tasks.new.spawner.jobs c.args.spawner.now.jobs
-          c.start_drives.new.lines.items c.start_tasks.new.seats.items c.started-base.result jobs
-          c.started-base.ensures,
+          c.start_drives.new.lines.items c.start_tasks.new.seats.items c.in-Ok.jobs.base jobs
+          (c.in-Ok.ensures.base ∙ c.started.ensures),
     )
 
 pub run_started-requires-clause-fresh : goal.run_started-requires-clause-fresh
 run_started-requires-clause-fresh g c κs within =
-    new_stand c.axes-axes.result.now c.as_slice.result.now c.start_drives.new.lines.items
+    new_stand c.axes-axes.result.now c.as_slice-defs.result.now c.start_drives.new.lines.items
     c.in_default-start_drives.ensures.fresh.1
 
 pub returns-clause-ran : goal.returns-clause-ran
 returns-clause-ran g c =
     let f = c.in_default-start_tasks.ensures.seats in
     let config = ap (λ (p : PassState). p.config) f.2 ∙
-    ap (λ (p : PassState). p.config) c.in_ok-turn.ensures.first in
+    ap (λ (p : PassState). p.config) c.in_ok-opened.ensures.first in
     let fresh = c.in_default-start_drives.ensures.fresh in
     let axes = c.axes-axes.ensures.axes in
-    let defs = c.as_slice.ensures in
-    ran c.args.setup.now.config c.in_ok-turn.pass (arc_value c.args.setup.now.program)
+    let defs = c.as_slice-defs.ensures in
+    ran c.args.setup.now.config c.in_ok-opened.opened.pass (arc_value c.args.setup.now.program)
     c.args.setup.now.config.axes c.args.setup.now.drives c.start_drives.new.lines.items
     c.start_tasks.new.seats.items _ _
     (subst (λ (s : Setup). PlantMeets s c.start_drives.new.lines.items c.start_tasks.new.seats.items
@@ -69,6 +69,6 @@ returns-clause-ran g c =
     (fresh.0 ∙ ap length axes)
     c.requires.each
     (subst (λ ds. Each (IsNewLine c.args.setup.now.config.axes ds) c.start_drives.new.lines.items)
-    defs (subst (λ xs. Each (IsNewLine xs c.as_slice.result.now) c.start_drives.new.lines.items)
+    defs (subst (λ xs. Each (IsNewLine xs c.as_slice-defs.result.now) c.start_drives.new.lines.items)
     axes fresh.1))
     c.run_started.ensures.logs

@@ -1,7 +1,6 @@
 -- One drive more is started; it can be opened.
 use Rattle.std.proofs.Common.{rules, ◌∙◌}
 use Rattle.motion_plant.proofs.Lists.{get_or_at}
-use Rattle.motion_plant.proofs.Opening.{can_open}
 use Rattle.motion_plant.proofs.Started.{line_more, started_more}
 use Rattle.motion_plant.specs.Jobs.{line_job}
 use Rattle.motion_plant.proofs.starts.start_drives.Goals as goal
@@ -26,4 +25,4 @@ loop-i-preserved g c =
     }
 
 pub open_drive-requires-clause-drive : goal.open_drive-requires-clause-drive
-open_drive-requires-clause-drive g c = can_open _ (search rules)
+open_drive-requires-clause-drive g c = c.drives_can_be_opened.ensures.one _ (search rules)

@@ -9,7 +9,7 @@ use Rattle.motion_plant.proofs.starts.start_tasks.Given as goal
 abbrev pub invariant-loop-i : goal.invariant-loop-i
 invariant-loop-i g l = record {
   started : l.spawner.jobs ≡ l.fn.spawner.jobs ++ map seat_job l.seats.items;
-  seats : Each (λ n s. IsSeat (arc_value l.program) l.fn.pass n s.value) l.seats.items;
+  seats : Each (λ n s. IsSeat (arc_value l.shared.program.now) l.fn.pass n s.value) l.seats.items;
   pass : l.pass ≡ record l.fn.pass { out = l.i };
   len : vec_len l.seats ≡ l.i;
   capacity : vec_capacity l.fn.seats ≤ vec_capacity l.seats;

@@ -14,7 +14,7 @@ invariant_of-caller g c =
     let m = entries_first c.args.pass.own c.args.pass.seen c.requires.unused in
     record {
       own = c.requires.own;
-      owns = owns_first (IsBy c.args.pass.config c.args.task) c.args.pass.own c.args.pass.seen
+      owns = owns_first (IsBy c.args.pass.config c.args.turns.now.task) c.args.pass.own c.args.pass.seen
           c.requires.unused;
       calls = subst AreCalls (sym m) refl;
       last_is = sym (ap (λ ls. cycles_from 0 (logged_calls ls)) m);

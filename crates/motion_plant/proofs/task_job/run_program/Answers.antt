@@ -8,7 +8,7 @@ returns g c =
     let m = c.make_calls-pass.ensures in
     let e = c.end_task-ended.ensures in
     record {
-      done = task_done c.args.pass c.args.task _ c.make_calls-pass.result.0
+      done = task_done c.args.pass c.args.turns.now.task _ c.make_calls-pass.result.0
           c.end_task-ended.new.pass c.end_task-ended.result m.fixed e.fixed e.owns m.calls m.follows
           (m.through (search rules)) e.ended e.refused;
     }

@@ -19,7 +19,7 @@ invariant_of-self g c =
     let z = old.small in
     record {
       own = ap (λ (p : PassState). p.table) c.in-Some.ensures.fixed ∙ old.own;
-      owns = subst (λ (s : Setup). Owns (IsBy s old.task) new.own new.seen)
+      owns = subst (λ (s : Setup). Owns (IsBy s old.turns.now.task) new.own new.seen)
           (sym config) c.in-Some.ensures.owns;
       calls = still_calls _ _ e.0 _ _ _ old.calls e.1;
       last_is = last_call _ _ e.0 _ _ _ c.in-Some.cycles e.1 e.2;
@@ -39,10 +39,10 @@ returns-in-Some-clause-made g c =
     record {
       cycles = c.in-Some.cycles;
       follows = may_follow old.last _ old.asks_rest _ c.in-Some.cycles old.last_is
-          c.first_cycle-after.ensures.value e.3 old.behind e.4;
+          c.first_cycle.ensures.value e.3 old.behind e.4;
       caller = λ j. record {
         config = config j;
-        task = old.task;
+        task = old.turns.now.task;
         calls = calls j;
         rests = false;
         refused = old.was_refused;
