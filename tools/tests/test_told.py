@@ -76,6 +76,24 @@ class Told(unittest.TestCase):
                            "--of", EXAMPLES / "cell" / "cell.trace")
         self.assertIn("in cycle 11: axis FEEDER: 101, its drive is in Fault", output)
 
+    def test_a_refused_configuration_has_its_table(self):
+        output = self.told("cycle_us = 1000\n", "refused my.bench 2 C3\n")
+        self.assertTrue(output.startswith("my.bench: table 2, axes first"))
+        output = self.told("cycle_us = 1000\n", "refused my.bench 0 C1\n")
+        self.assertTrue(output.startswith("my.bench: the text, or a key above its tables\nC1 is "))
+
+    def test_every_rule_of_a_run_is_told(self):
+        for rule in [f"C{n}" for n in range(1, 8)] + [f"P{n}" for n in range(1, 11)]:
+            self.assertIn("Cure: ", self.told(BENCH, f"refused my.bench 1 {rule}\n"))
+
+    def test_the_tasks_of_a_run_that_ended_early_are_told(self):
+        ran = TRACE.replace("trace,1,bench", "trace,1,run")
+        self.assertIn("All tasks came to their ends.\n", self.told(BENCH, ran))
+        output = self.told(BENCH, ran.replace("end,main,,,,,,,,,,\n", ""))
+        self.assertIn("Without an end: main. The run ended since no room", output)
+        spent = ran.replace("end,main,,,,,,,,,,\n", "").replace("20,40", "1,40")
+        self.assertIn("The run ended since all 1 cycles", self.told(BENCH, spent))
+
     def test_what_is_no_trace_is_refused(self):
         self.assertEqual(run("told", EXAMPLES / "cell" / "cell.bench", text="kind\n")[0], 3)
         self.assertEqual(run("told", "no_such_file", text="refused no_such_file 1 B1\n")[0], 4)
