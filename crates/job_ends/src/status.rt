@@ -10,7 +10,7 @@ use trace_text::TraceFault;
 /// How the program ends. `word` is the number of the word that names the file, from 0.
 #[derive(Clone, Copy, Debug, PartialEq, Eq)]
 pub enum Status {
-    /// The input was read to its end, and the trace of all its events is written.
+    /// The input was read to its end, or in a run every task has ended, and the trace is written.
     Ok,
     /// The trace is legal and has so many entries.
     Legal { entries: u64 },
@@ -29,7 +29,7 @@ pub enum Status {
     WriteFault,
     /// A thread couldn't be started.
     ThreadRefused,
-    /// A cycle came with none left.
+    /// A cycle came with none left; or in a run all cycles were made, and a task lives.
     CyclesOver,
     /// An event came with no room left in the history.
     HistoryFull,

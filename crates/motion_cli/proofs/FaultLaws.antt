@@ -1,5 +1,5 @@
 -- Usage and the faults, whatever the files tell.
-use Rattle.std.specs.Prelude.{◌≡◌, ◌≢◌, ◌⊎◌, refl, ℕ, true, false, Option, Some, None, IsSome, IsSomeAnd, List}
+use Rattle.std.specs.Prelude.{◌≡◌, ◌≢◌, ◌⊎◌, refl, ℕ, true, false, Option, Some, None, IsSomeAnd, Err, List}
 use Rattle.std.specs.Result.{IsOk}
 use Rattle.std.specs.Option.{option_and_then}
 use Rattle.std.proofs.Common.{◌∙◌, inl, inr, sym, ap, subst}
@@ -7,18 +7,18 @@ use Rattle.std.proofs.lemmas.Bool.{cases_Bool}
 use Rattle.job_ends.specs.Causes.{ComesExactly, is_fault, is_told, is_traced}
 use Rattle.job_ends.specs.Ends.{Content, EndsBy, EndsEarly, Found, IsFound, Longer, Unread}
 use Rattle.job_ends.specs.Follows.{FollowPlans}
-use Rattle.job_ends.specs.Plans.{too_long_plan}
+use Rattle.job_ends.specs.Plans.{too_long_plan, unread_plan}
 use Rattle.job_ends.specs.declared.status.Status.{Status}
 use Rattle.job_ends.specs.declared.status.Status.TheVariants as status
 use Rattle.load_job.specs.Ends.{load_plan}
 use Rattle.outside.specs.Faults.{Rose}
 use Rattle.outside.specs.Told.{FileMap, LacksFile}
-use Rattle.run_job.specs.Causes.{LacksWord}
+use Rattle.run_job.specs.Causes.{plant_in}
 use Rattle.trace_text.specs.writing.Writes.{Output}
 use Rattle.motion_cli.proofs.CauseLaws.{no-run}
 use Rattle.motion_cli.proofs.FileLaws.{ends-by, ends-for, plan_of}
 use Rattle.motion_cli.proofs.PlanLaws.{by-plan, not-told}
-use Rattle.motion_cli.specs.Causes.{AreThere, Asks, AsksInVain, AsksRun, RunsInVain}
+use Rattle.motion_cli.specs.Causes.{Asks, AsksInVain, AsksRun, LacksNone, RunsInVain}
 use Rattle.motion_cli.specs.Ends.{EndsByFound, EndsByRequest}
 use Rattle.motion_cli.specs.Plans.{most_of, plan_of_text, usage_plan}
 use Rattle.command_words.specs.Requests.{FileJob, Request, RunFiles, file_of, files_of, load_of, of_file, of_load, of_run}
@@ -65,8 +65,11 @@ usage-comes follow told rose refused Started (Some (of_load seed)) old new s e =
 found-unread : FollowPlans → (told : Option FileMap) (rose : Type 0) (r : FileJob)
     (old new : Output) (s : Status) (word : ℕ) (found : Found) →
     IsFound told rose r.name (most_of r.job) found → EndsByFound r found old new s →
-    s ≡ status.ReadFault word → rose ⊎ LacksFile told r.name
-found-unread follow told rose r old new s word Unread is e h = is
+    s ≡ status.ReadFault word → (word ≡ 1) × (rose ⊎ LacksFile told r.name)
+found-unread follow told rose r old new s word Unread is e h =
+    (let same : status.ReadFault 1 ≡ status.ReadFault word =
+    follow.only old new (unread_plan 1 r.name) s (status.ReadFault word) e h (λ x. absurd (cc))
+    (λ x. absurd (cc)) in let first : word ≡ 1 = cc in first, is)
 found-unread follow told rose r old new s word Longer is e h =
     absurd (let bad : status.TooLong 1 ≡ status.ReadFault word =
     follow.only old new (too_long_plan 1 r.name) s (status.ReadFault word) e h
@@ -79,29 +82,30 @@ found-unread follow told rose r old new s word (Content text) is e h =
 
 -- it failed for a file, or for one of a run
 run-unread : (told : Option FileMap) (rose : Type 0) (r : RunFiles) (word : ℕ) →
-    rose ⊎ IsSomeAnd told (λ files. LacksWord files r.config r.program word) →
-    rose ⊎ (⊥ ⊎ RunsInVain told (Some r) word)
+    rose ⊎ IsSomeAnd told
+    (λ files. plant_in files r.config r.program ≡ Err (status.ReadFault word)) →
+    rose ⊎ (((word ≡ 1) × ⊥) ⊎ RunsInVain told (Some r) word)
 run-unread told rose r word (inl h) = inl h
 run-unread told rose r word (inr h) = inr (inr h)
 
-file-unread : (told : Option FileMap) (rose : Type 0) (r : FileJob) (word : ℕ) →
+file-unread : (told : Option FileMap) (rose : Type 0) (r : FileJob) (word : ℕ) → word ≡ 1 →
     rose ⊎ LacksFile told r.name →
-    rose ⊎ (AsksInVain told (Some r) ⊎ RunsInVain told None word)
-file-unread told rose r word (inl h) = inl h
-file-unread told rose r word (inr h) = inr (inl h)
+    rose ⊎ (((word ≡ 1) × AsksInVain told (Some r)) ⊎ RunsInVain told None word)
+file-unread told rose r word first (inl h) = inl h
+file-unread told rose r word first (inr h) = inr (inl (first, h))
 
 pub unread-why : FollowPlans → (told : Option FileMap) (rose refused : Type 0)
     (Started : ℕ → Type 0) (asked : Option Request) (old new : Output) (s : Status) (word : ℕ) →
     EndsByRequest told rose refused Started asked old new s → s ≡ status.ReadFault word →
-    rose ⊎ (AsksInVain told (option_and_then file_of asked) ⊎
+    rose ⊎ (((word ≡ 1) × AsksInVain told (option_and_then file_of asked)) ⊎
     RunsInVain told (option_and_then files_of asked) word)
 unread-why follow told rose refused Started None old new s word e h =
     absurd (let bad : status.Usage ≡ status.ReadFault word =
     follow.only old new usage_plan s (status.ReadFault word) e h
     (λ x. absurd (cc)) (λ x. absurd (cc)) in cc)
 unread-why follow told rose refused Started (Some (of_file r)) old new s word (inl e) h =
-    file-unread told rose r word
-    (found-unread follow told rose r old new s word e.found e.is_found e.ends h)
+    let by = found-unread follow told rose r old new s word e.found e.is_found e.ends h in
+    file-unread told rose r word by.0 by.1
 unread-why follow told rose refused Started (Some (of_file r)) old new s word (inr e) h =
     absurd (let bad : status.OutOfMemory ≡ status.ReadFault word = sym e.status ∙ h in cc)
 unread-why follow told rose refused Started (Some (of_run r)) old new s word e h =
@@ -169,32 +173,23 @@ in-vain : (files : FileMap) (P : Job → List ℕ → Type 0) (asked : Option Fi
 in-vain files P None v h = v
 in-vain files P (Some r) v h = subst (λ o. IsSomeAnd o (P r.job)) v h
 
-none-there : {A : Type 0} (o : Option A) → IsSome o → o ≡ None → ⊥
-none-there None h e = absurd (let bad : false ≡ true = h in cc)
-none-there (Some x) h e = absurd (cc)
-
-run-in-vain : (files : FileMap) (asked : Option RunFiles) (word : ℕ) →
-    RunsInVain (Some files) asked word → AreThere files asked → ⊥
-run-in-vain files None word v h = v
-run-in-vain files (Some r) word (inl v) h = none-there (files r.config) h.0 v.1
-run-in-vain files (Some r) word (inr v) h = none-there (files r.program) h.1 v.1
-
--- the words ask for a file that is there, or for a run of two such
+-- the words ask for a file that is there, or for a run that lacks none
 abbrev pub IsAllThere : (Job → List ℕ → Type 0) → FileMap → Option Request → Type 0
-IsAllThere P files asked =
-    Asks P files (option_and_then file_of asked) ⊎ AreThere files (option_and_then files_of asked)
+IsAllThere P files asked = Asks P files (option_and_then file_of asked) ⊎
+    AsksRun LacksNone files (option_and_then files_of asked)
 
 no-file : (files : FileMap) (P : Job → List ℕ → Type 0) (asked : Option Request) (word : ℕ) →
-    IsAllThere P files asked → AsksInVain (Some files) (option_and_then file_of asked) ⊎
+    IsAllThere P files asked →
+    ((word ≡ 1) × AsksInVain (Some files) (option_and_then file_of asked)) ⊎
     RunsInVain (Some files) (option_and_then files_of asked) word → ⊥
 no-file files P None word (inl h) v = h
 no-file files P None word (inr h) v = h
-no-file files P (Some (of_file r)) word (inl h) (inl v) = in-vain files P (Some r) v h
+no-file files P (Some (of_file r)) word (inl h) (inl v) = in-vain files P (Some r) v.1 h
 no-file files P (Some (of_file r)) word (inl h) (inr v) = v
 no-file files P (Some (of_file r)) word (inr h) v = h
 no-file files P (Some (of_run r)) word (inl h) v = h
-no-file files P (Some (of_run r)) word (inr h) (inl v) = v
-no-file files P (Some (of_run r)) word (inr h) (inr v) = run-in-vain files (Some r) word v h
+no-file files P (Some (of_run r)) word (inr h) (inl v) = v.1
+no-file files P (Some (of_run r)) word (inr h) (inr v) = h word v
 no-file files P (Some (of_load seed)) word (inl h) v = h
 no-file files P (Some (of_load seed)) word (inr h) v = h
 

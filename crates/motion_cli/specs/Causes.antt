@@ -1,5 +1,5 @@
 -- When each status comes. This project's profile.
-use Rattle.std.specs.Prelude.{◌≤◌, ◌<◌, ℕ, Option, Some, None, IsSome, IsSomeAnd, Result, List, length}
+use Rattle.std.specs.Prelude.{◌≡◌, ◌≤◌, ◌<◌, ℕ, Option, Some, None, IsSomeAnd, Result, Err, List, length}
 use Rattle.bench_job.specs.Causes.{BenchCause, HasRoomFor}
 use Rattle.bench_job.specs.Plans.{status_of}
 use Rattle.bench_run.specs.declared.bench.RunFault.{RunFault}
@@ -9,7 +9,7 @@ use Rattle.machine_config.specs.declared.machine.Machine.{Machine}
 use Rattle.motion_history.specs.declared.refused.TextRefused.{TextRefused}
 use Rattle.outside.specs.Told.{FileMap, LacksFile}
 use Rattle.plc_program.specs.Reading.{Outcome}
-use Rattle.run_job.specs.Causes.{LacksWord, plant_in}
+use Rattle.run_job.specs.Causes.{plant_in}
 use Rattle.trace_jobs.specs.Causes.{CheckCause, MigrateCause}
 use Rattle.motion_cli.specs.Plans.{most_of}
 use Rattle.command_words.specs.Requests.{FileJob, RunFiles}
@@ -31,15 +31,14 @@ abbrev pub AsksRun : (Result (Machine × Outcome) Status → Type 0) → FileMap
 AsksRun P files None = ⊥
 AsksRun P files (Some r) = P (plant_in files r.config r.program)
 
--- the words ask for a run, and both its files are there
-abbrev pub AreThere : FileMap → Option RunFiles → Type 0
-AreThere files None = ⊥
-AreThere files (Some r) = IsSome (files r.config) × IsSome (files r.program)
+-- what two files give doesn't lack one of them
+abbrev pub LacksNone : Result (Machine × Outcome) Status → Type 0
+LacksNone r = (word : ℕ) → r ≡ Err (status.ReadFault word) → ⊥
 
--- the words ask for a run, and the file of this word isn't there
+-- the words ask for a run, whose files lack that of this word where it is to be read
 abbrev pub RunsInVain : Option FileMap → Option RunFiles → ℕ → Type 0
-RunsInVain told asked word = IsSomeAnd asked (λ (r : RunFiles). IsSomeAnd told
-    (λ files. LacksWord files r.config r.program word))
+RunsInVain told asked word = IsSomeAnd told
+    (λ files. AsksRun (λ r. r ≡ Err (status.ReadFault word)) files asked)
 
 -- a text is longer than 16 MiB where it is to be run, and than 256 MiB where it is a trace
 abbrev pub IsTooLong : Job → List ℕ → Type 0

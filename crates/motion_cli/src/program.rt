@@ -9,7 +9,7 @@ ghost use Rattle.command_words.specs.Requests.{RunFiles, request_of, run_of, see
 ghost use Rattle.job_ends.specs.Causes.{ComesExactly, is_fault, is_traced};
 ghost use Rattle.job_ends.specs.Ends.{EndsBy, EndsEarly};
 ghost use Rattle.load_job.specs.Ends.{LoadLine};
-ghost use Rattle.motion_cli.specs.Causes.{AreThere, Asks, AsksInVain, AsksRun, HasRoom, IsChecked, IsDone, IsIllegal, IsRefused, IsThere, IsTooLong, RunsInVain, RunsTo};
+ghost use Rattle.motion_cli.specs.Causes.{Asks, AsksInVain, AsksRun, HasRoom, IsChecked, IsDone, IsIllegal, IsRefused, IsThere, IsTooLong, LacksNone, RunsInVain, RunsTo};
 ghost use Rattle.motion_cli.specs.Ends.{EndsByWords};
 ghost use Rattle.motion_cli.specs.Plans.{usage_plan};
 ghost use Rattle.motion_history.specs.declared.refused.TextRefused.{TextRefused};
@@ -136,7 +136,7 @@ pub fn top<F: Files, K: Sink, H: Host + Wait + Sync, G: Gate + Drop + Send + 'st
         (seed_of words.now ≡ None) × (run_of words.now ≡ None)) }
     ensures read_fault { (word : ℕ) → result ≡ Status.ReadFault word →
         Rose (F.count files.old) (F.count files.new) ⊎
-        (AsksInVain (F.told files.old) (request_of words.now) ⊎
+        (((word ≡ 1) × AsksInVain (F.told files.old) (request_of words.now)) ⊎
         RunsInVain (F.told files.old) (run_of words.now) word) }
     ensures too_long { (map : FileMap) (word : ℕ) → F.told files.old ≡ Some map →
         ComesExactly result (Status.TooLong word)
@@ -147,6 +147,7 @@ pub fn top<F: Files, K: Sink, H: Host + Wait + Sync, G: Gate + Drop + Send + 'st
         (Asks (IsRefused word r) map (request_of words.now) ⊎
         AsksRun (λ x. x ≡ Err (Status.TextRefused word r.place r.rule)) map
         (run_of words.now)) }
+    ensures alone { run_of words.now ≡ None → spawner.new ≡ spawner.old }
     ensures thread_refused { result ≡ Status.ThreadRefused →
         Rose spawner.old.faults spawner.new.faults }
     ensures cycles_over { (map : FileMap) → F.told files.old ≡ Some map →
@@ -166,7 +167,8 @@ pub fn top<F: Files, K: Sink, H: Host + Wait + Sync, G: Gate + Drop + Send + 'st
         (Asks (IsIllegal place) map (request_of words.now)) }
     ensures write_fault { result ≡ Status.WriteFault → Rose (K.count out.old) (K.count out.new) }
     ensures faultless { (map : FileMap) → F.told files.old ≡ Some map →
-        Asks IsThere map (request_of words.now) ⊎ AreThere map (run_of words.now) →
+        Asks IsThere map (request_of words.now) ⊎
+        AsksRun LacksNone map (run_of words.now) →
         (Rose (F.count files.old) (F.count files.new) → ⊥) →
         (Rose (K.count out.old) (K.count out.new) → ⊥) →
         (is_fault result ≡ false) ⊎ (result ≡ Status.OutOfMemory) }

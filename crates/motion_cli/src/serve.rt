@@ -1,11 +1,11 @@
 // What is asked is done.
 
-ghost use Rattle.std.specs.Prelude.{◌≡◌, ◌≤◌, ◌+◌, ◌⊎◌, length};
-ghost use Rattle.std.specs.Option.{option_map};
+ghost use Rattle.std.specs.Prelude.{◌≡◌, ◌≤◌, ◌+◌, ◌⊎◌, None, length};
+ghost use Rattle.std.specs.Option.{option_and_then, option_map};
 ghost use Rattle.job_ends.specs.Ends.{EndsEarly};
 ghost use Rattle.motion_cli.specs.Ends.{EndsByFile, EndsByRequest, EndsByText};
 ghost use Rattle.motion_cli.specs.Plans as plans;
-ghost use Rattle.command_words.specs.Requests.{told};
+ghost use Rattle.command_words.specs.Requests.{files_of, told};
 ghost use Rattle.outside.specs.Faults.{Rose};
 
 use crate::usage::say_usage;
@@ -30,11 +30,13 @@ pub fn serve<F: Files, K: Sink, H: Host + Wait, G: Gate + Drop + Send + 'static>
     gate: &G,
 ) -> Status
     requires few { length spawner.old.jobs + 24 ≤ MOST_JOBS }
-    ensures { EndsByRequest (F.told files.old) (Rose (F.count files.old) (F.count files.new))
+    ensures ends { EndsByRequest (F.told files.old) (Rose (F.count files.old) (F.count files.new))
         (Rose spawner.old.faults spawner.new.faults)
         (λ n. length spawner.new.jobs ≡ length spawner.old.jobs + n)
         (option_map told asked.entry) (record { count = K.count out.old; told = K.told out.old })
         (record { count = K.count out.new; told = K.told out.new }) result }
+    ensures alone { option_and_then files_of (option_map told asked.entry) ≡ None →
+        spawner.new ≡ spawner.old }
 {
     match asked {
         Some(Request::File { job, name }) => serve_file(alloc, job, name, files, out),

@@ -7,15 +7,9 @@ use std::env;
 use std::process::ExitCode;
 
 fn main(rt: HostRuntime) -> ExitCode {
-    let mut spawner: Spawner<HostRuntime, PlantJob<OpenGate>> = Spawner::new(rt, rt.alloc());
-    let status = top_of_args(
-        &rt,
-        rt.alloc(),
-        env::args(&rt),
-        &mut HostFiles::new(&rt),
-        &mut StdSink::new(&rt),
-        &mut spawner,
-        &OpenGate,
-    );
+    let (alloc, args) = (rt.alloc(), env::args(&rt));
+    let (mut files, mut out) = (HostFiles::new(&rt), StdSink::new(&rt));
+    let mut spawner: Spawner<HostRuntime, PlantJob<OpenGate>> = Spawner::new(rt, alloc);
+    let status = top_of_args(&rt, alloc, args, &mut files, &mut out, &mut spawner, &OpenGate);
     ExitCode::from(status.exit())
 }

@@ -249,7 +249,7 @@ with-plant told rose refuses Started config program setup tasks drives old new s
       leads = inr (inr (ended-traced h.writes.status setup h.history h.writes.ended), is);
     })
 with-plant told rose refuses Started config program setup tasks drives old new s is (inr (inl h)) =
-    inr (record { plan = plans.refused_plan; ends = h.1; leads = inr (inl (refl, h.0), is) })
+    inr (record { plan = plans.no_thread_plan; ends = h.1; leads = inr (inl (refl, h.0), is) })
 with-plant told rose refuses Started config program setup tasks drives old new s is (inr (inr h)) =
     inl h
 

@@ -13,8 +13,7 @@ use Rattle.outside.specs.Told.{FileMap}
 use Rattle.plc_program.specs.Reading.{Outcome}
 use Rattle.trace_text.specs.writing.Writes.{Output}
 use Rattle.run_job.proofs.CauseLaws.{LeadsTo, Planned, PlannedBy, TellsOf}
-use Rattle.run_job.specs.Causes.{LacksWord, is_of_run, is_of_text, plant_in}
-use Rattle.run_job.proofs.LackLaws.{lacks-word}
+use Rattle.run_job.specs.Causes.{is_of_run, is_of_text, plant_in}
 
 -- ---- statuses by their kinds
 
@@ -160,25 +159,16 @@ refuses-of follow told rose refuses config program old new s (inr p) h =
     (follow.only old new p.plan s status.ThreadRefused p.ends h (λ x. absurd (cc))
     (λ x. absurd (cc)))
 
-unread-told : (told : Option FileMap) (rose : Type 0) (config program : List ℕ) (word : ℕ) →
-    rose ⊎ IsSomeAnd told (λ files. plant_in files config program ≡ Err (status.ReadFault word)) →
-    rose ⊎ IsSomeAnd told (λ files. LacksWord files config program word)
-unread-told told rose config program word (inl h) = inl h
-unread-told None rose config program word (inr h) = absurd h
-unread-told (Some files) rose config program word (inr h) =
-    inr (lacks-word files config program word h)
-
 pub unread-of : FollowPlans → (told : Option FileMap) (rose refuses : Type 0)
     (config program : List ℕ) (old new : Output) (s : Status) (word : ℕ) →
     Planned told rose refuses config program old new s → s ≡ status.ReadFault word →
-    rose ⊎ IsSomeAnd told (λ files. LacksWord files config program word)
+    rose ⊎ IsSomeAnd told (λ files. plant_in files config program ≡ Err (status.ReadFault word))
 unread-of follow told rose refuses config program old new s word (inl e) h =
     absurd (early-not s (status.ReadFault word) e.status h (λ x. absurd (cc)))
 unread-of follow told rose refuses config program old new s word (inr p) h =
-    unread-told told rose config program word
-    (unread-why told rose refuses config program p.plan.status word p.leads
+    unread-why told rose refuses config program p.plan.status word p.leads
     (follow.only old new p.plan s (status.ReadFault word) p.ends h (λ x. absurd (cc))
-    (λ x. absurd (cc))))
+    (λ x. absurd (cc)))
 
 pub unwritten-of : FollowPlans → (told : Option FileMap) (rose refuses : Type 0)
     (config program : List ℕ) (old new : Output) (s : Status) →

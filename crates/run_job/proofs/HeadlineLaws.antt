@@ -21,7 +21,7 @@ use Rattle.run_job.proofs.RowLaws.{AreReadBack, rows-same}
 use Rattle.run_job.specs.Causes.{is_of_text, plant_in}
 use Rattle.run_job.specs.Ends.{Course, EndsByBoth, EndsByRun, WritesRun}
 use Rattle.run_job.specs.Headline.{HasEnded, RunHeadline}
-use Rattle.run_job.specs.Plans.{end_row, refused_plan, run_plan}
+use Rattle.run_job.specs.Plans.{end_row, no_thread_plan, run_plan}
 
 -- ---- where there is no trace
 
@@ -75,6 +75,8 @@ ran-headline follow back told refuses Started config program old new s b w t =
       setup = setup;
       program_file = b.tasks.is_text.file;
       spelled = b.tasks.means;
+      whole = b.whole;
+      each = b.each;
       started = w.started;
       history = w.history;
       legal = w.ran.legal;
@@ -96,7 +98,7 @@ both-headline follow back told refuses Started config program old new s b t = by
   where
     by : _ → RunHeadline told config program old.told new.told Started s
     by (inl w) = ran-headline follow back told refuses Started config program old new s b w t
-    by (inr (inl h)) = absurd (untraced follow old new refused_plan s h.1 refl t)
+    by (inr (inl h)) = absurd (untraced follow old new no_thread_plan s h.1 refl t)
     by (inr (inr h)) = absurd (let bad : true ≡ false = sym t ∙ ap is_traced h.status in cc)
 
 pub headline-of : FollowPlans → AreReadBack → (told : Option FileMap) (rose refuses : Type 0)

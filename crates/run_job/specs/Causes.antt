@@ -1,5 +1,5 @@
 -- Why the job ends with a status that its two files decide. This project's profile.
-use Rattle.std.specs.Prelude.{◌≡◌, ◌⊎◌, ℕ, nat_lt, if◌then◌else◌, Bool, true, false, Option, Some, None, Result, Ok, Err, List, length}
+use Rattle.std.specs.Prelude.{ℕ, nat_lt, if◌then◌else◌, Bool, true, false, Option, Some, None, Result, Ok, Err, List, length}
 use Rattle.job_ends.specs.declared.status.Status.{Status}
 use Rattle.job_ends.specs.declared.status.Status.TheVariants as status
 use Rattle.line_text.specs.Reading.{◌>>=◌}
@@ -37,11 +37,6 @@ plant_in files config program = do
   machine ← machine_in files config
   outcome ← program_in files program machine
   Ok (machine, outcome)
-
--- the file of a word isn't there
-abbrev pub LacksWord : FileMap → List ℕ → List ℕ → ℕ → Type 0
-LacksWord files config program word =
-    ((word ≡ 1) × (files config ≡ None)) ⊎ ((word ≡ 2) × (files program ≡ None))
 
 -- the statuses that tell of a file's text
 abbrev pub is_of_text : Status → Bool

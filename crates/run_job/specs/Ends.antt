@@ -13,13 +13,14 @@ use Rattle.motion_history.specs.declared.drives.DriveDef.{DriveDef}
 use Rattle.motion_plant.specs.Ran.{PlantRan}
 use Rattle.outside.specs.Faults.{Rose}
 use Rattle.outside.specs.Told.{FileMap}
+use Rattle.plc_program.specs.Programs.{IsProgramOf}
 use Rattle.plc_program.specs.Reading.{Outcome}
 use Rattle.plc_program.specs.declared.program.Instruction.{Instruction}
 use Rattle.setpoint_ring.specs.declared.logs.DriveLog.{DriveLog}
 use Rattle.trace_text.specs.writing.Writes.{Output}
-use Rattle.run_job.specs.Causes.{LacksWord, is_of_run, is_of_text, plant_in}
+use Rattle.run_job.specs.Causes.{is_of_run, is_of_text, plant_in}
 use Rattle.run_job.specs.Headline.{HasEnded, RunHeadline}
-use Rattle.run_job.specs.Plans.{end_row, refused_plan, run_plan}
+use Rattle.run_job.specs.Plans.{end_row, no_thread_plan, run_plan}
 use Rattle.run_job.specs.Plants.{GivesMachine, GivesProgram, NoPlant}
 
 -- the trace of a history with these logs was written, with the status that tells how it ended
@@ -44,7 +45,7 @@ abbrev pub EndsByPlant : Type 0 → (ℕ → Type 0) → Setup → List (List In
     List DriveDef → Output → Output → Status → Type 0
 EndsByPlant refused Started setup program drives old new s =
     WritesRun Started setup program drives old new s ⊎
-    ((refused × EndsBy old new refused_plan s) ⊎ EndsEarly old new s)
+    ((refused × EndsBy old new no_thread_plan s) ⊎ EndsEarly old new s)
 
 -- how it ends where the files give a machine and its program
 pub record EndsByBoth (told : Option FileMap) (refused : Type 0) (Started : ℕ → Type 0)
@@ -53,6 +54,8 @@ pub record EndsByBoth (told : Option FileMap) (refused : Type 0) (Started : ℕ 
   pub outcome : Outcome
   pub gives : GivesMachine told config machine
   pub tasks : GivesProgram told program machine outcome
+  pub whole : IsProgramOf outcome.setup outcome.program
+  pub each : length machine.drives ≡ length outcome.setup.axes
   pub ends : EndsByPlant refused Started outcome.setup outcome.program machine.drives old new s
 
 -- how it ends: the files give no plant, or they give one
@@ -71,9 +74,9 @@ pub record EndsByRun (told : Option FileMap) (rose refused : Type 0) (Started : 
       RunHeadline told config program old.told new.told Started s
   -- a thread was refused only where the count of refused starts rose
   pub refuses : s ≡ status.ThreadRefused → refused
-  -- a file couldn't be read only where reading failed, or it is told that there is none
+  -- a file couldn't be read only where reading failed, or the files lead to that: there is none
   pub unread : (word : ℕ) → s ≡ status.ReadFault word → rose ⊎
-      IsSomeAnd told (λ files. LacksWord files config program word)
+      IsSomeAnd told (λ files. plant_in files config program ≡ Err (status.ReadFault word))
   -- writing failed only where the count of its faults rose
   pub unwritten : s ≡ status.WriteFault → Rose old.count new.count
   -- what tells of a file's text comes exactly where the files lead to it

@@ -17,6 +17,7 @@ use Rattle.motion_plant.specs.Makers.{entries_by}
 use Rattle.motion_plant.specs.Places.{Each}
 use Rattle.motion_plant.specs.TaskEnds.{TaskMeets}
 use Rattle.outside.specs.Told.{FileMap, HasFile}
+use Rattle.plc_program.specs.Programs.{IsProgramOf}
 use Rattle.plc_program.specs.Spelled.{IsProgramText}
 use Rattle.plc_program.specs.declared.program.Instruction.{Instruction}
 use Rattle.trace_text.specs.Trace.{trace_text}
@@ -47,7 +48,10 @@ pub record RunHeadline (files : Option FileMap) (config program : List ℕ)
   pub setup : Setup
   pub program_file : HasFile files program program_text
   pub spelled : IsProgramText machine.cycle_us machine.config program_text tasks setup
-  -- a job was started for each drive and each task
+  -- it has lines for each task, and the machine a drive for each axis
+  pub whole : IsProgramOf setup tasks
+  pub each : length machine.drives ≡ length setup.axes
+  -- as many jobs were started as there are drives and tasks
   pub started : Started (length setup.axes + length setup.tasks)
   -- this history was made: each of its replies and rows is the PLCopen machine's, and it keeps the
   -- machine's laws
@@ -64,7 +68,7 @@ pub record RunHeadline (files : Option FileMap) (config program : List ℕ)
   -- behind each cycle but the last a task lives
   pub in_time : Each (λ n c. suc n < length (entries_by setup 0 history) → IsAlive setup c)
       (entries_by setup 0 history)
-  -- each drive took an output in each cycle, and is where these lead it
+  -- each drive's record tells an output in each cycle, and where these lead it
   pub drives : List DriveEndRow
   pub taken : drives ≡ map (drive_end (cycles_of history))
       (drives_after 0 (drives_at_opening setup.axes machine.drives) history)

@@ -17,8 +17,8 @@ use Rattle.trace_text.specs.declared.command.Command.TheVariants.{Run}
 use Rattle.trace_text.specs.declared.drive_end.DriveEndRow.{DriveEndRow}
 
 -- a thread was refused
-abbrev pub refused_plan : Plan
-refused_plan = record { status = status.ThreadRefused; text = codes "thread refused\n" }
+abbrev pub no_thread_plan : Plan
+no_thread_plan = record { status = status.ThreadRefused; text = codes "thread refused\n" }
 
 -- a history was made, and its trace of version 2 is written
 abbrev pub run_plan : Status → Setup → List Entry → List DriveEndRow → Plan

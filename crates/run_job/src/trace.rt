@@ -3,8 +3,8 @@
 ghost use Rattle.std.specs.Prelude.{◌≡◌, IfOk, length, map};
 ghost use Rattle.job_ends.specs.Ends.{EndsBy};
 ghost use Rattle.motion_plant.specs.Ran.{EndsSo};
+ghost use Rattle.run_job.specs.Ends.{WritesTrace};
 ghost use Rattle.run_job.specs.Plans as plans;
-ghost use Rattle.run_job.specs.Traces.{WritesTrace};
 
 use cia402_machine::{DriveState, state_of};
 use job_ends::{Status, ends_follow_plans, status_by};

@@ -1,7 +1,8 @@
 -- Each clause follows from how the program ended.
 use Rattle.std.specs.Prelude.{◌≡◌, refl, ℕ, ◌+◌, Some, length}
-use Rattle.std.proofs.Common.{inl, inr, subst}
-use Rattle.command_words.specs.Requests.{asked_of}
+use Rattle.std.specs.Option.{option_and_then}
+use Rattle.std.proofs.Common.{◌∙◌, ap, inl, inr, subst}
+use Rattle.command_words.specs.Requests.{asked_of, files_of}
 use Rattle.job_ends.specs.declared.status.Status.TheVariants as status
 use Rattle.outside.specs.Faults.{Rose}
 use Rattle.outside.specs.Told.{FileMap}
@@ -33,7 +34,7 @@ returns-in-Ok g c =
     let follow = c.ends_follow_plans.ensures in
     let by : EndsByRequest told rose refused Started asked old new s =
     subst (λ a. EndsByRequest told rose refused Started a old new s) c.in-Ok.ensures
-    c.serve.ensures in
+    c.serve.ensures.ends in
     let at : (map : FileMap) → told ≡ Some map →
     EndsByRequest (Some map) rose refused Started asked old new s =
     λ map t. subst (λ x. EndsByRequest x rose refused Started asked old new s) t by in
@@ -51,6 +52,7 @@ returns-in-Ok g c =
           (at map t);
       refused = λ map word r t. refused-comes follow map rose refused Started asked old new s word r
           (at map t);
+      alone = λ none. c.serve.ensures.alone (ap (option_and_then files_of) c.in-Ok.ensures ∙ none);
       thread_refused = λ h. refused-why follow told rose refused Started asked old new s by h;
       cycles_over = λ map t none. file-comes follow map rose refused Started asked old new s
           status.CyclesOver (at map t) refl (λ h. h) (inl none);
@@ -84,6 +86,7 @@ returns-in-Err g c = record {
   read_fault = λ word h. absurd (cc);
   too_long = λ map word t. faulted _ _ _ refl refl;
   refused = λ map word r t. faulted _ _ _ refl refl;
+  alone = λ none. refl;
   thread_refused = λ h. absurd (cc);
   cycles_over = λ map t none. faulted _ _ _ refl refl;
   history_full = λ map t none. faulted _ _ _ refl refl;

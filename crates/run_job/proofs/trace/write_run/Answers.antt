@@ -1,0 +1,18 @@
+-- The trace was written, or there was no memory for its last rows.
+use Rattle.std.proofs.Common.{refl}
+use Rattle.run_job.proofs.RunLaws.{ended-so, wrote, wrote-none}
+use Rattle.run_job.proofs.trace.write_run.Goals as goal
+
+pub returns-in_default : goal.returns-in_default
+returns-in_default g c =
+    wrote-none c.ends_follow_plans.ensures _ _ _ _ _ _ _
+    (ended-so _ _ _ c.ending_of.ensures.ok c.ending_of.ensures.over c.ending_of.ensures.full
+    c.ending_of.ensures.entries)
+    (record { status = refl; output = refl })
+
+pub returns : goal.returns
+returns g c =
+    wrote _ _ _ _ _ _ _ _ _ _
+    (ended-so _ _ _ c.ending_of.ensures.ok c.ending_of.ensures.over c.ending_of.ensures.full
+    c.ending_of.ensures.entries)
+    c.status_of.ensures c.in-Ok.ensures c.write_trace.ensures c.status_by.ensures
