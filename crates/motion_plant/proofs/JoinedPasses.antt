@@ -30,11 +30,13 @@ use Rattle.motion_plant.proofs.TurnLaws.{cycles_begin}
 use Rattle.motion_plant.proofs.Lists.{some_is}
 
 pub stopped_not : (first : PassState) (ls0 : List LineState) (k : PassState) (ls : List LineState)
-    (ending : Ending) → IsCycled first ls0 k ls ending → IsStopped first ls0 k ls ending
-stopped_not first ls0 k ls ending c = record {
+    (ending : Ending) → IsCycled first ls0 k ls ending → (ending ≡ endings.Over → ⊥) →
+    IsStopped first ls0 k ls ending
+stopped_not first ls0 k ls ending c never = record {
   kept = ap kept_part c.fixed;
   out = ap (λ (p : PassState). p.out) c.fixed;
   stops = λ e. ap (λ (p : PassState). p.made_stop) c.fixed;
+  made = λ e. absurd (never e);
   owns = c.owns;
   columns = c.columns;
   cycles = c.cycles;
@@ -62,6 +64,7 @@ stopped_over first ls0 k k' ls f c w is lawful =
       kept = kept;
       out = ap (λ (p : PassState). p.out) is ∙ ap (λ (p : PassState). p.out) c.fixed;
       stops = λ e. absurd (cc);
+      made = λ e. ap (λ (p : PassState). p.made_stop) is;
       owns = subst (λ os. Owns (IsUpTo first.config 0) os k'.seen) (sym own)
           (subst (λ es. Owns (IsUpTo first.config 0) k.own es) (sym seen)
           (owns_prefix (IsUpTo first.config 0) k.own k.seen w.begins.0 c.owns));

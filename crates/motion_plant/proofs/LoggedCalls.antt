@@ -2,7 +2,7 @@
 use Rattle.std.proofs.Common.{◌≡◌, ℕ, ◌+◌, ◌≤◌, List, [], ◌∷◌, ◌++◌, map, Bool, true, false, refl, sym, ap, ◌∙◌, subst, arith, append_assoc, append-nil}
 use Rattle.fb_outputs.specs.declared.inputs.Inputs.{Inputs}
 use Rattle.fb_outputs.specs.declared.outputs.Outputs.{Outputs}
-use Rattle.motion_plant.specs.Calls.{AreCalls, calls_in, entry_of, fixed_part, logged_calls}
+use Rattle.motion_plant.specs.Calls.{AreCalls, IsCut, calls_in, entry_of, fixed_part, logged_calls}
 use Rattle.motion_plant.specs.Makers.{IsBy, Logged, Owns, own_entries}
 use Rattle.motion_plant.specs.TaskEnds.{TaskDone, TaskMade}
 use Rattle.motion_plant.proofs.OwnEntries.{entries_none, owns_none}
@@ -116,13 +116,14 @@ pub task_done : (first : PassState) (t : ℕ) (lines : List Instruction) (p q : 
     (ended ≡ true → (before : List Entry) × (own_entries q.own q.seen ≡ own_entries p.own p.seen ++
     record { before = before; entry = end_of t } ∷ [])) →
     (ended ≡ false → own_entries q.own q.seen ≡ own_entries p.own p.seen) →
-    TaskDone first t lines (record { pass = q; ended = ended })
-task_done first t lines p q ended same same' owns are calls whole did never =
+    (ended ≡ false → IsCut q) → TaskDone first t lines (record { pass = q; ended = ended })
+task_done first t lines p q ended same same' owns are calls whole did never cut =
     let config : p.config ≡ first.config = ap (λ (z : PassState). z.config) same in
     record {
       fixed = same' ∙ same;
       owns = subst (λ (s : Setup). Owns (IsBy s t) q.own q.seen) config owns;
       made = go ended did never;
+      cut = cut;
     }
   where
     go : (b : Bool) → (b ≡ true → (before : List Entry) × (own_entries q.own q.seen ≡

@@ -115,6 +115,7 @@ module _ (first k1 k2 : PassState) (m : ℕ) (lines lines1 lines2 : List LineSta
         record {
           took = r.2.took ∙ o;
           taken = r.2.taken ∙ ap length o ∙ outputs_count i h;
+          sent = r.2.sent ∙ ap suc (ap length o ∙ outputs_count i h);
           last = r.2.last ∙ (λ j. answer_of (drive_after (sym l.2 j).drive (o j)));
         },
       )

@@ -6,10 +6,10 @@ use Rattle.fb_outputs.specs.declared.inputs.Inputs.{Inputs}
 use Rattle.fb_outputs.specs.declared.outputs.Outputs.{Outputs}
 use Rattle.kernel_turn.specs.Events.{call_of, with_entry}
 use Rattle.kernel_turn.specs.PassState.{PassState}
-use Rattle.kernel_turn.specs.Turns.{CallAnswered, EndAnswered, IsFound, pass_after}
+use Rattle.kernel_turn.specs.Turns.{CallAnswered, EndAnswered, FullOfEntries, IsFound, TakesTurn, pass_after}
 use Rattle.kernel_turn.specs.declared.turn.Turn.{Turn}
 use Rattle.kernel_turn.specs.declared.turn.Turn.TheVariants as turns
-use Rattle.motion_plant.specs.Calls.{fixed_part}
+use Rattle.motion_plant.specs.Calls.{IsCut, fixed_part}
 use Rattle.motion_plant.specs.Makers.{IsBy, Owns, own_entries, task_of}
 use Rattle.motion_plant.proofs.OwnEntries.{entries_prefix, entries_more, owns_prefix, owns_snoc}
 use Rattle.motion_history.specs.Entries.{Entry, call, end_of, cycle_count, cycles_of}
@@ -155,6 +155,18 @@ module _ (t : ℕ) (old new : PassState) where
   end_full turn entries cycles o answered e =
       let a = subst (EndAnswered t old new) e answered in
       none_made (IsBy old.config t) old new a.0 a.1 o a.2.found a.2.makes.0.kernel a.2.pass
+
+-- a turn that found no room
+pub full_cut : {T : Type 0} (old new : PassState) (f g : KernelState) (e : Entry) (turn : Turn T)
+    (entries cycles : ℕ) → TakesTurn old new f g e turn → FullOfEntries new turn →
+    turn ≡ turns.Full entries cycles → IsCut new
+full_cut old new f g e turn entries cycles takes full is =
+    let t = subst (TakesTurn old new f g e) is takes in
+    let m = subst (FullOfEntries new) is full in
+    let s : length new.seen ≡ length f.history = ap (λ (p : PassState). length p.seen) t.pass ∙
+    ap (λ (z : KernelState). length z.history) t.makes.0.kernel in
+    let n = t.makes.1 in
+    λ met. let x = m met in omega arith
 
 pub left_twice : (a b c : PassState) → LeavesAll a b → LeavesAll b c → LeavesAll a c
 left_twice a b c p q = let x = p.longer in let y = q.longer in record {

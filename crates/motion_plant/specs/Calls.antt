@@ -1,5 +1,5 @@
 -- The calls among the entries of a task. This project's profile.
-use Rattle.std.specs.Prelude.{◌≡◌, ℕ, List, [], ◌∷◌, ◌++◌, map, false}
+use Rattle.std.specs.Prelude.{◌≡◌, ℕ, List, [], ◌∷◌, ◌++◌, length, map, false}
 use Rattle.kernel_turn.specs.PassState.{PassState}
 use Rattle.motion_history.specs.Entries.{Entry, call, cycle, end_of, cycles_of}
 use Rattle.motion_plant.specs.Makers.{Logged}
@@ -23,6 +23,10 @@ entry_of c = call c.instance c.inputs c.reply
 -- entries that are all calls
 abbrev pub AreCalls : List Logged → Type 0
 AreCalls ls = map (λ (l : Logged). l.entry) ls ≡ map entry_of (logged_calls ls)
+
+-- a pass has met a stop, or has seen as many entries as there is room for
+abbrev pub IsCut : PassState → Type 0
+IsCut p = p.met_stop ≡ false → length p.seen ≡ p.config.entries
 
 -- what no turn of a pass changes
 abbrev pub fixed_part : PassState → PassState

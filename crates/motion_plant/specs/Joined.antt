@@ -1,5 +1,5 @@
 -- The passes of tasks, joined one after another. This project's profile.
-use Rattle.std.specs.Prelude.{◌≡◌, ℕ, suc, ◌+◌, ◌<◌, List, [], length, map, Bool, false}
+use Rattle.std.specs.Prelude.{◌≡◌, ℕ, suc, ◌+◌, ◌<◌, List, [], length, map, Bool, false, true}
 use Rattle.std.specs.declared.snapshot.Snapshot.{Snapshot}
 use mathlib.Core.List.{IsPrefix}
 use Rattle.atomic_table.specs.Seated.{TableId}
@@ -27,6 +27,7 @@ pub record IsStopped (first : PassState) (lines_first : List LineState) (k : Pas
   pub kept : kept_part k ≡ kept_part first
   pub out : k.out ≡ first.out
   pub stops : ending ≡ endings.Full → k.made_stop ≡ first.made_stop
+  pub made : ending ≡ endings.Over → k.made_stop ≡ true
   pub owns : Owns (IsUpTo first.config 0) k.own k.seen
   pub columns : Each (HasColumn (own_entries k.own k.seen)) lines
   pub cycles : Each (IsCycle first.config lines) (own_entries k.own k.seen)

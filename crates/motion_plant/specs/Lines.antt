@@ -55,7 +55,7 @@ pub record IsInStep (cs : List Logged) (i : ℕ) (l : LineState) : Type 0 where
   pub ins : length l.ins ≡ length cs
   pub goes_on : l.ended ≡ false
 
--- it has the outputs of these cycles, and as many answers or one more
+-- it has the outputs of these cycles, and at least as many answers
 pub record HasColumn (cs : List Logged) (i : ℕ) (l : LineState) : Type 0 where
   pub outs : l.outs ≡ outputs_in i (entries_of cs)
   pub ins : length cs ≤ length l.ins

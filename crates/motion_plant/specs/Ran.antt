@@ -21,11 +21,12 @@ use Rattle.motion_plant.specs.declared.task_job.TaskJob.{TaskJob}
 use Rattle.plc_program.specs.declared.program.Instruction.{Instruction}
 use Rattle.setpoint_ring.specs.declared.logs.DriveLog.{DriveLog}
 
--- a drive took its column of outputs, one a cycle, and its last answer is the one that these lead
--- to
+-- a drive took its column of outputs, one a cycle, and sent an answer at opening and behind each of
+-- them, of which the last is the one that these lead to
 pub record DriveMeets (d : DriveSim) (i : ℕ) (h : List Entry) (g : DriveLog) : Type 0 where
   pub took : g.took ≡ outputs_in i h
   pub taken : g.taken ≡ cycles_of h
+  pub sent : g.sent ≡ suc (cycles_of h)
   pub last : g.last ≡ answer_of (drive_after d (outputs_in i h))
 
 -- every task has ended, or all cycles were made, or there is no room

@@ -1,9 +1,9 @@
 -- What a task has made, and what it leaves. This project's profile.
-use Rattle.std.specs.Prelude.{◌≡◌, ℕ, suc, Bool, true, List, [], ◌∷◌, ◌++◌, map, if◌then◌else◌}
+use Rattle.std.specs.Prelude.{◌≡◌, ℕ, suc, Bool, true, false, List, [], ◌∷◌, ◌++◌, map, if◌then◌else◌}
 use Rattle.kernel_turn.specs.PassState.{PassState}
 use Rattle.motion_history.specs.Entries.{Entry, end_of}
 use Rattle.motion_history.specs.Setup.{Setup}
-use Rattle.motion_plant.specs.Calls.{entry_of, fixed_part, logged_calls}
+use Rattle.motion_plant.specs.Calls.{IsCut, entry_of, fixed_part, logged_calls}
 use Rattle.motion_plant.specs.Makers.{IsBy, Logged, Owns, entries_by, own_entries}
 use Rattle.motion_plant.specs.declared.task_job.TaskJobEnd.{TaskJobEnd}
 use Rattle.plc_program.specs.declared.program.Instruction.{Instruction}
@@ -22,13 +22,15 @@ pub record TaskMade (lines : List Instruction) (t : ℕ) (ended : Bool) (made : 
   pub calls : TaskCalls lines (logged_calls made)
   pub whole : ended ≡ true → IsEndedBy lines (logged_calls made)
 
--- the entries of a task in this history are what it has made, to its end or up to a refusal
+-- the entries of a task in this history are what it has made, with its end where it has ended
 abbrev pub TaskMeets : Setup → List Instruction → ℕ → List Entry → Type 0
 TaskMeets s lines t h = (ended : Bool) × TaskMade lines t ended (entries_by s (suc t) h)
 
--- the job of a task is done: its pass has made what the task has made, and nothing else
+-- the job of a task is done: its pass has made what the task has made, and nothing else; and where
+-- the task has not ended, the pass has met a stop or there was no room
 pub record TaskDone (before : PassState) (t : ℕ) (lines : List Instruction) (e : TaskJobEnd)
     : Type 0 where
   pub fixed : fixed_part e.pass ≡ fixed_part before
   pub owns : Owns (IsBy before.config t) e.pass.own e.pass.seen
   pub made : TaskMade lines t e.ended (own_entries e.pass.own e.pass.seen)
+  pub cut : e.ended ≡ false → IsCut e.pass

@@ -4,7 +4,7 @@ ghost use Rattle.std.specs.Prelude.{◌≡◌, ◌≤◌, ◌+◌, ◌++◌, ◌
 ghost use Rattle.motion_history.specs.Calls.{IsCall};
 ghost use Rattle.motion_history.specs.Entries.{Entry, call, cycles_of};
 ghost use Rattle.motion_history.specs.declared.sizes.TheConstants.{MOST_CYCLES};
-ghost use Rattle.motion_plant.specs.Calls.{AreCalls, fixed_part, logged_calls};
+ghost use Rattle.motion_plant.specs.Calls.{AreCalls, IsCut, fixed_part, logged_calls};
 ghost use Rattle.motion_plant.specs.Makers.{IsBy, Owns, own_entries};
 ghost use Rattle.task_run.specs.Callers.{cycles_from};
 
@@ -48,6 +48,7 @@ pub struct TurnCaller<'a, G: Gate + Drop> {
     pub ghost behind: { last ≤ cycles_of pass.seen },
     pub ghost few: { last ≤ pass.config.cycles },
     pub ghost small: { pass.config.cycles ≤ MOST_CYCLES },
+    pub ghost cut: { was_refused ≡ true → IsCut pass },
 }
 
 impl<'a, G: Gate + Drop> Caller for TurnCaller<'a, G> {
@@ -120,6 +121,7 @@ fn call_until<R: Wait, G: Gate + Drop>(
         (r.1 ≤ cycles_of pass.new.seen) × (r.1 ≤ pass.old.config.cycles)) }
     ensures none { IfNone result
         (own_entries pass.new.own pass.new.seen ≡ own_entries pass.old.own pass.old.seen) }
+    ensures cut { IfNone result (IsCut pass.new) }
 {
     let backoff = Backoff::new();
     for _ in rt.forever() {

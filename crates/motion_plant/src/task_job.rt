@@ -4,7 +4,7 @@ ghost use Rattle.std.specs.Prelude.{◌≡◌, ◌<◌, ◌≤◌, ◌++◌, ◌
 ghost use Rattle.std.specs.Arc.{arc_value};
 ghost use Rattle.motion_history.specs.Entries.{Entry, end_of};
 ghost use Rattle.motion_history.specs.declared.sizes.TheConstants.{MOST_CYCLES};
-ghost use Rattle.motion_plant.specs.Calls.{AreCalls, fixed_part, logged_calls};
+ghost use Rattle.motion_plant.specs.Calls.{AreCalls, IsCut, fixed_part, logged_calls};
 ghost use Rattle.motion_plant.specs.Makers.{IsBy, Owns, own_entries};
 ghost use Rattle.motion_plant.specs.TaskEnds.{TaskDone};
 ghost use Rattle.plc_program.specs.Programs.{IsProgramOf};
@@ -111,6 +111,7 @@ fn make_calls<R: Wait, G: Gate + Drop>(
         (logged_calls (own_entries result.0.own result.0.seen)) }
     ensures through { result.1 ≡ true → IsEndedBy (lines_of program.now run)
         (logged_calls (own_entries result.0.own result.0.seen)) }
+    ensures cut { result.1 ≡ false → IsCut result.0 }
 {
     tasks_have_their_own_lines();
     let mut run = run;
@@ -138,6 +139,7 @@ fn end_task<R: Wait, G: Gate + Drop>(rt: &R, turns: &TaskTurns<G>, pass: &mut Pa
         record { before = before; entry = end_of turns.now.task } ∷ []) }
     ensures refused { result ≡ false →
         own_entries pass.new.own pass.new.seen ≡ own_entries pass.old.own pass.old.seen }
+    ensures cut { result ≡ false → IsCut pass.new }
 {
     turns.gate.before(turns.task);
     let answer = turns.turn.turn_end(rt, pass, turns.task);

@@ -1,6 +1,6 @@
 -- The call is made in a turn, or the kernel is full.
 use Rattle.std.proofs.Common.{arith}
-use Rattle.motion_plant.proofs.TurnLaws.{call_came, call_spent, call_again}
+use Rattle.motion_plant.proofs.TurnLaws.{call_again, call_came, call_spent, full_cut}
 use Rattle.motion_plant.proofs.caller.call_until.Goals as goal
 
 pub returns-in-Made-clause-owns : goal.returns-in-Made-clause-owns
@@ -35,6 +35,11 @@ pub returns-in-Full-clause-none : goal.returns-in-Full-clause-none
 returns-in-Full-clause-none g c =
     (call_spent _ _ _ _ c.loop.invariant.left c.loop.invariant.owns _ _ _ _ _ _
     c.turn_call-answer.ensures.answer c.in-Full.is).1.made
+
+pub returns-in-Full-clause-cut : goal.returns-in-Full-clause-cut
+returns-in-Full-clause-cut g c =
+    let a = c.turn_call-answer.ensures.answer in
+    full_cut _ _ a.0 a.1 _ _ _ _ a.2 c.turn_call-answer.ensures.full c.in-Full.is
 
 pub loop-preserved : goal.loop-preserved
 loop-preserved g c =

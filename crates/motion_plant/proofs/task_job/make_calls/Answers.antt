@@ -21,6 +21,7 @@ invariant_of-caller g c =
       behind = omega arith;
       few = omega arith;
       small = c.requires.small;
+      cut = λ t. absurd (cc);
     }
 
 pub run_task-through-requires-clause-own : goal.run_task-through-requires-clause-own

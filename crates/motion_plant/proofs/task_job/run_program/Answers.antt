@@ -10,5 +10,5 @@ returns g c =
     record {
       done = task_done c.args.pass c.args.turns.now.task _ c.make_calls-pass.result.0
           c.end_task-ended.new.pass c.end_task-ended.result m.fixed e.fixed e.owns m.calls m.follows
-          (m.through (search rules)) e.ended e.refused;
+          (m.through (search rules)) e.ended e.refused e.cut;
     }

@@ -26,6 +26,7 @@ invariant_of-self g c =
       behind = x;
       few = omega arith;
       small = omega arith;
+      cut = λ t. let u : old.was_refused ≡ false = c.requires.unrefused in absurd (cc);
     }
 
 pub returns-in-Some-clause-made : goal.returns-in-Some-clause-made
