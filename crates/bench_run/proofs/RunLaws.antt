@@ -1,5 +1,5 @@
 -- The run of a bench, an event after another.
-use Rattle.std.specs.Prelude.{◌≡◌, refl, ℕ, zero, suc, ◌+◌, ◌-◌, ◌<◌, nat_lt, true, false, All, IsSomeAnd, Result, Ok, Err, List, [], ◌∷◌, ◌++◌, length, drop, replicate, slice_get, slice_index_or}
+use Rattle.std.specs.Prelude.{◌≡◌, refl, ℕ, zero, suc, ◌+◌, ◌-◌, ◌<◌, false, All, IsSomeAnd, Result, Ok, Err, List, [], ◌∷◌, ◌++◌, length, drop, replicate, slice_get, slice_index_or}
 use Rattle.std.specs.List.{flat_map}
 use Rattle.std.proofs.Common.{◌∙◌, sym, ap, subst, arith}
 use Rattle.std.proofs.lemmas.List.{drop_more}
