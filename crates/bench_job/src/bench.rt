@@ -1,6 +1,6 @@
 // A bench is run, and its trace written.
 
-ghost use Rattle.std.specs.Prelude.{◌≡◌, length, map};
+ghost use Rattle.std.specs.Prelude.{◌≡◌, IfOk, length, map};
 ghost use Rattle.bench_job.specs.Ends.{EndsByBench};
 ghost use Rattle.bench_job.specs.Headline.{RunsBy};
 ghost use Rattle.bench_job.specs.Plans as plans;
@@ -17,8 +17,8 @@ use job_ends::{Status, ends_follow_plans, say_refused, status_by};
 use machine_drives::end_rows;
 use motion_history::TextFault;
 use outside::Sink;
-use std::alloc::Global;
-use trace_text::{Command, TraceFault, parts_are_beginnings, write_trace};
+use std::alloc::{AllocError, Global};
+use trace_text::{Command, DriveEndRow, TraceFault, parts_are_beginnings, write_trace};
 
 /// Runs the bench that a text is, and writes its trace.
 pub fn run_text<K: Sink>(alloc: Global, name: &str, text: &[u8], out: &mut K) -> Status
@@ -46,8 +46,7 @@ fn run_bench<K: Sink>(alloc: Global, bench: &Bench, out: &mut K) -> Status
     let Ok(ran) = run(alloc, bench) else {
         return Status::OutOfMemory;
     };
-    let written = write_run(alloc, bench, &ran, out);
-    status_by(status_of(ran.ending), written)
+    status_by(status_of(ran.ending), write_run(alloc, bench, &ran, out))
 }
 
 // The status that a run ends with.
@@ -77,8 +76,7 @@ fn write_run<K: Sink>(
 {
     parts_are_beginnings();
     let history = ran.kernel.history();
-    let cycles = ran.kernel.config().cycles() - ran.kernel.cycles_left();
-    let Ok(drives) = end_rows(alloc, cycles, ran.drives.as_slice()) else {
+    let Ok(drives) = ends_of(alloc, ran) else {
         return Err(TraceFault::OutOfMemory);
     };
     write_trace(
@@ -90,4 +88,12 @@ fn write_run<K: Sink>(
         drives.as_slice(),
         out,
     )
+}
+
+// How the drives of a run ended.
+fn ends_of(alloc: Global, ran: &Ran) -> Result<Vec<DriveEndRow>, AllocError>
+    ensures { IfOk result (λ rows. rows.items ≡
+        map (drive_end (cycles_of ran.now.kernel.history)) ran.now.drives.items) }
+{
+    end_rows(alloc, ran.kernel.cycles_made(), ran.drives.as_slice())
 }

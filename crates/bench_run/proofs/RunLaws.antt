@@ -1,24 +1,18 @@
 -- The run of a bench, an event after another.
-use Rattle.std.specs.Prelude.{◌≡◌, refl, ℕ, zero, suc, ◌+◌, ◌-◌, ◌<◌, nat_lt, true, false, All, IsSomeAnd, Result, Ok, Err, List, [], ◌∷◌, ◌++◌, length, drop, replicate, slice_get, slice_index_or}
+use Rattle.std.specs.Prelude.{◌≡◌, refl, ℕ, zero, suc, ◌+◌, ◌-◌, ◌<◌, false, All, IsSomeAnd, Result, Ok, Err, List, [], ◌∷◌, ◌++◌, length, drop, replicate, slice_get, slice_index_or}
 use Rattle.std.specs.List.{flat_map}
 use Rattle.std.proofs.Common.{◌∙◌, sym, ap, subst, arith}
 use Rattle.std.proofs.lemmas.List.{drop_more}
-use Rattle.std.proofs.lemmas.Bool.{and_parts, ltb-true}
-use Rattle.std.proofs.lemmas.List.Elements.{All-weaker}
-use Rattle.bench_text.specs.BenchState.{BenchState, IsDrive, IsLineOf}
-use Rattle.motion_history.specs.Drives.{rise_above}
+use Rattle.bench_text.specs.BenchState.{BenchState, IsLineOf}
 use Rattle.bench_text.specs.declared.bench.BenchLine.{BenchLine}
-use Rattle.drive_sim.specs.Faults.{RisesAbove}
 use Rattle.drive_sim.specs.Sim.{DriveSim}
 use Rattle.motion_history.specs.Setup.{Setup, IsSetup}
 use Rattle.motion_history.specs.declared.config.BlockDef.{BlockDef}
-use Rattle.motion_history.specs.declared.drives.DriveDef.{DriveDef}
 use Rattle.motion_history.specs.Entries.{Entry}
 use Rattle.motion_kernel.specs.Histories.{IsLegal}
 use Rattle.motion_kernel.specs.KernelState.{KernelState}
 use Rattle.motion_laws.specs.Laws.{KeepsLaws}
 use Rattle.bench_run.specs.LegalRun.{IsLegalRun}
-use Rattle.machine_drives.specs.Drives.{CanOpen}
 use Rattle.bench_run.specs.Going.{IsGoing, run_at}
 use Rattle.bench_run.specs.Run.{Event, Run, a_cycle, events_of, is_cycle, made, made_all, next_of, room_for, run_of, tried}
 use Rattle.bench_run.specs.declared.bench.RunFault.{RunFault}
@@ -142,23 +136,6 @@ going-first k s drives h c o each = rw c (record {
   few = h.within.sizes.axes;
   runs = o;
 })
-
--- fault steps that rise
-rises : (n : ℕ) (steps : List ℕ) → rise_above n steps ≡ true → RisesAbove n steps
-rises n [] h = tt
-rises n (step ∷ steps) h =
-    let parts = and_parts (nat_lt n step) (rise_above step steps) h in
-    (ltb-true _ _ parts.0, rises step steps parts.1)
-
--- the drive of a bench can be opened
-pub can-open : (d : DriveDef) → IsDrive d → CanOpen d
-can-open d is = record { lag = is.lag; few = is.few; rising = rises 0 d.faults is.rising }
-
--- the drives of a bench can be opened
-pub can-open-all : (ds es : List DriveDef) → ds ≡ es → All IsDrive es → All CanOpen ds
-can-open-all ds es e h =
-    let P : List DriveDef → Type 0 = λ xs. All CanOpen xs in
-    subst P (sym e) (All-weaker IsDrive CanOpen can-open es h)
 
 -- the same lines of the same configuration
 pub same-lines : (s t : Setup) (xs ys : List BenchLine) → s ≡ t → xs ≡ ys →

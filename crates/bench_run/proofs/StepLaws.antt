@@ -1,7 +1,6 @@
 -- The drives of a run are in step with its history.
-use Rattle.std.specs.Prelude.{◌≡◌, refl, ℕ, ◌+◌, ◌-◌, ◌≤◌, ◌<◌, ◌⊎◌, ◌==◌, if◌then◌else◌, Bool, true, false, Result, Ok, Err, List, [], ◌∷◌, ◌++◌, length, map}
-use Rattle.std.proofs.Common.{◌∙◌, inl, inr, sym, ap, subst, arith}
-use Rattle.std.proofs.lemmas.Bool.{eqb-true}
+use Rattle.std.specs.Prelude.{◌≡◌, refl, ℕ, ◌+◌, ◌⊎◌, Result, Ok, Err, List, [], ◌∷◌, ◌++◌, map}
+use Rattle.std.proofs.Common.{◌∙◌, inl, inr, sym, ap, subst}
 use Rattle.axis_state.specs.declared.definition.AxisRow.{AxisRow}
 use Rattle.bench_text.specs.BenchState.{BenchState}
 use Rattle.drive_sim.specs.Sim.{DriveSim}
@@ -15,7 +14,7 @@ use Rattle.motion_kernel.specs.Histories.{machine_after}
 use Rattle.machine_drives.specs.Laws.{FollowOutputs}
 use Rattle.bench_run.specs.InStep.{IsInStep}
 use Rattle.machine_drives.specs.Drives.{drives_after, drives_at_opening, drives_stepped}
-use Rattle.bench_run.specs.Run.{Event, Run, a_call, a_cycle, an_end, cycled, cycles_in, events_in, happened, is_cycle, made, made_all, next_of, room_for, run_at_opening, run_of, tried}
+use Rattle.bench_run.specs.Run.{Event, Run, a_call, a_cycle, an_end, cycled, events_in, happened, is_cycle, made, made_all, next_of, room_for, run_at_opening, run_of, tried}
 use Rattle.bench_run.specs.declared.bench.RunFault.{RunFault}
 
 -- what the machine gives in a cycle after a history

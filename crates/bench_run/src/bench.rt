@@ -10,7 +10,7 @@ ghost use Rattle.bench_run.specs.Run as spec;
 use crate::events::make_all;
 use bench_text::Bench;
 use drive_sim::Drive;
-use machine_drives::open_drives;
+use machine_drives::{drives_can_be_opened, open_drives};
 use motion_history::OutOfMemory;
 use motion_kernel::Kernel;
 use motion_laws::histories_keep_their_laws;
@@ -51,6 +51,7 @@ pub fn run(alloc: Global, bench: &Bench) -> Result<Ran, OutOfMemory>
     ensures going { IfOk result (λ r. IsGoing r.kernel r.drives.items) }
     ensures legal { OnOk result (IsLegalRun bench.now) }
 {
+    drives_can_be_opened();
     let config = bench.config();
     let mut drives = open_drives(alloc, config.axes(), bench.drives().as_slice())?;
     let Ok(mut kernel) = Kernel::open(alloc, config.copy(alloc)?) else {

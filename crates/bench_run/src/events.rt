@@ -78,10 +78,7 @@ fn make_cycle(kernel: &mut Kernel, drives: &mut [Drive]) -> Result<(), RunFault>
         spec.made kernel.old.config spec.a_cycle (run_at kernel.old drives.old (Ok tt)) }
     ensures going { IsGoing kernel.new drives.new }
 {
-    match room_for(kernel, true) {
-        Ok(()) => {}
-        Err(fault) => return Err(fault),
-    }
+    room_for(kernel, true)?;
     cycle(kernel, drives);
     Ok(())
 }
@@ -97,10 +94,7 @@ fn make_cycles(kernel: &mut Kernel, drives: &mut [Drive], count: u32) -> Result<
     ensures going { IsGoing kernel.new drives.new }
 {
     for _ in 0..count {
-        match make_cycle(kernel, drives) {
-            Ok(()) => {}
-            Err(fault) => return Err(fault),
-        }
+        make_cycle(kernel, drives)?;
     }
     Ok(())
 }
@@ -115,10 +109,7 @@ fn make_call(kernel: &mut Kernel, instance: u16, inputs: &Inputs) -> Result<(), 
         spec.made kernel.old.config (spec.a_call instance inputs.now)
         (run_at kernel.old drives (Ok tt)) }
 {
-    match room_for(kernel, false) {
-        Ok(()) => {}
-        Err(fault) => return Err(fault),
-    }
+    room_for(kernel, false)?;
     let task = kernel.config().blocks()[instance as usize].task;
     kernel.call(task, instance, inputs);
     Ok(())
@@ -134,10 +125,7 @@ fn make_end(kernel: &mut Kernel, task: u8) -> Result<(), RunFault>
         spec.made kernel.old.config (spec.an_end task)
         (run_at kernel.old drives (Ok tt)) }
 {
-    match room_for(kernel, false) {
-        Ok(()) => {}
-        Err(fault) => return Err(fault),
-    }
+    room_for(kernel, false)?;
     kernel.end(task);
     Ok(())
 }
@@ -176,10 +164,7 @@ pub fn make_all(
     ensures going { IsGoing kernel.new drives.new }
 {
     for line in lines {
-        match make_line(kernel, drives, line) {
-            Ok(()) => {}
-            Err(fault) => return Err(fault),
-        }
+        make_line(kernel, drives, line)?;
     }
     Ok(())
 }

@@ -16,6 +16,15 @@ pub struct Draws {
 }
 
 impl Draws {
+    /// The draws from a seed on.
+    pub fn from_seed(seed: u32) -> Draws
+        ensures { result.state ≡ seed }
+    {
+        Draws {
+            state: u64::from(seed),
+        }
+    }
+
     /// The next number, below k.
     pub fn draw(&mut self, k: u64) -> u64
         requires { 0 < k }

@@ -1,8 +1,11 @@
 // The generated load.
 
-ghost use Rattle.std.specs.Prelude.{◌≡◌, ◌++◌, IfOk, OnOk, replicate};
+ghost use Rattle.std.specs.Prelude.{◌≡◌, ◌++◌, ◌∷◌, [], IfOk, OnOk, replicate};
+ghost use Rattle.bench_text.specs.declared.bench.BenchLine.TheVariants.{Call};
 ghost use Rattle.motion_history.specs.Drives as plain;
+ghost use Rattle.motion_history.specs.Setup.{IsSetup};
 ghost use Rattle.load_gen.specs.Load as spec;
+ghost use Rattle.load_gen.specs.Machine as bench_machine;
 
 use crate::draws::Draws;
 use crate::machine::{AXES, BLOCKS, machine};
@@ -10,7 +13,7 @@ use crate::round::{Round, draw_round};
 use bench_text::{Bench, BenchLine};
 use fb_outputs::{INPUTS_OFF, Inputs};
 use machine_words::plain_drive;
-use motion_history::{DriveDefs, MOST_MEMBERS, OutOfMemory, TraceVersion};
+use motion_history::{Config, DriveDefs, MOST_MEMBERS, OutOfMemory, TraceVersion};
 use std::alloc::{AllocError, Global};
 
 /// How many rounds there are.
@@ -28,12 +31,21 @@ const CYCLES: u32 = 5;
 pub fn generate(alloc: Global, seed: u32) -> Result<Bench, OutOfMemory>
     ensures { IfOk result (λ bench. bench ≡ spec.generated_bench seed) }
 {
-    let Ok(config) = machine(alloc) else {
-        return Err(OutOfMemory);
-    };
+    let config = load_machine(alloc)?;
     let drives = plain_drives(alloc)?;
     let lines = lines_from(alloc, seed)?;
     Ok(Bench::new(TraceVersion::One, config, drives, lines))
+}
+
+// The machine, or there is no memory for it.
+fn load_machine(alloc: Global) -> Result<Config, OutOfMemory>
+    ensures ok { IfOk result (λ c. c ≡ bench_machine.machine) }
+    ensures setup { IfOk result (λ c. IsSetup c) }
+{
+    let Ok(config) = machine(alloc) else {
+        return Err(OutOfMemory);
+    };
+    Ok(config)
 }
 
 // A drive without a lag and faults for each axis.
@@ -52,9 +64,7 @@ fn lines_from(alloc: Global, seed: u32) -> Result<Vec<BenchLine>, AllocError>
     ensures { IfOk result (λ lines. lines.items ≡ spec.lines_from seed) }
 {
     let mut lines = Vec::with_capacity(alloc, ROUNDS * LINES + 1)?;
-    let mut draws = Draws {
-        state: u64::from(seed),
-    };
+    let mut draws = Draws::from_seed(seed);
     for _ in 0..ROUNDS {
         push_round(&mut lines, &draw_round(&mut draws))?;
     }
@@ -67,15 +77,26 @@ fn lines_from(alloc: Global, seed: u32) -> Result<Vec<BenchLine>, AllocError>
 fn push_round(lines: &mut Vec<BenchLine>, round: &Round) -> Result<(), AllocError>
     ensures { OnOk result (lines.new.items ≡ lines.old.items ++ spec.lines_of round.now) }
 {
-    let instance = u16::from(round.axis) * u16::from(BLOCKS) + u16::from(round.block);
-    let inputs = inputs_of(round);
-    lines.push(BenchLine::Call {
-        instance,
-        inputs: INPUTS_OFF,
-    })?;
-    lines.push(BenchLine::Call { instance, inputs })?;
+    let instance = instance_of(round);
+    push_call(lines, instance, INPUTS_OFF)?;
+    push_call(lines, instance, inputs_of(round))?;
     lines.push(BenchLine::Cycles { count: CYCLES })?;
     Ok(())
+}
+
+// Adds a call of an instance.
+fn push_call(lines: &mut Vec<BenchLine>, instance: u16, inputs: Inputs) -> Result<(), AllocError>
+    ensures { OnOk result (lines.new.items ≡ lines.old.items ++ Call instance inputs ∷ []) }
+{
+    lines.push(BenchLine::Call { instance, inputs })?;
+    Ok(())
+}
+
+// The instance that a round calls.
+fn instance_of(round: &Round) -> u16
+    ensures { result ≡ spec.number_of round.now }
+{
+    u16::from(round.axis) * u16::from(BLOCKS) + u16::from(round.block)
 }
 
 // The inputs of a round's call with Execute true.

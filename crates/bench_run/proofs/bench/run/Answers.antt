@@ -1,14 +1,19 @@
 -- The run of a bench begins, and ends in a legal history.
-use Rattle.std.proofs.Common.{◌∙◌, List, ap, length}
+use Rattle.std.proofs.Common.{◌∙◌, List, ap, length, subst, sym}
+use Rattle.std.specs.List.{All}
 use Rattle.drive_sim.specs.Sim.{DriveSim}
 use Rattle.axis_state.specs.declared.definition.AxisDef.{AxisDef}
+use Rattle.machine_drives.specs.Drives.{CanOpen}
+use Rattle.motion_history.specs.declared.drives.DriveDef.{DriveDef}
 use Rattle.motion_kernel.specs.KernelState.{KernelState}
-use Rattle.bench_run.proofs.RunLaws.{can-open-all, going-first, same-lines}
+use Rattle.bench_run.proofs.RunLaws.{going-first, same-lines}
 use Rattle.bench_run.proofs.bench.run.Goals as goal
 
 pub open_drives-requires-clause-drives : goal.open_drives-requires-clause-drives
 open_drives-requires-clause-drives c =
-    can-open-all _ _ (c.as_slice.ensures ∙ c.drives.ensures) c.config-config.ensures.bench.drives
+    let P : List DriveDef → Type 0 = λ ds. All CanOpen ds in
+    subst P (sym (c.as_slice.ensures ∙ c.drives.ensures))
+    (c.drives_can_be_opened.ensures.all _ c.config-config.ensures.bench.drives)
 
 pub make_all-ending-requires-clause-lines : goal.make_all-ending-requires-clause-lines
 make_all-ending-requires-clause-lines c =

@@ -1,6 +1,7 @@
 -- There is room for the call, or it ends the run.
 use Rattle.std.specs.Prelude.{Ok, Err, List, ◌∷◌, ◌++◌, []}
 use Rattle.std.proofs.Common.{◌∙◌, refl, ap}
+use Rattle.std.proofs.lemmas.Result.{err_from_is_err_and}
 use Rattle.fb_outputs.specs.declared.outputs.Outputs.{Outputs}
 use Rattle.motion_history.specs.Entries.{Entry, call}
 use Rattle.motion_history.specs.Setup.{Setup}
@@ -10,10 +11,11 @@ use Rattle.bench_run.proofs.RunLaws.{made-by, task-at}
 use Rattle.bench_run.specs.Going.{run_at}
 use Rattle.bench_run.proofs.events.make_call.Goals as goal
 
-pub returns-in-Err-clause-made : goal.returns-in-Err-clause-made
-returns-in-Err-clause-made c = λ drives.
-    made-by _ (a_call c.args.instance c.args.inputs.now) (run_at c.args.kernel.now drives (Ok tt))
-    (Err c.in-Err.fault) refl c.in-Err.ensures.value
+pub returns-in_err-room_for-clause-made : goal.returns-in_err-room_for-clause-made
+returns-in_err-room_for-clause-made c = λ drives.
+    let p = err_from_is_err_and c.from_residual.result c.from_residual.ensures.1 in
+    rw (p.1, p.2) (made-by _ (a_call c.args.instance c.args.inputs.now) (run_at c.args.kernel.now drives (Ok tt))
+    (Err c.in_err-room_for.field-0.0) refl c.in_err-room_for.ensures.value)
 
 pub call-requires-clause-task : goal.call-requires-clause-task
 call-requires-clause-task c =
@@ -29,4 +31,4 @@ returns-clause-made c = λ drives.
     let run : List Entry → Run = λ h. record { history = h; drives = drives; ending = Ok tt } in
     ap run made
     ∙ made-by _ (a_call c.args.instance c.args.inputs.now) (run_at c.args.kernel.now drives (Ok tt))
-    (Ok tt) refl c.in-Ok.ensures.value
+    (Ok tt) refl c.in_ok-room_for.ensures.value
