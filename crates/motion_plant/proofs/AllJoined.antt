@@ -92,7 +92,9 @@ module _ {J : Type 0} where
       get_before old more n lt)
       (λ n ge lt. joined.joined n (omega arith) (omega arith))
 
-  pub none_more : (old new : List (Option J)) → new ≡ old → (k : ℕ) × (new ≡ old ++ replicate k None)
+  -- where nothing was started
+  pub none_more : (old new : List (Option J)) → new ≡ old →
+      (k : ℕ) × (new ≡ old ++ replicate k None)
   none_more old new e = (0, e ∙ sym (append-nil old))
 
 module _ {G : Type 0} where
