@@ -1,5 +1,6 @@
 pub mod Lists
 pub mod Zips
+pub mod AllJoined
 pub mod OwnEntries
 pub mod JoinedEntries
 pub mod LoggedCalls

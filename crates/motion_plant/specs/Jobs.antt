@@ -1,5 +1,5 @@
 -- What a plant's jobs begin and end with. This project's profile.
-use Rattle.std.specs.Prelude.{◌≡◌, ◌≤◌, ◌+◌, [], List, ℕ, Option, Some, false, slice_get}
+use Rattle.std.specs.Prelude.{◌≡◌, ◌<◌, ◌≤◌, ◌+◌, [], List, ℕ, Option, Some, None, false, length, slice_get}
 use Rattle.std.specs.Arc.{arc_value}
 use Rattle.std.specs.declared.snapshot.Snapshot.{Snapshot}
 use Rattle.drive_jobs.specs.Answered.{IsDone}
@@ -72,3 +72,10 @@ pub record IsSeat {G : Type 0} (program : List (List Instruction)) (k : PassStat
   pub table : j.pass.table ≡ k.table
   pub config : j.pass.config ≡ k.config
   pub stops : j.pass.made_stop ≡ false
+
+-- so many jobs, from a number on, were joined; the others stand as they stood
+pub record AreJoined {J : Type 0} (old new : List (Option J)) (base k : ℕ) : Type 0 where
+  pub before : (n : ℕ) → n < base → slice_get new n ≡ slice_get old n
+  pub joined : (n : ℕ) → base ≤ n → n < base + k → slice_get new n ≡ Some None
+  pub behind : (n : ℕ) → base + k ≤ n → slice_get new n ≡ slice_get old n
+  pub count : length new ≡ length old

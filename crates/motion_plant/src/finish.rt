@@ -6,7 +6,7 @@ ghost use Rattle.drive_jobs.specs.LineState.{LineState};
 ghost use Rattle.kernel_turn.specs.PassState.{PassState};
 ghost use Rattle.motion_history.specs.declared.sizes.TheConstants.{MOST_CYCLES};
 ghost use Rattle.motion_plant.specs.Cycling.{IsCycled};
-ghost use Rattle.motion_plant.specs.Jobs.{AreDrivesAt, AreTasksAt};
+ghost use Rattle.motion_plant.specs.Jobs.{AreDrivesAt, AreJoined, AreTasksAt};
 ghost use Rattle.motion_plant.specs.Joined.{IsSeated, IsStopped};
 ghost use Rattle.motion_plant.specs.Lines.{IsInStep, ended_line};
 ghost use Rattle.motion_plant.specs.Places.{Each};
@@ -82,6 +82,8 @@ pub fn run_started<H: Host + Wait, G: Gate + Drop + Send + 'static>(
     ensures logs { length result.drives.items ≡ length jobs.lines.items }
     ensures same { (spawner.new.faults ≡ spawner.old.faults) ×
         (length spawner.new.jobs ≡ length spawner.old.jobs) }
+    ensures gone { AreJoined spawner.old.jobs spawner.new.jobs jobs.base
+        (length jobs.lines.items + length jobs.seats.items) }
 {
     let OpenKernel { turn, mut pass } = opened;
     let StartedJobs {

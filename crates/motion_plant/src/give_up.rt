@@ -2,7 +2,7 @@
 
 ghost use Rattle.std.specs.Prelude.{◌≡◌, ◌≤◌, ◌+◌, ℕ, Some, length, slice_get};
 ghost use Rattle.std.specs.Arc.{arc_value};
-ghost use Rattle.motion_plant.specs.Jobs.{AreDrivesAt, AreTasksAt};
+ghost use Rattle.motion_plant.specs.Jobs.{AreDrivesAt, AreJoined, AreTasksAt};
 ghost use Rattle.motion_plant.specs.Places.{Each};
 ghost use Rattle.outside.specs.declared.TheConstants.{MOST_JOBS};
 
@@ -25,6 +25,7 @@ fn drop_drives<H: Host + Wait, G: Gate + Drop + Send + 'static>(
     ensures rest { (n : ℕ) → base + length lines.now.items ≤ n →
         slice_get spawner.new.jobs n ≡ slice_get spawner.old.jobs n }
     ensures same { spawner.new.faults ≡ spawner.old.faults }
+    ensures joined { AreJoined spawner.old.jobs spawner.new.jobs base (length lines.now.items) }
 {
     for i in 0..lines.len() {
         join_drive(spawner, base + i as u32, &lines[i]);
@@ -40,6 +41,7 @@ fn drop_tasks<H: Host + Wait, G: Gate + Drop + Send + 'static>(
     requires started { AreTasksAt spawner.old.jobs base seats.now.items }
     requires few { base + length seats.now.items ≤ MOST_JOBS }
     ensures same { spawner.new.faults ≡ spawner.old.faults }
+    ensures joined { AreJoined spawner.old.jobs spawner.new.jobs base (length seats.now.items) }
 {
     for i in 0..seats.len() {
         join_task(spawner, base + i as u32, &seats[i]);
@@ -59,6 +61,8 @@ pub fn give_up<H: Host + Wait, G: Gate + Drop + Send + 'static>(
     requires few { jobs.base + length jobs.lines.items + length jobs.seats.items ≤ MOST_JOBS }
     requires own { opened.pass.table ≡ arc_value opened.turn }
     ensures same { spawner.new.faults ≡ spawner.old.faults }
+    ensures joined { AreJoined spawner.old.jobs spawner.new.jobs jobs.base
+        (length jobs.lines.items + length jobs.seats.items) }
 {
     let OpenKernel { turn, mut pass } = opened;
     let StartedJobs {

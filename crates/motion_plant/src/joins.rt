@@ -4,7 +4,7 @@ ghost use Rattle.std.specs.Prelude.{◌≡◌, ◌≤◌, ◌+◌, [], ℕ, None
 ghost use Rattle.drive_jobs.specs.Answered.{IsDone};
 ghost use Rattle.drive_jobs.specs.Log.{IsLogOf};
 ghost use Rattle.kernel_turn.specs.Turns.{IsJoined};
-ghost use Rattle.motion_plant.specs.Jobs.{AreDrivesAt, AreTasksAt, job_lines, line_job, seat_job};
+ghost use Rattle.motion_plant.specs.Jobs.{AreDrivesAt, AreJoined, AreTasksAt, job_lines, line_job, seat_job};
 ghost use Rattle.motion_plant.specs.Joined.{HasMade, IsJoinedUpTo, IsSeated};
 ghost use Rattle.motion_plant.specs.Lines.{IsLogAt};
 ghost use Rattle.motion_plant.specs.Makers.{IsUpTo, Owns, own_entries};
@@ -89,6 +89,7 @@ pub fn finish_drives<H: Host + Wait, G: Gate + Drop + Send + 'static>(
         slice_get spawner.new.jobs n ≡ slice_get spawner.old.jobs n }
     ensures same { (spawner.new.faults ≡ spawner.old.faults) ×
         (length spawner.new.jobs ≡ length spawner.old.jobs) }
+    ensures gone { AreJoined spawner.old.jobs spawner.new.jobs base (length lines.old.items) }
 {
     for i in 0..lines.len() {
         let log = finish_drive(spawner, base + i as u32, &mut lines[i]);
@@ -136,6 +137,7 @@ pub fn finish_tasks<H: Host + Wait, G: Gate + Drop + Send + 'static>(
         seats.now.items }
     ensures same { (spawner.new.faults ≡ spawner.old.faults) ×
         (length spawner.new.jobs ≡ length spawner.old.jobs) }
+    ensures gone { AreJoined spawner.old.jobs spawner.new.jobs base (length seats.now.items) }
 {
     for i in 0..seats.len() {
         finish_task(spawner, base + i as u32, turn, pass, &seats[i]);

@@ -1,6 +1,6 @@
 // The run of a plant.
 
-ghost use Rattle.std.specs.Prelude.{◌≡◌, ◌≤◌, ◌+◌, IfErr, IfOk, OnOk, length};
+ghost use Rattle.std.specs.Prelude.{◌≡◌, ◌≤◌, ◌+◌, ◌++◌, ℕ, IfErr, IfOk, None, OnOk, length, replicate};
 ghost use Rattle.std.specs.Arc.{arc_value};
 ghost use Rattle.std.specs.List.{All};
 ghost use Rattle.kernel_turn.specs.Turns.{opening_pass};
@@ -75,6 +75,7 @@ pub fn run_plant<H: Host + Wait, G: Gate + Drop + Send + 'static>(
         length setup.now.config.axes + length setup.now.config.tasks) }
     ensures refused { IfErr result (λ e. e ≡ ThreadRefused →
         Rose spawner.old.faults spawner.new.faults) }
+    ensures joined { (k : ℕ) × (spawner.new.jobs ≡ spawner.old.jobs ++ replicate k None) }
 {
     let axes = setup.config.axes();
     let tasks = setup.program.tasks() as usize;

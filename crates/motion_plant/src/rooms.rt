@@ -1,4 +1,4 @@
-// What a plant keeps of what it has started, and the memory that it takes before it starts anything.
+// What a plant keeps of what it has started, and the memory that it takes before any start.
 
 ghost use Rattle.std.specs.Prelude.{◌≡◌, ◌<◌, ◌≤◌, ◌+◌, ◌++◌, ◌∷◌, [], IfOk, vec_capacity, vec_len};
 

@@ -1,5 +1,5 @@
 -- What was started has stood still until it is joined, and the close gives the whole.
-use Rattle.std.proofs.Common.{length, ap, ◌∙◌, sym, arith, subst}
+use Rattle.std.proofs.Common.{length, ap, ◌∙◌, sym, arith, subst, rules}
 use Rattle.atomic_table.specs.Seated.{TableId}
 use Rattle.kernel_turn.specs.PassState.{PassState}
 use Rattle.motion_plant.specs.Joined.{IsSeated}
@@ -7,6 +7,7 @@ use Rattle.motion_plant.specs.Lines.{ended_line}
 use Rattle.motion_plant.specs.Makers.{IsUpTo, Owns}
 use Rattle.motion_plant.specs.Places.{Each}
 use Rattle.motion_history.specs.Setup.{Setup}
+use Rattle.motion_plant.proofs.AllJoined.{joined_both}
 use Rattle.motion_plant.proofs.Lists.{length_map}
 use Rattle.motion_plant.proofs.Meets.{meets, seats_still, still_started}
 use Rattle.motion_plant.proofs.finish.run_started.Goals as goal
@@ -81,3 +82,15 @@ returns-clause-config g c =
     c.close-kernel.ensures.closed.config ∙
     ap (λ (p : PassState). p.config) c.finish_tasks.ensures.joined.kept ∙
     ap (λ (p : PassState). p.config) s.kept
+
+pub returns-clause-gone : goal.returns-clause-gone
+returns-clause-gone g c =
+    let s = c.stop_if_over.ensures.stopped c.args.opened.pass c.args.jobs.lines.items
+    c.run_cycles-ending.new.lines.items c.run_cycles-ending.ensures.cycled in
+    let n = ap length c.end_all.ensures.ended ∙
+    length_map ended_line c.run_cycles-ending.new.lines.items in
+    let a = s.width in
+    let b = c.requires.width.0 in
+    joined_both c.args.spawner.now.jobs c.finish_drives.new.spawner.jobs
+    c.finish_tasks.new.spawner.jobs c.args.jobs.base _ _ _ _ c.finish_drives.ensures.gone
+    c.finish_tasks.ensures.gone (search rules) (omega arith)

@@ -4,7 +4,8 @@ use Rattle.std.specs.Prelude.{slice_get}
 use Rattle.outside.specs.Started.{Started}
 use Rattle.motion_plant.specs.Lines.{IsLogAt}
 use Rattle.motion_plant.specs.Places.{Each}
-use Rattle.motion_plant.proofs.Lists.{get_or_at, each_more, get_else, length_set}
+use Rattle.motion_plant.proofs.AllJoined.{joined_one}
+use Rattle.motion_plant.proofs.Lists.{each_more, get_else, get_or_at, get_some, length_set}
 use Rattle.motion_plant.proofs.joins.finish_drives.Goals as goal
 
 pub loop-i-preserved : goal.loop-i-preserved
@@ -32,4 +33,8 @@ loop-i-preserved g c =
           inv.rest n (omega arith);
       faults = ap (λ (s : Started _). s.faults) f.joined ∙ inv.faults;
       count = n ∙ length_set c.loop-i.spawner.jobs (c.args.base + c.loop-i.i) None ∙ inv.count;
+      gone = joined_one c.args.spawner.now.jobs c.loop-i.spawner.jobs _ c.args.base c.loop-i.i
+          inv.gone (get_some c.args.spawner.now.jobs (c.args.base + c.loop-i.i) _
+          (c.requires.started c.loop-i.i c.index_mut.result.now first))
+          (ap (λ (s : Started _). s.jobs) f.joined);
     }

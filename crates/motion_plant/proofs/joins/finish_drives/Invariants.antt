@@ -1,6 +1,7 @@
 -- The logs so far are those of their lines.
 use Rattle.std.proofs.Common.{◌≡◌, ◌≤◌, ◌+◌, ℕ, length}
 use Rattle.std.specs.Prelude.{vec_len, vec_capacity, slice_get}
+use Rattle.motion_plant.specs.Jobs.{AreJoined}
 use Rattle.motion_plant.specs.Lines.{IsLogAt}
 use Rattle.motion_plant.specs.Places.{Each}
 use Rattle.motion_plant.proofs.joins.finish_drives.Given as goal
@@ -15,4 +16,5 @@ invariant-loop-i g l = record {
   rest : (n : ℕ) → l.base + l.i ≤ n → slice_get l.spawner.jobs n ≡ slice_get l.fn.spawner.jobs n;
   faults : l.spawner.faults ≡ l.fn.spawner.faults;
   count : length l.spawner.jobs ≡ length l.fn.spawner.jobs;
+  gone : AreJoined l.fn.spawner.jobs l.spawner.jobs l.base l.i;
 }

@@ -7,6 +7,7 @@ use Rattle.motion_plant.specs.Jobs.{job_lines}
 use Rattle.motion_plant.specs.Joined.{IsJoinedUpTo}
 use Rattle.motion_plant.specs.Makers.{own_entries}
 use Rattle.motion_plant.specs.TaskEnds.{TaskMade}
+use Rattle.motion_plant.proofs.AllJoined.{joined_none, joined_one}
 use Rattle.motion_plant.proofs.Lists.{get_or_at, get_else, length_set, get_some}
 use Rattle.motion_plant.proofs.JoinedPasses.{done_owns, joined_first, joined_more, tasks_more}
 use Rattle.motion_plant.proofs.joins.finish_tasks.Goals as goal
@@ -18,6 +19,7 @@ loop-i-init g c = record {
   rest = λ n le. refl;
   faults = refl;
   count = refl;
+  gone = joined_none _ _;
 }
 
 pub finish_task-requires-clause-started : goal.finish_task-requires-clause-started
@@ -66,6 +68,10 @@ loop-i-preserved g c =
           inv.rest n (omega arith);
       faults = ap (λ (s : Started _). s.faults) c.finish_task.ensures.joined ∙ inv.faults;
       count = n ∙ length_set c.loop-i.spawner.jobs (c.args.base + c.loop-i.i) None ∙ inv.count;
+      gone = joined_one c.args.spawner.now.jobs c.loop-i.spawner.jobs _ c.args.base c.loop-i.i
+          inv.gone (get_some c.args.spawner.now.jobs (c.args.base + c.loop-i.i) _
+          (c.requires.started c.loop-i.i c.index.result.now at))
+          (ap (λ (s : Started _). s.jobs) c.finish_task.ensures.joined);
     }
 
 pub returns-clause-tasks : goal.returns-clause-tasks

@@ -1,7 +1,7 @@
 -- The passes of the tasks so far were joined.
 use Rattle.std.proofs.Common.{◌≡◌, ◌≤◌, ◌<◌, ◌+◌, ℕ, length, Some}
 use Rattle.std.specs.Prelude.{slice_get}
-use Rattle.motion_plant.specs.Jobs.{job_lines}
+use Rattle.motion_plant.specs.Jobs.{AreJoined, job_lines}
 use Rattle.motion_plant.specs.Joined.{HasMade, IsJoinedUpTo}
 use Rattle.motion_plant.specs.Makers.{own_entries}
 use Rattle.motion_plant.proofs.joins.finish_tasks.Given as goal
@@ -14,4 +14,5 @@ invariant-loop-i g l = record {
   rest : (n : ℕ) → l.base + l.i ≤ n → slice_get l.spawner.jobs n ≡ slice_get l.fn.spawner.jobs n;
   faults : l.spawner.faults ≡ l.fn.spawner.faults;
   count : length l.spawner.jobs ≡ length l.fn.spawner.jobs;
+  gone : AreJoined l.fn.spawner.jobs l.spawner.jobs l.base l.i;
 }

@@ -3,10 +3,11 @@ use Rattle.std.proofs.Common.{rules, ◌++◌, ap, ◌∙◌, sym, arith, subst,
 use Rattle.std.specs.Arc.{arc_value}
 use Rattle.kernel_turn.specs.PassState.{PassState}
 use Rattle.motion_history.specs.Setup.{Setup}
-use Rattle.motion_plant.specs.Jobs.{seat_job}
+use Rattle.motion_plant.specs.Jobs.{line_job, seat_job}
 use Rattle.motion_plant.specs.Lines.{IsNewLine}
 use Rattle.motion_plant.specs.Places.{Each}
 use Rattle.motion_plant.specs.Ran.{PlantMeets}
+use Rattle.motion_plant.proofs.AllJoined.{started_joined}
 use Rattle.motion_plant.proofs.Lists.{get_some}
 use Rattle.motion_plant.proofs.Started.{drives_started, new_stand, ran, tasks_started}
 use Rattle.motion_plant.proofs.plant.run_plant.Goals as goal
@@ -72,3 +73,31 @@ returns-clause-ran g c =
     defs (subst (λ xs. Each (IsNewLine xs c.as_slice-defs.result.now) c.start_drives.new.lines.items)
     axes fresh.1))
     c.run_started.ensures.logs
+
+pub returns-in-Err-clause-joined : goal.returns-in-Err-clause-joined
+returns-in-Err-clause-joined g c =
+    let jobs = c.start_drives.ensures.started ∙ sym (append-nil _) ∙
+    ap (λ zs. (c.args.spawner.now.jobs ++ map line_job c.start_drives.new.lines.items) ++
+    map seat_job zs) (sym c.in-Ok.ensures.seats.0) in
+    started_joined c.args.spawner.now.jobs c.start_drives.new.spawner.jobs c.give_up.new.spawner.jobs
+    c.start_drives.new.lines.items c.in-Ok.jobs.seats.items c.in-Ok.jobs.base jobs
+    (c.in-Ok.ensures.base ∙ c.started.ensures) c.give_up.ensures.joined
+
+pub returns-in-Err-start_tasks-clause-joined : goal.returns-in-Err-start_tasks-clause-joined
+returns-in-Err-start_tasks-clause-joined g c =
+    let jobs = c.start_tasks.ensures.started ∙
+    ap (λ js. js ++ map seat_job c.start_tasks.new.seats.items) c.start_drives.ensures.started
+    in
+    started_joined c.args.spawner.now.jobs c.start_tasks.new.spawner.jobs
+    c.give_up-in-Err-start_tasks.new.spawner.jobs c.start_drives.new.lines.items
+    c.start_tasks.new.seats.items c.in-Ok.jobs.base jobs
+    (c.in-Ok.ensures.base ∙ c.started.ensures) c.give_up-in-Err-start_tasks.ensures.joined
+
+pub returns-clause-joined : goal.returns-clause-joined
+returns-clause-joined g c =
+    let jobs = c.start_tasks.ensures.started ∙
+    ap (λ js. js ++ map seat_job c.start_tasks.new.seats.items) c.start_drives.ensures.started
+    in
+    started_joined c.args.spawner.now.jobs c.start_tasks.new.spawner.jobs
+    c.run_started.new.spawner.jobs c.start_drives.new.lines.items c.start_tasks.new.seats.items
+    c.in-Ok.jobs.base jobs (c.in-Ok.ensures.base ∙ c.started.ensures) c.run_started.ensures.gone
