@@ -1,6 +1,6 @@
 // The lines that tell how a trace was judged.
 
-ghost use Rattle.std.specs.Prelude.{◌≡◌, IfOk, OnOk, ◌++◌};
+ghost use Rattle.std.specs.Prelude.{◌≡◌, IfOk, OnOk, ◌++◌, ◌∷◌, []};
 ghost use Rattle.trace_jobs.specs.Lines as spec;
 
 use itoa::Buffer;
@@ -18,15 +18,33 @@ pub fn legal_line(alloc: Global, entries: u64) -> Result<Vec<u8>, AllocError>
     Ok(line)
 }
 
+// Adds a field behind a comma.
+fn push_field(line: &mut Vec<u8>, field: &[u8]) -> Result<(), AllocError>
+    ensures { OnOk result (line.new.items ≡ (line.old.items ++ (44 ∷ [])) ++ field.now) }
+{
+    line.extend_from_slice(b",")?;
+    line.extend_from_slice(field)?;
+    Ok(())
+}
+
 // Adds a record, its fields with commas between them.
 fn push_record(line: &mut Vec<u8>, fields: &Record) -> Result<(), AllocError>
     ensures { OnOk result (line.new.items ≡ line.old.items ++ spec.joined fields.now) }
 {
     line.extend_from_slice(fields.field(0))?;
     for i in 1..fields.len() as usize {
-        line.extend_from_slice(b",")?;
-        line.extend_from_slice(fields.field(i))?;
+        push_field(line, fields.field(i))?;
     }
+    Ok(())
+}
+
+// Adds a record behind what it is.
+fn push_told(line: &mut Vec<u8>, told: &[u8], fields: &Record) -> Result<(), AllocError>
+    ensures { OnOk result
+        (line.new.items ≡ (line.old.items ++ told.now) ++ spec.joined fields.now) }
+{
+    line.extend_from_slice(told)?;
+    push_record(line, fields)?;
     Ok(())
 }
 
@@ -37,10 +55,8 @@ pub fn illegal_lines(alloc: Global, difference: &Difference) -> Result<Vec<u8>, 
     let mut place = Buffer::new();
     let mut line = Vec::from_slice(alloc, b"illegal ")?;
     line.extend_from_slice(place.format(difference.place).as_bytes())?;
-    line.extend_from_slice(b"\nexpected ")?;
-    push_record(&mut line, &difference.expected)?;
-    line.extend_from_slice(b"\nfound ")?;
-    push_record(&mut line, &difference.found)?;
+    push_told(&mut line, b"\nexpected ", &difference.expected)?;
+    push_told(&mut line, b"\nfound ", &difference.found)?;
     line.extend_from_slice(b"\n")?;
     Ok(line)
 }

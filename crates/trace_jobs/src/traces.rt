@@ -1,10 +1,10 @@
 // A trace is replayed and judged, or written in version 2.
 
-ghost use Rattle.std.specs.Prelude.{◌≡◌, false};
+ghost use Rattle.std.specs.Prelude.{◌≡◌, None, false};
 ghost use Rattle.job_ends.specs.Ends.{EndsBy};
 ghost use Rattle.trace_jobs.specs.Ends.{EndsByCheck, EndsByMigrate};
-ghost use Rattle.trace_jobs.specs.Judged.{JudgesBy, tells_legal};
-ghost use Rattle.trace_jobs.specs.Plans.{illegal_plan, plan_of_check, plan_of_migrate};
+ghost use Rattle.trace_jobs.specs.Judged.{JudgesBy, tells_illegal, tells_legal};
+ghost use Rattle.trace_jobs.specs.Plans.{illegal_plan, judged_plan, plan_of_check, plan_of_migrate};
 ghost use Rattle.trace_text.specs.TraceKept.{IsTraceKept};
 
 use crate::lines::{illegal_lines, legal_line};
@@ -40,9 +40,7 @@ fn check_trace<K: Sink>(alloc: Global, trace: &Trace, out: &mut K) -> Status
     ends_follow_plans();
     migrated_traces_are_legal();
     match check(alloc, trace) {
-        Ok(Verdict::Legal { entries }) => {
-            say(legal_line(alloc, entries), Status::Legal { entries }, out)
-        }
+        Ok(Verdict::Legal { entries }) => say_legal(alloc, entries, out),
         Ok(
             Verdict::IllegalAt {
                 place,
@@ -103,6 +101,18 @@ fn migrate_trace<K: Sink>(alloc: Global, trace: &Trace, out: &mut K) -> Status
     }
 }
 
+// Says that a trace is legal, with so many entries.
+fn say_legal<K: Sink>(alloc: Global, entries: u64, out: &mut K) -> Status
+    ensures illegal { tells_illegal result ≡ false }
+    ensures ends { EndsBy (record { count = K.count out.old; told = K.told out.old })
+        (record { count = K.count out.new; told = K.told out.new })
+        (judged_plan entries None) result }
+{
+    ends_follow_plans();
+    let line = legal_line(alloc, entries);
+    say(line, Status::Legal { entries }, out)
+}
+
 // Says the first record of a trace that is not the machine's.
 fn say_difference<K: Sink>(alloc: Global, difference: &Difference, out: &mut K) -> Status
     ensures legal { tells_legal result ≡ false }
@@ -112,9 +122,6 @@ fn say_difference<K: Sink>(alloc: Global, difference: &Difference, out: &mut K) 
 {
     ends_follow_plans();
     let record = difference.place;
-    say(
-        illegal_lines(alloc, difference),
-        Status::Illegal { record },
-        out,
-    )
+    let lines = illegal_lines(alloc, difference);
+    say(lines, Status::Illegal { record }, out)
 }

@@ -29,8 +29,7 @@ loop-i-preserved c =
     let x = joined (take i fields) in
     let f = c.field-in-loop-i.result.now in
     record {
-      fields = c.in_ok-extend_from_slice-3.ensures.items
-          ∙ ap (λ t. t ++ f) c.in_ok-extend_from_slice-2.ensures.items
+      fields = c.in_ok-push_field.ensures
           ∙ appends-field c.loop-i.line.items base x f c.loop-i.invariant.fields
           ∙ ap (λ g. base ++ (x ++ (44 ∷ g))) c.field-in-loop-i.ensures
           ∙ ap (λ t. base ++ t) (sym (joined-more fields i (omega arith) (omega arith)));

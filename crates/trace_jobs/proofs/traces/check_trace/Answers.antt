@@ -1,9 +1,8 @@
 -- A trace was judged, or there was no memory for it.
 use Rattle.std.specs.Prelude.{None}
 use Rattle.std.proofs.Common.{◌∙◌, ap, refl, sym}
-use Rattle.trace_jobs.specs.Judged.{tells_illegal}
 use Rattle.trace_jobs.specs.Plans.{judged_plan}
-use Rattle.trace_jobs.proofs.EndLaws.{checked, illegal-of, judges-legal, legal-of, said-not, same-plan}
+use Rattle.trace_jobs.proofs.EndLaws.{checked, illegal-of, judges-legal, legal-of, same-plan}
 use Rattle.trace_jobs.proofs.traces.check_trace.Goals as goal
 
 pub returns-in-Ok-Legal : goal.returns-in-Ok-Legal
@@ -12,13 +11,12 @@ returns-in-Ok-Legal g c =
     let is = legal-of t c.in-Ok-Legal.entries
     (sym c.in-Ok-Legal.field-0-is ∙ c.in-Ok-Legal.ensures.verdict) in
     record {
-      judged = judges-legal t c.in-Ok-Legal.field-0 c.in-Ok-Legal.entries c.say.result
+      judged = judges-legal t c.in-Ok-Legal.field-0 c.in-Ok-Legal.entries c.say_legal.result
           c.in-Ok-Legal.field-0-is c.in-Ok-Legal.ensures.verdict c.in-Ok-Legal.ensures.legal
           (λ es. c.migrated_traces_are_legal.ensures t es c.requires)
-          (said-not tells_illegal refl refl _ _ _ _ _ refl c.say.ensures);
+          c.say_legal.ensures.illegal;
       ends = same-plan _ _ _ _ _ (ap (λ n. judged_plan n None) is.1 ∙ sym (checked t None is.0))
-          (c.ends_follow_plans.ensures.said _ _ _ _ _ _ c.legal_line.ensures
-          c.say.ensures);
+          c.say_legal.ensures.ends;
     }
 
 pub returns-in-Ok-IllegalAt-clause-ends : goal.returns-in-Ok-IllegalAt-clause-ends

@@ -7,6 +7,6 @@ use Rattle.trace_jobs.proofs.traces.say_difference.Goals as goal
 pub returns : goal.returns
 returns g c = record {
   legal = said-not tells_legal refl refl _ _ _ _ _ refl c.say.ensures;
-  ends = c.ends_follow_plans.ensures.said _ _ _ _ _ _ c.illegal_lines.ensures
+  ends = c.ends_follow_plans.ensures.said _ _ _ _ _ _ c.illegal_lines-lines.ensures
       c.say.ensures;
 }

@@ -1,0 +1,12 @@
+-- A legal trace was told of, or there was no memory for its line.
+use Rattle.std.proofs.Common.{refl}
+use Rattle.trace_jobs.specs.Judged.{tells_illegal}
+use Rattle.trace_jobs.proofs.EndLaws.{said-not}
+use Rattle.trace_jobs.proofs.traces.say_legal.Goals as goal
+
+pub returns : goal.returns
+returns g c = record {
+  illegal = said-not tells_illegal refl refl _ _ _ _ _ refl c.say.ensures;
+  ends = c.ends_follow_plans.ensures.said _ _ _ _ _ _ c.legal_line-line.ensures
+      c.say.ensures;
+}
