@@ -16,6 +16,7 @@ ghost use Rattle.motion_history.specs.declared.refused.TextRefused.{TextRefused}
 ghost use Rattle.outside.specs.Faults.{Rose};
 ghost use Rattle.outside.specs.Told.{FileMap};
 ghost use Rattle.run_job.specs.Headline.{RunHeadline};
+ghost use Rattle.run_job.specs.Joined.{JoinsAll};
 ghost use Rattle.trace_jobs.specs.Migrated.{Migrated};
 
 use crate::serve::serve;
@@ -147,6 +148,7 @@ pub fn top<F: Files, K: Sink, H: Host + Wait + Sync, G: Gate + Drop + Send + 'st
         (Asks (IsRefused word r) map (request_of words.now) ⊎
         AsksRun (λ x. x ≡ Err (Status.TextRefused word r.place r.rule)) map
         (run_of words.now)) }
+    ensures joined { JoinsAll spawner.old.jobs spawner.new.jobs }
     ensures alone { run_of words.now ≡ None → spawner.new ≡ spawner.old }
     ensures thread_refused { result ≡ Status.ThreadRefused →
         Rose spawner.old.faults spawner.new.faults }

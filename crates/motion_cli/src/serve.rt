@@ -7,6 +7,7 @@ ghost use Rattle.motion_cli.specs.Ends.{EndsByFile, EndsByRequest, EndsByText};
 ghost use Rattle.motion_cli.specs.Plans as plans;
 ghost use Rattle.command_words.specs.Requests.{files_of, told};
 ghost use Rattle.outside.specs.Faults.{Rose};
+ghost use Rattle.run_job.specs.Joined.{JoinsAll};
 
 use crate::usage::say_usage;
 use bench_job::run_text;
@@ -35,6 +36,7 @@ pub fn serve<F: Files, K: Sink, H: Host + Wait, G: Gate + Drop + Send + 'static>
         (λ n. length spawner.new.jobs ≡ length spawner.old.jobs + n)
         (option_map told asked.entry) (record { count = K.count out.old; told = K.told out.old })
         (record { count = K.count out.new; told = K.told out.new }) result }
+    ensures joined { JoinsAll spawner.old.jobs spawner.new.jobs }
     ensures alone { option_and_then files_of (option_map told asked.entry) ≡ None →
         spawner.new ≡ spawner.old }
 {

@@ -2,7 +2,7 @@
 use Rattle.std.specs.Prelude.{◌≡◌, ◌≢◌, ◌⊎◌, ◌≤◌, ◌<◌, refl, ℕ, nat_lt, if◌then◌else◌, true, false, Bool, Option, Some, None, IfSome, IsSomeAnd, Result, Ok, Err, List, length, map}
 use Rattle.std.specs.Result.{IsOk, is_ok}
 use Rattle.std.proofs.Common.{◌∙◌, inl, inr, sym, ap, subst, arith}
-use Rattle.std.proofs.lemmas.Bool.{cases_Bool}
+use Rattle.std.proofs.lemmas.Bool.{cases_Bool, ltb-false, ltb-true}
 use Rattle.job_ends.specs.Causes.{is_traced}
 use Rattle.job_ends.specs.Ends.{EndsBy, EndsEarly}
 use Rattle.job_ends.specs.Files.{GivesReading, IsRefusedText, IsText, NoReading, NoText}
@@ -31,14 +31,18 @@ use Rattle.run_job.specs.Plants.{GivesMachine, GivesProgram, IsProgramOfMachine,
 
 short-text : (text : List ℕ) → length text ≤ most_bytes → nat_lt most_bytes (length text) ≡ false
 short-text text within = elim (cases_Bool (nat_lt most_bytes (length text))) [
-  | inl long ↦ absurd (omega arith)
+  | inl long ↦
+      let beyond : most_bytes < length text = ltb-true most_bytes (length text) long in
+      absurd (omega (arith, within, beyond))
   | inr short ↦ short
 ]
 
 long-text : (text : List ℕ) → most_bytes < length text → nat_lt most_bytes (length text) ≡ true
 long-text text beyond = elim (cases_Bool (nat_lt most_bytes (length text))) [
   | inl long ↦ long
-  | inr short ↦ absurd (omega arith)
+  | inr short ↦
+      let within : length text ≤ most_bytes = ltb-false most_bytes (length text) short in
+      absurd (omega (arith, within, beyond))
 ]
 
 text-given : (files : FileMap) (word : ℕ) (name text : List ℕ) →

@@ -1,5 +1,5 @@
 -- What the trace of a run stands for.
-use Rattle.std.specs.Prelude.{◌≡◌, ◌⊎◌, refl, ℕ, ◌+◌, true, false, Option, Some, List, map, slice_get}
+use Rattle.std.specs.Prelude.{◌≡◌, ◌⊎◌, refl, ℕ, ◌+◌, true, false, Option, Some, Result, List, map, slice_get}
 use Rattle.std.proofs.Common.{◌∙◌, inl, inr, sym, ap, subst, arith}
 use Rattle.drive_sim.specs.Sim.{DriveSim}
 use Rattle.job_ends.specs.Causes.{is_traced}
@@ -19,7 +19,7 @@ use Rattle.run_job.proofs.CauseLaws.{Planned, TellsBy, TellsOf, no-plant, planne
 use Rattle.run_job.proofs.EndLaws.{complete-by, kind-by, of-text-by, refuses-of, unread-of, unwritten-of}
 use Rattle.run_job.proofs.RowLaws.{AreReadBack, rows-same}
 use Rattle.run_job.specs.Causes.{is_of_text, plant_in}
-use Rattle.run_job.specs.Ends.{Course, EndsByBoth, EndsByRun, WritesRun}
+use Rattle.run_job.specs.Ends.{Course, EndsByBoth, EndsByPlant, EndsByRun, WritesRun}
 use Rattle.run_job.specs.Headline.{HasEnded, RunHeadline}
 use Rattle.run_job.specs.Plans.{end_row, no_thread_plan, run_plan}
 
@@ -36,13 +36,13 @@ text-untraced (status.TooLong word) t = refl
 text-untraced (status.TextRefused word place rule) t = refl
 text-untraced s t = absurd (cc)
 
-tells-untraced : {A : Type 0} (told : Option FileMap) (rose : Type 0) (f : FileMap → _)
-    (p : Status) → TellsOf {A} told rose f p → is_traced p ≡ false
+tells-untraced : {A : Type 0} (told : Option FileMap) (rose : Type 0) (f : FileMap → Result A Status)
+    (p : Status) → TellsOf {A = A} told rose f p → is_traced p ≡ false
 tells-untraced told rose f p (inl (word, is, h)) = ap is_traced is
 tells-untraced told rose f p (inr h) = text-untraced p h.0
 
-none-traced : {A : Type 0} → FollowPlans → (told : Option FileMap) (rose : Type 0) (f : FileMap → _)
-    (old new : Output) (s : Status) → EndsEarly old new s ⊎ TellsBy {A} told rose f old new s →
+none-traced : {A : Type 0} → FollowPlans → (told : Option FileMap) (rose : Type 0) (f : FileMap → Result A Status)
+    (old new : Output) (s : Status) → EndsEarly old new s ⊎ TellsBy {A = A} told rose f old new s →
     is_traced s ≡ true → ⊥
 none-traced follow told rose f old new s (inl e) t =
     let bad : true ≡ false = sym t ∙ ap is_traced e.status in cc
@@ -96,7 +96,8 @@ both-headline : FollowPlans → AreReadBack → (told : Option FileMap) (refuses
     RunHeadline told config program old.told new.told Started s
 both-headline follow back told refuses Started config program old new s b t = by b.ends
   where
-    by : _ → RunHeadline told config program old.told new.told Started s
+    by : EndsByPlant refuses Started b.outcome.setup b.outcome.program b.machine.drives old new s →
+        RunHeadline told config program old.told new.told Started s
     by (inl w) = ran-headline follow back told refuses Started config program old new s b w t
     by (inr (inl h)) = absurd (untraced follow old new no_thread_plan s h.1 refl t)
     by (inr (inr h)) = absurd (let bad : true ≡ false = sym t ∙ ap is_traced h.status in cc)

@@ -7,6 +7,7 @@ ghost use Rattle.motion_history.specs.Drives.{IsDrive};
 ghost use Rattle.outside.specs.Faults.{Rose};
 ghost use Rattle.plc_program.specs.Programs.{IsProgramOf};
 ghost use Rattle.run_job.specs.Ends.{EndsByPlant, EndsByRun};
+ghost use Rattle.run_job.specs.Joined.{JoinsAll};
 
 use crate::names::RunNames;
 use crate::reading::read_plant;
@@ -32,12 +33,13 @@ pub fn run_files<F: Files, K: Sink, H: Host + Wait, G: Gate + Drop + Send + 'sta
     gate: &G,
 ) -> Status
     requires few { length spawner.old.jobs + 24 ≤ MOST_JOBS }
-    ensures { EndsByRun (F.told files.old) (Rose (F.count files.old) (F.count files.new))
+    ensures ends { EndsByRun (F.told files.old) (Rose (F.count files.old) (F.count files.new))
         (Rose spawner.old.faults spawner.new.faults)
         (λ n. length spawner.new.jobs ≡ length spawner.old.jobs + n)
         names.now.config.now names.now.program.now
         (record { count = K.count out.old; told = K.told out.old })
         (record { count = K.count out.new; told = K.told out.new }) result }
+    ensures joined { JoinsAll spawner.old.jobs spawner.new.jobs }
 {
     ends_follow_plans();
     statuswords_are_read_back();
@@ -60,11 +62,12 @@ fn run_read<K: Sink, H: Host + Wait, G: Gate + Drop + Send + 'static>(
     requires program { IsProgramOf plant.now.config (arc_value plant.now.program) }
     requires each { length plant.now.drives ≡ length plant.now.config.axes }
     requires drives { All IsDrive plant.now.drives }
-    ensures { EndsByPlant (Rose spawner.old.faults spawner.new.faults)
+    ensures ends { EndsByPlant (Rose spawner.old.faults spawner.new.faults)
         (λ n. length spawner.new.jobs ≡ length spawner.old.jobs + n)
         plant.now.config (arc_value plant.now.program) plant.now.drives
         (record { count = K.count out.old; told = K.told out.old })
         (record { count = K.count out.new; told = K.told out.new }) result }
+    ensures joined { JoinsAll spawner.old.jobs spawner.new.jobs }
 {
     match run_plant(rt, alloc, plant, spawner, gate) {
         Ok(end) => write_run(alloc, &end, out),

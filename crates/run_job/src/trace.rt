@@ -1,10 +1,11 @@
 // The trace of a run is written.
 
 ghost use Rattle.std.specs.Prelude.{◌≡◌, IfOk, length, map};
-ghost use Rattle.job_ends.specs.Ends.{EndsBy};
 ghost use Rattle.motion_plant.specs.Ran.{EndsSo};
 ghost use Rattle.run_job.specs.Ends.{WritesTrace};
 ghost use Rattle.run_job.specs.Plans as plans;
+ghost use Rattle.trace_text.specs.Trace.{trace_text};
+ghost use Rattle.trace_text.specs.writing.Writes.{Writes};
 
 use cia402_machine::{DriveState, state_of};
 use job_ends::{Status, ends_follow_plans, status_by};
@@ -13,7 +14,7 @@ use motion_plant::{PlantEnd, RunEnding, ending_of};
 use outside::Sink;
 use setpoint_ring::DriveLog;
 use std::alloc::{AllocError, Global};
-use trace_text::{Command, DriveEndRow, write_trace};
+use trace_text::{Command, DriveEndRow, TraceFault, write_trace};
 
 /// Writes the trace of a plant's run, and answers how the run ended.
 pub fn write_run<K: Sink>(alloc: Global, end: &PlantEnd, out: &mut K) -> Status
@@ -28,16 +29,33 @@ pub fn write_run<K: Sink>(alloc: Global, end: &PlantEnd, out: &mut K) -> Status
     let Ok(rows) = end_rows(alloc, end.drives.as_slice()) else {
         return Status::OutOfMemory;
     };
-    let written = write_trace(
+    let written = write_rows(alloc, end, rows.as_slice(), out);
+    status_by(status, written)
+}
+
+// Writes the trace of a run with what its drives took.
+fn write_rows<K: Sink>(
+    alloc: Global,
+    end: &PlantEnd,
+    rows: &[DriveEndRow],
+    out: &mut K,
+) -> Result<(), TraceFault>
+    requires each { length rows.now ≡ length end.now.kernel.config.axes }
+    ensures { Writes (record { count = K.count out.old; told = K.told out.old })
+        (record { count = K.count out.new; told = K.told out.new })
+        (trace_text TraceVersion.Two Command.Run end.now.kernel.config end.now.kernel.history
+        rows.now) result }
+{
+    let history = end.kernel.history();
+    write_trace(
         alloc,
         TraceVersion::Two,
         Command::Run,
         end.kernel.config(),
-        end.kernel.history(),
-        rows.as_slice(),
+        history,
+        rows,
         out,
-    );
-    status_by(status, written)
+    )
 }
 
 // The status that a run ends with.

@@ -1,7 +1,8 @@
 -- Each clause follows from how the program ended.
 use Rattle.std.specs.Prelude.{◌≡◌, refl, ℕ, ◌+◌, Some, length}
 use Rattle.std.specs.Option.{option_and_then}
-use Rattle.std.proofs.Common.{◌∙◌, ap, inl, inr, subst}
+use Rattle.std.proofs.Common.{◌∙◌, ap, inl, inr, subst, sym}
+use Rattle.std.proofs.lemmas.List.{append-nil}
 use Rattle.command_words.specs.Requests.{asked_of, files_of}
 use Rattle.job_ends.specs.declared.status.Status.TheVariants as status
 use Rattle.outside.specs.Faults.{Rose}
@@ -52,6 +53,7 @@ returns-in-Ok g c =
           (at map t);
       refused = λ map word r t. refused-comes follow map rose refused Started asked old new s word r
           (at map t);
+      joined = c.serve.ensures.joined;
       alone = λ none. c.serve.ensures.alone (ap (option_and_then files_of) c.in-Ok.ensures ∙ none);
       thread_refused = λ h. refused-why follow told rose refused Started asked old new s by h;
       cycles_over = λ map t none. file-comes follow map rose refused Started asked old new s
@@ -86,6 +88,7 @@ returns-in-Err g c = record {
   read_fault = λ word h. absurd (cc);
   too_long = λ map word t. faulted _ _ _ refl refl;
   refused = λ map word r t. faulted _ _ _ refl refl;
+  joined = (0, sym (append-nil c.args.spawner.now.jobs));
   alone = λ none. refl;
   thread_refused = λ h. absurd (cc);
   cycles_over = λ map t none. faulted _ _ _ refl refl;
