@@ -66,10 +66,12 @@ found-unread : FollowPlans → (told : Option FileMap) (rose : Type 0) (r : File
     (old new : Output) (s : Status) (word : ℕ) (found : Found) →
     IsFound told rose r.name (most_of r.job) found → EndsByFound r found old new s →
     s ≡ status.ReadFault word → (word ≡ 1) × (rose ⊎ LacksFile told r.name)
-found-unread follow told rose r old new s word Unread is e h =
-    (let same : status.ReadFault 1 ≡ status.ReadFault word =
-    follow.only old new (unread_plan 1 r.name) s (status.ReadFault word) e h (λ x. absurd (cc))
-    (λ x. absurd (cc)) in let first : word ≡ 1 = cc in first, is)
+found-unread follow told rose r old new s word Unread is e h = (
+  let same : status.ReadFault 1 ≡ status.ReadFault word =
+      follow.only old new (unread_plan 1 r.name) s (status.ReadFault word) e h (λ x. absurd (cc))
+      (λ x. absurd (cc)) in let first : word ≡ 1 = cc in first,
+  is,
+)
 found-unread follow told rose r old new s word Longer is e h =
     absurd (let bad : status.TooLong 1 ≡ status.ReadFault word =
     follow.only old new (too_long_plan 1 r.name) s (status.ReadFault word) e h
