@@ -52,13 +52,13 @@ usage-comes follow told rose refused Started (Some (of_file r)) old new s (inr e
 }
 usage-comes follow told rose refused Started (Some (of_run r)) old new s e = record {
   only = λ h. absurd (no-run s status.Usage e.kind refl h);
-  always = λ h. absurd (let bad : Some r ≡ None = h.1.1 in cc);
+  always = λ h. absurd (let bad : Some r ≡ None = h.2 in cc);
 }
 usage-comes follow told rose refused Started (Some (of_load seed)) old new s e = record {
   only = λ h. absurd (let bad : status.Ok ≡ status.Usage =
       follow.only old new (load_plan seed) s status.Usage e.by.ends h (λ x. absurd (cc))
       (λ x. absurd (cc)) in cc);
-  always = λ h. absurd (let bad : Some seed ≡ None = h.1.0 in cc);
+  always = λ h. absurd (let bad : Some seed ≡ None = h.1 in cc);
 }
 
 -- ReadFault

@@ -3,3 +3,4 @@ pub mod FileLaws
 pub mod CauseLaws
 pub mod FaultLaws
 pub mod TraceLaws
+pub mod AskedLaws

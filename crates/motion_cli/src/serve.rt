@@ -1,6 +1,6 @@
 // What is asked is done.
 
-ghost use Rattle.std.specs.Prelude.{◌≡◌, ◌≤◌, ◌+◌, ◌⊎◌, None, length};
+ghost use Rattle.std.specs.Prelude.{◌≡◌, ◌≤◌, ◌+◌, ◌⊎◌, None, Some, length};
 ghost use Rattle.std.specs.Option.{option_and_then, option_map};
 ghost use Rattle.job_ends.specs.Ends.{EndsEarly};
 ghost use Rattle.motion_cli.specs.Ends.{EndsByFile, EndsByRequest, EndsByText};
@@ -41,13 +41,37 @@ pub fn serve<F: Files, K: Sink, H: Host + Wait, G: Gate + Drop + Send + 'static>
         spawner.new ≡ spawner.old }
 {
     match asked {
-        Some(Request::File { job, name }) => serve_file(alloc, job, name, files, out),
-        Some(Request::Run { config, program }) => {
+        Some(request) => serve_request(rt, alloc, request, files, out, spawner, gate),
+        None => say_usage(out),
+    }
+}
+
+// Does what a request asks.
+fn serve_request<F: Files, K: Sink, H: Host + Wait, G: Gate + Drop + Send + 'static>(
+    rt: &H,
+    alloc: Global,
+    request: Request<'_>,
+    files: &mut F,
+    out: &mut K,
+    spawner: &mut Spawner<H, PlantJob<G>>,
+    gate: &G,
+) -> Status
+    requires few { length spawner.old.jobs + 24 ≤ MOST_JOBS }
+    ensures ends { EndsByRequest (F.told files.old) (Rose (F.count files.old) (F.count files.new))
+        (Rose spawner.old.faults spawner.new.faults)
+        (λ n. length spawner.new.jobs ≡ length spawner.old.jobs + n)
+        (Some (told request.entry)) (record { count = K.count out.old; told = K.told out.old })
+        (record { count = K.count out.new; told = K.told out.new }) result }
+    ensures joined { JoinsAll spawner.old.jobs spawner.new.jobs }
+    ensures alone { files_of (told request.entry) ≡ None → spawner.new ≡ spawner.old }
+{
+    match request {
+        Request::File { job, name } => serve_file(alloc, job, name, files, out),
+        Request::Run { config, program } => {
             let names = RunNames { config, program };
             run_files(rt, alloc, &names, files, out, spawner, gate)
         }
-        Some(Request::Load { seed }) => run_load(alloc, seed, out),
-        None => say_usage(out),
+        Request::Load { seed } => run_load(alloc, seed, out),
     }
 }
 

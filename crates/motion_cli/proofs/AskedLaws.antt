@@ -1,0 +1,16 @@
+-- How the program ends by what was asked, as the code has it.
+use Rattle.std.specs.Prelude.{◌≡◌, ℕ, Option, Some}
+use Rattle.std.proofs.Common.{subst, sym}
+use Rattle.command_words.specs.Requests as spec
+use Rattle.command_words.specs.declared.request.Request as code
+use Rattle.job_ends.specs.declared.status.Status.{Status}
+use Rattle.outside.specs.Told.{FileMap}
+use Rattle.trace_text.specs.writing.Writes.{Output}
+use Rattle.motion_cli.specs.Ends.{EndsByRequest}
+
+pub asked-as : (told : Option FileMap) (rose refused : Type 0) (Started : ℕ → Type 0)
+    (r q : code.Request) (old new : Output) (s : Status) → r ≡ q →
+    EndsByRequest told rose refused Started (Some (spec.told q)) old new s →
+    EndsByRequest told rose refused Started (Some (spec.told r)) old new s
+asked-as told rose refused Started r q old new s is e =
+    subst (λ a. EndsByRequest told rose refused Started (Some (spec.told a)) old new s) (sym is) e
