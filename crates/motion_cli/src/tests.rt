@@ -9,7 +9,10 @@ mod traces;
 use crate::*;
 use motion_history::Rule;
 use outside::{MemoryFiles, MemorySink, OpenGate};
-use std::io::{Error, ErrorKind};
+use std::alloc::Global;
+use std::env::Args;
+use std::io::{self, Error, ErrorKind};
+use std::sync::Wait;
 use std::test::Fail;
 
 const ONE_MOVE: &[u8] = b"motion-bench 1
@@ -89,24 +92,25 @@ const USAGE: &[u8] =
     b"usage: motion bench FILE | run CONFIG PROGRAM | check TRACE | gen SEED | migrate TRACE\n";
 
 // How the program ends on these words and files.
-fn status(
-    rt: &HostRuntime,
+fn status<H: Host + Wait + Sync>(
+    rt: &H,
+    alloc: Global,
     words: &[&str],
     files: &mut MemoryFiles,
     out: &mut MemorySink,
 ) -> Result<Status, Fail> {
-    let mut list = Words::new(rt.alloc());
+    let mut list = Words::new(alloc);
     for word in words {
         list.push(word)?;
     }
-    let mut spawner: Spawner<HostRuntime, PlantJob<OpenGate>> = Spawner::new(*rt, rt.alloc());
-    let status = top(rt, rt.alloc(), &list, files, out, &mut spawner, &OpenGate);
+    let mut spawner: Spawner<H, PlantJob<OpenGate>> = Spawner::new(*rt, alloc);
+    let status = top(rt, alloc, &list, files, out, &mut spawner, &OpenGate);
     Ok(status)
 }
 
 // The files of the tests, of which the listed reads fail.
-fn files(rt: &HostRuntime, fails: &[u32]) -> Result<MemoryFiles, Fail> {
-    let mut files = MemoryFiles::new(rt.alloc(), fails)?;
+fn files(alloc: Global, fails: &[u32]) -> Result<MemoryFiles, Fail> {
+    let mut files = MemoryFiles::new(alloc, fails)?;
     files.put("one_move", ONE_MOVE)?;
     files.put("move_of_no_distance", MOVE_OF_NO_DISTANCE)?;
     files.put("r.bench", AMAX_ONE)?;
@@ -114,17 +118,27 @@ fn files(rt: &HostRuntime, fails: &[u32]) -> Result<MemoryFiles, Fail> {
 }
 
 // How the program ends where a job is asked with a text, and what it writes.
-fn ended(rt: &HostRuntime, job: &str, name: &str, text: &[u8]) -> Result<(Status, Vec<u8>), Fail> {
-    let mut files = files(rt, &[])?;
+fn ended<H: Host + Wait + Sync>(
+    rt: &H,
+    alloc: Global,
+    job: &str,
+    name: &str,
+    text: &[u8],
+) -> Result<(Status, Vec<u8>), Fail> {
+    let mut files = files(alloc, &[])?;
     files.put(name, text)?;
-    let mut out = MemorySink::new(rt.alloc(), &[], u32::MAX)?;
-    let ended = status(rt, &[job, name], &mut files, &mut out)?;
-    Ok((ended, Vec::from_slice(rt.alloc(), out.bytes())?))
+    let mut out = MemorySink::new(alloc, &[], u32::MAX)?;
+    let ended = status(rt, alloc, &[job, name], &mut files, &mut out)?;
+    Ok((ended, Vec::from_slice(alloc, out.bytes())?))
 }
 
 // How the program ends on a bench, and what it writes.
-fn run_of(rt: &HostRuntime, bench: &[u8]) -> Result<(Status, Vec<u8>), Fail> {
-    ended(rt, "bench", "b", bench)
+fn run_of<H: Host + Wait + Sync>(
+    rt: &H,
+    alloc: Global,
+    bench: &[u8],
+) -> Result<(Status, Vec<u8>), Fail> {
+    ended(rt, alloc, "bench", "b", bench)
 }
 
 #[test]
@@ -136,7 +150,13 @@ fn writes_the_trace_of_a_move(rt: HostRuntime) -> Result<(), Fail> {
     for (name, trace) in cases {
         let mut out = MemorySink::new(rt.alloc(), &[], u32::MAX)?;
         assert_eq!(rt;
-            status(&rt, &["bench", name], &mut files(&rt, &[])?, &mut out)?,
+            status(
+                &rt,
+                rt.alloc(),
+                &["bench", name],
+                &mut files(rt.alloc(), &[])?,
+                &mut out
+            )?,
             Status::Ok
         );
         assert_eq!(rt; out.bytes(), trace);
@@ -156,7 +176,7 @@ fn writes_the_traces_of_worked_benches(rt: HostRuntime) -> Result<(), Fail> {
         (rows::VERSION_TWO, rows::VERSION_TWO_TRACE),
     ];
     for (bench, trace) in cases {
-        let (ended, told) = run_of(&rt, bench)?;
+        let (ended, told) = run_of(&rt, rt.alloc(), bench)?;
         assert_eq!(rt; ended, Status::Ok);
         assert_eq!(rt; told.as_slice(), trace);
     }
@@ -178,7 +198,7 @@ fn writes_the_trace_so_far(rt: HostRuntime) -> Result<(), Fail> {
         ),
     ];
     for (bench, wanted, trace) in cases {
-        let (ended, told) = run_of(&rt, bench)?;
+        let (ended, told) = run_of(&rt, rt.alloc(), bench)?;
         assert_eq!(rt; ended, wanted);
         assert_eq!(rt; told.as_slice(), trace);
     }
@@ -200,7 +220,7 @@ fn looks_for_cycles_before_room(rt: HostRuntime) -> Result<(), Fail> {
         bench.extend_from_slice(limit)?;
         bench.extend_from_slice(machine.as_slice())?;
         bench.extend_from_slice(events)?;
-        let (ended, _) = run_of(&rt, bench.as_slice())?;
+        let (ended, _) = run_of(&rt, rt.alloc(), bench.as_slice())?;
         assert_eq!(rt; ended, wanted);
     }
     Ok(())
@@ -210,7 +230,13 @@ fn looks_for_cycles_before_room(rt: HostRuntime) -> Result<(), Fail> {
 fn writes_a_byte_at_a_time(rt: HostRuntime) -> Result<(), Fail> {
     let mut out = MemorySink::new(rt.alloc(), &[], 1)?;
     assert_eq!(rt;
-        status(&rt, &["bench", "one_move"], &mut files(&rt, &[])?, &mut out)?,
+        status(
+            &rt,
+            rt.alloc(),
+            &["bench", "one_move"],
+            &mut files(rt.alloc(), &[])?,
+            &mut out
+        )?,
         Status::Ok
     );
     assert_eq!(rt; out.bytes(), ONE_MOVE_TRACE);
@@ -242,12 +268,30 @@ fn tells_the_words_that_it_takes(rt: HostRuntime) -> Result<(), Fail> {
     for words in cases {
         let mut out = MemorySink::new(rt.alloc(), &[], u32::MAX)?;
         assert_eq!(rt;
-            status(&rt, words, &mut files(&rt, &[])?, &mut out)?,
+            status(
+                &rt,
+                rt.alloc(),
+                words,
+                &mut files(rt.alloc(), &[])?,
+                &mut out
+            )?,
             Status::Usage
         );
         assert_eq!(rt; out.bytes(), USAGE);
     }
     Ok(())
+}
+
+// How the program ends on the arguments of the process.
+fn ended_by_args<H: Host + Wait + Sync>(
+    rt: &H,
+    alloc: Global,
+    args: io::Result<Args>,
+    files: &mut MemoryFiles,
+    out: &mut MemorySink,
+) -> Status {
+    let mut spawner: Spawner<H, PlantJob<OpenGate>> = Spawner::new(*rt, alloc);
+    top_of_args(rt, alloc, args, files, out, &mut spawner, &OpenGate)
 }
 
 // Arguments that are no texts, or for which there was no memory, and those of a bench.
@@ -257,11 +301,12 @@ fn takes_the_arguments_of_the_process(rt: HostRuntime) -> Result<(), Fail> {
         (ErrorKind::InvalidData, Status::Usage, USAGE),
         (ErrorKind::OutOfMemory, Status::OutOfMemory, b""),
     ];
-    let mut files = files(&rt, &[])?;
+    let mut files = files(rt.alloc(), &[])?;
     for (kind, wanted, line) in cases {
         let mut out = MemorySink::new(rt.alloc(), &[], u32::MAX)?;
         let args = Err(Error::from(kind));
-        assert_eq!(rt; top_of_args(rt.alloc(), args, &mut files, &mut out), wanted);
+        let ended = ended_by_args(&rt, rt.alloc(), args, &mut files, &mut out);
+        assert_eq!(rt; ended, wanted);
         assert_eq!(rt; out.bytes(), line);
     }
     let mut args = Vec::new(rt.alloc());
@@ -269,8 +314,9 @@ fn takes_the_arguments_of_the_process(rt: HostRuntime) -> Result<(), Fail> {
         args.push(String::from_str(rt.alloc(), arg)?)?;
     }
     let mut out = MemorySink::new(rt.alloc(), &[], u32::MAX)?;
+    let args = Ok(args.into_iter());
     assert_eq!(rt;
-        top_of_args(rt.alloc(), Ok(args.into_iter()), &mut files, &mut out),
+        ended_by_args(&rt, rt.alloc(), args, &mut files, &mut out),
         Status::Ok
     );
     assert_eq!(rt; out.bytes(), ONE_MOVE_TRACE);
@@ -305,7 +351,13 @@ fn tells_why_a_file_gives_no_trace(rt: HostRuntime) -> Result<(), Fail> {
     for (name, fails, wanted, line) in cases {
         let mut out = MemorySink::new(rt.alloc(), &[], u32::MAX)?;
         assert_eq!(rt;
-            status(&rt, &["bench", name], &mut files(&rt, fails)?, &mut out)?,
+            status(
+                &rt,
+                rt.alloc(),
+                &["bench", name],
+                &mut files(rt.alloc(), fails)?,
+                &mut out
+            )?,
             wanted
         );
         assert_eq!(rt; out.bytes(), line);
@@ -344,7 +396,11 @@ fn refuses_damaged_benches(rt: HostRuntime) -> Result<(), Fail> {
         (10, b"end mai", b"refused b 10 B6\n"),
     ];
     for (number, line, told) in cases {
-        let (ended, line_told) = run_of(&rt, with_line(&rt, ONE_MOVE, number, line)?.as_slice())?;
+        let (ended, line_told) = run_of(
+            &rt,
+            rt.alloc(),
+            with_line(&rt, ONE_MOVE, number, line)?.as_slice(),
+        )?;
         assert_eq!(rt; ended.exit(), 3);
         assert_eq!(rt; line_told.as_slice(), told);
     }
@@ -366,7 +422,7 @@ block M main MoveAbsolute X
         ),
     ];
     for (text, told) in cases {
-        let (ended, line_told) = run_of(&rt, text)?;
+        let (ended, line_told) = run_of(&rt, rt.alloc(), text)?;
         assert_eq!(rt; ended.exit(), 3);
         assert_eq!(rt; line_told.as_slice(), told);
     }
@@ -377,7 +433,7 @@ block M main MoveAbsolute X
 fn reads_a_file_of_16_mib(rt: HostRuntime) -> Result<(), Fail> {
     let mut long = Vec::new(rt.alloc());
     long.resize(16_777_216, b'#')?;
-    let (ended, told) = run_of(&rt, long.as_slice())?;
+    let (ended, told) = run_of(&rt, rt.alloc(), long.as_slice())?;
     assert_eq!(rt; ended.exit(), 3);
     assert_eq!(rt; told.as_slice(), b"refused b 1 B10\n".as_slice());
     Ok(())
@@ -385,13 +441,13 @@ fn reads_a_file_of_16_mib(rt: HostRuntime) -> Result<(), Fail> {
 
 #[test]
 fn refuses_a_byte_more_than_16_mib(rt: HostRuntime) -> Result<(), Fail> {
-    let mut files = files(&rt, &[])?;
+    let mut files = files(rt.alloc(), &[])?;
     let mut long = Vec::new(rt.alloc());
     long.resize(16_777_217, b'\n')?;
     files.put("long", long.as_slice())?;
     let mut out = MemorySink::new(rt.alloc(), &[], u32::MAX)?;
     assert_eq!(rt;
-        status(&rt, &["bench", "long"], &mut files, &mut out)?,
+        status(&rt, rt.alloc(), &["bench", "long"], &mut files, &mut out)?,
         Status::TooLong { word: 1 }
     );
     assert_eq!(rt; out.bytes(), b"too long long\n".as_slice());

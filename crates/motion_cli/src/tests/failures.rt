@@ -158,18 +158,19 @@ const JOBS: [(&str, &str, &[u8]); 4] = [
 ];
 
 // How a job ends where the listed writes of its output fail, and what it has written.
-fn written(
-    rt: &HostRuntime,
+fn written<H: Host + Wait + Sync>(
+    rt: &H,
+    alloc: Global,
     job: &str,
     word: &str,
     text: &[u8],
     fails: &[u64],
 ) -> Result<(Status, Vec<u8>), Fail> {
-    let mut files = MemoryFiles::new(rt.alloc(), &[])?;
+    let mut files = MemoryFiles::new(alloc, &[])?;
     files.put("text", text)?;
-    let mut out = MemorySink::new(rt.alloc(), fails, u32::MAX)?;
-    let ended = status(rt, &[job, word], &mut files, &mut out)?;
-    Ok((ended, Vec::from_slice(rt.alloc(), out.bytes())?))
+    let mut out = MemorySink::new(alloc, fails, u32::MAX)?;
+    let ended = status(rt, alloc, &[job, word], &mut files, &mut out)?;
+    Ok((ended, Vec::from_slice(alloc, out.bytes())?))
 }
 
 // A file that can't be read, and one that isn't there.
@@ -180,7 +181,7 @@ fn tells_what_cannot_be_read(rt: HostRuntime) -> Result<(), Fail> {
             let mut files = MemoryFiles::new(rt.alloc(), &fails)?;
             files.put("text", ONE_MOVE)?;
             let mut out = MemorySink::new(rt.alloc(), &[], u32::MAX)?;
-            let ended = status(&rt, &[job, name], &mut files, &mut out)?;
+            let ended = status(&rt, rt.alloc(), &[job, name], &mut files, &mut out)?;
             assert_eq!(rt; ended, Status::ReadFault { word: 1 });
             assert!(rt; out.bytes().starts_with(b"cannot read "), "{job}");
         }
@@ -192,9 +193,9 @@ fn tells_what_cannot_be_read(rt: HostRuntime) -> Result<(), Fail> {
 #[test]
 fn writes_a_beginning_where_a_write_fails(rt: HostRuntime) -> Result<(), Fail> {
     for (job, word, text) in JOBS {
-        let (whole, all) = written(&rt, job, word, text, &[])?;
+        let (whole, all) = written(&rt, rt.alloc(), job, word, text, &[])?;
         for write in 1..=4 {
-            let (ended, part) = written(&rt, job, word, text, &[write])?;
+            let (ended, part) = written(&rt, rt.alloc(), job, word, text, &[write])?;
             assert!(rt;
                 all.as_slice().starts_with(part.as_slice()),
                 "{job} {write}"
@@ -216,7 +217,7 @@ fn stands_the_faults_of_drives(rt: HostRuntime) -> Result<(), Fail> {
         (FULL_QUEUE, FULL_QUEUE_TRACE),
     ];
     for (bench, trace) in cases {
-        let (ended, told) = run_of(&rt, bench)?;
+        let (ended, told) = run_of(&rt, rt.alloc(), bench)?;
         assert_eq!(rt; ended, Status::Ok);
         assert_eq!(rt; told.as_slice(), trace);
     }

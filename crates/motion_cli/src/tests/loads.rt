@@ -19,7 +19,13 @@ fn writes_the_lines_of_loads(rt: HostRuntime) -> Result<(), Fail> {
     ];
     for (seed, line) in cases {
         let mut out = MemorySink::new(rt.alloc(), &[], u32::MAX)?;
-        let ended = super::status(&rt, &["gen", seed], &mut files(&rt, &[])?, &mut out)?;
+        let ended = super::status(
+            &rt,
+            rt.alloc(),
+            &["gen", seed],
+            &mut files(rt.alloc(), &[])?,
+            &mut out,
+        )?;
         assert_eq!(rt; ended, Status::Ok, "{seed}");
         assert_eq!(rt; out.bytes(), line, "{seed}");
     }
@@ -29,7 +35,13 @@ fn writes_the_lines_of_loads(rt: HostRuntime) -> Result<(), Fail> {
 #[test]
 fn takes_seeds_of_32_bits(rt: HostRuntime) -> Result<(), Fail> {
     let mut out = MemorySink::new(rt.alloc(), &[], u32::MAX)?;
-    let ended = super::status(&rt, &["gen", "4294967295"], &mut files(&rt, &[])?, &mut out)?;
+    let ended = super::status(
+        &rt,
+        rt.alloc(),
+        &["gen", "4294967295"],
+        &mut files(rt.alloc(), &[])?,
+        &mut out,
+    )?;
     assert_eq!(rt; ended, Status::Ok);
     assert!(rt;
         out.bytes()
@@ -37,7 +49,13 @@ fn takes_seeds_of_32_bits(rt: HostRuntime) -> Result<(), Fail> {
     );
     for seed in ["4294967296", "-1", "+7", "7x", ""] {
         let mut out = MemorySink::new(rt.alloc(), &[], u32::MAX)?;
-        let ended = super::status(&rt, &["gen", seed], &mut files(&rt, &[])?, &mut out)?;
+        let ended = super::status(
+            &rt,
+            rt.alloc(),
+            &["gen", seed],
+            &mut files(rt.alloc(), &[])?,
+            &mut out,
+        )?;
         assert_eq!(rt; ended, Status::Usage, "{seed}");
         assert_eq!(rt; out.bytes(), USAGE, "{seed}");
     }

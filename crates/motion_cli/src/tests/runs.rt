@@ -82,39 +82,47 @@ again
 
 // A configuration and a program by the names that the words give them.
 fn two_files(
-    rt: &HostRuntime,
+    alloc: Global,
     machine: &[u8],
     program: &[u8],
     fails: &[u32],
 ) -> Result<MemoryFiles, Fail> {
-    let mut files = MemoryFiles::new(rt.alloc(), fails)?;
+    let mut files = MemoryFiles::new(alloc, fails)?;
     files.put("machine", machine)?;
     files.put("program", program)?;
     Ok(files)
 }
 
 // How a run of two files ends, and what it writes, where the listed starts are refused.
-fn run_with(
-    rt: &HostRuntime,
+fn run_with<H: Host + Wait + Sync>(
+    rt: &H,
+    alloc: Global,
     files: &mut MemoryFiles,
     refused: &[u32],
 ) -> Result<(Status, Vec<u8>), Fail> {
-    let alloc = rt.alloc();
     let mut words = Words::new(alloc);
     for word in ["run", "machine", "program"] {
         words.push(word)?;
     }
     let mut out = MemorySink::new(alloc, &[], u32::MAX)?;
-    let mut spawner: Spawner<HostRuntime, PlantJob<OpenGate>> = Spawner::refusing(
-        *rt, alloc, refused,
-    )?;
+    let mut spawner: Spawner<H, PlantJob<OpenGate>> = Spawner::refusing(*rt, alloc, refused)?;
     let status = top(rt, alloc, &words, files, &mut out, &mut spawner, &OpenGate);
     Ok((status, Vec::from_slice(alloc, out.bytes())?))
 }
 
 // How a run of these texts ends, and what it writes.
-fn run_texts(rt: &HostRuntime, machine: &[u8], program: &[u8]) -> Result<(Status, Vec<u8>), Fail> {
-    run_with(rt, &mut two_files(rt, machine, program, &[])?, &[])
+fn run_texts<H: Host + Wait + Sync>(
+    rt: &H,
+    alloc: Global,
+    machine: &[u8],
+    program: &[u8],
+) -> Result<(Status, Vec<u8>), Fail> {
+    run_with(
+        rt,
+        alloc,
+        &mut two_files(alloc, machine, program, &[])?,
+        &[],
+    )
 }
 
 // The refusal of a text by a rule.
@@ -128,72 +136,78 @@ fn refusal(word: u8, place: u64, letter: u8, number: u8) -> Status {
 
 #[test]
 fn runs_two_tasks_to_their_ends(rt: HostRuntime) -> Result<(), Fail> {
-    let (status, trace) = run_texts(&rt, MACHINE, TWO_TASKS)?;
+    let (status, trace) = run_texts(&rt, rt.alloc(), MACHINE, TWO_TASKS)?;
     assert_eq!(rt; status, Status::Ok);
     let head: &[u8] = b"kind,a,b,c,d,e,f,g,h,i,j,k\ntrace,2,run,2000,20000,";
     assert!(rt; trace.starts_with(head));
-    let (checked, _) = ended(&rt, "check", "trace", trace.as_slice())?;
+    let (checked, _) = ended(&rt, rt.alloc(), "check", "trace", trace.as_slice())?;
     assert!(rt; matches!(checked, Status::Legal { .. }));
     Ok(())
 }
 
 #[test]
 fn tells_that_cycles_or_entries_are_spent(rt: HostRuntime) -> Result<(), Fail> {
-    let (status, trace) = run_texts(&rt, FEW_CYCLES, ONE_TASK)?;
+    let (status, trace) = run_texts(&rt, rt.alloc(), FEW_CYCLES, ONE_TASK)?;
     assert_eq!(rt; status, Status::CyclesOver);
-    let (checked, _) = ended(&rt, "check", "trace", trace.as_slice())?;
+    let (checked, _) = ended(&rt, rt.alloc(), "check", "trace", trace.as_slice())?;
     assert!(rt; matches!(checked, Status::Legal { .. }));
-    let (status, trace) = run_texts(&rt, FEW_ENTRIES, ONE_TASK)?;
+    let (status, trace) = run_texts(&rt, rt.alloc(), FEW_ENTRIES, ONE_TASK)?;
     assert_eq!(rt; status, Status::HistoryFull);
-    let (checked, _) = ended(&rt, "check", "trace", trace.as_slice())?;
+    let (checked, _) = ended(&rt, rt.alloc(), "check", "trace", trace.as_slice())?;
     assert_eq!(rt; checked, Status::Legal { entries: 10 });
     Ok(())
 }
 
 #[test]
 fn tells_the_configuration_before_the_program(rt: HostRuntime) -> Result<(), Fail> {
-    let (status, said) = run_texts(&rt, b"[[axis", b"task")?;
+    let (status, said) = run_texts(&rt, rt.alloc(), b"[[axis", b"task")?;
     assert_eq!(rt; status, refusal(1, 0, b'C', 1));
-    assert_eq!(rt; said.as_slice(), b"refused machine 0 C1\n");
+    assert_eq!(rt; said.as_slice(), b"refused machine 0 C1\n".as_slice());
     let open: &[u8] = b"motion-program 1\ntask one\nblock P Power X\nrepeat 2\ncall P on\n";
-    let (status, said) = run_texts(&rt, MACHINE, open)?;
+    let (status, said) = run_texts(&rt, rt.alloc(), MACHINE, open)?;
     assert_eq!(rt; status, refusal(2, 5, b'P', 10));
-    assert_eq!(rt; said.as_slice(), b"refused program 5 P10\n");
+    assert_eq!(rt; said.as_slice(), b"refused program 5 P10\n".as_slice());
     Ok(())
 }
 
 #[test]
 fn tells_which_file_cannot_be_read(rt: HostRuntime) -> Result<(), Fail> {
     for word in [1, 2] {
-        let mut files = two_files(&rt, MACHINE, TWO_TASKS, &[word as u32])?;
-        let (status, said) = run_with(&rt, &mut files, &[])?;
+        let mut files = two_files(rt.alloc(), MACHINE, TWO_TASKS, &[word as u32])?;
+        let (status, said) = run_with(&rt, rt.alloc(), &mut files, &[])?;
         assert_eq!(rt; status, Status::ReadFault { word });
         assert!(rt; said.starts_with(b"cannot read "));
     }
     let mut files = MemoryFiles::new(rt.alloc(), &[])?;
     files.put("machine", MACHINE)?;
-    let (status, said) = run_with(&rt, &mut files, &[])?;
+    let (status, said) = run_with(&rt, rt.alloc(), &mut files, &[])?;
     assert_eq!(rt; status, Status::ReadFault { word: 2 });
-    assert_eq!(rt; said.as_slice(), b"cannot read program\n");
+    assert_eq!(rt; said.as_slice(), b"cannot read program\n".as_slice());
     Ok(())
 }
 
 #[test]
 fn tells_a_refused_thread_alone(rt: HostRuntime) -> Result<(), Fail> {
     for start in 1..5 {
-        let mut files = two_files(&rt, MACHINE, TWO_TASKS, &[])?;
-        let (status, said) = run_with(&rt, &mut files, &[start])?;
+        let mut files = two_files(rt.alloc(), MACHINE, TWO_TASKS, &[])?;
+        let (status, said) = run_with(&rt, rt.alloc(), &mut files, &[start])?;
         assert_eq!(rt; status, Status::ThreadRefused, "{start}");
-        assert_eq!(rt; said.as_slice(), b"thread refused\n", "{start}");
+        assert_eq!(rt; said.as_slice(), b"thread refused\n".as_slice(), "{start}");
     }
     Ok(())
 }
 
 #[test]
 fn writes_nothing_of_a_run_where_the_first_write_fails(rt: HostRuntime) -> Result<(), Fail> {
-    let mut files = two_files(&rt, MACHINE, TWO_TASKS, &[])?;
+    let mut files = two_files(rt.alloc(), MACHINE, TWO_TASKS, &[])?;
     let mut out = MemorySink::new(rt.alloc(), &[1], u32::MAX)?;
-    let status = status(&rt, &["run", "machine", "program"], &mut files, &mut out)?;
+    let status = status(
+        &rt,
+        rt.alloc(),
+        &["run", "machine", "program"],
+        &mut files,
+        &mut out,
+    )?;
     assert_eq!(rt; status, Status::WriteFault);
     assert!(rt; out.bytes().is_empty());
     Ok(())

@@ -81,11 +81,11 @@ const GROUP_KINDS: [(&str, &str); 7] = [
 ];
 
 // Whether a bench has a trace that is legal, also in version 2.
-fn is_legal(rt: &HostRuntime, bench: &str) -> Result<bool, Fail> {
-    let (ran, trace) = run_of(rt, bench.as_bytes())?;
-    let (judged, _) = ended(rt, "check", "t", trace.as_slice())?;
-    let (_, migrated) = ended(rt, "migrate", "t", trace.as_slice())?;
-    let (again, _) = ended(rt, "check", "t", migrated.as_slice())?;
+fn is_legal<H: Host + Wait + Sync>(rt: &H, alloc: Global, bench: &str) -> Result<bool, Fail> {
+    let (ran, trace) = run_of(rt, alloc, bench.as_bytes())?;
+    let (judged, _) = ended(rt, alloc, "check", "t", trace.as_slice())?;
+    let (_, migrated) = ended(rt, alloc, "migrate", "t", trace.as_slice())?;
+    let (again, _) = ended(rt, alloc, "check", "t", migrated.as_slice())?;
     Ok(ran == Status::Ok && judged.exit() == 0 && again == judged)
 }
 
@@ -119,7 +119,7 @@ cycle 3
 end main
 "
             )?;
-            assert!(rt; is_legal(&rt, bench.as_str())?, "{bench}");
+            assert!(rt; is_legal(&rt, rt.alloc(), bench.as_str())?, "{bench}");
         }
     }
     Ok(())
@@ -151,7 +151,7 @@ cycle 3
 end main
 "
             )?;
-            assert!(rt; is_legal(&rt, bench.as_str())?, "{bench}");
+            assert!(rt; is_legal(&rt, rt.alloc(), bench.as_str())?, "{bench}");
         }
     }
     Ok(())

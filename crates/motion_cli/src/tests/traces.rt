@@ -29,7 +29,7 @@ drive,X,7,OperationEnabled,20,,,,,,,
 
 #[test]
 fn judges_a_trace(rt: HostRuntime) -> Result<(), Fail> {
-    let (legal, told) = ended(&rt, "check", "t", ONE_MOVE_TRACE)?;
+    let (legal, told) = ended(&rt, rt.alloc(), "check", "t", ONE_MOVE_TRACE)?;
     assert_eq!(rt; legal, Status::Legal { entries: 10 });
     assert_eq!(rt; told.as_slice(), b"legal 10\n".as_slice());
     let wrong = with_line(
@@ -42,10 +42,10 @@ fn judges_a_trace(rt: HostRuntime) -> Result<(), Fail> {
 expected row,X,0037,6,8,DiscreteMotion,0,1,12,000f,12,
 found row,X,0037,6,8,DiscreteMotion,0,1,13,000f,12,
 ";
-    let (illegal, told) = ended(&rt, "check", "t", wrong.as_slice())?;
+    let (illegal, told) = ended(&rt, rt.alloc(), "check", "t", wrong.as_slice())?;
     assert_eq!(rt; illegal, Status::Illegal { record: 12 });
     assert_eq!(rt; told.as_slice(), lines.as_slice());
-    let (illegal, told) = ended(&rt, "migrate", "t", wrong.as_slice())?;
+    let (illegal, told) = ended(&rt, rt.alloc(), "migrate", "t", wrong.as_slice())?;
     assert_eq!(rt; illegal.exit(), 1);
     assert_eq!(rt; told.as_slice(), lines.as_slice());
     Ok(())
@@ -66,11 +66,11 @@ fn finds_the_traces_of_benches_legal(rt: HostRuntime) -> Result<(), Fail> {
         rows::HISTORY_FULL_TRACE,
     ];
     for trace in traces {
-        let (legal, _) = ended(&rt, "check", "t", trace)?;
+        let (legal, _) = ended(&rt, rt.alloc(), "check", "t", trace)?;
         assert_eq!(rt; legal.exit(), 0);
-        let (migrated, two) = ended(&rt, "migrate", "t", trace)?;
+        let (migrated, two) = ended(&rt, rt.alloc(), "migrate", "t", trace)?;
         assert_eq!(rt; migrated, Status::Ok);
-        let (again, _) = ended(&rt, "check", "t", two.as_slice())?;
+        let (again, _) = ended(&rt, rt.alloc(), "check", "t", two.as_slice())?;
         assert_eq!(rt; again, legal);
     }
     Ok(())
@@ -79,7 +79,7 @@ fn finds_the_traces_of_benches_legal(rt: HostRuntime) -> Result<(), Fail> {
 #[test]
 fn writes_a_trace_in_version_two(rt: HostRuntime) -> Result<(), Fail> {
     for trace in [ONE_MOVE_TRACE, ONE_MOVE_MIGRATED] {
-        let (status, told) = ended(&rt, "migrate", "t", trace)?;
+        let (status, told) = ended(&rt, rt.alloc(), "migrate", "t", trace)?;
         assert_eq!(rt; status, Status::Ok);
         assert_eq!(rt; told.as_slice(), ONE_MOVE_MIGRATED);
     }
@@ -97,13 +97,13 @@ fn refuses_damaged_traces(rt: HostRuntime) -> Result<(), Fail> {
     for job in ["check", "migrate"] {
         for (number, line, told) in cases {
             let text = with_line(&rt, ONE_MOVE_TRACE, number, line)?;
-            let (status, line_told) = ended(&rt, job, "t", text.as_slice())?;
+            let (status, line_told) = ended(&rt, rt.alloc(), job, "t", text.as_slice())?;
             assert_eq!(rt; status.exit(), 3);
             assert_eq!(rt; line_told.as_slice(), told);
         }
     }
     let (cut, _) = ONE_MOVE_TRACE.split_at(ONE_MOVE_TRACE.len() - 38);
-    let (status, told) = ended(&rt, "check", "t", cut)?;
+    let (status, told) = ended(&rt, rt.alloc(), "check", "t", cut)?;
     assert_eq!(rt; status.exit(), 3);
     assert_eq!(rt; told.as_slice(), b"refused t 22 T6\n".as_slice());
     Ok(())
