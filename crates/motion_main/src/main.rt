@@ -10,6 +10,14 @@ fn main(rt: HostRuntime) -> ExitCode {
     let (alloc, args) = (rt.alloc(), env::args(&rt));
     let (mut files, mut out) = (HostFiles::new(&rt), StdSink::new(&rt));
     let mut spawner: Spawner<HostRuntime, PlantJob<OpenGate>> = Spawner::new(rt, alloc);
-    let status = top_of_args(&rt, alloc, args, &mut files, &mut out, &mut spawner, &OpenGate);
+    let status = top_of_args(
+        &rt,
+        alloc,
+        args,
+        &mut files,
+        &mut out,
+        &mut spawner,
+        &OpenGate,
+    );
     ExitCode::from(status.exit())
 }
