@@ -262,7 +262,7 @@ fn tells_the_words_that_it_takes(rt: HostRuntime) -> Result<(), Fail> {
         &["gen", "7", "7"],
         &["bench", "one_move", "one_move"],
         &["Bench", "one_move"],
-        &["run", "one_move", "one_move"],
+        &["run", "one_move", ""],
         &["help"],
     ];
     for words in cases {

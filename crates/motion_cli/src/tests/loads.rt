@@ -15,7 +15,7 @@ fn writes_the_lines_of_loads(rt: HostRuntime) -> Result<(), Fail> {
         ("1", FIRST),
         ("1", FIRST),
         ("7", SEVENTH),
-        ("0000000000000007", SEVENTH),
+        ("0000000007", SEVENTH),
     ];
     for (seed, line) in cases {
         let mut out = MemorySink::new(rt.alloc(), &[], u32::MAX)?;
