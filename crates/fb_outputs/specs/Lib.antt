@@ -1,5 +1,6 @@
 pub mod InstanceState
 pub mod Steps
 pub mod Inputs
+pub mod InputParts
 pub mod Replies
 pub mod Names

@@ -4,6 +4,7 @@
 
 mod inputs;
 mod instance;
+mod kind_inputs;
 mod laws;
 mod names;
 mod outputs;
@@ -14,6 +15,7 @@ mod tests;
 pub use command_pool::{BlockKind, BufferMode, Finish, Rates, Refusal};
 pub use inputs::{INPUTS_OFF, Input, Inputs, takes};
 pub use instance::{Edge, Instance, Progress};
+pub use kind_inputs::are_inputs;
 pub use laws::{names_are_read_back, replies_tell_one_result};
 pub use names::{KINDS, MODES, kind_name, kind_named, mode_name, mode_named};
 pub use outputs::Outputs;

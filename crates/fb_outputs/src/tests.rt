@@ -1,6 +1,9 @@
 // Replies of instances beside a pool of waiting commands.
 
-use crate::{BlockKind, BufferMode, Edge, Finish, Input, Instance, Outputs, Rates, takes};
+use crate::{
+    BlockKind, BufferMode, Edge, Finish, INPUTS_OFF, Input, Inputs, Instance, Outputs, Rates,
+    are_inputs, takes,
+};
 use command_pool::{CommandPool, Follow, Notes, OutOfMemory, Wanted};
 
 const NOTHING: Outputs = Outputs {
@@ -164,5 +167,39 @@ fn takes_the_inputs_of_its_kind(rt: HostRuntime) {
     ];
     for (kind, input, want) in cases {
         assert!(rt; takes(kind, input) == want);
+    }
+}
+
+#[test]
+fn tells_the_inputs_of_a_kind_from_others(rt: HostRuntime) {
+    let moved = Inputs {
+        execute: true,
+        positions: [5, 0, 0, 0, 0, 0],
+        velocity: 2,
+        ..INPUTS_OFF
+    };
+    assert!(rt; are_inputs(BlockKind::Power, 1, &INPUTS_OFF));
+    assert!(rt; are_inputs(BlockKind::MoveAbsolute, 1, &moved));
+    assert!(rt; !are_inputs(BlockKind::Power, 1, &moved));
+    assert!(rt; !are_inputs(BlockKind::MoveAbsolute, 0, &moved));
+    assert!(rt; !are_inputs(BlockKind::Home, 1, &moved));
+    let cases = [
+        Inputs {
+            velocity: 1_000_000_000_000_000_001,
+            ..moved
+        },
+        Inputs {
+            positions: [5, 1, 0, 0, 0, 0],
+            ..moved
+        },
+        Inputs { master: 1, ..moved },
+        Inputs {
+            numerator: 2,
+            ..moved
+        },
+        Inputs { table: 1, ..moved },
+    ];
+    for inputs in cases {
+        assert!(rt; !are_inputs(BlockKind::MoveAbsolute, 1, &inputs));
     }
 }

@@ -1,7 +1,9 @@
 // A configuration: the axes, groups, cam tables, tasks and blocks of a machine, and the room of its
 // history.
 
-ghost use Rattle.std.specs.Prelude.{◌≡◌, IfOk};
+ghost use Rattle.std.specs.Prelude.{◌≡◌, ◌↔◌, IfOk, IsTrue};
+ghost use Rattle.motion_history.specs.Calls as calls;
+ghost use Rattle.motion_history.specs.Calls.{IsCall};
 ghost use Rattle.motion_history.specs.Setup.{IsSetup};
 ghost use Rattle.motion_history.specs.Items.{setup_of};
 ghost use Rattle.motion_history.specs.Members.{members_of};
@@ -11,6 +13,7 @@ use crate::tables::copied_tables;
 use axis_state::{AxisDef, Name};
 use cam_table::CamTable;
 use command_pool::BlockKind;
+use fb_outputs::{Inputs, are_inputs};
 use out_of_memory::OutOfMemory;
 use std::alloc::Global;
 use std::marker::Model;
@@ -110,6 +113,32 @@ impl Config {
         ensures { result.now ≡ self.now.blocks }
     {
         self.items.blocks.as_slice()
+    }
+
+    /// Whether a block may be called with these inputs: what the caller of a kernel must show.
+    pub fn may_be_called(&self, instance: u16, inputs: &Inputs) -> bool
+        ensures { IsTrue result ↔ IsCall self.now instance inputs.now }
+    {
+        match self.blocks().get(instance as usize) {
+            Some(block) => {
+                (inputs.master as usize) < self.axes().len()
+                    && are_inputs(block.kind, self.axes_of(block), inputs)
+            }
+            None => false,
+        }
+    }
+
+    // On how many axes a block acts.
+    fn axes_of(&self, block: &BlockDef) -> u8
+        ensures { result ≡ calls.axes_of self.now block.now }
+    {
+        if !block.kind.acts_on_group() {
+            return 1;
+        }
+        match self.groups().get(block.object as usize) {
+            Some(group) => group.count,
+            None => 0,
+        }
     }
 
     /// How many cycles there may be, 1 to 200,000.

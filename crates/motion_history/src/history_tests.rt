@@ -124,3 +124,26 @@ fn tells_each_entry_at_its_place(rt: HostRuntime) -> Result<(), Fail> {
     assert!(rt; history.look(4).is_none() && history.entries() == 4);
     Ok(())
 }
+
+#[test]
+fn tells_the_calls_that_may_be_made(rt: HostRuntime) -> Result<(), Fail> {
+    let config = machine(rt.alloc())?;
+    assert!(rt; config.may_be_called(0, &CALL));
+    assert!(rt; !config.may_be_called(1, &CALL));
+    let others = [
+        Inputs { master: 1, ..CALL },
+        Inputs { table: 1, ..CALL },
+        Inputs {
+            positions: [20, 1, 0, 0, 0, 0],
+            ..CALL
+        },
+        Inputs {
+            velocity: -1_000_000_000_000_000_001,
+            ..CALL
+        },
+    ];
+    for inputs in others {
+        assert!(rt; !config.may_be_called(0, &inputs));
+    }
+    Ok(())
+}

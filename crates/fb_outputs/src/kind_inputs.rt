@@ -1,0 +1,78 @@
+// Whether inputs are those of a kind of block.
+
+ghost use Rattle.std.specs.Prelude.{◌≡◌, ◌↔◌, IsTrue};
+ghost use Rattle.fb_outputs.specs.InputParts.{AreBrakes, AreOthers, ArePositions, AreRates};
+ghost use Rattle.fb_outputs.specs.Inputs.{AreInputs, IsTaken};
+
+use crate::inputs::{Input, Inputs, takes};
+use command_pool::{BlockKind, BufferMode};
+use motion_numbers::MOST_NUMBER;
+
+/// Whether inputs are those of a kind of block that acts on so many axes: what its caller must show
+/// of a call.
+pub fn are_inputs(kind: BlockKind, axes: u8, inputs: &Inputs) -> bool
+    ensures { IsTrue result ↔ AreInputs kind axes inputs.now }
+{
+    are_rates(kind, inputs)
+        && are_brakes(kind, inputs)
+        && are_others(kind, inputs)
+        && are_positions(takes(kind, Input::Position), axes, &inputs.positions)
+}
+
+// Whether an input has its default unless it is taken, and is at most 10^18 in size.
+fn is_taken(takes: bool, default: i64, value: i64) -> bool
+    ensures { IsTrue result ↔ IsTaken takes default value }
+{
+    (takes || value == default) && value.unsigned_abs() <= MOST_NUMBER
+}
+
+// Whether each position is taken or 0, and those behind the count are 0.
+fn are_positions(takes: bool, count: u8, positions: &[i64]) -> bool
+    ensures yes { IsTrue result → ArePositions takes count positions.now }
+    ensures no { ArePositions takes count positions.now → IsTrue result }
+{
+    for place in 0..positions.len() {
+        let value = positions[place];
+        if !is_taken(takes, 0, value) || (place >= count as usize && value != 0) {
+            return false;
+        }
+    }
+    true
+}
+
+// Whether velocity and acceleration are so.
+fn are_rates(kind: BlockKind, inputs: &Inputs) -> bool
+    ensures yes { IsTrue result → AreRates kind inputs.now }
+    ensures no { AreRates kind inputs.now → IsTrue result }
+{
+    is_taken(takes(kind, Input::Velocity), 0, inputs.velocity)
+        && is_taken(takes(kind, Input::Acceleration), 0, inputs.acceleration)
+}
+
+// Whether deceleration and jerk are so.
+fn are_brakes(kind: BlockKind, inputs: &Inputs) -> bool
+    ensures yes { IsTrue result → AreBrakes kind inputs.now }
+    ensures no { AreBrakes kind inputs.now → IsTrue result }
+{
+    is_taken(takes(kind, Input::Deceleration), 0, inputs.deceleration)
+        && is_taken(takes(kind, Input::Jerk), 0, inputs.jerk)
+}
+
+// Whether the mode, and the master with its gear and its table, are so.
+fn are_others(kind: BlockKind, inputs: &Inputs) -> bool
+    ensures yes { IsTrue result → AreOthers kind inputs.now }
+    ensures no { AreOthers kind inputs.now → IsTrue result }
+{
+    (takes(kind, Input::Mode) || is_aborting(inputs.mode))
+        && (takes(kind, Input::Master) || inputs.master == 0)
+        && is_taken(takes(kind, Input::Numerator), 1, inputs.numerator)
+        && is_taken(takes(kind, Input::Denominator), 1, inputs.denominator)
+        && (takes(kind, Input::Table) || inputs.table == 0)
+}
+
+// Whether a mode is Aborting.
+fn is_aborting(mode: BufferMode) -> bool
+    ensures { IsTrue result ↔ (mode ≡ BufferMode.Aborting) }
+{
+    matches!(mode, BufferMode::Aborting)
+}
