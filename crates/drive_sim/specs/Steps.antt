@@ -2,7 +2,6 @@
 use Rattle.std.specs.Prelude.{ℕ, ◌+◌, ◌-◌, ◌^◌, min, ℤ, pos, Bool, true, false, ◌&&◌, ◌==◌, List, [], ◌∷◌, ◌++◌, length, slice_index_or, if◌then◌else◌}
 use Rattle.std.specs.Ordering.{int_eq}
 use Rattle.circular_buffer.specs.Buffer.{keep_last}
-use Rattle.cia402_machine.specs.declared.controlword.TheConstants.{CYCLIC_SYNCHRONOUS_POSITION}
 use Rattle.cia402_machine.specs.Statusword.{status_of_state}
 use Rattle.cia402_machine.specs.Steps.{drive_step_of}
 use Rattle.cia402_machine.specs.declared.drive.DriveIn.{DriveIn}
@@ -21,7 +20,7 @@ opened lag faults count true = record {
   steps = 0;
   state = OperationEnabled;
   last = 0x000f;
-  mode_display = CYCLIC_SYNCHRONOUS_POSITION;
+  mode_display = pos 8;
   actual = count;
   kept = [];
 }
@@ -65,7 +64,7 @@ state_after sim out =
 abbrev pub keeps_target : DriveSim → DriveOut → Bool
 keeps_target sim out =
     is_enabled sim.state && is_enabled (state_after sim out)
-    && int_eq out.mode CYCLIC_SYNCHRONOUS_POSITION
+    && int_eq out.mode (pos 8)
 
 -- the kept targets after a step: with the one just kept, or none. This project's profile
 unfoldable pub kept_after : DriveSim → DriveOut → List ℤ

@@ -14,7 +14,6 @@ use Rattle.fixed_units.proofs.Parts.{digits_parts}
 use Rattle.fixed_units.proofs.Shortest.{unsigned_abs-with_sign}
 use Rattle.motion_numbers.specs.declared.TheConstants.{MOST_NUMBER}
 use Rattle.line_text.specs.Numbers.{◌>>=◌, number_of, size_of}
-use Rattle.line_text.specs.declared.number.TheConstants.{MOST_DIGITS}
 
 -- digits are ASCII, and so are UTF-8
 pub digits-utf8 : (ds : List ℕ) → is_digits ds ≡ true → IsUtf8 ds
@@ -35,11 +34,11 @@ size-small None f z small same h = absurd (cc)
 size_of-small : (digits : List ℕ) (n : ℕ) → size_of digits ≡ Some n → n ≤ MOST_NUMBER
 unfolding size_of
 size_of-small digits n h =
-    elim (cases_Bool (is_digits digits && nat_le (length digits) MOST_DIGITS && nat_le (digits_value 10 digits) MOST_NUMBER)) [
+    elim (cases_Bool (is_digits digits && nat_le (length digits) 19 && nat_le (digits_value 10 digits) 1000000000000000000)) [
       | inl yet ↦
           let e : Some (digits_value 10 digits) ≡ Some n = rw yet at h in
           let is : digits_value 10 digits ≡ n = cc in
-          let few = leb-true _ _ (and_parts (is_digits digits && nat_le (length digits) MOST_DIGITS) _ yet).1 in
+          let few = leb-true _ _ (and_parts (is_digits digits && nat_le (length digits) 19) _ yet).1 in
           subst (λ k. k ≤ MOST_NUMBER) is few
       | inr no_size ↦ let e : None ≡ Some n = rw no_size at h in absurd (cc)
     ]

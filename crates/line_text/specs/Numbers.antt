@@ -3,8 +3,6 @@ use Rattle.std.specs.Prelude.{ℕ, ◌+◌, ℤ, Bool, ◌&&◌, ◌==◌, nat_l
 use Rattle.std.specs.List.{position}
 use Rattle.std.specs.Str.Parse.{digits_value}
 use Rattle.fixed_units.specs.Numbers.{is_digits, is_negative, with_sign, without_minus}
-use Rattle.motion_numbers.specs.declared.TheConstants.{MOST_NUMBER}
-use Rattle.line_text.specs.declared.number.TheConstants.{MOST_DIGITS}
 
 infixl 10 ◌>>=◌
 -- what comes of the second step where the first has an answer
@@ -14,8 +12,8 @@ answer >>= next = option_and_then next answer
 -- the size of a number: 1 to 19 digits, at most 10^18
 unfoldable pub size_of : List ℕ → Option ℕ
 size_of digits =
-    if is_digits digits && nat_le (length digits) MOST_DIGITS &&
-    nat_le (digits_value 10 digits) MOST_NUMBER
+    if is_digits digits && nat_le (length digits) 19 &&
+    nat_le (digits_value 10 digits) 1000000000000000000
     then Some (digits_value 10 digits) else None
 
 -- a number: its size, behind a minus where it is negative

@@ -18,20 +18,19 @@ use Rattle.machine_words.specs.Names.{axis_at, axis_named}
 use Rattle.machine_words.specs.Numbers.{number}
 use Rattle.machine_words.specs.Positions.{no_positions}
 use Rattle.machine_words.specs.Units.{IsUnits, acceleration_in, place_in, velocity_in}
-use Rattle.machine_words.specs.declared.inputs.TheConstants.{MOST_TABLE_NUMBER}
-use Rattle.machine_words.specs.declared.rule.TheConstants.{NO_VALUE, OUT_OF_RANGE, WRONG_NAME}
+use Rattle.machine_words.specs.RuleNumbers.{no_value, out_of_range, wrong_name}
 use Rattle.machine_words.specs.declared.units.Units.{Units}
 use Rattle.machine_words.proofs.Given.{AreGivenOf, ArePositions, given-of, left-out, no_positions-are, number-taken, positions-are, positions-left}
 use Rattle.machine_words.proofs.Names.{axis-within}
 use Rattle.machine_words.proofs.Smalls.{AreSmall, acceleration-small, number-small, place-small, velocity-small}
 use Rattle.line_text.proofs.Results.{bind_ok, found, ok_is}
 
-master-within : (s : Setup) (o : Option (List ℕ)) (n : ℕ) → 1 ≤ length s.axes → value_or 0 (axis_named WRONG_NAME s) o ≡ Ok n → n < length s.axes
+master-within : (s : Setup) (o : Option (List ℕ)) (n : ℕ) → 1 ≤ length s.axes → value_or 0 (axis_named wrong_name s) o ≡ Ok n → n < length s.axes
 master-within s None n some h = subst (λ k. k < length s.axes) (ok_is (Ok 0) 0 n refl h) (omega arith)
-master-within s (Some name) n some h = axis-within s name n (found (axis_at s name) WRONG_NAME n h)
+master-within s (Some name) n some h = axis-within s name n (found (axis_at s name) wrong_name n h)
 
 -- a table that is left out is 0
-table-left : (o : Option (List ℕ)) (z : ℤ) (n : ℕ) → value_or (pos 0) number o ≡ Ok z → in_range 0 MOST_TABLE_NUMBER OUT_OF_RANGE z ≡ Ok n → o ≡ None → n ≡ 0
+table-left : (o : Option (List ℕ)) (z : ℤ) (n : ℕ) → value_or (pos 0) number o ≡ Ok z → in_range 0 65535 out_of_range z ≡ Ok n → o ≡ None → n ≡ 0
 unfolding in_range
 table-left o z n h r none =
     let is : z ≡ pos 0 = left-out (pos 0) number o z h none in
@@ -47,11 +46,11 @@ inputs_of-fit small units cycle s b g i some of h =
     let d = bind_ok (value_or (pos 0) (acceleration_in units) g.deceleration) _ i a.2 in
     let j = bind_ok (value_or (pos 0) (place_in units) g.jerk) _ i d.2 in
     let m = bind_ok (value_or Aborting mode_of g.mode) _ i j.2 in
-    let master = bind_ok (value_or 0 (axis_named WRONG_NAME s) g.master) _ i m.2 in
+    let master = bind_ok (value_or 0 (axis_named wrong_name s) g.master) _ i m.2 in
     let n = bind_ok (value_or (pos 1) number g.numerator) _ i master.2 in
     let e = bind_ok (value_or (pos 1) number g.denominator) _ i n.2 in
     let t = bind_ok (value_or (pos 0) number g.table) _ i e.2 in
-    let table = bind_ok (in_range 0 MOST_TABLE_NUMBER OUT_OF_RANGE t.0) _ i t.2 in
+    let table = bind_ok (in_range 0 65535 out_of_range t.0) _ i t.2 in
     let r : Inputs = record {
       execute = true;
       positions = ps.0;
@@ -77,7 +76,7 @@ inputs_of-fit small units cycle s b g i some of h =
         deceleration = number-taken (acceleration_in units) accelerates (takes b.kind Deceleration) (pos 0) g.deceleration d.0 (lit≤ tt) of.deceleration d.1;
         jerk = number-taken (place_in units) (place-small small units) (takes b.kind Jerk) (pos 0) g.jerk j.0 (lit≤ tt) of.jerk j.1;
         mode = λ none. left-out Aborting mode_of g.mode m.0 m.1 (of.mode none);
-        master = λ none. left-out 0 (axis_named WRONG_NAME s) g.master master.0 master.1 (of.master none);
+        master = λ none. left-out 0 (axis_named wrong_name s) g.master master.0 master.1 (of.master none);
         numerator = number-taken number (number-small small) (takes b.kind Numerator) (pos 1) g.numerator n.0 (lit≤ tt) of.numerator n.1;
         denominator = number-taken number (number-small small) (takes b.kind Denominator) (pos 1) g.denominator e.0 (lit≤ tt) of.denominator e.1;
         table = λ none. table-left g.table t.0 table.0 t.1 table.1 (of.table none);
@@ -109,10 +108,10 @@ inputs_on-fit : AreSmall → (units : Units) (s : Setup) (b : BlockDef) (state :
     inputs_on units s b state words ≡ Ok i → AreFit s b i
 unfolding inputs_on
 inputs_on-fit small units s b state words i cycle some h =
-    let m = bind_ok (broken_unless (are_masters_there s b.kind words) WRONG_NAME) _ i h in
-    let on = bind_ok (broken_unless (says state (codes "on")) NO_VALUE) _ i m.2 in
+    let m = bind_ok (broken_unless (are_masters_there s b.kind words) wrong_name) _ i h in
+    let on = bind_ok (broken_unless (says state (codes "on")) no_value) _ i m.2 in
     let given = bind_ok _ (λ g. inputs_of units s (axes_of s b) g) i on.2 in
-    inputs_of-fit small units cycle s b given.0 i some (given-of b.kind words given.0 (found (texts_given b.kind words) NO_VALUE given.0 given.1)) given.2
+    inputs_of-fit small units cycle s b given.0 i some (given-of b.kind words given.0 (found (texts_given b.kind words) no_value given.0 given.1)) given.2
 
 -- the inputs of a call
 pub inputs_by-fit : AreSmall → (units : Units) (s : Setup) (b : BlockDef) (state : List ℕ) (words : List (List ℕ)) (i : Inputs) → IsUnits units → 1 ≤ length s.axes →

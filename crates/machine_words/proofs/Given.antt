@@ -9,12 +9,11 @@ use Rattle.fb_outputs.specs.declared.inputs.Input.{Input}
 use Rattle.fb_outputs.specs.declared.inputs.Input.TheVariants.{Position, Velocity, Acceleration, Deceleration, Jerk, Mode, Master, Numerator, Denominator, Table}
 use Rattle.line_text.specs.Reading.{each_of}
 use Rattle.line_text.specs.Rules.{broken_unless}
-use Rattle.motion_history.specs.declared.sizes.TheConstants.{MOST_MEMBERS}
 use Rattle.machine_words.specs.Inputs.{positions_of, value_or}
 use Rattle.machine_words.specs.Keys.{TextsGiven, text_at, texts_given}
 use Rattle.machine_words.specs.Positions.{is_semicolon, no_positions, positions_from}
 use Rattle.machine_words.specs.Units.{place_in}
-use Rattle.machine_words.specs.declared.rule.TheConstants.{NO_VALUE}
+use Rattle.machine_words.specs.RuleNumbers.{no_value}
 use Rattle.machine_words.specs.declared.units.Units.{Units}
 use Rattle.machine_words.proofs.Smalls.{AreSmall, ReadsSmall, each-small, place-small}
 use Rattle.machine_words.proofs.Zeros.{IsSmall, small-at, zero-behind, zero-small, zeros-at}
@@ -107,8 +106,8 @@ pub record ArePositions (axes : ℕ) (ps : List ℤ) : Type 0 where
 -- positions that are left out are such
 pub no_positions-are : (axes : ℕ) → ArePositions axes no_positions
 no_positions-are axes = record {
-  small = λ n. rw (zeros-at MOST_MEMBERS n) zero-small;
-  few = λ n h. zeros-at MOST_MEMBERS n;
+  small = λ n. rw (zeros-at 6 n) zero-small;
+  few = λ n h. zeros-at 6 n;
 }
 
 -- those of a text are
@@ -116,13 +115,13 @@ positions_of-are : AreSmall → (units : Units) (axes : ℕ) (text : List ℕ) (
 unfolding positions_of positions_from
 positions_of-are small units axes text ps h =
     let places = bind_ok (each_of (place_in units) (slice_split is_semicolon text)) _ ps h in
-    let counted = bind_ok (broken_unless (length places.0 == axes) NO_VALUE) _ ps places.2 in
-    let many : length places.0 ≡ axes = eqb-true _ _ (holds (length places.0 == axes) NO_VALUE counted.0 counted.1) in
-    let all : List ℤ = places.0 ++ replicate (MOST_MEMBERS - length places.0) (pos 0) in
+    let counted = bind_ok (broken_unless (length places.0 == axes) no_value) _ ps places.2 in
+    let many : length places.0 ≡ axes = eqb-true _ _ (holds (length places.0 == axes) no_value counted.0 counted.1) in
+    let all : List ℤ = places.0 ++ replicate (6 - length places.0) (pos 0) in
     let is : all ≡ ps = ok_is (Ok all) all ps refl counted.2 in
     subst (λ qs. ArePositions axes qs) is (record {
-      small = λ n. small-at places.0 (MOST_MEMBERS - length places.0) n (each-small (place_in units) (place-small small units) (slice_split is_semicolon text) places.0 places.1);
-      few = λ n m. zero-behind places.0 (MOST_MEMBERS - length places.0) n (omega (arith, many, m));
+      small = λ n. small-at places.0 (6 - length places.0) n (each-small (place_in units) (place-small small units) (slice_split is_semicolon text) places.0 places.1);
+      few = λ n m. zero-behind places.0 (6 - length places.0) n (omega (arith, many, m));
     })
 
 -- those of a call are
@@ -133,5 +132,5 @@ positions-are small units axes (Some text) ps h = positions_of-are small units a
 -- positions that are left out are 0
 pub positions-left : (units : Units) (axes : ℕ) (o : Option (List ℕ)) (ps : List ℤ) → value_or no_positions (positions_of units axes) o ≡ Ok ps → o ≡ None →
     (n : ℕ) → slice_index_or ps n (pos 0) ≡ pos 0
-positions-left units axes None ps h e n = subst (λ qs. slice_index_or qs n (pos 0) ≡ pos 0) (ok_is (Ok no_positions) no_positions ps refl h) (zeros-at MOST_MEMBERS n)
+positions-left units axes None ps h e n = subst (λ qs. slice_index_or qs n (pos 0) ≡ pos 0) (ok_is (Ok no_positions) no_positions ps refl h) (zeros-at 6 n)
 positions-left units axes (Some text) ps h e n = absurd (cc)

@@ -15,7 +15,7 @@ use Rattle.line_text.specs.Reading.{◌>>=◌, each_of}
 use Rattle.motion_numbers.specs.declared.TheConstants.{MOST_NUMBER}
 use Rattle.machine_words.specs.Numbers.{number}
 use Rattle.machine_words.specs.Units.{IsUnits, acceleration_in, decimal_units, place_in, quantity, units_or_broken, velocity_in}
-use Rattle.machine_words.specs.declared.rule.TheConstants.{NO_VALUE}
+use Rattle.machine_words.specs.RuleNumbers.{no_value}
 use Rattle.machine_words.specs.declared.units.Units.{Units}
 use Rattle.machine_words.specs.declared.units.Units.TheVariants.{Internal, User}
 use Rattle.machine_words.proofs.Zeros.{IsSmall}
@@ -33,7 +33,7 @@ ReadsSmall read = (word : List ℕ) (z : ℤ) → read word ≡ Ok z → IsSmall
 
 pub number-small : AreSmall → ReadsSmall number
 unfolding number
-number-small small word z h = small.numbers word z (found (number_of word) NO_VALUE z h)
+number-small small word z h = small.numbers word z (found (number_of word) no_value z h)
 
 -- a decimal number that has no fault
 pub unbroken : (rule : ℕ) (r : Result ℤ UnitFault) (z : ℤ) → units_or_broken rule r ≡ Ok z → r ≡ Ok z
@@ -44,8 +44,8 @@ quantity-small : AreSmall → ReadsSmall quantity
 unfolding quantity decimal_units
 quantity-small small text z h =
     elim (cases_Bool (is_utf8 text)) [
-      | inl utf8 ↦ let e : units_or_broken NO_VALUE (reading_of text) ≡ Ok z = rw utf8 at h in ((small.units text z).0 (unbroken NO_VALUE (reading_of text) z e)).1
-      | inr other ↦ let e : Err NO_VALUE ≡ Ok z = rw other at h in absurd (cc)
+      | inl utf8 ↦ let e : units_or_broken no_value (reading_of text) ≡ Ok z = rw utf8 at h in ((small.units text z).0 (unbroken no_value (reading_of text) z e)).1
+      | inr other ↦ let e : Err no_value ≡ Ok z = rw other at h in absurd (cc)
     ]
 
 -- a size that is spread over so many parts

@@ -11,7 +11,6 @@ use Rattle.motion_history.specs.Faults.{IsTableFault}
 use Rattle.motion_history.specs.Setup.{Setup}
 use Rattle.motion_history.specs.declared.fault.ConfigFault.{ConfigFault}
 use Rattle.motion_history.specs.declared.fault.ConfigFault.TheVariants.{BadName, NameUsed, NameUnknown, OutOfRange, Table, TooMany, TooFew, OutOfMemory}
-use Rattle.motion_history.specs.declared.sizes.TheConstants.{MOST_TABLES}
 use Rattle.machine_words.specs.Tables.{refusal_by, table_added}
 use Rattle.machine_words.specs.declared.rule.ItemRules.{ItemRules}
 use Rattle.line_text.proofs.Results.{bind_ok, ok_is}
@@ -25,22 +24,22 @@ abbrev pub HaveNone : Type 0
 HaveNone = (points : List (ℤ × ℤ)) (fault : CamFault) → IsCamTable points → IsFault points fault → ⊥
 
 -- there is room for a table more
-pub not_full : (n : ℕ) → n < MOST_TABLES → nat_le MOST_TABLES n ≡ false
+pub not_full : (n : ℕ) → n < 16 → nat_le 16 n ≡ false
 not_full n h =
-    elim (cases_Bool (nat_le MOST_TABLES n)) [
+    elim (cases_Bool (nat_le 16 n)) [
       | inl full ↦ let l = leb-true _ _ full in absurd (omega (arith, l, h))
       | inr room ↦ room
     ]
 
-pub has_room : (n : ℕ) → not (nat_le MOST_TABLES n) ≡ true → n < MOST_TABLES
+pub has_room : (n : ℕ) → not (nat_le 16 n) ≡ true → n < 16
 has_room n h =
-    elim (cases_lt n MOST_TABLES) [
+    elim (cases_lt n 16) [
       | inl room ↦ room
-      | inr full ↦ let e = rw (le-leb MOST_TABLES n full) at h in absurd (cc)
+      | inr full ↦ let e = rw (le-leb 16 n full) at h in absurd (cc)
     ]
 
 -- points that make a table, where there is room for one
-pub table-made : AreTold → (rules : ItemRules) (s new : Setup) (points : List (ℤ × ℤ)) → IsCamTable points → length s.tables < MOST_TABLES →
+pub table-made : AreTold → (rules : ItemRules) (s new : Setup) (points : List (ℤ × ℤ)) → IsCamTable points → length s.tables < 16 →
     new ≡ record s { tables = s.tables ++ points ∷ [] } → table_added rules s points ≡ Ok new
 unfolding table_added
 table-made told rules s new points table room is = rw ((told points).1 table, not_full (length s.tables) room) (ap Ok (sym is))
@@ -63,7 +62,7 @@ table-refused told none rules s new points OutOfRange is = absurd (is (λ e. abs
 table-refused told none rules s new points (Table fault) is = rw (faulty told none points fault (is (λ e. absurd (cc)))) refl
 table-refused told none rules s new points TooMany is =
     let both = is (λ e. absurd (cc)) in
-    rw ((told points).1 both.0, le-leb MOST_TABLES (length s.tables) both.1) refl
+    rw ((told points).1 both.0, le-leb 16 (length s.tables) both.1) refl
 table-refused told none rules s new points TooFew is = absurd (is (λ e. absurd (cc)))
 table-refused told none rules s new points OutOfMemory is = tt
 
@@ -72,5 +71,5 @@ pub table_added-is : (rules : ItemRules) (s u : Setup) (points : List (ℤ × �
 unfolding table_added
 table_added-is rules s u points h =
     let good = bind_ok (broken_unless (is_cam_table points) rules.wrong) _ u h in
-    let room = bind_ok (broken_unless (not (nat_le MOST_TABLES (length s.tables))) rules.too_many) _ u good.2 in
+    let room = bind_ok (broken_unless (not (nat_le 16 (length s.tables))) rules.too_many) _ u good.2 in
     sym (ok_is _ _ u refl room.2)

@@ -20,8 +20,7 @@ use Rattle.machine_words.specs.Names.{axis_at, axis_named}
 use Rattle.machine_words.specs.Numbers.{number}
 use Rattle.machine_words.specs.Positions.{is_semicolon, positions_from}
 use Rattle.machine_words.specs.Units.{acceleration_in, place_in, velocity_in}
-use Rattle.machine_words.specs.declared.inputs.TheConstants.{MOST_TABLE_NUMBER}
-use Rattle.machine_words.specs.declared.rule.TheConstants.{NO_VALUE, OUT_OF_RANGE, WRONG_NAME}
+use Rattle.machine_words.specs.RuleNumbers.{no_value, out_of_range, wrong_name}
 use Rattle.machine_words.specs.declared.units.Units.{Units}
 pub use Rattle.machine_words.specs.Positions.{no_positions}
 
@@ -34,12 +33,12 @@ value_or default read (Some text) = read text
 unfoldable pub positions_of : Units → ℕ → List ℕ → Result (List ℤ) ℕ
 positions_of units axes text = do
   places ← each_of (place_in units) (slice_split is_semicolon text)
-  _ ← broken_unless (length places == axes) NO_VALUE
+  _ ← broken_unless (length places == axes) no_value
   Ok (positions_from places)
 
 -- a word that is no mode breaks its rule
 abbrev pub mode_of : List ℕ → Result BufferMode ℕ
-mode_of name = ok_or (mode_named name) NO_VALUE
+mode_of name = ok_or (mode_named name) no_value
 
 -- the inputs of a call with Execute true, by their texts: a row for each key
 unfoldable pub inputs_of : Units → Setup → ℕ → TextsGiven → Result Inputs ℕ
@@ -50,11 +49,11 @@ inputs_of units s axes given = do
   deceleration ← value_or (pos 0) (acceleration_in units) given.deceleration
   jerk ← value_or (pos 0) (place_in units) given.jerk
   mode ← value_or Aborting mode_of given.mode
-  master ← value_or 0 (axis_named WRONG_NAME s) given.master
+  master ← value_or 0 (axis_named wrong_name s) given.master
   numerator ← value_or (pos 1) number given.numerator
   denominator ← value_or (pos 1) number given.denominator
   number_of_table ← value_or (pos 0) number given.table
-  table ← in_range 0 MOST_TABLE_NUMBER OUT_OF_RANGE number_of_table
+  table ← in_range 0 65535 out_of_range number_of_table
   Ok (record {
     execute = true;
     positions = positions;
@@ -83,9 +82,9 @@ are_masters_there s kind words =
 -- the inputs behind `on` or a word in its place
 unfoldable pub inputs_on : Units → Setup → BlockDef → List ℕ → List (List ℕ) → Result Inputs ℕ
 inputs_on units s b state words = do
-  _ ← broken_unless (are_masters_there s b.kind words) WRONG_NAME
-  _ ← broken_unless (says state (codes "on")) NO_VALUE
-  given ← ok_or (texts_given b.kind words) NO_VALUE
+  _ ← broken_unless (are_masters_there s b.kind words) wrong_name
+  _ ← broken_unless (says state (codes "on")) no_value
+  given ← ok_or (texts_given b.kind words) no_value
   inputs_of units s (axes_of s b) given
 
 -- whether a call is one with Execute false

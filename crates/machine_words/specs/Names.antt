@@ -10,7 +10,7 @@ use Rattle.fb_outputs.specs.Names.{kind_named}
 use Rattle.motion_history.specs.Setup.{Setup}
 use Rattle.motion_history.specs.declared.config.BlockDef.{BlockDef}
 use Rattle.motion_history.specs.declared.config.GroupDef.{GroupDef}
-use Rattle.machine_words.specs.declared.rule.TheConstants.{WRONG_NAME}
+use Rattle.machine_words.specs.RuleNumbers.{wrong_name}
 
 -- the number of the axis of this name
 unfoldable pub axis_at : Setup → List ℕ → Option ℕ
@@ -38,8 +38,8 @@ axis_named rule s name = ok_or (axis_at s name) rule
 
 -- the axis or group of this name in a bench or a program
 abbrev pub object_named : Setup → BlockKind → List ℕ → Result ℕ ℕ
-object_named s kind name = ok_or (object_at s kind name) WRONG_NAME
+object_named s kind name = ok_or (object_at s kind name) wrong_name
 
 -- the kind of this name in a bench or a program
 abbrev pub kind_of : List ℕ → Result BlockKind ℕ
-kind_of name = ok_or (kind_named name) WRONG_NAME
+kind_of name = ok_or (kind_named name) wrong_name

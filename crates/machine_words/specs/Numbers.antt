@@ -2,8 +2,8 @@
 use Rattle.std.specs.Prelude.{ℕ, ℤ, Result, List}
 use Rattle.std.specs.Option.{ok_or}
 use Rattle.line_text.specs.Numbers.{number_of}
-use Rattle.machine_words.specs.declared.rule.TheConstants.{NO_VALUE}
+use Rattle.machine_words.specs.RuleNumbers.{no_value}
 
 -- a word that is no number breaks its rule
 unfoldable pub number : List ℕ → Result ℤ ℕ
-number word = ok_or (number_of word) NO_VALUE
+number word = ok_or (number_of word) no_value

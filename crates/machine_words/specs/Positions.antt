@@ -1,6 +1,5 @@
 -- Positions, one for each axis. This project's profile.
 use Rattle.std.specs.Prelude.{ℕ, ◌-◌, ◌==◌, ℤ, pos, Bool, List, ◌++◌, length, replicate}
-use Rattle.motion_history.specs.declared.sizes.TheConstants.{MOST_MEMBERS}
 
 -- a semicolon stands between the parts of a text
 abbrev pub is_semicolon : ℕ → Bool
@@ -8,8 +7,8 @@ is_semicolon b = b == 59
 
 -- these positions, and 0 behind them
 unfoldable pub positions_from : List ℤ → List ℤ
-positions_from places = places ++ replicate (MOST_MEMBERS - length places) (pos 0)
+positions_from places = places ++ replicate (6 - length places) (pos 0)
 
 -- positions that are left out
 abbrev pub no_positions : List ℤ
-no_positions = replicate MOST_MEMBERS (pos 0)
+no_positions = replicate 6 (pos 0)

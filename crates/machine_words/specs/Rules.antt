@@ -4,18 +4,18 @@ use Rattle.line_text.specs.declared.reader.LineRefused.{LineRefused}
 use Rattle.motion_history.specs.declared.fault.ConfigFault.{ConfigFault}
 use Rattle.motion_history.specs.declared.fault.ConfigFault.TheVariants.{BadName, NameUsed, NameUnknown, OutOfRange, Table, TooMany, TooFew, OutOfMemory}
 use Rattle.motion_history.specs.declared.refused.TextRefused.{TextRefused}
-use Rattle.machine_words.specs.declared.rule.TheConstants.{NO_NAME, WRONG_NAME, OUT_OF_RANGE, TOO_MANY, NOT_WHOLE}
+use Rattle.machine_words.specs.RuleNumbers.{no_name, not_whole, out_of_range, too_many, wrong_name}
 
 -- the rule of a bench or a program that a faulty item breaks
 abbrev pub rule_of : ConfigFault → ℕ
-rule_of BadName = NO_NAME
-rule_of NameUsed = WRONG_NAME
-rule_of NameUnknown = WRONG_NAME
-rule_of OutOfRange = OUT_OF_RANGE
-rule_of (Table fault) = OUT_OF_RANGE
-rule_of TooMany = TOO_MANY
-rule_of TooFew = NOT_WHOLE
-rule_of OutOfMemory = NOT_WHOLE
+rule_of BadName = no_name
+rule_of NameUsed = wrong_name
+rule_of NameUnknown = wrong_name
+rule_of OutOfRange = out_of_range
+rule_of (Table fault) = out_of_range
+rule_of TooMany = too_many
+rule_of TooFew = not_whole
+rule_of OutOfMemory = not_whole
 
 -- a fault breaks the rule that is told of it
 abbrev pub broken_by : (ConfigFault → ℕ) → Option ConfigFault → Result (Unit {0}) ℕ

@@ -8,14 +8,13 @@ use Rattle.line_text.specs.declared.reader.LineFault.TheVariants as line
 use Rattle.motion_history.specs.Setup.{Setup}
 use Rattle.motion_history.specs.declared.fault.ConfigFault.{ConfigFault}
 use Rattle.motion_history.specs.declared.fault.ConfigFault.TheVariants.{TooMany, OutOfMemory}
-use Rattle.motion_history.specs.declared.sizes.TheConstants.{MOST_TABLES}
 use Rattle.machine_words.specs.declared.rule.ItemRules.{ItemRules}
 
 -- the cam table of points is added: they make one, and there is room for it
 unfoldable pub table_added : ItemRules → Setup → List (ℤ × ℤ) → Result Setup ℕ
 table_added rules s points = do
   _ ← broken_unless (is_cam_table points) rules.wrong
-  _ ← broken_unless (not (nat_le MOST_TABLES (length s.tables))) rules.too_many
+  _ ← broken_unless (not (nat_le 16 (length s.tables))) rules.too_many
   Ok (record s { tables = s.tables ++ points ∷ [] })
 
 -- why points with a fault are refused

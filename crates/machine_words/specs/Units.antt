@@ -7,15 +7,14 @@ use Rattle.fixed_units.specs.PerCycle.{per_cycle_of, per_cycle_squared_of}
 use Rattle.fixed_units.specs.declared.reading.UnitFault.{UnitFault}
 use Rattle.line_text.specs.Reading.{◌>>=◌}
 use Rattle.machine_words.specs.Numbers.{number}
-use Rattle.machine_words.specs.declared.rule.TheConstants.{NO_VALUE}
-use Rattle.machine_words.specs.declared.units.TheConstants.{LONGEST_CYCLE, SHORTEST_CYCLE}
+use Rattle.machine_words.specs.RuleNumbers.{no_value}
 use Rattle.machine_words.specs.declared.units.Units.{Units}
 use Rattle.machine_words.specs.declared.units.Units.TheVariants.{Internal, User}
 
--- the length of a cycle in microseconds
+-- the length of a cycle in microseconds, 100 to 100,000
 pub record IsCycle (cycle_us : ℕ) : Type 0 where
-  pub shortest : SHORTEST_CYCLE ≤ cycle_us
-  pub longest : cycle_us ≤ LONGEST_CYCLE
+  pub shortest : 100 ≤ cycle_us
+  pub longest : cycle_us ≤ 100000
 
 -- rates per second are told for a cycle of such a length
 abbrev pub IsUnits : Units → Type 0
@@ -33,7 +32,7 @@ decimal_units rule text = units_or_broken rule (reading_of text)
 
 -- a word is a quantity where it is a decimal number
 unfoldable pub quantity : List ℕ → Result ℤ ℕ
-quantity word = if is_utf8 word then decimal_units NO_VALUE word else Err NO_VALUE
+quantity word = if is_utf8 word then decimal_units no_value word else Err no_value
 
 -- a place, in internal units
 unfoldable pub place_in : Units → List ℕ → Result ℤ ℕ

@@ -1,9 +1,14 @@
 // Laws of a machine's words: each is the contract of a function that does nothing.
 
+ghost use Rattle.std.specs.Prelude.{◌≡◌};
 ghost use Rattle.machine_words.specs.Fit.{InputsAreFit};
 
 use fixed_units::reads_what_is_spelled;
 use line_text::numbers_are_small;
+use motion_history::{
+    MOST_AXES, MOST_BLOCKS, MOST_CYCLES, MOST_ENTRIES, MOST_FAULTS, MOST_GROUPS, MOST_LAG,
+    MOST_MEMBERS, MOST_TABLES, MOST_TASKS,
+};
 
 /// What words give the inputs of a call fits its block.
 pub fn inputs_are_fit()
@@ -12,3 +17,18 @@ pub fn inputs_are_fit()
     numbers_are_small();
     reads_what_is_spelled();
 }
+
+/// The sizes of machines in numbers: how many items of each kind one may have, how long its history
+/// is, and how far a drive may lag behind.
+pub fn sizes_of_machines()
+    ensures axes { MOST_AXES ≡ 16 }
+    ensures groups { MOST_GROUPS ≡ 4 }
+    ensures members { MOST_MEMBERS ≡ 6 }
+    ensures tables { MOST_TABLES ≡ 16 }
+    ensures tasks { MOST_TASKS ≡ 8 }
+    ensures blocks { MOST_BLOCKS ≡ 256 }
+    ensures cycles { MOST_CYCLES ≡ 200000 }
+    ensures entries { MOST_ENTRIES ≡ 1000000 }
+    ensures lag { MOST_LAG ≡ 64 }
+    ensures faults { MOST_FAULTS ≡ 1000 }
+{}

@@ -19,7 +19,7 @@ pub use drive::{MOST_STEPS, drive_in, plain_drive};
 pub use inputs::{Callee, inputs_by, is_off};
 pub use integer::{number, numbers};
 pub use item::{add_task, free_name, is_whole};
-pub use laws::inputs_are_fit;
+pub use laws::{inputs_are_fit, sizes_of_machines};
 pub use name::{
     axes_named, axis_at, axis_named, block_at, group_at, is_same_name, kind_of, object_at,
     object_named, task_at,

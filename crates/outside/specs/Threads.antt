@@ -1,6 +1,5 @@
 -- The threads of a spawner, seen as the jobs that they do. This project's profile.
 use Rattle.std.specs.Prelude.{◌≤◌, length, map, option_map}
-use Rattle.outside.specs.declared.TheConstants.{MOST_JOBS}
 use Rattle.outside.specs.declared.spawner.Spawner.TheInside.{Inside}
 use Rattle.outside.specs.Started.{Started}
 
@@ -13,6 +12,6 @@ started_of s = record {
   faults = s.faults;
 }
 
--- a spawner has started few enough jobs
+-- a spawner has started at most a thousand million jobs
 abbrev pub IsSpawner : {R J End : Type 0} → Inside R J End → Type 0
-IsSpawner s = length s.threads.items ≤ MOST_JOBS
+IsSpawner s = length s.threads.items ≤ 1000000000

@@ -3,8 +3,8 @@
 ghost use Rattle.std.specs.Prelude.{◌≡◌, ◌≢◌, ℕ, ◌+◌, ◌-◌, ◌^◌, ◌<◌, ◌≤◌, ◌∷◌, ◌++◌, [], min, Some, None, Err, IfOk, IfSome, IsSome, IsTrue, ◌↔◌, OnErr, OnOk, Contains, length, slice_get, slice_set, vec_len, vec_capacity};
 ghost use Rattle.outside.specs.Started.{Started, job_of};
 
+use crate::OutOfMemory;
 use crate::worker::{Due, Worker};
-use crate::{MOST_JOBS, OutOfMemory};
 use std::alloc::{AllocError, Global};
 use std::marker::{Model, PhantomData};
 use std::snapshot::Snapshot;
@@ -89,7 +89,7 @@ impl<H: Host, J: Worker<H>> Spawner<H, J> {
     /// Starts a job in a thread of its own, and answers its number, counted from 0.
     pub fn start(&mut self, job: J) -> Result<u32, StartFault>
         requires ready { J.ready job }
-        requires few { length self.old.jobs < MOST_JOBS }
+        requires few { length self.old.jobs < 1000000000 }
         ensures number { IfOk result (λ number. number ≡ length self.old.jobs) }
         ensures started { OnOk result (self.new.jobs ≡ self.old.jobs ++ Some job ∷ []) }
         ensures job { IfOk result (λ number. job_of self.new number ≡ Some job) }

@@ -160,11 +160,13 @@ fn writes_to_the_output_of_the_process(rt: HostRuntime) {
     assert_eq!(rt; write_all(&mut sink, b"written\n"), Ok(()));
 }
 
-// A writer that takes one byte of a piece and keeps it, and that fails once it has so many.
+// A writer that takes one byte of a piece and keeps it, and that fails once it has so many. A signal
+// interrupts it before each byte.
 #[derive(Drop)]
 struct OneByOne {
     bytes: Vec<u8>,
     most: usize,
+    interrupted: bool,
 }
 
 impl Write for OneByOne {
@@ -172,6 +174,10 @@ impl Write for OneByOne {
         let [first, ..] = buf else {
             return Ok(0);
         };
+        self.interrupted = !self.interrupted;
+        if self.interrupted {
+            return Err(io::Error::from(ErrorKind::Interrupted));
+        }
         if self.bytes.len() >= self.most {
             return Err(io::Error::from(ErrorKind::StorageFull));
         }
@@ -185,7 +191,7 @@ impl Write for OneByOne {
 }
 
 #[test]
-fn writes_all_to_a_writer_of_short_writes(rt: HostRuntime) -> Result<(), Fail> {
+fn writes_all_to_a_writer_of_short_and_interrupted_writes(rt: HostRuntime) -> Result<(), Fail> {
     let cases: [(usize, Result<(), SinkFailed>, &[u8]); 3] = [
         (9, Ok(()), b"hello"),
         (5, Ok(()), b"hello"),
@@ -195,6 +201,7 @@ fn writes_all_to_a_writer_of_short_writes(rt: HostRuntime) -> Result<(), Fail> {
         let mut writer = OneByOne {
             bytes: Vec::new(rt.alloc()),
             most,
+            interrupted: false,
         };
         let mut sink = WriterSink::over(&mut writer);
         assert_eq!(rt; write_all(&mut sink, b"hello"), result, "{most} bytes");

@@ -1,8 +1,9 @@
 // An output behind a writer of std, as that of the process is.
-ghost use Rattle.std.specs.Prelude.{◌≡◌};
+ghost use Rattle.std.specs.Prelude.{◌≡◌, ◌≤◌, IfOk, length};
+ghost use Rattle.std.specs.Io.KnownBytes.{WriteAppends};
 
 use crate::{Sink, SinkFailed};
-use std::io::{self, Printer, Write};
+use std::io::{self, ErrorKind, Printer, Write};
 
 /// An output behind a writer. It tells what the writer holds, where that is known.
 #[derive(Drop)]
@@ -43,7 +44,7 @@ impl<W: Write> Sink for WriterSink<W> {
         if bytes.is_empty() {
             return Ok(0);
         }
-        match self.writer.write(bytes) {
+        match write_some(&mut self.writer, bytes) {
             Ok(taken) if taken > 0 => Ok(taken),
             _ => {
                 self.faults = self.faults.saturating_add(1);
@@ -51,4 +52,18 @@ impl<W: Write> Sink for WriterSink<W> {
             }
         }
     }
+}
+
+// What the writer answers of a piece. A write that a signal interrupts is made again.
+fn write_some<W: Write>(writer: &mut W, bytes: &[u8]) -> io::Result<usize>
+    ensures bound { IfOk result (λ taken. taken ≤ length bytes.now) }
+    ensures bytes { WriteAppends (W.contents writer.old) (W.contents writer.new) result bytes.now }
+{
+    for _ in 0..u64::MAX {
+        match writer.write(bytes) {
+            Err(error) if error.kind() == ErrorKind::Interrupted => {}
+            result => return result,
+        }
+    }
+    Err(io::Error::from(ErrorKind::TimedOut))
 }

@@ -28,7 +28,7 @@ impl<H> Worker<H> for AddsOne {
 
 // Starts a job and waits for its end.
 fn add_one<H: Host>(spawner: &mut Spawner<H, AddsOne>, number: u32) -> Result<u32, StartFault>
-    requires { length spawner.old.jobs < MOST_JOBS }
+    requires { length spawner.old.jobs < 1000000000 }
 {
     let place = spawner.start(AddsOne { number })?;
     Ok(spawner.join(place))
@@ -57,6 +57,21 @@ fn starts_all_but_the_listed(rt: HostRuntime) -> Result<(), Fail> {
         }
         assert_eq!(rt; spawner.started(), started, "{listed:?}");
     }
+    Ok(())
+}
+
+#[test]
+fn refuses_none_of_two_hundred_but_the_listed(rt: HostRuntime) -> Result<(), Fail> {
+    let mut spawner = Spawner::refusing(rt, rt.alloc(), &[5, 9, 64])?;
+    for start in 1..=200 {
+        let wanted = match start {
+            5 | 9 | 64 => Err(StartFault::Refused),
+            _ => Ok(start + 1),
+        };
+        assert!(rt; spawner.started() < 200);
+        assert_eq!(rt; add_one(&mut spawner, start), wanted, "start {start}");
+    }
+    assert_eq!(rt; spawner.started(), 197);
     Ok(())
 }
 
@@ -128,7 +143,7 @@ enum Turn {
 
 #[test]
 fn holds_for_as_many_looks_as_it_has(rt: HostRuntime) -> Result<(), Fail> {
-    let cases: [(u64, &[Turn], bool); 7] = [
+    let cases: [(u64, &[Turn], bool); 13] = [
         (5, &[], false),
         (5, &[Turn::Before(1)], true),
         (0, &[Turn::Before(1)], true),
@@ -144,6 +159,16 @@ fn holds_for_as_many_looks_as_it_has(rt: HostRuntime) -> Result<(), Fail> {
             false,
         ),
         (0, &[Turn::Before(1), Turn::After(2)], true),
+        (5, &[Turn::Before(2), Turn::Before(1)], true),
+        (5, &[Turn::After(3), Turn::Before(1)], true),
+        (
+            5,
+            &[Turn::Before(2), Turn::After(2), Turn::Before(1)],
+            false,
+        ),
+        (5, &[Turn::After(2), Turn::Before(1), Turn::After(1)], false),
+        (5, &[Turn::Before(1), Turn::After(2), Turn::Before(1)], true),
+        (0, &[Turn::After(2), Turn::Before(1)], true),
     ];
     for (looks, turns, gave_up) in cases {
         let gate = HoldGate::new(rt.alloc(), 1, 2, looks)?;
