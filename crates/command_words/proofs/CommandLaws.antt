@@ -15,7 +15,7 @@ use Rattle.std.proofs.lemmas.Bool.{and_parts, cases_Bool}
 use Rattle.std.proofs.lemmas.Slice.Eq.{bytes_eq-Decides}
 use Rattle.std.specs.List.{list_all}
 use Rattle.command_words.specs.Commands.{motion, request_found, request_in}
-use Rattle.command_words.specs.Requests.{Request, asked_by, is_plain}
+use Rattle.command_words.specs.Requests.{Asked, asked_by, is_plain}
 
 -- the parse is exact
 pub motion_is_free : is_simple_and_free motion ≡ true
@@ -99,7 +99,7 @@ module _ (word : Text) (words : List Text)
     finds = ap (λ (w : Walk). entered program w.stopped) (sym ends)
 
 -- what the words ask for, by the fault of their parse and by what it found
-abbrev pub found_by : Kinds → Option (Text × List Row) → Option Request
+abbrev pub found_by : Kinds → Option (Text × List Row) → Option Asked
 found_by [] found = request_found found
 found_by (k ∷ ks) found = None
 
@@ -212,14 +212,82 @@ migrate_line : (words : List Text) → ArePlain words → IsRead (codes "migrate
 unfolding clap_on_literals
 migrate_line words e = read_behind (codes "migrate") words refl refl (migrate_rest words e)
 
+-- the words behind `switches`
+switches_rest : (words : List Text) → ArePlain words → IsReadBehind (codes "switches") words
+unfolding clap_on_literals asked_by request_in
+switches_rest [] e = refl
+switches_rest (a ∷ []) e =
+    let h = first_operand a [] e in
+    rw (h.dashes, h.long, h.short) refl
+switches_rest (a ∷ b ∷ []) e =
+    let h = first_operand a (b ∷ []) e in
+    let k = first_operand b [] (others_plain a (b ∷ []) e) in
+    rw (h.dashes, h.long, h.short, k.dashes, k.long, k.short) refl
+switches_rest (a ∷ b ∷ c ∷ more) e =
+    let h = first_operand a (b ∷ c ∷ more) e in
+    let two = others_plain a (b ∷ c ∷ more) e in
+    let k = first_operand b (c ∷ more) two in
+    let m = first_operand c more (others_plain b (c ∷ more) two) in
+    rw (h.dashes, h.long, h.short, k.dashes, k.long, k.short, m.dashes, m.long, m.short) refl
+
+switches_line : (words : List Text) → ArePlain words → IsRead (codes "switches" ∷ words)
+unfolding clap_on_literals
+switches_line words e = read_behind (codes "switches") words refl refl (switches_rest words e)
+
+-- the words behind `standby`
+standby_rest : (words : List Text) → ArePlain words → IsReadBehind (codes "standby") words
+unfolding clap_on_literals asked_by request_in
+standby_rest [] e = refl
+standby_rest (a ∷ []) e =
+    let h = first_operand a [] e in
+    rw (h.dashes, h.long, h.short) refl
+standby_rest (a ∷ b ∷ []) e =
+    let h = first_operand a (b ∷ []) e in
+    let k = first_operand b [] (others_plain a (b ∷ []) e) in
+    rw (h.dashes, h.long, h.short, k.dashes, k.long, k.short) refl
+standby_rest (a ∷ b ∷ c ∷ more) e =
+    let h = first_operand a (b ∷ c ∷ more) e in
+    let two = others_plain a (b ∷ c ∷ more) e in
+    let k = first_operand b (c ∷ more) two in
+    let m = first_operand c more (others_plain b (c ∷ more) two) in
+    rw (h.dashes, h.long, h.short, k.dashes, k.long, k.short, m.dashes, m.long, m.short) refl
+
+standby_line : (words : List Text) → ArePlain words → IsRead (codes "standby" ∷ words)
+unfolding clap_on_literals
+standby_line words e = read_behind (codes "standby") words refl refl (standby_rest words e)
+
+-- the words behind `scope`
+scope_rest : (words : List Text) → ArePlain words → IsReadBehind (codes "scope") words
+unfolding clap_on_literals asked_by request_in
+scope_rest [] e = refl
+scope_rest (a ∷ []) e =
+    let h = first_operand a [] e in
+    rw (h.dashes, h.long, h.short) refl
+scope_rest (a ∷ b ∷ []) e =
+    let h = first_operand a (b ∷ []) e in
+    let k = first_operand b [] (others_plain a (b ∷ []) e) in
+    rw (h.dashes, h.long, h.short, k.dashes, k.long, k.short) refl
+scope_rest (a ∷ b ∷ c ∷ more) e =
+    let h = first_operand a (b ∷ c ∷ more) e in
+    let two = others_plain a (b ∷ c ∷ more) e in
+    let k = first_operand b (c ∷ more) two in
+    let m = first_operand c more (others_plain b (c ∷ more) two) in
+    rw (h.dashes, h.long, h.short, k.dashes, k.long, k.short, m.dashes, m.long, m.short) refl
+
+scope_line : (words : List Text) → ArePlain words → IsRead (codes "scope" ∷ words)
+unfolding clap_on_literals
+scope_line words e = read_behind (codes "scope") words refl refl (scope_rest words e)
+
 -- a first word that is no command's name
 no_line : (word : Text) (words : List Text) → IsOperand word
     → bytes_eq (codes "bench") word ≡ false → bytes_eq (codes "run") word ≡ false
     → bytes_eq (codes "check") word ≡ false → bytes_eq (codes "gen") word ≡ false
-    → bytes_eq (codes "migrate") word ≡ false → IsRead (word ∷ words)
+    → bytes_eq (codes "migrate") word ≡ false → bytes_eq (codes "switches") word ≡ false
+    → bytes_eq (codes "standby") word ≡ false → bytes_eq (codes "scope") word ≡ false
+    → IsRead (word ∷ words)
 unfolding clap_on_literals asked_by
-no_line word words h bench run check gen migrate =
-    rw (bench, run, check, gen, migrate, h.dashes, h.long, h.short) refl
+no_line word words h bench run check gen migrate switches standby scope =
+    rw (bench, run, check, gen, migrate, switches, standby, scope, h.dashes, h.long, h.short) refl
 
 -- a first word is this name, or another word
 named : (name word : Text) (words : List Text) → IsRead (name ∷ words)
@@ -239,5 +307,9 @@ plain_read (word ∷ words) e =
     named (codes "run") word words (run_line words plain) (λ run.
     named (codes "check") word words (check_line words plain) (λ check.
     named (codes "gen") word words (gen_line words plain) (λ gen.
-    named (codes "migrate") word words (migrate_line words plain)
-    (no_line word words (first_operand word words e) bench run check gen)))))
+    named (codes "migrate") word words (migrate_line words plain) (λ migrate.
+    named (codes "switches") word words (switches_line words plain) (λ switches.
+    named (codes "standby") word words (standby_line words plain) (λ standby.
+    named (codes "scope") word words (scope_line words plain)
+    (no_line word words (first_operand word words e) bench run check gen migrate switches
+    standby))))))))

@@ -1,4 +1,4 @@
-pub mod SeedLaws
+pub mod NumberLaws
 pub mod Texts
 pub mod CommandLaws
 pub mod ParseLaws

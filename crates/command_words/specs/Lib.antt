@@ -1,5 +1,5 @@
 pub mod WordList
 pub mod Args
-pub mod Seeds
+pub mod Numbers
 pub mod Requests
 pub mod Commands

@@ -1,6 +1,6 @@
 // The commands that the words are read with.
 
-ghost use Rattle.std.specs.Prelude.{◌≡◌, IfOk, false};
+ghost use Rattle.std.specs.Prelude.{◌≡◌, IfOk, false, take};
 ghost use Rattle.clap.specs.Words.{rule_of};
 ghost use Rattle.command_words.specs.Commands as spec;
 ghost use Rattle.command_words.specs.Commands.{IsCommand};
@@ -11,6 +11,20 @@ use std::alloc::{AllocError, Global};
 /// The program with its commands, each with its operands.
 pub fn motion<'a>(alloc: Global) -> Result<Command<'a>, AllocError>
     ensures { IfOk result (IsCommand spec.motion) }
+{
+    let first = with_first_commands(alloc)?;
+    let switches = command_of_two(alloc, "switches", "TRACE", "FILE")?;
+    let standby = command_of_two(alloc, "standby", "FILE", "CUT")?;
+    let scope = command_of_two(alloc, "scope", "TRACE", "WORKERS")?;
+    first
+        .subcommand(switches)?
+        .subcommand(standby)?
+        .subcommand(scope)
+}
+
+// The program with its first five commands: a run of events, and what one file or a seed gives.
+fn with_first_commands<'a>(alloc: Global) -> Result<Command<'a>, AllocError>
+    ensures { IfOk result (IsCommand (spec.with_commands spec.bare_motion (take 5 spec.commands))) }
 {
     let bench = command_of_one(alloc, "bench", "FILE")?;
     let run = command_of_two(alloc, "run", "CONFIG", "PROGRAM")?;

@@ -2,8 +2,8 @@
 #![tactic(auto)]
 
 mod commands;
+mod numbers;
 mod request;
-mod seed;
 mod words;
 
 pub use out_of_memory::OutOfMemory;

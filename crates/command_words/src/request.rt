@@ -1,8 +1,9 @@
 // What the words of a call ask for.
 
-ghost use Rattle.std.specs.Prelude.{◌≡◌, ◌≢◌, IfOk, None, map, true};
+ghost use Rattle.std.specs.Prelude.{◌≡◌, ◌≢◌, IfOk, None, codes, false, map, true};
 ghost use Rattle.std.specs.List.{list_all};
 ghost use Rattle.std.specs.Option.{option_map};
+ghost use Rattle.std.specs.Str.{bytes_eq};
 ghost use Rattle.std.specs.String.{string_bytes};
 ghost use Rattle.clap.specs.Words.{found_of, kind_of, rows_of, subcommand_rows_of};
 ghost use Rattle.command_words.specs.Commands as commands;
@@ -10,12 +11,13 @@ ghost use Rattle.command_words.specs.Requests as spec;
 ghost use Rattle.command_words.specs.Requests.{told};
 
 use crate::commands::motion;
-use crate::seed::seed_in;
+use crate::numbers::{cut_in, seed_in, workers_in};
 use crate::words::Words;
 use clap::error::ErrorKind;
 use clap::{ArgMatches, Error};
 use out_of_memory::OutOfMemory;
 use std::alloc::Global;
+use std::num::NonZeroU8;
 
 /// What the program does with one file.
 #[derive(Clone, Copy, Debug, PartialEq, Eq)]
@@ -37,14 +39,20 @@ pub enum Request<'a> {
     Run { config: &'a str, program: &'a str },
     /// The load of a seed.
     Load { seed: u32 },
+    /// The edges of the switches of a file in a trace.
+    Switches { trace: &'a str, switches: &'a str },
+    /// A bench whose kernel hands over to its standby behind so many events.
+    Standby { name: &'a str, cut: u32 },
+    /// The scope report of a trace, made by so many workers, at most 16.
+    Scope { trace: &'a str, workers: NonZeroU8 },
 }
 
 /// What the words ask for, by the grammar of the words. No word may be empty or begin with `-`.
 ///
 /// The words are read with `clap`, which takes memory.
-#[tactic(auto, using(crate::proofs::Texts::are_plain), unfolding(crate::specs::Requests::asked_of))]
+#[tactic(auto, using(crate::proofs::Texts::are_plain), unfolding(crate::specs::Requests::asked_in))]
 pub fn asked(alloc: Global, words: &Words) -> Result<Option<Request<'_>>, OutOfMemory>
-    ensures { IfOk result (λ request. option_map told request ≡ spec.asked_of words.now) }
+    ensures { IfOk result (λ request. option_map told request ≡ spec.asked_in words.now) }
 {
     let texts = words.texts();
     if are_plain(texts) {
@@ -116,6 +124,25 @@ fn request_in<'a>(name: &str, operands: &ArgMatches<'a>) -> Option<Request<'a>>
         "check" => file_in(Job::Check, operands.get_str("TRACE")),
         "gen" => load_in(operands.get_str("SEED")),
         "migrate" => file_in(Job::Migrate, operands.get_str("TRACE")),
+        _ => report_in(name, operands),
+    }
+}
+
+// What a command asks for with its operands that is none of the first five.
+#[tactic(auto, using(crate::proofs::Texts::in_row), unfolding(crate::specs::Commands::request_in))]
+fn report_in<'a>(name: &str, operands: &ArgMatches<'a>) -> Option<Request<'a>>
+    requires bench { bytes_eq name.now (codes "bench") ≡ false }
+    requires run { bytes_eq name.now (codes "run") ≡ false }
+    requires check { bytes_eq name.now (codes "check") ≡ false }
+    requires load { bytes_eq name.now (codes "gen") ≡ false }
+    requires migrate { bytes_eq name.now (codes "migrate") ≡ false }
+    ensures { option_map told result
+        ≡ commands.request_in name.now (rows_of (found_of operands.now)) }
+{
+    match name {
+        "switches" => switches_in(operands.get_str("TRACE"), operands.get_str("FILE")),
+        "standby" => standby_in(operands.get_str("FILE"), operands.get_str("CUT")),
+        "scope" => scope_in(operands.get_str("TRACE"), operands.get_str("WORKERS")),
         _ => None,
     }
 }
@@ -147,4 +174,37 @@ fn load_in(word: Option<&str>) -> Option<Request<'static>>
 {
     let seed = seed_in(word?)?;
     Some(Request::Load { seed })
+}
+
+// The switches of a trace, with the files that two operands name.
+fn switches_in<'a>(trace: Option<&'a str>, switches: Option<&'a str>) -> Option<Request<'a>>
+    ensures { option_map told result
+        ≡ commands.switches_in (option_map (λ text. text.now) trace.entry)
+        (option_map (λ text. text.now) switches.entry) }
+{
+    let trace = trace?;
+    let switches = switches?;
+    Some(Request::Switches { trace, switches })
+}
+
+// A bench that is handed over, with the file and the cut of two operands.
+fn standby_in<'a>(name: Option<&'a str>, word: Option<&str>) -> Option<Request<'a>>
+    ensures { option_map told result
+        ≡ commands.standby_in (option_map (λ text. text.now) name.entry)
+        (option_map (λ text. text.now) word.entry) }
+{
+    let name = name?;
+    let cut = cut_in(word?)?;
+    Some(Request::Standby { name, cut })
+}
+
+// The scope of a trace, with the file and the workers of two operands.
+fn scope_in<'a>(trace: Option<&'a str>, word: Option<&str>) -> Option<Request<'a>>
+    ensures { option_map told result
+        ≡ commands.scope_in (option_map (λ text. text.now) trace.entry)
+        (option_map (λ text. text.now) word.entry) }
+{
+    let trace = trace?;
+    let workers = workers_in(word?)?;
+    Some(Request::Scope { trace, workers })
 }

@@ -1,6 +1,7 @@
 // Each line of the grammar, and words that are no line of it.
 
 use crate::*;
+use std::num::NonZeroU8;
 use std::test::Fail;
 
 // The words of a call.
@@ -46,6 +47,68 @@ fn takes_each_line(rt: HostRuntime) -> Result<(), Fail> {
     for (texts, wanted) in cases {
         let words = words_of(&rt, texts)?;
         assert_eq!(rt; asked(rt.alloc(), &words)?, wanted, "{texts:?}");
+    }
+    Ok(())
+}
+
+// The scope report by so many workers.
+fn scope(trace: &str, workers: u8) -> Option<Request<'_>> {
+    let workers = NonZeroU8::new(workers)?;
+    Some(Request::Scope { trace, workers })
+}
+
+#[test]
+fn takes_each_line_of_a_report_or_a_standby(rt: HostRuntime) -> Result<(), Fail> {
+    let switches = Some(Request::Switches {
+        trace: "a.csv",
+        switches: "valves",
+    });
+    let standby = |cut| Some(Request::Standby { name: "a", cut });
+    let cases: [(&[&str], Option<Request>); 8] = [
+        (&["switches", "a.csv", "valves"], switches),
+        (&["standby", "a", "0"], standby(0)),
+        (&["standby", "a", "0000003"], standby(3)),
+        (&["standby", "a", "9999999"], standby(9_999_999)),
+        (&["scope", "a.csv", "1"], scope("a.csv", 1)),
+        (&["scope", "a.csv", "9"], scope("a.csv", 9)),
+        (&["scope", "a.csv", "10"], scope("a.csv", 10)),
+        (&["scope", "a.csv", "16"], scope("a.csv", 16)),
+    ];
+    for (texts, wanted) in cases {
+        let words = words_of(&rt, texts)?;
+        assert_eq!(rt; asked(rt.alloc(), &words)?, wanted, "{texts:?}");
+    }
+    Ok(())
+}
+
+#[test]
+fn refuses_other_words_of_a_report_or_a_standby(rt: HostRuntime) -> Result<(), Fail> {
+    let cases: [&[&str]; 21] = [
+        &["switches"],
+        &["switches", "a"],
+        &["switches", "a", "b", "c"],
+        &["switches", "a", "-b"],
+        &["standby", "a"],
+        &["standby", "a", "1", "2"],
+        &["standby", "a", ""],
+        &["standby", "a", "+3"],
+        &["standby", "a", "3x"],
+        &["standby", "a", "00000003"],
+        &["standby", "a", "10000000"],
+        &["scope", "a"],
+        &["scope", "a", "1", "2"],
+        &["scope", "a", ""],
+        &["scope", "a", "0"],
+        &["scope", "a", "01"],
+        &["scope", "a", "+1"],
+        &["scope", "a", "17"],
+        &["scope", "a", "00"],
+        &["scope", "a", "016"],
+        &["scope", "a", "1x"],
+    ];
+    for texts in cases {
+        let words = words_of(&rt, texts)?;
+        assert_eq!(rt; asked(rt.alloc(), &words)?, None, "{texts:?}");
     }
     Ok(())
 }

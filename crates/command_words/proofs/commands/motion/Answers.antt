@@ -5,10 +5,8 @@ use Rattle.command_words.proofs.commands.motion.Goals as goal
 
 pub returns : goal.returns
 returns c =
-    let one = with_command _ _ _ _ _
-    c.bare_motion.ensures c.in_ok-bench.ensures c.in_ok-subcommand.ensures in
-    let two = with_command _ _ _ _ _ one c.in_ok-run.ensures c.in_ok-subcommand-2.ensures in
-    let three = with_command _ _ _ _ _ two c.in_ok-check.ensures c.in_ok-subcommand-3.ensures in
-    let four = with_command _ _ _ _ _ three c.in_ok-load.ensures c.in_ok-subcommand-4.ensures in
-    IfOk-weaker c.subcommand-5.result _ _
-    (λ all adds. with_command _ _ _ _ all four c.in_ok-migrate.ensures adds) c.subcommand-5.ensures
+    let six = with_command _ _ _ _ _
+    c.in_ok-first.ensures c.in_ok-switches.ensures c.in_ok-subcommand.ensures in
+    let seven = with_command _ _ _ _ _ six c.in_ok-standby.ensures c.in_ok-subcommand-2.ensures in
+    IfOk-weaker c.subcommand-3.result _ _
+    (λ all adds. with_command _ _ _ _ all seven c.in_ok-scope.ensures adds) c.subcommand-3.ensures

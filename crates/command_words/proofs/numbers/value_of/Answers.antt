@@ -1,6 +1,6 @@
 -- Parsing digits fails only beyond 32 bits.
-use Rattle.command_words.proofs.SeedLaws.{digits-beyond}
-use Rattle.command_words.proofs.seed.value_of.Goals as goal
+use Rattle.command_words.proofs.NumberLaws.{digits-beyond}
+use Rattle.command_words.proofs.numbers.value_of.Goals as goal
 
 pub returns-in-Err : goal.returns-in-Err
 returns-in-Err c =
