@@ -17,7 +17,6 @@ use Rattle.motion_kernel.specs.KernelState.{KernelState}
 use Rattle.kernel_turn.specs.PassView.{PassView}
 use Rattle.kernel_turn.specs.Steps.{Draws, Grows, IsWhole, Looks, Passes, Seated, Settles, Takes}
 use Rattle.kernel_turn.specs.Views.{IsIdle, longer, opening_view, settled_view, spent_view, split_view, ticket_of, view_after_join, view_after_split, view_after_turn, was_stopped, with_found, with_number, word_of}
-use Rattle.kernel_turn.specs.declared.TheConstants.{MOST_OUT}
 use Rattle.kernel_turn.specs.Times.{one, times, once_below}
 use Rattle.kernel_turn.specs.Rule.{Kept, Fits, Is, Counted, Home, Away, Homes, living, with_kernel, stoppers, if_hand, if_hand_is, if_found}
 use Rattle.kernel_turn.proofs.Totals.{total_set, total_snoc, total_at, total_two, total_le, total_some, total_only, one_same, one_le, one_true, one_false, below_no, below_yes, below_le, times-append, hand_none, hand_some, hand_le, is_none, is_some, found_none, found_some, found_is, here}
@@ -460,7 +459,7 @@ pub settles_at : (c : Setup) (slots id : ℕ) (m : Seated) → IsIdle m.0 → m.
 settles_at c slots id m idle empty = subst (λ xs. Allows (Kept c) slots id (m.0, xs) 0 (λ n. n) (Settles (step slots 0 0 0 none) (m.0, xs))) (sym empty) (settles c slots id m.0 idle)
 
 -- the opening pass is the one of the count
-opened_at : (c : Setup) (s : State (Option KernelState) PassView) (k : Kept c s) (id : ℕ) (v : PassView) → get_elem? s.views id ≡ some v → v.opening ≡ true → (id ≡ 0) × (living s.views ≡ suc v.out) × (v.out ≤ MOST_OUT)
+opened_at : (c : Setup) (s : State (Option KernelState) PassView) (k : Kept c s) (id : ℕ) (v : PassView) → get_elem? s.views id ≡ some v → v.opening ≡ true → (id ≡ 0) × (living s.views ≡ suc v.out) × (v.out ≤ 1000)
 opened_at c s k id v at opening =
     let zero_id = (k.each id v at).first opening in
     let n = k.count in
@@ -470,7 +469,7 @@ opened_at c s k id v at opening =
     let b = n.4 in
     (zero_id, omega arith, omega arith)
 
-pub splits : (c : Setup) (id : ℕ) (v : PassView) → IsIdle v → v.opening ≡ true → v.out < MOST_OUT → Splits (Kept c) id v (view_after_split v) (split_view v)
+pub splits : (c : Setup) (id : ℕ) (v : PassView) → IsIdle v → v.opening ≡ true → v.out < 1000 → Splits (Kept c) id v (view_after_split v) (split_view v)
 splits c id v idle opening few s k at =
     let w = view_after_split v in
     let r = split_view v in

@@ -8,7 +8,6 @@ use Rattle.motion_history.specs.Entries.{Entry}
 use Rattle.motion_history.specs.Setup.{Setup}
 use Rattle.motion_kernel.specs.KernelState.{KernelState}
 use Rattle.kernel_turn.specs.PassView.{PassView}
-use Rattle.kernel_turn.specs.declared.TheConstants.{MOST_OUT}
 use Rattle.kernel_turn.specs.Times.{one, times, once_below}
 
 -- a number of each pass, added up over all
@@ -87,10 +86,10 @@ abbrev pub Home : Setup → List Entry → Homes → List PassView → Type 0
 Home config history homes views = (k : KernelState) × (homes ≡ maybe.some (Some k) ∷ []) ×
     (with_kernel views ≡ 0) × Is config history (stoppers views) k
 
--- as many passes live as the opening pass says, itself and those that are out
+-- as many passes live as the opening pass says, itself and those that are out, at most 1,000
 abbrev pub Counted : List PassView → Type 0
 Counted views = (v : PassView) × (get_elem? views 0 ≡ maybe.some v) × (v.live ≡ true) ×
-    (living views ≡ suc v.out) × (v.out ≤ MOST_OUT)
+    (living views ≡ suc v.out) × (v.out ≤ 1000)
 
 -- the rule: the words count the numbers drawn and passed on; each number that was drawn and not
 -- passed on is in one hand, each place of the history is one own ticket, every pass fits the

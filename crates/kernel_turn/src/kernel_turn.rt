@@ -5,7 +5,6 @@ ghost use Rattle.motion_history.specs.Calls.{IsCall};
 ghost use Rattle.motion_kernel.specs.KernelState.{KernelState};
 ghost use Rattle.kernel_turn.specs.Turns.{CallAnswered, CycleAnswered, EndAnswered, FullOfEither, FullOfEntries, IsClosed, IsFound, IsJoined, IsLawful, IsSamePass, opening_pass, pass_after_split, pass_after_stop, split_pass};
 
-use crate::MOST_OUT;
 use crate::events::{try_call, try_cycle, try_end};
 use crate::housed::Housed;
 use crate::pass::Pass;
@@ -61,7 +60,7 @@ impl KernelTurn {
     pub fn split(&self, pass: &mut Pass) -> Pass
         requires own { pass.old.table ≡ self.now }
         requires opening { pass.old.opening ≡ true }
-        requires few { pass.old.out < MOST_OUT }
+        requires few { pass.old.out < 1000 }
         ensures pass { pass.new ≡ pass_after_split pass.old }
         ensures given { result ≡ split_pass pass.old }
     {

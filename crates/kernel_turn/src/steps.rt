@@ -8,7 +8,6 @@ ghost use Rattle.kernel_turn.specs.Steps.{Grows, Holds, IsSeatOf, IsWhole, Takes
 ghost use Rattle.kernel_turn.specs.Turns.{IsLawful};
 ghost use Rattle.kernel_turn.specs.Views.{settled_view, split_view, view_after_join, view_after_split, view_after_turn, with_found, with_number};
 
-use crate::MOST_OUT;
 use crate::housed::Housed;
 use crate::rule::{Drawing, Joins, Looking, Passing, Place, Settling, Splits, Stopping, Top};
 use crossbeam_utils::Backoff;
@@ -127,7 +126,7 @@ pub fn stop_on(top: &Top, seat: &mut Place, kernel: Housed)
 pub fn split_seat(top: &Top, seat: &mut Place) -> Place
     requires lock { IsSeatOf seat.old.table_id top.now.table_id }
     requires ready { IsReady seat.old.me }
-    requires opening { (seat.old.me.0.opening ≡ true) × (seat.old.me.0.out < MOST_OUT) }
+    requires opening { (seat.old.me.0.opening ≡ true) × (seat.old.me.0.out < 1000) }
     ensures same { (seat.new.table_id ≡ seat.old.table_id) × (seat.new.id ≡ seat.old.id) }
     ensures view { seat.new.me ≡ (view_after_split seat.old.me.0, []) }
     ensures given { (result.table_id ≡ seat.old.table_id) ×

@@ -5,23 +5,20 @@ use Rattle.std.specs.Str.{IsUtf8, is_utf8}
 use Rattle.std.proofs.lemmas.Bool.{cases_Bool}
 use Rattle.std.proofs.lemmas.Str.{IsUtf8-from_is_utf8, is_utf8-from_IsUtf8}
 use Rattle.line_text.specs.Rules.{broken_unless, in_range}
-use Rattle.machine_words.specs.declared.units.TheConstants.{LONGEST_CYCLE, SHORTEST_CYCLE}
 use Rattle.motion_history.specs.declared.refused.TextFault.{TextFault}
 use Rattle.motion_history.specs.declared.refused.TextRefused.{TextRefused}
-use Rattle.motion_history.specs.declared.sizes.TheConstants.{MOST_CYCLES, MOST_ENTRIES}
 use Rattle.toml.specs.Data.{Members}
 use Rattle.toml.specs.Parse.{parse_document}
 use Rattle.machine_config.specs.Configured.{AddsItem, Configures, GivesTop, ItemsLead}
-use Rattle.machine_config.specs.Keys.{has_keys}
+use Rattle.machine_config.specs.Keys.{has_keys, top_keys}
 use Rattle.machine_config.specs.Reading.{Reads, at_place, document_of, document_reading, item_meaning, items_meaning, items_of, machine_of, top_reading}
 use Rattle.machine_config.specs.Tops.{are_counted, bare_setup, top_meaning}
 use Rattle.machine_config.specs.Values.{integer_at}
 use Rattle.machine_config.specs.declared.item.ItemKind.{ItemKind}
 use Rattle.machine_config.specs.declared.item.ItemKind.TheVariants as kind
 use Rattle.machine_config.specs.declared.key.Key.TheVariants.{Cycles, CycleUs, Entries}
-use Rattle.machine_config.specs.declared.key.TheConstants.{TOP_KEYS}
 use Rattle.machine_config.specs.declared.machine.Machine.{Machine}
-use Rattle.machine_config.specs.declared.rule.TheConstants.{NO_TOML, OUT_OF_RANGE, WRONG_COUNT, WRONG_KEY}
+use Rattle.machine_config.specs.RuleNumbers.{no_toml, out_of_range, wrong_count, wrong_key}
 use Rattle.line_text.proofs.Results.{bind_ok, found, holds, ok_is}
 use Rattle.machine_words.proofs.Tables.{AreTold}
 use Rattle.machine_config.proofs.Items.{axis-read, axis-told, group-read, group-told, table-read, table-told}
@@ -74,20 +71,20 @@ record GivesBare (top : Members) (m : Machine) : Type 0 where
 top-told : (top : Members) (m : Machine) → top_meaning top ≡ Ok m → GivesBare top m
 unfolding top_meaning
 top-told top m h =
-    let keys = bind_ok (broken_unless (has_keys TOP_KEYS top) WRONG_KEY) _ m h in
-    let cycle_us = bind_ok (in_range SHORTEST_CYCLE LONGEST_CYCLE OUT_OF_RANGE (integer_at CycleUs top)) _ m keys.2 in
-    let cycles = bind_ok (in_range 1 MOST_CYCLES OUT_OF_RANGE (integer_at Cycles top)) _ m cycle_us.2 in
-    let entries = bind_ok (in_range 1 MOST_ENTRIES OUT_OF_RANGE (integer_at Entries top)) _ m cycles.2 in
-    let counted = bind_ok (broken_unless (are_counted top) WRONG_COUNT) _ m entries.2 in
-    let c = range-told SHORTEST_CYCLE LONGEST_CYCLE OUT_OF_RANGE (integer_at CycleUs top) cycle_us.0 cycle_us.1 in
-    let r = range-told 1 MOST_CYCLES OUT_OF_RANGE (integer_at Cycles top) cycles.0 cycles.1 in
-    let e = range-told 1 MOST_ENTRIES OUT_OF_RANGE (integer_at Entries top) entries.0 entries.1 in
+    let keys = bind_ok (broken_unless (has_keys top_keys top) wrong_key) _ m h in
+    let cycle_us = bind_ok (in_range 100 100000 out_of_range (integer_at CycleUs top)) _ m keys.2 in
+    let cycles = bind_ok (in_range 1 200000 out_of_range (integer_at Cycles top)) _ m cycle_us.2 in
+    let entries = bind_ok (in_range 1 1000000 out_of_range (integer_at Entries top)) _ m cycles.2 in
+    let counted = bind_ok (broken_unless (are_counted top) wrong_count) _ m entries.2 in
+    let c = range-told 100 100000 out_of_range (integer_at CycleUs top) cycle_us.0 cycle_us.1 in
+    let r = range-told 1 200000 out_of_range (integer_at Cycles top) cycles.0 cycles.1 in
+    let e = range-told 1 1000000 out_of_range (integer_at Entries top) entries.0 entries.1 in
     record {
       cycle_us = cycle_us.0;
       cycles = cycles.0;
       entries = entries.0;
       gives = record {
-        keys = holds _ WRONG_KEY keys.0 keys.1;
+        keys = holds _ wrong_key keys.0 keys.1;
         cycle = c.is;
         shortest = c.above;
         longest = c.below;
@@ -97,7 +94,7 @@ top-told top m h =
         entries_room = e.is;
         some_entries = e.above;
         most_entries = e.below;
-        counted = holds _ WRONG_COUNT counted.0 counted.1;
+        counted = holds _ wrong_count counted.0 counted.1;
       };
       is = sym (ok_is (Ok _) _ m refl counted.2);
     }
@@ -107,9 +104,9 @@ unfolding top_meaning
 top-read top cycle_us cycles entries g =
     rw (
       g.keys,
-      range-read SHORTEST_CYCLE LONGEST_CYCLE OUT_OF_RANGE (integer_at CycleUs top) cycle_us (record { is = g.cycle; above = g.shortest; below = g.longest }),
-      range-read 1 MOST_CYCLES OUT_OF_RANGE (integer_at Cycles top) cycles (record { is = g.room; above = g.some_room; below = g.most_room }),
-      range-read 1 MOST_ENTRIES OUT_OF_RANGE (integer_at Entries top) entries (record { is = g.entries_room; above = g.some_entries; below = g.most_entries }),
+      range-read 100 100000 out_of_range (integer_at CycleUs top) cycle_us (record { is = g.cycle; above = g.shortest; below = g.longest }),
+      range-read 1 200000 out_of_range (integer_at Cycles top) cycles (record { is = g.room; above = g.some_room; below = g.most_room }),
+      range-read 1 1000000 out_of_range (integer_at Entries top) entries (record { is = g.entries_room; above = g.some_entries; below = g.most_entries }),
       g.counted,
     ) refl
 
@@ -138,7 +135,7 @@ text-told : AreSpelled → AreTold → (text : List ℕ) (m : Machine) → machi
 unfolding machine_of
 text-told spelled told text m h =
     let top = bind_ok (document_reading text) top_reading m h in
-    let document = document-told text top.0 (found (document_of text) NO_TOML top.0 (place-ok _ 0 top.0 top.1)) in
+    let document = document-told text top.0 (found (document_of text) no_toml top.0 (place-ok _ 0 top.0 top.1)) in
     let first = bind_ok (at_place 0 (top_meaning top.0)) (λ b. items_meaning 0 b (items_of top.0)) m top.2 in
     let g = top-told top.0 first.0 (place-ok _ 0 first.0 first.1) in
     let leads = items-told spelled told 0 first.0 m (items_of top.0) first.2 in

@@ -11,27 +11,24 @@ use Rattle.machine_words.specs.Drives.{drive_in}
 use Rattle.machine_words.specs.Names.{axis_at, axis_named}
 use Rattle.machine_words.specs.Rules.{broken_by}
 use Rattle.machine_words.specs.Tables.{table_added}
-use Rattle.machine_words.specs.declared.drive.TheConstants.{MOST_STEPS}
 use Rattle.motion_history.specs.Drives.{rise_above}
 use Rattle.motion_history.specs.Faults.{axis_fault, group_fault}
 use Rattle.motion_history.specs.Setup.{Setup}
 use Rattle.motion_history.specs.declared.drives.DriveDef.{DriveDef}
-use Rattle.motion_history.specs.declared.sizes.TheConstants.{MOST_FAULTS, MOST_LAG, MOST_TABLES}
 use Rattle.toml.specs.Data.{Members}
 use Rattle.machine_config.specs.Axes.{axis_meaning, limits_of, placed_of}
 use Rattle.machine_config.specs.Configured.{AddsAxis, AddsGroup, AddsTable, GivesDrive, GivesLimits, IsPoint, IsStep}
 use Rattle.machine_config.specs.Drives.{drive_of}
 use Rattle.machine_config.specs.Groups.{group_meaning}
-use Rattle.machine_config.specs.Keys.{has_keys, value_at}
+use Rattle.machine_config.specs.Keys.{axis_keys, group_keys, has_keys, table_keys, value_at}
 use Rattle.machine_config.specs.Quantities.{point_of, quantity_at, quantity_or}
 use Rattle.machine_config.specs.Rules.{rule_of}
 use Rattle.machine_config.specs.Tables.{table_meaning}
 use Rattle.machine_config.specs.Values.{flag_at, integer_at, integers_at, text_at, texts_at}
 use Rattle.machine_config.specs.declared.axis.Placed.{Placed}
 use Rattle.machine_config.specs.declared.key.Key.TheVariants.{Amax, Axes, Dmax, Faults, Hi, Increment, Lag, Lo, Name, Points, Ready, Start, Vmax}
-use Rattle.machine_config.specs.declared.key.TheConstants.{AXIS_KEYS, GROUP_KEYS, TABLE_KEYS}
 use Rattle.machine_config.specs.declared.machine.Machine.{Machine}
-use Rattle.machine_config.specs.declared.rule.TheConstants.{NO_TABLE, OUT_OF_RANGE, TABLE_RULES, WRONG_COUNT, WRONG_KEY, WRONG_NAME}
+use Rattle.machine_config.specs.RuleNumbers.{no_table, out_of_range, table_rules, wrong_count, wrong_key, wrong_name}
 use Rattle.line_text.proofs.Results.{bind_ok, found, holds, ok_is}
 use Rattle.machine_words.proofs.Faults.{faultless}
 use Rattle.machine_words.proofs.Tables.{AreTold, has_room, not_full}
@@ -86,29 +83,29 @@ limits-read spelled cycle_us t l g =
 pub drive-told : (t : Members) (d : DriveDef) → drive_of t ≡ Ok d → GivesDrive t d
 unfolding drive_of drive_in
 drive-told t d h =
-    let lag = bind_ok (in_range 0 MOST_LAG OUT_OF_RANGE (integer_at Lag t)) _ d h in
-    let steps = bind_ok (each_of (in_range 1 MOST_STEPS OUT_OF_RANGE) (integers_at Faults t)) _ d lag.2 in
-    let rising = bind_ok (broken_unless (rise_above 0 steps.0) OUT_OF_RANGE) _ d steps.2 in
-    let few = bind_ok (broken_unless (nat_le (length steps.0) MOST_FAULTS) WRONG_COUNT) _ d rising.2 in
+    let lag = bind_ok (in_range 0 64 out_of_range (integer_at Lag t)) _ d h in
+    let steps = bind_ok (each_of (in_range 1 4294967295 out_of_range) (integers_at Faults t)) _ d lag.2 in
+    let rising = bind_ok (broken_unless (rise_above 0 steps.0) out_of_range) _ d steps.2 in
+    let few = bind_ok (broken_unless (nat_le (length steps.0) 1000) wrong_count) _ d rising.2 in
     let made : DriveDef = record { lag = lag.0; faults = steps.0 } in
     let is : made ≡ d = ok_is (Ok made) made d refl few.2 in
-    let behind = range-told 0 MOST_LAG OUT_OF_RANGE (integer_at Lag t) lag.0 lag.1 in
+    let behind = range-told 0 64 out_of_range (integer_at Lag t) lag.0 lag.1 in
     subst (λ e. GivesDrive t e) is (record {
       lag = behind.is;
-      faults = each-told (in_range 1 MOST_STEPS OUT_OF_RANGE) IsStep (λ z n r. let p = range-told 1 MOST_STEPS OUT_OF_RANGE z n r in record { is = p.is; least = p.above; most = p.below })
+      faults = each-told (in_range 1 4294967295 out_of_range) IsStep (λ z n r. let p = range-told 1 4294967295 out_of_range z n r in record { is = p.is; least = p.above; most = p.below })
           (integers_at Faults t) steps.0 steps.1;
       in_ranges = record {
         lag = behind.below;
-        few = leb-true _ _ (holds _ WRONG_COUNT few.0 few.1);
-        rising = holds _ OUT_OF_RANGE rising.0 rising.1;
+        few = leb-true _ _ (holds _ wrong_count few.0 few.1);
+        rising = holds _ out_of_range rising.0 rising.1;
       };
     })
 
 pub drive-read : (t : Members) (d : DriveDef) → GivesDrive t d → drive_of t ≡ Ok d
 unfolding drive_of drive_in
 drive-read t d g =
-    let lag = range-read 0 MOST_LAG OUT_OF_RANGE (integer_at Lag t) d.lag (record { is = g.lag; above = omega arith; below = g.in_ranges.lag }) in
-    let steps = each-read (in_range 1 MOST_STEPS OUT_OF_RANGE) IsStep (λ z n s. range-read 1 MOST_STEPS OUT_OF_RANGE z n (record { is = s.is; above = s.least; below = s.most }))
+    let lag = range-read 0 64 out_of_range (integer_at Lag t) d.lag (record { is = g.lag; above = omega arith; below = g.in_ranges.lag }) in
+    let steps = each-read (in_range 1 4294967295 out_of_range) IsStep (λ z n s. range-read 1 4294967295 out_of_range z n (record { is = s.is; above = s.least; below = s.most }))
     (integers_at Faults t) d.faults g.faults in
     rw (lag, steps, g.in_ranges.rising, le-leb _ _ g.in_ranges.few) refl
 
@@ -117,7 +114,7 @@ drive-read t d g =
 pub axis-told : AreSpelled → (m : Machine) (t : Members) (n : Machine) → axis_meaning m t ≡ Ok n → AddsAxis m t n
 unfolding axis_meaning placed_of quantity_at
 axis-told spelled m t n h =
-    let keys = bind_ok (broken_unless (has_keys AXIS_KEYS t) WRONG_KEY) _ n h in
+    let keys = bind_ok (broken_unless (has_keys axis_keys t) wrong_key) _ n h in
     let limits = bind_ok (limits_of m.cycle_us t) _ n keys.2 in
     let placed = bind_ok (placed_of t) _ n limits.2 in
     let fits = bind_ok (broken_by rule_of (axis_fault m.config (text_at Name t) limits.0 placed.0.inc placed.0.start)) _ n placed.2 in
@@ -130,7 +127,7 @@ axis-told spelled m t n h =
       axis = record { name = text_at Name t; limits = limits.0; inc = placed.0.inc; start = placed.0.start; ready = flag_at Ready t };
       drive = drive.0;
       gives_axis = record {
-        keys = holds _ WRONG_KEY keys.0 keys.1;
+        keys = holds _ wrong_key keys.0 keys.1;
         name = refl;
         limits = limits-told spelled m.cycle_us t limits.0 limits.1;
         increment = quantity-told spelled (value_at Increment t) placed.0.inc (inc.1 ∙ ap (λ p. Ok p.inc) at);
@@ -161,22 +158,22 @@ axis-read spelled m t n adds =
 
 -- ---- groups
 
-names-told : (s : Setup) (name : List ℕ) (axis : ℕ) → axis_named WRONG_NAME s name ≡ Ok axis → axis_at s name ≡ Some axis
-names-told s name axis h = found (axis_at s name) WRONG_NAME axis h
+names-told : (s : Setup) (name : List ℕ) (axis : ℕ) → axis_named wrong_name s name ≡ Ok axis → axis_at s name ≡ Some axis
+names-told s name axis h = found (axis_at s name) wrong_name axis h
 
-names-read : (s : Setup) (name : List ℕ) (axis : ℕ) → axis_at s name ≡ Some axis → axis_named WRONG_NAME s name ≡ Ok axis
+names-read : (s : Setup) (name : List ℕ) (axis : ℕ) → axis_at s name ≡ Some axis → axis_named wrong_name s name ≡ Ok axis
 names-read s name axis h = rw h refl
 
 pub group-told : (m : Machine) (t : Members) (n : Machine) → group_meaning m t ≡ Ok n → AddsGroup m t n
 unfolding group_meaning
 group-told m t n h =
-    let keys = bind_ok (broken_unless (has_keys GROUP_KEYS t) WRONG_KEY) _ n h in
-    let axes = bind_ok (each_of (axis_named WRONG_NAME m.config) (texts_at Axes t)) _ n keys.2 in
+    let keys = bind_ok (broken_unless (has_keys group_keys t) wrong_key) _ n h in
+    let axes = bind_ok (each_of (axis_named wrong_name m.config) (texts_at Axes t)) _ n keys.2 in
     let fits = bind_ok (broken_by rule_of (group_fault m.config (text_at Name t) axes.0)) _ n axes.2 in
     record {
       axes = axes.0;
-      keys = holds _ WRONG_KEY keys.0 keys.1;
-      named = each-told (axis_named WRONG_NAME m.config) _ (names-told m.config) (texts_at Axes t) axes.0 axes.1;
+      keys = holds _ wrong_key keys.0 keys.1;
+      named = each-told (axis_named wrong_name m.config) _ (names-told m.config) (texts_at Axes t) axes.0 axes.1;
       fits = faultless rule_of _ fits.0 fits.1;
       added = sym (ok_is (Ok _) _ n refl fits.2);
     }
@@ -184,25 +181,25 @@ group-told m t n h =
 pub group-read : (m : Machine) (t : Members) (n : Machine) → AddsGroup m t n → group_meaning m t ≡ Ok n
 unfolding group_meaning
 group-read m t n adds =
-    rw (adds.keys, each-read (axis_named WRONG_NAME m.config) _ (names-read m.config) (texts_at Axes t) adds.axes adds.named, adds.fits, adds.added) refl
+    rw (adds.keys, each-read (axis_named wrong_name m.config) _ (names-read m.config) (texts_at Axes t) adds.axes adds.named, adds.fits, adds.added) refl
 
 -- ---- cam tables
 
 pub table-told : AreSpelled → AreTold → (m : Machine) (t : Members) (n : Machine) → table_meaning m t ≡ Ok n → AddsTable m t n
 unfolding table_meaning table_added
 table-told spelled told m t n h =
-    let keys = bind_ok (broken_unless (has_keys TABLE_KEYS t) WRONG_KEY) _ n h in
+    let keys = bind_ok (broken_unless (has_keys table_keys t) wrong_key) _ n h in
     let points = bind_ok (each_of point_of (texts_at Points t)) _ n keys.2 in
-    let config = bind_ok (table_added TABLE_RULES m.config points.0) _ n points.2 in
-    let makes = bind_ok (broken_unless (is_cam_table points.0) NO_TABLE) _ config.0 config.1 in
-    let room = bind_ok (broken_unless (not (nat_le MOST_TABLES (length m.config.tables))) WRONG_COUNT) _ config.0 makes.2 in
+    let config = bind_ok (table_added table_rules m.config points.0) _ n points.2 in
+    let makes = bind_ok (broken_unless (is_cam_table points.0) no_table) _ config.0 config.1 in
+    let room = bind_ok (broken_unless (not (nat_le 16 (length m.config.tables))) wrong_count) _ config.0 makes.2 in
     let is = ok_is (Ok _) _ config.0 refl room.2 in
     record {
       points = points.0;
-      keys = holds _ WRONG_KEY keys.0 keys.1;
+      keys = holds _ wrong_key keys.0 keys.1;
       read = each-told point_of IsPoint (point-told spelled) (texts_at Points t) points.0 points.1;
-      makes = (told points.0).0 (holds _ NO_TABLE makes.0 makes.1);
-      room = has_room (length m.config.tables) (holds _ WRONG_COUNT room.0 room.1);
+      makes = (told points.0).0 (holds _ no_table makes.0 makes.1);
+      room = has_room (length m.config.tables) (holds _ wrong_count room.0 room.1);
       added = sym (ap (λ c. record m { config = c }) is ∙ ok_is (Ok _) _ n refl config.2);
     }
 

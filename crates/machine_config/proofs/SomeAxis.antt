@@ -6,10 +6,9 @@ use Rattle.std.specs.Option.{option_map_or}
 use Rattle.std.proofs.lemmas.Bool.{and_parts, leb-true}
 use Rattle.std.proofs.lemmas.List.{length-append}
 use Rattle.motion_history.specs.declared.refused.TextFault.{TextFault}
-use Rattle.motion_history.specs.declared.sizes.TheConstants.{MOST_AXES, MOST_GROUPS, MOST_TABLES}
 use Rattle.toml.specs.Data.{Data, array, as_table, boolean, datetime, float, integer, Members, string, table}
 use Rattle.machine_config.specs.Configured.{AddsItem, Configures, ItemsLead}
-use Rattle.machine_config.specs.Keys.{data_in, has_keys, has_known, is_form, is_given, value_at}
+use Rattle.machine_config.specs.Keys.{data_in, has_keys, has_known, is_form, is_given, top_keys, value_at}
 use Rattle.machine_config.specs.Machines.{IsMachine, IsUnderWay}
 use Rattle.machine_config.specs.Reading.{items_of, of_kind}
 use Rattle.machine_config.specs.Tops.{are_counted, count_at}
@@ -19,7 +18,6 @@ use Rattle.machine_config.specs.declared.item.ItemKind.TheVariants as kind
 use Rattle.machine_config.specs.declared.key.Form.TheVariants as form
 use Rattle.machine_config.specs.declared.key.Key.TheVariants as key
 use Rattle.machine_config.specs.declared.key.Sort.TheVariants as sort
-use Rattle.machine_config.specs.declared.key.TheConstants.{TOP_KEYS}
 use Rattle.machine_config.specs.declared.machine.Machine.{Machine}
 
 -- ---- items keep the axes before them
@@ -67,10 +65,10 @@ given_first (Some (boolean b)) given some = absurd (cc)
 given_first (Some (datetime dt)) given some = absurd (cc)
 given_first (Some (table ms)) given some = absurd (cc)
 
-axis_given : (top : Members) → has_keys TOP_KEYS top ≡ true → is_given top key.Axis ≡ true
+axis_given : (top : Members) → has_keys top_keys top ≡ true → is_given top key.Axis ≡ true
 unfolding has_keys
 axis_given top h =
-    let given = (and_parts (list_all (is_given top) TOP_KEYS) (has_known TOP_KEYS top) h).0 in
+    let given = (and_parts (list_all (is_given top) top_keys) (has_known top_keys top) h).0 in
     let behind = (and_parts (is_given top key.CycleUs) (list_all (is_given top) (key.Cycles ∷ key.Entries ∷ key.Axis ∷ key.Group ∷ key.Table ∷ [])) given).1 in
     let further = (and_parts (is_given top key.Cycles) (list_all (is_given top) (key.Entries ∷ key.Axis ∷ key.Group ∷ key.Table ∷ [])) behind).1 in
     let last = (and_parts (is_given top key.Entries) (list_all (is_given top) (key.Axis ∷ key.Group ∷ key.Table ∷ [])) further).1 in
@@ -80,12 +78,12 @@ some_counted : (top : Members) → are_counted top ≡ true → 1 ≤ length (va
 unfolding are_counted
 some_counted top h =
     let some = nat_le 1 (count_at key.Axis top) in
-    let few = nat_le (count_at key.Axis top) MOST_AXES in
-    let groups = nat_le (count_at key.Group top) MOST_GROUPS in
-    let both = (and_parts (some && few && groups) (nat_le (count_at key.Table top) MOST_TABLES) h).0 in
+    let few = nat_le (count_at key.Axis top) 16 in
+    let groups = nat_le (count_at key.Group top) 4 in
+    let both = (and_parts (some && few && groups) (nat_le (count_at key.Table top) 16) h).0 in
     leb-true 1 _ (and_parts some few (and_parts (some && few) groups both).0).0
 
-axes_first : (top : Members) → has_keys TOP_KEYS top ≡ true → are_counted top ≡ true → HasFirst (tables_at key.Axis top)
+axes_first : (top : Members) → has_keys top_keys top ≡ true → are_counted top ≡ true → HasFirst (tables_at key.Axis top)
 unfolding is_given values_at
 axes_first top keys counted = given_first (value_at key.Axis top) (axis_given top keys) (some_counted top counted)
 

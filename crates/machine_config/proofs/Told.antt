@@ -9,12 +9,10 @@ use Rattle.line_text.specs.Numbers.{is_colon}
 use Rattle.line_text.specs.Reading.{◌>>=◌, each_of}
 use Rattle.line_text.specs.Rules.{in_range, is_from_to}
 use Rattle.machine_words.specs.Units.{decimal_units}
-use Rattle.motion_numbers.specs.declared.TheConstants.{MOST_NUMBER}
 use Rattle.toml.specs.Data.{Data, array, boolean, datetime, float, integer, string, table}
 use Rattle.machine_config.specs.Configured.{AreEach, IsDecimal, IsPoint, IsQuantity, IsQuantityOr, IsWhole}
 use Rattle.machine_config.specs.Quantities.{point_at, point_of, quantity_in, quantity_in_or, whole_units}
-use Rattle.machine_config.specs.declared.quantity.TheConstants.{UNIT}
-use Rattle.machine_config.specs.declared.rule.TheConstants.{NO_QUANTITY}
+use Rattle.machine_config.specs.RuleNumbers.{no_quantity}
 use Rattle.line_text.proofs.Results.{bind_ok, holds, ok_is}
 use Rattle.machine_words.proofs.Smalls.{unbroken}
 
@@ -22,34 +20,34 @@ use Rattle.machine_words.proofs.Smalls.{unbroken}
 abbrev pub AreSpelled : Type 0
 AreSpelled = (text : List ℕ) → (units : ℤ) → (reading_of text ≡ Ok units) ↔ (Spells text units × (unsigned_abs units ≤ 10 ^ 18))
 
-pub decimal-told : AreSpelled → (text : List ℕ) (units : ℤ) → decimal_units NO_QUANTITY text ≡ Ok units → IsDecimal text units
+pub decimal-told : AreSpelled → (text : List ℕ) (units : ℤ) → decimal_units no_quantity text ≡ Ok units → IsDecimal text units
 unfolding decimal_units
 decimal-told spelled text units h =
-    let both = (spelled text units).0 (unbroken NO_QUANTITY (reading_of text) units h) in
+    let both = (spelled text units).0 (unbroken no_quantity (reading_of text) units h) in
     record { spells = both.0; small = both.1 }
 
-pub decimal-read : AreSpelled → (text : List ℕ) (units : ℤ) → IsDecimal text units → decimal_units NO_QUANTITY text ≡ Ok units
+pub decimal-read : AreSpelled → (text : List ℕ) (units : ℤ) → IsDecimal text units → decimal_units no_quantity text ≡ Ok units
 unfolding decimal_units
 decimal-read spelled text units is = rw ((spelled text units).1 (is.spells, is.small)) refl
 
-size_of_units : (z : ℤ) → unsigned_abs (z *ℤ pos UNIT) ≡ unsigned_abs z * UNIT
-size_of_units z = unsigned_abs-mul z (pos UNIT)
+size_of_units : (z : ℤ) → unsigned_abs (z *ℤ pos 1000000000) ≡ unsigned_abs z * 1000000000
+size_of_units z = unsigned_abs-mul z (pos 1000000000)
 
 pub whole-told : (z units : ℤ) → whole_units z ≡ Ok units → IsWhole z units
 unfolding whole_units
 whole-told z units h =
-    elim (cases_Bool (nat_le (unsigned_abs z * UNIT) MOST_NUMBER)) [
+    elim (cases_Bool (nat_le (unsigned_abs z * 1000000000) 1000000000000000000)) [
       | inl small ↦
-          let e : z *ℤ pos UNIT ≡ units = ok_is (Ok (z *ℤ pos UNIT)) _ units refl (rw small at h) in
-          record { value = sym e; small = subst (λ u. unsigned_abs u ≤ MOST_NUMBER) e (rw (size_of_units z) (leb-true _ _ small)) }
+          let e : z *ℤ pos 1000000000 ≡ units = ok_is (Ok (z *ℤ pos 1000000000)) _ units refl (rw small at h) in
+          record { value = sym e; small = subst (λ u. unsigned_abs u ≤ 1000000000000000000) e (rw (size_of_units z) (leb-true _ _ small)) }
       | inr large ↦ let e = rw large at h in absurd (cc)
     ]
 
 pub whole-read : (z units : ℤ) → IsWhole z units → whole_units z ≡ Ok units
 unfolding whole_units
 whole-read z units is =
-    let small : unsigned_abs (z *ℤ pos UNIT) ≤ MOST_NUMBER = subst (λ u. unsigned_abs u ≤ MOST_NUMBER) is.value is.small in
-    let size : unsigned_abs z * UNIT ≤ MOST_NUMBER = rw (size_of_units z) at small in
+    let small : unsigned_abs (z *ℤ pos 1000000000) ≤ 1000000000000000000 = subst (λ u. unsigned_abs u ≤ 1000000000000000000) is.value is.small in
+    let size : unsigned_abs z * 1000000000 ≤ 1000000000000000000 = rw (size_of_units z) at small in
     rw (le-leb _ _ size) (ap (λ u. Ok u) (sym is.value))
 
 pub quantity-told : AreSpelled → (o : Option Data) (units : ℤ) → quantity_in o ≡ Ok units → IsQuantity o units
@@ -84,11 +82,11 @@ pub point-told : AreSpelled → (text : List ℕ) (point : ℤ × ℤ) → point
 unfolding point_of point_at
 point-told spelled text point h =
     let colon = bind_ok _ (λ u. point_at (before_first is_colon text) (after_first is_colon text)) point h in
-    let x = bind_ok (decimal_units NO_QUANTITY (before_first is_colon text)) _ point colon.2 in
-    let y = bind_ok (decimal_units NO_QUANTITY (after_first is_colon text)) _ point x.2 in
+    let x = bind_ok (decimal_units no_quantity (before_first is_colon text)) _ point colon.2 in
+    let y = bind_ok (decimal_units no_quantity (after_first is_colon text)) _ point x.2 in
     let is : (x.0, y.0) ≡ point = ok_is (Ok (x.0, y.0)) _ point refl y.2 in
     record {
-      colon = holds (list_any is_colon text) NO_QUANTITY colon.0 colon.1;
+      colon = holds (list_any is_colon text) no_quantity colon.0 colon.1;
       x = decimal-told spelled _ point.0 (x.1 ∙ ap (λ p. Ok p.0) is);
       y = decimal-told spelled _ point.1 (y.1 ∙ ap (λ p. Ok p.1) is);
     }

@@ -10,15 +10,14 @@ use Rattle.motion_history.specs.Faults.{axis_fault}
 use Rattle.motion_history.specs.declared.drives.DriveDef.{DriveDef}
 use Rattle.toml.specs.Data.{Members}
 use Rattle.machine_config.specs.Drives.{drive_of}
-use Rattle.machine_config.specs.Keys.{has_keys}
+use Rattle.machine_config.specs.Keys.{axis_keys, has_keys}
 use Rattle.machine_config.specs.Quantities.{quantity_at, quantity_or}
 use Rattle.machine_config.specs.Rules.{rule_of}
 use Rattle.machine_config.specs.Values.{flag_at, text_at}
 use Rattle.machine_config.specs.declared.axis.Placed.{Placed}
 use Rattle.machine_config.specs.declared.key.Key.TheVariants.{Amax, Dmax, Hi, Increment, Lo, Name, Ready, Start, Vmax}
-use Rattle.machine_config.specs.declared.key.TheConstants.{AXIS_KEYS}
 use Rattle.machine_config.specs.declared.machine.Machine.{Machine}
-use Rattle.machine_config.specs.declared.rule.TheConstants.{WRONG_KEY}
+use Rattle.machine_config.specs.RuleNumbers.{wrong_key}
 
 -- the limits of an axis in a cycle of so many microseconds: places in internal units, and from
 -- rates per second and per second squared the steps per cycle and their changes, rounded down. It
@@ -57,7 +56,7 @@ with_axis m axis drive = record m {
 -- hasn't too many faults (C6)
 unfoldable pub axis_meaning : Machine → Members → Result Machine ℕ
 axis_meaning m table = do
-  _ ← broken_unless (has_keys AXIS_KEYS table) WRONG_KEY
+  _ ← broken_unless (has_keys axis_keys table) wrong_key
   limits ← limits_of m.cycle_us table
   placed ← placed_of table
   _ ← broken_by rule_of (axis_fault m.config (text_at Name table) limits placed.inc placed.start)

@@ -10,37 +10,31 @@ use Rattle.fixed_units.specs.PerCycle.{per_cycle_of, per_cycle_squared_of}
 use Rattle.kin_core.specs.declared.limits.Limits.{Limits}
 use Rattle.line_text.specs.Numbers.{is_colon}
 use Rattle.machine_words.specs.Names.{axis_at}
-use Rattle.machine_words.specs.declared.drive.TheConstants.{MOST_STEPS}
-use Rattle.machine_words.specs.declared.units.TheConstants.{LONGEST_CYCLE, SHORTEST_CYCLE}
 use Rattle.motion_history.specs.Drives.{IsDrive}
 use Rattle.motion_history.specs.Faults.{axis_fault, group_fault}
 use Rattle.motion_history.specs.Members.{group_of}
 use Rattle.motion_history.specs.declared.drives.DriveDef.{DriveDef}
-use Rattle.motion_history.specs.declared.sizes.TheConstants.{MOST_CYCLES, MOST_ENTRIES, MOST_TABLES}
-use Rattle.motion_numbers.specs.declared.TheConstants.{MOST_NUMBER}
 use Rattle.toml.specs.Data.{Data, integer, string, Members}
 use Rattle.toml.specs.Parse.{parse_document}
 use Rattle.machine_config.specs.Axes.{with_axis}
-use Rattle.machine_config.specs.Keys.{has_keys, value_at}
+use Rattle.machine_config.specs.Keys.{axis_keys, group_keys, has_keys, table_keys, top_keys, value_at}
 use Rattle.machine_config.specs.Reading.{items_of}
 use Rattle.machine_config.specs.Tops.{are_counted, bare_setup}
 use Rattle.machine_config.specs.Values.{flag_at, integer_at, integers_at, text_at, texts_at}
 use Rattle.machine_config.specs.declared.item.ItemKind.{ItemKind}
 use Rattle.machine_config.specs.declared.item.ItemKind.TheVariants as kind
 use Rattle.machine_config.specs.declared.key.Key.TheVariants.{Amax, Axes, Cycles, CycleUs, Dmax, Entries, Faults, Hi, Increment, Lag, Lo, Name, Points, Ready, Start, Vmax}
-use Rattle.machine_config.specs.declared.key.TheConstants.{AXIS_KEYS, GROUP_KEYS, TABLE_KEYS, TOP_KEYS}
 use Rattle.machine_config.specs.declared.machine.Machine.{Machine}
-use Rattle.machine_config.specs.declared.quantity.TheConstants.{UNIT}
 
 -- a text spells so many internal units, at most 10^18
 pub record IsDecimal (text : List ℕ) (units : ℤ) : Type 0 where
   pub spells : Spells text units
-  pub small : unsigned_abs units ≤ MOST_NUMBER
+  pub small : unsigned_abs units ≤ 1000000000000000000
 
 -- an integer of user units is so many internal units, at most 10^18
 pub record IsWhole (z units : ℤ) : Type 0 where
-  pub value : units ≡ z *ℤ pos UNIT
-  pub small : unsigned_abs units ≤ MOST_NUMBER
+  pub value : units ≡ z *ℤ pos 1000000000
+  pub small : unsigned_abs units ≤ 1000000000000000000
 
 -- what is given is a quantity of so many internal units: a text, or an integer
 abbrev pub IsQuantity : Option Data → ℤ → Type 0
@@ -76,7 +70,7 @@ pub record GivesLimits (cycle_us : ℕ) (table : Members) (l : Limits) : Type 0 
 
 -- a table gives this axis
 pub record GivesAxis (cycle_us : ℕ) (table : Members) (axis : AxisDef) : Type 0 where
-  pub keys : IsTrue (has_keys AXIS_KEYS table)
+  pub keys : IsTrue (has_keys axis_keys table)
   pub name : axis.name ≡ text_at Name table
   pub limits : GivesLimits cycle_us table axis.limits
   pub increment : IsQuantity (value_at Increment table) axis.inc
@@ -87,7 +81,7 @@ pub record GivesAxis (cycle_us : ℕ) (table : Members) (axis : AxisDef) : Type 
 pub record IsStep (z : ℤ) (step : ℕ) : Type 0 where
   pub is : z ≡ pos step
   pub least : 1 ≤ step
-  pub most : step ≤ MOST_STEPS
+  pub most : step ≤ 4294967295
 
 -- a table gives this drive
 pub record GivesDrive (table : Members) (drive : DriveDef) : Type 0 where
@@ -107,7 +101,7 @@ pub record AddsAxis (m : Machine) (table : Members) (n : Machine) : Type 0 where
 -- the table of a group adds it to a machine: its axes are there, and it is free and in its ranges
 pub record AddsGroup (m : Machine) (table : Members) (n : Machine) : Type 0 where
   pub axes : List ℕ
-  pub keys : IsTrue (has_keys GROUP_KEYS table)
+  pub keys : IsTrue (has_keys group_keys table)
   pub named : AreEach (λ name axis. axis_at m.config name ≡ Some axis) (texts_at Axes table) axes
   pub fits : group_fault m.config (text_at Name table) axes ≡ None
   pub added : n ≡ record m {
@@ -125,10 +119,10 @@ pub record IsPoint (text : List ℕ) (point : ℤ × ℤ) : Type 0 where
 -- the table of a cam table adds it to a machine: its points make one, and there is room for it
 pub record AddsTable (m : Machine) (table : Members) (n : Machine) : Type 0 where
   pub points : List (ℤ × ℤ)
-  pub keys : IsTrue (has_keys TABLE_KEYS table)
+  pub keys : IsTrue (has_keys table_keys table)
   pub read : AreEach IsPoint (texts_at Points table) points
   pub makes : IsCamTable points
-  pub room : length m.config.tables < MOST_TABLES
+  pub room : length m.config.tables < 16
   pub added : n ≡ record m { config = record m.config { tables = m.config.tables ++ points ∷ [] } }
 
 -- an item adds what it is
@@ -145,16 +139,16 @@ ItemsLead m (i ∷ more) n = (u : Machine) × AddsItem m i.0 i.1 u × ItemsLead 
 -- the top gives a cycle and the room of the history, in their ranges, and neither too many items
 -- nor too few
 pub record GivesTop (top : Members) (cycle_us cycles entries : ℕ) : Type 0 where
-  pub keys : IsTrue (has_keys TOP_KEYS top)
+  pub keys : IsTrue (has_keys top_keys top)
   pub cycle : integer_at CycleUs top ≡ pos cycle_us
-  pub shortest : SHORTEST_CYCLE ≤ cycle_us
-  pub longest : cycle_us ≤ LONGEST_CYCLE
+  pub shortest : 100 ≤ cycle_us
+  pub longest : cycle_us ≤ 100000
   pub room : integer_at Cycles top ≡ pos cycles
   pub some_room : 1 ≤ cycles
-  pub most_room : cycles ≤ MOST_CYCLES
+  pub most_room : cycles ≤ 200000
   pub entries_room : integer_at Entries top ≡ pos entries
   pub some_entries : 1 ≤ entries
-  pub most_entries : entries ≤ MOST_ENTRIES
+  pub most_entries : entries ≤ 1000000
   pub counted : IsTrue (are_counted top)
 
 -- a text configures this machine: it is a TOML document, whose items lead there from the machine

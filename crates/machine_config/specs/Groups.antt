@@ -7,20 +7,19 @@ use Rattle.machine_words.specs.Rules.{broken_by}
 use Rattle.motion_history.specs.Faults.{group_fault}
 use Rattle.motion_history.specs.Members.{group_of}
 use Rattle.toml.specs.Data.{Members}
-use Rattle.machine_config.specs.Keys.{has_keys}
+use Rattle.machine_config.specs.Keys.{group_keys, has_keys}
 use Rattle.machine_config.specs.Rules.{rule_of}
 use Rattle.machine_config.specs.Values.{text_at, texts_at}
 use Rattle.machine_config.specs.declared.key.Key.TheVariants.{Axes, Name}
-use Rattle.machine_config.specs.declared.key.TheConstants.{GROUP_KEYS}
 use Rattle.machine_config.specs.declared.machine.Machine.{Machine}
-use Rattle.machine_config.specs.declared.rule.TheConstants.{WRONG_KEY, WRONG_NAME}
+use Rattle.machine_config.specs.RuleNumbers.{wrong_key, wrong_name}
 
 -- what the table of a group makes of a machine: it has the keys of a group (else C2), its axes are
 -- there, its name is free, and its axes are free and come once (C4), and they are 2 to 6 (C6)
 unfoldable pub group_meaning : Machine → Members → Result Machine ℕ
 group_meaning m table = do
-  _ ← broken_unless (has_keys GROUP_KEYS table) WRONG_KEY
-  axes ← each_of (axis_named WRONG_NAME m.config) (texts_at Axes table)
+  _ ← broken_unless (has_keys group_keys table) wrong_key
+  axes ← each_of (axis_named wrong_name m.config) (texts_at Axes table)
   _ ← broken_by rule_of (group_fault m.config (text_at Name table) axes)
   Ok (record m {
     config = record m.config {

@@ -12,6 +12,25 @@ use Rattle.machine_config.specs.declared.key.Key.TheVariants as key
 use Rattle.machine_config.specs.declared.key.Sort.{Sort}
 use Rattle.machine_config.specs.declared.key.Sort.TheVariants as sort
 
+-- the keys of the text itself
+abbrev pub top_keys : List Key
+top_keys =
+    key.CycleUs ∷ key.Cycles ∷ key.Entries ∷ key.Axis ∷ key.Group ∷ key.Table ∷ []
+
+-- the keys of an axis
+abbrev pub axis_keys : List Key
+axis_keys =
+    key.Name ∷ key.Lo ∷ key.Hi ∷ key.Vmax ∷ key.Amax ∷ key.Dmax ∷ key.Increment ∷ key.Start ∷
+    key.Ready ∷ key.Lag ∷ key.Faults ∷ []
+
+-- the keys of a group
+abbrev pub group_keys : List Key
+group_keys = key.Name ∷ key.Axes ∷ []
+
+-- the keys of a cam table
+abbrev pub table_keys : List Key
+table_keys = key.Points ∷ []
+
 -- the word of each key
 unfoldable pub word_of : Key → List ℕ
 word_of key.CycleUs = codes "cycle_us"

@@ -1,15 +1,14 @@
 -- What always holds of a machine that a configuration makes, as its items are added and at the end.
 -- This project's profile.
 use Rattle.std.specs.Prelude.{◌≡◌, ◌≤◌, All, [], length}
-use Rattle.machine_words.specs.declared.units.TheConstants.{LONGEST_CYCLE, SHORTEST_CYCLE}
 use Rattle.motion_history.specs.Drives.{IsDrive}
 use Rattle.machine_config.specs.declared.machine.Machine.{Machine}
 
 -- its cycle has 100 to 100,000 microseconds, there is a drive for each axis, each in its ranges,
 -- and there are no tasks and no blocks
 pub record IsUnderWay (m : Machine) : Type 0 where
-  pub shortest : SHORTEST_CYCLE ≤ m.cycle_us
-  pub longest : m.cycle_us ≤ LONGEST_CYCLE
+  pub shortest : 100 ≤ m.cycle_us
+  pub longest : m.cycle_us ≤ 100000
   pub each : length m.drives ≡ length m.config.axes
   pub drives : All IsDrive m.drives
   pub tasks : m.config.tasks ≡ []

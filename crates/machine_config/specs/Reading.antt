@@ -19,7 +19,7 @@ use Rattle.machine_config.specs.declared.item.ItemKind.{ItemKind}
 use Rattle.machine_config.specs.declared.item.ItemKind.TheVariants as kind
 use Rattle.machine_config.specs.declared.key.Key.TheVariants as key
 use Rattle.machine_config.specs.declared.machine.Machine.{Machine}
-use Rattle.machine_config.specs.declared.rule.TheConstants.{NO_TOML}
+use Rattle.machine_config.specs.RuleNumbers.{no_toml}
 
 -- tables of this kind
 abbrev pub of_kind : ItemKind → List Members → List (ItemKind × Members)
@@ -60,7 +60,7 @@ document_of text = if is_utf8 text then parse_document text else None
 
 -- what the bytes of a text are read as: a document, or no TOML
 abbrev pub document_reading : List ℕ → Result Members TextRefused
-document_reading text = at_place 0 (ok_or (document_of text) NO_TOML)
+document_reading text = at_place 0 (ok_or (document_of text) no_toml)
 
 -- the machine that a document configures, or the first place that breaks a rule and the first rule
 -- that it breaks. The top is at place 0

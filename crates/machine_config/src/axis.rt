@@ -14,7 +14,6 @@ use crate::rule::{WRONG_KEY, refusal_of};
 use crate::value::{flag_at, text_at};
 use fixed_units::{per_cycle, per_cycle2};
 use line_text::{LineFault, broken_unless};
-use machine_words::{LONGEST_CYCLE, SHORTEST_CYCLE};
 use motion_history::{Builder, DriveDef, DriveDefs, Limits};
 use std::alloc::Global;
 use toml::Table;
@@ -56,8 +55,8 @@ pub fn add_axis(alloc: Global, machine: &mut Machine, table: &Table) -> Result<(
 // The limits of an axis in a cycle of so many microseconds.
 #[tactic(auto, unfolding(crate::specs::Axes::limits_of))]
 fn limits_of(cycle_us: u32, table: &Table) -> Result<Limits, LineFault>
-    requires shortest { SHORTEST_CYCLE ≤ cycle_us }
-    requires longest { cycle_us ≤ LONGEST_CYCLE }
+    requires shortest { 100 ≤ cycle_us }
+    requires longest { cycle_us ≤ 100000 }
     ensures { Gives (λ l. l) (spec.limits_of cycle_us (table_view table.now)) result }
 {
     let lo = quantity_at(table, Key::Lo)?;

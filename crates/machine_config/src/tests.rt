@@ -6,6 +6,7 @@ use std::alloc::Global;
 use std::test::Fail;
 
 mod counts;
+mod keys;
 mod readings;
 mod refusals;
 

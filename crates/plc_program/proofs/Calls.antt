@@ -10,7 +10,7 @@ use Rattle.machine_words.specs.Fit.{AreFit, InputsAreFit}
 use Rattle.machine_words.specs.Inputs.{inputs_by, is_off}
 use Rattle.machine_words.specs.Names.{block_at}
 use Rattle.machine_words.specs.Units.{IsCycle}
-use Rattle.machine_words.specs.declared.rule.TheConstants.{WRONG_COUNT, WRONG_NAME}
+use Rattle.machine_words.specs.RuleNumbers.{wrong_count, wrong_name}
 use Rattle.machine_words.specs.declared.units.Units.TheVariants.{User}
 use Rattle.motion_history.specs.Calls.{axes_of}
 use Rattle.motion_history.specs.Setup.{Setup}
@@ -28,14 +28,14 @@ use Rattle.machine_words.proofs.Names.{block-within}
 pub block-own : (s : Setup) (task : ℕ) (name : List ℕ) (k : ℕ) → block_named s task name ≡ Ok k → IsBlockOf s task k
 unfolding block_named
 block-own s task name k h =
-    let n = bind_ok (ok_or (block_at s name) WRONG_NAME) _ k h in
-    let b = bind_ok (ok_or (slice_get s.blocks n.0) WRONG_NAME) _ k n.2 in
-    let own = bind_ok (broken_unless (b.0.task == task) WRONG_NAME) _ k b.2 in
+    let n = bind_ok (ok_or (block_at s name) wrong_name) _ k h in
+    let b = bind_ok (ok_or (slice_get s.blocks n.0) wrong_name) _ k n.2 in
+    let own = bind_ok (broken_unless (b.0.task == task) wrong_name) _ k b.2 in
     let is : n.0 ≡ k = ok_is (Ok n.0) n.0 k refl own.2 in
-    let at : slice_get s.blocks n.0 ≡ Some b.0 = found (slice_get s.blocks n.0) WRONG_NAME b.0 b.1 in
-    let same : b.0.task ≡ task = eqb-true _ _ (holds (b.0.task == task) WRONG_NAME own.0 own.1) in
+    let at : slice_get s.blocks n.0 ≡ Some b.0 = found (slice_get s.blocks n.0) wrong_name b.0 b.1 in
+    let same : b.0.task ≡ task = eqb-true _ _ (holds (b.0.task == task) wrong_name own.0 own.1) in
     subst (λ q. IsBlockOf s task q) is (record {
-      there = block-within s name n.0 (found (block_at s name) WRONG_NAME n.0 n.1);
+      there = block-within s name n.0 (found (block_at s name) wrong_name n.0 n.1);
       own = λ d other. let e : b.0 ≡ d = let f : Some b.0 ≡ Some d = sym at ∙ other in cc in subst (λ (q : BlockDef). q.task ≡ task) e same;
     })
 
@@ -46,13 +46,13 @@ unfolding call_meaning
 call-line fits s [] l cycle some h = absurd (cc)
 call-line fits s (name ∷ []) l cycle some h = absurd (cc)
 call-line fits s (name ∷ state ∷ words) l cycle some h =
-    let few = bind_ok (broken_unless (not (is_off state) || (length words == 0)) WRONG_COUNT) _ l h in
+    let few = bind_ok (broken_unless (not (is_off state) || (length words == 0)) wrong_count) _ l h in
     let k = bind_ok (block_named s.setup (task_of s) name) _ l few.2 in
-    let b = bind_ok (ok_or (slice_get s.setup.blocks k.0) WRONG_NAME) (λ b. inputs_by (User s.cycle_us) s.setup b state words >>= λ i. Ok (Call k.0 i)) l k.2 in
+    let b = bind_ok (ok_or (slice_get s.setup.blocks k.0) wrong_name) (λ b. inputs_by (User s.cycle_us) s.setup b state words >>= λ i. Ok (Call k.0 i)) l k.2 in
     let i = bind_ok (inputs_by (User s.cycle_us) s.setup b.0 state words) _ l b.2 in
     let is : Call k.0 i.0 ≡ l = ok_is (Ok (Call k.0 i.0)) (Call k.0 i.0) l refl i.2 in
     let fit : AreFit s.setup b.0 i.0 = fits (User s.cycle_us) s.setup b.0 state words i.0 cycle some i.1 in
-    let at : slice_get s.setup.blocks k.0 ≡ Some b.0 = found (slice_get s.setup.blocks k.0) WRONG_NAME b.0 b.1 in
+    let at : slice_get s.setup.blocks k.0 ≡ Some b.0 = found (slice_get s.setup.blocks k.0) wrong_name b.0 b.1 in
     let own : IsBlockOf s.setup (task_of s) k.0 = block-own s.setup (task_of s) name k.0 k.1 in
     let P : BlockDef → Type 0 = λ d. AreInputs d.kind (axes_of s.setup d) i.0 in
     subst (λ q. IsLineOf s.setup (task_of s) q) is (

@@ -17,7 +17,7 @@ use Rattle.machine_words.specs.Names.{kind_of, object_named}
 use Rattle.machine_words.specs.Numbers.{number}
 use Rattle.machine_words.specs.Rules.{broken_by, rule_of}
 use Rattle.machine_words.specs.Units.{IsCycle}
-use Rattle.machine_words.specs.declared.rule.TheConstants.{NO_VALUE, NO_VERSION, OUT_OF_PLACE, OUT_OF_RANGE, TOO_MANY, WRONG_COUNT, WRONG_NAME}
+use Rattle.machine_words.specs.RuleNumbers.{no_value, no_version, out_of_place, out_of_range, too_many, wrong_count, wrong_name}
 use Rattle.machine_words.specs.declared.units.Units.TheVariants.{User}
 use Rattle.motion_history.specs.Faults.{block_fault, name_fault, task_fault}
 use Rattle.motion_history.specs.Setup.{Setup}
@@ -34,7 +34,6 @@ use Rattle.plc_program.specs.declared.form.Form.{Form}
 use Rattle.plc_program.specs.declared.form.Form.TheVariants as form
 use Rattle.plc_program.specs.declared.program.Instruction.{Instruction}
 use Rattle.plc_program.specs.declared.program.Instruction.TheVariants.{Call, Wait, Repeat, Again}
-use Rattle.plc_program.specs.declared.program.TheConstants.{MOST_INSTRUCTIONS, MOST_TIMES}
 use Rattle.plc_program.proofs.Calls.{block-own, call-line}
 use Rattle.plc_program.proofs.Lists.{behind-push, repeats-join, some-push, unempty}
 use Rattle.plc_program.proofs.Growth.{Grows, tasks-grow, tasks-line, tasks-more}
@@ -66,8 +65,8 @@ record IsNext (s : SoFar) (l : Instruction) : Type 0 where
 line-kept : (first : Setup) (s t : SoFar) (l : Instruction) → IsSoFar first s → has_task s ≡ true → IsNext s l → line_added s l ≡ Ok t → IsSoFar first t
 unfolding line_added
 line-kept first s t l k under is h =
-    let few = bind_ok (broken_unless (nat_lt (length s.lines) MOST_INSTRUCTIONS) TOO_MANY) _ t h in
-    let room : length s.lines < MOST_INSTRUCTIONS = ltb-true _ _ (holds (nat_lt (length s.lines) MOST_INSTRUCTIONS) TOO_MANY few.0 few.1) in
+    let few = bind_ok (broken_unless (nat_lt (length s.lines) 10000) too_many) _ t h in
+    let room : length s.lines < 10000 = ltb-true _ _ (holds (nat_lt (length s.lines) 10000) too_many few.0 few.1) in
     let u : SoFar = record s { lines = s.lines ++ l ∷ []; repeating = is_repeating s.repeating l } in
     let longer = length-append s.lines (l ∷ []) in
     let before : length (s.before ++ s.lines ∷ []) ≡ length s.setup.tasks = ap length (sym (tasks-are s under)) ∙ k.each in
@@ -107,9 +106,9 @@ unfolding call_meaning
 call-is s [] l h = absurd (cc)
 call-is s (name ∷ []) l h = absurd (cc)
 call-is s (name ∷ state ∷ words) l h =
-    let few = bind_ok (broken_unless (not (is_off state) || (length words == 0)) WRONG_COUNT) _ l h in
+    let few = bind_ok (broken_unless (not (is_off state) || (length words == 0)) wrong_count) _ l h in
     let k = bind_ok (block_named s.setup (task_of s) name) _ l few.2 in
-    let b = bind_ok (ok_or (slice_get s.setup.blocks k.0) WRONG_NAME) (λ b. inputs_by (User s.cycle_us) s.setup b state words >>= λ i. Ok (Call k.0 i)) l k.2 in
+    let b = bind_ok (ok_or (slice_get s.setup.blocks k.0) wrong_name) (λ b. inputs_by (User s.cycle_us) s.setup b state words >>= λ i. Ok (Call k.0 i)) l k.2 in
     let i = bind_ok (inputs_by (User s.cycle_us) s.setup b.0 state words) _ l b.2 in
     record { block = k.0; inputs = i.0; is = sym (ok_is (Ok (Call k.0 i.0)) (Call k.0 i.0) l refl i.2) }
 
@@ -129,12 +128,12 @@ wait-next s [] l h = absurd (cc)
 wait-next s (name ∷ []) l h = absurd (cc)
 wait-next s (name ∷ word ∷ []) l h =
     let k = bind_ok (block_named s.setup (task_of s) name) _ l h in
-    let flag = bind_ok (ok_or (flag_named word) NO_VALUE) _ l k.2 in
-    let called = bind_ok (broken_unless (is_called k.0 s.lines) OUT_OF_RANGE) _ l flag.2 in
+    let flag = bind_ok (ok_or (flag_named word) no_value) _ l k.2 in
+    let called = bind_ok (broken_unless (is_called k.0 s.lines) out_of_range) _ l flag.2 in
     subst (λ q. IsNext s q) (ok_is (Ok (Wait k.0 flag.0)) (Wait k.0 flag.0) l refl called.2) (record {
       own = λ some. block-own s.setup (task_of s) name k.0 k.1;
       counted = tt;
-      behind = holds (is_called k.0 s.lines) OUT_OF_RANGE called.0 called.1;
+      behind = holds (is_called k.0 s.lines) out_of_range called.0 called.1;
       follows = refl;
     })
 wait-next s (name ∷ word ∷ other ∷ more) l h = absurd (cc)
@@ -144,8 +143,8 @@ unfolding repeat_meaning
 repeat-next s [] l out h = absurd (cc)
 repeat-next s (word ∷ []) l out h =
     let z = bind_ok (number word) _ l h in
-    let n = bind_ok (in_range 1 MOST_TIMES OUT_OF_RANGE z.0) _ l z.2 in
-    let within = in_range-within 1 MOST_TIMES OUT_OF_RANGE z.0 n.0 n.1 in
+    let n = bind_ok (in_range 1 1000000 out_of_range z.0) _ l z.2 in
+    let within = in_range-within 1 1000000 out_of_range z.0 n.0 n.1 in
     subst (λ q. IsNext s q) (ok_is (Ok (Repeat n.0)) (Repeat n.0) l refl n.2) (record {
       own = λ some. tt;
       counted = (within.above, within.below);
@@ -260,10 +259,10 @@ words-kept fit first s t form.Again words k p h =
 form-stands : (s : SoFar) (first : List ℕ) (words : List (List ℕ)) (f : Form) → form_in s first words ≡ Ok f → may_stand s f ≡ true
 unfolding form_in
 form-stands s first words f h =
-    let g = bind_ok (ok_or (form_of first) OUT_OF_PLACE) _ f h in
-    let place = bind_ok (broken_unless (may_stand s g.0) OUT_OF_PLACE) _ f g.2 in
-    let count = bind_ok (broken_unless (is_counted g.0 (length words)) WRONG_COUNT) _ f place.2 in
-    subst (λ q. may_stand s q ≡ true) (ok_is (Ok g.0) g.0 f refl count.2) (holds (may_stand s g.0) OUT_OF_PLACE place.0 place.1)
+    let g = bind_ok (ok_or (form_of first) out_of_place) _ f h in
+    let place = bind_ok (broken_unless (may_stand s g.0) out_of_place) _ f g.2 in
+    let count = bind_ok (broken_unless (is_counted g.0 (length words)) wrong_count) _ f place.2 in
+    subst (λ q. may_stand s q ≡ true) (ok_is (Ok g.0) g.0 f refl count.2) (holds (may_stand s g.0) out_of_place place.0 place.1)
 
 later-kept : InputsAreFit → (setup : Setup) (s t : SoFar) (words : List (List ℕ)) → IsSoFar setup s → later_meaning s words ≡ Ok t → IsSoFar setup t
 unfolding later_meaning
@@ -275,7 +274,7 @@ later-kept fit setup s t (first ∷ words) k h =
 version-kept : (first : Setup) (s t : SoFar) (words : List (List ℕ)) → IsSoFar first s → version_meaning s words ≡ Ok t → IsSoFar first t
 unfolding version_meaning
 version-kept first s t words k h =
-    let v = bind_ok (broken_unless (is_version words) NO_VERSION) _ t h in
+    let v = bind_ok (broken_unless (is_version words) no_version) _ t h in
     let u : SoFar = record s { begun = true } in
     subst (λ q. IsSoFar first q) (ok_is (Ok u) u t refl v.2) (record {
       cycle = k.cycle;

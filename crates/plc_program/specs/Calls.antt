@@ -4,7 +4,7 @@ use Rattle.std.specs.Option.{ok_or}
 use Rattle.line_text.specs.Reading.{◌>>=◌}
 use Rattle.line_text.specs.Rules.{broken_unless}
 use Rattle.machine_words.specs.Inputs.{inputs_by, is_off}
-use Rattle.machine_words.specs.declared.rule.TheConstants.{WRONG_COUNT, WRONG_NAME}
+use Rattle.machine_words.specs.RuleNumbers.{wrong_count, wrong_name}
 use Rattle.machine_words.specs.declared.units.Units.TheVariants.{User}
 use Rattle.plc_program.specs.Named.{block_named}
 use Rattle.plc_program.specs.SoFar.{SoFar, task_of}
@@ -14,9 +14,9 @@ use Rattle.plc_program.specs.declared.program.Instruction.TheVariants.{Call}
 -- `call BLOCK on KEY=VALUE ..`, or `call BLOCK off`
 unfoldable pub call_meaning : SoFar → List (List ℕ) → Result Instruction ℕ
 call_meaning s (name ∷ state ∷ words) = do
-  _ ← broken_unless (not (is_off state) || (length words == 0)) WRONG_COUNT
+  _ ← broken_unless (not (is_off state) || (length words == 0)) wrong_count
   k ← block_named s.setup (task_of s) name
-  b ← ok_or (slice_get s.setup.blocks k) WRONG_NAME
+  b ← ok_or (slice_get s.setup.blocks k) wrong_name
   i ← inputs_by (User s.cycle_us) s.setup b state words
   Ok (Call k i)
-call_meaning s _ = Err WRONG_COUNT
+call_meaning s _ = Err wrong_count

@@ -1,11 +1,14 @@
 -- The forms of a program's lines, a row each. This project's profile.
-use Rattle.std.specs.Prelude.{ℕ, Bool, ◌&&◌, true, nat_le, codes, Option, Some, None, List}
+use Rattle.std.specs.Prelude.{ℕ, Bool, ◌&&◌, true, nat_le, codes, Option, Some, None, List, [], ◌∷◌}
 use Rattle.std.specs.List.{find}
 use Rattle.std.specs.Option.{option_map_or}
 use Rattle.std.specs.Str.{bytes_eq}
 use Rattle.plc_program.specs.declared.form.Form.{Form}
 use Rattle.plc_program.specs.declared.form.Form.TheVariants as form
-use Rattle.plc_program.specs.declared.form.TheConstants.{FORMS}
+
+-- the forms of a line behind the first, in the order of a program
+abbrev pub forms : List Form
+forms = form.Task ∷ form.Block ∷ form.Call ∷ form.Wait ∷ form.Repeat ∷ form.Again ∷ []
 
 -- the first word of a line of each form
 unfoldable pub word_of : Form → List ℕ
@@ -18,7 +21,7 @@ word_of form.Again = codes "again"
 
 -- the form of a line by its first word
 unfoldable pub form_of : List ℕ → Option Form
-form_of first = find (λ f. bytes_eq (word_of f) first) FORMS
+form_of first = find (λ f. bytes_eq (word_of f) first) forms
 
 -- how many words stand behind the first, at least
 abbrev pub least_of : Form → ℕ

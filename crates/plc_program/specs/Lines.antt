@@ -9,7 +9,7 @@ use Rattle.line_text.specs.Rules.{broken_unless, in_range}
 use Rattle.machine_words.specs.Names.{kind_of, object_named}
 use Rattle.machine_words.specs.Numbers.{number}
 use Rattle.machine_words.specs.Rules.{broken_by, rule_of}
-use Rattle.machine_words.specs.declared.rule.TheConstants.{NO_VALUE, OUT_OF_RANGE, WRONG_COUNT}
+use Rattle.machine_words.specs.RuleNumbers.{no_value, out_of_range, wrong_count}
 use Rattle.motion_history.specs.Faults.{block_fault, name_fault}
 use Rattle.motion_history.specs.Setup.{Setup}
 use Rattle.plc_program.specs.Named.{block_named}
@@ -19,8 +19,6 @@ use Rattle.plc_program.specs.declared.program.Flag.{Flag}
 use Rattle.plc_program.specs.declared.program.Flag.TheVariants.{Busy, Active, Done, Aborted, Error, Reached}
 use Rattle.plc_program.specs.declared.program.Instruction.{Instruction}
 use Rattle.plc_program.specs.declared.program.Instruction.TheVariants.{Wait, Repeat}
-use Rattle.plc_program.specs.declared.program.TheConstants.{MOST_TIMES}
-use Rattle.plc_program.specs.declared.wait.TheConstants.{FLAGS}
 
 -- `block NAME KIND AXIS-OR-GROUP`, a block of this task
 unfoldable pub block_meaning : Setup → ℕ → List (List ℕ) → Result Setup ℕ
@@ -37,7 +35,11 @@ block_meaning s task (name ∷ of_kind ∷ of_object ∷ []) = do
       object = object;
     } ∷ [];
   })
-block_meaning s task _ = Err WRONG_COUNT
+block_meaning s task _ = Err wrong_count
+
+-- the flags, in the order of a block's outputs
+abbrev pub flags : List Flag
+flags = Busy ∷ Active ∷ Done ∷ Aborted ∷ Error ∷ Reached ∷ []
 
 -- the name of each flag
 unfoldable pub flag_name : Flag → List ℕ
@@ -50,21 +52,21 @@ flag_name Reached = codes "reached"
 
 -- the flag of this name
 unfoldable pub flag_named : List ℕ → Option Flag
-flag_named name = find (λ f. bytes_eq (flag_name f) name) FLAGS
+flag_named name = find (λ f. bytes_eq (flag_name f) name) flags
 
 -- `wait BLOCK FLAG`, behind a call of the block in its task
 unfoldable pub wait_meaning : SoFar → List (List ℕ) → Result Instruction ℕ
 wait_meaning s (name ∷ word ∷ []) = do
   k ← block_named s.setup (task_of s) name
-  flag ← ok_or (flag_named word) NO_VALUE
-  _ ← broken_unless (is_called k s.lines) OUT_OF_RANGE
+  flag ← ok_or (flag_named word) no_value
+  _ ← broken_unless (is_called k s.lines) out_of_range
   Ok (Wait k flag)
-wait_meaning s _ = Err WRONG_COUNT
+wait_meaning s _ = Err wrong_count
 
 -- `repeat N`
 unfoldable pub repeat_meaning : List (List ℕ) → Result Instruction ℕ
 repeat_meaning (word ∷ []) = do
   n ← number word
-  count ← in_range 1 MOST_TIMES OUT_OF_RANGE n
+  count ← in_range 1 1000000 out_of_range n
   Ok (Repeat count)
-repeat_meaning _ = Err WRONG_COUNT
+repeat_meaning _ = Err wrong_count

@@ -4,10 +4,8 @@ use Rattle.std.specs.List.{AllByRecursion, list_any}
 use Rattle.motion_history.specs.Calls.{IsCall}
 use Rattle.motion_history.specs.Setup.{Setup, IsSetup}
 use Rattle.motion_history.specs.declared.config.BlockDef.{BlockDef}
-use Rattle.motion_history.specs.declared.sizes.TheConstants.{MOST_TASKS}
 use Rattle.plc_program.specs.declared.program.Instruction.{Instruction}
 use Rattle.plc_program.specs.declared.program.Instruction.TheVariants.{Call, Wait, Repeat, Again}
-use Rattle.plc_program.specs.declared.program.TheConstants.{MOST_INSTRUCTIONS, MOST_TIMES}
 
 -- ---- a task by itself
 
@@ -26,7 +24,7 @@ repeating_after false (Again ∷ lines) = None
 abbrev pub IsCounted : Instruction → Type 0
 IsCounted (Call k i) = Unit {0}
 IsCounted (Wait k flag) = Unit {0}
-IsCounted (Repeat count) = (1 ≤ count) × (count ≤ MOST_TIMES)
+IsCounted (Repeat count) = (1 ≤ count) × (count ≤ 1000000)
 IsCounted Again = Unit {0}
 
 -- whether an instruction calls the block of this number with inputs of its own
@@ -56,7 +54,7 @@ AreBehindTheirCalls above (line ∷ lines) =
 -- the lines of a task: repeats are counted, closed and not nested, each wait stands behind a call
 -- of its block, and there are not too many
 pub record IsTask (lines : List Instruction) : Type 0 where
-  pub few : length lines ≤ MOST_INSTRUCTIONS
+  pub few : length lines ≤ 10000
   pub counted : AllByRecursion IsCounted lines
   pub closed : repeating_after false lines ≡ Some false
   pub waits : AreBehindTheirCalls [] lines
@@ -64,7 +62,7 @@ pub record IsTask (lines : List Instruction) : Type 0 where
 -- a program has 1 to 8 tasks
 pub record IsProgram (program : List (List Instruction)) : Type 0 where
   pub some : 1 ≤ length program
-  pub few : length program ≤ MOST_TASKS
+  pub few : length program ≤ 8
   pub tasks : AllByRecursion IsTask program
 
 -- ---- the tasks of a machine

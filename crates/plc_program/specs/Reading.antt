@@ -6,7 +6,7 @@ use Rattle.line_text.specs.Rules.{broken_unless}
 use Rattle.line_text.specs.Texts.{says}
 use Rattle.machine_words.specs.Items.{task_meaning}
 use Rattle.machine_words.specs.Rules.{broken_by, refused_by, rule_of}
-use Rattle.machine_words.specs.declared.rule.TheConstants.{NO_VERSION, NOT_WHOLE, OUT_OF_PLACE, TOO_MANY, WRONG_COUNT}
+use Rattle.machine_words.specs.RuleNumbers.{no_version, not_whole, out_of_place, too_many, wrong_count}
 use Rattle.motion_history.specs.Faults.{whole_fault}
 use Rattle.motion_history.specs.Setup.{Setup}
 use Rattle.motion_history.specs.declared.refused.TextFault.{TextFault}
@@ -20,7 +20,6 @@ use Rattle.plc_program.specs.declared.form.Form.{Form}
 use Rattle.plc_program.specs.declared.form.Form.TheVariants as form
 use Rattle.plc_program.specs.declared.program.Instruction.{Instruction}
 use Rattle.plc_program.specs.declared.program.Instruction.TheVariants.{Call, Wait, Repeat, Again}
-use Rattle.plc_program.specs.declared.program.TheConstants.{MOST_INSTRUCTIONS}
 
 -- a program before its first line, for this machine
 unfoldable pub opening : ℕ → Setup → SoFar
@@ -49,7 +48,7 @@ is_version _ = false
 -- the first line tells the version
 unfoldable pub version_meaning : SoFar → List (List ℕ) → Result SoFar ℕ
 version_meaning s words = do
-  _ ← broken_unless (is_version words) NO_VERSION
+  _ ← broken_unless (is_version words) no_version
   Ok (record s { begun = true })
 
 -- whether a line of each form may stand here
@@ -65,9 +64,9 @@ may_stand s form.Again = has_task s && s.repeating
 -- has
 unfoldable pub form_in : SoFar → List ℕ → List (List ℕ) → Result Form ℕ
 form_in s first words = do
-  form ← ok_or (form_of first) OUT_OF_PLACE
-  _ ← broken_unless (may_stand s form) OUT_OF_PLACE
-  _ ← broken_unless (is_counted form (length words)) WRONG_COUNT
+  form ← ok_or (form_of first) out_of_place
+  _ ← broken_unless (may_stand s form) out_of_place
+  _ ← broken_unless (is_counted form (length words)) wrong_count
   Ok form
 
 -- `task ..` ends the task before, and begins another
@@ -92,7 +91,7 @@ is_repeating inside Again = false
 -- the task with one instruction more, where it may have it
 unfoldable pub line_added : SoFar → Instruction → Result SoFar ℕ
 line_added s line = do
-  _ ← broken_unless (nat_lt (length s.lines) MOST_INSTRUCTIONS) TOO_MANY
+  _ ← broken_unless (nat_lt (length s.lines) 10000) too_many
   Ok (record s { lines = s.lines ++ line ∷ []; repeating = is_repeating s.repeating line })
 
 -- the task with the instruction of a line
@@ -130,7 +129,7 @@ pub record Outcome : Type 0 where
 unfoldable pub ending : SoFar → Result Outcome ℕ
 ending s = do
   _ ← broken_by rule_of (whole_fault s.setup)
-  _ ← broken_unless (not s.repeating) NOT_WHOLE
+  _ ← broken_unless (not s.repeating) not_whole
   Ok (record { program = tasks_of s; setup = s.setup })
 
 -- a rule of a program is told by the letter P

@@ -5,7 +5,6 @@ use Rattle.machine_words.specs.Units.{IsCycle}
 use Rattle.motion_history.specs.Setup.{Setup}
 use Rattle.plc_program.specs.Programs.{AddsTasks, AreBehindTheirCalls, AreTasksOf, IsCounted, IsTask, repeating_after}
 use Rattle.plc_program.specs.SoFar.{SoFar, tasks_of}
-use Rattle.plc_program.specs.declared.program.TheConstants.{MOST_INSTRUCTIONS}
 
 -- the tasks before are whole; the one that is under way is, but for the repeat in which it may
 -- stand; there is a list for each task, of lines of its own
@@ -15,7 +14,7 @@ pub record IsSoFar (first : Setup) (s : SoFar) : Type 0 where
   pub none : s.setup.tasks ≡ [] → (s.before ≡ []) × (s.lines ≡ [])
   pub each : length (tasks_of s) ≡ length s.setup.tasks
   pub before : AllByRecursion IsTask s.before
-  pub few : length s.lines ≤ MOST_INSTRUCTIONS
+  pub few : length s.lines ≤ 10000
   pub counted : AllByRecursion IsCounted s.lines
   pub repeats : repeating_after false s.lines ≡ Some s.repeating
   pub waits : AreBehindTheirCalls [] s.lines

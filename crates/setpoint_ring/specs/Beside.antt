@@ -17,7 +17,7 @@ new_kernel_side r = record { ring = r; sent = []; taken = []; waiting = []; free
 
 -- the drive's end of a ring through which nothing went yet
 abbrev pub new_drive_side : Ring → DriveSide
-new_drive_side r = record { ring = r; sent = []; taken = []; waiting = []; free = r.room }
+new_drive_side r = record { ring = r; sent = []; taken = []; waiting = []; free = r.room; ended = false }
 
 -- the two ends of one new ring with so many slots each way
 pub record AreNew (room : ℕ) (kernel : KernelSide) (drive : DriveSide) : Type 0 where

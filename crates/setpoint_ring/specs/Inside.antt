@@ -1,13 +1,12 @@
 -- How the ends of a ring are kept. This project's profile.
-use Rattle.std.specs.Prelude.{◌≡◌, ◌≤◌, None, length, vec_capacity}
+use Rattle.std.specs.Prelude.{◌≡◌, ◌≤◌, ◌+◌, ◌-◌, false, if◌then◌else◌, None, length, vec_capacity}
 use Rattle.std.specs.List.{last_or}
 use Rattle.std.specs.declared.alloc.Global.{Global}
 use Rattle.rtrb.specs.declared.end.End.{End}
 use Rattle.rtrb.specs.Ring.{sent, received, known_items, known_free}
-use Rattle.setpoint_ring.specs.declared.TheConstants.{MOST_OUTPUTS}
 use Rattle.setpoint_ring.specs.declared.kernel_end.KernelEnd.TheInside as kernel
 use Rattle.setpoint_ring.specs.declared.drive_end.DriveEnd.TheInside as drive
-use Rattle.setpoint_ring.specs.Order.{items_of}
+use Rattle.setpoint_ring.specs.Order.{EndsLast, has_end, items_of, outputs_of}
 use Rattle.setpoint_ring.specs.Sides.{Way, KernelSide, DriveSide}
 
 -- the way that this is an end of
@@ -20,12 +19,12 @@ kernel_side_of k = record {
   ring = record {
     outputs = way_of k.outputs.end;
     answers = way_of k.answers.end;
-    room = k.outputs.capacity;
+    room = k.answers.capacity;
   };
-  sent = items_of (sent k.outputs);
+  sent = outputs_of (sent k.outputs);
   taken = items_of (received k.answers);
   waiting = items_of (known_items k.answers);
-  free = known_free k.outputs;
+  free = if k.told_end then known_free k.outputs else known_free k.outputs - 1;
   ended = k.told_end;
 }
 
@@ -38,23 +37,30 @@ drive_side_of d = record {
     room = d.answers.capacity;
   };
   sent = items_of (sent d.answers);
-  taken = items_of (received d.outputs);
-  waiting = items_of (known_items d.outputs);
+  taken = outputs_of (received d.outputs);
+  waiting = outputs_of (known_items d.outputs);
   free = known_free d.answers;
+  ended = has_end (known_items d.outputs);
 }
 
--- the kernel's end counts what it sent and took
+-- the kernel's end counts what it sent and took, knows whether it sent the end, behind which nothing
+-- stands, and keeps a slot for it
 pub record IsKernelEnd (k : kernel.Inside) : Type 0 where
-  pub sent_is : k.sent ≡ length (sent k.outputs)
-  pub few : k.sent ≤ MOST_OUTPUTS
+  pub sent_is : k.sent ≡ length (outputs_of (sent k.outputs))
+  pub few : k.sent ≤ 200000
+  pub end_is : k.told_end ≡ has_end (sent k.outputs)
+  pub last : EndsLast (sent k.outputs)
+  pub kept : k.told_end ≡ false → 1 ≤ known_free k.outputs
   pub taken_is : k.taken ≡ length (received k.answers)
-  pub same_room : k.outputs.capacity ≡ k.answers.capacity
+  pub same_room : k.outputs.capacity ≡ k.answers.capacity + 1
 
--- the drive's end counts what it sent, has the last of it, and keeps what it took, in room for all
+-- the drive's end counts what it sent, has the last of it, and keeps the outputs that it took, in
+-- room for all; the end it leaves where it stands
 pub record IsDriveEnd (d : drive.Inside) : Type 0 where
   pub sent_is : d.sent ≡ length (sent d.answers)
   pub last_is : d.last ≡ last_or None (items_of (sent d.answers))
-  pub took_is : d.took.items ≡ items_of (received d.outputs)
-  pub few : length d.took.items ≤ MOST_OUTPUTS
-  pub reserved : MOST_OUTPUTS ≤ vec_capacity d.took
-  pub same_room : d.answers.capacity ≡ d.outputs.capacity
+  pub took_is : d.took.items ≡ outputs_of (received d.outputs)
+  pub going : has_end (received d.outputs) ≡ false
+  pub few : length d.took.items ≤ 200000
+  pub reserved : 200000 ≤ vec_capacity d.took
+  pub same_room : d.outputs.capacity ≡ d.answers.capacity + 1

@@ -1,20 +1,49 @@
--- Items and their numbers. This project's profile.
-use Rattle.std.specs.Prelude.{◌≡◌, ◌+◌, ◌<◌, ◌≤◌, ◌^◌, List, length, map}
+-- What goes through a ring, and in which order. This project's profile.
+use Rattle.std.specs.Prelude.{◌≡◌, ◌+◌, ◌<◌, ◌≤◌, ◌^◌, Bool, true, false, List, [], ◌∷◌, length, map}
+use Rattle.cia402_machine.specs.declared.drive.DriveOut.{DriveOut}
 use Rattle.setpoint_ring.specs.declared.numbered.Numbered.{Numbered}
-use Rattle.setpoint_ring.specs.declared.TheConstants.{MOST_OUTPUTS}
+use Rattle.setpoint_ring.specs.declared.numbered.ToDrive.{ToDrive}
+use Rattle.setpoint_ring.specs.declared.numbered.ToDrive.TheVariants.{Output, End}
+use Rattle.setpoint_ring.specs.declared.outputs.Next.{Next}
+use Rattle.setpoint_ring.specs.declared.outputs.Next.TheVariants as next
+
+-- the outputs before the end, without their numbers
+abbrev pub outputs_of : List ToDrive → List DriveOut
+outputs_of [] = []
+outputs_of (Output output ∷ more) = output.item ∷ outputs_of more
+outputs_of (End ∷ more) = []
+
+-- whether the end is among what goes to the drive
+abbrev pub has_end : List ToDrive → Bool
+has_end [] = false
+has_end (Output output ∷ more) = has_end more
+has_end (End ∷ more) = true
+
+-- nothing stands behind the end
+abbrev pub EndsLast : List ToDrive → Type 0
+EndsLast [] = Unit {0}
+EndsLast (Output output ∷ more) = EndsLast more
+EndsLast (End ∷ more) = more ≡ []
+
+-- what goes to the drive next: an output is numbered next after those before it, which are numbered
+-- from 1 without a gap, up to 200,000; nothing goes there behind the end
+abbrev pub IsNextOutput : List ToDrive → ToDrive → Type 0
+IsNextOutput before (Output output) =
+    (has_end before ≡ false) × (output.number ≡ length (outputs_of before) + 1) ×
+    (output.number ≤ 200000)
+IsNextOutput before End = has_end before ≡ false
+
+-- what stands next in the outputs' way
+abbrev pub next_of : List ToDrive → Next
+next_of [] = next.Nothing
+next_of (Output output ∷ more) = next.Output
+next_of (End ∷ more) = next.End
 
 module _ {T : Type 0} where
-  -- the item is numbered next after those before it, which are numbered from 1 without a gap
-  abbrev pub IsNext : List (Numbered T) → Numbered T → Type 0
-  IsNext before item = item.number ≡ length before + 1
-
-  -- the output is numbered next, and it is one of those that a ring may carry
-  abbrev pub IsNextOutput : List (Numbered T) → Numbered T → Type 0
-  IsNextOutput before output = IsNext before output × (output.number ≤ MOST_OUTPUTS)
-
-  -- the answer is numbered next, by a number of 32 bits
+  -- the answer is numbered next after those before it, which are numbered from 1 without a gap, by
+  -- a number of 32 bits
   abbrev pub IsNextAnswer : List (Numbered T) → Numbered T → Type 0
-  IsNextAnswer before answer = IsNext before answer × (answer.number < 2 ^ 32)
+  IsNextAnswer before answer = (answer.number ≡ length before + 1) × (answer.number < 2 ^ 32)
 
   -- the items without their numbers
   abbrev pub items_of : List (Numbered T) → List T

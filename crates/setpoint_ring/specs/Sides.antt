@@ -1,5 +1,5 @@
 -- What contracts see of the two ends of a drive's ring. This project's profile.
-use Rattle.std.specs.Prelude.{ℕ, List, Bool}
+use Rattle.std.specs.Prelude.{◌≡◌, ℕ, List, [], Bool, true}
 use Rattle.std.specs.declared.alloc.Global.{Global}
 use denote.RawPtr.{Ptr}
 use Rattle.cia402_machine.specs.declared.drive.DriveIn.{DriveIn}
@@ -27,9 +27,9 @@ pub record KernelSide : Type 0 where
   pub taken : List DriveIn
   -- the answers that it knows to be in the ring, the next first
   pub waiting : List DriveIn
-  -- how many slots it knows to be free for outputs
+  -- how many slots it knows to be free for outputs, beside the one for the end
   pub free : ℕ
-  -- whether it told the end
+  -- whether it sent the end
   pub ended : Bool
 
 -- the drive's end of a ring
@@ -43,3 +43,10 @@ pub record DriveSide : Type 0 where
   pub waiting : List DriveOut
   -- how many slots it knows to be free for answers
   pub free : ℕ
+  -- whether it saw the end in the ring, behind the outputs that wait
+  pub ended : Bool
+
+-- the drive saw the end, and no output waits before it
+pub record HasEnded (drive : DriveSide) : Type 0 where
+  pub seen : drive.ended ≡ true
+  pub empty : drive.waiting ≡ []

@@ -1,24 +1,23 @@
 // The drive's end of a ring: it takes outputs, keeps them, and sends answers.
 
-ghost use Rattle.std.specs.Prelude.{◌≡◌, ◌≢◌, ◌<◌, ◌≤◌, ◌+◌, [], ◌∷◌, ◌++◌, IfErr, IfSome, IfNone, IsOk, IsSome, IsTrue, OnOk, Some, None, length, vec_len, vec_capacity};
+ghost use Rattle.std.specs.Prelude.{◌≡◌, ◌≢◌, ◌<◌, ◌≤◌, ◌+◌, [], ◌∷◌, ◌++◌, IfErr, IfSome, IfNone, IsOk, IsSome, IsTrue, OnOk, Some, None, true, length, vec_len, vec_capacity, ◌↔◌};
 ghost use Rattle.std.specs.List.{last_or};
 ghost use mathlib.Core.List.{IsPrefix};
+ghost use Rattle.setpoint_ring.specs.Sides.{HasEnded};
 
 use crate::logs::{DriveLog, OutList};
-use crate::numbered::{AnswersInOrder, Numbered, OutputsInOrder, take_next};
-use crate::{DriveIn, DriveOut, KernelEnd, MOST_OUTPUTS};
-use rtrb::{Consumer, Producer, PushError};
+use crate::numbered::{AnswersInOrder, Numbered};
+use crate::outputs::{Next, OutputsIn, look, take_output};
+use crate::{DriveIn, DriveOut, KernelEnd};
+use rtrb::{Producer, PushError};
 use std::alloc::Global;
 use std::marker::Model;
-use std::sync::Arc;
-use std::sync::atomic::{AtomicBool, Ordering};
 
 /// The drive's end of a ring, with the list of what it took.
 #[derive(Drop)]
 pub struct DriveEnd {
-    pub(crate) outputs: Consumer<Numbered<DriveOut>, Global, OutputsInOrder>,
+    pub(crate) outputs: OutputsIn,
     pub(crate) answers: Producer<Numbered<DriveIn>, Global, AnswersInOrder>,
-    pub(crate) end_flag: Arc<AtomicBool>,
     pub(crate) took: Vec<DriveOut>,
     pub(crate) sent: u32,
     pub(crate) last: Option<DriveIn>,
@@ -63,27 +62,33 @@ impl DriveEnd {
         ensures taken { IfSome result (λ output. self.new ≡ record self.old {
           taken = self.old.taken ++ output.item ∷ [];
           waiting = self.new.waiting;
+          ended = self.new.ended;
         }) }
         ensures number { IfSome result (λ output. output.number ≡ length self.new.taken) }
-        ensures few { IfSome result (λ output. output.number ≤ MOST_OUTPUTS) }
+        ensures few { IfSome result (λ output. output.number ≤ 200000) }
         ensures waiting { 0 < length self.old.waiting →
             IfSome result (λ output. self.old.waiting ≡ output.item ∷ self.new.waiting) }
-        ensures none { IfNone result (self.new ≡ self.old) }
+        ensures none { IfNone result (self.new ≡ record self.old { ended = self.new.ended }) }
         ensures succeeds { 0 < length self.old.waiting → IsSome result }
+        ensures stays { self.old.ended ≡ true → self.new.ended ≡ true }
     {
-        let output = take_next(&mut self.outputs)?;
+        let output = take_output(&mut self.outputs)?;
         push_within(&mut self.took, output.item);
         Some(output)
     }
 
-    /// Whether the kernel told the end and no output is there any more. That the end was told is
-    /// not known to clauses.
+    /// Whether the end stands next in the ring. All outputs that the kernel sent were then taken,
+    /// as `beside` says.
     pub fn ended(&mut self) -> bool
-        ensures same { self.new ≡ record self.old { waiting = self.new.waiting } }
+        ensures same { self.new ≡ record self.old {
+          waiting = self.new.waiting;
+          ended = self.new.ended;
+        } }
         ensures waiting { IsPrefix self.old.waiting self.new.waiting }
-        ensures empty { IsTrue result → self.new.waiting ≡ [] }
+        ensures ended { IsTrue result ↔ HasEnded self.new }
+        ensures stays { self.old.ended ≡ true → self.new.ended ≡ true }
     {
-        self.end_flag.load(Ordering::SeqCst) && self.outputs.is_empty()
+        matches!(look(&mut self.outputs), Next::End)
     }
 
     // Looks at both ends of the outputs' way together, and answers how many outputs are in it.
@@ -92,11 +97,16 @@ impl DriveEnd {
         ensures outputs { self.new.taken ++ self.new.waiting ≡ kernel.new.sent }
         ensures slots { kernel.new.ring.room ≤ kernel.new.free + length self.new.waiting }
         ensures count { result ≡ length self.new.waiting }
-        ensures drive { self.new ≡ record self.old { waiting = self.new.waiting } }
+        ensures all { HasEnded self.old → self.old.taken ≡ kernel.old.sent }
+        ensures drive { self.new ≡ record self.old {
+          waiting = self.new.waiting;
+          ended = self.new.ended;
+        } }
         ensures kernel { kernel.new ≡ record kernel.old { free = kernel.new.free } }
     {
         kernel.outputs.slots_beside(&mut self.outputs);
-        self.outputs.slots_beside(&mut kernel.outputs) as u32
+        self.outputs.slots_beside(&mut kernel.outputs);
+        kernel.sent - self.took.len() as u32
     }
 
     /// How many answers were sent, the last of them, and the outputs that were taken.

@@ -3,20 +3,18 @@
 ghost use Rattle.std.specs.Prelude.{◌≡◌, ◌<◌, ◌≤◌, ◌+◌, [], ◌∷◌, ◌++◌, IfErr, IfSome, IfNone, IsOk, IsSome, OnOk, length, true, false};
 
 use crate::logs::KernelLog;
-use crate::numbered::{AnswersInOrder, Numbered, OutputsInOrder, take_next};
-use crate::{DriveEnd, DriveIn, DriveOut, MOST_OUTPUTS};
-use rtrb::{Consumer, Producer, PushError};
+use crate::numbered::{AnswersInOrder, Numbered, ToDrive, take_next};
+use crate::outputs::{OutputsOut, has_room};
+use crate::{DriveEnd, DriveIn, DriveOut};
+use rtrb::Consumer;
 use std::alloc::Global;
 use std::marker::Model;
-use std::sync::Arc;
-use std::sync::atomic::{AtomicBool, Ordering};
 
 /// The kernel's end of a ring.
 #[derive(Drop)]
 pub struct KernelEnd {
-    pub(crate) outputs: Producer<Numbered<DriveOut>, Global, OutputsInOrder>,
+    pub(crate) outputs: OutputsOut,
     pub(crate) answers: Consumer<Numbered<DriveIn>, Global, AnswersInOrder>,
-    pub(crate) end_flag: Arc<AtomicBool>,
     pub(crate) sent: u32,
     pub(crate) taken: u32,
     pub(crate) told_end: bool,
@@ -39,7 +37,7 @@ impl KernelEnd {
     /// is free.
     pub fn push(&mut self, output: Numbered<DriveOut>) -> Result<(), Numbered<DriveOut>>
         requires next { output.number ≡ length self.old.sent + 1 }
-        requires few { output.number ≤ MOST_OUTPUTS }
+        requires few { output.number ≤ 200000 }
         requires open { self.old.ended ≡ false }
         ensures sent { OnOk result (self.new ≡ record self.old {
           sent = self.old.sent ++ output.item ∷ [];
@@ -49,14 +47,12 @@ impl KernelEnd {
         ensures full { IfErr result (λ back. (back ≡ output) × (self.new ≡ self.old)) }
         ensures succeeds { 0 < self.old.free → IsOk result }
     {
-        let number = output.number;
-        match self.outputs.push(output) {
-            Ok(()) => {
-                self.sent = number;
-                Ok(())
-            }
-            Err(PushError::Full(back)) => Err(back),
+        if !has_room(&mut self.outputs) {
+            return Err(output);
         }
+        self.outputs.push_reserved(ToDrive::Output(output));
+        self.sent = output.number;
+        Ok(())
     }
 
     /// Takes the next answer, or nothing where none is there.
@@ -76,12 +72,14 @@ impl KernelEnd {
         Some(answer)
     }
 
-    /// Tells the drive that no output comes any more.
+    /// Sends the end behind the last output, for which a slot is always kept.
     pub fn end(&mut self)
         ensures { self.new ≡ record self.old { ended = true } }
     {
-        self.end_flag.store(true, Ordering::SeqCst);
-        self.told_end = true;
+        if !self.told_end {
+            self.outputs.push_reserved(ToDrive::End);
+            self.told_end = true;
+        }
     }
 
     /// How many outputs were sent and how many answers taken.

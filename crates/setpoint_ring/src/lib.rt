@@ -7,6 +7,7 @@ mod kernel_end;
 mod laws;
 mod logs;
 mod numbered;
+mod outputs;
 mod pair;
 #[cfg(test)]
 mod tests;
@@ -16,7 +17,7 @@ pub use drive_end::DriveEnd;
 pub use kernel_end::KernelEnd;
 pub use laws::{new_ends_are_beside, taken_items_are_the_first_sent};
 pub use logs::{DriveLog, KernelLog, OutList};
-pub use numbered::{AnswersInOrder, Numbered, OutputsInOrder};
+pub use numbered::{AnswersInOrder, Numbered, OutputsInOrder, ToDrive};
 pub use out_of_memory::OutOfMemory;
 pub use pair::{beside, ring};
 

@@ -3,6 +3,7 @@
 ghost use Rattle.std.specs.Prelude.{◌≡◌, ◌<◌, [], ◌∷◌, ◌++◌, IfSome, IfNone, IsSome, length};
 ghost use Rattle.rtrb.specs.Ring.{received, known_items, SameConsumer};
 
+use crate::DriveOut;
 use rtrb::{Consumer, Protocol};
 use std::alloc::Global;
 
@@ -13,10 +14,17 @@ pub struct Numbered<T> {
     pub item: T,
 }
 
-/// Outputs are numbered from 1 without a gap, up to `MOST_OUTPUTS`.
+/// What goes to the drive: the outputs, and behind the last of them the end.
+#[derive(Clone, Copy, Debug, PartialEq, Eq)]
+pub enum ToDrive {
+    Output(Numbered<DriveOut>),
+    End,
+}
+
+/// Outputs are numbered from 1 without a gap, up to 200,000, and nothing comes behind the end.
 pub struct OutputsInOrder;
 
-impl<T> Protocol<Numbered<T>> for OutputsInOrder {
+impl Protocol<ToDrive> for OutputsInOrder {
     ghost use Rattle.setpoint_ring.specs.Order.{IsNextOutput};
 
     ghost allows = { IsNextOutput };

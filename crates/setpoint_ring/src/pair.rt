@@ -2,37 +2,32 @@
 
 ghost use Rattle.std.specs.Prelude.{◌≡◌, ◌≤◌, IfOk, length};
 ghost use Rattle.setpoint_ring.specs.Beside.{AreBeside, AreNew};
+ghost use Rattle.setpoint_ring.specs.Sides.{HasEnded};
 
 use crate::numbered::{AnswersInOrder, OutputsInOrder};
-use crate::{DriveEnd, KernelEnd, MOST_OUTPUTS, MOST_ROOM, OutOfMemory};
+use crate::{DriveEnd, KernelEnd, MOST_OUTPUTS, OutOfMemory};
 use rtrb::RingBuffer;
 use std::alloc::Global;
-use std::sync::Arc;
-use std::sync::atomic::AtomicBool;
 
-/// A ring with 1 to 4,096 slots each way. Its whole room is taken here, also that for the list of
-/// what the drive's end takes: nothing else takes memory.
+/// A ring with 1 to 4,096 slots each way, and one more for the end. Its whole room is taken here,
+/// also that for the list of what the drive's end takes: nothing else takes memory.
 pub fn ring(alloc: Global, room: u32) -> Result<(KernelEnd, DriveEnd), OutOfMemory>
     requires some { 1 ≤ room }
-    requires few { room ≤ MOST_ROOM }
+    requires few { room ≤ 4096 }
     ensures { IfOk result (λ ends. AreNew room ends.0 ends.1) }
 {
     let slots = room as usize;
     let (outputs, drive_outputs) = RingBuffer::with_protocol::<Global, OutputsInOrder>(
-        alloc, slots,
+        alloc,
+        slots + 1,
     )?;
     let (drive_answers, answers) = RingBuffer::with_protocol::<Global, AnswersInOrder>(
         alloc, slots,
     )?;
-    let Ok(end_flag) = Arc::new(alloc, AtomicBool::new(false)) else {
-        return Err(OutOfMemory);
-    };
-    let drive_flag = Arc::try_clone(&end_flag)?;
     let took = Vec::with_capacity(alloc, MOST_OUTPUTS as usize)?;
     let kernel = KernelEnd {
         outputs,
         answers,
-        end_flag,
         sent: 0,
         taken: 0,
         told_end: false,
@@ -40,7 +35,6 @@ pub fn ring(alloc: Global, room: u32) -> Result<(KernelEnd, DriveEnd), OutOfMemo
     let drive = DriveEnd {
         outputs: drive_outputs,
         answers: drive_answers,
-        end_flag: drive_flag,
         took,
         sent: 0,
         last: None,
@@ -62,7 +56,9 @@ pub fn beside(kernel: &mut KernelEnd, drive: &mut DriveEnd) -> (u32, u32)
     ensures drive { drive.new ≡ record drive.old {
       waiting = drive.new.waiting;
       free = drive.new.free;
+      ended = drive.new.ended;
     } }
+    ensures all { HasEnded drive.old → drive.old.taken ≡ kernel.old.sent }
 {
     let outputs = drive.outputs_beside(kernel);
     let answers = kernel.answers_beside(drive);

@@ -189,7 +189,7 @@ fn lines(alloc: Global, text: &str) -> Result<Vec<u8>, AllocError> {
 }
 
 // The whole text with a text in place of another.
-fn changed(alloc: Global, change: &str) -> Result<Vec<u8>, Fail> {
+pub(super) fn changed(alloc: Global, change: &str) -> Result<Vec<u8>, Fail> {
     let (old, new) = change.split_once("=>").ok_or("an arrow")?;
     let old = lines(alloc, old)?;
     let new = lines(alloc, new)?;

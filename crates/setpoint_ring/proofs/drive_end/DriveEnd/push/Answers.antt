@@ -11,7 +11,8 @@ invariant_of-self c =
       sent_is = counts_put _ _ _ _ next c.in-Ok.ensures.ok.0;
       last_is = last_put _ _ _ c.in-Ok.ensures.ok.0;
       took_is = c.self.invariant.took_is;
+      going = c.self.invariant.going;
       few = c.self.invariant.few;
       reserved = c.self.invariant.reserved;
-      same_room = c.push.ensures.ring.1 ∙ c.self.invariant.same_room;
+      same_room = c.self.invariant.same_room ∙ ap (λ n. n + 1) (sym c.push.ensures.ring.1);
     }
