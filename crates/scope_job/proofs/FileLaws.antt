@@ -4,7 +4,7 @@ use Rattle.std.proofs.Common.{◌∙◌, sym, ap, subst, arith, inl, inr, ⊎_el
 use Rattle.std.proofs.lemmas.Bool.{cases_Bool, ltb-false, ltb-true}
 use Rattle.job_ends.specs.Causes.{ComesExactly, is_fault, is_told}
 use Rattle.job_ends.specs.Ends.{Content, EndsBy, EndsEarly, Found, IsFound, Longer, Unread}
-use Rattle.job_ends.specs.Files.{NoText}
+use Rattle.job_ends.specs.Files.{IsText, NoText}
 use Rattle.job_ends.specs.Follows.{FollowPlans}
 use Rattle.job_ends.specs.Plans.{Plan, plan_of_reading, too_long_plan, unread_plan}
 use Rattle.job_ends.specs.declared.status.Status.{Status}
@@ -17,7 +17,7 @@ use Rattle.trace_text.specs.TraceState.{TraceState}
 use Rattle.trace_text.specs.writing.Writes.{Output}
 use Rattle.scope_job.proofs.TraceLaws.{scope-told}
 use Rattle.scope_job.specs.Causes.{is_of_scope, status_by_text, status_in}
-use Rattle.scope_job.specs.Ends.{EndsByFile, EndsByFound, EndsByScope}
+use Rattle.scope_job.specs.Ends.{EndsByFile, EndsByFound, EndsByScope, EndsByTrace}
 use Rattle.scope_job.specs.Plans.{most_bytes, plan_of_scope, scope_plan}
 use Rattle.scope_job.specs.Scoped.{Scoped}
 
@@ -199,6 +199,20 @@ found-ended follow told rose name found old new s is e =
           (subst (λ m. IsFound m rose name most_bytes found) map is) by r w;
       kind = kind-by follow old new (plan_by name found) s by (plan-kind name found);
     }
+
+-- its text was read, and nothing written before
+pub text-ended : FollowPlans → {O : Type 0} (count : O → ℕ) (tell : O → Option (List ℕ))
+    (told : Option FileMap) (rose : Type 0) (name text read : List ℕ) (a b : O) (new : Output)
+    (s : Status) → b ≡ a → read ≡ text → IsText told name most_bytes text →
+    EndsByTrace name read (record { count = count b; told = tell b }) new s →
+    EndsByScope told rose name (record { count = count a; told = tell a }) new s
+text-ended follow {O} count tell told rose name text read a b new s same is t e =
+    let P : O → Type 0 =
+    λ o. EndsByTrace name read (record { count = count o; told = tell o }) new s in
+    let Q : List ℕ → Type 0 =
+    λ x. EndsByTrace name x (record { count = count a; told = tell a }) new s in
+    found-ended follow told rose name (Content text) _ new s (t.file, t.within)
+    (subst Q is (subst P same e))
 
 -- or there was no memory
 pub early-ended : (told : Option FileMap) (rose : Type 0) (name : List ℕ) (old new : Output)

@@ -5,12 +5,13 @@ mod worked;
 use crate::{scope, write_report};
 use outside::{MemorySink, Sink};
 use std::alloc::Global;
+use std::process::Abort;
 use std::test::Fail;
 use std::thread::Threads;
 use trace_text::read_trace;
 
 /// The text of the report of a trace, made in so many pieces.
-fn report<H: Threads + Sync>(
+fn report<H: Threads + Sync + Abort>(
     rt: &H,
     alloc: Global,
     text: &[u8],

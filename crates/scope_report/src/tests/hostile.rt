@@ -7,10 +7,19 @@ const MACHINE: &[u8] = b"kind,a,b,c,d,e,f,g,h,i,j,k
 trace,1,bench,20000,40000,,,,,,,
 axis,X,-50,50,10,4,1,0,1,,,
 task,main,,,,,,,,,,
+block,M,main,MoveAbsolute,X,,,,,,,
 ";
 
 const DRIVE: &[u8] = b"drive,X,0,OperationEnabled,0,,,,,,,
 ";
+
+const WIDEST: &[u8] = b"driven 4 least -9223372036854775808 greatest 9223372036854775807 \
+still 0 travel 55340232221128654845";
+
+// What a report tells of the axis X.
+fn told_of_axis(report: &[u8]) -> Option<&[u8]> {
+    report.strip_prefix(b"axis X ")?.strip_suffix(b"\nblock M calls 0 done 0 errors 0\n")
+}
 
 // A trace of X with these setpoints, one behind the other and over and over, in so many cycles.
 fn trace_with(alloc: Global, setpoints: &[i64], cycles: u32) -> Result<Vec<u8>, Fail> {
@@ -35,32 +44,20 @@ fn trace_with(alloc: Global, setpoints: &[i64], cycles: u32) -> Result<Vec<u8>, 
 #[test]
 fn tells_of_traces_that_no_machine_makes(rt: HostRuntime) -> Result<(), Fail> {
     let cases: [(&[i64], u32, &[u8]); 4] = [
-        (
-            &[0],
-            0,
-            b"axis X driven 0 least - greatest - still 0 travel 0\n",
-        ),
-        (
-            &[-7],
-            1,
-            b"axis X driven 1 least -7 greatest -7 still 0 travel 0\n",
-        ),
-        (
-            &[i64::MIN, i64::MAX],
-            4,
-            b"axis X driven 4 least -9223372036854775808 greatest 9223372036854775807 still 0 travel 55340232221128654845\n",
-        ),
+        (&[0], 0, b"driven 0 least - greatest - still 0 travel 0"),
+        (&[-7], 1, b"driven 1 least -7 greatest -7 still 0 travel 0"),
+        (&[i64::MIN, i64::MAX], 4, WIDEST),
         (
             &[3, 3, 1_000_000, -5],
             10_000,
-            b"axis X driven 10000 least -5 greatest 1000000 still 2500 travel 5000024992\n",
+            b"driven 10000 least -5 greatest 1000000 still 2500 travel 5000024992",
         ),
     ];
     for (setpoints, cycles, wanted) in cases {
         let text = trace_with(rt.alloc(), setpoints, cycles)?;
         for workers in [1, 3, 16] {
             let told = report(&rt, rt.alloc(), text.as_slice(), workers)?;
-            assert_eq!(rt; told.as_slice(), wanted, "{workers} workers");
+            assert_eq!(rt; told_of_axis(told.as_slice()), Some(wanted), "{workers} workers");
         }
     }
     Ok(())
