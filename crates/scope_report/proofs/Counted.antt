@@ -10,7 +10,7 @@ use Rattle.axis_state.specs.declared.definition.AxisRow.{AxisRow}
 use Rattle.fb_outputs.specs.declared.outputs.Outputs.{Outputs}
 use Rattle.motion_history.specs.Entries.{Entry, call, cycle, end_of}
 use Rattle.out_of_memory.specs.declared.OutOfMemory.{OutOfMemory}
-use Rattle.scope_report.proofs.Cutting.{take_further}
+use Rattle.scope_report.proofs.Cutting.{take-further}
 use Rattle.scope_report.proofs.Merged.{part-append}
 use Rattle.scope_report.specs.Counting.{CanAdd, HasOneMore, added, counts_of}
 use Rattle.scope_report.specs.Cuts.{between_cuts}
@@ -228,6 +228,6 @@ piece-there P made k r p at ok h = subst (λ x. IfOk x P) (sym at ∙ ok) h
 pub pieces-few : (a b : ℕ) (es : List Entry) → a ≤ b → length es < 2 ^ 64 →
     length (take a es) + length (between_cuts a b es) < 2 ^ 64
 pieces-few a b es le few =
-    let e = ap length (take_further a b es le) in
+    let e = ap length (take-further a b es le) in
     let l = length-append (take a es) (between_cuts a b es) in
     grind (arith, common_steps)

@@ -8,31 +8,37 @@ use Rattle.std.proofs.lemmas.Grind.{common_steps}
 use Rattle.scope_report.specs.Cuts.{cut_at, between_cuts}
 
 -- up to a later place there are the items up to an earlier one, and then those between
-pub take_further : {X : Type 0} (a b : ℕ) (xs : List X) → a ≤ b → take b xs ≡ take a xs ++ between_cuts a b xs
-take_further a b xs le =
+pub take-further : {X : Type 0} (a b : ℕ) (xs : List X) → a ≤ b →
+    take b xs ≡ take a xs ++ between_cuts a b xs
+take-further a b xs le =
     let e : b ≡ a + (b - a) = omega arith in
     ap (λ n. take n xs) e ∙ take-add a (b - a) xs
 
 -- one place further there is one item more
-pub cut_more : {X : Type 0} (from place : ℕ) (xs : List X) (d : X) → from ≤ place → place < length xs → between_cuts from (place + 1) xs ≡ between_cuts from place xs ++ get_or xs place d ∷ []
-cut_more from place xs d le lt = grind (arith, common_steps, take_more (drop from xs) (place - from) d)
+pub cut-more : {X : Type 0} (from place : ℕ) (xs : List X) (d : X) → from ≤ place →
+    place < length xs →
+    between_cuts from (place + 1) xs ≡ between_cuts from place xs ++ get_or xs place d ∷ []
+cut-more from place xs d le lt =
+    grind (arith, common_steps, take_more (drop from xs) (place - from) d)
 
 -- a later piece begins no earlier
-pub cut_further : (n w k : ℕ) → 0 < w → cut_at n w k ≤ cut_at n w (k + 1)
-cut_further n w k some = (le-div_iff_mul-le some).1 (let h = div-mul-le_self (n * k) w in grind arith)
+pub cut-further : (n w k : ℕ) → 0 < w → cut_at n w k ≤ cut_at n w (k + 1)
+cut-further n w k some =
+    (le-div_iff_mul-le some).1 (let h = div-mul-le_self (n * k) w in grind arith)
 
 -- the last piece ends at the end
-pub cut_last : (n w : ℕ) → 0 < w → cut_at n w w ≡ n
-cut_last n w some = mul-div_left n some
+pub cut-last : (n w : ℕ) → 0 < w → cut_at n w w ≡ n
+cut-last n w some = mul-div_left n some
 
 -- an item that is there
-pub there : {X : Type 0} (xs : List X) (i : ℕ) (d : X) → i < length xs → slice_get xs i ≡ Some (get_or xs i d)
-there (x ∷ xs) zero d lt = refl
-there (x ∷ xs) (suc i) d lt = there xs i d (omega arith)
-there [] i d lt = absurd (omega arith)
+pub item-there : {X : Type 0} (xs : List X) (i : ℕ) (d : X) → i < length xs →
+    slice_get xs i ≡ Some (get_or xs i d)
+item-there (x ∷ xs) zero d lt = refl
+item-there (x ∷ xs) (suc i) d lt = item-there xs i d (omega arith)
+item-there [] i d lt = absurd (omega arith)
 
-pub some_is : {X : Type 0} (a b : X) → Some a ≡ Some b → a ≡ b
-some_is a b e = cc
+pub some-is : {X : Type 0} (a b : X) → Some a ≡ Some b → a ≡ b
+some-is a b e = cc
 
-pub none_is_not : {X : Type 0} (a : X) → None ≡ Some a → ⊥
-none_is_not a e = absurd (cc)
+pub none-is-not : {X : Type 0} (a : X) → None ≡ Some a → ⊥
+none-is-not a e = absurd (cc)

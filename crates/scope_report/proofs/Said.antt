@@ -9,6 +9,7 @@ use Rattle.axis_state.specs.declared.definition.AxisRow.{AxisRow}
 use Rattle.motion_history.specs.Entries.{Entry}
 use Rattle.motion_history.specs.declared.config.BlockDef.{BlockDef}
 use Rattle.trace_text.specs.TraceState.{TraceState, entries_of}
+use Rattle.scope_report.proofs.Cutting.{none-is-not, some-is}
 use Rattle.scope_report.specs.Laws.{AreNeighbours, IsGreatest, IsLeast, SaysOfAxis, SaysOfEach, SaysOfRows}
 use Rattle.scope_report.specs.Replies.{replies_of}
 use Rattle.scope_report.specs.Reports.{axis_report_of, axis_reports_from, block_report_of, block_reports_from}
@@ -108,12 +109,6 @@ neighbours-are (x ∷ xs) = record {
 }
 
 -- ---- reports at their places
-
-some-is : {X : Type 0} (a b : X) → Some a ≡ Some b → a ≡ b
-some-is a b e = cc
-
-none-is-not : {X : Type 0} (a : X) → None ≡ Some a → ⊥
-none-is-not a e = absurd (cc)
 
 axis-at : (k : ℕ) (ds : List AxisDef) (es : List Entry) (a : ℕ) (def : AxisDef) (r : AxisReport) →
     slice_get ds a ≡ Some def → slice_get (axis_reports_from k ds es) a ≡ Some r →

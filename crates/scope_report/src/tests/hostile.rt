@@ -18,7 +18,9 @@ still 0 travel 55340232221128654845";
 
 // What a report tells of the axis X.
 fn told_of_axis(report: &[u8]) -> Option<&[u8]> {
-    report.strip_prefix(b"axis X ")?.strip_suffix(b"\nblock M calls 0 done 0 errors 0\n")
+    report
+        .strip_prefix(b"axis X ")?
+        .strip_suffix(b"\nblock M calls 0 done 0 errors 0\n")
 }
 
 // A trace of X with these setpoints, one behind the other and over and over, in so many cycles.
@@ -57,7 +59,11 @@ fn tells_of_traces_that_no_machine_makes(rt: HostRuntime) -> Result<(), Fail> {
         let text = trace_with(rt.alloc(), setpoints, cycles)?;
         for workers in [1, 3, 16] {
             let told = report(&rt, rt.alloc(), text.as_slice(), workers)?;
-            assert_eq!(rt; told_of_axis(told.as_slice()), Some(wanted), "{workers} workers");
+            assert_eq!(rt;
+                told_of_axis(told.as_slice()),
+                Some(wanted),
+                "{workers} workers"
+            );
         }
     }
     Ok(())

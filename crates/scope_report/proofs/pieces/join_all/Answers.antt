@@ -1,9 +1,10 @@
+-- Each piece is put behind those before it, and the last one ends at the end.
 use Rattle.std.proofs.Common.{◌≡◌, ◌+◌, ◌<◌, ◌≤◌, ◌^◌, ℕ, length, take, ap, sym, subst, ◌∙◌, arith}
 use Rattle.std.proofs.lemmas.List.{take_all}
 use Rattle.trace_text.specs.TraceState.{entries_of}
 use Rattle.scope_report.specs.Cuts.{between_cuts, cut_at}
 use Rattle.scope_report.specs.Pieces.{IsPieceOf, piece_of}
-use Rattle.scope_report.proofs.Cutting.{cut_further, cut_last, take_further}
+use Rattle.scope_report.proofs.Cutting.{cut-further, cut-last, take-further}
 use Rattle.scope_report.proofs.Counted.{can-merge, can-sum, piece-there, pieces-few, pieces-join}
 use Rattle.scope_report.proofs.pieces.join_all.Goals as goal
 
@@ -18,7 +19,7 @@ join-requires-clause-merge c =
     c.piece-item.is c.in-Ok.is (c.requires.each k r within) in
     can-merge (length t.config.axes) (length t.config.blocks) (take a es) (between_cuts a b es) _ _
     c.loop-piece.invariant h
-    (pieces-few a b es (cut_further (length es) w k c.requires.some) (omega arith))
+    (pieces-few a b es (cut-further (length es) w k c.requires.some) (omega arith))
 
 pub join-requires-clause-sum : goal.join-requires-clause-sum
 join-requires-clause-sum c =
@@ -31,7 +32,7 @@ join-requires-clause-sum c =
     c.piece-item.is c.in-Ok.is (c.requires.each k r within) in
     can-sum (length t.config.axes) (length t.config.blocks) (take a es) (between_cuts a b es) _ _
     c.loop-piece.invariant h
-    (pieces-few a b es (cut_further (length es) w k c.requires.some) (omega arith))
+    (pieces-few a b es (cut-further (length es) w k c.requires.some) (omega arith))
 
 pub loop-piece-preserved : goal.loop-piece-preserved
 loop-piece-preserved c =
@@ -43,7 +44,7 @@ loop-piece-preserved c =
     let h = piece-there (IsPieceOf t.config (piece_of t w k)) c.args.pieces.now k r c.in-Ok.piece
     c.piece-item.is c.in-Ok.is (c.requires.each k r within) in
     subst (λ l. IsPieceOf t.config l c.join.new.self)
-    (sym (take_further a b es (cut_further (length es) w k c.requires.some)))
+    (sym (take-further a b es (cut-further (length es) w k c.requires.some)))
     (pieces-join (length t.config.axes) (length t.config.blocks) (take a es) (between_cuts a b es)
     _ _ _ c.loop-piece.invariant h c.join.ensures.axes c.join.ensures.blocks)
 
@@ -54,5 +55,5 @@ returns c =
     omega (arith, c.loop-piece-test.false, c.loop-piece.auto.piece-index-end, c.requires.len) in
     subst (λ l. IsPieceOf t.config l c.loop-piece.so_far)
     (ap (λ i. take (cut_at (length es) w i) es) k
-    ∙ ap (λ i. take i es) (cut_last (length es) w c.requires.some)
+    ∙ ap (λ i. take i es) (cut-last (length es) w c.requires.some)
     ∙ take_all (length es) es (omega arith)) c.loop-piece.invariant
