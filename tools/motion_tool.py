@@ -1,4 +1,5 @@
-"""What the tools that turn a trace into another text have in common: options, units, statuses."""
+"""What the tools that turn a trace or a report into another text have in common: options, units,
+statuses."""
 
 import argparse
 import sys
@@ -12,12 +13,12 @@ ends with 0; with 2 where an option is faulty, with 3 where the text is no trace
 it until then is written), with 4 where it can't be read, with 6 where writing fails"""
 
 
-def options_of(description):
+def options_of(description, text="trace", epilog=STATUSES):
     """A parser of the options that all such tools have."""
     parser = argparse.ArgumentParser(
-        description=description, epilog=STATUSES,
+        description=description, epilog=epilog,
         formatter_class=argparse.RawDescriptionHelpFormatter)
-    parser.add_argument("trace", help="the file with the trace; - is the standard input")
+    parser.add_argument(text, help=f"the file with the {text}; - is the standard input")
     parser.add_argument("--scale", metavar="AXIS=NUMBERunit", action="append", default=[],
                         type=scale, help="how much an internal unit of the axis is, as X=0.001mm; "
                         "without AXIS= it is for every axis that has none of its own. Left out, "
@@ -40,25 +41,37 @@ def cycle_length(text):
     return int(text)
 
 
-def units_of(options, trace):
-    """The units that are asked for; each scale's axis has to be there."""
+def scales_of(options, names, text="trace"):
+    """The scales that are asked for, by the names of axes; each of these has to be there."""
     scales = dict(options.scale)
-    axes = {axis.name for axis in trace.machine.axes}
     for name in scales:
-        if name and name not in axes:
-            raise LookupError(f"--scale {name}: the trace has no axis {name}")
-    return Units(scales, options.cycle_us)
+        if name and name not in names:
+            raise LookupError(f"--scale {name}: the {text} has no axis {name}")
+    return scales
+
+
+def units_of(options, trace):
+    """The units that are asked for."""
+    names = {axis.name for axis in trace.machine.axes}
+    return Units(scales_of(options, names), options.cycle_us)
 
 
 def run(name, options, write):
     """Calls `write(trace, units, output)` with what the options ask for, and tells the status."""
-    try:
+    def turn():
         trace = Trace(lines_of(options.trace))
         write(trace, units_of(options, trace), sys.stdout)
+    return ended(name, options.trace, turn)
+
+
+def ended(name, source, turn, refusal=TraceError):
+    """Calls `turn()`, tells its fault if it has one, and gives the status."""
+    try:
+        turn()
         sys.stdout.flush()
         return READ
-    except TraceError as error:
-        return tell(name, f"refused {options.trace}: {error}", REFUSED)
+    except refusal as error:
+        return tell(name, f"refused {source}: {error}", REFUSED)
     except ReadFault as error:
         return tell(name, str(error), UNREADABLE)
     except LookupError as error:

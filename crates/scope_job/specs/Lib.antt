@@ -1,0 +1,4 @@
+pub mod Plans
+pub mod Causes
+pub mod Scoped
+pub mod Ends

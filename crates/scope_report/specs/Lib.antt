@@ -1,0 +1,13 @@
+pub mod Rows
+pub mod Setpoints
+pub mod Replies
+pub mod Reports
+pub mod Lines
+pub mod Laws
+pub mod Parts
+pub mod Merging
+pub mod Inside
+pub mod Counting
+pub mod Joining
+pub mod Cuts
+pub mod Pieces
