@@ -1,0 +1,21 @@
+-- Laws of switches. This project's profile.
+use Rattle.std.specs.Prelude.{◌≡◌, ◌↔◌, ℕ, zero, suc, true, ℤ, Some, List, slice_get}
+use Rattle.axis_state.specs.declared.definition.AxisRow.{AxisRow}
+use Rattle.cam_switch.specs.Edges.{edge_of}
+use Rattle.cam_switch.specs.Switches.{IsOn, is_on}
+use Rattle.cam_switch.specs.Watches.{edge_after, watch_after, watch_at, watch_of}
+use Rattle.cam_switch.specs.declared.switch.Switch.{Switch}
+
+-- a switch is on behind setpoints exactly where there is one since which it is
+abbrev pub OnIsAsSaid : Type 0
+OnIsAsSaid = (s : Switch) → (column : List ℤ) → (is_on s column ≡ true) ↔ IsOn s column
+
+-- a switch goes on by one cycle more to where it is behind it, with its edge there
+pub record WatchesGoOn : Type 0 where
+  pub first : (cycles : List (List AxisRow)) → (s : Switch) → watch_at cycles zero s ≡ watch_of s
+  pub next : (cycles : List (List AxisRow)) → (k : ℕ) → (rows : List AxisRow) → (s : Switch) →
+      slice_get cycles k ≡ Some rows →
+      watch_after rows (watch_at cycles k s) ≡ watch_at cycles (suc k) s
+  pub edges : (cycles : List (List AxisRow)) → (k : ℕ) → (rows : List AxisRow) → (s : Switch) →
+      slice_get cycles k ≡ Some rows →
+      edge_after (suc k) rows (watch_at cycles k s) ≡ edge_of cycles k s

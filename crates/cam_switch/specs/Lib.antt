@@ -1,0 +1,5 @@
+pub mod Switches
+pub mod Columns
+pub mod Edges
+pub mod Watches
+pub mod Laws

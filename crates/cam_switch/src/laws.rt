@@ -1,0 +1,15 @@
+// Laws of switches: each is the contract of a function that does nothing.
+
+ghost use Rattle.cam_switch.specs.Laws.{OnIsAsSaid, WatchesGoOn};
+
+/// A switch is on behind setpoints exactly where one of them lies inside by the hysteresis, and it
+/// and all behind it lie within. Nothing runs.
+pub fn on_is_as_said()
+    ensures { OnIsAsSaid }
+{}
+
+/// Switches behind the cycles so far go on by the rows of the next to where they are behind it, and
+/// their edges there are those of the definition. Nothing runs.
+pub fn watches_go_on()
+    ensures { WatchesGoOn }
+{}

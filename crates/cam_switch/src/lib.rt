@@ -1,0 +1,13 @@
+//! Digital cam switches: where each is on, by the setpoints of its axis, and its edges.
+#![tactic(auto)]
+
+mod edge;
+mod laws;
+mod switch;
+mod watch;
+
+pub use axis_state::{AxisRow, Name};
+pub use edge::Edge;
+pub use laws::{on_is_as_said, watches_go_on};
+pub use switch::{MOST_PLACE, MOST_SWITCHES, Switch, is_switch};
+pub use watch::Watch;

@@ -1,0 +1,2 @@
+pub mod SpelledSwitches
+pub mod EdgeLaws
