@@ -1,9 +1,7 @@
 -- Events made one after another.
-use Rattle.std.proofs.Common.{◌≡◌, List, [], ◌∷◌, ◌++◌, length, drop, refl, ap, sym, ◌∙◌}
+use Rattle.std.proofs.Common.{◌≡◌, List, [], ◌∷◌, ◌++◌, refl}
 use Rattle.motion_kernel.specs.KernelState.{KernelState}
-use Rattle.motion_history.specs.Setup.{Setup}
-use Rattle.hot_standby.specs.Events.{AreFit, IsFit, kernel_after, kernel_after_all, opened}
-use Rattle.hot_standby.specs.Strangers.{IsFirstStranger}
+use Rattle.hot_standby.specs.Events.{AreFit, IsFit, kernel_after, kernel_after_all}
 use Rattle.hot_standby.specs.declared.event.FedEvent.{FedEvent}
 
 -- the kernel after events and further ones

@@ -18,8 +18,10 @@ const NO_OUTPUT: DriveOut = DriveOut {
 
 // Makes an event, where it fits the kernel.
 pub(crate) fn try_make(kernel: &mut Kernel, event: &FedEvent) -> bool
-    ensures fit { IsTrue result → IsFit kernel.old event.now × (kernel.new ≡ kernel_after kernel.old event.now) }
-    ensures stranger { IsFalse result → (IsFit kernel.old event.now → ⊥) × (kernel.new ≡ kernel.old) }
+    ensures fit { IsTrue result →
+        IsFit kernel.old event.now × (kernel.new ≡ kernel_after kernel.old event.now) }
+    ensures stranger { IsFalse result →
+        (IsFit kernel.old event.now → ⊥) × (kernel.new ≡ kernel.old) }
 {
     if !fits(kernel, event) {
         return false;

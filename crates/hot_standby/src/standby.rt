@@ -52,6 +52,7 @@ impl Standby {
     /// breaks a condition of the kernel's call, is handed out, and the kernel stays as it was.
     pub fn take(&mut self) -> Fed
         ensures takes { Takes self.old self.new result }
+        ensures ring { self.new.ring ≡ self.old.ring }
         ensures succeeds { 0 < length self.old.waiting → result ≢ Fed.Empty }
     {
         let Some(event) = take_next(&mut self.ring) else {
