@@ -1,0 +1,9 @@
+pub mod Events
+pub mod Strangers
+pub mod Sides
+pub mod Beside
+pub mod Takes
+pub mod Followers
+pub mod Inside
+pub mod Alike
+pub mod Primary

@@ -1,0 +1,62 @@
+// A standby that follows a kernel, for so many events.
+
+ghost use Rattle.std.specs.Prelude.{◌≡◌};
+ghost use Rattle.hot_standby.specs.Alike.{AreAlike, IsBehind, IsLike, IsLikeIfAny};
+ghost use Rattle.hot_standby.specs.Events.{IsFit, kernel_after};
+
+use crate::event::FedEvent;
+use crate::feed::Feed;
+use crate::standby::Standby;
+use motion_kernel::Kernel;
+
+/// A standby with its feed, that follows for so many events more.
+#[derive(Drop)]
+pub struct Follower {
+    pub(crate) feed: Feed,
+    pub(crate) standby: Standby,
+    pub(crate) left: u32,
+}
+
+// Feeds an event that the kernel made. Behind the last event the standby's kernel takes the place
+// of the kernel, which is given up.
+pub(crate) fn follow(
+    mut follower: Follower,
+    kernel: &mut Kernel,
+    event: &FedEvent,
+) -> Option<Follower>
+    requires { IsBehind follower kernel.old event.now }
+    ensures same { kernel.new ≡ kernel.old }
+    ensures like { IsLikeIfAny result kernel.new }
+{
+    pass(&mut follower.feed, &mut follower.standby, event);
+    if follower.left > 1 {
+        follower.left -= 1;
+        return Some(follower);
+    }
+    switch_over(follower, kernel);
+    None
+}
+
+// The standby's kernel takes the place of the kernel, which is given up.
+pub(crate) fn switch_over(follower: Follower, kernel: &mut Kernel)
+    requires { IsLike follower kernel.old }
+    ensures { kernel.new ≡ kernel.old }
+{
+    let Follower { feed, standby, .. } = follower;
+    match standby.promote(feed) {
+        Ok(second) => *kernel = second,
+        Err(_) => unreachable!(),
+    }
+}
+
+// Passes an event that fits through the ring: the standby's kernel is then the one after it.
+fn pass(feed: &mut Feed, standby: &mut Standby, event: &FedEvent)
+    requires fit { IsFit standby.old.kernel event.now }
+    requires alike { AreAlike standby.old.kernel feed.old standby.old }
+    ensures { AreAlike (kernel_after standby.old.kernel event.now) feed.new standby.new }
+{
+    standby.beside(feed);
+    let _ = feed.push(*event);
+    standby.beside(feed);
+    let _ = standby.take();
+}

@@ -1,0 +1,27 @@
+//! Hot standby: a second kernel makes the events of a first, which come to it through a ring, and
+//! takes its place with nothing lost.
+#![tactic(auto)]
+
+mod event;
+mod feed;
+mod fits;
+mod follower;
+mod laws;
+mod making;
+mod opening;
+mod primary;
+mod standby;
+#[cfg(test)]
+mod tests;
+
+pub use event::{Fed, FedEvent};
+pub use feed::{Feed, FeedLog};
+pub use laws::{followers_are_legal, taken_events_are_the_first_pushed};
+pub use motion_kernel::{Config, DriveIn, DriveOut, Inputs, Kernel, Outputs};
+pub use opening::open_standby;
+pub use out_of_memory::OutOfMemory;
+pub use primary::PrimaryKernel;
+pub use standby::Standby;
+
+/// How many slots the ring of a standby has at most.
+pub const MOST_ROOM: u32 = 4_096;
