@@ -64,6 +64,10 @@ told (Scope trace workers) = record {
   hands = shared (non_zero_u8_get workers);
 }
 
+-- what is asked, as the code has it
+abbrev pub request_told : code.Request → Request
+request_told r = (told r).request
+
 -- a word that may stand in a request: it is not empty, and does not begin with `-`
 unfoldable pub is_plain : List ℕ → Bool
 is_plain [] = false

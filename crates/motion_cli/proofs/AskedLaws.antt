@@ -1,6 +1,7 @@
 -- How the program ends by what was asked, as the code has it.
-use Rattle.std.specs.Prelude.{◌≡◌, ℕ, Option, Some}
-use Rattle.std.proofs.Common.{subst, sym}
+use Rattle.std.specs.Prelude.{◌≡◌, ℕ, Option, Some, None}
+use Rattle.std.specs.Option.{option_map}
+use Rattle.std.proofs.Common.{ap, subst, sym}
 use Rattle.command_words.specs.Requests as spec
 use Rattle.command_words.specs.declared.request.Request as code
 use Rattle.job_ends.specs.declared.status.Status.{Status}
@@ -10,7 +11,13 @@ use Rattle.motion_cli.specs.Ends.{EndsByRequest}
 
 pub asked-as : (told : Option FileMap) (rose refused : Type 0) (Started : ℕ → Type 0)
     (r q : code.Request) (old new : Output) (s : Status) → r ≡ q →
-    EndsByRequest told rose refused Started (Some (spec.told q)) old new s →
-    EndsByRequest told rose refused Started (Some (spec.told r)) old new s
+    EndsByRequest told rose refused Started (Some (spec.request_told q)) old new s →
+    EndsByRequest told rose refused Started (Some (spec.request_told r)) old new s
 asked-as told rose refused Started r q old new s is e =
-    subst (λ a. EndsByRequest told rose refused Started (Some (spec.told a)) old new s) (sym is) e
+    subst (λ a. EndsByRequest told rose refused Started (Some (spec.request_told a)) old new s) (sym is) e
+
+-- what is asked, of the request with its hands
+pub request-told : (x : Option code.Request) (a : Option spec.Asked) → option_map spec.told x ≡ a →
+    option_map spec.request_told x ≡ option_map (λ (b : spec.Asked). b.request) a
+request-told None a is = ap (option_map (λ (b : spec.Asked). b.request)) is
+request-told (Some r) a is = ap (option_map (λ (b : spec.Asked). b.request)) is

@@ -1,7 +1,7 @@
 -- Each status comes of its cause, whatever was asked.
 use Rattle.std.specs.Prelude.{◌≡◌, ◌≢◌, ◌⊎◌, refl, ℕ, true, false, Option, Some, None, IsSome, IsSomeAnd, Err, List}
 use Rattle.std.specs.Option.{option_and_then}
-use Rattle.std.proofs.Common.{◌∙◌, inl, inr, sym, ap}
+use Rattle.std.proofs.Common.{◌∙◌, inl, inr, sym, ap, subst}
 use Rattle.bench_job.specs.Causes.{BenchCause, HasRoomFor}
 use Rattle.job_ends.specs.Causes.{ComesExactly, is_fault, is_told}
 use Rattle.job_ends.specs.Ends.{EndsBy, EndsEarly}
@@ -15,10 +15,12 @@ use Rattle.run_job.specs.Causes.{is_of_run}
 use Rattle.trace_text.specs.writing.Writes.{Output}
 use Rattle.motion_cli.proofs.FileLaws.{found-comes, found-long}
 use Rattle.motion_cli.proofs.PlanLaws.{comes, faulted, not-told, same-cause, told-unfaulted}
-use Rattle.motion_cli.specs.Causes.{Asks, AsksRun, HasRoom, IsDone, IsRefused, IsTooLong, LeadsTo}
+use Rattle.motion_cli.proofs.ReportLaws.{no-report, or-report}
+use Rattle.motion_cli.specs.Causes.{Asks, AsksRun, HasRoom, IsDone, IsIllegal, IsRefused, IsTooLong, LeadsTo}
 use Rattle.motion_cli.specs.Ends.{EndsByRequest}
 use Rattle.motion_cli.specs.Plans.{usage_plan}
-use Rattle.command_words.specs.Requests.{FileJob, Request, file_of, files_of, load_of, of_file, of_load, of_run}
+use Rattle.motion_cli.specs.Reports.{AsksReport, is_of_report}
+use Rattle.command_words.specs.Requests.{FileJob, Request, file_of, files_of, load_of, of_file, of_load, of_report, of_run, told_report}
 use Rattle.command_words.specs.declared.request.Job.{Job}
 use Rattle.command_words.specs.declared.request.Job.TheVariants.{Bench, Check, Migrate}
 
@@ -45,29 +47,37 @@ pub told-comes : FollowPlans → (files : FileMap) (rose refused : Type 0) (Star
     (asked : Option Request) (old new : Output) (s wanted : Status) →
     EndsByRequest (Some files) rose refused Started asked old new s → is_told wanted ≡ true →
     (option_and_then files_of asked ≡ None) ⊎ (is_of_run wanted ≡ false) →
+    (option_and_then told_report asked ≡ None) ⊎ (is_of_report wanted ≡ false) →
     ComesExactly s wanted (Asks (LeadsTo wanted) files (option_and_then file_of asked) ⊎
     IsSomeAnd (option_and_then load_of asked) (λ n. LoadCause wanted))
-told-comes follow files rose refused Started None old new s wanted e t apart =
+told-comes follow files rose refused Started None old new s wanted e t apart plain =
     let other = not-told wanted status.Usage t refl in
     same-cause s wanted (status.Usage ≡ wanted) _ (λ h. absurd (other (sym h)))
     (λ h. absurd (first-alone ⊥ h))
     (follow.comes old new usage_plan s wanted e (told-unfaulted wanted t))
-told-comes follow files rose refused Started (Some (of_file r)) old new s wanted (inl e) t apart =
+told-comes follow files rose refused Started (Some (of_file r)) old new s wanted (inl e) t apart plain =
     same-cause s wanted _ _ (λ h. inl h)
     (first-alone (IsSomeAnd (files r.name) (LeadsTo wanted r.job)))
     (found-comes follow files rose r old new s wanted t e.found e.is_found e.ends)
-told-comes follow files rose refused Started (Some (of_file r)) old new s wanted (inr e) t apart =
+told-comes follow files rose refused Started (Some (of_file r)) old new s wanted (inr e) t apart plain =
     faulted s wanted _ (told-unfaulted wanted t) (ap is_fault e.status)
-told-comes follow files rose refused Started (Some (of_run r)) old new s wanted e t (inl none) =
+told-comes follow files rose refused Started (Some (of_run r)) old new s wanted e t (inl none) plain =
     absurd (not-asked r none)
-told-comes follow files rose refused Started (Some (of_run r)) old new s wanted e t (inr n) =
+told-comes follow files rose refused Started (Some (of_run r)) old new s wanted e t (inr n) plain =
     record {
       only = λ h. absurd (no-run s wanted e.kind n h);
       always = λ h. absurd (first-alone ⊥ h);
     }
-told-comes follow files rose refused Started (Some (of_load seed)) old new s wanted e t apart =
+told-comes follow files rose refused Started (Some (of_load seed)) old new s wanted e t apart plain =
     same-cause s wanted _ _ (λ h. inr h) (second-alone (LoadCause wanted))
     (comes follow old new (load_plan seed) LoadCause s e.by wanted (told-unfaulted wanted t))
+told-comes follow files rose refused Started (Some (of_report r)) old new s wanted e t apart
+    (inl none) = absurd (not-asked r none)
+told-comes follow files rose refused Started (Some (of_report r)) old new s wanted e t apart
+    (inr n) = record {
+      only = λ h. absurd (no-report (Some files) rose r old new s wanted e n h);
+      always = λ h. absurd (first-alone ⊥ h);
+    }
 
 -- so it is with a status that no load has
 no-load : (A B : Type 0) (o : Option ℕ) → (B → ⊥) → A ⊎ IsSomeAnd o (λ n. B) → A
@@ -80,10 +90,12 @@ pub file-comes : FollowPlans → (files : FileMap) (rose refused : Type 0) (Star
     EndsByRequest (Some files) rose refused Started asked old new s → is_told wanted ≡ true →
     (LoadCause wanted → ⊥) →
     (option_and_then files_of asked ≡ None) ⊎ (is_of_run wanted ≡ false) →
+    (option_and_then told_report asked ≡ None) ⊎ (is_of_report wanted ≡ false) →
     ComesExactly s wanted (Asks (LeadsTo wanted) files (option_and_then file_of asked))
 file-comes follow files rose refused Started asked old new s wanted e t none apart =
     same-cause s wanted _ _ (no-load _ (LoadCause wanted) (option_and_then load_of asked) none)
-    (λ h. inl h) (told-comes follow files rose refused Started asked old new s wanted e t apart)
+    (λ h. inl h) (told-comes follow files rose refused Started asked old new s wanted e t apart
+    plain)
 
 -- a load always has its cause to end with Ok
 load-some : (A : Type 0) (o : Option ℕ) → A ⊎ IsSomeAnd o (λ n. LoadCause status.Ok) → A ⊎ IsSome o
@@ -97,15 +109,52 @@ some-load A None (inr h) = absurd (let bad : false ≡ true = h in cc)
 some-load A (Some n) (inr h) = inr tt
 
 -- Ok
+ok-plain : FollowPlans → (files : FileMap) (rose refused : Type 0) (Started : ℕ → Type 0)
+    (asked : Option Request) (old new : Output) (s : Status) →
+    EndsByRequest (Some files) rose refused Started asked old new s →
+    option_and_then files_of asked ≡ None → option_and_then told_report asked ≡ None →
+    ComesExactly s status.Ok
+    (Asks IsDone files (option_and_then file_of asked) ⊎ IsSome (option_and_then load_of asked))
+ok-plain follow files rose refused Started asked old new s e none plain =
+    same-cause s status.Ok _ _ (load-some _ (option_and_then load_of asked))
+    (some-load _ (option_and_then load_of asked))
+    (told-comes follow files rose refused Started asked old new s status.Ok e refl (inl none)
+    (inl plain))
+
+-- words that ask for a report ask for no file, no load and no run
+nothing : ⊥ ⊎ IsSome {A = ℕ} None → ⊥
+nothing (inl h) = h
+nothing (inr h) = let bad : false ≡ true = h in cc
+
+neither : (A B : Type 0) → (A → ⊥) → (B → ⊥) → A ⊎ B → ⊥
+neither A B a b (inl h) = a h
+neither A B a b (inr h) = b h
+
 pub ok-comes : FollowPlans → (files : FileMap) (rose refused : Type 0) (Started : ℕ → Type 0)
     (asked : Option Request) (old new : Output) (s : Status) →
     EndsByRequest (Some files) rose refused Started asked old new s →
     option_and_then files_of asked ≡ None → ComesExactly s status.Ok
-    (Asks IsDone files (option_and_then file_of asked) ⊎ IsSome (option_and_then load_of asked))
+    ((Asks IsDone files (option_and_then file_of asked) ⊎ IsSome (option_and_then load_of asked)) ⊎
+    AsksReport status.Ok files (option_and_then told_report asked))
 ok-comes follow files rose refused Started asked old new s e none =
-    same-cause s status.Ok _ _ (load-some _ (option_and_then load_of asked))
-    (some-load _ (option_and_then load_of asked))
-    (told-comes follow files rose refused Started asked old new s status.Ok e refl (inl none))
+    or-report files rose refused Started asked old new s status.Ok _ e refl
+    (λ plain. ok-plain follow files rose refused Started asked old new s e none plain)
+    (λ r is. subst (λ a. Asks IsDone files (option_and_then file_of a) ⊎
+    IsSome (option_and_then load_of a) → ⊥) (sym is) nothing)
+
+-- Illegal
+pub illegal-comes : FollowPlans → (files : FileMap) (rose refused : Type 0)
+    (Started : ℕ → Type 0) (asked : Option Request) (old new : Output) (s : Status) (place : ℕ) →
+    EndsByRequest (Some files) rose refused Started asked old new s →
+    ComesExactly s (status.Illegal place)
+    (Asks (IsIllegal place) files (option_and_then file_of asked) ⊎
+    AsksReport (status.Illegal place) files (option_and_then told_report asked))
+illegal-comes follow files rose refused Started asked old new s place e =
+    or-report files rose refused Started asked old new s (status.Illegal place) _ e refl
+    (λ plain. file-comes follow files rose refused Started asked old new s (status.Illegal place) e
+    refl (λ h. h) (inr refl) (inl plain))
+    (λ r is. subst (λ a. Asks (IsIllegal place) files (option_and_then file_of a) → ⊥) (sym is)
+    (λ h. h))
 
 -- what tells of a text comes of a file, or of the files of a run
 text-only : (s wanted : Status) (A B : Type 0) → ComesExactly s wanted A → (B → ⊥) →
@@ -125,54 +174,92 @@ run-only s wanted A B e none = same-cause s wanted B (A ⊎ B) (λ h. inr h) (λ
     only (inr h) = h
 
 -- TextRefused
-pub refused-comes : FollowPlans → (files : FileMap) (rose refused : Type 0)
+refused-plain : FollowPlans → (files : FileMap) (rose refused : Type 0)
     (Started : ℕ → Type 0) (asked : Option Request) (old new : Output) (s : Status) (word : ℕ)
     (r : TextRefused) → EndsByRequest (Some files) rose refused Started asked old new s →
+    option_and_then told_report asked ≡ None →
     ComesExactly s (status.TextRefused word r.place r.rule)
     (Asks (IsRefused word r) files (option_and_then file_of asked) ⊎
     AsksRun (λ x. x ≡ Err (status.TextRefused word r.place r.rule)) files
     (option_and_then files_of asked))
-refused-comes follow files rose refused Started None old new s word r e =
+refused-plain follow files rose refused Started None old new s word r e plain =
     text-only s _ _ _ (file-comes follow files rose refused Started None old new s
-    (status.TextRefused word r.place r.rule) e refl (λ h. h) (inl refl)) (λ h. h)
-refused-comes follow files rose refused Started (Some (of_file q)) old new s word r e =
+    (status.TextRefused word r.place r.rule) e refl (λ h. h) (inl refl)
+    (inl refl)) (λ h. h)
+refused-plain follow files rose refused Started (Some (of_file q)) old new s word r e plain =
     text-only s _ _ _ (file-comes follow files rose refused Started (Some (of_file q)) old new s
-    (status.TextRefused word r.place r.rule) e refl (λ h. h) (inl refl)) (λ h. h)
-refused-comes follow files rose refused Started (Some (of_run q)) old new s word r e =
+    (status.TextRefused word r.place r.rule) e refl (λ h. h) (inl refl)
+    (inl refl)) (λ h. h)
+refused-plain follow files rose refused Started (Some (of_run q)) old new s word r e plain =
     run-only s _ _ _ (e.of_text files (status.TextRefused word r.place r.rule) refl refl) (λ h. h)
-refused-comes follow files rose refused Started (Some (of_load seed)) old new s word r e =
+refused-plain follow files rose refused Started (Some (of_load seed)) old new s word r e plain =
     text-only s _ _ _ (file-comes follow files rose refused Started (Some (of_load seed)) old new s
-    (status.TextRefused word r.place r.rule) e refl (λ h. h) (inl refl)) (λ h. h)
+    (status.TextRefused word r.place r.rule) e refl (λ h. h) (inl refl)
+    (inl refl)) (λ h. h)
+refused-plain follow files rose refused Started (Some (of_report q)) old new s word r e plain =
+    absurd (not-asked q plain)
+
+pub refused-comes : FollowPlans → (files : FileMap) (rose refused : Type 0)
+    (Started : ℕ → Type 0) (asked : Option Request) (old new : Output) (s : Status) (word : ℕ)
+    (r : TextRefused) → EndsByRequest (Some files) rose refused Started asked old new s →
+    ComesExactly s (status.TextRefused word r.place r.rule)
+    ((Asks (IsRefused word r) files (option_and_then file_of asked) ⊎
+    AsksRun (λ x. x ≡ Err (status.TextRefused word r.place r.rule)) files
+    (option_and_then files_of asked)) ⊎
+    AsksReport (status.TextRefused word r.place r.rule) files (option_and_then told_report asked))
+refused-comes follow files rose refused Started asked old new s word r e =
+    or-report files rose refused Started asked old new s
+    (status.TextRefused word r.place r.rule) _ e refl
+    (λ plain. refused-plain follow files rose refused Started asked old new s word r e plain)
+    (λ q is. subst (λ a. Asks (IsRefused word r) files (option_and_then file_of a) ⊎
+    AsksRun (λ x. x ≡ Err (status.TextRefused word r.place r.rule)) files
+    (option_and_then files_of a) → ⊥) (sym is) (neither ⊥ ⊥ (λ h. h) (λ h. h)))
 
 -- TooLong
+long-plain : FollowPlans → (files : FileMap) (rose refused : Type 0) (Started : ℕ → Type 0)
+    (asked : Option Request) (old new : Output) (s : Status) (word : ℕ) →
+    EndsByRequest (Some files) rose refused Started asked old new s →
+    option_and_then told_report asked ≡ None → ComesExactly s (status.TooLong word)
+    (((word ≡ 1) × Asks IsTooLong files (option_and_then file_of asked)) ⊎
+    AsksRun (λ x. x ≡ Err (status.TooLong word)) files (option_and_then files_of asked))
+long-plain follow files rose refused Started None old new s word e plain =
+    same-cause s (status.TooLong word) (status.Usage ≡ status.TooLong word) _
+    (λ h. absurd (let bad : status.Usage ≡ status.TooLong word = h in cc)) (λ h. absurd (none h))
+    (follow.comes old new usage_plan s (status.TooLong word) e refl)
+  where
+    none : ((word ≡ 1) × ⊥) ⊎ ⊥ → ⊥
+    none (inl h) = h.1
+    none (inr h) = h
+long-plain follow files rose refused Started (Some (of_file r)) old new s word (inl e) plain =
+    text-only s _ _ _ (found-long follow files rose r old new s word e.found e.is_found e.ends)
+    (λ h. h)
+long-plain follow files rose refused Started (Some (of_file r)) old new s word (inr e) plain =
+    faulted s (status.TooLong word) _ refl (ap is_fault e.status)
+long-plain follow files rose refused Started (Some (of_run r)) old new s word e plain =
+    run-only s _ _ _ (e.of_text files (status.TooLong word) refl refl) (λ h. h.1)
+long-plain follow files rose refused Started (Some (of_load seed)) old new s word e plain =
+    same-cause s (status.TooLong word) ⊥ _ (λ h. absurd h) (λ h. absurd (none h))
+    (comes follow old new (load_plan seed) LoadCause s e.by (status.TooLong word) refl)
+  where
+    none : ((word ≡ 1) × ⊥) ⊎ ⊥ → ⊥
+    none (inl h) = h.1
+    none (inr h) = h
+long-plain follow files rose refused Started (Some (of_report q)) old new s word e plain =
+    absurd (not-asked q plain)
+
 pub long-comes : FollowPlans → (files : FileMap) (rose refused : Type 0) (Started : ℕ → Type 0)
     (asked : Option Request) (old new : Output) (s : Status) (word : ℕ) →
     EndsByRequest (Some files) rose refused Started asked old new s →
     ComesExactly s (status.TooLong word)
-    (((word ≡ 1) × Asks IsTooLong files (option_and_then file_of asked)) ⊎
-    AsksRun (λ x. x ≡ Err (status.TooLong word)) files (option_and_then files_of asked))
-long-comes follow files rose refused Started None old new s word e =
-    same-cause s (status.TooLong word) (status.Usage ≡ status.TooLong word) _
-    (λ h. absurd (let bad : status.Usage ≡ status.TooLong word = h in cc)) (λ h. absurd (neither h))
-    (follow.comes old new usage_plan s (status.TooLong word) e refl)
-  where
-    neither : ((word ≡ 1) × ⊥) ⊎ ⊥ → ⊥
-    neither (inl h) = h.1
-    neither (inr h) = h
-long-comes follow files rose refused Started (Some (of_file r)) old new s word (inl e) =
-    text-only s _ _ _ (found-long follow files rose r old new s word e.found e.is_found e.ends)
-    (λ h. h)
-long-comes follow files rose refused Started (Some (of_file r)) old new s word (inr e) =
-    faulted s (status.TooLong word) _ refl (ap is_fault e.status)
-long-comes follow files rose refused Started (Some (of_run r)) old new s word e =
-    run-only s _ _ _ (e.of_text files (status.TooLong word) refl refl) (λ h. h.1)
-long-comes follow files rose refused Started (Some (of_load seed)) old new s word e =
-    same-cause s (status.TooLong word) ⊥ _ (λ h. absurd h) (λ h. absurd (neither h))
-    (comes follow old new (load_plan seed) LoadCause s e.by (status.TooLong word) refl)
-  where
-    neither : ((word ≡ 1) × ⊥) ⊎ ⊥ → ⊥
-    neither (inl h) = h.1
-    neither (inr h) = h
+    ((((word ≡ 1) × Asks IsTooLong files (option_and_then file_of asked)) ⊎
+    AsksRun (λ x. x ≡ Err (status.TooLong word)) files (option_and_then files_of asked)) ⊎
+    AsksReport (status.TooLong word) files (option_and_then told_report asked))
+long-comes follow files rose refused Started asked old new s word e =
+    or-report files rose refused Started asked old new s (status.TooLong word) _ e refl
+    (λ plain. long-plain follow files rose refused Started asked old new s word e plain)
+    (λ q is. subst (λ a. ((word ≡ 1) × Asks IsTooLong files (option_and_then file_of a)) ⊎
+    AsksRun (λ x. x ≡ Err (status.TooLong word)) files (option_and_then files_of a) → ⊥) (sym is)
+    (neither ((word ≡ 1) × ⊥) ⊥ (λ h. h.1) (λ h. h)))
 
 -- where there is room enough a bench is run to its end
 enough-room : ((text : List ℕ) → HasRoomFor text → BenchCause text status.Ok) → (job : Job)

@@ -18,10 +18,12 @@ use Rattle.trace_text.specs.writing.Writes.{Output}
 use Rattle.motion_cli.proofs.CauseLaws.{no-run}
 use Rattle.motion_cli.proofs.FileLaws.{ends-by, ends-for, plan_of}
 use Rattle.motion_cli.proofs.PlanLaws.{by-plan, not-told}
+use Rattle.motion_cli.proofs.ReportLaws.{no-report, report-unread, report-unwritten}
 use Rattle.motion_cli.specs.Causes.{Asks, AsksInVain, AsksRun, LacksNone, RunsInVain}
 use Rattle.motion_cli.specs.Ends.{EndsByFound, EndsByRequest}
 use Rattle.motion_cli.specs.Plans.{most_of, plan_of_text, usage_plan}
-use Rattle.command_words.specs.Requests.{FileJob, Request, RunFiles, file_of, files_of, load_of, of_file, of_load, of_run}
+use Rattle.motion_cli.specs.Reports.{AsksWithAll, LacksFor, ReportsInVain}
+use Rattle.command_words.specs.Requests.{FileJob, Report, Request, RunFiles, file_of, files_of, load_of, of_file, of_load, of_report, of_run, told_report}
 use Rattle.command_words.specs.declared.request.Job.{Job}
 
 -- Usage
@@ -37,9 +39,9 @@ pub usage-comes : FollowPlans → (told : Option FileMap) (rose refused : Type 0
     (Started : ℕ → Type 0) (asked : Option Request) (old new : Output) (s : Status) →
     EndsByRequest told rose refused Started asked old new s → ComesExactly s status.Usage
     ((option_and_then file_of asked ≡ None) × (option_and_then load_of asked ≡ None) ×
-    (option_and_then files_of asked ≡ None))
+    (option_and_then files_of asked ≡ None) × (option_and_then told_report asked ≡ None))
 usage-comes follow told rose refused Started None old new s e =
-    record { only = λ h. (refl, refl, refl); always = λ h. by-plan follow old new usage_plan s e }
+    record { only = λ h. (refl, refl, refl, refl); always = λ h. by-plan follow old new usage_plan s e }
 usage-comes follow told rose refused Started (Some (of_file r)) old new s (inl e) = record {
   only = λ h. absurd (no-usage r e.found old new s e.ends
       (follow.only old new (plan_of r e.found) s status.Usage
@@ -59,6 +61,10 @@ usage-comes follow told rose refused Started (Some (of_load seed)) old new s e =
       follow.only old new (load_plan seed) s status.Usage e.by.ends h (λ x. absurd (cc))
       (λ x. absurd (cc)) in cc);
   always = λ h. absurd (let bad : Some seed ≡ None = h.1 in cc);
+}
+usage-comes follow told rose refused Started (Some (of_report r)) old new s e = record {
+  only = λ h. absurd (no-report told rose r old new s status.Usage e refl h);
+  always = λ h. absurd (let bad : Some r ≡ None = h.3 in cc);
 }
 
 -- ReadFault
@@ -82,25 +88,36 @@ found-unread follow told rose r old new s word (Content text) is e h =
     (follow.only old new (plan_of_text r.job r.name text) s (status.ReadFault word) for.ends h
     (λ x. absurd (cc)) (λ x. absurd (cc))))
 
--- it failed for a file, or for one of a run
+-- it failed for a file, or for one of a run or of a report
+InVain : Option FileMap → Option FileJob → Option RunFiles → Option Report → ℕ → Type 0
+InVain told file run report word =
+    (((word ≡ 1) × AsksInVain told file) ⊎ RunsInVain told run word) ⊎
+    ReportsInVain told report word
+
 run-unread : (told : Option FileMap) (rose : Type 0) (r : RunFiles) (word : ℕ) →
     rose ⊎ IsSomeAnd told
     (λ files. plant_in files r.config r.program ≡ Err (status.ReadFault word)) →
-    rose ⊎ (((word ≡ 1) × ⊥) ⊎ RunsInVain told (Some r) word)
+    rose ⊎ InVain told None (Some r) None word
 run-unread told rose r word (inl h) = inl h
-run-unread told rose r word (inr h) = inr (inr h)
+run-unread told rose r word (inr h) = inr (inl (inr h))
 
 file-unread : (told : Option FileMap) (rose : Type 0) (r : FileJob) (word : ℕ) → word ≡ 1 →
     rose ⊎ LacksFile told r.name →
-    rose ⊎ (((word ≡ 1) × AsksInVain told (Some r)) ⊎ RunsInVain told None word)
+    rose ⊎ InVain told (Some r) None None word
 file-unread told rose r word first (inl h) = inl h
-file-unread told rose r word first (inr h) = inr (inl (first, h))
+file-unread told rose r word first (inr h) = inr (inl (inl (first, h)))
+
+report-vain : (told : Option FileMap) (rose : Type 0) (r : Report) (word : ℕ) →
+    rose ⊎ IsSomeAnd told (λ files. LacksFor files r word) →
+    rose ⊎ InVain told None None (Some r) word
+report-vain told rose r word (inl h) = inl h
+report-vain told rose r word (inr h) = inr (inr h)
 
 pub unread-why : FollowPlans → (told : Option FileMap) (rose refused : Type 0)
     (Started : ℕ → Type 0) (asked : Option Request) (old new : Output) (s : Status) (word : ℕ) →
     EndsByRequest told rose refused Started asked old new s → s ≡ status.ReadFault word →
-    rose ⊎ (((word ≡ 1) × AsksInVain told (option_and_then file_of asked)) ⊎
-    RunsInVain told (option_and_then files_of asked) word)
+    rose ⊎ InVain told (option_and_then file_of asked) (option_and_then files_of asked)
+    (option_and_then told_report asked) word
 unread-why follow told rose refused Started None old new s word e h =
     absurd (let bad : status.Usage ≡ status.ReadFault word =
     follow.only old new usage_plan s (status.ReadFault word) e h
@@ -116,6 +133,8 @@ unread-why follow told rose refused Started (Some (of_load seed)) old new s word
     absurd (let bad : status.Ok ≡ status.ReadFault word =
     follow.only old new (load_plan seed) s (status.ReadFault word) e.by.ends h
     (λ x. absurd (cc)) (λ x. absurd (cc)) in cc)
+unread-why follow told rose refused Started (Some (of_report r)) old new s word e h =
+    report-vain told rose r word (report-unread told rose r old new s word e h)
 
 -- ThreadRefused
 never-refused : (r : FileJob) (found : Found) (old new : Output) (s : Status) →
@@ -144,6 +163,8 @@ refused-why follow told rose refused Started (Some (of_load seed)) old new s e h
     absurd (let bad : status.Ok ≡ status.ThreadRefused =
     follow.only old new (load_plan seed) s status.ThreadRefused e.by.ends h
     (λ x. absurd (cc)) (λ x. absurd (cc)) in cc)
+refused-why follow told rose refused Started (Some (of_report r)) old new s e h =
+    absurd (no-report told rose r old new s status.ThreadRefused e refl h)
 
 -- WriteFault
 no-write : (r : FileJob) (found : Found) (old new : Output) (s : Status) →
@@ -168,6 +189,8 @@ write-why follow told rose refused Started (Some (of_file r)) old new s (inr e) 
 write-why follow told rose refused Started (Some (of_run r)) old new s e h = e.unwritten h
 write-why follow told rose refused Started (Some (of_load seed)) old new s e h =
     follow.write old new (load_plan seed) s e.by.ends (λ x. absurd (cc)) h
+write-why follow told rose refused Started (Some (of_report r)) old new s e h =
+    report-unwritten told rose r old new s e h
 
 -- where the files are there and nothing fails, no fault comes but want of memory
 in-vain : (files : FileMap) (P : Job → List ℕ → Type 0) (asked : Option FileJob) →
@@ -175,25 +198,36 @@ in-vain : (files : FileMap) (P : Job → List ℕ → Type 0) (asked : Option Fi
 in-vain files P None v h = v
 in-vain files P (Some r) v h = subst (λ o. IsSomeAnd o (P r.job)) v h
 
--- the words ask for a file that is there, or for a run that lacks none
+-- the words ask for a file that is there, or for a run or a report that lacks none
 abbrev pub IsAllThere : (Job → List ℕ → Type 0) → FileMap → Option Request → Type 0
-IsAllThere P files asked = Asks P files (option_and_then file_of asked) ⊎
-    AsksRun LacksNone files (option_and_then files_of asked)
+IsAllThere P files asked = (Asks P files (option_and_then file_of asked) ⊎
+    AsksRun LacksNone files (option_and_then files_of asked)) ⊎
+    AsksWithAll files (option_and_then told_report asked)
 
 no-file : (files : FileMap) (P : Job → List ℕ → Type 0) (asked : Option Request) (word : ℕ) →
-    IsAllThere P files asked →
-    ((word ≡ 1) × AsksInVain (Some files) (option_and_then file_of asked)) ⊎
-    RunsInVain (Some files) (option_and_then files_of asked) word → ⊥
-no-file files P None word (inl h) v = h
+    IsAllThere P files asked → InVain (Some files) (option_and_then file_of asked)
+    (option_and_then files_of asked) (option_and_then told_report asked) word → ⊥
+no-file files P None word (inl (inl h)) v = h
+no-file files P None word (inl (inr h)) v = h
 no-file files P None word (inr h) v = h
-no-file files P (Some (of_file r)) word (inl h) (inl v) = in-vain files P (Some r) v.1 h
-no-file files P (Some (of_file r)) word (inl h) (inr v) = v
+no-file files P (Some (of_file r)) word (inl (inl h)) (inl (inl v)) = in-vain files P (Some r) v.1 h
+no-file files P (Some (of_file r)) word (inl (inl h)) (inl (inr v)) = v
+no-file files P (Some (of_file r)) word (inl (inl h)) (inr v) = v
+no-file files P (Some (of_file r)) word (inl (inr h)) v = h
 no-file files P (Some (of_file r)) word (inr h) v = h
-no-file files P (Some (of_run r)) word (inl h) v = h
-no-file files P (Some (of_run r)) word (inr h) (inl v) = v.1
-no-file files P (Some (of_run r)) word (inr h) (inr v) = h word v
-no-file files P (Some (of_load seed)) word (inl h) v = h
+no-file files P (Some (of_run r)) word (inl (inl h)) v = h
+no-file files P (Some (of_run r)) word (inl (inr h)) (inl (inl v)) = v.1
+no-file files P (Some (of_run r)) word (inl (inr h)) (inl (inr v)) = h word v
+no-file files P (Some (of_run r)) word (inl (inr h)) (inr v) = v
+no-file files P (Some (of_run r)) word (inr h) v = h
+no-file files P (Some (of_load seed)) word (inl (inl h)) v = h
+no-file files P (Some (of_load seed)) word (inl (inr h)) v = h
 no-file files P (Some (of_load seed)) word (inr h) v = h
+no-file files P (Some (of_report r)) word (inl (inl h)) v = h
+no-file files P (Some (of_report r)) word (inl (inr h)) v = h
+no-file files P (Some (of_report r)) word (inr h) (inl (inl v)) = v.1
+no-file files P (Some (of_report r)) word (inr h) (inl (inr v)) = v
+no-file files P (Some (of_report r)) word (inr h) (inr v) = h word v
 
 neither : (A B : Type 0) → (A → ⊥) → (B → ⊥) → A ⊎ B → ⊥
 neither A B a b (inl h) = a h
@@ -256,3 +290,4 @@ complete-run files rose refused Started (Some (of_file q)) old new s e h r f w =
 complete-run files rose refused Started (Some (of_run q)) old new s e h r f w =
     e.complete files refl h r f w
 complete-run files rose refused Started (Some (of_load seed)) old new s e h r f w = absurd h
+complete-run files rose refused Started (Some (of_report r)) old new s e h r' f w = absurd h

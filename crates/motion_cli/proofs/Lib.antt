@@ -1,5 +1,6 @@
 pub mod PlanLaws
 pub mod FileLaws
+pub mod ReportLaws
 pub mod CauseLaws
 pub mod FaultLaws
 pub mod TraceLaws

@@ -16,7 +16,7 @@ use Rattle.trace_jobs.specs.Migrated.{Migrated}
 use Rattle.trace_text.specs.writing.Writes.{Output}
 use Rattle.motion_cli.specs.Ends.{EndsByFound, EndsByRequest}
 use Rattle.motion_cli.specs.Plans.{most_of}
-use Rattle.command_words.specs.Requests.{FileJob, Request, RunFiles, file_of, files_of, load_of, of_file, of_load, of_run}
+use Rattle.command_words.specs.Requests.{FileJob, Request, RunFiles, file_of, files_of, load_of, of_file, of_load, of_report, of_run}
 use Rattle.command_words.specs.declared.request.Job.TheVariants.{Bench, Migrate}
 
 -- a plan that stands for no trace
@@ -67,6 +67,8 @@ headline-of follow told rose refused Started (Some (of_run r)) name old new s e 
     absurd (none-asked (record { job = Bench; name = name }) a)
 headline-of follow told rose refused Started (Some (of_load seed)) name old new s e a t =
     absurd (none-asked (record { job = Bench; name = name }) a)
+headline-of follow told rose refused Started (Some (of_report r)) name old new s e a t =
+    absurd (none-asked (record { job = Bench; name = name }) a)
 
 found-migrated : FollowPlans → (told : Option FileMap) (rose : Type 0) (name : List ℕ)
     (old new : Output) (s : Status) (found : Found) →
@@ -102,6 +104,8 @@ migrated-of follow told rose refused Started (Some (of_run r)) name old new s e 
     absurd (none-asked (record { job = Migrate; name = name }) a)
 migrated-of follow told rose refused Started (Some (of_load seed)) name old new s e a h =
     absurd (none-asked (record { job = Migrate; name = name }) a)
+migrated-of follow told rose refused Started (Some (of_report r)) name old new s e a h =
+    absurd (none-asked (record { job = Migrate; name = name }) a)
 
 same-seed : (n m : ℕ) → Some n ≡ Some m → n ≡ m
 same-seed n m e = cc
@@ -112,6 +116,8 @@ pub line-of : (told : Option FileMap) (rose refused : Type 0) (Started : ℕ →
 line-of told rose refused Started None seed old new s e a h = absurd (none-asked seed a)
 line-of told rose refused Started (Some (of_file r)) seed old new s e a h = absurd (none-asked seed a)
 line-of told rose refused Started (Some (of_run r)) seed old new s e a h =
+    absurd (none-asked seed a)
+line-of told rose refused Started (Some (of_report r)) seed old new s e a h =
     absurd (none-asked seed a)
 line-of told rose refused Started (Some (of_load n)) seed old new s e a h =
     subst (λ m. LoadLine m old.told new.told) (same-seed n seed a) (e.line h)
@@ -132,4 +138,6 @@ run-of told rose refused Started (Some (of_run r)) names old new s e a t =
     subst (λ q. RunHeadline told q.config q.program old.told new.told Started s)
     (same-files r names a) (e.headline t)
 run-of told rose refused Started (Some (of_load seed)) names old new s e a t =
+    absurd (none-asked names a)
+run-of told rose refused Started (Some (of_report r)) names old new s e a t =
     absurd (none-asked names a)

@@ -1,3 +1,4 @@
 pub mod Plans
 pub mod Causes
+pub mod Reports
 pub mod Ends

@@ -1,5 +1,6 @@
 -- What the words lead to. This project's profile.
-use Rattle.std.specs.Prelude.{ℕ, ◌^◌, codes, List}
+use Rattle.std.specs.Prelude.{ℕ, ◌^◌, codes, List, [], ◌∷◌}
+use Rattle.std.specs.List.{concat}
 use Rattle.bench_job.specs.Plans.{bench_plan}
 use Rattle.job_ends.specs.Plans.{Plan}
 use Rattle.job_ends.specs.declared.status.Status.TheVariants as status
@@ -9,8 +10,9 @@ use Rattle.command_words.specs.declared.request.Job.TheVariants.{Bench, Check, M
 
 -- the line that tells which words the program takes
 abbrev pub usage_line : List ℕ
-usage_line =
-    codes "usage: motion bench FILE | run CONFIG PROGRAM | check TRACE | gen SEED | migrate TRACE\n"
+usage_line = concat
+    (codes "usage: motion bench FILE | run CONFIG PROGRAM | check TRACE | gen SEED | migrate TRACE"
+    ∷ codes " | switches TRACE FILE | standby FILE CUT | scope TRACE WORKERS\n" ∷ [])
 
 -- what faulty words lead to: they are told what the program takes
 abbrev pub usage_plan : Plan

@@ -5,7 +5,7 @@ ghost use Rattle.std.specs.Option.{option_and_then, option_map};
 ghost use Rattle.job_ends.specs.Ends.{EndsEarly};
 ghost use Rattle.motion_cli.specs.Ends.{EndsByFile, EndsByRequest, EndsByText};
 ghost use Rattle.motion_cli.specs.Plans as plans;
-ghost use Rattle.command_words.specs.Requests.{files_of, told};
+ghost use Rattle.command_words.specs.Requests.{files_of, request_told};
 ghost use Rattle.outside.specs.Faults.{Rose};
 ghost use Rattle.run_job.specs.Joined.{JoinsAll};
 
@@ -16,12 +16,14 @@ use job_ends::{Status, say_unread};
 use load_job::run_load;
 use outside::{Files, Gate, Host, MOST_JOBS, Sink, Spawner};
 use run_job::{PlantJob, RunNames, run_files};
+use scope_job::scope_file;
 use std::alloc::Global;
 use std::sync::Wait;
+use switch_job::switch_files;
 use trace_jobs::{check_text, migrate_text};
 
 /// Does what is asked, or tells what can be asked.
-pub fn serve<F: Files, K: Sink, H: Host + Wait, G: Gate + Drop + Send + 'static>(
+pub fn serve<F: Files, K: Sink, H: Host + Wait + Sync, G: Gate + Drop + Send + 'static>(
     rt: &H,
     alloc: Global,
     asked: Option<Request<'_>>,
@@ -34,10 +36,10 @@ pub fn serve<F: Files, K: Sink, H: Host + Wait, G: Gate + Drop + Send + 'static>
     ensures ends { EndsByRequest (F.told files.old) (Rose (F.count files.old) (F.count files.new))
         (Rose spawner.old.faults spawner.new.faults)
         (λ n. length spawner.new.jobs ≡ length spawner.old.jobs + n)
-        (option_map told asked.entry) (record { count = K.count out.old; told = K.told out.old })
+        (option_map request_told asked.entry) (record { count = K.count out.old; told = K.told out.old })
         (record { count = K.count out.new; told = K.told out.new }) result }
     ensures joined { JoinsAll spawner.old.jobs spawner.new.jobs }
-    ensures alone { option_and_then files_of (option_map told asked.entry) ≡ None →
+    ensures alone { option_and_then files_of (option_map request_told asked.entry) ≡ None →
         spawner.new ≡ spawner.old }
 {
     match asked {
@@ -47,7 +49,7 @@ pub fn serve<F: Files, K: Sink, H: Host + Wait, G: Gate + Drop + Send + 'static>
 }
 
 // Does what a request asks.
-fn serve_request<F: Files, K: Sink, H: Host + Wait, G: Gate + Drop + Send + 'static>(
+fn serve_request<F: Files, K: Sink, H: Host + Wait + Sync, G: Gate + Drop + Send + 'static>(
     rt: &H,
     alloc: Global,
     request: Request<'_>,
@@ -60,18 +62,55 @@ fn serve_request<F: Files, K: Sink, H: Host + Wait, G: Gate + Drop + Send + 'sta
     ensures ends { EndsByRequest (F.told files.old) (Rose (F.count files.old) (F.count files.new))
         (Rose spawner.old.faults spawner.new.faults)
         (λ n. length spawner.new.jobs ≡ length spawner.old.jobs + n)
-        (Some (told request.entry)) (record { count = K.count out.old; told = K.told out.old })
+        (Some (request_told request.entry)) (record { count = K.count out.old; told = K.told out.old })
         (record { count = K.count out.new; told = K.told out.new }) result }
     ensures joined { JoinsAll spawner.old.jobs spawner.new.jobs }
-    ensures alone { files_of (told request.entry) ≡ None → spawner.new ≡ spawner.old }
+    ensures alone { files_of (request_told request.entry) ≡ None → spawner.new ≡ spawner.old }
 {
     match request {
-        Request::File { job, name } => serve_file(alloc, job, name, files, out),
+        Request::File { job, name } => serve_file(alloc, Work::of(job), name, files, out),
         Request::Run { config, program } => {
             let names = RunNames { config, program };
             run_files(rt, alloc, &names, files, out, spawner, gate)
         }
         Request::Load { seed } => run_load(alloc, seed, out),
+        Request::Standby { name, cut } => serve_file(
+            alloc,
+            Work::handed_over(cut),
+            name,
+            files,
+            out,
+        ),
+        Request::Switches { trace, switches } => switch_files(alloc, trace, switches, files, out),
+        Request::Scope { trace, workers } => {
+            scope_file(rt, alloc, trace, workers.get(), files, out)
+        }
+    }
+}
+
+// What is to be done with a file, and behind how many events a bench is handed over to a standby.
+#[derive(Clone, Copy)]
+struct Work {
+    job: Job,
+    cut: Option<u32>,
+}
+
+impl Work {
+    // A job that is done by one alone.
+    fn of(job: Job) -> Work
+        ensures { result.job ≡ job }
+    {
+        Work { job, cut: None }
+    }
+
+    // A bench that is handed over.
+    fn handed_over(cut: u32) -> Work
+        ensures { result.job ≡ Job.Bench }
+    {
+        Work {
+            job: Job::Bench,
+            cut: Some(cut),
+        }
     }
 }
 
@@ -88,33 +127,33 @@ fn most_bytes(job: Job) -> u64
 // Reads a file, and does with it what is asked.
 fn serve_file<F: Files, K: Sink>(
     alloc: Global,
-    job: Job,
+    work: Work,
     name: &str,
     files: &mut F,
     out: &mut K,
 ) -> Status
     ensures { EndsByFile (F.told files.old) (Rose (F.count files.old) (F.count files.new))
-        (record { job = job; name = name.now })
+        (record { job = work.job; name = name.now })
         (record { count = K.count out.old; told = K.told out.old })
         (record { count = K.count out.new; told = K.told out.new }) result ⊎
         EndsEarly (record { count = K.count out.old; told = K.told out.old })
         (record { count = K.count out.new; told = K.told out.new }) result }
 {
     let mut text = Vec::new(alloc);
-    match files.read_all(name, &mut text, most_bytes(job)) {
-        Ok(()) => do_job(alloc, job, name, text.as_slice(), out),
+    match files.read_all(name, &mut text, most_bytes(work.job)) {
+        Ok(()) => do_job(alloc, work, name, text.as_slice(), out),
         Err(fault) => say_unread(alloc, 1, name, fault, out),
     }
 }
 
 // Does what is asked with a text.
-fn do_job<K: Sink>(alloc: Global, job: Job, name: &str, text: &[u8], out: &mut K) -> Status
-    ensures { EndsByText job name.now text.now
+fn do_job<K: Sink>(alloc: Global, work: Work, name: &str, text: &[u8], out: &mut K) -> Status
+    ensures { EndsByText work.job name.now text.now
         (record { count = K.count out.old; told = K.told out.old })
         (record { count = K.count out.new; told = K.told out.new }) result }
 {
-    match job {
-        Job::Bench => run_text(alloc, name, text, out),
+    match work.job {
+        Job::Bench => run_text(alloc, name, text, work.cut, out),
         Job::Check => check_text(alloc, name, text, out),
         Job::Migrate => migrate_text(alloc, name, text, out),
     }

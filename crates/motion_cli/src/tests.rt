@@ -1,6 +1,7 @@
 // What no clause says: whole runs of the program in memory, byte for byte.
 mod failures;
 mod loads;
+mod reports;
 mod rows;
 mod runs;
 mod states;
@@ -89,7 +90,8 @@ end main
 ";
 
 const USAGE: &[u8] =
-    b"usage: motion bench FILE | run CONFIG PROGRAM | check TRACE | gen SEED | migrate TRACE\n";
+    b"usage: motion bench FILE | run CONFIG PROGRAM | check TRACE | gen SEED | migrate TRACE \
+    | switches TRACE FILE | standby FILE CUT | scope TRACE WORKERS\n";
 
 // How the program ends on these words and files.
 fn status<H: Host + Wait + Sync>(
@@ -245,7 +247,7 @@ fn writes_a_byte_at_a_time(rt: HostRuntime) -> Result<(), Fail> {
 
 #[test]
 fn tells_the_words_that_it_takes(rt: HostRuntime) -> Result<(), Fail> {
-    let cases: [&[&str]; 18] = [
+    let cases: [&[&str]; 22] = [
         &[],
         &["bench"],
         &["bench", ""],
@@ -264,6 +266,10 @@ fn tells_the_words_that_it_takes(rt: HostRuntime) -> Result<(), Fail> {
         &["Bench", "one_move"],
         &["run", "one_move", ""],
         &["help"],
+        &["switches", "one_move"],
+        &["standby", "one_move", "+3"],
+        &["scope", "one_move", "17"],
+        &["scope", "one_move", "0"],
     ];
     for words in cases {
         let mut out = MemorySink::new(rt.alloc(), &[], u32::MAX)?;

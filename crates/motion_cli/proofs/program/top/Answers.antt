@@ -3,14 +3,16 @@ use Rattle.std.specs.Prelude.{◌≡◌, refl, ℕ, ◌+◌, Some, length}
 use Rattle.std.specs.Option.{option_and_then}
 use Rattle.std.proofs.Common.{◌∙◌, ap, inl, inr, subst, sym}
 use Rattle.std.proofs.lemmas.List.{append-nil}
-use Rattle.command_words.specs.Requests.{asked_of, files_of}
+use Rattle.command_words.specs.Requests.{asked_of, files_of, of_scope, of_switches}
 use Rattle.job_ends.specs.declared.status.Status.TheVariants as status
 use Rattle.outside.specs.Faults.{Rose}
 use Rattle.outside.specs.Told.{FileMap}
 use Rattle.trace_text.specs.writing.Writes.{Output}
-use Rattle.motion_cli.proofs.CauseLaws.{enough, file-comes, long-comes, ok-comes, refused-comes}
+use Rattle.motion_cli.proofs.AskedLaws.{request-told}
+use Rattle.motion_cli.proofs.CauseLaws.{enough, file-comes, illegal-comes, long-comes, ok-comes, refused-comes}
 use Rattle.motion_cli.proofs.FaultLaws.{complete, complete-run, faultless, file-no-run, refused-why, unread-why, usage-comes, write-why}
 use Rattle.motion_cli.proofs.PlanLaws.{faulted}
+use Rattle.motion_cli.proofs.ReportLaws.{report-as}
 use Rattle.motion_cli.proofs.TraceLaws.{headline-of, line-of, migrated-of, run-of}
 use Rattle.motion_cli.specs.Causes.{HasRoom, IsThere}
 use Rattle.motion_cli.specs.Ends.{EndsByRequest}
@@ -33,9 +35,9 @@ returns-in-Ok g c =
     } in
     let s = c.serve.result in
     let follow = c.ends_follow_plans.ensures in
+    let is_asked = request-told _ _ c.in-Ok.ensures in
     let by : EndsByRequest told rose refused Started asked old new s =
-    subst (λ a. EndsByRequest told rose refused Started a old new s) c.in-Ok.ensures
-    c.serve.ensures.ends in
+    subst (λ a. EndsByRequest told rose refused Started a old new s) is_asked c.serve.ensures.ends in
     let at : (map : FileMap) → told ≡ Some map →
     EndsByRequest (Some map) rose refused Started asked old new s =
     λ map t. subst (λ x. EndsByRequest x rose refused Started asked old new s) t by in
@@ -45,6 +47,11 @@ returns-in-Ok g c =
       headline = λ name a h. headline-of follow told rose refused Started asked name old new s by a
           h;
       headline_run = λ names a h. run-of told rose refused Started asked names old new s by a h;
+      switched = λ trace switches a h.
+          (report-as told rose refused Started asked (of_switches trace switches) old new s by
+          a).switched h;
+      scoped = λ trace a h.
+          (report-as told rose refused Started asked (of_scope trace) old new s by a).scoped h;
       migrated = λ name a h. migrated-of follow told rose refused Started asked name old new s by a
           h;
       usage = usage-comes follow told rose refused Started asked old new s by;
@@ -54,17 +61,17 @@ returns-in-Ok g c =
       refused = λ map word r t. refused-comes follow map rose refused Started asked old new s word r
           (at map t);
       joined = c.serve.ensures.joined;
-      alone = λ none. c.serve.ensures.alone (ap (option_and_then files_of) c.in-Ok.ensures ∙ none);
+      alone = λ none. c.serve.ensures.alone (ap (option_and_then files_of) is_asked ∙ none);
       thread_refused = λ h. refused-why follow told rose refused Started asked old new s by h;
       cycles_over = λ map t none. file-comes follow map rose refused Started asked old new s
-          status.CyclesOver (at map t) refl (λ h. h) (inl none);
+          status.CyclesOver (at map t) refl (λ h. h) (inl none) (inr refl);
       history_full = λ map t none. file-comes follow map rose refused Started asked old new s
-          status.HistoryFull (at map t) refl (λ h. h) (inl none);
+          status.HistoryFull (at map t) refl (λ h. h) (inl none) (inr refl);
       ok = λ map t none. ok-comes follow map rose refused Started asked old new s (at map t) none;
       legal = λ map n t. file-comes follow map rose refused Started asked old new s
-          (status.Legal n) (at map t) refl (λ h. h) (inr refl);
-      illegal = λ map p t. file-comes follow map rose refused Started asked old new s
-          (status.Illegal p) (at map t) refl (λ h. h) (inr refl);
+          (status.Legal n) (at map t) refl (λ h. h) (inr refl) (inr refl);
+      illegal = λ map p t. illegal-comes follow map rose refused Started asked old new s p
+          (at map t);
       write_fault = λ h. write-why follow told rose refused Started asked old new s by h;
       faultless = λ map t h r w. faultless follow map rose refused Started asked old new s IsThere
           (at map t) h r w;
@@ -72,7 +79,7 @@ returns-in-Ok g c =
           (at map t)
           (ok-comes follow map rose refused Started asked old new s (at map t)
           (file-no-run map HasRoom asked h))
-          (inl (enough c.room_leads_to_ok.ensures map _ h)) (inl h) r w;
+          (inl (inl (enough c.room_leads_to_ok.ensures map _ h))) (inl (inl h)) r w;
       complete_run = λ map t h r f w. complete-run map rose refused Started asked old new s
           (at map t) h r f w;
     }
@@ -83,6 +90,8 @@ returns-in-Err g c = record {
   load = λ n is h. absurd (cc);
   headline = λ name a h. absurd (cc);
   headline_run = λ names a h. absurd (cc);
+  switched = λ trace switches a h. absurd (cc);
+  scoped = λ trace a h. absurd (cc);
   migrated = λ name a h. absurd (cc);
   usage = faulted _ _ _ refl refl;
   read_fault = λ word h. absurd (cc);

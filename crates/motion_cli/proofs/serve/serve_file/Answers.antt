@@ -17,7 +17,7 @@ returns-in-Ok g c = inl (record {
 
 pub returns : goal.returns
 returns g c =
-    unread-ends _ _ (record { job = c.args.job; name = c.args.name.now }) _ _ _ _ c.in-Err.fault
+    unread-ends _ _ (record { job = c.args.work.job; name = c.args.name.now }) _ _ _ _ c.in-Err.fault
     c.most_bytes.ensures
     (λ e. c.in-Err.ensures.failed (ap Err e)) (λ e. c.in-Err.ensures.longer (ap Err e))
     c.say_unread.ensures
