@@ -7,7 +7,7 @@ use Rattle.line_text.specs.Rules.{broken_unless}
 use Rattle.machine_words.specs.Fit.{AreFit, InputsAreFit}
 use Rattle.machine_words.specs.Inputs.{inputs_by, is_off}
 use Rattle.machine_words.specs.Names.{block_at}
-use Rattle.machine_words.specs.declared.rule.TheConstants.{WRONG_COUNT, WRONG_NAME}
+use Rattle.machine_words.specs.RuleNumbers.{wrong_count, wrong_name}
 use Rattle.machine_words.specs.declared.units.Units.TheVariants.{Internal}
 use Rattle.motion_history.specs.Calls.{axes_of}
 use Rattle.motion_history.specs.Setup.{Setup}
@@ -26,16 +26,16 @@ unfolding call_meaning
 call-line fits s [] l some h = absurd (cc)
 call-line fits s (name ∷ []) l some h = absurd (cc)
 call-line fits s (name ∷ state ∷ words) l some h =
-    let few = bind_ok (broken_unless (not (is_off state) || (length words == 0)) WRONG_COUNT) _ l h in
+    let few = bind_ok (broken_unless (not (is_off state) || (length words == 0)) wrong_count) _ l h in
     let k = bind_ok (block_named s name) _ l few.2 in
     let b = bind_ok _ (λ b. inputs_by Internal s b state words >>= λ i. Ok (Call k.0 i)) l k.2 in
     let i = bind_ok (inputs_by Internal s b.0 state words) _ l b.2 in
     let is : Call k.0 i.0 ≡ l = ok_is (Ok (Call k.0 i.0)) (Call k.0 i.0) l refl i.2 in
     let fit : AreFit s b.0 i.0 = fits Internal s b.0 state words i.0 tt some i.1 in
-    let at : slice_get s.blocks k.0 ≡ Some b.0 = found (slice_get s.blocks k.0) WRONG_NAME b.0 b.1 in
+    let at : slice_get s.blocks k.0 ≡ Some b.0 = found (slice_get s.blocks k.0) wrong_name b.0 b.1 in
     let P : BlockDef → Type 0 = λ d. AreInputs d.kind (axes_of s d) i.0 in
     subst (λ q. IsLineOf s q) is (record {
-      there = block-within s name k.0 (found (block_at s name) WRONG_NAME k.0 k.1);
+      there = block-within s name k.0 (found (block_at s name) wrong_name k.0 k.1);
       inputs = λ d other. let same : b.0 ≡ d = let e : Some b.0 ≡ Some d = sym at ∙ other in cc in subst P same fit.inputs;
       master = fit.master;
     })

@@ -9,22 +9,20 @@ use Rattle.machine_words.specs.Items.{task_meaning}
 use Rattle.machine_words.specs.Names.{axis_named, kind_of, object_named, task_at}
 use Rattle.machine_words.specs.Numbers.{number}
 use Rattle.machine_words.specs.Rules.{broken_by, rule_of}
-use Rattle.machine_words.specs.declared.rule.TheConstants.{OUT_OF_RANGE, WRONG_NAME}
+use Rattle.machine_words.specs.RuleNumbers.{out_of_range, wrong_name}
 use Rattle.motion_history.specs.Drives.{IsDrive}
 use Rattle.motion_history.specs.Faults.{axis_fault, block_fault, group_fault, name_fault, task_fault}
 use Rattle.motion_history.specs.Setup.{Setup}
 use Rattle.motion_history.specs.declared.drives.DriveDef.{DriveDef}
 use Rattle.motion_history.specs.declared.refused.TraceVersion.{TraceVersion}
 use Rattle.motion_history.specs.declared.refused.TraceVersion.TheVariants.{One, Two}
-use Rattle.motion_history.specs.declared.sizes.TheConstants.{MOST_CYCLES, MOST_ENTRIES}
 use Rattle.bench_text.specs.BenchState.{BrakesAsItSpeedsUp, IsLineOf}
-use Rattle.bench_text.specs.Drives.{drive_meaning}
+use Rattle.bench_text.specs.Drives.{drive_meaning, item_rules}
 use Rattle.bench_text.specs.Events.{cycle_meaning, end_meaning}
 use Rattle.bench_text.specs.Items.{axis_added, axis_meaning, block_meaning, group_meaning, limit_meaning, limits_of, placed_of, point, table_meaning}
 use Rattle.bench_text.specs.Named.{task_named}
 use Rattle.bench_text.specs.declared.bench.BenchLine.{BenchLine}
 use Rattle.bench_text.specs.declared.bench.BenchLine.TheVariants.{Cycles, End}
-use Rattle.bench_text.specs.declared.item.TheConstants.{RULES}
 use Rattle.line_text.proofs.Results.{bind_ok, found, in_range-within, ok_is}
 use Rattle.machine_words.proofs.Drives.{drive_in-is}
 use Rattle.machine_words.proofs.Names.{task-within}
@@ -39,8 +37,8 @@ limit-axes s (cycles ∷ []) u h = absurd (cc)
 limit-axes s (cycles ∷ entries ∷ []) u h =
     let c = bind_ok (number cycles) _ u h in
     let e = bind_ok (number entries) _ u c.2 in
-    let few = bind_ok (in_range 1 MOST_CYCLES OUT_OF_RANGE c.0) _ u e.2 in
-    let less = bind_ok (in_range 1 MOST_ENTRIES OUT_OF_RANGE e.0) _ u few.2 in
+    let few = bind_ok (in_range 1 200000 out_of_range c.0) _ u e.2 in
+    let less = bind_ok (in_range 1 1000000 out_of_range e.0) _ u few.2 in
     let t : Setup = record s { cycles = few.0; entries = less.0 } in
     ap (λ (v : Setup). v.axes) (sym (ok_is (Ok t) t u refl less.2))
 limit-axes s (cycles ∷ entries ∷ other ∷ more) u h = absurd (cc)
@@ -50,7 +48,7 @@ unfolding group_meaning
 group-axes s [] u h = absurd (cc)
 group-axes s (name ∷ names) u h =
     let free = bind_ok (broken_by rule_of (name_fault s name)) _ u h in
-    let axes = bind_ok (each_of (axis_named WRONG_NAME s) names) _ u free.2 in
+    let axes = bind_ok (each_of (axis_named wrong_name s) names) _ u free.2 in
     let fit = bind_ok (broken_by rule_of (group_fault s name axes.0)) _ u axes.2 in
     let is = ok_is _ _ u refl fit.2 in
     ap (λ (v : Setup). v.axes) (sym is)
@@ -59,7 +57,7 @@ pub table-axes : (s : Setup) (words : List (List ℕ)) (u : Setup) → table_mea
 unfolding table_meaning
 table-axes s words u h =
     let points = bind_ok (each_of point words) _ u h in
-    ap (λ (v : Setup). v.axes) (table_added-is RULES s u points.0 points.2)
+    ap (λ (v : Setup). v.axes) (table_added-is item_rules s u points.0 points.2)
 
 pub task-axes : (s : Setup) (words : List (List ℕ)) (u : Setup) → task_meaning s words ≡ Ok u → u.axes ≡ s.axes
 unfolding task_meaning
@@ -151,12 +149,12 @@ unfolding drive_meaning
 drive-is s [] d h = absurd (cc)
 drive-is s (name ∷ []) d h = absurd (cc)
 drive-is s (name ∷ lag ∷ faults) d h =
-    let axis = bind_ok (axis_named WRONG_NAME s name) _ d h in
+    let axis = bind_ok (axis_named wrong_name s name) _ d h in
     let z = bind_ok (number lag) _ d axis.2 in
     let zs = bind_ok (each_of number faults) _ d z.2 in
-    let drive = bind_ok (drive_in RULES z.0 zs.0) _ d zs.2 in
+    let drive = bind_ok (drive_in item_rules z.0 zs.0) _ d zs.2 in
     let P : ℕ × DriveDef → Type 0 = λ q. IsDrive q.1 in
-    subst P (ok_is (Ok (axis.0, drive.0)) (axis.0, drive.0) d refl drive.2) (drive_in-is RULES z.0 zs.0 drive.0 drive.1)
+    subst P (ok_is (Ok (axis.0, drive.0)) (axis.0, drive.0) d refl drive.2) (drive_in-is item_rules z.0 zs.0 drive.0 drive.1)
 
 -- ---- events
 
@@ -167,8 +165,8 @@ cycle-line s [] l h =
     subst (λ q. IsLineOf s q) is (lit≤ tt, lit≤ tt)
 cycle-line s (count ∷ []) l h =
     let z = bind_ok (number count) _ l h in
-    let n = bind_ok (in_range 1 MOST_CYCLES OUT_OF_RANGE z.0) _ l z.2 in
-    let within = in_range-within 1 MOST_CYCLES OUT_OF_RANGE z.0 n.0 n.1 in
+    let n = bind_ok (in_range 1 200000 out_of_range z.0) _ l z.2 in
+    let within = in_range-within 1 200000 out_of_range z.0 n.0 n.1 in
     subst (λ q. IsLineOf s q) (ok_is (Ok (Cycles n.0)) (Cycles n.0) l refl n.2) (within.above, within.below)
 cycle-line s (count ∷ other ∷ more) l h = absurd (cc)
 
@@ -177,5 +175,5 @@ unfolding end_meaning
 end-line s [] l h = absurd (cc)
 end-line s (name ∷ []) l h =
     let t = bind_ok (task_named s name) _ l h in
-    subst (λ q. IsLineOf s q) (ok_is (Ok (End t.0)) (End t.0) l refl t.2) (task-within s name t.0 (found (task_at s name) WRONG_NAME t.0 t.1))
+    subst (λ q. IsLineOf s q) (ok_is (Ok (End t.0)) (End t.0) l refl t.2) (task-within s name t.0 (found (task_at s name) wrong_name t.0 t.1))
 end-line s (name ∷ other ∷ more) l h = absurd (cc)

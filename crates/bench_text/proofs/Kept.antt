@@ -13,7 +13,7 @@ use Rattle.line_text.specs.Words.{is_clean, words_of}
 use Rattle.machine_words.specs.Fit.{InputsAreFit}
 use Rattle.machine_words.specs.Items.{task_meaning}
 use Rattle.machine_words.specs.Rules.{broken_by, rule_of}
-use Rattle.machine_words.specs.declared.rule.TheConstants.{NOT_WHOLE, OUT_OF_PLACE, WRONG_COUNT}
+use Rattle.machine_words.specs.RuleNumbers.{not_whole, out_of_place, wrong_count}
 use Rattle.motion_history.specs.Drives.{IsDrive, plain_drive}
 use Rattle.motion_history.specs.Faults.{whole_fault}
 use Rattle.motion_history.specs.Setup.{IsSetup, Setup}
@@ -131,7 +131,7 @@ some_axis s h =
 go-kept : (s t : SoFar) → IsSoFar s → go_meaning s ≡ Ok t → IsSoFar t
 unfolding go_meaning
 go-kept s t k h =
-    let limited = bind_ok (broken_unless s.limited NOT_WHOLE) _ t h in
+    let limited = bind_ok (broken_unless s.limited not_whole) _ t h in
     let whole = bind_ok (broken_by rule_of (whole_fault s.setup)) _ t limited.2 in
     let u : SoFar = record s { part = Events } in
     let is : u ≡ t = ok_is (Ok u) u t refl whole.2 in
@@ -200,11 +200,11 @@ words-kept fits s t form.End words k p h = with_line-kept s t (end_meaning s.set
 form-part : (s : SoFar) (first : List ℕ) (words : List (List ℕ)) (f : Form) → form_in s first words ≡ Ok f → is_part (part_of f) s.part ≡ true
 unfolding form_in
 form-part s first words f h =
-    let g = bind_ok (ok_or (form_of first) OUT_OF_PLACE) _ f h in
-    let place = bind_ok (broken_unless (is_part (part_of g.0) s.part) OUT_OF_PLACE) _ f g.2 in
-    let once = bind_ok (broken_unless (not (is_again s g.0 words)) OUT_OF_PLACE) _ f place.2 in
-    let count = bind_ok (broken_unless (is_counted s.version g.0 (length words)) WRONG_COUNT) _ f once.2 in
-    subst (λ q. is_part (part_of q) s.part ≡ true) (ok_is (Ok g.0) g.0 f refl count.2) (holds (is_part (part_of g.0) s.part) OUT_OF_PLACE place.0 place.1)
+    let g = bind_ok (ok_or (form_of first) out_of_place) _ f h in
+    let place = bind_ok (broken_unless (is_part (part_of g.0) s.part) out_of_place) _ f g.2 in
+    let once = bind_ok (broken_unless (not (is_again s g.0 words)) out_of_place) _ f place.2 in
+    let count = bind_ok (broken_unless (is_counted s.version g.0 (length words)) wrong_count) _ f once.2 in
+    subst (λ q. is_part (part_of q) s.part ≡ true) (ok_is (Ok g.0) g.0 f refl count.2) (holds (is_part (part_of g.0) s.part) out_of_place place.0 place.1)
 
 later-kept : InputsAreFit → (s t : SoFar) (words : List (List ℕ)) → IsSoFar s → later_meaning s words ≡ Ok t → IsSoFar t
 unfolding later_meaning

@@ -7,7 +7,6 @@ use Rattle.motion_history.specs.Setup.{Setup, IsSetup}
 use Rattle.motion_history.specs.declared.drives.DriveDef.{DriveDef}
 use Rattle.motion_history.specs.declared.refused.TraceVersion.{TraceVersion}
 use Rattle.motion_history.specs.declared.refused.TraceVersion.TheVariants.{One}
-use Rattle.motion_history.specs.declared.sizes.TheConstants.{MOST_CYCLES}
 use Rattle.bench_text.specs.declared.bench.BenchLine.{BenchLine}
 use Rattle.bench_text.specs.declared.bench.BenchLine.TheVariants.{Call, Cycles, End}
 
@@ -23,7 +22,7 @@ pub record BenchState : Type 0 where
 -- of one of its tasks
 abbrev pub IsLineOf : Setup → BenchLine → Type 0
 IsLineOf s (Call k i) = IsCall s k i
-IsLineOf s (Cycles n) = (1 ≤ n) × (n ≤ MOST_CYCLES)
+IsLineOf s (Cycles n) = (1 ≤ n) × (n ≤ 200000)
 IsLineOf s (End t) = t < length s.tasks
 
 -- an axis brakes as hard as it speeds up, as version 1 has it

@@ -4,7 +4,7 @@ use Rattle.std.specs.Option.{ok_or}
 use Rattle.line_text.specs.Reading.{◌>>=◌}
 use Rattle.line_text.specs.Rules.{broken_unless}
 use Rattle.machine_words.specs.Inputs.{inputs_by, is_off}
-use Rattle.machine_words.specs.declared.rule.TheConstants.{WRONG_COUNT, WRONG_NAME}
+use Rattle.machine_words.specs.RuleNumbers.{wrong_count, wrong_name}
 use Rattle.machine_words.specs.declared.units.Units.TheVariants.{Internal}
 use Rattle.motion_history.specs.Setup.{Setup}
 use Rattle.bench_text.specs.Named.{block_named}
@@ -14,9 +14,9 @@ use Rattle.bench_text.specs.declared.bench.BenchLine.TheVariants.{Call}
 -- `call BLOCK on KEY=VALUE ..`, or `call BLOCK off`
 unfoldable pub call_meaning : Setup → List (List ℕ) → Result BenchLine ℕ
 call_meaning s (name ∷ state ∷ words) = do
-  _ ← broken_unless (not (is_off state) || (length words == 0)) WRONG_COUNT
+  _ ← broken_unless (not (is_off state) || (length words == 0)) wrong_count
   k ← block_named s name
-  b ← ok_or (slice_get s.blocks k) WRONG_NAME
+  b ← ok_or (slice_get s.blocks k) wrong_name
   i ← inputs_by Internal s b state words
   Ok (Call k i)
-call_meaning s _ = Err WRONG_COUNT
+call_meaning s _ = Err wrong_count

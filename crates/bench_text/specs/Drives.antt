@@ -5,20 +5,24 @@ use Rattle.line_text.specs.Reading.{◌>>=◌, each_of}
 use Rattle.machine_words.specs.Drives.{drive_in}
 use Rattle.machine_words.specs.Names.{axis_at, axis_named}
 use Rattle.machine_words.specs.Numbers.{number}
-use Rattle.machine_words.specs.declared.rule.TheConstants.{WRONG_COUNT, WRONG_NAME}
+use Rattle.machine_words.specs.RuleNumbers.{out_of_range, too_many, wrong_count, wrong_name}
+use Rattle.machine_words.specs.declared.rule.ItemRules.{ItemRules}
 use Rattle.motion_history.specs.Setup.{Setup}
 use Rattle.motion_history.specs.declared.drives.DriveDef.{DriveDef}
-use Rattle.bench_text.specs.declared.item.TheConstants.{RULES}
+
+-- the rules that the numbers of an item break
+abbrev pub item_rules : ItemRules
+item_rules = record { wrong = out_of_range; too_many = too_many }
 
 -- `drive AXIS LAG FAULT ..`: a lag, and rising fault steps from 1
 unfoldable pub drive_meaning : Setup → List (List ℕ) → Result (ℕ × DriveDef) ℕ
 drive_meaning s (name ∷ lag ∷ faults) = do
-  axis ← axis_named WRONG_NAME s name
+  axis ← axis_named wrong_name s name
   steps_behind ← number lag
   numbers ← each_of number faults
-  drive ← drive_in RULES steps_behind numbers
+  drive ← drive_in item_rules steps_behind numbers
   Ok (axis, drive)
-drive_meaning s _ = Err WRONG_COUNT
+drive_meaning s _ = Err wrong_count
 
 -- whether a number is one of some numbers
 abbrev pub has_number : List ℕ → ℕ → Bool

@@ -1,5 +1,5 @@
 -- The forms of a bench's lines. This project's profile.
-use Rattle.std.specs.Prelude.{ℕ, Bool, true, false, ◌&&◌, nat_le, codes, Option, Some, None, List}
+use Rattle.std.specs.Prelude.{ℕ, Bool, true, false, ◌&&◌, nat_le, codes, Option, Some, None, List, [], ◌∷◌}
 use Rattle.std.specs.List.{find}
 use Rattle.std.specs.Option.{option_map_or}
 use Rattle.std.specs.Str.{bytes_eq}
@@ -9,7 +9,12 @@ use Rattle.bench_text.specs.declared.form.Form.{Form}
 use Rattle.bench_text.specs.declared.form.Form.TheVariants as form
 use Rattle.bench_text.specs.declared.form.Part.{Part}
 use Rattle.bench_text.specs.declared.form.Part.TheVariants.{Start, Machine, Events}
-use Rattle.bench_text.specs.declared.form.TheConstants.{FORMS}
+
+-- the forms of a line behind the first, in the order of a bench
+abbrev pub forms : List Form
+forms =
+    form.Limit ∷ form.Axis ∷ form.Drive ∷ form.Group ∷ form.Table ∷ form.Task ∷ form.Block ∷
+    form.Go ∷ form.Call ∷ form.Cycle ∷ form.End ∷ []
 
 -- the first word of a line of each form
 unfoldable pub word_of : Form → List ℕ
@@ -27,7 +32,7 @@ word_of form.End = codes "end"
 
 -- the form of a line by its first word
 unfoldable pub form_of : List ℕ → Option Form
-form_of first = find (λ f. bytes_eq (word_of f) first) FORMS
+form_of first = find (λ f. bytes_eq (word_of f) first) forms
 
 -- the part of a bench in which a line of each form stands
 abbrev pub part_of : Form → Part

@@ -6,7 +6,7 @@ use Rattle.line_text.specs.Rules.{broken_unless}
 use Rattle.line_text.specs.Texts.{says}
 use Rattle.machine_words.specs.Items.{task_meaning}
 use Rattle.machine_words.specs.Rules.{broken_by, refused_by, rule_of}
-use Rattle.machine_words.specs.declared.rule.TheConstants.{NO_VERSION, NOT_WHOLE, OUT_OF_PLACE, WRONG_COUNT}
+use Rattle.machine_words.specs.RuleNumbers.{no_version, not_whole, out_of_place, wrong_count}
 use Rattle.motion_history.specs.Drives.{plain_drive}
 use Rattle.motion_history.specs.Faults.{whole_fault}
 use Rattle.motion_history.specs.Setup.{Setup}
@@ -60,9 +60,9 @@ is_bench word = says word (codes "motion-bench")
 -- `motion-bench 1` or `motion-bench 2`
 unfoldable pub version_of : List (List ℕ) → Result TraceVersion ℕ
 version_of (word ∷ number ∷ []) = do
-  _ ← broken_unless (is_bench word) NO_VERSION
-  ok_or (version_numbered number) NO_VERSION
-version_of _ = Err NO_VERSION
+  _ ← broken_unless (is_bench word) no_version
+  ok_or (version_numbered number) no_version
+version_of _ = Err no_version
 
 -- the first line begins the machine part
 unfoldable pub version_meaning : SoFar → List (List ℕ) → Result SoFar ℕ
@@ -80,10 +80,10 @@ is_again s _ words = false
 -- as it has
 unfoldable pub form_in : SoFar → List ℕ → List (List ℕ) → Result Form ℕ
 form_in s first words = do
-  form ← ok_or (form_of first) OUT_OF_PLACE
-  _ ← broken_unless (is_part (part_of form) s.part) OUT_OF_PLACE
-  _ ← broken_unless (not (is_again s form words)) OUT_OF_PLACE
-  _ ← broken_unless (is_counted s.version form (length words)) WRONG_COUNT
+  form ← ok_or (form_of first) out_of_place
+  _ ← broken_unless (is_part (part_of form) s.part) out_of_place
+  _ ← broken_unless (not (is_again s form words)) out_of_place
+  _ ← broken_unless (is_counted s.version form (length words)) wrong_count
   Ok form
 
 -- the machine of a bench with one more item
@@ -119,7 +119,7 @@ drives_meaning s words = do
 -- `go` ends the machine part, which is whole
 unfoldable pub go_meaning : SoFar → Result SoFar ℕ
 go_meaning s = do
-  _ ← broken_unless s.limited NOT_WHOLE
+  _ ← broken_unless s.limited not_whole
   _ ← broken_by rule_of (whole_fault s.setup)
   Ok (record s { part = Events })
 
@@ -152,7 +152,7 @@ meaning s words =
 -- the bench at the end of the text: `go` has come
 unfoldable pub ending : SoFar → Result BenchState ℕ
 ending s = do
-  _ ← broken_unless (is_part s.part Events) NOT_WHOLE
+  _ ← broken_unless (is_part s.part Events) not_whole
   Ok (record { version = s.version; config = s.setup; drives = s.drives; lines = s.lines })
 
 -- a rule of a bench is told by the letter B

@@ -1,5 +1,5 @@
 -- A drive's answers, output by output.
-use Rattle.std.proofs.Common.{◌≡◌, ℕ, suc, ◌+◌, List, [], ◌∷◌, ◌++◌, length, length-append, append_assoc, Option, Some, None, refl, sym, ap, subst, ◌∙◌, arith}
+use Rattle.std.proofs.Common.{◌≡◌, suc, List, [], ◌∷◌, ◌++◌, length, Option, Some, None, refl, sym, ap, subst, ◌∙◌, arith}
 use mathlib.Core.List.{IsPrefix}
 use Rattle.std.specs.List.{last_or}
 use Rattle.cia402_machine.specs.declared.drive.DriveIn.{DriveIn}
@@ -9,7 +9,7 @@ use Rattle.drive_sim.specs.Runs.{answers_of, drive_after}
 use Rattle.drive_sim.specs.Sim.{DriveSim}
 use Rattle.drive_sim.specs.Steps.{answer_of, drive_stepped}
 use Rattle.setpoint_ring.specs.Sides.{DriveSide}
-use Rattle.drive_jobs.specs.Answered.{AnswersOneMore, IsAnswered}
+use Rattle.drive_jobs.specs.Answered.{IsAnswered}
 use Rattle.drive_jobs.specs.Log.{IsLogOf}
 
 -- a drive after one output more
@@ -55,37 +55,13 @@ pub answered_once : (o d : DriveSim) (e : DriveSide) → IsAnswered o d e → e.
 answered_once o d e f none =
     let n = answers_counted o d e f in let z = ap length none in absurd (omega arith)
 
--- one more of the outputs that are left is answered
-pub left_answered : (sent : List DriveOut) (o d d' : DriveSim) (e e' : DriveSide) →
-    AnswersOneMore sent d e d' e' → IsAnswered o d e → IsAnswered o d' e'
-left_answered sent o d d' e e' s f =
-    answered_more o d d' e e' s.out f s.taken s.drive_is s.answers
-
--- what was taken then is still a beginning of what was sent
-pub left_begins : (sent : List DriveOut) (d d' : DriveSim) (e e' : DriveSide) →
-    AnswersOneMore sent d e d' e' → IsPrefix e'.taken sent
-left_begins sent d d' e e' s = (
-  s.behind,
-  ap (λ xs. xs ++ s.behind) s.taken ∙
-      append_assoc e.taken (s.out ∷ []) s.behind ∙ s.left,
-)
-
--- and is one output longer
-pub left_counted : (sent : List DriveOut) (d d' : DriveSim) (e e' : DriveSide) →
-    AnswersOneMore sent d e d' e' → length e'.taken ≡ length e.taken + 1
-left_counted sent d d' e e' s =
-    let a = ap length s.taken in
-    let l = length-append e.taken (s.out ∷ []) in omega arith
-
--- what the kernel took is still a beginning of the answers
-pub left_answers : (sent : List DriveOut) (d d' : DriveSim) (e e' : DriveSide)
-    (ins : List DriveIn) → AnswersOneMore sent d e d' e' → IsPrefix ins e.sent →
-    IsPrefix ins e'.sent
-left_answers sent d d' e e' ins s p = (
-  p.0 ++ answer_of d' ∷ [],
-  sym (append_assoc ins p.0 (answer_of d' ∷ [])) ∙
-      ap (λ xs. xs ++ answer_of d' ∷ []) p.1 ∙ sym s.answers,
-)
+-- an end that sent and took the same has answered as much
+pub kept_answered : (o d : DriveSim) (e e' : DriveSide) → IsAnswered o d e → e'.sent ≡ e.sent →
+    e'.taken ≡ e.taken → IsAnswered o d e'
+kept_answered o d e e' f sent taken = record {
+  answers = sent ∙ f.answers ∙ ap (answers_of o) (sym taken);
+  drive_is = f.drive_is ∙ ap (drive_after o) (sym taken);
+}
 
 -- the last answer is that behind all outputs
 last_answer : (o : DriveSim) (os : List DriveOut) (before : Option DriveIn) →

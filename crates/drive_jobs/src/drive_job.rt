@@ -3,7 +3,7 @@
 ghost use Rattle.std.specs.Prelude.{◌≡◌, ◌≤◌, ◌+◌, ◌++◌, ◌∷◌, [], length};
 ghost use Rattle.drive_sim.specs.Steps.{answer_of, drive_stepped};
 ghost use Rattle.drive_jobs.specs.Answered.{IsAnswered, IsDone};
-ghost use Rattle.setpoint_ring.specs.declared.TheConstants.{MOST_OUTPUTS};
+ghost use Rattle.setpoint_ring.specs.Sides.{HasEnded};
 
 use crossbeam_utils::Backoff;
 use drive_sim::Drive;
@@ -39,6 +39,7 @@ pub fn work_drive<R: Wait>(rt: &R, job: DriveJob) -> DriveJobEnd
 fn run_drive<R: Wait>(rt: &R, drive: &mut Drive, end: &mut DriveEnd)
     requires unused { (end.old.sent ≡ []) × (end.old.taken ≡ []) }
     ensures ring { end.new.ring ≡ end.old.ring }
+    ensures ended { HasEnded end.new }
     ensures answered { IsAnswered drive.old drive.new end.new }
 {
     push_answer(rt, end, 1, drive.answer());
@@ -60,7 +61,7 @@ fn run_drive<R: Wait>(rt: &R, drive: &mut Drive, end: &mut DriveEnd)
 // Steps the drive by one output, and answers it.
 fn answer_one<R: Wait>(rt: &R, drive: &mut Drive, end: &mut DriveEnd, output: Numbered<DriveOut>)
     requires number { output.number + 1 ≡ length end.old.sent + 1 }
-    requires few { output.number ≤ MOST_OUTPUTS }
+    requires few { output.number ≤ 200000 }
     ensures ring { end.new.ring ≡ end.old.ring }
     ensures taken { end.new.taken ≡ end.old.taken }
     ensures sent { end.new.sent ≡ end.old.sent ++ answer_of drive.new ∷ [] }

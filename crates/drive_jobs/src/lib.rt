@@ -5,7 +5,6 @@
 
 mod drive_job;
 mod line;
-mod settle;
 #[cfg(test)]
 mod tests;
 

@@ -5,12 +5,9 @@ ghost use Rattle.drive_jobs.specs.Answered.{IsDone};
 ghost use Rattle.drive_jobs.specs.Log.{IsLogOf};
 
 use crate::drive_job::{DriveJob, DriveJobEnd};
-use crate::settle::settle;
 use crossbeam_utils::Backoff;
 use drive_sim::Drive;
-use setpoint_ring::{
-    DriveIn, DriveLog, DriveOut, KernelEnd, MOST_OUTPUTS, Numbered, OutOfMemory, ring,
-};
+use setpoint_ring::{DriveIn, DriveLog, DriveOut, KernelEnd, Numbered, OutOfMemory, beside, ring};
 use std::alloc::Global;
 use std::marker::Model;
 use std::snapshot::Snapshot;
@@ -50,7 +47,7 @@ impl Line {
     /// Gives the drive the output of a cycle, once a slot is free.
     pub fn push<R: Wait>(&mut self, rt: &R, number: u32, item: DriveOut)
         requires next { number ≡ length self.old.outs + 1 }
-        requires few { number ≤ MOST_OUTPUTS }
+        requires few { number ≤ 200000 }
         requires goes_on { self.old.ended ≡ false }
         ensures { self.new ≡ record self.old { outs = self.old.outs ++ item ∷ [] } }
     {
@@ -65,12 +62,13 @@ impl Line {
     }
 
     /// What the drive took and answered in all, once its job has ended so: each output that it was
-    /// given, in order and once, also those that were still in the ring.
+    /// given, in order and once.
     pub fn finish(&mut self, end: DriveJobEnd) -> DriveLog
         requires done { IsDone self.old.job.drive self.old.job.end.ring end }
         ensures log { IsLogOf self.old.job.drive self.old.outs self.old.ins result }
     {
-        let DriveJobEnd { end, .. } = settle(&mut self.kernel, end);
+        let DriveJobEnd { mut end, .. } = end;
+        beside(&mut self.kernel, &mut end);
         end.finish()
     }
 }
@@ -95,7 +93,7 @@ fn take_from<R: Wait>(rt: &R, kernel: &mut KernelEnd) -> DriveIn
 // Sends an output once a slot is free.
 fn push_to<R: Wait>(rt: &R, kernel: &mut KernelEnd, output: Numbered<DriveOut>)
     requires next { output.number ≡ length kernel.old.sent + 1 }
-    requires few { output.number ≤ MOST_OUTPUTS }
+    requires few { output.number ≤ 200000 }
     requires goes_on { kernel.old.ended ≡ false }
     ensures { kernel.new ≡ record kernel.old {
       sent = kernel.old.sent ++ output.item ∷ [];

@@ -1,11 +1,11 @@
-// What no clause says: a drive in a thread of its own, and outputs that are left in its ring.
+// What no clause says: a drive in a thread of its own, and an output that stands before the end.
 
 ghost use Rattle.std.specs.Prelude.{◌≡◌, ◌≤◌, [], false, length};
 ghost use Rattle.drive_jobs.specs.Answered.{IsDone};
 
-use crate::{DriveJob, DriveJobEnd, Line, start_line, work_drive};
+use crate::{DriveJobEnd, Line, start_line, work_drive};
 use drive_sim::Drive;
-use setpoint_ring::{DriveLog, DriveOut, Numbered};
+use setpoint_ring::{DriveLog, DriveOut};
 use std::process::Abort;
 use std::sync::Wait;
 use std::test::Fail;
@@ -73,16 +73,15 @@ fn answers_each_output_in_a_thread_of_its_own(rt: HostRuntime) -> Result<(), Fai
 }
 
 #[test]
-fn takes_what_is_left_once_its_job_has_ended(rt: HostRuntime) -> Result<(), Fail> {
-    let drive = Drive::open(rt.alloc(), 1, &[], 0, true)?;
+fn takes_what_is_left_before_the_end(rt: HostRuntime) -> Result<(), Fail> {
+    let drive = Drive::open(rt.alloc(), 0, &[], 0, true)?;
     let (mut line, job) = start_line(rt.alloc(), drive)?;
-    line.push(&rt, 1, output(0));
-    line.push(&rt, 2, output(1));
-    let DriveJob { drive, mut end } = job;
-    let number = 1;
-    let item = drive.answer();
-    assert!(rt; end.push(Numbered { number, item }).is_ok());
-    let log = line.finish(DriveJobEnd { drive, end });
-    expect_log(&rt, &log, 2);
+    line.push(&rt, 1, output(7));
+    line.end();
+    let end = work_drive(&rt, job);
+    let log = line.finish(end);
+    assert_eq!(rt; (log.taken, log.sent, log.took.len()), (1, 2, 1));
+    assert_eq!(rt; log.took.get(0), Some(&output(7)));
+    assert_eq!(rt; log.last.actual, 7);
     Ok(())
 }

@@ -148,6 +148,11 @@ none_waited [] ys p empty = refl
 none_waited (Output x ∷ xs) ys p empty = let e : outputs_of (Output x ∷ (xs ++ p.0)) ≡ [] = ap outputs_of p.1 ∙ empty in absurd (cc)
 none_waited (End ∷ xs) ys p empty = refl
 
+-- an end that was seen is known
+pub end_known : (xs : List ToDrive) → has_end xs ≡ true → 0 < length xs
+end_known [] seen = absurd (cc)
+end_known (x ∷ xs) seen = omega arith
+
 -- an output that waits is known
 pub some_known : (xs : List ToDrive) → 0 < length (outputs_of xs) → 0 < length xs
 some_known [] some = some

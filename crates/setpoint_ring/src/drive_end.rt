@@ -57,7 +57,7 @@ impl DriveEnd {
         }
     }
 
-    /// Takes the next output, or nothing where none is there.
+    /// Takes the next output, or nothing where none is there or the end is next.
     pub fn take(&mut self) -> Option<Numbered<DriveOut>>
         ensures taken { IfSome result (λ output. self.new ≡ record self.old {
           taken = self.old.taken ++ output.item ∷ [];
@@ -70,6 +70,7 @@ impl DriveEnd {
             IfSome result (λ output. self.old.waiting ≡ output.item ∷ self.new.waiting) }
         ensures none { IfNone result (self.new ≡ record self.old { ended = self.new.ended }) }
         ensures succeeds { 0 < length self.old.waiting → IsSome result }
+        ensures end { HasEnded self.old → result ≡ None }
         ensures stays { self.old.ended ≡ true → self.new.ended ≡ true }
     {
         let output = take_output(&mut self.outputs)?;

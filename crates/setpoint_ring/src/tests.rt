@@ -1,16 +1,14 @@
-// What no clause says: rings that fill, empty and end, and two threads that pass items both ways.
+// What no clause says: rings that fill, empty and end, and threads that have their ends.
+mod threads;
 
 ghost use Rattle.std.specs.Prelude.{◌≡◌, ◌≤◌, ◌+◌, ◌^◌, ◌<◌, [], length, false};
 
 use crate::{
-    DriveEnd, DriveIn, DriveOut, KernelEnd, KernelLog, MOST_OUTPUTS, MOST_ROOM, Numbered,
-    OutOfMemory, beside, ring,
+    DriveEnd, DriveIn, DriveOut, KernelEnd, MOST_OUTPUTS, MOST_ROOM, Numbered, OutOfMemory, beside,
+    ring,
 };
 use std::alloc::Global;
-use std::process::Abort;
-use std::sync::Wait;
 use std::test::Fail;
-use std::thread;
 
 // The output of this number, by which each is told from the others.
 fn output(number: u32) -> Numbered<DriveOut>
@@ -76,35 +74,6 @@ impl Kernel {
     {
         beside(&mut self.end, &mut drive.end)
     }
-
-    // The next answer. Until it comes, outputs are sent, as many as that in all.
-    fn wait_for_answer<R: Wait>(&mut self, rt: &R, count: u32) -> Numbered<DriveIn>
-        ensures { self.new.end.ring ≡ self.old.end.ring }
-    {
-        for _ in rt.forever() {
-            if self.sent < count {
-                self.send();
-            }
-            if let Some(next) = self.take() {
-                return next;
-            }
-            thread::yield_now();
-        }
-        unreachable!()
-    }
-
-    // Sends so many outputs and takes as many answers, each in its order and once.
-    fn pass_all<R: Wait + Abort>(mut self, rt: &R, count: u32) -> KernelEnd
-        ensures { result.ring ≡ self.end.ring }
-    {
-        for number in 1..=count {
-            let next = self.wait_for_answer(rt, count);
-            assert_eq!(rt; next, answer(number));
-        }
-        let mut end = self.end;
-        end.end();
-        end
-    }
 }
 
 // A drive's end that numbers what it sends.
@@ -140,31 +109,6 @@ impl Drive {
         ensures { self.new.end.ring ≡ self.old.end.ring }
     {
         self.end.ended()
-    }
-
-    // Answers each output, which come in their order and once, until the end is told.
-    fn answer_all<R: Wait + Abort>(mut self, rt: &R) -> Drive
-        ensures { result.end.ring ≡ self.end.ring }
-    {
-        let mut number = 0u32;
-        for _ in rt.forever() {
-            let Some(next) = self.take() else {
-                if self.has_ended() {
-                    return self;
-                }
-                thread::yield_now();
-                continue;
-            };
-            number = number.wrapping_add(1);
-            assert_eq!(rt; next, output(number));
-            for _ in rt.forever() {
-                if self.send() {
-                    break;
-                }
-                thread::yield_now();
-            }
-        }
-        unreachable!()
     }
 }
 
@@ -233,6 +177,17 @@ fn has_as_many_slots_each_way_as_its_room(rt: HostRuntime) -> Result<(), Fail> {
 }
 
 #[test]
+fn looks_again_where_it_knows_of_none(rt: HostRuntime) -> Result<(), Fail> {
+    let mut pair = Pair::new(rt.alloc(), 1)?;
+    for number in [1, 2, 3] {
+        assert_eq!(rt; pair.send(1, 1), (number, number));
+        assert_eq!(rt; pair.take_output(), Some(output(number)));
+        assert_eq!(rt; pair.take_answer(), Some(answer(number)));
+    }
+    Ok(())
+}
+
+#[test]
 fn gives_back_what_finds_no_slot(rt: HostRuntime) -> Result<(), Fail> {
     let (mut kernel, mut drive) = ring(rt.alloc(), 1)?;
     if kernel.push(output(1)).is_err() || drive.push(answer(1)).is_err() {
@@ -261,46 +216,5 @@ fn tells_the_end_once_all_is_taken(rt: HostRuntime) -> Result<(), Fail> {
     }
     assert!(rt; drive.has_ended());
     assert_eq!(rt; drive.take(), None);
-    Ok(())
-}
-
-#[test]
-fn two_threads_pass_items_both_ways(rt: HostRuntime) -> Result<(), Fail> {
-    let count = 100_000;
-    let Pair { kernel, drive, .. } = Pair::new(rt.alloc(), 2)?;
-    let shared = &rt;
-    let (mut kernel, mut drive) = thread::join(
-        &rt,
-        move || -> KernelEnd
-            ensures { result.ring ≡ kernel.end.ring }
-        { kernel.pass_all(shared, count) },
-        move || -> Drive
-            ensures { result.end.ring ≡ drive.end.ring }
-        { drive.answer_all(shared) },
-    );
-    assert_eq!(rt; beside(&mut kernel, &mut drive.end), (0, 0));
-    let log = KernelLog {
-        sent: count,
-        taken: count,
-    };
-    assert_eq!(rt; kernel.finish(), log);
-    expect_log(&rt, drive, count)
-}
-
-// The drive took so many outputs, in their order and each once, and sent as many answers.
-fn expect_log(rt: &impl Abort, drive: Drive, count: u32) -> Result<(), Fail> {
-    if drive.sent == 0 {
-        return Err(Fail::new("the drive sent nothing"));
-    }
-    let log = drive.end.finish();
-    assert_eq!(rt;
-        (log.sent, log.taken, log.took.len()),
-        (count, count, count)
-    );
-    assert_eq!(rt; log.last, answer(count).item);
-    for place in 0..count {
-        assert_eq!(rt; log.took.get(place), Some(&output(place + 1).item));
-    }
-    assert_eq!(rt; log.took.get(count), None);
     Ok(())
 }

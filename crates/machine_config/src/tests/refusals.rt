@@ -189,7 +189,7 @@ fn lines(alloc: Global, text: &str) -> Result<Vec<u8>, AllocError> {
 }
 
 // The whole text with a text in place of another.
-pub(super) fn changed(alloc: Global, change: &str) -> Result<Vec<u8>, Fail> {
+fn changed(alloc: Global, change: &str) -> Result<Vec<u8>, Fail> {
     let (old, new) = change.split_once("=>").ok_or("an arrow")?;
     let old = lines(alloc, old)?;
     let new = lines(alloc, new)?;
@@ -202,7 +202,7 @@ pub(super) fn changed(alloc: Global, change: &str) -> Result<Vec<u8>, Fail> {
 }
 
 // Stops the test unless each change is refused where and as it says.
-fn expect_refusals(rt: &impl Abort, alloc: Global, changes: &str) -> Result<(), Fail> {
+pub(super) fn expect_refusals(rt: &impl Abort, alloc: Global, changes: &str) -> Result<(), Fail> {
     for line in changes.lines() {
         let (at, change) = line.split_once(' ').ok_or("a place and a rule")?;
         let [place, rule] = at.as_bytes() else {

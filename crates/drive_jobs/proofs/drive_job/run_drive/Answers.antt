@@ -1,5 +1,5 @@
 -- One output more is answered.
-use Rattle.std.proofs.Common.{rules, ◌≡◌, suc, ◌+◌, ◌++◌, ◌∷◌, [], length, sym, ap, ◌∙◌, arith, length-append}
+use Rattle.std.proofs.Common.{rules, ◌∷◌, [], length, ap, arith, length-append}
 use Rattle.setpoint_ring.specs.Sides.{DriveSide}
 use Rattle.drive_jobs.proofs.AnswerLaws.{answered_more, answers_counted}
 use Rattle.drive_jobs.proofs.drive_job.run_drive.Goals as goal

@@ -1,7 +1,7 @@
 use Rattle.std.proofs.Common.{arith, ◌<◌, ◌++◌, ◌∷◌, [], length, refl, sym, ap, subst, ◌∙◌}
 use Rattle.setpoint_ring.specs.Order.{outputs_of}
 use Rattle.setpoint_ring.specs.Sides.{DriveSide}
-use Rattle.setpoint_ring.proofs.Ended.{end_stays, if_none, none_waited, put_counted, put_going, put_outputs, some_known}
+use Rattle.setpoint_ring.proofs.Ended.{end_known, end_stays, if_none, none_waited, put_counted, put_going, put_outputs, some_known}
 use Rattle.setpoint_ring.proofs.Fields.{drive_same, outputs_same, way_same}
 use Rattle.setpoint_ring.proofs.drive_end.DriveEnd.take.Goals as goal
 
@@ -59,3 +59,11 @@ returns-clause-waiting c = λ some.
 
 pub returns-clause-stays : goal.returns-clause-stays
 returns-clause-stays c = λ seen. end_stays _ _ c.in_ok-output.ensures.known (ap (λ (s : DriveSide). s.ended) c.self.view_is ∙ seen)
+
+-- no output comes where the end is next
+pub returns-clause-end : goal.returns-clause-end
+returns-clause-end c = λ ended.
+    let seen = ap (λ (s : DriveSide). s.ended) c.self.view_is ∙ ended.seen in
+    let empty = ap (λ (s : DriveSide). s.waiting) c.self.view_is ∙ ended.empty in
+    let first = sym empty ∙ ap outputs_of (c.in_ok-output.ensures.first (end_known _ seen)) in
+    absurd (cc)
