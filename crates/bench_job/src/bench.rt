@@ -20,8 +20,15 @@ use outside::Sink;
 use std::alloc::{AllocError, Global};
 use trace_text::{Command, DriveEndRow, TraceFault, parts_are_beginnings, write_trace};
 
-/// Runs the bench that a text is, and writes its trace.
-pub fn run_text<K: Sink>(alloc: Global, name: &str, text: &[u8], out: &mut K) -> Status
+/// Runs the bench that a text is, and writes its trace. Where a number of events is told, a standby
+/// follows the kernel for so many and then takes its place: the status and the trace are the same.
+pub fn run_text<K: Sink>(
+    alloc: Global,
+    name: &str,
+    text: &[u8],
+    cut: Option<u32>,
+    out: &mut K,
+) -> Status
     ensures { EndsByBench name.now text.now
         (record { count = K.count out.old; told = K.told out.old })
         (record { count = K.count out.new; told = K.told out.new }) result }
@@ -29,21 +36,21 @@ pub fn run_text<K: Sink>(alloc: Global, name: &str, text: &[u8], out: &mut K) ->
     ends_follow_plans();
     runs_are_in_step();
     match read_bench(alloc, text) {
-        Ok(bench) => run_bench(alloc, &bench, out),
+        Ok(bench) => run_bench(alloc, &bench, cut, out),
         Err(TextFault::Refused(refused)) => say_refused(alloc, 1, name, &refused, out),
         Err(TextFault::OutOfMemory) => Status::OutOfMemory,
     }
 }
 
 // Runs a bench, and writes its trace.
-fn run_bench<K: Sink>(alloc: Global, bench: &Bench, out: &mut K) -> Status
+fn run_bench<K: Sink>(alloc: Global, bench: &Bench, cut: Option<u32>, out: &mut K) -> Status
     ensures runs { RunsBy (λ b. b ≡ bench.now) result }
     ensures ends { EndsBy (record { count = K.count out.old; told = K.told out.old })
         (record { count = K.count out.new; told = K.told out.new })
         (plan_of_bench bench.now) result }
 {
     ends_follow_plans();
-    let Ok(ran) = run(alloc, bench) else {
+    let Ok(ran) = run(alloc, bench, cut) else {
         return Status::OutOfMemory;
     };
     status_by(status_of(ran.ending), write_run(alloc, bench, &ran, out))

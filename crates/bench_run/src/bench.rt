@@ -10,6 +10,7 @@ ghost use Rattle.bench_run.specs.Run as spec;
 use crate::events::make_all;
 use bench_text::Bench;
 use drive_sim::Drive;
+use hot_standby::PrimaryKernel;
 use machine_drives::{drives_can_be_opened, open_drives};
 use motion_history::OutOfMemory;
 use motion_kernel::Kernel;
@@ -42,9 +43,11 @@ fn histories_are_legal(kernel: &Kernel)
     let _ = kernel.history();
 }
 
-/// Runs a bench: its events one after another, until one can't be made.
+/// Runs a bench: its events one after another, until one can't be made. Where a number of events is
+/// told, a standby follows the kernel for so many, or for all of them, and then takes its place:
+/// the run is the same.
 #[tactic(auto, unfolding(crate::specs::Run::run_of))]
-pub fn run(alloc: Global, bench: &Bench) -> Result<Ran, OutOfMemory>
+pub fn run(alloc: Global, bench: &Bench, cut: Option<u32>) -> Result<Ran, OutOfMemory>
     ensures made { IfOk result (λ r.
         run_at r.kernel r.drives.items r.ending ≡ spec.run_of bench.now) }
     ensures config { IfOk result (λ r. r.kernel.config ≡ bench.now.config) }
@@ -54,10 +57,9 @@ pub fn run(alloc: Global, bench: &Bench) -> Result<Ran, OutOfMemory>
     drives_can_be_opened();
     let config = bench.config();
     let mut drives = open_drives(alloc, config.axes(), bench.drives().as_slice())?;
-    let Ok(mut kernel) = Kernel::open(alloc, config.copy(alloc)?) else {
-        return Err(OutOfMemory);
-    };
-    let ending = make_all(&mut kernel, drives.as_mut_slice(), bench.lines());
+    let mut primary = PrimaryKernel::open(alloc, config.copy(alloc)?, cut)?;
+    let ending = make_all(&mut primary, drives.as_mut_slice(), bench.lines());
+    let kernel = primary.finish();
     histories_are_legal(&kernel);
     Ok(Ran {
         kernel,

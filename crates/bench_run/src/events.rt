@@ -14,9 +14,9 @@ use bench_text::BenchLine;
 use cia402_machine::{DriveIn, DriveOut};
 use drive_sim::Drive;
 use fb_outputs::Inputs;
+use hot_standby::PrimaryKernel;
 use machine_drives::{answer_all, step_all};
 use motion_history::MOST_AXES;
-use motion_kernel::Kernel;
 
 /// An answer before it is given.
 const NO_ANSWER: DriveIn = DriveIn {
@@ -34,7 +34,7 @@ const NO_OUTPUT: DriveOut = DriveOut {
 
 // Whether there is room for an event: for a cycle, cycles first, then entries.
 #[tactic(auto, unfolding(crate::specs::Run::room_for))]
-fn room_for(kernel: &Kernel, is_cycle: bool) -> Result<(), RunFault>
+fn room_for(kernel: &PrimaryKernel, is_cycle: bool) -> Result<(), RunFault>
     requires { kernel.now.stopped ≡ false }
     ensures value { result ≡ spec.room_for kernel.now.config kernel.now.history is_cycle }
     ensures room { OnOk result (length kernel.now.history < kernel.now.config.entries) }
@@ -52,7 +52,7 @@ fn room_for(kernel: &Kernel, is_cycle: bool) -> Result<(), RunFault>
 
 // A cycle of the kernel and the drives, for which there is room.
 #[tactic(auto, unfolding(crate::specs::Run::cycled))]
-fn cycle(kernel: &mut Kernel, drives: &mut [Drive])
+fn cycle(kernel: &mut PrimaryKernel, drives: &mut [Drive])
     requires room { length kernel.old.history < kernel.old.config.entries }
     requires cycle { cycles_of kernel.old.history < kernel.old.config.cycles }
     requires going { IsGoing kernel.old drives.old }
@@ -71,7 +71,7 @@ fn cycle(kernel: &mut Kernel, drives: &mut [Drive])
 }
 
 // A cycle.
-fn make_cycle(kernel: &mut Kernel, drives: &mut [Drive]) -> Result<(), RunFault>
+fn make_cycle(kernel: &mut PrimaryKernel, drives: &mut [Drive]) -> Result<(), RunFault>
     requires going { IsGoing kernel.old drives.old }
     ensures config { kernel.new.config ≡ kernel.old.config }
     ensures made { run_at kernel.new drives.new result ≡
@@ -85,7 +85,7 @@ fn make_cycle(kernel: &mut Kernel, drives: &mut [Drive]) -> Result<(), RunFault>
 
 // So many cycles.
 #[tactic(auto, unfolding(crate::specs::Run::made_all))]
-fn make_cycles(kernel: &mut Kernel, drives: &mut [Drive], count: u32) -> Result<(), RunFault>
+fn make_cycles(kernel: &mut PrimaryKernel, drives: &mut [Drive], count: u32) -> Result<(), RunFault>
     requires going { IsGoing kernel.old drives.old }
     ensures config { kernel.new.config ≡ kernel.old.config }
     ensures made { run_at kernel.new drives.new result ≡
@@ -100,7 +100,7 @@ fn make_cycles(kernel: &mut Kernel, drives: &mut [Drive], count: u32) -> Result<
 }
 
 // A call of a block, in its task.
-fn make_call(kernel: &mut Kernel, instance: u16, inputs: &Inputs) -> Result<(), RunFault>
+fn make_call(kernel: &mut PrimaryKernel, instance: u16, inputs: &Inputs) -> Result<(), RunFault>
     requires runs { kernel.old.stopped ≡ false }
     requires call { IsCall kernel.old.config instance inputs.now }
     ensures config { kernel.new.config ≡ kernel.old.config }
@@ -116,7 +116,7 @@ fn make_call(kernel: &mut Kernel, instance: u16, inputs: &Inputs) -> Result<(), 
 }
 
 // The end of a task.
-fn make_end(kernel: &mut Kernel, task: u8) -> Result<(), RunFault>
+fn make_end(kernel: &mut PrimaryKernel, task: u8) -> Result<(), RunFault>
     requires runs { kernel.old.stopped ≡ false }
     requires task { task < length kernel.old.config.tasks }
     ensures config { kernel.new.config ≡ kernel.old.config }
@@ -132,7 +132,7 @@ fn make_end(kernel: &mut Kernel, task: u8) -> Result<(), RunFault>
 
 // The events of a line.
 #[tactic(auto, unfolding(crate::specs::Run::events_of, crate::specs::Run::made_all))]
-fn make_line(kernel: &mut Kernel, drives: &mut [Drive], line: &BenchLine) -> Result<(), RunFault>
+fn make_line(kernel: &mut PrimaryKernel, drives: &mut [Drive], line: &BenchLine) -> Result<(), RunFault>
     requires line { IsLineOf kernel.old.config line.now }
     requires going { IsGoing kernel.old drives.old }
     ensures config { kernel.new.config ≡ kernel.old.config }
@@ -151,7 +151,7 @@ fn make_line(kernel: &mut Kernel, drives: &mut [Drive], line: &BenchLine) -> Res
 /// The events of lines, one after another.
 #[tactic(auto, unfolding(crate::specs::Run::made_all))]
 pub fn make_all(
-    kernel: &mut Kernel,
+    kernel: &mut PrimaryKernel,
     drives: &mut [Drive],
     lines: &[BenchLine],
 ) -> Result<(), RunFault>

@@ -9,6 +9,7 @@ use fb_outputs::Outputs;
 use group_state::{GroupRow, GroupState};
 use motion_history::{EntryLook, History};
 use std::alloc::{AllocError, Global};
+use std::process::Abort;
 use std::test::Fail;
 
 /// A bench, and behind each of its events what comes of it: of a call the letters of the outputs
@@ -125,20 +126,36 @@ fn text_of(alloc: Global, worked: &Worked) -> Result<String, AllocError> {
     Ok(text)
 }
 
+// How many events a standby follows, if there is one.
+const CUTS: [Option<u32>; 4] = [None, Some(0), Some(3), Some(9_999_999)];
+
+// A worked bench tells what is worked, wherever a standby takes over.
+fn expect_worked(
+    rt: &impl Abort,
+    alloc: Global,
+    worked: &Worked,
+    cut: Option<u32>,
+) -> Result<(), Fail> {
+    let text = text_of(alloc, worked)?;
+    let bench = read_bench(alloc, text.as_bytes())?;
+    let ran = run(alloc, &bench, cut)?;
+    let mut place = 0u64;
+    for ((event, wanted), line) in worked.events.iter().zip(bench.lines()) {
+        let next = place.saturating_add(entries_of(line));
+        let told = told_of(alloc, ran.kernel.history(), place, next)?;
+        assert_eq!(rt; told.as_str(), *wanted, "{event}");
+        place = next;
+    }
+    assert_eq!(rt; ran.kernel.history().entries(), place);
+    Ok(())
+}
+
 #[test]
 fn tells_what_is_worked(rt: HostRuntime) -> Result<(), Fail> {
     for worked in &rows::WORKED {
-        let text = text_of(rt.alloc(), worked)?;
-        let bench = read_bench(rt.alloc(), text.as_bytes())?;
-        let ran = run(rt.alloc(), &bench)?;
-        let mut place = 0u64;
-        for ((event, wanted), line) in worked.events.iter().zip(bench.lines()) {
-            let next = place.saturating_add(entries_of(line));
-            let told = told_of(rt.alloc(), ran.kernel.history(), place, next)?;
-            assert_eq!(rt; told.as_str(), *wanted, "{event}");
-            place = next;
+        for cut in CUTS {
+            expect_worked(&rt, rt.alloc(), worked, cut)?;
         }
-        assert_eq!(rt; ran.kernel.history().entries(), place);
     }
     Ok(())
 }

@@ -25,7 +25,7 @@ pub fn run_load<K: Sink>(alloc: Global, seed: u32, out: &mut K) -> Status
     let Ok(bench) = generate(alloc, seed) else {
         return Status::OutOfMemory;
     };
-    let Ok(ran) = run(alloc, &bench) else {
+    let Ok(ran) = run(alloc, &bench, None) else {
         return Status::OutOfMemory;
     };
     let history = ran.kernel.history();

@@ -18,13 +18,13 @@ open_drives-requires-clause-drives c =
 pub make_all-ending-requires-clause-lines : goal.make_all-ending-requires-clause-lines
 make_all-ending-requires-clause-lines c =
     same-lines _ _ _ _
-    (ap (λ (k : KernelState). k.config) c.in-Ok.ensures ∙ c.in_ok-copy.ensures
+    (ap (λ (k : KernelState). k.config) c.in_ok-primary.ensures ∙ c.in_ok-copy.ensures
     ∙ c.config-config.ensures.value) c.lines.ensures c.config-config.ensures.bench.lines
 
 pub make_all-ending-requires-clause-going : goal.make_all-ending-requires-clause-going
 make_all-ending-requires-clause-going c =
     going-first _ _ _ c.axes.ensures.setup
-    (ap (λ (k : KernelState). k.config) c.in-Ok.ensures ∙ c.in_ok-copy.ensures)
-    (ap (λ (k : KernelState). k.stopped) c.in-Ok.ensures)
+    (ap (λ (k : KernelState). k.config) c.in_ok-primary.ensures ∙ c.in_ok-copy.ensures)
+    (ap (λ (k : KernelState). k.stopped) c.in_ok-primary.ensures)
     (ap (λ (ds : List DriveSim). length ds) c.as_mut_slice.ensures.value
     ∙ c.in_ok-drives.ensures.each ∙ ap (λ (xs : List AxisDef). length xs) c.axes.ensures.axes)

@@ -7,7 +7,9 @@ use Rattle.hot_standby.proofs.standby.make_known.Goals as goal
 pub loop-made-preserved : goal.loop-made-preserved
 loop-made-preserved c =
     let split = c.pop_known-event.ensures.received.1 in
-    let fewer : length (known_items c.loop-made.ring) ≡ suc (length (known_items c.pop_known-event.new.self)) = ap length split in
+    let next = c.pop_known-event.new.self in
+    let fewer : length (known_items c.loop-made.ring) ≡ suc (length (known_items next)) =
+      ap length split in
     let count = c.loop-made.invariant.0 in
     let made = c.if-not-try_make.ensures.fit refl in (
       omega (arith, count, fewer),
