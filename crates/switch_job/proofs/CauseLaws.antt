@@ -1,23 +1,23 @@
 -- What the course of the job says of its files.
 use Rattle.std.specs.Prelude.{◌≡◌, ◌⊎◌, ◌≤◌, ◌<◌, refl, ℕ, nat_lt, if◌then◌else◌, true, false, Bool, Option, Some, None, IfSome, IsSomeAnd, Result, Ok, Err, List, length}
-use Rattle.std.proofs.Common.{◌∙◌, inl, inr, sym, ap, arith}
+use Rattle.std.proofs.Common.{◌∙◌, inl, inr, ap, arith}
 use Rattle.std.proofs.lemmas.Bool.{cases_Bool, ltb-false, ltb-true}
 use Rattle.cam_switch.specs.declared.switch.Switch.{Switch}
 use Rattle.job_ends.specs.Ends.{EndsBy, EndsEarly}
-use Rattle.job_ends.specs.Files.{GivesReading, IsRefusedText, IsText, NoReading, NoText}
+use Rattle.job_ends.specs.Files.{GivesReading, IsText, NoReading}
 use Rattle.job_ends.specs.Plans.{Plan, refused_plan, too_long_plan, unread_plan}
 use Rattle.job_ends.specs.declared.status.Status.{Status}
 use Rattle.job_ends.specs.declared.status.Status.TheVariants as status
 use Rattle.line_text.specs.Reading.{◌>>=◌}
 use Rattle.motion_history.specs.declared.refused.TextRefused.{TextRefused}
-use Rattle.outside.specs.Told.{FileMap, HasFile, IsLonger, LacksFile}
+use Rattle.outside.specs.Told.{FileMap, IsLonger, LacksFile}
 use Rattle.switch_text.specs.Reading.{switches_of}
 use Rattle.switch_text.specs.Spelled.{IsSwitchText}
 use Rattle.trace_text.specs.reading.Reading.{trace_of}
 use Rattle.trace_text.specs.TraceState.{TraceState}
 use Rattle.trace_text.specs.writing.Writes.{Output}
 use Rattle.switch_job.specs.Causes.{both_in, is_of_text, reading_in, switches_in, text_in, trace_in}
-use Rattle.switch_job.specs.Given.{GivesBoth, GivesSwitches, GivesTrace, IsTraceText, NoBoth, NoSwitches, NoTrace, most_of_switches, most_of_trace}
+use Rattle.switch_job.specs.Given.{GivesBoth, GivesTrace, IsTraceText, NoBoth, most_of_switches, most_of_trace}
 use Rattle.switch_job.specs.declared.reading.Both.{Both}
 
 -- ---- the text of a file

@@ -1,27 +1,25 @@
 -- What the course of the job says of its status.
-use Rattle.std.specs.Prelude.{◌≡◌, ◌≢◌, ◌⊎◌, refl, ℕ, true, false, Bool, Option, Some, None, IfSome, IsSomeAnd, Result, Ok, Err, List}
+use Rattle.std.specs.Prelude.{◌≡◌, ◌≢◌, ◌⊎◌, refl, ℕ, true, false, Bool, Option, Some, None, IsSomeAnd, Result, Ok, Err, List}
 use Rattle.std.specs.Io.KnownBytes.{Appends}
 use Rattle.std.proofs.Common.{◌∙◌, inl, inr, sym, ap, subst}
 use Rattle.std.proofs.lemmas.Bool.{cases_Bool}
 use Rattle.cam_switch.specs.declared.switch.Switch.{Switch}
 use Rattle.job_ends.specs.Causes.{ComesExactly, is_fault}
-use Rattle.job_ends.specs.Ends.{EndsBy, EndsEarly}
+use Rattle.job_ends.specs.Ends.{EndsEarly}
 use Rattle.job_ends.specs.Follows.{FollowPlans}
-use Rattle.job_ends.specs.Plans.{Plan}
 use Rattle.job_ends.specs.declared.status.Status.{Status}
 use Rattle.job_ends.specs.declared.status.Status.TheVariants as status
 use Rattle.outside.specs.Faults.{Rose}
 use Rattle.outside.specs.Told.{FileMap}
-use Rattle.switch_text.specs.Lines.{cycles_in, edges_text}
 use Rattle.trace_check.specs.Legal.{IsLegalTrace}
 use Rattle.trace_check.specs.Progress.{difference_in}
 use Rattle.trace_check.specs.declared.difference.Difference.{Difference}
-use Rattle.trace_text.specs.TraceState.{TraceState, entries_of}
+use Rattle.trace_text.specs.TraceState.{TraceState}
 use Rattle.trace_text.specs.writing.Writes.{Output}
 use Rattle.switch_job.proofs.CauseLaws.{TellsBy, TellsOf, both-given, no-both}
-use Rattle.switch_job.specs.Causes.{GivesIllegal, GivesLegal, SwitchCause, both_in, is_decided, is_of_both, is_of_switches, is_of_text}
+use Rattle.switch_job.specs.Causes.{SwitchCause, both_in, is_decided, is_of_both, is_of_switches, is_of_text}
 use Rattle.switch_job.specs.Ends.{Course, EndsByBoth, EndsBySwitches}
-use Rattle.switch_job.specs.Given.{GivesBoth, TellsLegal}
+use Rattle.switch_job.specs.Given.{TellsLegal}
 use Rattle.switch_job.specs.Plans.{plan_of_switches, switched_plan}
 use Rattle.switch_job.specs.Switched.{Switched}
 
@@ -176,9 +174,15 @@ both-cause files trace file t ss (Some x) wanted given law d e =
     subst (SwitchCause files trace file) e
     (record { read = t; switches = ss; given = given; difference = x; first = d; place_is = refl })
 
-same-given : {A B : Type 0} (r : Result (A × B) Status) (a c : A) (b d : B) → r ≡ Ok (a, b) →
-    r ≡ Ok (c, d) → a ≡ c
-same-given r a c b d e f = let same : Ok (a, b) ≡ Ok (c, d) = sym e ∙ f in cc
+-- the trace that is given, or this one where there is none
+trace-by : TraceState → Result (TraceState × List Switch) Status → TraceState
+trace-by t (Ok (u, ss)) = u
+trace-by t (Err s) = t
+
+same-given : (r : Result (TraceState × List Switch) Status) (a c : TraceState)
+    (b d : List Switch) → r ≡ Ok (a, b) → r ≡ Ok (c, d) → a ≡ c
+unfolding trace-by
+same-given r a c b d e f = ap (trace-by a) (sym e ∙ f)
 
 cause-both : (files : FileMap) (trace file : List ℕ) (t : TraceState) (ss : List Switch)
     (wanted : Status) → both_in files trace file ≡ Ok (t, ss) → TellsLegal t →

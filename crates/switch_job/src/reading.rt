@@ -41,8 +41,10 @@ pub fn read_both<F: Files, K: Sink>(
     ensures silent { OnOk result (out.new ≡ out.old) }
 {
     let trace = read_traced(alloc, trace_name, files, out)?;
-    let switches = read_switched(alloc, file_name, &trace, files, out)?;
-    Ok(Both { trace, switches })
+    match read_switched(alloc, file_name, &trace, files, out) {
+        Ok(switches) => Ok(Both { trace, switches }),
+        Err(status) => Err(status),
+    }
 }
 
 // The trace that the first file is.

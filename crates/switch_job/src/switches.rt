@@ -41,12 +41,7 @@ pub fn switch_files<F: Files, K: Sink>(
 }
 
 // Writes the edges of switches in a trace, if it is legal.
-fn write_both<K: Sink>(
-    alloc: Global,
-    trace: &Trace,
-    switches: &Switches,
-    out: &mut K,
-) -> Status
+fn write_both<K: Sink>(alloc: Global, trace: &Trace, switches: &Switches, out: &mut K) -> Status
     ensures ends { EndsBy (record { count = K.count out.old; told = K.told out.old })
         (record { count = K.count out.new; told = K.told out.new })
         (plan_of_switches trace.now switches.now) result }
