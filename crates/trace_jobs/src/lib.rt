@@ -6,4 +6,5 @@ mod traces;
 
 pub use job_ends::Status;
 pub use outside::Sink;
-pub use traces::{check_text, migrate_text};
+pub use trace_check::Difference;
+pub use traces::{check_text, migrate_text, say_difference};

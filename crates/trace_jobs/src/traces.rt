@@ -113,8 +113,8 @@ fn say_legal<K: Sink>(alloc: Global, entries: u64, out: &mut K) -> Status
     say(line, Status::Legal { entries }, out)
 }
 
-// Says the first record of a trace that is not the machine's.
-fn say_difference<K: Sink>(alloc: Global, difference: &Difference, out: &mut K) -> Status
+/// Says the first record of a trace that is not the machine's.
+pub fn say_difference<K: Sink>(alloc: Global, difference: &Difference, out: &mut K) -> Status
     ensures legal { tells_legal result ≡ false }
     ensures ends { EndsBy (record { count = K.count out.old; told = K.told out.old })
         (record { count = K.count out.new; told = K.told out.new })

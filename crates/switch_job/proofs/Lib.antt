@@ -1,0 +1,4 @@
+pub mod Verdicts
+pub mod GivenLaws
+pub mod CauseLaws
+pub mod EndLaws
