@@ -58,7 +58,7 @@ pub fn join_task<H: Host + Wait, G: Gate + Drop + Send + 'static>(
     }
 }
 
-// Joins a drive, which then takes what is left in its ring, and gives its log.
+// Joins a drive, which took all that stood in its ring before the end, and gives its log.
 fn finish_drive<H: Host + Wait, G: Gate + Drop + Send + 'static>(
     spawner: &mut Spawner<H, PlantJob<G>>,
     number: u32,

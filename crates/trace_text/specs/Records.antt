@@ -27,14 +27,13 @@ use Rattle.motion_history.specs.declared.config.GroupDef.{GroupDef}
 use Rattle.motion_history.specs.declared.refused.TraceVersion.{TraceVersion}
 use Rattle.motion_history.specs.declared.refused.TraceVersion.TheVariants.{One, Two}
 use Rattle.trace_columns.specs.Fields.{axis_state_text, drive_state_text, flag_text, group_state_text, hex_text, outputs_text}
-use Rattle.trace_text.specs.declared.records.TheConstants.{FIELDS}
 use Rattle.trace_text.specs.declared.command.Command.{Command}
 use Rattle.trace_text.specs.declared.drive_end.DriveEndRow.{DriveEndRow}
 use Rattle.trace_text.specs.Words.{command_text, version_text}
 
 -- a record has twelve fields; those that it does not use are empty
 abbrev pub padded : List (List ℕ) → List (List ℕ)
-padded fields = fields ++ replicate (FIELDS - length fields) []
+padded fields = fields ++ replicate (12 - length fields) []
 
 -- the text of a record: its fields with commas between them, and a line feed. RFC 4180, with line
 -- feeds

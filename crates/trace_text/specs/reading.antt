@@ -1,4 +1,5 @@
 -- What is read of a trace: its rules, where its records stand, and what each says.
+pub mod RuleNumbers
 pub mod Rules
 pub mod Items
 pub mod InputFields

@@ -35,7 +35,7 @@ use Rattle.trace_text.specs.Records.{axis_name, block_call_fields, call_fields, 
 use Rattle.trace_text.specs.Writable.{IsMachine, IsWritableCall}
 use Rattle.trace_text.specs.declared.reading.inputs.Followed.{Followed}
 use Rattle.trace_text.specs.declared.found.FoundEntry.TheVariants as found
-use Rattle.trace_text.specs.declared.reading.rule.TheConstants.{NO_VALUE}
+use Rattle.trace_text.specs.reading.RuleNumbers.{no_value}
 use Rattle.motion_history.proofs.DistinctLemmas.{each-from_list_all, each-weaker}
 use Rattle.trace_text.proofs.back.FieldsBack.{Given, number-back}
 use Rattle.trace_text.proofs.back.ItemsBack.{axis-at, axis-without, block-at, item-of, task-at, there-at}
@@ -154,7 +154,7 @@ mode-by g false mode is = ap Ok (sym (is refl))
 abbrev pub followed : Inputs → Followed
 followed i = record { master = i.master; numerator = i.numerator; denominator = i.denominator; table = i.table }
 
-master-back : (s : Setup) → IsMachine s → (n : ℕ) → n < length s.axes → axis_named NO_VALUE s (axis_name s n) ≡ Ok n
+master-back : (s : Setup) → IsMachine s → (n : ℕ) → n < length s.axes → axis_named no_value s (axis_name s n) ≡ Ok n
 unfolding axis_at
 master-back s m n l = rw (axis-at s m n l) refl
 

@@ -21,7 +21,7 @@ use Rattle.trace_columns.specs.ReadBack.{AreReadBack}
 use Rattle.trace_text.specs.reading.Items.{limits_of, number, parts_of, placed_of, point}
 use Rattle.trace_text.specs.Records.{point_text, points_text}
 use Rattle.trace_text.specs.reading.Rules.{are_empty}
-use Rattle.trace_text.specs.declared.reading.rule.TheConstants.{REFUSED}
+use Rattle.trace_text.specs.reading.RuleNumbers.{item_refused}
 use Rattle.motion_history.proofs.DistinctLemmas.{each-append, each-weaker}
 use Rattle.trace_text.proofs.back.PartsBack.{each-back, halves-back, texts-back}
 use Rattle.trace_text.proofs.back.Plain.{IsWithout, signed-without}
@@ -46,7 +46,7 @@ number-back g z small = rw (limited-back g z small) refl
 pub count-back : Given → (n : ℕ) → n ≤ MOST_NUMBER → number (decimal n) ≡ Ok (pos n)
 count-back g n small = number-back g (pos n) small
 
-pub in_range-back : (least most n : ℕ) → least ≤ n → n ≤ most → in_range least most REFUSED (pos n) ≡ Ok n
+pub in_range-back : (least most n : ℕ) → least ≤ n → n ≤ most → in_range least most item_refused (pos n) ≡ Ok n
 unfolding in_range
 in_range-back least most n low high =
     rw (true_from_ne_false (int_le (pos least) (pos n)) (λ e. omega (arith, ints, e, low)), true_from_ne_false (int_le (pos n) (pos most)) (λ e. omega (arith, ints, e, high))) refl

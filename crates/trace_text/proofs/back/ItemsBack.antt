@@ -31,7 +31,7 @@ use Rattle.trace_text.specs.Records.{axis_fields, axis_name, block_fields, group
 use Rattle.trace_text.specs.reading.Rules.{are_empty}
 use Rattle.trace_text.specs.Trace.{CanHold}
 use Rattle.trace_text.specs.Writable.{IsMachine}
-use Rattle.trace_text.specs.declared.reading.rule.TheConstants.{NO_VALUE}
+use Rattle.trace_text.specs.reading.RuleNumbers.{no_value}
 use Rattle.motion_history.proofs.DistinctLemmas.{each-append, each-from_list_all, each-weaker}
 use Rattle.trace_text.proofs.back.FieldsBack.{Given, limits-back, placed-back, points-back}
 use Rattle.trace_text.proofs.back.NamesBack.{any-none, each-at, each-left, each-right, each-unmap, found-at, free-members, names-differ}
@@ -253,19 +253,19 @@ groups-are s m before d behind e = item-of (IsGroup (length s.axes)) s.groups be
 groups-long : (s : Setup) → IsMachine s → (before : List GroupDef) (d : GroupDef) (behind : List GroupDef) → s.groups ≡ before ++ d ∷ behind → length d.axes ≡ MOST_MEMBERS
 groups-long s m before d behind e = item-of (λ (g : GroupDef). length g.axes ≡ MOST_MEMBERS) s.groups before d behind e (recursion_from_All _ s.groups m.arrays)
 
-member-back : (s : Setup) → IsMachine s → (before : List GroupDef) (n : ℕ) → n < length s.axes → axis_named NO_VALUE (at_groups s before) (axis_name s n) ≡ Ok n
+member-back : (s : Setup) → IsMachine s → (before : List GroupDef) (n : ℕ) → n < length s.axes → axis_named no_value (at_groups s before) (axis_name s n) ≡ Ok n
 unfolding axis_at
 member-back s m before n l = rw (axis-at s m n l) refl
 
 members-back : (s : Setup) → IsMachine s → (before : List GroupDef) (d : GroupDef) (behind : List GroupDef) → s.groups ≡ before ++ d ∷ behind →
-    each_of (axis_named NO_VALUE (at_groups s before)) (parts_of (members_text s d)) ≡ Ok (members_of d)
+    each_of (axis_named no_value (at_groups s before)) (parts_of (members_text s d)) ≡ Ok (members_of d)
 unfolding members_text
 members-back s m before d behind e =
     let is = groups-are s m before d behind e in
     let count = group-members (length s.axes) d is (groups-long s m before d behind e) in
     let some = is.some in
     rw (texts-back (axis_name s) (members_of d) (omega (arith, count, some)) (each-weaker _ _ (λ n l. axis-without s m n l 59 refl) (members_of d) is.there))
-    (each-back (axis_named NO_VALUE (at_groups s before)) (axis_name s) (members_of d) (each-weaker _ _ (λ n l. member-back s m before n l) (members_of d) is.there))
+    (each-back (axis_named no_value (at_groups s before)) (axis_name s) (members_of d) (each-weaker _ _ (λ n l. member-back s m before n l) (members_of d) is.there))
 
 group-free : (s : Setup) → IsMachine s → (before : List GroupDef) (d : GroupDef) (behind : List GroupDef) → s.groups ≡ before ++ d ∷ behind →
     group_fault (at_groups s before) d.name (members_of d) ≡ None

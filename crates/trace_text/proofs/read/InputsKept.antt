@@ -39,7 +39,7 @@ use Rattle.trace_text.specs.declared.reading.inputs.Last.{Last}
 use Rattle.trace_text.specs.declared.reading.inputs.Rates.{Rates}
 use Rattle.trace_text.specs.declared.found.FoundEntry.{FoundEntry}
 use Rattle.trace_text.specs.declared.found.FoundEntry.TheVariants as found
-use Rattle.trace_text.specs.declared.reading.rule.TheConstants.{NO_VALUE}
+use Rattle.trace_text.specs.reading.RuleNumbers.{no_value}
 use Rattle.line_text.proofs.Results as results
 use Rattle.line_text.proofs.Results.{bind_ok, holds, ok_is}
 use Rattle.machine_words.proofs.Names.{axis-within, block-within, task-within}
@@ -60,12 +60,12 @@ size-limited text z h =
 
 number-small : (text : List ℕ) (z : ℤ) → number text ≡ Ok z → IsSmall z
 unfolding number
-number-small text z h = size-limited text z (results.found (size_limited_of text) NO_VALUE z h)
+number-small text z h = size-limited text z (results.found (size_limited_of text) no_value z h)
 
 unused-is : {A : Type 0} (text : List ℕ) (default x : A) → unused text default ≡ Ok x → default ≡ x
 unused-is text default x h = elim (cases_Bool (is_empty text)) [
   | inl none ↦ let e : Ok default ≡ Ok x = rw none at h in ok_is (Ok default) default x refl e
-  | inr some ↦ let e : Err NO_VALUE ≡ Ok x = rw some at h in absurd (cc e)
+  | inr some ↦ let e : Err no_value ≡ Ok x = rw some at h in absurd (cc e)
 ]
 
 -- a number that is an input
@@ -116,8 +116,8 @@ joined-are : (axes : ℕ) (text : List ℕ) (ps : List ℤ) → axes ≤ MOST_ME
 unfolding joined_positions positions_from
 joined-are axes text ps room h =
     let places = bind_ok (each_of number (parts_of text)) _ ps h in
-    let counted = bind_ok (broken_unless (length places.0 == axes) NO_VALUE) _ ps places.2 in
-    let many : length places.0 ≡ axes = eqb-true _ _ (holds (length places.0 == axes) NO_VALUE counted.0 counted.1) in
+    let counted = bind_ok (broken_unless (length places.0 == axes) no_value) _ ps places.2 in
+    let many : length places.0 ≡ axes = eqb-true _ _ (holds (length places.0 == axes) no_value counted.0 counted.1) in
     let all : List ℤ = places.0 ++ replicate (MOST_MEMBERS - length places.0) (pos 0) in
     let is : all ≡ ps = ok_is (Ok all) all ps refl counted.2 in
     let small = each-small number number-small (parts_of text) places.0 places.1 in
@@ -147,8 +147,8 @@ positions-are s b text ps arrays h = elim (cases_Bool (takes b.kind Position)) [
 
 -- ---- what an axis follows
 
-named-within : (s : Setup) (text : List ℕ) (n : ℕ) → axis_named NO_VALUE s text ≡ Ok n → n < length s.axes
-named-within s text n h = axis-within s text n (results.found (axis_at s text) NO_VALUE n h)
+named-within : (s : Setup) (text : List ℕ) (n : ℕ) → axis_named no_value s text ≡ Ok n → n < length s.axes
+named-within s text n h = axis-within s text n (results.found (axis_at s text) no_value n h)
 
 record IsFollowed (s : Setup) (k : BlockKind) (f : Followed) : Type 0 where
   there : f.master < length s.axes
@@ -165,7 +165,7 @@ gear-followed : (s : Setup) (text : List ℕ) (f : Followed) → gear_of s text 
 unfolding gear_of
 gear-followed s text f h =
     let parts = bind_ok (halves text) _ f h in
-    let master = bind_ok (axis_named NO_VALUE s parts.0.0) _ f parts.2 in
+    let master = bind_ok (axis_named no_value s parts.0.0) _ f parts.2 in
     let ratio = bind_ok (halves parts.0.1) _ f master.2 in
     let n = bind_ok (number ratio.0.0) _ f ratio.2 in
     let d = bind_ok (number ratio.0.1) _ f n.2 in
@@ -184,10 +184,10 @@ cam-followed : (s : Setup) (text : List ℕ) (f : Followed) → cam_of s text �
 unfolding cam_of
 cam-followed s text f h =
     let parts = bind_ok (halves text) _ f h in
-    let master = bind_ok (axis_named NO_VALUE s parts.0.0) _ f parts.2 in
+    let master = bind_ok (axis_named no_value s parts.0.0) _ f parts.2 in
     let table = bind_ok (value (unsigned_of 0 65535 parts.0.1)) _ f master.2 in
     let r : Followed = record { master = master.0; numerator = pos 1; denominator = pos 1; table = table.0 } in
-    let few = (unsigned-range 0 65535 parts.0.1 table.0 (results.found (unsigned_of 0 65535 parts.0.1) NO_VALUE table.0 table.1)).1 in
+    let few = (unsigned-range 0 65535 parts.0.1 table.0 (results.found (unsigned_of 0 65535 parts.0.1) no_value table.0 table.1)).1 in
     let is : r ≡ f = ok_is (Ok r) r f refl table.2 in
     subst (λ x. IsFollowed s CamIn x) is (record {
       there = named-within s parts.0.0 master.0 master.1;
@@ -305,8 +305,8 @@ reply-word : (fields : List (List ℕ)) (o : Outputs) → reply_of fields ≡ Ok
 unfolding reply_of
 reply-word (outputs ∷ error_id ∷ []) o h =
     let id = bind_ok (value (unsigned_of 0 65535 error_id)) _ o h in
-    let few = (unsigned-range 0 65535 error_id id.0 (results.found (unsigned_of 0 65535 error_id) NO_VALUE id.0 id.1)).1 in
-    let is = outputs-id outputs id.0 o (results.found (outputs_of outputs id.0) NO_VALUE o id.2) in
+    let few = (unsigned-range 0 65535 error_id id.0 (results.found (unsigned_of 0 65535 error_id) no_value id.0 id.1)).1 in
+    let is = outputs-id outputs id.0 o (results.found (outputs_of outputs id.0) no_value o id.2) in
     subst (λ n. n < 2 ^ 16) is (omega (arith, few))
 reply-word _ o h = absurd (cc h)
 
@@ -319,11 +319,11 @@ call-by s name inputs reply e some arrays h v =
     let o = bind_ok (reply_of reply) _ e i.2 in
     let is : found.Call k.0 i.0 o.0 ≡ e = ok_is (Ok (found.Call k.0 i.0 o.0)) (found.Call k.0 i.0 o.0) e refl o.2 in
     let fit = inputs-fit s b.0 inputs i.0 some arrays i.1 in
-    let at : slice_get s.blocks k.0 ≡ Some b.0 = results.found (slice_get s.blocks k.0) NO_VALUE b.0 b.1 in
+    let at : slice_get s.blocks k.0 ≡ Some b.0 = results.found (slice_get s.blocks k.0) no_value b.0 b.1 in
     let P : BlockDef → Type 0 = λ d. AreInputs d.kind (axes_of s d) i.0 in
     let made : IsWritableCall s k.0 i.0 o.0 = record {
       call = record {
-        there = block-within s name k.0 (results.found (block_at s name) NO_VALUE k.0 k.1);
+        there = block-within s name k.0 (results.found (block_at s name) no_value k.0 k.1);
         inputs = λ d other. let same : b.0 ≡ d = let x : Some b.0 ≡ Some d = sym at ∙ other in cc in subst P same fit.inputs;
         master = fit.master;
       };
@@ -346,6 +346,6 @@ unfolding end_meaning
 end-read s [] e h v = absurd (cc h)
 end-read s (name ∷ behind) e h v =
     let task = bind_ok (value (task_at s name)) _ e h in
-    let empty = bind_ok (broken_unless (are_empty behind) NO_VALUE) _ e task.2 in
+    let empty = bind_ok (broken_unless (are_empty behind) no_value) _ e task.2 in
     let is : found.End task.0 ≡ e = ok_is (Ok (found.End task.0)) (found.End task.0) e refl empty.2 in
-    subst (λ q. IsEntryRead v s q) is (task-within s name task.0 (results.found (task_at s name) NO_VALUE task.0 task.1))
+    subst (λ q. IsEntryRead v s q) is (task-within s name task.0 (results.found (task_at s name) no_value task.0 task.1))

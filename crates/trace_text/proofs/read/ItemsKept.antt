@@ -23,7 +23,7 @@ use Rattle.motion_history.specs.declared.refused.TraceVersion.TheVariants.{One, 
 use Rattle.motion_history.specs.declared.sizes.TheConstants.{MOST_CYCLES, MOST_ENTRIES, MOST_GROUPS, MOST_MEMBERS, MOST_TABLES}
 use Rattle.trace_text.specs.reading.Items.{axis_added, axis_meaning, block_meaning, group_meaning, is_object, limits_of, number, parts_of, placed_of, point, room_meaning, table_meaning, task_meaning}
 use Rattle.trace_text.specs.reading.Rules.{are_empty, rule_of, value}
-use Rattle.trace_text.specs.declared.reading.rule.TheConstants.{ITEM_RULES, NO_VALUE, REFUSED}
+use Rattle.trace_text.specs.reading.RuleNumbers.{item_refused, item_rules, no_value}
 use Rattle.line_text.proofs.Results.{bind_ok, ok_is}
 use Rattle.machine_words.proofs.Faults.{faultless}
 use Rattle.machine_words.proofs.Lists.{all-push}
@@ -70,7 +70,7 @@ group-array name axes few =
 added-kept : (s t : Setup) (name : List ℕ) (limits behind : List (List ℕ)) → HasArrays s → axis_added s name limits behind ≡ Ok t → HasArrays t
 unfolding axis_added
 added-kept s t name limits behind h e =
-    let named = bind_ok (broken_unless (is_name name) NO_VALUE) _ t e in
+    let named = bind_ok (broken_unless (is_name name) no_value) _ t e in
     let l = bind_ok (limits_of limits) _ t named.2 in
     let p = bind_ok (placed_of behind) _ t l.2 in
     let fault = bind_ok (broken_by rule_of (axis_fault s name l.0 p.0.inc p.0.start)) _ t p.2 in
@@ -87,8 +87,8 @@ axis-kept v s t _ h e = absurd (cc e)
 pub group-kept : (s t : Setup) (fields : List (List ℕ)) → HasArrays s → group_meaning s fields ≡ Ok t → HasArrays t
 unfolding group_meaning
 group-kept s t (name ∷ members ∷ unused) h e =
-    let named = bind_ok (broken_unless (is_name name && are_empty unused) NO_VALUE) _ t e in
-    let axes = bind_ok (each_of (axis_named NO_VALUE s) (parts_of members)) _ t named.2 in
+    let named = bind_ok (broken_unless (is_name name && are_empty unused) no_value) _ t e in
+    let axes = bind_ok (each_of (axis_named no_value s) (parts_of members)) _ t named.2 in
     let fault = bind_ok (broken_by rule_of (group_fault s name axes.0)) _ t axes.2 in
     let few = few-members s name axes.0 (faultless rule_of (group_fault s name axes.0) fault.0 fault.1) in
     let x : Setup = record s { groups = s.groups ++ group_of name axes.0 ∷ [] } in
@@ -99,15 +99,15 @@ group-kept s t _ h e = absurd (cc e)
 pub table-kept : (s t : Setup) (fields : List (List ℕ)) → HasArrays s → table_meaning s fields ≡ Ok t → HasArrays t
 unfolding table_meaning
 table-kept s t (told ∷ unused) h e =
-    let empty = bind_ok (broken_unless (are_empty unused) NO_VALUE) _ t e in
+    let empty = bind_ok (broken_unless (are_empty unused) no_value) _ t e in
     let points = bind_ok (each_of point (parts_of told)) _ t empty.2 in
-    subst HasArrays (sym (table_added-is ITEM_RULES s t points.0 points.2)) h
+    subst HasArrays (sym (table_added-is item_rules s t points.0 points.2)) h
 table-kept s t _ h e = absurd (cc e)
 
 pub task-kept : (s t : Setup) (fields : List (List ℕ)) → HasArrays s → task_meaning s fields ≡ Ok t → HasArrays t
 unfolding task_meaning
 task-kept s t (name ∷ unused) h e =
-    let named = bind_ok (broken_unless (is_name name && are_empty unused) NO_VALUE) _ t e in
+    let named = bind_ok (broken_unless (is_name name && are_empty unused) no_value) _ t e in
     let fault = bind_ok (broken_by rule_of (task_fault s name)) _ t named.2 in
     let x : Setup = record s { tasks = s.tasks ++ name ∷ [] } in
     let is : x ≡ t = ok_is (Ok x) x t refl fault.2 in
@@ -117,11 +117,11 @@ task-kept s t _ h e = absurd (cc e)
 pub block-kept : (s t : Setup) (fields : List (List ℕ)) → HasArrays s → block_meaning s fields ≡ Ok t → HasArrays t
 unfolding block_meaning
 block-kept s t (name ∷ of_task ∷ of_kind ∷ of_object ∷ unused) h e =
-    let named = bind_ok (broken_unless (is_name name && are_empty unused) NO_VALUE) _ t e in
+    let named = bind_ok (broken_unless (is_name name && are_empty unused) no_value) _ t e in
     let task = bind_ok (value (task_at s of_task)) _ t named.2 in
     let kind = bind_ok (value (kind_named of_kind)) _ t task.2 in
-    let there = bind_ok (broken_unless (is_object s of_object) NO_VALUE) _ t kind.2 in
-    let object = bind_ok (ok_or (object_at s kind.0 of_object) REFUSED) _ t there.2 in
+    let there = bind_ok (broken_unless (is_object s of_object) no_value) _ t kind.2 in
+    let object = bind_ok (ok_or (object_at s kind.0 of_object) item_refused) _ t there.2 in
     let fault = bind_ok (broken_by rule_of (block_fault s name task.0 kind.0 object.0)) _ t object.2 in
     let x : Setup = record s { blocks = s.blocks ++ record { name = name; task = task.0; kind = kind.0; object = object.0 } ∷ [] } in
     let is : x ≡ t = ok_is (Ok x) x t refl fault.2 in
@@ -134,9 +134,9 @@ unfolding room_meaning
 room-kept s t (cycles ∷ entries ∷ unused) h e =
     let c = bind_ok (number cycles) _ t e in
     let n = bind_ok (number entries) _ t c.2 in
-    let empty = bind_ok (broken_unless (are_empty unused) NO_VALUE) _ t n.2 in
-    let few = bind_ok (in_range 1 MOST_CYCLES REFUSED c.0) _ t empty.2 in
-    let room = bind_ok (in_range 1 MOST_ENTRIES REFUSED n.0) _ t few.2 in
+    let empty = bind_ok (broken_unless (are_empty unused) no_value) _ t n.2 in
+    let few = bind_ok (in_range 1 MOST_CYCLES item_refused c.0) _ t empty.2 in
+    let room = bind_ok (in_range 1 MOST_ENTRIES item_refused n.0) _ t few.2 in
     let x : Setup = record s { cycles = few.0; entries = room.0 } in
     let is : x ≡ t = ok_is (Ok x) x t refl room.2 in
     subst HasArrays is h

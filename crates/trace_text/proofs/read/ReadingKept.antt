@@ -16,7 +16,6 @@ use Rattle.motion_history.specs.declared.fault.ConfigFault.TheVariants.{TooFew}
 use Rattle.motion_history.specs.declared.refused.TraceVersion.{TraceVersion}
 use Rattle.motion_history.specs.declared.refused.TraceVersion.TheVariants.{One, Two}
 use Rattle.motion_history.specs.declared.sizes.TheConstants.{MOST_MEMBERS}
-use Rattle.trace_text.specs.declared.records.TheConstants.{FIELDS}
 use Rattle.trace_text.specs.reading.Events.{call_meaning, cycle_meaning, end_meaning}
 use Rattle.trace_text.specs.Found.{CycleFound}
 use Rattle.trace_text.specs.reading.Items.{axis_meaning, block_meaning, group_meaning, table_meaning, task_meaning, room_meaning, whole}
@@ -34,7 +33,7 @@ use Rattle.trace_text.specs.declared.reading.kind.Kind.{Kind}
 use Rattle.trace_text.specs.declared.reading.kind.Kind.TheVariants as kind
 use Rattle.trace_text.specs.declared.reading.kind.Stage.{Stage}
 use Rattle.trace_text.specs.declared.reading.kind.Stage.TheVariants as stage
-use Rattle.trace_text.specs.declared.reading.rule.TheConstants.{NOT_TWELVE, NO_HEADER, OUT_OF_PLACE, TOO_SHORT}
+use Rattle.trace_text.specs.reading.RuleNumbers.{no_header, not_twelve, out_of_place, too_short}
 use Rattle.trace_text.specs.RowRanges.{IsDriveEnd, IsGroupRow}
 use Rattle.line_text.proofs.Results.{bind_ok, holds, ok_is}
 use Rattle.machine_words.proofs.Faults.{faultless}
@@ -290,22 +289,22 @@ later-kept : (s t : SoFar) (fields : List (List ℕ)) → Kept s → later_meani
 unfolding later_meaning
 later-kept s t [] h e = absurd (cc e)
 later-kept s t (first ∷ fields) h e =
-    let k = bind_ok (ok_or (kind_of first) OUT_OF_PLACE) _ t e in
-    let here = bind_ok (broken_unless (is_here s k.0) OUT_OF_PLACE) _ t k.2 in
-    fields-kept s t k.0 fields (holds (is_here s k.0) OUT_OF_PLACE here.0 here.1) h here.2
+    let k = bind_ok (ok_or (kind_of first) out_of_place) _ t e in
+    let here = bind_ok (broken_unless (is_here s k.0) out_of_place) _ t k.2 in
+    fields-kept s t k.0 fields (holds (is_here s k.0) out_of_place here.0 here.1) h here.2
 
 header-kept : (s t : SoFar) (fields : List (List ℕ)) → Kept s → s.found ≡ [] → header_meaning s fields ≡ Ok t → Kept t
 unfolding header_meaning
 header-kept s t fields h none e =
-    let b = bind_ok (broken_unless (are_same fields header_fields) NO_HEADER) _ t e in
+    let b = bind_ok (broken_unless (are_same fields header_fields) no_header) _ t e in
     let y : SoFar = record s { stage = stage.Room } in
     subst Kept (ok_is (Ok y) y t refl b.2) (record { stage = none; arrays = h.arrays; drives = h.drives })
 
 opened-kept : (s t : SoFar) (fields : List (List ℕ)) → Kept s → s.found ≡ [] → trace_meaning s fields ≡ Ok t → Kept t
 unfolding trace_meaning
 opened-kept s t (first ∷ version ∷ made_by ∷ room) h none e =
-    let b = bind_ok (broken_unless (says first (codes "trace")) NO_HEADER) _ t e in
-    let v = bind_ok (ok_or (version_of version) NO_HEADER) _ t b.2 in
+    let b = bind_ok (broken_unless (says first (codes "trace")) no_header) _ t e in
+    let v = bind_ok (ok_or (version_of version) no_header) _ t b.2 in
     let c = bind_ok (value (command_of made_by)) _ t v.2 in
     let u = bind_ok (room_meaning s.setup room) _ t c.2 in
     let y : SoFar = record s { stage = stage.Machine; version = v.0; command = c.0; setup = u.0 } in
@@ -340,7 +339,7 @@ twelve-kept s t fields h e = elim (cases_Bool (is_stage s.stage stage.Header)) [
 
 record-kept : (s t : SoFar) (fields : List (List ℕ)) → Kept s → meaning s fields ≡ Ok t → Kept t
 unfolding meaning
-record-kept s t fields h e = let b = bind_ok (broken_unless (length fields == FIELDS) NOT_TWELVE) _ t e in twelve-kept s t fields h b.2
+record-kept s t fields h e = let b = bind_ok (broken_unless (length fields == 12) not_twelve) _ t e in twelve-kept s t fields h b.2
 
 line-is : {S : Type 0} (n : ℕ) (r : Result S ℕ) (x : S) → at_line n r ≡ Ok x → r ≡ Ok x
 line-is n (Ok y) x h = let e : y ≡ x = cc h in ap Ok e
@@ -359,8 +358,8 @@ opening-kept = record { stage = refl; arrays = tt; drives = tt }
 ended-kept : (s : SoFar) (t : TraceState) → Kept s → ending s ≡ Ok t → IsSetup t.config → IsTraceKept t
 unfolding ending
 ended-kept s t h e whole =
-    let b = bind_ok (broken_unless (is_ended s) TOO_SHORT) _ t e in
-    let tests = and_parts _ _ (holds (is_ended s) TOO_SHORT b.0 b.1) in
+    let b = bind_ok (broken_unless (is_ended s) too_short) _ t e in
+    let tests = and_parts _ _ (holds (is_ended s) too_short b.0 b.1) in
     let y : TraceState = record { version = s.version; command = s.command; config = s.setup; found = s.found; drives = s.drives } in
     let is : y ≡ t = ok_is (Ok y) y t refl b.2 in
     let setup : IsSetup y.config = subst (λ (x : TraceState). IsSetup x.config) (sym is) whole in

@@ -22,7 +22,7 @@ use Rattle.trace_text.specs.reading.Rows.{answer_of, count_of, drive_meaning, gi
 use Rattle.trace_text.specs.reading.Rules.{are_empty, is_empty, value}
 use Rattle.trace_text.specs.TraceKept.{IsRowRead, places_with}
 use Rattle.trace_text.specs.declared.reading.row.Shown.{Shown}
-use Rattle.trace_text.specs.declared.reading.rule.TheConstants.{NO_VALUE}
+use Rattle.trace_text.specs.reading.RuleNumbers.{no_value}
 use Rattle.trace_text.specs.declared.drive_end.DriveEndRow.{DriveEndRow}
 use Rattle.line_text.proofs.Results.{bind_ok, found, ok_is}
 use Rattle.trace_text.proofs.read.ColumnRanges.{hex-range, number-range, unsigned-range, wide-range}
@@ -30,11 +30,11 @@ use Rattle.trace_text.proofs.read.ColumnRanges.{hex-range, number-range, unsigne
 -- a position of a drive
 count-read : (text : List ℕ) (z : ℤ) → count_of text ≡ Ok z → IsCount z
 count-read text z h =
-    let r = number-range (neg_ℤ (pos (2 ^ 31))) (pos (2 ^ 31 - 1)) text z (found (number_of (neg_ℤ (pos (2 ^ 31))) (pos (2 ^ 31 - 1)) text) NO_VALUE z h) in
+    let r = number-range (neg_ℤ (pos (2 ^ 31))) (pos (2 ^ 31 - 1)) text z (found (number_of (neg_ℤ (pos (2 ^ 31))) (pos (2 ^ 31 - 1)) text) no_value z h) in
     record { least = r.0; most = r.1 }
 
 mode-read : (text : List ℕ) (z : ℤ) → mode_display_of text ≡ Ok z → (neg_ℤ (pos 128) ≤ℤ z) × (z ≤ℤ pos 127)
-mode-read text z h = number-range (neg_ℤ (pos 128)) (pos 127) text z (found (number_of (neg_ℤ (pos 128)) (pos 127) text) NO_VALUE z h)
+mode-read text z h = number-range (neg_ℤ (pos 128)) (pos 127) text z (found (number_of (neg_ℤ (pos 128)) (pos 127) text) no_value z h)
 
 -- ---- rows of axes
 
@@ -53,7 +53,7 @@ answer-read (statusword ∷ actual ∷ mode_display ∷ []) i h =
     let x : DriveIn = record { statusword = w.0; mode_display = m.0; actual = a.0 } in
     let mode = mode-read mode_display m.0 m.1 in
     subst IsAnswer (ok_is (Ok x) x i refl m.2) (record {
-      statusword = hex-range statusword w.0 (found (hex_of statusword) NO_VALUE w.0 w.1);
+      statusword = hex-range statusword w.0 (found (hex_of statusword) no_value w.0 w.1);
       actual = count-read actual a.0 a.1;
       mode_least = mode.0;
       mode_most = mode.1;
@@ -73,8 +73,8 @@ shown-read (state ∷ error ∷ driven ∷ setpoint ∷ []) x h =
     let p = bind_ok (value (wide_number_of setpoint)) _ x d.2 in
     let y : Shown = record { state = t.0; error = e.0; driven = d.0; setpoint = p.0 } in
     subst IsShown (ok_is (Ok y) y x refl p.2) (record {
-      error = (unsigned-range 0 65535 error e.0 (found (unsigned_of 0 65535 error) NO_VALUE e.0 e.1)).1;
-      setpoint = wide-range setpoint p.0 (found (wide_number_of setpoint) NO_VALUE p.0 p.1);
+      error = (unsigned-range 0 65535 error e.0 (found (unsigned_of 0 65535 error) no_value e.0 e.1)).1;
+      setpoint = wide-range setpoint p.0 (found (wide_number_of setpoint) no_value p.0 p.1);
     })
 shown-read _ x h = absurd (cc h)
 
@@ -90,7 +90,7 @@ given-read (controlword ∷ target ∷ []) o h =
     let t = bind_ok (count_of target) _ o w.2 in
     let x : DriveOut = record { controlword = w.0; mode = pos 8; target = t.0 } in
     subst IsGiven (ok_is (Ok x) x o refl t.2) (record {
-      controlword = hex-range controlword w.0 (found (hex_of controlword) NO_VALUE w.0 w.1);
+      controlword = hex-range controlword w.0 (found (hex_of controlword) no_value w.0 w.1);
       mode = refl;
       target = count-read target t.0 t.1;
     })
@@ -104,11 +104,11 @@ pub record ArePlaces (v : TraceVersion) (places : List ℤ) : Type 0 where
 place-read : (v : TraceVersion) (text : List ℕ) (p : Option ℤ) → place_meaning v text ≡ Ok p → ArePlaces v (option_to_list p)
 unfolding place_meaning
 place-read One text p h =
-    let e = bind_ok (broken_unless (is_empty text) NO_VALUE) (λ u. Ok None) p h in
+    let e = bind_ok (broken_unless (is_empty text) no_value) (λ u. Ok None) p h in
     subst (λ q. ArePlaces One (option_to_list q)) (ok_is (Ok None) None p refl e.2) (record { count = refl; wide = tt })
 place-read Two text p h =
     let z = bind_ok (value (wide_number_of text)) (λ x. Ok (Some x)) p h in
-    let wide = wide-range text z.0 (found (wide_number_of text) NO_VALUE z.0 z.1) in
+    let wide = wide-range text z.0 (found (wide_number_of text) no_value z.0 z.1) in
     subst (λ q. ArePlaces Two (option_to_list q)) (ok_is (Ok (Some z.0)) (Some z.0) p refl z.2) (record { count = refl; wide = (wide, tt) })
 
 -- a row that is read, with the places that stand with it
@@ -119,7 +119,7 @@ pub record IsRead (v : TraceVersion) (r : AxisRow × Option ℤ) : Type 0 where
 row-by-read : (v : TraceVersion) (s : Setup) (n : ℕ) (fields : RowTexts) (r : AxisRow × Option ℤ) → row_by v s n fields ≡ Ok r → IsRead v r
 unfolding row_by
 row-by-read v s n fields r h =
-    let named = bind_ok (broken_unless (bytes_eq (axis_name s n) fields.name) NO_VALUE) _ r h in
+    let named = bind_ok (broken_unless (bytes_eq (axis_name s n) fields.name) no_value) _ r h in
     let input = bind_ok (answer_of fields.answer) _ r named.2 in
     let shown = bind_ok (shown_of fields.shown) _ r input.2 in
     let output = bind_ok (given_of fields.given) _ r shown.2 in
@@ -170,27 +170,27 @@ row-read v s n _ r h = absurd (cc h)
 pub grow-read : (s : Setup) (n : ℕ) (fields : List (List ℕ)) (r : GroupRow) → grow_meaning s n fields ≡ Ok r → IsGroupRow r
 unfolding grow_meaning
 grow-read s n (group ∷ state ∷ error ∷ behind) r h =
-    let named = bind_ok (broken_unless (bytes_eq (group_name s n) group) NO_VALUE) _ r h in
+    let named = bind_ok (broken_unless (bytes_eq (group_name s n) group) no_value) _ r h in
     let t = bind_ok (value (group_state_of state)) _ r named.2 in
     let e = bind_ok (value (unsigned_of 0 65535 error)) _ r t.2 in
-    let empty = bind_ok (broken_unless (are_empty behind) NO_VALUE) _ r e.2 in
+    let empty = bind_ok (broken_unless (are_empty behind) no_value) _ r e.2 in
     let x : GroupRow = record { state = t.0; error = e.0 } in
-    subst IsGroupRow (ok_is (Ok x) x r refl empty.2) (record { error = (unsigned-range 0 65535 error e.0 (found (unsigned_of 0 65535 error) NO_VALUE e.0 e.1)).1 })
+    subst IsGroupRow (ok_is (Ok x) x r refl empty.2) (record { error = (unsigned-range 0 65535 error e.0 (found (unsigned_of 0 65535 error) no_value e.0 e.1)).1 })
 grow-read s n _ r h = absurd (cc h)
 
 -- what a drive took
 pub drive-read : (s : Setup) (n : ℕ) (fields : List (List ℕ)) (d : DriveEndRow) → drive_meaning s n fields ≡ Ok d → IsDriveEnd d
 unfolding drive_meaning
 drive-read s n (axis ∷ taken ∷ state ∷ actual ∷ behind) d h =
-    let named = bind_ok (broken_unless (bytes_eq (axis_name s n) axis) NO_VALUE) _ d h in
+    let named = bind_ok (broken_unless (bytes_eq (axis_name s n) axis) no_value) _ d h in
     let k = bind_ok (value (unsigned_of 0 (2 ^ 32 - 1) taken)) _ d named.2 in
     let t = bind_ok (value (drive_state_of state)) _ d k.2 in
     let a = bind_ok (count_of actual) _ d t.2 in
-    let empty = bind_ok (broken_unless (are_empty behind) NO_VALUE) _ d a.2 in
+    let empty = bind_ok (broken_unless (are_empty behind) no_value) _ d a.2 in
     let x : DriveEndRow = record { taken = k.0; state = t.0; actual = a.0 } in
     let count = count-read actual a.0 a.1 in
     subst IsDriveEnd (ok_is (Ok x) x d refl empty.2) (record {
-      taken = (unsigned-range 0 (2 ^ 32 - 1) taken k.0 (found (unsigned_of 0 (2 ^ 32 - 1) taken) NO_VALUE k.0 k.1)).1;
+      taken = (unsigned-range 0 (2 ^ 32 - 1) taken k.0 (found (unsigned_of 0 (2 ^ 32 - 1) taken) no_value k.0 k.1)).1;
       least = count.least;
       most = count.most;
     })
@@ -201,8 +201,8 @@ pub cycle-read : (fields : List (List ℕ)) (n : ℕ) → cycle_meaning fields �
 unfolding cycle_meaning
 cycle-read (number ∷ behind) n h =
     let k = bind_ok (value (unsigned_of 1 (2 ^ 32 - 1) number)) _ n h in
-    let empty = bind_ok (broken_unless (are_empty behind) NO_VALUE) _ n k.2 in
-    let r = unsigned-range 1 (2 ^ 32 - 1) number k.0 (found (unsigned_of 1 (2 ^ 32 - 1) number) NO_VALUE k.0 k.1) in
+    let empty = bind_ok (broken_unless (are_empty behind) no_value) _ n k.2 in
+    let r = unsigned-range 1 (2 ^ 32 - 1) number k.0 (found (unsigned_of 1 (2 ^ 32 - 1) number) no_value k.0 k.1) in
     let some = r.0 in
     let few = r.1 in
     subst (λ m. (1 ≤ m) × (m < 2 ^ 32)) (ok_is (Ok k.0) k.0 n refl empty.2) (some, omega (arith, few))

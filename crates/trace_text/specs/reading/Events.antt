@@ -12,14 +12,14 @@ use Rattle.trace_text.specs.reading.Inputs.{inputs_of}
 use Rattle.trace_text.specs.reading.Rules.{are_empty, value}
 use Rattle.trace_text.specs.declared.found.FoundEntry.{FoundEntry}
 use Rattle.trace_text.specs.declared.found.FoundEntry.TheVariants as found
-use Rattle.trace_text.specs.declared.reading.rule.TheConstants.{NO_VALUE}
+use Rattle.trace_text.specs.reading.RuleNumbers.{no_value}
 
 -- the outputs of a call and its ErrorID
 unfoldable pub reply_of : List (List ℕ) → Result Outputs ℕ
 reply_of (outputs ∷ error_id ∷ []) = do
   id ← value (unsigned_of 0 65535 error_id)
   value (outputs_of outputs id)
-reply_of _ = Err NO_VALUE
+reply_of _ = Err no_value
 
 -- a call of a block of this name
 unfoldable pub call_by : Setup → List ℕ → InputTexts → List (List ℕ) → Result FoundEntry ℕ
@@ -40,20 +40,20 @@ call_meaning s (name ∷ execute ∷ positions ∷ velocity ∷ acceleration ∷
       rates = velocity ∷ acceleration ∷ deceleration ∷ jerk ∷ [];
       last = mode ∷ follow ∷ [];
     }) (outputs ∷ error_id ∷ [])
-call_meaning s _ = Err NO_VALUE
+call_meaning s _ = Err no_value
 
 -- the end of a task
 unfoldable pub end_meaning : Setup → List (List ℕ) → Result FoundEntry ℕ
 end_meaning s (name ∷ behind) = do
   task ← value (task_at s name)
-  _ ← broken_unless (are_empty behind) NO_VALUE
+  _ ← broken_unless (are_empty behind) no_value
   Ok (found.End task)
-end_meaning s _ = Err NO_VALUE
+end_meaning s _ = Err no_value
 
 -- a cycle: its number
 unfoldable pub cycle_meaning : List (List ℕ) → Result ℕ ℕ
 cycle_meaning (number ∷ behind) = do
   n ← value (unsigned_of 1 (2 ^ 32 - 1) number)
-  _ ← broken_unless (are_empty behind) NO_VALUE
+  _ ← broken_unless (are_empty behind) no_value
   Ok n
-cycle_meaning _ = Err NO_VALUE
+cycle_meaning _ = Err no_value

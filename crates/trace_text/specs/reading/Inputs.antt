@@ -27,13 +27,13 @@ use Rattle.trace_text.specs.declared.reading.inputs.Last.{Last}
 use Rattle.trace_text.specs.reading.InputFields.{InputTexts}
 use Rattle.trace_text.specs.declared.found.FoundEntry.{FoundEntry}
 use Rattle.trace_text.specs.declared.found.FoundEntry.TheVariants as found
-use Rattle.trace_text.specs.declared.reading.rule.TheConstants.{NO_VALUE}
+use Rattle.trace_text.specs.reading.RuleNumbers.{no_value}
 
 -- so many positions, joined by semicolons, and 0 behind them
 unfoldable pub joined_positions : ℕ → List ℕ → Result (List ℤ) ℕ
 joined_positions axes text = do
   places ← each_of number (parts_of text)
-  _ ← broken_unless (length places == axes) NO_VALUE
+  _ ← broken_unless (length places == axes) no_value
   Ok (positions_from places)
 
 -- the positions of a call, where its kind takes them
@@ -61,7 +61,7 @@ halves text = value (halves_of text)
 unfoldable pub gear_of : Setup → List ℕ → Result Followed ℕ
 gear_of s text = do
   parts ← halves text
-  master ← axis_named NO_VALUE s parts.0
+  master ← axis_named no_value s parts.0
   ratio ← halves parts.1
   n ← number ratio.0
   d ← number ratio.1
@@ -71,7 +71,7 @@ gear_of s text = do
 unfoldable pub cam_of : Setup → List ℕ → Result Followed ℕ
 cam_of s text = do
   parts ← halves text
-  master ← axis_named NO_VALUE s parts.0
+  master ← axis_named no_value s parts.0
   table ← value (unsigned_of 0 65535 parts.1)
   Ok (record { master = master; numerator = pos 1; denominator = pos 1; table = table })
 
@@ -89,7 +89,7 @@ rates_of k (velocity ∷ acceleration ∷ deceleration ∷ jerk ∷ []) = do
   d ← input_of k Deceleration deceleration
   j ← input_of k Jerk jerk
   Ok (record { velocity = v; acceleration = a; deceleration = d; jerk = j })
-rates_of k _ = Err NO_VALUE
+rates_of k _ = Err no_value
 
 -- the buffer mode of a call, and what its axis follows
 unfoldable pub last_of : Setup → BlockKind → List (List ℕ) → Result Last ℕ
@@ -97,7 +97,7 @@ last_of s k (mode ∷ follow ∷ []) = do
   m ← mode_of k mode
   f ← follow_of s k follow
   Ok (record { mode = m; followed = f })
-last_of s k _ = Err NO_VALUE
+last_of s k _ = Err no_value
 
 -- the inputs of a call
 unfoldable pub inputs_of : Setup → BlockDef → InputTexts → Result Inputs ℕ

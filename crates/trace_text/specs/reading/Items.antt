@@ -21,7 +21,7 @@ use Rattle.motion_history.specs.declared.sizes.TheConstants.{MOST_CYCLES, MOST_E
 use Rattle.trace_columns.specs.Columns.{flag_of, point_of, size_limited_of}
 use Rattle.trace_text.specs.reading.Rules.{are_empty, rule_of, value}
 use Rattle.trace_text.specs.declared.reading.item.Placed.{Placed}
-use Rattle.trace_text.specs.declared.reading.rule.TheConstants.{ITEM_RULES, NO_VALUE, REFUSED}
+use Rattle.trace_text.specs.reading.RuleNumbers.{item_refused, item_rules, no_value}
 
 -- the parts of a field
 unfoldable pub parts_of : List ℕ → List (List ℕ)
@@ -40,7 +40,7 @@ limits_of (lo ∷ hi ∷ vmax ∷ amax ∷ dmax ∷ []) = do
   a ← number amax
   d ← number dmax
   Ok (record { lo = l; hi = h; vmax = v; amax = a; dmax = d })
-limits_of _ = Err NO_VALUE
+limits_of _ = Err no_value
 
 -- the increment of an axis, its start and whether it is ready; nothing stands behind them
 unfoldable pub placed_of : List (List ℕ) → Result Placed ℕ
@@ -48,14 +48,14 @@ placed_of (inc ∷ start ∷ ready ∷ unused) = do
   i ← number inc
   place ← number start
   flag ← value (flag_of ready)
-  _ ← broken_unless (are_empty unused) NO_VALUE
+  _ ← broken_unless (are_empty unused) no_value
   Ok (record { inc = i; start = place; ready = flag })
-placed_of _ = Err NO_VALUE
+placed_of _ = Err no_value
 
 -- an axis of this name is added
 unfoldable pub axis_added : Setup → List ℕ → List (List ℕ) → List (List ℕ) → Result Setup ℕ
 axis_added s name limits behind = do
-  _ ← broken_unless (is_name name) NO_VALUE
+  _ ← broken_unless (is_name name) no_value
   l ← limits_of limits
   p ← placed_of behind
   _ ← broken_by rule_of (axis_fault s name l p.inc p.start)
@@ -76,16 +76,16 @@ axis_meaning One s (name ∷ lo ∷ hi ∷ vmax ∷ amax ∷ behind) =
     axis_added s name (lo ∷ hi ∷ vmax ∷ amax ∷ amax ∷ []) behind
 axis_meaning Two s (name ∷ lo ∷ hi ∷ vmax ∷ amax ∷ dmax ∷ behind) =
     axis_added s name (lo ∷ hi ∷ vmax ∷ amax ∷ dmax ∷ []) behind
-axis_meaning version s _ = Err NO_VALUE
+axis_meaning version s _ = Err no_value
 
 -- a group: its name and its axes
 unfoldable pub group_meaning : Setup → List (List ℕ) → Result Setup ℕ
 group_meaning s (name ∷ members ∷ unused) = do
-  _ ← broken_unless (is_name name && are_empty unused) NO_VALUE
-  axes ← each_of (axis_named NO_VALUE s) (parts_of members)
+  _ ← broken_unless (is_name name && are_empty unused) no_value
+  axes ← each_of (axis_named no_value s) (parts_of members)
   _ ← broken_by rule_of (group_fault s name axes)
   Ok (record s { groups = s.groups ++ group_of name axes ∷ [] })
-group_meaning s _ = Err NO_VALUE
+group_meaning s _ = Err no_value
 
 -- a point; another text breaks its rule
 unfoldable pub point : List ℕ → Result (ℤ × ℤ) ℕ
@@ -94,18 +94,18 @@ point text = value (point_of text)
 -- a cam table: its points
 unfoldable pub table_meaning : Setup → List (List ℕ) → Result Setup ℕ
 table_meaning s (told ∷ unused) = do
-  _ ← broken_unless (are_empty unused) NO_VALUE
+  _ ← broken_unless (are_empty unused) no_value
   points ← each_of point (parts_of told)
-  table_added ITEM_RULES s points
-table_meaning s _ = Err NO_VALUE
+  table_added item_rules s points
+table_meaning s _ = Err no_value
 
 -- a task: its name
 unfoldable pub task_meaning : Setup → List (List ℕ) → Result Setup ℕ
 task_meaning s (name ∷ unused) = do
-  _ ← broken_unless (is_name name && are_empty unused) NO_VALUE
+  _ ← broken_unless (is_name name && are_empty unused) no_value
   _ ← broken_by rule_of (task_fault s name)
   Ok (record s { tasks = s.tasks ++ name ∷ [] })
-task_meaning s _ = Err NO_VALUE
+task_meaning s _ = Err no_value
 
 -- whether a name is that of an axis or of a group
 unfoldable pub is_object : Setup → List ℕ → Bool
@@ -115,11 +115,11 @@ is_object s name = is_some (axis_at s name) || is_some (group_at s name)
 -- is no value; a kind that doesn't fit what is named is refused
 unfoldable pub block_meaning : Setup → List (List ℕ) → Result Setup ℕ
 block_meaning s (name ∷ of_task ∷ of_kind ∷ of_object ∷ unused) = do
-  _ ← broken_unless (is_name name && are_empty unused) NO_VALUE
+  _ ← broken_unless (is_name name && are_empty unused) no_value
   task ← value (task_at s of_task)
   kind ← value (kind_named of_kind)
-  _ ← broken_unless (is_object s of_object) NO_VALUE
-  object ← ok_or (object_at s kind of_object) REFUSED
+  _ ← broken_unless (is_object s of_object) no_value
+  object ← ok_or (object_at s kind of_object) item_refused
   _ ← broken_by rule_of (block_fault s name task kind object)
   Ok (record s {
     blocks = s.blocks ++ record {
@@ -129,18 +129,18 @@ block_meaning s (name ∷ of_task ∷ of_kind ∷ of_object ∷ unused) = do
       object = object;
     } ∷ [];
   })
-block_meaning s _ = Err NO_VALUE
+block_meaning s _ = Err no_value
 
 -- the room of the history: the most cycles and the most entries
 unfoldable pub room_meaning : Setup → List (List ℕ) → Result Setup ℕ
 room_meaning s (cycles ∷ entries ∷ unused) = do
   c ← number cycles
   e ← number entries
-  _ ← broken_unless (are_empty unused) NO_VALUE
-  few_cycles ← in_range 1 MOST_CYCLES REFUSED c
-  few_entries ← in_range 1 MOST_ENTRIES REFUSED e
+  _ ← broken_unless (are_empty unused) no_value
+  few_cycles ← in_range 1 MOST_CYCLES item_refused c
+  few_entries ← in_range 1 MOST_ENTRIES item_refused e
   Ok (record s { cycles = few_cycles; entries = few_entries })
-room_meaning s _ = Err NO_VALUE
+room_meaning s _ = Err no_value
 
 -- the machine has an axis, a task and a block
 abbrev pub whole : Setup → Result (Unit {0}) ℕ

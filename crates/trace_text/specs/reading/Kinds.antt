@@ -1,5 +1,5 @@
 -- The kinds of records and where they stand. This project's profile.
-use Rattle.std.specs.Prelude.{ℕ, Bool, true, false, ◌&&◌, ◌||◌, nat_le, nat_lt, codes, Option, List, length}
+use Rattle.std.specs.Prelude.{ℕ, Bool, true, false, ◌&&◌, ◌||◌, nat_le, nat_lt, codes, Option, List, [], ◌∷◌, length}
 use Rattle.std.specs.List.{find}
 use Rattle.std.specs.Str.{bytes_eq}
 use Rattle.trace_text.specs.reading.SoFar.{SoFar}
@@ -7,7 +7,11 @@ use Rattle.trace_text.specs.declared.reading.kind.Kind.{Kind}
 use Rattle.trace_text.specs.declared.reading.kind.Kind.TheVariants.{Axis, Group, Table, Task, Block, Call, Cycle, Row, Grow, End, Drive}
 use Rattle.trace_text.specs.declared.reading.kind.Stage.{Stage}
 use Rattle.trace_text.specs.declared.reading.kind.Stage.TheVariants as stage
-use Rattle.trace_text.specs.declared.reading.kind.TheConstants.{KINDS}
+
+-- the kinds; those that come most often stand first
+abbrev pub kinds : List Kind
+kinds =
+    Row ∷ Cycle ∷ Call ∷ Grow ∷ End ∷ Drive ∷ Axis ∷ Group ∷ Table ∷ Task ∷ Block ∷ []
 
 -- the first field of a record of the kind
 unfoldable pub kind_text : Kind → List ℕ
@@ -25,7 +29,7 @@ kind_text Drive = codes "drive"
 
 -- the kind of a record by its first field
 unfoldable pub kind_of : List ℕ → Option Kind
-kind_of text = find (λ k. bytes_eq (kind_text k) text) KINDS
+kind_of text = find (λ k. bytes_eq (kind_text k) text) kinds
 
 -- whether two stages are the same
 abbrev pub is_stage : Stage → Stage → Bool

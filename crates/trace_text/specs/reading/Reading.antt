@@ -30,8 +30,7 @@ use Rattle.trace_text.specs.declared.found.FoundEntry.TheVariants as found
 use Rattle.trace_text.specs.declared.reading.kind.Kind.{Kind}
 use Rattle.trace_text.specs.declared.reading.kind.Kind.TheVariants as kind
 use Rattle.trace_text.specs.declared.reading.kind.Stage.TheVariants as stage
-use Rattle.trace_text.specs.declared.records.TheConstants.{FIELDS}
-use Rattle.trace_text.specs.declared.reading.rule.TheConstants.{NOT_TWELVE, NO_HEADER, OUT_OF_PLACE, TOO_SHORT}
+use Rattle.trace_text.specs.reading.RuleNumbers.{no_header, not_twelve, out_of_place, too_short}
 use Rattle.trace_text.specs.declared.command.Command.{Command}
 use Rattle.trace_text.specs.declared.command.Command.TheVariants as command
 
@@ -70,7 +69,7 @@ are_same (x ∷ xs) (y ∷ ys) = if says x y then are_same xs ys else false
 -- the first record is the header
 unfoldable pub header_meaning : SoFar → List (List ℕ) → Result SoFar ℕ
 header_meaning s fields = do
-  _ ← broken_unless (are_same fields header_fields) NO_HEADER
+  _ ← broken_unless (are_same fields header_fields) no_header
   Ok (record s { stage = stage.Room })
 
 -- the versions of a trace
@@ -88,12 +87,12 @@ command_of text =
 -- the second record is of kind `trace`, and tells the version, who made the trace, and its room
 unfoldable pub trace_meaning : SoFar → List (List ℕ) → Result SoFar ℕ
 trace_meaning s (first ∷ version ∷ made_by ∷ room) = do
-  _ ← broken_unless (says first (codes "trace")) NO_HEADER
-  v ← ok_or (version_of version) NO_HEADER
+  _ ← broken_unless (says first (codes "trace")) no_header
+  v ← ok_or (version_of version) no_header
   c ← value (command_of made_by)
   t ← room_meaning s.setup room
   Ok (record s { stage = stage.Machine; version = v; command = c; setup = t })
-trace_meaning s _ = Err NO_HEADER
+trace_meaning s _ = Err no_header
 
 -- the machine of a trace with one more item of a kind
 abbrev pub with_item : SoFar → Kind → Result Setup ℕ → Result SoFar ℕ
@@ -169,10 +168,10 @@ fields_meaning s kind.Drive fields = drives_meaning s fields
 -- a record behind the second: its kind stands here, and its fields have values
 unfoldable pub later_meaning : SoFar → List (List ℕ) → Result SoFar ℕ
 later_meaning s (first ∷ fields) = do
-  k ← ok_or (kind_of first) OUT_OF_PLACE
-  _ ← broken_unless (is_here s k) OUT_OF_PLACE
+  k ← ok_or (kind_of first) out_of_place
+  _ ← broken_unless (is_here s k) out_of_place
   fields_meaning s k fields
-later_meaning s [] = Err NOT_TWELVE
+later_meaning s [] = Err not_twelve
 
 -- what twelve fields mean where a trace stands
 unfoldable pub twelve_meaning : SoFar → List (List ℕ) → Result SoFar ℕ
@@ -184,7 +183,7 @@ twelve_meaning s fields =
 -- what a record means where a trace stands
 unfoldable pub meaning : SoFar → List (List ℕ) → Result SoFar ℕ
 meaning s fields = do
-  _ ← broken_unless (length fields == FIELDS) NOT_TWELVE
+  _ ← broken_unless (length fields == 12) not_twelve
   twelve_meaning s fields
 
 -- what records mean one after another, so many records in: the first that breaks a rule is refused
@@ -208,7 +207,7 @@ TakesRecords records old new (Err lines.OutOfMemory) = Unit {0}
 -- the trace at the end of the text
 unfoldable pub ending : SoFar → Result TraceState ℕ
 ending s = do
-  _ ← broken_unless (is_ended s) TOO_SHORT
+  _ ← broken_unless (is_ended s) too_short
   Ok (record {
     version = s.version;
     command = s.command;

@@ -16,7 +16,7 @@ use Rattle.trace_text.specs.reading.Rules.{are_empty, unused, value}
 use Rattle.trace_text.specs.Records.{axis_name, group_name}
 use Rattle.trace_text.specs.declared.reading.row.Shown.{Shown}
 use Rattle.trace_text.specs.reading.RowFields.{RowTexts}
-use Rattle.trace_text.specs.declared.reading.rule.TheConstants.{NO_VALUE}
+use Rattle.trace_text.specs.reading.RuleNumbers.{no_value}
 use Rattle.trace_text.specs.declared.drive_end.DriveEndRow.{DriveEndRow}
 
 -- a number of 32 bits. IEC 61800-7-201, objects 6064h and 607Ah
@@ -34,7 +34,7 @@ answer_of (statusword ∷ actual ∷ mode_display ∷ []) = do
   a ← count_of actual
   m ← mode_display_of mode_display
   Ok (record { statusword = w; mode_display = m; actual = a })
-answer_of _ = Err NO_VALUE
+answer_of _ = Err no_value
 
 -- what an axis shows: its state, its error, whether it is driven, and its setpoint
 unfoldable pub shown_of : List (List ℕ) → Result Shown ℕ
@@ -44,7 +44,7 @@ shown_of (state ∷ error ∷ driven ∷ setpoint ∷ []) = do
   d ← value (flag_of driven)
   p ← value (wide_number_of setpoint)
   Ok (record { state = t; error = e; driven = d; setpoint = p })
-shown_of _ = Err NO_VALUE
+shown_of _ = Err no_value
 
 -- what a drive was given: its controlword, mode 8 and its target
 unfoldable pub given_of : List (List ℕ) → Result DriveOut ℕ
@@ -52,7 +52,7 @@ given_of (controlword ∷ target ∷ []) = do
   w ← value (hex_of controlword)
   t ← count_of target
   Ok (record { controlword = w; mode = pos 8; target = t })
-given_of _ = Err NO_VALUE
+given_of _ = Err no_value
 
 -- the place that a drive reported, in version 2 alone
 unfoldable pub place_meaning : TraceVersion → List ℕ → Result (Option ℤ) ℕ
@@ -64,7 +64,7 @@ place_meaning Two text = do
 -- the row of these fields, with the place that its drive reported; every offset is 0
 unfoldable pub row_by : TraceVersion → Setup → ℕ → RowTexts → Result (AxisRow × Option ℤ) ℕ
 row_by v s n fields = do
-  _ ← broken_unless (bytes_eq (axis_name s n) fields.name) NO_VALUE
+  _ ← broken_unless (bytes_eq (axis_name s n) fields.name) no_value
   input ← answer_of fields.answer
   shown ← shown_of fields.shown
   output ← given_of fields.given
@@ -94,25 +94,25 @@ row_meaning v s n (axis ∷ statusword ∷ actual ∷ mode_display ∷ state ∷
       given = controlword ∷ target ∷ [];
       place = place;
     })
-row_meaning v s n _ = Err NO_VALUE
+row_meaning v s n _ = Err no_value
 
 -- the row of the group of a number
 unfoldable pub grow_meaning : Setup → ℕ → List (List ℕ) → Result GroupRow ℕ
 grow_meaning s n (group ∷ state ∷ error ∷ behind) = do
-  _ ← broken_unless (bytes_eq (group_name s n) group) NO_VALUE
+  _ ← broken_unless (bytes_eq (group_name s n) group) no_value
   t ← value (group_state_of state)
   e ← value (unsigned_of 0 65535 error)
-  _ ← broken_unless (are_empty behind) NO_VALUE
+  _ ← broken_unless (are_empty behind) no_value
   Ok (record { state = t; error = e })
-grow_meaning s n _ = Err NO_VALUE
+grow_meaning s n _ = Err no_value
 
 -- what the drive of the axis of a number took
 unfoldable pub drive_meaning : Setup → ℕ → List (List ℕ) → Result DriveEndRow ℕ
 drive_meaning s n (axis ∷ taken ∷ state ∷ actual ∷ behind) = do
-  _ ← broken_unless (bytes_eq (axis_name s n) axis) NO_VALUE
+  _ ← broken_unless (bytes_eq (axis_name s n) axis) no_value
   k ← value (unsigned_of 0 (2 ^ 32 - 1) taken)
   t ← value (drive_state_of state)
   a ← count_of actual
-  _ ← broken_unless (are_empty behind) NO_VALUE
+  _ ← broken_unless (are_empty behind) no_value
   Ok (record { taken = k; state = t; actual = a })
-drive_meaning s n _ = Err NO_VALUE
+drive_meaning s n _ = Err no_value

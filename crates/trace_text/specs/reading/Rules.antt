@@ -5,15 +5,15 @@ use Rattle.std.specs.Option.{ok_or}
 use Rattle.line_text.specs.Reading.{◌>>=◌}
 use Rattle.line_text.specs.Rules.{broken_unless}
 use Rattle.motion_history.specs.declared.fault.ConfigFault.{ConfigFault}
-use Rattle.trace_text.specs.declared.reading.rule.TheConstants.{NO_VALUE, REFUSED}
+use Rattle.trace_text.specs.reading.RuleNumbers.{item_refused, no_value}
 
 -- a field without a value of its column breaks its rule
 abbrev pub value : {A : Type 0} → Option A → Result A ℕ
-value found = ok_or found NO_VALUE
+value found = ok_or found no_value
 
 -- each fault of an item breaks one rule
 abbrev pub rule_of : ConfigFault → ℕ
-rule_of fault = REFUSED
+rule_of fault = item_refused
 
 -- whether a field is empty
 abbrev pub is_empty : List ℕ → Bool
@@ -26,5 +26,5 @@ are_empty fields = list_all is_empty fields
 -- the value of a field that isn't used: the field is empty
 abbrev pub unused : {A : Type 0} → List ℕ → A → Result A ℕ
 unused text default = do
-  _ ← broken_unless (is_empty text) NO_VALUE
+  _ ← broken_unless (is_empty text) no_value
   Ok default
