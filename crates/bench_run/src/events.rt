@@ -132,7 +132,11 @@ fn make_end(kernel: &mut PrimaryKernel, task: u8) -> Result<(), RunFault>
 
 // The events of a line.
 #[tactic(auto, unfolding(crate::specs::Run::events_of, crate::specs::Run::made_all))]
-fn make_line(kernel: &mut PrimaryKernel, drives: &mut [Drive], line: &BenchLine) -> Result<(), RunFault>
+fn make_line(
+    kernel: &mut PrimaryKernel,
+    drives: &mut [Drive],
+    line: &BenchLine,
+) -> Result<(), RunFault>
     requires line { IsLineOf kernel.old.config line.now }
     requires going { IsGoing kernel.old drives.old }
     ensures config { kernel.new.config ≡ kernel.old.config }

@@ -1,7 +1,7 @@
 // A standby that follows a kernel, for so many events.
 
 ghost use Rattle.std.specs.Prelude.{◌≡◌};
-ghost use Rattle.hot_standby.specs.Alike.{AreAlike, IsBehind, IsLike, IsLikeIfAny};
+ghost use Rattle.hot_standby.specs.Alike.{AreAlike, IsBehindIfAny, IsLike, IsLikeIfAny};
 ghost use Rattle.hot_standby.specs.Events.{IsFit, kernel_after};
 
 use crate::event::FedEvent;
@@ -17,24 +17,22 @@ pub struct Follower {
     pub(crate) left: u32,
 }
 
-// Feeds an event that the kernel made. Behind the last event the standby's kernel takes the place
-// of the kernel, which is given up.
-pub(crate) fn follow(
-    mut follower: Follower,
-    kernel: &mut Kernel,
-    event: &FedEvent,
-) -> Option<Follower>
-    requires { IsBehind follower kernel.old event.now }
+// Feeds an event that the kernel made to its follower, if it has one. Behind the last event the
+// standby's kernel takes the place of the kernel, which is given up.
+pub(crate) fn follow(follower: &mut Option<Follower>, kernel: &mut Kernel, event: &FedEvent)
+    requires { IsBehindIfAny follower.old kernel.old event.now }
     ensures same { kernel.new ≡ kernel.old }
-    ensures like { IsLikeIfAny result kernel.new }
+    ensures like { IsLikeIfAny follower.new kernel.new }
 {
-    pass(&mut follower.feed, &mut follower.standby, event);
-    if follower.left > 1 {
-        follower.left -= 1;
-        return Some(follower);
+    let Some(present) = follower else {
+        return;
+    };
+    pass(&mut present.feed, &mut present.standby, event);
+    if present.left > 1 {
+        present.left -= 1;
+    } else if let Some(last) = follower.take() {
+        switch_over(last, kernel);
     }
-    switch_over(follower, kernel);
-    None
 }
 
 // The standby's kernel takes the place of the kernel, which is given up.

@@ -2,7 +2,7 @@
 
 ghost use Rattle.std.specs.Prelude.{◌≡◌, ◌<◌, ◌≤◌, ◌+◌, ◌-◌, ◌++◌, ◌∷◌, [], IfOk, IsSomeAnd, length, map, slice_get};
 ghost use Rattle.axis_state.specs.declared.definition.AxisRow.{AxisRow};
-ghost use Rattle.hot_standby.specs.Alike.{IsBehindIfAny, IsCycleWith, IsLikeIfAny};
+ghost use Rattle.hot_standby.specs.Alike.{IsCycleWith};
 ghost use Rattle.hot_standby.specs.Events.{opened};
 ghost use Rattle.motion_history.specs.Calls.{IsCall};
 ghost use Rattle.motion_history.specs.Entries.{call, cycle, end_of, cycles_of};
@@ -77,7 +77,7 @@ impl PrimaryKernel {
             instance,
             inputs: *inputs,
         };
-        self.follower = follow_if_any(self.follower.take(), &mut self.kernel, &event);
+        follow(&mut self.follower, &mut self.kernel, &event);
         reply
     }
 
@@ -100,7 +100,7 @@ impl PrimaryKernel {
         let _ = self.kernel.config().axes();
         let event = cycle_event(ins);
         self.kernel.cycle(ins, outs);
-        self.follower = follow_if_any(self.follower.take(), &mut self.kernel, &event);
+        follow(&mut self.follower, &mut self.kernel, &event);
     }
 
     /// Ends a task, as `Kernel::end` does.
@@ -111,7 +111,7 @@ impl PrimaryKernel {
     {
         self.kernel.end(task);
         let event = FedEvent::End { task };
-        self.follower = follow_if_any(self.follower.take(), &mut self.kernel, &event);
+        follow(&mut self.follower, &mut self.kernel, &event);
     }
 
     /// The configuration.
@@ -181,22 +181,6 @@ fn followed(alloc: Global, config: Config, events: u32) -> Result<PrimaryKernel,
         primary.follower = Some(follower);
     }
     Ok(primary)
-}
-
-// Feeds an event that the kernel made to its follower, if it has one.
-fn follow_if_any(
-    follower: Option<Follower>,
-    kernel: &mut Kernel,
-    event: &FedEvent,
-) -> Option<Follower>
-    requires { IsBehindIfAny follower kernel.old event.now }
-    ensures same { kernel.new ≡ kernel.old }
-    ensures like { IsLikeIfAny result kernel.new }
-{
-    match follower {
-        Some(follower) => follow(follower, kernel, event),
-        None => None,
-    }
 }
 
 // The event of a cycle with these answers.

@@ -16,9 +16,11 @@ returns-in-Ok g c =
 
 pub returns-in-Err-Refused : goal.returns-in-Err-Refused
 returns-in-Err-Refused g c =
-    let why = refused-why _ _ _ c.in-Err-Refused.field-0-is c.in-Err-Refused.ensures.exact in
+    let refused = c.in-Err-Refused.refused in
+    let why = refused-why _ _ refused c.in-Err-Refused.field-0-is c.in-Err-Refused.ensures.exact in
     ended c.ends_follow_plans.ensures c.runs_are_in_step.ensures _ _ _ _ _
-    (refused-ends _ _ plan_of_bench c.args.name.now _ _ _ why c.say_refused.ensures) (runs-none _ _ _ why)
+    (refused-ends _ _ plan_of_bench c.args.name.now _ refused _ why
+    (rw c.in-Err-Refused.field-0-is at c.say_refused.ensures)) (runs-none _ _ _ why)
 
 pub returns-in-Err-OutOfMemory : goal.returns-in-Err-OutOfMemory
 returns-in-Err-OutOfMemory g c =

@@ -9,7 +9,7 @@ loop-made-preserved c =
     let split = c.pop_known-event.ensures.received.1 in
     let next = c.pop_known-event.new.self in
     let fewer : length (known_items c.loop-made.ring) ≡ suc (length (known_items next)) =
-      ap length split in
+    ap length split in
     let count = c.loop-made.invariant.0 in
     let made = c.if-not-try_make.ensures.fit refl in (
       omega (arith, count, fewer),
