@@ -1,0 +1,1 @@
+--cycle-us 2000 --scale 0.01mm

@@ -1,0 +1,1 @@
+--cycle-us 1000 --scale 0.001mm
