@@ -3,6 +3,7 @@
 from dataclasses import dataclass, field
 from xml.sax.saxutils import escape
 
+from trace_plot_edges import draw_edges
 from trace_plot_reader import AXIS_STATES, GROUP_STATES, join
 from trace_plot_style import DARK, LIGHT, STATE_COLOURS, number_text, ticks, view
 
@@ -62,14 +63,17 @@ def num(value):
     return text[:-2] if text.endswith(".0") else text
 
 
-def svg(trace, units, title, dark=False, width=1100, whole=False):
-    """The text of the picture."""
+def svg(trace, units, title, dark=False, width=1100, whole=False, switches=None):
+    """The text of the picture, with the lanes of switches where there are some."""
     sheet = Sheet(trace, units, DARK if dark else LIGHT, width, whole)
     draw_head(sheet, title)
     for group in trace.groups.values():
         draw_section(sheet, group, GROUP_STATES, f"Group {group.name}: {', '.join(group.members)}")
     for axis in trace.axes.values():
         draw_section(sheet, axis, AXIS_STATES, f"Axis {axis.name}")
+    if switches is not None:
+        draw_edges(sheet, switches)
+        draw_time(sheet)
     height = num(sheet.y + 8)
     head = (f'<svg xmlns="http://www.w3.org/2000/svg" width="{width}" height="{height}" '
             f'viewBox="0 0 {width} {height}" role="img">\n<title>{escape(title)}</title>\n'

@@ -5,6 +5,7 @@ import json
 import re
 import subprocess
 import sys
+import tempfile
 import unittest
 from pathlib import Path
 from xml.etree import ElementTree
@@ -13,6 +14,7 @@ TOOLS = Path(__file__).resolve().parent.parent
 EXAMPLES = TOOLS.parent / "examples"
 sys.path.insert(0, str(TOOLS))
 
+import trace_plot_edges as edges_of  # noqa: E402
 import trace_plot_reader as reader  # noqa: E402
 import trace_plot_style as style  # noqa: E402
 
@@ -247,6 +249,55 @@ class Pictures(unittest.TestCase):
     def test_no_cycle(self):
         for options in ((), ("--html",)):
             self.assertEqual(plot("-", *options, text="\n".join(HEAD + END).encode())[0], 0)
+
+
+class Edges(unittest.TestCase):
+    """The lanes of digital cam switches."""
+
+    GUN = EXAMPLES / "glue-gun" / "glue-gun"
+
+    def drawn(self, lines, *options):
+        """The tool's answer with these edges."""
+        with tempfile.NamedTemporaryFile("w", suffix=".edges") as file:
+            file.write("".join(f"{line}\n" for line in lines))
+            file.flush()
+            return plot(self.GUN.with_suffix(".trace"), "--edges", file.name, *options)
+
+    def test_stored(self):
+        trace, edges = self.GUN.with_suffix(".trace"), self.GUN.with_suffix(".edges")
+        self.assertEqual(plot(trace, "--edges", edges)[1],
+                         (self.GUN.parent / "edges.svg").read_bytes())
+
+    def test_spans(self):
+        turns = edges_of.read_edges(["A 2 on\n", "B 2 on\r\n", "A 6 off\n", "A 7 on"])
+        self.assertEqual(turns, {"A": [2, 6, 7], "B": [2]})
+        self.assertEqual(edges_of.spans(turns["A"], 1, 9), [(2, 5), (7, 9)])
+        self.assertEqual(edges_of.spans(turns["A"], 4, 6), [(4, 5)])
+        self.assertEqual(edges_of.spans(turns["B"], 1, 1), [])
+
+    def test_lanes(self):
+        status, text, _ = self.drawn(["A 2 on", "B 3 on", "A 6 off"], "--dark", "--from", "3")
+        told = "".join(ElementTree.fromstring(text).itertext())
+        self.assertEqual(status, 0)
+        self.assertIn("A on, cycles 3 to 5", told)
+        self.assertIn("B on, cycles 3 to 50", told)
+
+    def test_no_edge(self):
+        status, text, _ = self.drawn([])
+        self.assertEqual(status, 0)
+        self.assertIn(b"Switches", text)
+
+    def test_refused(self):
+        for lines, line in ((["A 2 off"], 1), (["A 2 on", "A 3 on"], 2), (["A 3 on", "B 2 on"], 2),
+                            (["A 0 on"], 1), (["A 2 on", "A 2 off"], 2), (["A on"], 1),
+                            (["A 2 on", ""], 2), (["2A 2 on"], 1)):
+            status, _, fault = self.drawn(lines)
+            self.assertEqual(status, 3, lines)
+            self.assertIn(f": line {line}: ", fault)
+
+    def test_words(self):
+        self.assertEqual(self.drawn(["A 2 on"], "--html")[0], 2)
+        self.assertEqual(plot(self.GUN.with_suffix(".trace"), "--edges", "no_such_file")[0], 4)
 
 
 if __name__ == "__main__":
