@@ -11,13 +11,13 @@ use Rattle.job_ends.specs.declared.status.Status.{Status}
 use Rattle.job_ends.specs.declared.status.Status.TheVariants as status
 use Rattle.motion_history.specs.declared.refused.TextRefused.{TextRefused}
 use Rattle.outside.specs.Faults.{Rose}
-use Rattle.outside.specs.Told.{FileMap, HasFile, IsLonger, LacksFile}
+use Rattle.outside.specs.Told.{FileMap, LacksFile}
 use Rattle.trace_text.specs.reading.Reading.{trace_of}
 use Rattle.trace_text.specs.TraceState.{TraceState}
 use Rattle.trace_text.specs.writing.Writes.{Output}
 use Rattle.scope_job.proofs.TraceLaws.{scope-told}
 use Rattle.scope_job.specs.Causes.{is_of_scope, status_by_text, status_in}
-use Rattle.scope_job.specs.Ends.{EndsByFile, EndsByFound, EndsByScope, EndsByTrace}
+use Rattle.scope_job.specs.Ends.{EndsByFound, EndsByScope, EndsByTrace}
 use Rattle.scope_job.specs.Plans.{most_bytes, plan_of_scope, scope_plan}
 use Rattle.scope_job.specs.Scoped.{Scoped}
 

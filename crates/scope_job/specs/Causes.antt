@@ -1,5 +1,5 @@
 -- Why the job ends with each status. This project's profile.
-use Rattle.std.specs.Prelude.{◌≡◌, ℕ, nat_lt, if◌then◌else◌, Bool, true, false, Option, Some, None, List, length}
+use Rattle.std.specs.Prelude.{ℕ, nat_lt, if◌then◌else◌, Bool, true, false, Option, Some, None, List, length}
 use Rattle.std.specs.Result.{IsOk}
 use Rattle.job_ends.specs.Causes.{IsRefusedAt}
 use Rattle.job_ends.specs.declared.status.Status.{Status}

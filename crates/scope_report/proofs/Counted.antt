@@ -1,6 +1,6 @@
 -- Entries are counted one after another, and pieces are put behind each other.
 use Rattle.std.proofs.Common.{◌≡◌, ℕ, ◌+◌, ◌^◌, ◌<◌, ◌≤◌, ◌==◌, Bool, true, false, cond, Option, Some, None, List, [], ◌∷◌, ◌++◌, length, take, slice_index_or, refl, ap, sym, ◌∙◌, subst, arith, length-append}
-use Rattle.std.specs.Prelude.{slice_get, count_by, Result, Ok, IfOk}
+use Rattle.std.specs.Prelude.{slice_get, Result, Ok, IfOk}
 use Rattle.std.specs.List.{flat_map}
 use Rattle.std.specs.Option.{option_to_list}
 use Rattle.std.proofs.lemmas.List.{append-nil}
@@ -12,7 +12,7 @@ use Rattle.motion_history.specs.Entries.{Entry, call, cycle, end_of}
 use Rattle.out_of_memory.specs.declared.OutOfMemory.{OutOfMemory}
 use Rattle.scope_report.proofs.Cutting.{take-further}
 use Rattle.scope_report.proofs.Merged.{part-append}
-use Rattle.scope_report.specs.Counting.{CanAdd, HasOneMore, added, counts_of}
+use Rattle.scope_report.specs.Counting.{added, counts_of}
 use Rattle.scope_report.specs.Cuts.{between_cuts}
 use Rattle.scope_report.specs.Joining.{CanMerge, CanSum, Merges, Sums}
 use Rattle.scope_report.specs.Merging.{merged, part_of}

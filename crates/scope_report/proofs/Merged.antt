@@ -1,5 +1,5 @@
 -- What is told of rows is that of two parts of them, put together.
-use Rattle.std.proofs.Common.{◌≡◌, cond, ℕ, ℤ, ◌+◌, Option, Some, None, List, [], ◌∷◌, ◌++◌, length, refl, ap, sym, ◌∙◌, arith, length-append, unsigned_abs, ◌-ℤ◌}
+use Rattle.std.proofs.Common.{◌≡◌, cond, ℤ, ◌+◌, Option, Some, None, List, [], ◌∷◌, ◌++◌, length, refl, ap, sym, ◌∙◌, arith, length-append, unsigned_abs, ◌-ℤ◌}
 use Rattle.std.specs.Int.{int_min, int_max}
 use Rattle.std.specs.Ordering.{int_eq}
 use Rattle.std.proofs.lemmas.List.{append-nil, map-append}
@@ -8,7 +8,6 @@ use Rattle.std.proofs.lemmas.List.Sums.{sum_by-append}
 use Rattle.std.proofs.lemmas.Grind.{common_steps}
 use Rattle.axis_state.specs.declared.definition.AxisRow.{AxisRow}
 use Rattle.scope_report.specs.Merging.{between, first_of, first_there, last_from, last_of, merged, part_of}
-use Rattle.scope_report.specs.Parts.{PartState}
 use Rattle.scope_report.specs.Setpoints.{driven_of, greatest_of, least_of, neighbours_of, pairs_from, pick_of, picked, setpoints_of, still_of, travel_of}
 
 -- a choice that is associative

@@ -1,5 +1,5 @@
 -- How a part is kept. This project's profile.
-use Rattle.std.specs.Prelude.{◌≡◌, ℕ, ◌-◌, ◌*◌, ◌^◌, ◌≤◌, ◌<◌, None}
+use Rattle.std.specs.Prelude.{◌≡◌, ◌-◌, ◌*◌, ◌^◌, ◌≤◌, ◌<◌, None}
 use Rattle.scope_report.specs.Parts.{PartState}
 use Rattle.scope_report.specs.declared.part.Part.TheInside.{Inside}
 

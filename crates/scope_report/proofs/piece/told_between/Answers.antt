@@ -1,8 +1,8 @@
 -- Each entry up to the end is there, and is added.
-use Rattle.std.proofs.Common.{◌≡◌, ◌+◌, ◌<◌, ◌≤◌, ◌^◌, [], ◌∷◌, ◌++◌, Some, length, get_or, ap, sym, subst, ◌∙◌, arith}
+use Rattle.std.proofs.Common.{◌≡◌, [], ◌∷◌, ◌++◌, length, get_or, ap, sym, subst, ◌∙◌, arith}
 use Rattle.std.specs.Option.{option_map}
 use Rattle.std.proofs.lemmas.Grind.{common_steps}
-use Rattle.motion_history.specs.Entries.{Entry, end_of}
+use Rattle.motion_history.specs.Entries.{end_of}
 use Rattle.motion_history.specs.Looks.{told}
 use Rattle.trace_text.specs.TraceState.{entries_of}
 use Rattle.scope_report.specs.Cuts.{between_cuts}

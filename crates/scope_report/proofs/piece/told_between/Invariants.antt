@@ -1,4 +1,4 @@
-use Rattle.std.proofs.Common.{◌≡◌, length}
+use Rattle.std.proofs.Common.{length}
 use Rattle.trace_text.specs.TraceState.{entries_of}
 use Rattle.scope_report.specs.Cuts.{between_cuts}
 use Rattle.scope_report.specs.Pieces.{IsPiece}

@@ -1,5 +1,5 @@
 -- Each piece is put behind those before it, and the last one ends at the end.
-use Rattle.std.proofs.Common.{◌≡◌, ◌+◌, ◌<◌, ◌≤◌, ◌^◌, ℕ, length, take, ap, sym, subst, ◌∙◌, arith}
+use Rattle.std.proofs.Common.{◌≡◌, ◌+◌, ◌<◌, length, take, ap, sym, subst, ◌∙◌, arith}
 use Rattle.std.proofs.lemmas.List.{take_all}
 use Rattle.trace_text.specs.TraceState.{entries_of}
 use Rattle.scope_report.specs.Cuts.{between_cuts, cut_at}
