@@ -92,7 +92,7 @@ pub file-comes : FollowPlans → (files : FileMap) (rose refused : Type 0) (Star
     (option_and_then files_of asked ≡ None) ⊎ (is_of_run wanted ≡ false) →
     (option_and_then told_report asked ≡ None) ⊎ (is_of_report wanted ≡ false) →
     ComesExactly s wanted (Asks (LeadsTo wanted) files (option_and_then file_of asked))
-file-comes follow files rose refused Started asked old new s wanted e t none apart =
+file-comes follow files rose refused Started asked old new s wanted e t none apart plain =
     same-cause s wanted _ _ (no-load _ (LoadCause wanted) (option_and_then load_of asked) none)
     (λ h. inl h) (told-comes follow files rose refused Started asked old new s wanted e t apart
     plain)
@@ -122,9 +122,10 @@ ok-plain follow files rose refused Started asked old new s e none plain =
     (inl plain))
 
 -- words that ask for a report ask for no file, no load and no run
-nothing : ⊥ ⊎ IsSome {A = ℕ} None → ⊥
-nothing (inl h) = h
-nothing (inr h) = let bad : false ≡ true = h in cc
+nothing : (o : Option ℕ) → o ≡ None → ⊥ ⊎ IsSome o → ⊥
+nothing None none (inl h) = h
+nothing None none (inr h) = absurd (let bad : false ≡ true = h in cc)
+nothing (Some n) none h = not-asked n none
 
 neither : (A B : Type 0) → (A → ⊥) → (B → ⊥) → A ⊎ B → ⊥
 neither A B a b (inl h) = a h
@@ -140,7 +141,7 @@ ok-comes follow files rose refused Started asked old new s e none =
     or-report files rose refused Started asked old new s status.Ok _ e refl
     (λ plain. ok-plain follow files rose refused Started asked old new s e none plain)
     (λ r is. subst (λ a. Asks IsDone files (option_and_then file_of a) ⊎
-    IsSome (option_and_then load_of a) → ⊥) (sym is) nothing)
+    IsSome (option_and_then load_of a) → ⊥) (sym is) (nothing None refl))
 
 -- Illegal
 pub illegal-comes : FollowPlans → (files : FileMap) (rose refused : Type 0)

@@ -89,7 +89,7 @@ found-unread follow told rose r old new s word (Content text) is e h =
     (λ x. absurd (cc)) (λ x. absurd (cc))))
 
 -- it failed for a file, or for one of a run or of a report
-InVain : Option FileMap → Option FileJob → Option RunFiles → Option Report → ℕ → Type 0
+abbrev pub InVain : Option FileMap → Option FileJob → Option RunFiles → Option Report → ℕ → Type 0
 InVain told file run report word =
     (((word ≡ 1) × AsksInVain told file) ⊎ RunsInVain told run word) ⊎
     ReportsInVain told report word
@@ -278,6 +278,7 @@ file-no-run files P None h = absurd h
 file-no-run files P (Some (of_file r)) h = refl
 file-no-run files P (Some (of_run r)) h = absurd h
 file-no-run files P (Some (of_load seed)) h = absurd h
+file-no-run files P (Some (of_report r)) h = absurd h
 
 -- a run whose files give a plant has a trace
 pub complete-run : (files : FileMap) (rose refused : Type 0) (Started : ℕ → Type 0)
