@@ -1,2 +1,3 @@
 pub mod OnLaws
 pub mod WatchLaws
+pub mod EdgeLaws

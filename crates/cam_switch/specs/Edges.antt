@@ -1,6 +1,6 @@
 -- The edges of switches. This project's profile.
-use Rattle.std.specs.Prelude.{ℕ, zero, suc, Bool, true, false, Option, Some, None, List, [], ◌++◌, length}
-use Rattle.std.specs.List.{flat_map}
+use Rattle.std.specs.Prelude.{ℕ, zero, suc, Bool, true, false, Option, Some, None, List, [], ◌++◌, length, not, ◌<◌, ◌≡◌}
+use Rattle.std.specs.List.{Contains, flat_map}
 use Rattle.std.specs.Option.{option_to_list}
 use Rattle.axis_state.specs.declared.definition.AxisRow.{AxisRow}
 use Rattle.cam_switch.specs.Columns.{on_at}
@@ -30,3 +30,15 @@ edges_to ss cycles (suc k) = edges_to ss cycles k ++ edges_at ss cycles k
 -- their edges in all cycles
 abbrev pub edges_of : List Switch → List (List AxisRow) → List Edge
 edges_of ss cycles = edges_to ss cycles (length cycles)
+
+-- an edge is one of a switch: behind so many cycles one of the switches is not what the edge says,
+-- and at the next cycle it is
+pub record IsEdgeOf (ss : List Switch) (cycles : List (List AxisRow)) (e : Edge) : Type 0 where
+  pub before : ℕ
+  pub there : before < length cycles
+  pub cycle : e.cycle ≡ suc before
+  pub switch : Switch
+  pub among : Contains ss switch
+  pub name : e.name ≡ switch.name
+  pub was : on_at switch cycles before ≡ not e.on
+  pub is : on_at switch cycles (suc before) ≡ e.on

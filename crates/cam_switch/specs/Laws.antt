@@ -1,9 +1,11 @@
 -- Laws of switches. This project's profile.
 use Rattle.std.specs.Prelude.{◌≡◌, ◌↔◌, ℕ, zero, suc, true, ℤ, Some, List, slice_get}
+use Rattle.std.specs.List.{Contains}
 use Rattle.axis_state.specs.declared.definition.AxisRow.{AxisRow}
-use Rattle.cam_switch.specs.Edges.{edge_of}
+use Rattle.cam_switch.specs.Edges.{IsEdgeOf, edge_of, edges_of}
 use Rattle.cam_switch.specs.Switches.{IsOn, is_on}
 use Rattle.cam_switch.specs.Watches.{edge_after, watch_after, watch_at, watch_of}
+use Rattle.cam_switch.specs.declared.edge.Edge.{Edge}
 use Rattle.cam_switch.specs.declared.switch.Switch.{Switch}
 
 -- a switch is on behind setpoints exactly where there is one since which it is
@@ -19,3 +21,8 @@ pub record WatchesGoOn : Type 0 where
   pub edges : (cycles : List (List AxisRow)) → (k : ℕ) → (rows : List AxisRow) → (s : Switch) →
       slice_get cycles k ≡ Some rows →
       edge_after (suc k) rows (watch_at cycles k s) ≡ edge_of cycles k s
+
+-- the edges of switches are those where one of them turns
+abbrev pub EdgesAreAsSaid : Type 0
+EdgesAreAsSaid = (ss : List Switch) → (cycles : List (List AxisRow)) → (e : Edge) →
+    Contains (edges_of ss cycles) e ↔ IsEdgeOf ss cycles e

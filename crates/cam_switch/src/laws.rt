@@ -1,6 +1,6 @@
 // Laws of switches: each is the contract of a function that does nothing.
 
-ghost use Rattle.cam_switch.specs.Laws.{OnIsAsSaid, WatchesGoOn};
+ghost use Rattle.cam_switch.specs.Laws.{EdgesAreAsSaid, OnIsAsSaid, WatchesGoOn};
 
 /// A switch is on behind setpoints exactly where one of them lies inside by the hysteresis, and it
 /// and all behind it lie within. Nothing runs.
@@ -12,4 +12,10 @@ pub fn on_is_as_said()
 /// their edges there are those of the definition. Nothing runs.
 pub fn watches_go_on()
     ensures { WatchesGoOn }
+{}
+
+/// An edge is among those of switches exactly where one of them turns so at its cycle: it is on, or
+/// off, and wasn't at the cycle before. Nothing runs.
+pub fn edges_are_as_said()
+    ensures { EdgesAreAsSaid }
 {}
