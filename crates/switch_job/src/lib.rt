@@ -8,3 +8,6 @@ mod switches;
 pub use job_ends::Status;
 pub use outside::{Files, Sink};
 pub use switches::switch_files;
+
+#[cfg(test)]
+mod tests;
