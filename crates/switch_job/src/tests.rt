@@ -96,10 +96,14 @@ fn ends_by_its_files(rt: HostRuntime) -> Result<(), Fail> {
 fn tells_an_illegal_trace(rt: HostRuntime) -> Result<(), Fail> {
     let (exit, out) = run(rt.alloc(), "jump", "switches", &[], &[])?;
     assert_eq!(&rt; exit, 1);
-    assert_eq!(&rt; out.bytes(), b"illegal 7
+    assert_eq!(&rt;
+        out.bytes(),
+        b"illegal 7
 expected row,X,0037,0,8,Standstill,0,1,0,000f,0,
 found row,X,0037,0,8,Standstill,0,1,6,000f,6,
-".as_slice());
+"
+            .as_slice()
+    );
     Ok(())
 }
 
