@@ -10,6 +10,7 @@ from dataclasses import dataclass, field
 
 import motion_trace
 from motion_trace import TraceError
+from trace_plot_levels import Levels, bits_of
 
 AXIS_STATES = ("Disabled", "Standstill", "Homing", "DiscreteMotion", "ContinuousMotion",
                "SynchronizedMotion", "Stopping", "ErrorStop")
@@ -155,11 +156,12 @@ class Group:
 
 @dataclass
 class Block:
-    """An instance of a function block, and what its last call showed."""
+    """An instance of a function block, what its last call showed, and its outputs over time."""
 
     name: str
     kind: str
     on: object
+    levels: Levels
     execute: bool = False
     outputs: str = ""
 
@@ -175,7 +177,7 @@ class Trace:
         self.groups = {group.name: Group(group.name, group.axes, Lane(limit))
                        for group in machine.groups}
         owners = {**self.axes, **self.groups}
-        self.blocks = {block.name: Block(block.name, block.kind, owners[block.on])
+        self.blocks = {block.name: Block(block.name, block.kind, owners[block.on], Levels(limit))
                        for block in machine.blocks}
         for block in self.blocks.values():
             if block.kind == "Home":
@@ -194,10 +196,23 @@ class Trace:
             new = [name for letter, name in RESULTS
                    if letter in call.outputs and letter not in before]
             block.execute, block.outputs = call.execute, call.outputs
+            self.add_levels(block)
             if block.kind == "Home" and call.execute and "A" in call.outputs:
                 block.on.homed = True
             if (rises or new) and (self.shown() or self.cycle == self.first - 1):
                 self.mark(block, new[0] if new else "Call", call.error, rises)
+
+    def add_levels(self, block):
+        """Adds what a call of a block showed to its levels, as far as it lies in the window."""
+        value = bits_of(block.execute, block.outputs)
+        block.levels.called |= self.last is None or self.cycle <= self.last
+        if self.cycle < self.first - 1:
+            block.levels.before = block.levels.value = value
+        elif self.last is None or self.cycle < self.last:
+            block.levels.call(self.cycle - self.first + 1, value)
+        elif self.cycle == self.last:
+            block.levels.until(self.cycles)
+            block.levels.value = value
 
     def mark(self, block, kind, error, rises):
         """Marks a call of a block, or what came of it."""
@@ -219,6 +234,14 @@ class Trace:
             for name, row in cycle.groups.items():
                 self.groups[name].lane.add(self.cycle - self.first, (0, 0, 0, 0),
                                            GROUP_BITS[row.state], row.error)
+
+    def end(self, calls):
+        """Adds the calls behind the last cycle."""
+        if self.last is None or self.last > self.cycle:
+            self.last = self.cycle
+        self.add_calls(calls)
+        for block in self.blocks.values():
+            block.levels.until(self.cycles)
 
     def add_row(self, axis, row):
         """Adds the row of an axis."""
@@ -244,7 +267,7 @@ def read_trace(lines, first=1, last=None, limit=2048):
     trace = Trace(source.machine, first, last, limit)
     for cycle in source.cycles():
         trace.add_cycle(cycle)
-    trace.add_calls(source.last_calls)
+    trace.end(source.last_calls)
     return trace
 
 

@@ -4,8 +4,9 @@ from dataclasses import dataclass, field
 from xml.sax.saxutils import escape
 
 from trace_plot_edges import draw_edges
+from trace_plot_outputs import draw_outputs
 from trace_plot_reader import AXIS_STATES, BROKEN, GROUP_STATES, LOOSE, MOVED, join
-from trace_plot_style import DARK, LIGHT, STATE_COLOURS, number_text, ticks, view
+from trace_plot_style import DARK, LIGHT, STATE_COLOURS, num, number_text, ticks, view
 
 LEFT, RIGHT, ROW, STRIP, GAP = 112, 150, 16, 18, 8
 PANELS = (("position", 0, 120), ("velocity", 2, 84), ("acceleration", 4, 84))
@@ -26,6 +27,7 @@ class Sheet:
     theme: dict
     width: int
     whole: bool
+    outputs: bool = False
     y: float = 0
     parts: list = field(default_factory=list)
 
@@ -57,15 +59,10 @@ class Sheet:
         self.put(f'<path d="{steps}" {style}/>')
 
 
-def num(value):
-    """A coordinate to a tenth of a pixel."""
-    text = f"{value:.1f}"
-    return text[:-2] if text.endswith(".0") else text
-
-
-def svg(trace, units, title, dark=False, width=1100, whole=False, switches=None):
-    """The text of the picture, with the lanes of switches where there are some."""
-    sheet = Sheet(trace, units, DARK if dark else LIGHT, width, whole)
+def svg(sheet, title, switches=None):
+    """The text of the picture that an empty sheet becomes, with the lanes of switches where there
+    are some."""
+    trace, width = sheet.trace, sheet.width
     draw_head(sheet, title)
     for group in trace.groups.values():
         draw_section(sheet, group, GROUP_STATES, f"Group {group.name}: {', '.join(group.members)}")
@@ -176,6 +173,9 @@ def draw_section(sheet, owner, states, title):
     guides = draw_marks(sheet, owner)
     draw_strip(sheet, columns, states)
     top = sheet.y
+    if sheet.outputs:
+        blocks = sheet.trace.blocks.values()
+        draw_outputs(sheet, [block for block in blocks if block.on is owner])
     if hasattr(owner, "increment"):
         for name, place, height in PANELS:
             draw_panel(sheet, owner, columns, name, place, height)

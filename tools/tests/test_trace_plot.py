@@ -15,6 +15,7 @@ EXAMPLES = TOOLS.parent / "examples"
 sys.path.insert(0, str(TOOLS))
 
 import trace_plot_edges as edges_of  # noqa: E402
+import trace_plot_levels as levels_of  # noqa: E402
 import trace_plot_reader as reader  # noqa: E402
 import trace_plot_style as style  # noqa: E402
 
@@ -299,6 +300,64 @@ class Breaks(unittest.TestCase):
             if text.get("x") == "956":
                 right.append(float(text.get("y")))
         self.assertGreater(min(after - before for before, after in zip(right, right[1:])), 11)
+
+
+class Outputs(unittest.TestCase):
+    """Execute and the outputs of blocks over time."""
+
+    def runs(self, *parts, **options):
+        """The runs of the block M, with Execute as 1, Busy 2, Active 4, Done 8."""
+        trace = read(*parts, **options)
+        return levels_of.runs(trace.blocks["M"].levels, trace.cycles), trace.blocks["M"].levels
+
+    def test_levels(self):
+        runs, levels = self.runs(row(1, 0), call("BA"), row(2, 2), row(3, 4), call("D"), row(4, 4),
+                                 call("", execute=0))
+        self.assertEqual(runs, [[0, 1, 0, 0], [1, 3, 7, 0], [3, 4, 9, 0]])
+        self.assertEqual((levels.before, levels.value), (0, 0))
+
+    def test_between_two_cycles(self):
+        runs, _ = self.runs(call("BA"), row(1, 2), call("D"), call("", execute=0), call("BA"),
+                            row(2, 2))
+        self.assertEqual(runs, [[0, 1, 7, 0], [1, 2, 7, 15]])
+
+    def test_window(self):
+        parts = (call("BA"), row(1, 2), row(2, 4), call("D"), row(3, 4), call("", execute=0),
+                 row(4, 4))
+        runs, levels = self.runs(*parts, first=2, last=3)
+        self.assertEqual(runs, [[0, 1, 7, 0], [1, 2, 9, 0]])
+        self.assertEqual((levels.before, levels.value), (7, 0))
+        runs, levels = self.runs(*parts, first=3, last=3)
+        self.assertEqual((runs, levels.before, levels.value), ([[0, 1, 9, 0]], 7, 0))
+
+    def test_thinned(self):
+        parts = [part for cycle in range(1, 1001)
+                 for part in (call("BA", execute=int(cycle != 500)), row(cycle, 2))]
+        runs, levels = self.runs(*parts, limit=100)
+        self.assertLessEqual(len(levels.columns), 100)
+        self.assertEqual(runs, [[0, 496, 7, 0], [496, 1000, 7, 1]])
+
+    def test_reached(self):
+        trace = read(call("BAR"), row(1, 2), head=[line.replace("MoveAbsolute", "MoveVelocity")
+                                                   for line in HEAD])
+        self.assertEqual(levels_of.signals(trace.blocks["M"])[-1], "InVelocity")
+        self.assertEqual(levels_of.seen(trace.blocks["M"].levels, 7), [0, 1, 2, 6])
+
+    def test_lanes(self):
+        for called, *options in ((6,), (6, "--dark", "--from", "3", "--to", "12"), (5, "--to", "5")):
+            _, picture, _ = plot(EXAMPLES / "cell" / "cell.trace", "--outputs", *options)
+            words = [text.text for text in ElementTree.fromstring(picture).iter(
+                "{http://www.w3.org/2000/svg}text")]
+            self.assertEqual(words.count("Execute"), called, options)
+            self.assertIn("GearIn", words)
+
+    def test_lane_of_a_move(self):
+        _, picture, _ = plot("-", "--outputs", text="\n".join(
+            HEAD + row(1, 0) + call("BA") + row(2, 2) + call("D") + END).encode())
+        lanes = re.findall(r'<path d="(M[^"]*)" style="stroke:[^"]*;stroke-width:1.4"',
+                           picture.decode())
+        self.assertEqual([re.sub(r"[\d. ]", "", lane) for lane in lanes],
+                         ["MHHVHH", "MHHVHHVH", "MHHVHHVH", "MHHVH"])
 
 
 class Edges(unittest.TestCase):
