@@ -54,8 +54,15 @@ def section(trace, units, owner, states):
     panels = [{"name": name, "factor": told[name][0], "unit": told[name][1], "height": height,
                "limits": limits_of(owner, name)} for name, _, height in PANELS]
     return {**found, "title": f"Axis {owner.name}", "origin": owner.origin, "panels": panels,
+            "breaks": breaks(lane),
             "lines": {name: ends(lane, place) for name, place in LINES
                       if name != "reported" or owner.has_reported}}
+
+
+def breaks(lane):
+    """The columns in which lines break, as from, to and how."""
+    columns = [(place, place + 1, column) for place, column in enumerate(lane.columns)]
+    return [span for span in spans(columns, lambda column: column[10]) if span[2]]
 
 
 def ends(lane, place):

@@ -10,6 +10,7 @@ from dataclasses import dataclass, field
 
 import motion_trace
 from motion_trace import TraceError
+from trace_plot_levels import Levels, bits_of
 
 AXIS_STATES = ("Disabled", "Standstill", "Homing", "DiscreteMotion", "ContinuousMotion",
                "SynchronizedMotion", "Stopping", "ErrorStop")
@@ -17,6 +18,7 @@ GROUP_STATES = ("GroupDisabled", "GroupStandby", "GroupHoming", "GroupMoving", "
                 "GroupErrorStop")
 RESULTS = (("E", "Error"), ("C", "CommandAborted"), ("D", "Done"))
 MARKS = 256
+BROKEN, LOOSE, MOVED = 1, 2, 4  # the setpoint begins anew; the axis isn't driven; a Home moved both
 
 
 @dataclass
@@ -24,19 +26,20 @@ class Lane:
     """The cycles of an axis or a group, thinned to at most `limit` columns of `width` cycles each.
 
     A column is a list: the least and greatest position, velocity, acceleration and reported place
-    of its cycles, the states seen as bits, and the greatest ErrorID.
+    of its cycles, the states seen as bits, the greatest ErrorID, and how the lines go on, as bits
+    of BROKEN, LOOSE and MOVED. A velocity and an acceleration are None where there is none.
     """
 
     limit: int
     width: int = 1
     columns: list = field(default_factory=list)
 
-    def add(self, place, position, velocity, acceleration, reported, state, error):
-        """Adds the cycle at a place counted from 0; the places come in order, none left out."""
+    def add(self, place, values, state, error, breaks=0):
+        """Adds the cycle at a place counted from 0, with its position, velocity, acceleration and
+        reported place; the places come in order, none left out."""
         while place // self.width >= self.limit:
             self.width, self.columns = self.width * 2, paired(self.columns)
-        new = [position, position, velocity, velocity, acceleration, acceleration,
-               reported, reported, state, error]
+        new = [*(value for value in values for _ in range(2)), state, error, breaks]
         if place // self.width == len(self.columns):
             self.columns.append(new)
         else:
@@ -46,13 +49,16 @@ class Lane:
 def join(column, other):
     """Takes another column into one."""
     for least in (0, 2, 4, 6):
-        if other[least] < column[least]:
+        if other[least] is None:
+            continue
+        if column[least] is None or other[least] < column[least]:
             column[least] = other[least]
-        if other[least + 1] > column[least + 1]:
+        if column[least + 1] is None or other[least + 1] > column[least + 1]:
             column[least + 1] = other[least + 1]
     column[8] |= other[8]
     if other[9] > column[9]:
         column[9] = other[9]
+    column[10] |= other[10]
 
 
 def paired(columns):
@@ -96,7 +102,7 @@ class Marks:
 @dataclass
 class Axis:
     """An axis: its limits in internal units per cycle, and its cycles. `origin` is its setpoint
-    before the first of them."""
+    before the first of them, or in it where no line leads to it."""
 
     name: str
     lo: int
@@ -116,15 +122,18 @@ class Axis:
     has_reported: bool = False
 
     def step(self, row):
-        """The velocity and acceleration of a row: where the axis is driven, and was in the row
-        before, the step of the setpoint and the change of that; else both are 0. Where Home moved
-        the coordinate there is no step."""
-        goes_on = self.driven and row.driven
-        velocity = row.setpoint - self.position if goes_on else 0
-        acceleration = velocity - self.velocity if goes_on else 0
-        self.position, self.velocity = row.setpoint, velocity
+        """The velocity and acceleration of a row, and how its lines go on. Where the axis isn't
+        driven, or wasn't in the row before, and where Home moved the coordinate, there is no step
+        of the setpoint: both are None, and the next step begins at rest."""
+        moved = self.homed and row.setpoint != self.position
+        breaks = MOVED * moved | LOOSE * (not row.driven)
+        if moved or not (self.driven and row.driven):
+            breaks |= BROKEN
+        velocity = None if breaks else row.setpoint - self.position
+        acceleration = None if breaks else velocity - self.velocity
+        self.position, self.velocity = row.setpoint, velocity or 0
         self.homed, self.driven = row.state == "Homing", row.driven
-        return velocity, acceleration
+        return velocity, acceleration, breaks
 
     def reported_place(self, row):
         """The place that the drive reported, in internal units. Version 1 has it in increments,
@@ -147,11 +156,12 @@ class Group:
 
 @dataclass
 class Block:
-    """An instance of a function block, and what its last call showed."""
+    """An instance of a function block, what its last call showed, and its outputs over time."""
 
     name: str
     kind: str
     on: object
+    levels: Levels
     execute: bool = False
     outputs: str = ""
 
@@ -167,7 +177,7 @@ class Trace:
         self.groups = {group.name: Group(group.name, group.axes, Lane(limit))
                        for group in machine.groups}
         owners = {**self.axes, **self.groups}
-        self.blocks = {block.name: Block(block.name, block.kind, owners[block.on])
+        self.blocks = {block.name: Block(block.name, block.kind, owners[block.on], Levels(limit))
                        for block in machine.blocks}
         for block in self.blocks.values():
             if block.kind == "Home":
@@ -186,10 +196,23 @@ class Trace:
             new = [name for letter, name in RESULTS
                    if letter in call.outputs and letter not in before]
             block.execute, block.outputs = call.execute, call.outputs
+            self.add_levels(block)
             if block.kind == "Home" and call.execute and "A" in call.outputs:
                 block.on.homed = True
             if (rises or new) and (self.shown() or self.cycle == self.first - 1):
                 self.mark(block, new[0] if new else "Call", call.error, rises)
+
+    def add_levels(self, block):
+        """Adds what a call of a block showed to its levels, as far as it lies in the window."""
+        value = bits_of(block.execute, block.outputs)
+        block.levels.called |= self.last is None or self.cycle <= self.last
+        if self.cycle < self.first - 1:
+            block.levels.before = block.levels.value = value
+        elif self.last is None or self.cycle < self.last:
+            block.levels.call(self.cycle - self.first + 1, value)
+        elif self.cycle == self.last:
+            block.levels.until(self.cycles)
+            block.levels.value = value
 
     def mark(self, block, kind, error, rises):
         """Marks a call of a block, or what came of it."""
@@ -209,19 +232,26 @@ class Trace:
             self.add_row(self.axes[name], row)
         if self.shown():
             for name, row in cycle.groups.items():
-                self.groups[name].lane.add(self.cycle - self.first, 0, 0, 0, 0,
+                self.groups[name].lane.add(self.cycle - self.first, (0, 0, 0, 0),
                                            GROUP_BITS[row.state], row.error)
+
+    def end(self, calls):
+        """Adds the calls behind the last cycle."""
+        if self.last is None or self.last > self.cycle:
+            self.last = self.cycle
+        self.add_calls(calls)
+        for block in self.blocks.values():
+            block.levels.until(self.cycles)
 
     def add_row(self, axis, row):
         """Adds the row of an axis."""
-        if axis.homed:
-            axis.position = row.setpoint
+        before = axis.position
+        velocity, acceleration, breaks = axis.step(row)
         if self.cycle == self.first:
-            axis.origin = axis.position
-        velocity, acceleration = axis.step(row)
+            axis.origin = row.setpoint if breaks else before
         if self.shown():
-            axis.lane.add(self.cycle - self.first, row.setpoint, velocity, acceleration,
-                          axis.reported_place(row), AXIS_BITS[row.state], row.error)
+            values = (row.setpoint, velocity, acceleration, axis.reported_place(row))
+            axis.lane.add(self.cycle - self.first, values, AXIS_BITS[row.state], row.error, breaks)
 
 
 def axis_of(axis, limit):
@@ -237,7 +267,7 @@ def read_trace(lines, first=1, last=None, limit=2048):
     trace = Trace(source.machine, first, last, limit)
     for cycle in source.cycles():
         trace.add_cycle(cycle)
-    trace.add_calls(source.last_calls)
+    trace.end(source.last_calls)
     return trace
 
 

@@ -61,6 +61,12 @@ def read_scale(word):
     return found[1] or "", (float(found[2]), found[3] or "units")
 
 
+def num(value):
+    """A coordinate to a tenth of a pixel."""
+    text = f"{value:.1f}"
+    return text[:-2] if text.endswith(".0") else text
+
+
 def number_text(value):
     """A number as it is told, with a power of ten where it has more than seven places."""
     text = f"{value:.10g}" if value else "0"

@@ -4,10 +4,11 @@ from dataclasses import dataclass, field
 from xml.sax.saxutils import escape
 
 from trace_plot_edges import draw_edges
-from trace_plot_reader import AXIS_STATES, GROUP_STATES, join
-from trace_plot_style import DARK, LIGHT, STATE_COLOURS, number_text, ticks, view
+from trace_plot_outputs import draw_outputs
+from trace_plot_reader import AXIS_STATES, BROKEN, GROUP_STATES, LOOSE, MOVED, join
+from trace_plot_style import DARK, LIGHT, STATE_COLOURS, num, number_text, ticks, view
 
-LEFT, RIGHT, ROW, STRIP, GAP = 96, 150, 16, 18, 8
+LEFT, RIGHT, ROW, STRIP, GAP = 112, 150, 16, 18, 8
 PANELS = (("position", 0, 120), ("velocity", 2, 84), ("acceleration", 4, 84))
 KINDS = ("Call", "Done", "CommandAborted", "Error")
 SHAPES = {"Call": "m-5 -4h10l-5 9z", "Done": "m-4.5 0a4.5 4.5 0 1 0 9 0a4.5 4.5 0 1 0 -9 0z",
@@ -26,6 +27,7 @@ class Sheet:
     theme: dict
     width: int
     whole: bool
+    outputs: bool = False
     y: float = 0
     parts: list = field(default_factory=list)
 
@@ -57,15 +59,10 @@ class Sheet:
         self.put(f'<path d="{steps}" {style}/>')
 
 
-def num(value):
-    """A coordinate to a tenth of a pixel."""
-    text = f"{value:.1f}"
-    return text[:-2] if text.endswith(".0") else text
-
-
-def svg(trace, units, title, dark=False, width=1100, whole=False, switches=None):
-    """The text of the picture, with the lanes of switches where there are some."""
-    sheet = Sheet(trace, units, DARK if dark else LIGHT, width, whole)
+def svg(sheet, title, switches=None):
+    """The text of the picture that an empty sheet becomes, with the lanes of switches where there
+    are some."""
+    trace, width = sheet.trace, sheet.width
     draw_head(sheet, title)
     for group in trace.groups.values():
         draw_section(sheet, group, GROUP_STATES, f"Group {group.name}: {', '.join(group.members)}")
@@ -91,11 +88,11 @@ def style_sheet(theme):
     return (f"text{{{FONT};font-size:11px}}.ink{{fill:{theme['ink']}}}"
             f".muted{{fill:{theme['muted']}}}path{{fill:none;stroke-linejoin:round}}"
             f"{lines}.reported{{stroke-width:1.4;stroke-dasharray:4 3}}"
+            f".loose{{stroke:{theme['position']};stroke-width:1.6;stroke-dasharray:1.5 3}}"
             f".grid{{stroke:{theme['grid']}}}.zero{{stroke:{theme['limit']};stroke-width:.7}}"
             f".limit{{stroke:{theme['limit']};stroke-dasharray:6 4}}{marks}"
             ".gCall,.gDone,.gCommandAborted,.gError{stroke-dasharray:2 3;opacity:.55}"
-            f".frame{{fill:none;stroke:{theme['limit']}}}.error{{fill:{theme['error']};"
-            f"font-weight:bold;stroke:{theme['page']};stroke-width:4px;paint-order:stroke}}")
+            f".frame{{fill:none;stroke:{theme['limit']}}}")
 
 
 def hatching(theme):
@@ -133,14 +130,26 @@ def legend(sheet):
         return lambda x, y: draw_shape(sheet, kind, x + 10, y, "")
 
     frame = f'stroke="{sheet.theme["limit"]}" fill='
-    items = [(line("position"), "setpoint"), (line("reported"), "reported by the drive"),
-             (line("velocity"), "velocity"), (line("acceleration"), "acceleration"),
-             (line("limit"), "limit"), (swatch(f'{frame}"{sheet.theme["band"]}"'), "within limits"),
-             (swatch(f'{frame}"{sheet.theme["panel"]}"'), "beyond"),
-             (swatch(f'{frame}"url(#hatch)"'), "error")]
-    items += [(shape(kind), kind) for kind in KINDS]
-    return items + [(swatch(f'{frame}"{STATE_COLOURS[state]}"'), state)
-                    for state in states_seen(sheet.trace)]
+    drawn = {"setpoint": line("position"), "not driven": line("loose"),
+             "reported by the drive": line("reported"), "velocity": line("velocity"),
+             "acceleration": line("acceleration"), "limit": line("limit"),
+             "within limits": swatch(f'{frame}"{sheet.theme["band"]}"'),
+             "beyond": swatch(f'{frame}"{sheet.theme["panel"]}"'),
+             "error": swatch(f'{frame}"url(#hatch)"'), **{kind: shape(kind) for kind in KINDS}}
+    seen = seen_in(sheet.trace)
+    return [(draw, words) for words, draw in drawn.items() if words in seen] + [
+        (swatch(f'{frame}"{STATE_COLOURS[state]}"'), state) for state in states_seen(sheet.trace)]
+
+
+def seen_in(trace):
+    """What of the legend is in the picture, beside the states."""
+    axes, owners = trace.axes.values(), [*trace.axes.values(), *trace.groups.values()]
+    columns = [column for owner in owners for column in owner.lane.columns]
+    seen = {"setpoint", "velocity", "acceleration", "limit", "within limits", "beyond"}
+    seen |= {kind for owner in owners for _, kind, *_ in owner.marks.in_order()}
+    seen |= {"reported by the drive"} if any(axis.has_reported for axis in axes) else set()
+    seen |= {"not driven"} if any(column[10] & LOOSE for column in columns) else set()
+    return seen | ({"error"} if any(column[9] for column in columns) else set())
 
 
 def states_seen(trace):
@@ -164,6 +173,9 @@ def draw_section(sheet, owner, states, title):
     guides = draw_marks(sheet, owner)
     draw_strip(sheet, columns, states)
     top = sheet.y
+    if sheet.outputs:
+        blocks = sheet.trace.blocks.values()
+        draw_outputs(sheet, [block for block in blocks if block.on is owner])
     if hasattr(owner, "increment"):
         for name, place, height in PANELS:
             draw_panel(sheet, owner, columns, name, place, height)
@@ -248,6 +260,8 @@ def draw_strip(sheet, columns, states):
         words = name + (f" {error}" if error else "")
         told = f"{words}, cycles {start + sheet.trace.first} to {end + sheet.trace.first - 1}"
         sheet.box(x, sheet.y, wide, STRIP, f'fill="{STATE_COLOURS[name]}"', told)
+        if error and wide <= 7.2 * len(words) + 4:
+            words = str(error)
         if wide > 7.2 * len(words) + 4:
             fill = "#ffffff" if name in ("ContinuousMotion",) else "#101418"
             sheet.put(f'<text x="{num(x + 5)}" y="{num(sheet.y + 13)}" fill="{fill}">'
@@ -268,13 +282,6 @@ def draw_errors(sheet, columns, height):
         sheet.box(x, sheet.y, max(wide, 1), height, 'fill="url(#hatch)"', f"error {error}")
 
 
-def name_errors(sheet, columns):
-    """The numbers of the errors, where there is room for them."""
-    for x, wide, error in errors(sheet, columns):
-        if wide > 60:
-            sheet.text(x + 5, sheet.y + 14, f"error {error}", "", "error")
-
-
 def limits_of(axis, name):
     """The limits of a panel, from within: their names with the least and the greatest value."""
     if name == "position":
@@ -290,7 +297,8 @@ def draw_panel(sheet, axis, columns, name, place, height):
     """One panel of an axis: its bands, grid, limits and lines."""
     factor, unit = sheet.units.of_axis(axis.name)[name]
     limits, sheet.y = limits_of(axis, name), sheet.y + GAP
-    values = [value for *_, column in columns for value in column[place:place + 2]]
+    values = [value for *_, column in columns for value in column[place:place + 2]
+              if value is not None]
     values += [axis.origin] if name == "position" else [0]
     if name == "position" and axis.has_reported:
         values += [value for *_, column in columns for value in column[6:8]]
@@ -302,12 +310,10 @@ def draw_panel(sheet, axis, columns, name, place, height):
 
     draw_bands(sheet, limits, to_y, height)
     draw_grid(sheet, (low * factor, high * factor), lambda value: to_y(value / factor), height)
-    draw_limits(sheet, limits, (low, high), to_y, factor)
+    draw_limits(sheet, limits, (low, high), to_y, factor, height)
     draw_names(sheet, name, unit, height)
     draw_errors(sheet, columns, height)
     draw_lines(sheet, axis, columns, name, place, to_y)
-    if name == "position":
-        name_errors(sheet, columns)
     sheet.box(LEFT, sheet.y, sheet.plot, height, 'class="frame"')
     sheet.y += height
 
@@ -330,7 +336,7 @@ def draw_grid(sheet, shown, to_y, height):
         sheet.path(f"M{num(sheet.x(cycles))} {num(sheet.y)}v{height}", 'class="grid"')
 
 
-def draw_limits(sheet, limits, shown, to_y, factor):
+def draw_limits(sheet, limits, shown, to_y, factor, height):
     """The limits as lines, with their names and numbers at the right; an arrow where a limit lies
     outside of what is shown."""
     told = []
@@ -341,10 +347,20 @@ def draw_limits(sheet, limits, shown, to_y, factor):
                 sheet.path(f"M{LEFT} {num(to_y(value))}h{sheet.plot}", 'class="limit"')
             arrow = "" if inside else " ↑" if value > shown[1] else " ↓"
             told.append((to_y(value), f"{name} {number_text(value * factor)}{arrow}"))
-    below = float("-inf")
-    for y, words in sorted(told):
-        below = max(y + 4, below + 12)
-        sheet.text(sheet.width - RIGHT + 6, below, words, "", "muted")
+    for y, words in apart(sorted(told), sheet.y + 9, sheet.y + height):
+        sheet.text(sheet.width - RIGHT + 6, y, words, "", "muted")
+
+
+def apart(told, top, bottom):
+    """Words with the places that they stand for, from above: where each is written, so that none
+    touches another and all stay between top and bottom."""
+    lines = [max(y + 4, top) for y, _ in told]
+    for place in range(1, len(lines)):
+        lines[place] = max(lines[place], lines[place - 1] + 12)
+    for place in reversed(range(len(lines))):
+        below = lines[place + 1] - 12 if place + 1 < len(lines) else bottom
+        lines[place] = min(lines[place], below)
+    return [(y, words) for y, (_, words) in zip(lines, told)]
 
 
 def draw_names(sheet, name, unit, height):
@@ -357,34 +373,73 @@ def draw_names(sheet, name, unit, height):
 
 def draw_lines(sheet, axis, columns, name, place, to_y):
     """The line of a panel; positions are joined from cycle to cycle, and a velocity or an
-    acceleration holds over its cycle."""
+    acceleration holds over its cycle. Where a line is broken nothing leads over the gap."""
     whole = all(end - start == 1 for start, end, _ in columns)
     if name == "position" and axis.has_reported and columns:
         sheet.path(range_line(sheet, columns, 6, to_y, whole), 'class="reported"')
     if not whole:
         sheet.path(range_line(sheet, columns, place, to_y), f'class="{name}"')
     elif name == "position":
-        sheet.path(f"M{LEFT} {num(to_y(axis.origin))}" + "".join(
-            f"L{num(sheet.x(end))} {num(to_y(column[place]))}" for _, end, column in columns),
-            'class="position"')
+        draw_positions(sheet, axis, columns, to_y)
     else:
-        sheet.path("".join(
-            f"{'L' if start else 'M'}{num(sheet.x(start))} {num(to_y(column[place]))}"
-            f"H{num(sheet.x(end))}" for start, end, column in columns), f'class="{name}"')
+        sheet.path(step_line(sheet, columns, place, to_y), f'class="{name}"')
+
+
+def draw_positions(sheet, axis, columns, to_y):
+    """The setpoint of single cycles: joined, and level over a cycle to which no step leads, dotted
+    where the axis isn't driven."""
+    joined, loose, before = [], [], axis.origin
+    begins = True
+    for start, end, column in columns:
+        y = num(to_y(column[0]))
+        if column[10] & BROKEN and (column[10] & LOOSE or not column[10] & MOVED):
+            loose.append(f"M{num(sheet.x(start))} {y}H{num(sheet.x(end))}")
+        elif column[10] & BROKEN:
+            joined.append(f"M{num(sheet.x(start))} {y}H{num(sheet.x(end))}")
+        else:
+            first = f"M{num(sheet.x(start))} {num(to_y(before))}" if begins else ""
+            joined.append(f"{first}L{num(sheet.x(end))} {y}")
+        begins, before = column[10] & BROKEN and not column[10] & MOVED, column[0]
+    for parts, style in ((joined, "position"), (loose, "loose")):
+        if parts:
+            sheet.path("".join(parts), f'class="{style}"')
+
+
+def step_line(sheet, columns, place, to_y):
+    """A line that holds each cycle's value over the cycle, with a gap where there is none."""
+    parts, goes_on = [], False
+    for start, end, column in columns:
+        if column[place] is not None:
+            parts.append(f"{'L' if goes_on else 'M'}{num(sheet.x(start))} "
+                         f"{num(to_y(column[place]))}H{num(sheet.x(end))}")
+        goes_on = column[place] is not None
+    return "".join(parts)
 
 
 def range_line(sheet, columns, place, to_y, whole=False):
     """A line through the least and the greatest value of each column, the nearer one first. What
-    a drive reports it reports at the beginning of a cycle: a single cycle's value stands there."""
-    steps, last = [], None
+    a drive reports it reports at the beginning of a cycle: a single cycle's value stands there.
+    Where the line is broken, short level lines stand at the two."""
+    parts, last = [], None
+    breaking = MOVED if place == 6 else BROKEN
     for start, end, column in columns:
-        x = num(sheet.x(start if whole else (start + end) / 2))
-        ends = [to_y(column[place]), to_y(column[place + 1])]
-        if last is not None and abs(ends[1] - last) < abs(ends[0] - last):
+        if column[place] is None:
+            last = None
+            continue
+        at = sheet.x(start if whole else (start + end) / 2)
+        ends = sorted({to_y(column[place]), to_y(column[place + 1])}, reverse=True)
+        if column[10] & breaking and not (whole and place == 6):
+            parts += [f"M{num(at - 0.5)} {num(y)}h1" for y in ends]
+            last = None
+            continue
+        if column[10] & breaking:
+            last = None
+        if last is not None and abs(ends[-1] - last) < abs(ends[0] - last):
             ends.reverse()
-        steps += [f"{x} {num(y)}" for y in (ends[:1] if ends[0] == ends[1] else ends)]
-        last = ends[1]
-    return "M" + "L".join(steps)
+        parts += [f"{'L' if step or last is not None else 'M'}{num(at)} {num(y)}"
+                  for step, y in enumerate(ends)]
+        last = ends[-1]
+    return "".join(parts)
 
 
 def time_ticks(sheet):

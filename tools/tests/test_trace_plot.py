@@ -15,6 +15,7 @@ EXAMPLES = TOOLS.parent / "examples"
 sys.path.insert(0, str(TOOLS))
 
 import trace_plot_edges as edges_of  # noqa: E402
+import trace_plot_levels as levels_of  # noqa: E402
 import trace_plot_reader as reader  # noqa: E402
 import trace_plot_style as style  # noqa: E402
 
@@ -60,14 +61,15 @@ class Reading(unittest.TestCase):
     def test_no_step_while_not_driven(self):
         lane = read(row(1, 2), row(2, 9, driven=0, state="ErrorStop", error=101), row(3, 4),
                     row(4, 6)).axes["X"].lane
-        self.assertEqual([column[2] for column in lane.columns], [2, 0, 0, 2])
+        self.assertEqual([column[2] for column in lane.columns], [2, None, None, 2])
+        self.assertEqual([column[4] for column in lane.columns], [2, None, None, 2])
         self.assertEqual([column[9] for column in lane.columns], [0, 101, 0, 0])
 
     def test_home_is_no_step(self):
         head = HEAD + ["block,H,main,Home,X,,,,,,,"]
         axis = read(["call,H,1,30,,,,,,,BA,0"], row(1, 30, state="Standstill"), row(2, 31),
                     head=head).axes["X"]
-        self.assertEqual([column[2] for column in axis.lane.columns], [0, 1])
+        self.assertEqual([column[2] for column in axis.lane.columns], [None, 1])
         self.assertEqual(axis.origin, 30)
 
     def test_version_one(self):
@@ -228,6 +230,9 @@ class Pictures(unittest.TestCase):
                          ["Group PORTAL: X, Y", "Axis X", "Axis Y", "Axis BELT", "Axis FEEDER"])
         self.assertEqual(data["sections"][3]["lines"]["velocity"],
                          [[2, 4, 6, 6, 6, 6, 6, 4, 3, 3, 3, 3, 3, 3, 2, 0, 0]])
+        self.assertEqual(data["sections"][4]["breaks"], [[10, 15, 3], [15, 16, 1]])
+        self.assertEqual(data["sections"][4]["lines"]["velocity"][0][9:],
+                         [1, None, None, None, None, None, None, 0])
 
     def test_long_trace(self):
         lines = HEAD + [line for cycle in range(1, 20001) for line in row(cycle, cycle % 300)] + END
@@ -249,6 +254,110 @@ class Pictures(unittest.TestCase):
     def test_no_cycle(self):
         for options in ((), ("--html",)):
             self.assertEqual(plot("-", *options, text="\n".join(HEAD + END).encode())[0], 0)
+
+
+class Breaks(unittest.TestCase):
+    """No slope is drawn at a Home and where an axis isn't driven."""
+
+    def paths(self, lines, name, *options):
+        """The lines of a name in a picture, each as its moves and steps."""
+        _, picture, _ = plot("-", *options, text="\n".join(lines).encode())
+        return re.findall(rf'<path d="([^"]*)" class="{name}"', picture.decode())[1:]
+
+    def test_home(self):
+        head = HEAD + ["block,H,main,Home,X,,,,,,,"]
+        lines = head + row(1, 4, place=4) + ["call,H,1,30,,,,,,,BA,0"] + row(2, 30, place=30) + END
+        position, = self.paths(lines, "position")
+        self.assertRegex(position, r"^M[\d. ]+L[\d. ]+M[\d. ]+H[\d. ]+$")
+        reported, = self.paths(lines, "reported")
+        self.assertEqual((reported.count("M"), reported.count("L")), (2, 0))
+        velocity, = self.paths(lines, "velocity")
+        self.assertEqual(velocity.count("H"), 1)
+
+    def test_not_driven(self):
+        lines = HEAD + row(1, 4) + row(2, 8) + row(3, 5, driven=0) + row(4, 5) + row(5, 6) + END
+        position, = self.paths(lines, "position")
+        self.assertRegex(position, r"^M[\d. ]+L[\d. ]+L[\d. ]+M[\d. ]+L[\d. ]+$")
+        loose, = self.paths(lines, "loose")
+        self.assertRegex(loose, r"^M[\d. ]+H[\d. ]+M[\d. ]+H[\d. ]+$")
+
+    def test_thinned(self):
+        lines = HEAD + [line for cycle in range(1, 4001)
+                        for line in row(cycle, 0 if cycle < 2000 else 400,
+                                        driven=int(cycle not in (2000, 2001)))] + END
+        position, = self.paths(lines, "position")
+        rises = [part for part in re.split("M", position)[1:] if len(set(
+            re.findall(r"(?:^|L)[\d.]+ ([\d.]+)", part))) > 1]
+        self.assertEqual(rises, [])
+        velocity, = self.paths(lines, "velocity")
+        self.assertEqual(len(set(re.findall(r"[ML][\d.]+ ([\d.]+)", velocity))), 1)
+
+    def test_words_stand_apart(self):
+        _, picture, _ = plot(EXAMPLES / "portal" / "portal.trace", "--cycle-us", "1000",
+                             "--scale", "0.001mm")
+        root, right = ElementTree.fromstring(picture), []
+        for text in root.iter("{http://www.w3.org/2000/svg}text"):
+            if text.get("x") == "956":
+                right.append(float(text.get("y")))
+        self.assertGreater(min(after - before for before, after in zip(right, right[1:])), 11)
+
+
+class Outputs(unittest.TestCase):
+    """Execute and the outputs of blocks over time."""
+
+    def runs(self, *parts, **options):
+        """The runs of the block M, with Execute as 1, Busy 2, Active 4, Done 8."""
+        trace = read(*parts, **options)
+        return levels_of.runs(trace.blocks["M"].levels, trace.cycles), trace.blocks["M"].levels
+
+    def test_levels(self):
+        runs, levels = self.runs(row(1, 0), call("BA"), row(2, 2), row(3, 4), call("D"), row(4, 4),
+                                 call("", execute=0))
+        self.assertEqual(runs, [[0, 1, 0, 0], [1, 3, 7, 0], [3, 4, 9, 0]])
+        self.assertEqual((levels.before, levels.value), (0, 0))
+
+    def test_between_two_cycles(self):
+        runs, _ = self.runs(call("BA"), row(1, 2), call("D"), call("", execute=0), call("BA"),
+                            row(2, 2))
+        self.assertEqual(runs, [[0, 1, 7, 0], [1, 2, 7, 15]])
+
+    def test_window(self):
+        parts = (call("BA"), row(1, 2), row(2, 4), call("D"), row(3, 4), call("", execute=0),
+                 row(4, 4))
+        runs, levels = self.runs(*parts, first=2, last=3)
+        self.assertEqual(runs, [[0, 1, 7, 0], [1, 2, 9, 0]])
+        self.assertEqual((levels.before, levels.value), (7, 0))
+        runs, levels = self.runs(*parts, first=3, last=3)
+        self.assertEqual((runs, levels.before, levels.value), ([[0, 1, 9, 0]], 7, 0))
+
+    def test_thinned(self):
+        parts = [part for cycle in range(1, 1001)
+                 for part in (call("BA", execute=int(cycle != 500)), row(cycle, 2))]
+        runs, levels = self.runs(*parts, limit=100)
+        self.assertLessEqual(len(levels.columns), 100)
+        self.assertEqual(runs, [[0, 496, 7, 0], [496, 1000, 7, 1]])
+
+    def test_reached(self):
+        trace = read(call("BAR"), row(1, 2), head=[line.replace("MoveAbsolute", "MoveVelocity")
+                                                   for line in HEAD])
+        self.assertEqual(levels_of.signals(trace.blocks["M"])[-1], "InVelocity")
+        self.assertEqual(levels_of.seen(trace.blocks["M"].levels, 7), [0, 1, 2, 6])
+
+    def test_lanes(self):
+        for called, *options in ((6,), (6, "--dark", "--from", "3", "--to", "12"), (5, "--to", "5")):
+            _, picture, _ = plot(EXAMPLES / "cell" / "cell.trace", "--outputs", *options)
+            words = [text.text for text in ElementTree.fromstring(picture).iter(
+                "{http://www.w3.org/2000/svg}text")]
+            self.assertEqual(words.count("Execute"), called, options)
+            self.assertIn("GearIn", words)
+
+    def test_lane_of_a_move(self):
+        _, picture, _ = plot("-", "--outputs", text="\n".join(
+            HEAD + row(1, 0) + call("BA") + row(2, 2) + call("D") + END).encode())
+        lanes = re.findall(r'<path d="(M[^"]*)" style="stroke:[^"]*;stroke-width:1.4"',
+                           picture.decode())
+        self.assertEqual([re.sub(r"[\d. ]", "", lane) for lane in lanes],
+                         ["MHHVHH", "MHHVHHVH", "MHHVHHVH", "MHHVH"])
 
 
 class Edges(unittest.TestCase):

@@ -1,0 +1,86 @@
+"""What Execute and the outputs of a block were over time: thinned, as a trace is read."""
+
+from array import array
+from dataclasses import dataclass, field
+
+LETTERS = "BADCER"
+OUTPUTS = ("Busy", "Active", "Done", "CommandAborted", "Error")
+REACHED = {"Power": "Status", "MoveVelocity": "InVelocity", "GearIn": "InGear", "CamIn": "InSync"}
+CHANGED = 8     # how far the bits that changed within a column stand left of those at its end
+
+
+@dataclass
+class Levels:
+    """Execute and the outputs of a block, as bits in the order of `signals`, in at most `limit`
+    columns of `width` cycles each. A column has what stood at its end, and what stood otherwise in
+    it before; `before` is what stood before the first, and `value` what the last call showed."""
+
+    limit: int
+    width: int = 1
+    before: int = 0
+    value: int = 0
+    called: bool = False
+    columns: array = field(default_factory=lambda: array("H"))
+
+    def until(self, place):
+        """Goes on with what the last call showed, until the cycle at a place counted from 0."""
+        while (place - 1) // self.width >= self.limit:
+            self.width, self.columns = self.width * 2, paired(self.columns)
+        count = -(-place // self.width)
+        self.columns.extend([self.value] * (count - len(self.columns)))
+
+    def show(self, place, value):
+        """What a call before the cycle at a place showed; the places don't fall."""
+        self.until(place)
+        index = place // self.width
+        if index < len(self.columns):
+            changed = self.columns[index] >> CHANGED | self.value ^ value
+            self.columns[index] = value | changed << CHANGED
+        self.value = value
+
+    def call(self, place, value):
+        """Shows a call, and begins its cycle's column with it."""
+        self.show(place, value)
+        self.until(place + 1)
+
+
+def paired(columns):
+    """Half as many columns, each of two that stand beside each other."""
+    joined = array("H")
+    for place in range(0, len(columns) - 1, 2):
+        one, other = columns[place], columns[place + 1]
+        joined.append(other & 255 | ((one | other) >> CHANGED | (one ^ other) & 255) << CHANGED)
+    joined.extend(columns[2 * len(joined):])
+    return joined
+
+
+def bits_of(execute, outputs):
+    """Execute and the outputs of a call, as bits."""
+    return execute | sum(2 << place for place, letter in enumerate(LETTERS) if letter in outputs)
+
+
+def signals(block):
+    """The names of the bits, for a block."""
+    execute = "Enable" if block.kind == "Power" else "Execute"
+    return (execute, *OUTPUTS, REACHED.get(block.kind, "Reached"))
+
+
+def runs(levels, cycles):
+    """Columns beside each other with the same values, as from and to which cycle, what stood there
+    and what stood otherwise too."""
+    found = []
+    for place, column in enumerate(levels.columns):
+        start, end = place * levels.width, min((place + 1) * levels.width, cycles)
+        if found and found[-1][2] == column & 255 and not column >> CHANGED:
+            found[-1][1] = end
+        else:
+            found.append([start, end, column & 255, column >> CHANGED])
+    return found
+
+
+def seen(levels, count):
+    """Which of so many signals were ever true."""
+    bits = levels.value
+    for column in levels.columns:
+        bits |= column | column >> CHANGED
+    return [place for place in range(count) if bits >> place & 1]
