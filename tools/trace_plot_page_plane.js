@@ -26,9 +26,9 @@ class Plane {
     this.head.textContent = `${up.title} over ${across.title.replace("Axis ", "")}` +
       (data.width > 1 ? `, the middle of ${data.width} cycles at a time` : "");
     this.canvas.setAttribute("aria-label", this.head.textContent);
-    const size = Math.min(this.figure.clientWidth, 480);
-    this.canvas.style.width = size + "px";
-    this.pen = ready(this.canvas, size, size);
+    const size = Math.min(this.figure.clientWidth, 480) - 82;
+    this.canvas.style.width = size + 82 + "px";
+    this.pen = ready(this.canvas, size + 82, size + 52);
     this.pair = [across, up];
     this.scale(size);
     this.drawFrame();
@@ -59,7 +59,7 @@ class Plane {
       const half = (isOne ? wide : high - low) * 0.55;
       return [(low + high) / 2 - half, (low + high) / 2 + half];
     });
-    this.box = [70, 8, size - 82, size - 52];
+    this.box = [70, 8, size, size];
   }
 
   x(value) {

@@ -1,10 +1,11 @@
 """Tests of the page of tools/trace_plot, driven in a headless Chromium where there is one."""
 
 import re
+import tempfile
 import unittest
 
 from page_driver import BROWSER, drive, page_of
-from tool_runner import CELL, EXAMPLES
+from tool_runner import CELL, EXAMPLES, HOMED
 
 
 @unittest.skipUnless(BROWSER, "there is no Chromium to drive the page in")
@@ -94,10 +95,11 @@ class Page(unittest.TestCase):
             await drawn();
             const [box, views] = [plane.box, plane.views];
             return [...hidden, plane.figure.hidden, plane.head.textContent, views,
-              plane.x(views[0][0]) === box[0], plane.y(views[1][0]) === box[1] + box[3]];""")
+              plane.x(views[0][0]) === box[0], plane.y(views[1][0]) === box[1] + box[3],
+              box[2] === box[3]];""")
         self.assertEqual(told[:3], [True, False, "Axis Y over X"])
         self.assertEqual([round(high - low, 6) for low, high in told[3]], [33, 33])
-        self.assertEqual(told[4:], [True, True])
+        self.assertEqual(told[4:], [True, True, True])
 
     def test_outputs(self):
         told = drive(self.page, """
@@ -157,6 +159,26 @@ class Page(unittest.TestCase):
         page = page_of(EXAMPLES / "power-fault-reset" / "power-fault-reset.trace")
         told = drive(page, "goTo(2); return sections[0].read.textContent;")
         self.assertIn("no velocity", told)
+
+    def test_long_trace(self):
+        told = drive(self.page_of_length(20_000), """
+            goTo(12_345);
+            const text = sections[0].read.textContent;
+            for (let count = 0; count < 20; count++) zoom(0.5);
+            await drawn();
+            return [text, to - from, sections[0].dots.some(({dot}) => dot.style.display === "block")];""")
+        self.assertIn("cycles 12345 to 12348", told[0])
+        self.assertEqual(told[1:], [32, False])
+
+    def page_of_length(self, cycles):
+        """The page of a trace of one axis with so many cycles."""
+        rows = "".join(f"cycle,{number},,,,,,,,,,\nrow,A,0037,0,8,DiscreteMotion,0,1,{number % 40},"
+                       f"000f,0,0\n" for number in range(1, cycles + 1))
+        head, rest = HOMED.split("call,M,1,", 1)
+        with tempfile.NamedTemporaryFile("w", suffix=".trace") as file:
+            file.write(head + rows + "end" + rest.split("\nend")[1])
+            file.flush()
+            return page_of(file.name)
 
     def test_texts_for_readers_of_screens(self):
         told = drive(self.page, """
