@@ -4,23 +4,34 @@ import json
 from html import escape
 from pathlib import Path
 
+from trace_plot_levels import runs, seen, signals
 from trace_plot_reader import AXIS_STATES, GROUP_STATES
 from trace_plot_style import DARK, LIGHT, STATE_COLOURS
-from trace_plot_svg import PANELS, SHAPES, limits_of, spans, states_seen
+from trace_plot_svg import PANELS, SHAPES, limits_of, seen_in, spans, states_seen
+from trace_plot_words import told_of
 
-TEMPLATE = Path(__file__).with_name("trace_plot_page.html")
+FOLDER = Path(__file__).parent
+SCRIPTS = ("pen", "curves", "section", "lanes", "cursor", "plane", "moving")
 LINES = (("position", 0), ("velocity", 2), ("acceleration", 4), ("reported", 6))
 
 
-def page(trace, units, title, whole=False):
-    """The text of the page: the template with its colours, its title and its numbers."""
-    text = TEMPLATE.read_text(encoding="utf-8")
-    data = json.dumps(page_data(trace, units, whole), separators=(",", ":"), ensure_ascii=False)
-    for mark, words in (("/*LIGHT*/", variables(LIGHT)), ("/*DARK*/", variables(DARK)),
-                        ("<!--TITLE-->", escape(title)),
+def page(trace, units, title, whole=False, outputs=False):
+    """The text of the page: the template with its script, its colours, its title and its
+    numbers."""
+    text = read("trace_plot_page.html")
+    script = "\n".join(read(f"trace_plot_page_{name}.js") for name in SCRIPTS)
+    data = json.dumps({**page_data(trace, units, whole), "outputs": outputs},
+                      separators=(",", ":"), ensure_ascii=False)
+    for mark, words in (("/*SCRIPTS*/", script), ("/*LIGHT*/", variables(LIGHT)),
+                        ("/*DARK*/", variables(DARK)), ("<!--TITLE-->", escape(title)),
                         ("/*DATA*/", data.replace("<", "\\u003c"))):
         text = text.replace(mark, words)
     return text
+
+
+def read(name):
+    """The text of a file beside this one."""
+    return (FOLDER / name).read_text(encoding="utf-8")
 
 
 def variables(theme):
@@ -36,16 +47,19 @@ def page_data(trace, units, whole):
     return {"first": trace.first, "cycles": trace.cycles, "timeFactor": factor, "timeName": name,
             "whole": whole, "width": max(owner.lane.width for owner, _ in owners),
             "colours": STATE_COLOURS, "shapes": SHAPES,
-            "states": states_seen(trace),
+            "legend": sorted(seen_in(trace)) + states_seen(trace),
             "sections": [section(trace, units, owner, states) for owner, states in owners]}
 
 
 def section(trace, units, owner, states):
     """An axis or a group: its states as spans, its marks, and the panels and lines of an axis."""
     lane = owner.lane
+    blocks = [block for block in trace.blocks.values() if block.on is owner and block.levels.called]
     columns = [(place * lane.width, min((place + 1) * lane.width, trace.cycles), column)
                for place, column in enumerate(lane.columns)]
-    found = {"width": lane.width, "marks": owner.marks.in_order(), "strip": [
+    found = {"width": lane.width, "marks": owner.marks.in_order(),
+             "text": told_of(trace, units, owner, states),
+             "blocks": [outputs_of(block, trace.cycles) for block in blocks], "strip": [
         [start, end, *key] for start, end, key in spans(columns, lambda column: (
             states[column[8].bit_length() - 1], column[9]))]}
     if not hasattr(owner, "increment"):
@@ -57,6 +71,14 @@ def section(trace, units, owner, states):
             "breaks": breaks(lane),
             "lines": {name: ends(lane, place) for name, place in LINES
                       if name != "reported" or owner.has_reported}}
+
+
+def outputs_of(block, cycles):
+    """A block and its levels, of the signals that were ever true."""
+    names, levels = signals(block), block.levels
+    return {"name": block.name, "kind": block.kind, "before": levels.before, "value": levels.value,
+            "runs": runs(levels, cycles),
+            "signals": [(names[place], place) for place in seen(levels, len(names))]}
 
 
 def breaks(lane):

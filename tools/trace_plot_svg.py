@@ -7,6 +7,7 @@ from trace_plot_edges import draw_edges
 from trace_plot_outputs import draw_outputs
 from trace_plot_reader import AXIS_STATES, BROKEN, GROUP_STATES, LOOSE, MOVED, join
 from trace_plot_style import DARK, LIGHT, STATE_COLOURS, num, number_text, ticks, view
+from trace_plot_words import told_of
 
 LEFT, RIGHT, ROW, STRIP, GAP = 112, 150, 16, 18, 8
 PANELS = (("position", 0, 120), ("velocity", 2, 84), ("acceleration", 4, 84))
@@ -74,9 +75,17 @@ def svg(sheet, title, switches=None):
     height = num(sheet.y + 8)
     head = (f'<svg xmlns="http://www.w3.org/2000/svg" width="{width}" height="{height}" '
             f'viewBox="0 0 {width} {height}" role="img">\n<title>{escape(title)}</title>\n'
-            f'<style>{style_sheet(sheet.theme)}</style>\n<defs>{hatching(sheet.theme)}</defs>\n'
+            f'<desc>{escape(described(sheet))}</desc>\n<style>{style_sheet(sheet.theme)}</style>\n<defs>{hatching(sheet.theme)}</defs>\n'
             f'<rect width="{width}" height="{height}" fill="{sheet.theme["page"]}"/>\n')
     return head + "\n".join(sheet.parts) + "\n</svg>\n"
+
+
+def described(sheet):
+    """What the picture shows, in words."""
+    owners = [(f"Group {group.name}", group, GROUP_STATES) for group in sheet.trace.groups.values()]
+    owners += [(f"Axis {axis.name}", axis, AXIS_STATES) for axis in sheet.trace.axes.values()]
+    return " ".join(f"{title}: {told_of(sheet.trace, sheet.units, owner, states)}"
+                    for title, owner, states in owners)
 
 
 def style_sheet(theme):
