@@ -79,10 +79,10 @@ fn tells_the_first_cause_of_two_files(rt: HostRuntime) -> Result<(), Fail> {
                 place: 1,
                 rule: Rule {
                     letter: b'T',
-                    number: 2,
+                    number: 1,
                 },
             },
-            b"refused one_move 1 T2\n",
+            b"refused one_move 1 T1\n",
         ),
     ];
     for (words, wanted, text) in cases {
