@@ -1,8 +1,8 @@
 """Velocities, accelerations and user units of the axes of a trace.
 
 A trace has whole numbers in an axis's internal units, per cycle. A velocity is the difference of
-two setpoints that follow each other, an acceleration the difference of two velocities. User units
-come only where the caller says how long a cycle is and how much an internal unit is.
+two setpoints that follow each other, an acceleration the difference of two velocities; where the
+setpoint makes no step there is neither. User units come only where the caller says how long a cycle is and how much an internal unit is.
 """
 
 import re
@@ -15,36 +15,47 @@ SCALE = re.compile(r"(?:([A-Za-z][A-Za-z0-9_]{0,15})=)?([0-9]+(?:\.[0-9]*)?(?:[e
 class Motion:
     """The velocity and acceleration of an axis, cycle by cycle, in internal units per cycle.
 
-    Before the first cycle the axis rests at its start. Where the trace tells the place that the
-    drive reported (version 2), the offset by which a Home moves the coordinate is taken out, so
-    that a Home is no velocity. In version 1 the trace doesn't tell it, and the cycle of a Home has
-    the velocity by which its setpoints differ.
+    Before the first cycle the axis rests at its start. Where it isn't driven, or wasn't in the row
+    before, its setpoint follows what the drive reports, and a Home moves the coordinate: neither
+    is a step, and the next one begins at rest.
     """
 
     def __init__(self, axis):
-        self.axis = axis
-        self.offset = 0
-        self.moved = axis.start         # the setpoint without the offset
-        self.velocity = 0
+        self.setpoint, self.velocity = axis.start, 0
+        self.driven = axis.ready
+        self.homed = False              # a Home became active, or was it in the row before
+        self.moved = False              # it moved the coordinate in the last row
 
     def step(self, row):
-        """The velocity and acceleration in the next row of the axis."""
-        if row.place is not None:
-            self.offset = self._offset_of(row)
-        moved = row.setpoint - self.offset
-        velocity = moved - self.moved
-        acceleration = velocity - self.velocity
-        self.moved, self.velocity = moved, velocity
+        """The velocity and acceleration in the next row of the axis; None where there is no
+        step."""
+        self.moved = self.homed and row.setpoint != self.setpoint
+        goes_on = self.driven and row.driven and not self.moved
+        velocity = row.setpoint - self.setpoint if goes_on else None
+        acceleration = velocity - self.velocity if goes_on else None
+        self.setpoint, self.velocity = row.setpoint, velocity or 0
+        self.driven, self.homed = row.driven, row.state == "Homing"
         return velocity, acceleration
 
-    def _offset_of(self, row):
-        """The place less the counted increments. A place at the axis's lowest position may be told
-        up to an increment too high: there the offset before is kept where it fits."""
-        offset = row.place - row.actual * self.axis.inc
-        excess = offset - self.offset
-        if row.place == self.axis.lo and 0 <= excess < self.axis.inc:
-            return self.offset
-        return offset
+
+class Motions:
+    """The motions of all axes of a machine."""
+
+    def __init__(self, machine):
+        self.axes = {axis.name: Motion(axis) for axis in machine.axes}
+        self.homes = {block.name: self.axes[block.on] for block in machine.blocks
+                      if block.kind == "Home"}
+
+    def call(self, call):
+        """A call between two cycles."""
+        if call.block in self.homes and call.execute and "A" in call.outputs:
+            self.homes[call.block].homed = True
+
+    def steps(self, cycle):
+        """The velocity and acceleration of each axis in the next cycle, by name."""
+        for call in cycle.calls:
+            self.call(call)
+        return {name: self.axes[name].step(row) for name, row in cycle.rows.items()}
 
 
 class Scale(NamedTuple):
@@ -88,6 +99,12 @@ def scale_of(text):
     if match is None or float(match[2]) == 0:
         raise ValueError(f"{text!a} isn't AXIS=NUMBERunit or NUMBERunit, as X=0.001mm")
     return match[1] or "", Scale(float(match[2]), match[3])
+
+
+def scaled(numbers, factors):
+    """Numbers, of which some may be None, times these factors, as they are told."""
+    return [None if number is None else decimal(number * factor)
+            for number, factor in zip(numbers, factors)]
 
 
 def decimal(value):

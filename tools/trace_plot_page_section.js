@@ -93,9 +93,9 @@ class Section extends Curves {
       const x = this.x(Math.max(start, from)), wide = this.x(Math.min(end, to)) - x;
       pen.fillStyle = data.colours[name];
       pen.fillRect(x, y, wide, STRIP);
-      let text = name + (error ? " " + error : "");
-      if (error && pen.measureText(text).width + 8 >= wide) text = String(error);
-      if (pen.measureText(text).width + 8 < wide)
+      const text = (error ? [`${name} ${error}`, `error ${error}`, String(error)] : [name])
+        .find(choice => pen.measureText(choice).width + 8 < wide);
+      if (text)
         words(pen, text, x + 5, y + 13, name === "ContinuousMotion" ? "#ffffff" : "#101418");
     }
   }

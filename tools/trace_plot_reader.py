@@ -10,6 +10,7 @@ from dataclasses import dataclass, field
 
 import motion_trace
 from motion_trace import TraceError
+from motion_units import Motions
 from trace_plot_levels import Levels, bits_of
 
 AXIS_STATES = ("Disabled", "Standstill", "Homing", "DiscreteMotion", "ContinuousMotion",
@@ -111,28 +112,17 @@ class Axis:
     amax: int
     dmax: int
     increment: int
-    position: int
-    driven: bool
     origin: int
     lane: Lane
+    motion: object
     marks: Marks = field(default_factory=Marks)
-    velocity: int = 0
-    homed: bool = False
     has_home: bool = False
     has_reported: bool = False
 
     def step(self, row):
-        """The velocity and acceleration of a row, and how its lines go on. Where the axis isn't
-        driven, or wasn't in the row before, and where Home moved the coordinate, there is no step
-        of the setpoint: both are None, and the next step begins at rest."""
-        moved = self.homed and row.setpoint != self.position
-        breaks = MOVED * moved | LOOSE * (not row.driven)
-        if moved or not (self.driven and row.driven):
-            breaks |= BROKEN
-        velocity = None if breaks else row.setpoint - self.position
-        acceleration = None if breaks else velocity - self.velocity
-        self.position, self.velocity = row.setpoint, velocity or 0
-        self.homed, self.driven = row.state == "Homing", row.driven
+        """The velocity and acceleration of a row, and how its lines go on."""
+        velocity, acceleration = self.motion.step(row)
+        breaks = MOVED * self.motion.moved | LOOSE * (not row.driven) | BROKEN * (velocity is None)
         return velocity, acceleration, breaks
 
     def reported_place(self, row):
@@ -167,13 +157,16 @@ class Block:
 
 
 class Trace:
-    """A trace, as far as a picture tells of it; `first` is the cycle of the first column, and
-    `cycles` how many there are in the window."""
+    """A trace, as far as a picture tells of it; `first` is the cycle of the first column,
+    `cycles` how many there are in the window, and `fault` where the text ceased to be a trace."""
 
     def __init__(self, machine, first, last, limit):
         self.first, self.last = first, last
         self.cycle = self.cycles = 0
-        self.axes = {axis.name: axis_of(axis, limit) for axis in machine.axes}
+        self.fault = None
+        self.motions = Motions(machine)
+        self.axes = {axis.name: axis_of(axis, limit, self.motions.axes[axis.name])
+                     for axis in machine.axes}
         self.groups = {group.name: Group(group.name, group.axes, Lane(limit))
                        for group in machine.groups}
         owners = {**self.axes, **self.groups}
@@ -197,8 +190,7 @@ class Trace:
                    if letter in call.outputs and letter not in before]
             block.execute, block.outputs = call.execute, call.outputs
             self.add_levels(block)
-            if block.kind == "Home" and call.execute and "A" in call.outputs:
-                block.on.homed = True
+            self.motions.call(call)
             if (rises or new) and (self.shown() or self.cycle == self.first - 1):
                 self.mark(block, new[0] if new else "Call", call.error, rises)
 
@@ -245,7 +237,7 @@ class Trace:
 
     def add_row(self, axis, row):
         """Adds the row of an axis."""
-        before = axis.position
+        before = axis.motion.setpoint
         velocity, acceleration, breaks = axis.step(row)
         if self.cycle == self.first:
             axis.origin = row.setpoint if breaks else before
@@ -254,19 +246,23 @@ class Trace:
             axis.lane.add(self.cycle - self.first, values, AXIS_BITS[row.state], row.error, breaks)
 
 
-def axis_of(axis, limit):
+def axis_of(axis, limit, motion):
     """An axis of a trace's machine, before its first cycle."""
     return Axis(axis.name, axis.lo, axis.hi, axis.vmax, axis.amax, axis.dmax, axis.inc, axis.start,
-                axis.ready, axis.start, Lane(limit))
+                Lane(limit), motion)
 
 
 def read_trace(lines, first=1, last=None, limit=2048):
     """The trace of a text's lines, with the cycles from `first` to `last` in at most `limit`
-    columns."""
+    columns. Behind its machine it may be faulty: then it has what was read until there, and the
+    fault."""
     source = motion_trace.Trace(lines)
     trace = Trace(source.machine, first, last, limit)
-    for cycle in source.cycles():
-        trace.add_cycle(cycle)
+    try:
+        for cycle in source.cycles():
+            trace.add_cycle(cycle)
+    except TraceError as fault:
+        trace.fault = fault
     trace.end(source.last_calls)
     return trace
 

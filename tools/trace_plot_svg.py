@@ -269,9 +269,9 @@ def draw_strip(sheet, columns, states):
         words = name + (f" {error}" if error else "")
         told = f"{words}, cycles {start + sheet.trace.first} to {end + sheet.trace.first - 1}"
         sheet.box(x, sheet.y, wide, STRIP, f'fill="{STATE_COLOURS[name]}"', told)
-        if error and wide <= 7.2 * len(words) + 4:
-            words = str(error)
-        if wide > 7.2 * len(words) + 4:
+        choices = [words, f"error {error}", str(error)] if error else [words]
+        words = next((text for text in choices if wide > 7.2 * len(text) + 4), "")
+        if words:
             fill = "#ffffff" if name in ("ContinuousMotion",) else "#101418"
             sheet.put(f'<text x="{num(x + 5)}" y="{num(sheet.y + 13)}" fill="{fill}">'
                       f'{words}</text>')

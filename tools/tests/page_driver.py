@@ -14,7 +14,8 @@ from tool_runner import TOOLS
 NAMES = ("chromium", "chromium-browser", "chromium-headless-shell", "google-chrome", "chrome")
 BROWSER = os.environ.get("CHROMIUM") or next(filter(None, map(shutil.which, NAMES)), None)
 DRIVER = """<script>
-const drawn = () => new Promise(done => requestAnimationFrame(() => setTimeout(done)));
+window.requestAnimationFrame = call => setTimeout(call);
+const drawn = () => new Promise(done => setTimeout(done, 20));
 const pointer = (kind, section, at, more = {}) => section.plot.dispatchEvent(new PointerEvent(kind, {
   pointerId: 1, pointerType: "mouse", button: 0, bubbles: true, clientX:
   section.plot.getBoundingClientRect().left + section.x(at), ...more}));

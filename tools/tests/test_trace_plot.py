@@ -135,7 +135,9 @@ class Refusals(unittest.TestCase):
 
     def refused(self, lines, record):
         with self.assertRaisesRegex(reader.TraceError, f"^record {record}: "):
-            reader.read_trace(io.StringIO("".join(line + "\n" for line in lines)))
+            trace = reader.read_trace(io.StringIO("".join(line + "\n" for line in lines)))
+            self.assertGreaterEqual(record, 6)
+            raise trace.fault or AssertionError("nothing is refused")
 
     def test_records(self):
         for place, line in ((0, "kind"), (1, "trace,3,bench,1,1,,,,,,,"), (2, "axis,X"),
@@ -158,6 +160,16 @@ class Refusals(unittest.TestCase):
 
     def test_behind_the_drives(self):
         self.refused(HEAD + row(1, 2) + END + ["end,main,,,,,,,,,,"], 10)
+
+    def test_a_cut_trace_gives_what_there_is(self):
+        lines = HEAD + call("BA") + row(1, 2) + row(2, 4) + ["cycle,3,,,,,,,,,,"]
+        text = ("\n".join(lines) + "\nrow,X,0037,0,8,Discr").encode()
+        for options in ((), ("--html",)):
+            status, picture, told = plot("-", *options, text=text)
+            self.assertEqual((status, told[:35]), (3, "trace_plot: refused -: record 12: i"))
+            self.assertIn(b"Trace of X: cycles 1 to 2, cut short", picture)
+        whole = plot("-", "--title", "T", text="\n".join(lines[:-1] + END).encode())[1]
+        self.assertEqual(plot("-", "--title", "T", text=text)[1], whole)
 
     def test_statuses(self):
         status, _, told = plot("-", text="\n".join(HEAD[:4] + ["a,b"]).encode())

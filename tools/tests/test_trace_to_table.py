@@ -6,8 +6,9 @@ import os
 import unittest
 
 from tool_runner import CELL, EXAMPLES, HOMED, changed, run
-from motion_trace import Axis, Row, Trace
+from motion_trace import Axis, Row, Trace, lines_of
 from motion_units import Motion, scale_of
+from trace_plot_reader import read_trace
 
 
 def table_of(path, *words, text=""):
@@ -51,11 +52,11 @@ class Tables(unittest.TestCase):
                 self.assertEqual((line[f"{name} state"], line[f"{name} error"]),
                                  (row.state, str(row.error)))
 
-    def test_a_home_is_no_velocity_in_version_2(self):
+    def test_a_home_is_no_velocity(self):
         _, lines = table_of("-", text=HOMED)
         self.assertEqual(column(lines, "A setpoint"), ["8", "10", "10", "6", "6"])
-        self.assertEqual(column(lines, "A velocity"), ["2", "2", "0", "0", "0"])
-        self.assertEqual(column(lines, "A acceleration"), ["2", "0", "-2", "0", "0"])
+        self.assertEqual(column(lines, "A velocity"), ["2", "2", "0", "", "0"])
+        self.assertEqual(column(lines, "A acceleration"), ["2", "0", "-2", "", "0"])
         self.assertEqual(column(lines, "A place"), ["6", "8", "10", "6", "6"])
 
     def test_user_units(self):
@@ -65,7 +66,7 @@ class Tables(unittest.TestCase):
         self.assertEqual(titles[-1], "A place [mm]")
         self.assertEqual([list(line.values())[:5] for line in lines], [
             ["1", "0.002", "0.008", "1", "500"], ["2", "0.004", "0.01", "1", "0"],
-            ["3", "0.006", "0.01", "0", "-500"], ["4", "0.008", "0.006", "0", "0"],
+            ["3", "0.006", "0.01", "0", "-500"], ["4", "0.008", "0.006", "", ""],
             ["5", "0.01", "0.006", "0", "0"]])
 
     def test_user_units_without_a_cycle_length_are_per_cycle(self):
@@ -91,20 +92,29 @@ class Tables(unittest.TestCase):
 
 class Motions(unittest.TestCase):
 
-    def velocities(self, axis, rows):
-        """The velocities of an axis in rows of a setpoint, an actual count and a place."""
-        motion = Motion(axis)
-        return [motion.step(Row(axis.name, 0x37, actual, 8, "Standstill", 0, True, setpoint, 0xf,
-                                actual, place))[0] for setpoint, actual, place in rows]
+    def steps(self, rows):
+        """The velocities and accelerations of an axis at 0 in rows of a setpoint, whether it is
+        driven, and its state."""
+        motion = Motion(Axis("A", 0, 50, 10, 4, 4, 1, 0, True))
+        return [motion.step(Row("A", 0x37, 0, 8, state, 0, driven, setpoint, 0xf, 0, None))
+                for setpoint, driven, state in rows]
 
-    def test_version_1_has_the_setpoints_as_they_are(self):
-        axis = Axis("A", 0, 50, 10, 4, 4, 1, 0, True)
-        self.assertEqual(self.velocities(axis, [(2, 0, None), (12, 2, None)]), [2, 10])
+    def test_setpoints_as_they_are(self):
+        self.assertEqual(self.steps([(2, True, "DiscreteMotion"), (12, True, "DiscreteMotion")]),
+                         [(2, 2), (10, 8)])
 
-    def test_a_place_at_the_lowest_position_keeps_the_offset(self):
-        axis = Axis("A", -5, 50, 10, 4, 4, 2, 2, True)     # the count -3 is at -6, told as -5
-        self.assertEqual(self.velocities(axis, [(-1, 0, 0), (-5, -1, -2), (-5, -3, -5)]),
-                         [-3, -4, 0])
+    def test_a_fault_has_none(self):
+        self.assertEqual(self.steps([(2, True, "DiscreteMotion"), (1, False, "ErrorStop"),
+                                     (4, True, "Standstill"), (5, True, "DiscreteMotion")]),
+                         [(2, 2), (None, None), (None, None), (1, 1)])
+
+    def test_every_tool_tells_the_same(self):
+        _, lines = table_of(CELL)
+        trace = read_trace(lines_of(CELL))
+        for name, axis in trace.axes.items():
+            told = [None if field == "" else int(field)
+                    for field in column(lines, f"{name} velocity")]
+            self.assertEqual(told, [values[2] for values in axis.lane.columns], name)
 
 
 class Refusing(unittest.TestCase):

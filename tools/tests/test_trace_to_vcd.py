@@ -71,7 +71,7 @@ class Dumping(unittest.TestCase):
                    for name in ("setpoint", "velocity", "acceleration", "place")]
                   for k in range(1, 6)]
         self.assertEqual(motion, [[.008, 2, 2000, .006], [.01, 2, 0, .008], [.01, 0, -2000, .01],
-                                  [.006, 0, 0, .006], [.006, 0, 0, .006]])
+                                  [.006, None, None, .006], [.006, 0, 0, .006]])
 
     def test_numbers_below_zero(self):
         text = HOMED.replace("1,10,000f,5,10", "1,10,000f,-5,10")
@@ -92,6 +92,39 @@ class Dumping(unittest.TestCase):
             back = subprocess.run(["fst2vcd", f"{folder}/cell.fst"], check=True,
                                   capture_output=True, encoding="ascii").stdout
         self.assertIn("sSynchronizedMotion", back)
+
+
+class Viewing(unittest.TestCase):
+    """The view of GTKWave beside a dump."""
+
+    def test_a_view_stands_beside_the_dump(self):
+        with tempfile.TemporaryDirectory() as folder:
+            path = f"{folder}/cell.vcd"
+            self.assertEqual(run("trace_to_vcd", CELL, "--cycle-us", "1000", "-o", path),
+                             (0, "", ""))
+            with open(path, encoding="ascii") as file:
+                dump = file.read()
+            with open(f"{path}.gtkw", encoding="ascii") as file:
+                view = file.read().splitlines()
+        self.assertEqual(dump, run("trace_to_vcd", CELL, "--cycle-us", "1000")[1])
+        self.assertEqual(view[0], '[dumpfile] "cell.vcd"')
+        names = [line for line in view if line.startswith("motion.")]
+        self.assertLessEqual(set(names), set(Dump(dump).variables))
+        for axis in ("X", "Y", "BELT", "FEEDER"):
+            for name in ("setpoint", "velocity"):
+                flags = view[view.index(f"motion.{axis}.{name}") - 1]
+                self.assertTrue(int(flags[1:], 16) & 0x8000, flags)
+
+    def test_a_place_is_a_line_too(self):
+        with tempfile.TemporaryDirectory() as folder:
+            run("trace_to_vcd", "-", "--cycle-us", "1000", "-o", f"{folder}/d.vcd", text=HOMED)
+            with open(f"{folder}/d.vcd.gtkw", encoding="ascii") as file:
+                self.assertIn("motion.A.place\n@20000\n-\n", file.read())
+
+    def test_a_folder_that_is_not_there(self):
+        status, _, faults = run("trace_to_vcd", CELL, "--cycle-us", "1000", "-o", "no_such/f.vcd")
+        self.assertEqual((status, faults),
+                         (6, "trace_to_vcd: cannot write: No such file or directory\n"))
 
 
 class Refusing(unittest.TestCase):

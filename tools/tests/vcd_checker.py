@@ -120,7 +120,7 @@ class Dump:
             need(scalar == (bits == 1) and len(value) <= bits, f"no value of {bits} bits", line)
             value = int(value, 2) - (1 << bits if len(value) == 32 and value[0] == "1" else 0)
         elif kind == "real":
-            value = float(value)
+            value = None if value == "nan" else float(value)
         if kind == "event":
             self.events.append((self.times[-1], name))
         else:

@@ -1,0 +1,41 @@
+"""How GTKWave shows a dump of `trace_to_vcd`: positions and velocities as lines.
+
+A view is a file of GTKWave's own (`.gtkw`): the name of the dump, and signals in their order, each
+behind the flags of those that follow. An empty row behind an analog signal gives it more height.
+"""
+
+JOINED, STEPS = "@98420", "@88420"      # analog lines over their whole height, of signed numbers
+WORD, BIT, COMMENT, ROOM = "@22", "@28", "@200", "@20000"
+HEIGHT = 3                              # rows that an analog line takes beside its own
+
+
+def view_of(machine, dump):
+    """The text of the view of a machine's dump, which stands in the same folder."""
+    lines = [f'[dumpfile] "{dump}"', "[timestart] 0", "[sst_expanded] 1", "[signals_width] 220"]
+    for axis in machine.axes:
+        lines += axis_view(axis.name, machine.version == 2)
+    for group in machine.groups:
+        lines += [COMMENT, f"-Group {group.name}", WORD, f"motion.{group.name}.state"]
+    for block in machine.blocks:
+        lines += block_view(f"motion.{block.task}.{block.name}", block)
+    return "\n".join(lines) + "\n"
+
+
+def axis_view(name, has_place):
+    """An axis: its lines, its state and whether it is driven."""
+    lines = [COMMENT, f"-Axis {name}", *analog(JOINED, f"motion.{name}.setpoint")]
+    if has_place:
+        lines += analog(JOINED, f"motion.{name}.place")
+    return [*lines, *analog(STEPS, f"motion.{name}.velocity"), WORD, f"motion.{name}.state", BIT,
+            f"motion.{name}.driven"]
+
+
+def analog(flags, signal):
+    """A signal as a line, in some rows of height."""
+    return [flags, signal, ROOM, *["-"] * HEIGHT]
+
+
+def block_view(scope, block):
+    """A block: what it was given and what it answered."""
+    names = ("execute", "busy", "active", "done", "command_aborted", "error", "reached")
+    return [COMMENT, f"-{block.name}: {block.kind}", BIT, *(f"{scope}.{name}" for name in names)]
