@@ -4,14 +4,22 @@ A view is a file of GTKWave's own (`.gtkw`): the name of the dump, and signals i
 behind the flags of those that follow. An empty row behind an analog signal gives it more height.
 """
 
-JOINED, STEPS = "@98420", "@88420"      # analog lines over their whole height, of signed numbers
+import math
+
+# An analog line over its whole height, of signed numbers, in steps: a dump tells changes alone, so
+# that a line that is joined from one to the next would rise where the axis still stands.
+ANALOG = "@88420"
 WORD, BIT, COMMENT, ROOM = "@22", "@28", "@200", "@20000"
 HEIGHT = 3                              # rows that an analog line takes beside its own
+WIDTH, FRAME = 800, 150                 # pixels that a dump is fitted into, and a zoom is told of
 
 
-def view_of(machine, dump):
-    """The text of the view of a machine's dump, which stands in the same folder."""
-    lines = [f'[dumpfile] "{dump}"', "[timestart] 0", "[sst_expanded] 1", "[signals_width] 220"]
+def view_of(machine, dump, end):
+    """The text of the view of a machine's dump, which stands in the same folder and ends at a time
+    in nanoseconds: all of it is in the window at first."""
+    zoom = -math.log2(max(end, 1) * FRAME / WIDTH)
+    lines = [f'[dumpfile] "{dump}"', "[timestart] 0", f"[size] {WIDTH + 600} 900",
+             f"*{zoom:.6f} -1", "[sst_expanded] 0", "[signals_width] 220"]
     for axis in machine.axes:
         lines += axis_view(axis.name, machine.version == 2)
     for group in machine.groups:
@@ -23,16 +31,16 @@ def view_of(machine, dump):
 
 def axis_view(name, has_place):
     """An axis: its lines, its state and whether it is driven."""
-    lines = [COMMENT, f"-Axis {name}", *analog(JOINED, f"motion.{name}.setpoint")]
+    lines = [COMMENT, f"-Axis {name}", *analog(f"motion.{name}.setpoint")]
     if has_place:
-        lines += analog(JOINED, f"motion.{name}.place")
-    return [*lines, *analog(STEPS, f"motion.{name}.velocity"), WORD, f"motion.{name}.state", BIT,
+        lines += analog(f"motion.{name}.place")
+    return [*lines, *analog(f"motion.{name}.velocity"), WORD, f"motion.{name}.state", BIT,
             f"motion.{name}.driven"]
 
 
-def analog(flags, signal):
+def analog(signal):
     """A signal as a line, in some rows of height."""
-    return [flags, signal, ROOM, *["-"] * HEIGHT]
+    return [ANALOG, signal, ROOM, *["-"] * HEIGHT]
 
 
 def block_view(scope, block):

@@ -7,6 +7,7 @@ import tempfile
 import unittest
 
 from tool_runner import CELL, EXAMPLES, HOMED, changed, run
+from gtkwave_view import view_of
 from motion_trace import Trace
 from vcd_checker import Dump, Fault
 
@@ -120,6 +121,20 @@ class Viewing(unittest.TestCase):
             run("trace_to_vcd", "-", "--cycle-us", "1000", "-o", f"{folder}/d.vcd", text=HOMED)
             with open(f"{folder}/d.vcd.gtkw", encoding="ascii") as file:
                 self.assertIn("motion.A.place\n@20000\n-\n", file.read())
+
+    def test_a_cut_trace_has_both(self):
+        with tempfile.TemporaryDirectory() as folder:
+            status, _, _ = run("trace_to_vcd", "-", "--cycle-us", "1000", "-o", f"{folder}/d.vcd",
+                               text=changed("row,A,0037,4,", "row,A,0037,4.5,"))
+            with open(f"{folder}/d.vcd", encoding="ascii") as file:
+                self.assertEqual((status, Dump(file.read()).times), (3, [0, 500000, CYCLE]))
+            with open(f"{folder}/d.vcd.gtkw", encoding="ascii") as file:
+                self.assertIn("motion.A.setpoint", file.read())
+
+    def test_all_of_it_is_in_the_window(self):
+        zoom = next(line for line in view_of(Trace(io.StringIO(HOMED)).machine, "d.vcd", 800 << 10)
+                    .splitlines() if line.startswith("*"))
+        self.assertAlmostEqual(2 ** -float(zoom[1:].split()[0]) / 150, 1 << 10, 0)
 
     def test_a_folder_that_is_not_there(self):
         status, _, faults = run("trace_to_vcd", CELL, "--cycle-us", "1000", "-o", "no_such/f.vcd")
