@@ -2,11 +2,14 @@
 
 import io
 import json
+import os
 import re
+import subprocess
+import sys
 import unittest
 from xml.etree import ElementTree
 
-from plot_runner import END, EXAMPLES, HEAD, call, plot, read, row
+from plot_runner import END, EXAMPLES, HEAD, TOOLS, call, plot, read, row
 
 import trace_plot_reader as reader
 import trace_plot_style as style
@@ -133,6 +136,15 @@ class Refusals(unittest.TestCase):
             self.assertIn(b"Trace of X: cycles 1 to 2, cut short", picture)
         whole = plot("-", "--title", "T", text="\n".join(lines[:-1] + END).encode())[1]
         self.assertEqual(plot("-", "--title", "T", text=text)[1], whole)
+
+    def test_a_terminal(self):
+        ours, theirs = os.openpty()
+        ran = subprocess.run([sys.executable, TOOLS / "trace_plot", EXAMPLES / "cell/cell.trace"],
+                             stdout=theirs, stderr=subprocess.PIPE, check=False)
+        os.close(theirs)
+        os.close(ours)
+        self.assertEqual(ran.returncode, 2)
+        self.assertIn(b"-o picture.svg", ran.stderr)
 
     def test_statuses(self):
         status, _, told = plot("-", text="\n".join(HEAD[:4] + ["a,b"]).encode())
