@@ -2,7 +2,8 @@
 
 A trace has whole numbers in an axis's internal units, per cycle. A velocity is the difference of
 two setpoints that follow each other, an acceleration the difference of two velocities; where the
-setpoint makes no step there is neither. User units come only where the caller says how long a cycle is and how much an internal unit is.
+setpoint makes no step there is neither. User units come only where the caller says how long a
+cycle is and how much an internal unit is.
 """
 
 import re

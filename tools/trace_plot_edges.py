@@ -1,4 +1,4 @@
-"""The edges of digital cam switches, as `motion switches` writes them, and their lanes in a picture."""
+"""The edges of digital cam switches, as `motion switches` writes them, and their lanes."""
 
 import re
 

@@ -4,10 +4,12 @@ import json
 from html import escape
 from pathlib import Path
 
+from trace_plot_legend import SHAPES, seen_in, states_seen
 from trace_plot_levels import runs, seen, signals
+from trace_plot_panels import PANELS, limits_of
 from trace_plot_reader import AXIS_STATES, GROUP_STATES
+from trace_plot_sheet import spans
 from trace_plot_style import DARK, LIGHT, STATE_COLOURS
-from trace_plot_svg import PANELS, SHAPES, limits_of, seen_in, spans, states_seen
 from trace_plot_words import told_of
 
 FOLDER = Path(__file__).parent

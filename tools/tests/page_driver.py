@@ -16,9 +16,9 @@ BROWSER = os.environ.get("CHROMIUM") or next(filter(None, map(shutil.which, NAME
 DRIVER = """<script>
 window.requestAnimationFrame = call => setTimeout(call);
 const drawn = () => new Promise(done => setTimeout(done, 20));
-const pointer = (kind, section, at, more = {}) => section.plot.dispatchEvent(new PointerEvent(kind, {
-  pointerId: 1, pointerType: "mouse", button: 0, bubbles: true, clientX:
-  section.plot.getBoundingClientRect().left + section.x(at), ...more}));
+const pointer = (kind, section, at, more = {}) => section.plot.dispatchEvent(
+  new PointerEvent(kind, {pointerId: 1, pointerType: "mouse", button: 0, bubbles: true, clientX:
+    section.plot.getBoundingClientRect().left + section.x(at), ...more}));
 const key = name => dispatchEvent(new KeyboardEvent("keydown", {key: name}));
 for (const section of sections) section.plot.setPointerCapture = () => {};
 const faults = [];
@@ -38,16 +38,17 @@ def page_of(trace, *options):
     return made.stdout
 
 
-def drive(page, script, width=1100, *flags):
+def drive(page, script, width=1100):
     """What a script returns that runs in a page, in a window of a width."""
     with tempfile.TemporaryDirectory() as folder:
         path = os.path.join(folder, "page.html")
         with open(path, "w", encoding="utf-8") as file:
             file.write(page.replace("</body>", DRIVER % script))
         ran = subprocess.run(
-            [BROWSER, "--headless", "--no-sandbox", "--disable-gpu", f"--user-data-dir={folder}/user",
-             f"--window-size={width},900", "--virtual-time-budget=60000", *flags, "--dump-dom",
-             f"file://{path}"], capture_output=True, encoding="utf-8", timeout=120, check=True)
+            [BROWSER, "--headless", "--no-sandbox", "--disable-gpu", "--dump-dom",
+             f"--user-data-dir={folder}/user", f"--window-size={width},900",
+             "--virtual-time-budget=60000", f"file://{path}"],
+            capture_output=True, encoding="utf-8", timeout=120, check=True)
     body = re.search(r"<body>(.*)</body>", ran.stdout, re.DOTALL)[1]
     told = json.loads(html.unescape(body))
     assert not told["faults"], told["faults"]

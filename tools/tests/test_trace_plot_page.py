@@ -37,8 +37,9 @@ class Page(unittest.TestCase):
             const dots = () => feeder.dots.filter(({dot}) => dot.style.display === "block")
               .map(({name, dot}) => [name, ...[dot.style.left, dot.style.top]
                 .map(place => parseFloat(place).toFixed(1))]);
-            const wanted = (name, x, value) => [name, feeder.x(x).toFixed(1), (feeder.canvas.offsetTop +
-              feeder.toY[name === "reported" ? "position" : name](value)).toFixed(1)];
+            const wanted = (name, x, value) => [name, feeder.x(x).toFixed(1),
+              (feeder.canvas.offsetTop + feeder.toY[name === "reported" ? "position" : name](value))
+                .toFixed(1)];
             pointer("pointermove", feeder, 8);
             return [dots(), [wanted("position", 8, 18), wanted("velocity", 8, 3),
               wanted("acceleration", 8, 0), wanted("reported", 7, 12)],
@@ -49,8 +50,8 @@ class Page(unittest.TestCase):
     def test_pinned_cursor(self):
         told = drive(self.page, """
             const belt = sections[3], told = [];
-            const click = at => { pointer("pointermove", belt, at); pointer("pointerdown", belt, at);
-              pointer("pointerup", belt, at); };
+            const click = at => ["pointermove", "pointerdown", "pointerup"]
+              .forEach(kind => pointer(kind, belt, at));
             click(4);
             pointer("pointermove", belt, 10);
             told.push(pinned, belt.pin.style.display, belt.read.textContent);
@@ -85,7 +86,8 @@ class Page(unittest.TestCase):
               document.getElementById("told").textContent];""")
         self.assertEqual(told[0], [11, 11, 11, 13, 11])
         self.assertTrue(told[1])
-        self.assertIn("behind cycle 11: GEAR (GearIn) goes on: Error 101; RESET (Reset) called", told[2])
+        self.assertIn("behind cycle 11: GEAR (GearIn) goes on: Error 101; RESET (Reset) called",
+                      told[2])
 
     def test_plane(self):
         told = drive(self.page, """
@@ -107,7 +109,8 @@ class Page(unittest.TestCase):
             const before = heights();
             document.getElementById("outputs").click();
             await drawn();
-            return [before, heights(), sections[4].lanes.map(lanes => lanes.signals.map(([name]) => name))];""")
+            return [before, heights(),
+              sections[4].lanes.map(lanes => lanes.signals.map(([name]) => name))];""")
         self.assertEqual(told[0], [0, 0])
         self.assertTrue(min(told[1]) > 50)
         self.assertEqual(told[2], [["Execute", "Busy", "Active", "Error", "InGear"],
@@ -116,7 +119,8 @@ class Page(unittest.TestCase):
     def test_fingers(self):
         told = drive(self.page, """
             const belt = sections[3], told = [];
-            const finger = (kind, id, at) => pointer(kind, belt, at, {pointerId: id, pointerType: "touch"});
+            const finger = (kind, id, at) =>
+              pointer(kind, belt, at, {pointerId: id, pointerType: "touch"});
             finger("pointerdown", 1, 6); finger("pointerup", 1, 6);
             told.push(cursorAt());
             const across = at => ({pointerType: "touch", clientX: at});
@@ -150,7 +154,8 @@ class Page(unittest.TestCase):
             dispatchEvent(new Event("beforeprint"));
             const main = document.querySelector("main").clientWidth;
             const canvas = sections[1].canvas.clientWidth;
-            const page = getComputedStyle(document.documentElement).getPropertyValue("--page").trim();
+            const style = getComputedStyle(document.documentElement);
+            const page = style.getPropertyValue("--page").trim();
             dispatchEvent(new Event("afterprint"));
             return [main, canvas, page, document.querySelector("main").clientWidth > 860];""")
         self.assertEqual(told, [860, 860, "#ffffff", True])
@@ -166,7 +171,8 @@ class Page(unittest.TestCase):
             const text = sections[0].read.textContent;
             for (let count = 0; count < 20; count++) zoom(0.5);
             await drawn();
-            return [text, to - from, sections[0].dots.some(({dot}) => dot.style.display === "block")];""")
+            return [text, to - from,
+              sections[0].dots.some(({dot}) => dot.style.display === "block")];""")
         self.assertIn("cycles 12345 to 12348", told[0])
         self.assertEqual(told[1:], [32, False])
 
@@ -182,7 +188,8 @@ class Page(unittest.TestCase):
 
     def test_texts_for_readers_of_screens(self):
         told = drive(self.page, """
-            return [...document.querySelectorAll("section .spoken")].map(text => text.textContent);""")
+            return [...document.querySelectorAll("section .spoken")]
+              .map(text => text.textContent);""")
         self.assertEqual(len(told), 5)
         self.assertIn("ErrorStop error 101 in cycles 11 to 12", told[4])
 
@@ -201,10 +208,10 @@ class Text(unittest.TestCase):
         told = re.findall(r'"text":"([^"]*)"', page)
         self.assertEqual(told[4], (
             "Cycles 1 to 17. Setpoint from 0 to 21 units, at most 3 units/cycle. States: "
-            "SynchronizedMotion in cycles 1 to 10; ErrorStop error 101 in cycles 11 to 12; Disabled "
-            "in cycles 13 to 15; Standstill in cycles 16 to 17. Calls: behind cycle 0 GEAR (GearIn) "
-            "called; behind cycle 11 GEAR (GearIn) goes on: Error 101; behind cycle 11 RESET (Reset) "
-            "called; behind cycle 13 RESET (Reset) goes on: Done."))
+            "SynchronizedMotion in cycles 1 to 10; ErrorStop error 101 in cycles 11 to 12; "
+            "Disabled in cycles 13 to 15; Standstill in cycles 16 to 17. Calls: behind cycle 0 "
+            "GEAR (GearIn) called; behind cycle 11 GEAR (GearIn) goes on: Error 101; behind cycle "
+            "11 RESET (Reset) called; behind cycle 13 RESET (Reset) goes on: Done."))
 
 
 if __name__ == "__main__":

@@ -26,6 +26,18 @@ class Pictures(unittest.TestCase):
                           trace.name)
         self.assertEqual(kinds, set(BLOCK_KINDS))
 
+    def test_a_cut_trace_gives_what_there_is(self):
+        lines = (DOCS / "timing" / "halt.trace").read_text().splitlines(True)
+        last = max(place for place, line in enumerate(lines) if line.startswith("call,BLOCK,"))
+        whole = run("trace_timing", "-", "BLOCK", text="".join(lines))[1]
+        status, picture, _ = run("trace_timing", "-", "BLOCK", text="".join(lines[:last]))
+        self.assertEqual(status, 3)
+        self.assertEqual(picture.splitlines()[0], whole.splitlines()[0][:-1])
+
+    def test_no_such_block(self):
+        told = run("trace_timing", DOCS / "timing" / "halt.trace", "NONE")[2]
+        self.assertRegex(told, "the trace has no block NONE, but .*BLOCK")
+
     def test_statuses(self):
         trace = DOCS / "timing" / "halt.trace"
         self.assertEqual(run("trace_timing", trace, "NONE")[0], 2)
