@@ -1,0 +1,34 @@
+// A drive's fault: how a caller sees it, and how it resets the axis and its drive.
+
+ghost use Rattle.std.specs.Prelude.{◌≡◌, IfOk, IsTrue, length};
+ghost use Rattle.kernel_uses.specs.Uses as spec;
+ghost use Rattle.kernel_uses.specs.Uses.{GoesOn};
+
+use crate::full_history::NotMade;
+use crate::one_axis::{last_row, run_block};
+use drive_sim::Drive;
+use fb_outputs::INPUTS_OFF;
+use motion_kernel::{Inputs, Kernel, Outputs};
+
+/// The Reset of the machine of one axis.
+const RESET: u16 = 2;
+
+/// The error of an axis in the last cycle, if there was one: 101 after a fault of its drive, and 0
+/// where it has none.
+pub fn error_of_axis(kernel: &Kernel, axis: u8) -> Option<u16> {
+    Some(last_row(kernel, axis)?.error)
+}
+
+/// Calls Reset to its end, which takes the cycles that the drive needs to leave its fault. The
+/// outputs are those of the end.
+pub fn reset_axis(kernel: &mut Kernel, drive: &mut Drive) -> Result<Outputs, NotMade>
+    requires axis { length kernel.old.config.axes ≡ 1 }
+    ensures ended { IfOk result (λ o. IsTrue (spec.has_ended o)) }
+    ensures goes { GoesOn kernel.old kernel.new }
+{
+    let reset = Inputs {
+        execute: true,
+        ..INPUTS_OFF
+    };
+    run_block(kernel, drive, RESET, &reset)
+}
