@@ -1,5 +1,5 @@
 -- A kernel goes on, entry by entry.
-use Rattle.std.specs.Prelude.{◌≡◌, ◌+◌, ◌≤◌, List, [], ◌∷◌, ◌++◌, length}
+use Rattle.std.specs.Prelude.{◌≡◌, ◌≤◌, List, [], ◌∷◌, ◌++◌, length}
 use Rattle.std.proofs.Common.{◌∙◌, ap, arith}
 use Rattle.motion_history.specs.Entries.{Entry}
 use Rattle.motion_kernel.specs.KernelState.{KernelState}
