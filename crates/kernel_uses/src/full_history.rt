@@ -1,7 +1,8 @@
 // A full history: how a caller finds out that no entry or no cycle is left, and goes on.
 
-ghost use Rattle.std.specs.Prelude.{◌≡◌, ◌↔◌, ◌≤◌, Err, IfOk, OnErr, OnOk, length};
+ghost use Rattle.std.specs.Prelude.{◌≡◌, ◌≢◌, ◌↔◌, ◌≤◌, ◌<◌, Err, IfOk, OnErr, OnOk, length};
 ghost use Rattle.kernel_uses.specs.Uses.{AddsEntry, GoesOn, next_cycle, next_outputs};
+ghost use Rattle.motion_history.specs.Calls.{IsCall};
 ghost use Rattle.motion_history.specs.Entries.{call, cycles_of};
 ghost use Rattle.motion_kernel.specs.KernelState.{room_of, state_of};
 ghost use Rattle.motion_kernel.specs.calls.Calls.{reply_of};
@@ -29,6 +30,10 @@ pub fn try_call(kernel: &mut Kernel, block: u16, inputs: &Inputs) -> Result<Outp
     ensures made { IfOk result (λ o. AddsEntry kernel.old kernel.new (call block inputs.now o)) }
     ensures full { (result ≡ Err NotMade.HistoryFull) ↔
         (room_of kernel.old ≤ length kernel.old.history) }
+    ensures no_call { (result ≡ Err NotMade.NoSuchCall) ↔
+        ((length kernel.old.history < room_of kernel.old) ×
+        (IsCall kernel.old.config block inputs.now → ⊥)) }
+    ensures cycles { result ≢ Err NotMade.CyclesOver }
     ensures unchanged { OnErr result (kernel.new ≡ kernel.old) }
     ensures goes { GoesOn kernel.old kernel.new }
 {
@@ -57,6 +62,10 @@ pub fn try_cycle(
         (next_cycle kernel.old answers.now)) }
     ensures over { (result ≡ Err NotMade.CyclesOver) ↔
         (kernel.old.config.cycles ≤ cycles_of kernel.old.history) }
+    ensures full { (result ≡ Err NotMade.HistoryFull) ↔
+        ((cycles_of kernel.old.history < kernel.old.config.cycles) ×
+        (room_of kernel.old ≤ length kernel.old.history)) }
+    ensures call { result ≢ Err NotMade.NoSuchCall }
     ensures unchanged { OnErr result (kernel.new ≡ kernel.old) }
     ensures goes { GoesOn kernel.old kernel.new }
 {
