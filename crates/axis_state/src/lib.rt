@@ -1,4 +1,7 @@
-//! The axis state diagram of PLCopen Motion Control Part 1, and what an axis is and shows.
+//! The axis state diagram of PLCopen Motion Control Part 1, and what an axis is and shows. Here are
+//! the definition of an axis, its row in a cycle, the diagram's events, and the counts of a drive
+//! that stand for places. It stands on `kin_core` and `cia402_machine`. Begin at [`axis_next`] and
+//! [`AxisDef`].
 #![tactic(auto)]
 
 mod count;

@@ -33,11 +33,6 @@ use Rattle.bench_job.specs.Plans.{bench_plan, drive_ends, plan_of_bench, status_
 use Rattle.bench_job.proofs.CauseLaws.{ends-for}
 use Rattle.bench_job.proofs.HeadlineLaws.{headline-of}
 
--- the same plan
-pub same-plan : (old new : Output) (p q : Plan) (s : Status) → p ≡ q → EndsBy old new p s →
-    EndsBy old new q s
-same-plan old new p q s e w = let P : Plan → Type 0 = λ x. EndsBy old new x s in subst P e w
-
 -- a text that is refused ends by its reading's plan
 pub refused-ends : {A : Type 0} (old new : Output) (plan : A → Plan) (name : List ℕ)
     (reading : Result A TextRefused) (r : TextRefused) (s : Status) → reading ≡ Err r →

@@ -1,4 +1,6 @@
-//! The job `bench`: a bench is run, and its trace written.
+//! The job `bench`: a bench is run, and its trace written. It stands on `bench_run`, which runs the
+//! bench, on `trace_text`, which writes the trace, and on `job_ends`, which says how a job ends.
+//! Begin at [`run_text`].
 #![tactic(auto)]
 
 mod bench;

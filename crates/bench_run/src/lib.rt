@@ -1,4 +1,7 @@
-//! The run of a bench: its events one after another on a kernel, with simulated drives in step.
+//! The run of a bench: its events one after another on a kernel, with simulated drives in step. It
+//! stands on `motion_kernel`, on `machine_drives` for the drives, on `bench_text` for the events,
+//! and on `hot_standby`, by which a second kernel may follow and take over. Begin at [`run`]; what
+//! a run is stands in specs/.
 #![tactic(auto)]
 
 mod bench;

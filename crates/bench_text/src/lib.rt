@@ -1,4 +1,7 @@
-//! Benches: the text of a machine and of the events that it goes through.
+//! Benches: the text of a machine and of the events that it goes through. A text is read to a
+//! configuration, its drives and its events, or refused at the first line that breaks a rule. It
+//! stands on `line_text` for lines and words and on `machine_words` for what the words say. Begin
+//! at [`read_bench`]; the forms of lines are a table in specs/Forms.
 #![tactic(auto)]
 
 mod axis;

@@ -1,4 +1,7 @@
-//! Blending: the step of a move that goes over into the next one without a stop.
+//! Blending: the step of a move that goes over into the next one without a stop. By the buffer mode
+//! a move crosses its target at its own velocity, at the next one's, or at the lower or higher of
+//! both. It stands on `kin_core` and `ramp_root`. Begin at [`blend_step`]; the modes are in
+//! `modes`.
 #![tactic(auto)]
 
 mod blended;

@@ -1,5 +1,7 @@
-//! Commands of function blocks: their kinds, rates and buffer modes, how a command ends, and the pool in which commands
-//! wait, one list per axis or group.
+//! Commands of function blocks: their kinds, rates and buffer modes, how a command ends, and the
+//! pool in which commands wait, one list per axis or group. It stands on `motion_numbers` and
+//! `out_of_memory`, and takes its memory when it is opened. Begin at [`Wanted`], which is a
+//! command, and [`CommandPool`].
 #![tactic(auto)]
 
 mod ending;

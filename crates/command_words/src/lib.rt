@@ -1,4 +1,6 @@
-//! The words of a call of the program `motion`, and what they ask for.
+//! The words of a call of the program `motion`, and what they ask for. The crate `clap` reads the
+//! words; what it answers is proved to be the grammar in specs/, both ways. Nothing here opens a
+//! file. Begin at [`asked`] and [`Request`].
 #![tactic(auto)]
 
 mod commands;

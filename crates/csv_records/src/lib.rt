@@ -1,5 +1,6 @@
 //! The records of a text of comma-separated fields (RFC 4180), read one after another by the crate
-//! `csv`.
+//! `csv`. It stands on `csv`, whose own definition of what it reads it cites, and on
+//! `out_of_memory`. Begin at the reader; `trace_text` and `trace_check` stand on it.
 #![tactic(auto)]
 
 ghost use Rattle.std.specs.Prelude.{◌≡◌, [], List, ℕ, IfOk, slice_index_or};

@@ -1,5 +1,7 @@
 //! The simulated drive: a drive of CiA 402 in cyclic synchronous position mode that follows its
-//! targets with a lag and has faults in given steps.
+//! targets with a lag and has faults in given steps. It stands on `cia402_machine`, whose
+//! transitions it makes, and on `circular_buffer`, which holds the targets that it has still to
+//! follow. Begin at [`Drive`].
 #![tactic(auto)]
 
 mod drive;

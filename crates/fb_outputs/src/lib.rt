@@ -1,5 +1,7 @@
 //! Instances of function blocks: what a call gives them, and what they show (PLCopen Motion Control
-//! Part 1, general rules).
+//! Part 1, general rules). An instance keeps whether Execute was high, and the progress of its
+//! command; what it shows is a function of both. Which inputs a kind of block takes is one table.
+//! It stands on `command_pool`. Begin at [`Instance`] and [`takes`].
 #![tactic(auto)]
 
 mod inputs;

@@ -1,4 +1,6 @@
-//! Followers: the step of a gear and the position of a cam, from the master's setpoints.
+//! Followers: the step of a gear and the position of a cam, from the master's setpoints. It stands
+//! on `cam_table` and `motion_numbers`, and knows no limits: what it wants is cut to a safe step
+//! elsewhere. Begin at [`gear_toward`] and [`cam_position`].
 #![tactic(auto)]
 
 mod cam;

@@ -1,5 +1,8 @@
 //! One group of the kernel: what its commands, a Power off of a member and each cycle make of it
-//! (PLCopen Motion Control Part 4).
+//! (PLCopen Motion Control Part 4). A group moves a place along its path, which is an axis of its
+//! own from 0 to the path's length, and gives each member its place. It stands on `linear_path` for
+//! paths, on `trapezoid_plan` for steps, on `axis_state` and `group_state`, and on `buffer_modes`.
+//! Begin at [`Group`] and `one_group`; each block has its file in `blocks`.
 #![tactic(auto)]
 
 mod blocks;

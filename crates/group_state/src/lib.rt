@@ -1,4 +1,5 @@
-//! The group state diagram of PLCopen Motion Control Part 4, and what a cycle shows of a group.
+//! The group state diagram of PLCopen Motion Control Part 4, and what a cycle shows of a group. It
+//! stands on nothing. Begin at [`group_next`], the table of the diagram, and [`GroupState`].
 #![tactic(auto)]
 
 mod diagram;

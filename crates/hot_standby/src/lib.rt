@@ -1,5 +1,7 @@
 //! Hot standby: a second kernel makes the events of a first, which come to it through a ring, and
-//! takes its place with nothing lost.
+//! takes its place with nothing lost. It stands on `motion_kernel` and on the ring of `rtrb`, and
+//! takes no memory after it is opened. Begin at [`open_standby`], [`Feed`] and [`Standby`];
+//! [`PrimaryKernel`] is a kernel that a follower may follow, used as a kernel is.
 #![tactic(auto)]
 
 mod event;

@@ -30,7 +30,7 @@ const NO_ANSWER: DriveIn = DriveIn {
 #[derive(Drop)]
 pub struct PrimaryKernel {
     kernel: Kernel,
-    follower: Option<Follower>,
+    pub(crate) follower: Option<Follower>,
 }
 
 impl Model for PrimaryKernel {

@@ -1,2 +1,4 @@
 pub mod PlanLaws
 pub mod Refusals
+pub mod Readings
+pub mod Statuses

@@ -4,3 +4,4 @@ pub mod Files
 pub mod Follows
 pub mod Causes
 pub mod Exits
+pub mod Readings

@@ -1,5 +1,7 @@
 //! Over threads: each call, cycle and end of a task takes the kernel in its turn, by tickets, and
-//! its reply stands at its ticket's place in the one history.
+//! its reply stands at its ticket's place in the one history. It stands on `motion_kernel`, whose
+//! calls it makes, and on a ticket lock of `atomic_table`. Begin at [`KernelTurn`], [`Pass`] and
+//! [`Turn`]; what a pass knows of the history is kept beside the lock in proofs alone.
 #![tactic(auto)]
 
 mod events;

@@ -1,4 +1,6 @@
-//! How a program uses the kernel as a library: five short callers, each proved.
+//! How a program uses the kernel as a library: five short callers, each proved. It stands on
+//! `motion_kernel`, `drive_sim` and the texts of traces, and on nothing that the program adds.
+//! Begin at [`move_axis`], the shortest; docs/library.md walks through all five.
 #![tactic(auto)]
 
 mod drive_fault;

@@ -1,5 +1,6 @@
 //! Texts made of lines: their words, numbers, points and keys, and the first line that breaks a
-//! rule.
+//! rule. It stands on `fixed_units`. Whatever a person writes line by line is read over it:
+//! benches, programs, switch files. Begin at [`read_lines`] and [`LineReader`].
 #![tactic(auto)]
 
 mod key;

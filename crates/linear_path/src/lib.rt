@@ -1,4 +1,7 @@
-//! Straight lines of several axes at once, and the limits of a path along them.
+//! Straight lines of several axes at once, and the limits of a path along them. A line runs from
+//! the place of each axis to its target, and its own limits are the tightest that no axis' limits
+//! are broken by. It stands on `kin_core`. Begin at [`Path`], which is all that a group asks of a
+//! path, and [`LinePath`].
 #![tactic(auto)]
 
 mod laws;

@@ -1,4 +1,5 @@
-//! The job `gen`: the load of a seed is run, and its line written.
+//! The job `gen`: the load of a seed is run, and its line written. It stands on `load_gen`,
+//! `bench_run` and `job_ends`. Begin at [`run_load`]; the line's counts are in `counts`.
 #![tactic(auto)]
 
 mod counts;

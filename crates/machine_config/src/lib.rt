@@ -1,4 +1,6 @@
-//! Configurations: the TOML text of a machine, its cycle and its drives.
+//! Configurations: the TOML text of a machine, its cycle and its drives. The crate `toml` reads the
+//! text; what its tables mean stands in specs/. It stands on `machine_words` for names, drives and
+//! cam tables, as the other readers do. Begin at [`read_config`] and [`Machine`].
 #![tactic(auto)]
 
 mod axis;

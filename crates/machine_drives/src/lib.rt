@@ -1,4 +1,6 @@
-//! The simulated drives of a machine: one for each axis, in step with the kernel.
+//! The simulated drives of a machine: one for each axis, in step with the kernel. It stands on
+//! `drive_sim`; `bench_run` and `motion_plant` stand on it. Begin at [`open_drives`],
+//! [`answer_all`] and [`step_all`].
 #![tactic(auto)]
 
 mod drives;

@@ -1,5 +1,7 @@
 //! What the words of a machine's texts say: names of its items, inputs of its calls, its drives and
-//! cam tables, and the rules that they break.
+//! cam tables, and the rules that they break. It stands on `motion_history`, whose configurations
+//! the words speak of, and on `line_text`. The readers of benches, programs and configurations
+//! stand on it, so each rule is said once. Begin at [`inputs_by`] and [`free_name`].
 #![tactic(auto)]
 
 mod drive;

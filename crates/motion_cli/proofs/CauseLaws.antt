@@ -1,10 +1,9 @@
 -- Each status comes of its cause, whatever was asked.
-use Rattle.std.specs.Prelude.{◌≡◌, ◌≢◌, ◌⊎◌, refl, ℕ, true, false, Option, Some, None, IsSome, IsSomeAnd, Err, List}
+use Rattle.std.specs.Prelude.{◌≡◌, ◌⊎◌, refl, ℕ, true, false, Option, Some, None, IsSome, IsSomeAnd, Err, List}
 use Rattle.std.specs.Option.{option_and_then}
 use Rattle.std.proofs.Common.{◌∙◌, inl, inr, sym, ap, subst}
 use Rattle.bench_job.specs.Causes.{BenchCause, HasRoomFor}
 use Rattle.job_ends.specs.Causes.{ComesExactly, is_fault, is_told}
-use Rattle.job_ends.specs.Ends.{EndsBy, EndsEarly}
 use Rattle.job_ends.specs.Follows.{FollowPlans}
 use Rattle.job_ends.specs.declared.status.Status.{Status}
 use Rattle.job_ends.specs.declared.status.Status.TheVariants as status
@@ -15,7 +14,7 @@ use Rattle.run_job.specs.Causes.{is_of_run}
 use Rattle.trace_text.specs.writing.Writes.{Output}
 use Rattle.motion_cli.proofs.FileLaws.{found-comes, found-long}
 use Rattle.motion_cli.proofs.PlanLaws.{comes, faulted, not-told, same-cause, told-unfaulted}
-use Rattle.motion_cli.proofs.ReportLaws.{no-report, or-report}
+use Rattle.motion_cli.proofs.ReportLaws.{no-report, not-asked, or-report, right-alone}
 use Rattle.motion_cli.specs.Causes.{Asks, AsksRun, HasRoom, IsDone, IsIllegal, IsRefused, IsTooLong, LeadsTo}
 use Rattle.motion_cli.specs.Ends.{EndsByRequest}
 use Rattle.motion_cli.specs.Plans.{usage_plan}
@@ -36,10 +35,6 @@ second-alone A (inr h) = h
 -- a run has no status of another job
 pub no-run : (s wanted : Status) → is_of_run s ≡ true → is_of_run wanted ≡ false → s ≡ wanted → ⊥
 no-run s wanted k n e = let bad : true ≡ false = sym k ∙ ap is_of_run e ∙ n in cc
-
--- nothing of the kind is asked
-not-asked : {A : Type 0} (r : A) → Some r ≡ None → ⊥
-not-asked r e = absurd (cc)
 
 -- where no run is asked, or it isn't a run's, a status that is told of what was given comes exactly
 -- where a file leads to it, or a load
@@ -127,7 +122,7 @@ nothing None none (inl h) = h
 nothing None none (inr h) = absurd (let bad : false ≡ true = h in cc)
 nothing (Some n) none h = not-asked n none
 
-neither : (A B : Type 0) → (A → ⊥) → (B → ⊥) → A ⊎ B → ⊥
+pub neither : (A B : Type 0) → (A → ⊥) → (B → ⊥) → A ⊎ B → ⊥
 neither A B a b (inl h) = a h
 neither A B a b (inr h) = b h
 
@@ -166,14 +161,6 @@ text-only s wanted A B e none = same-cause s wanted A (A ⊎ B) (λ h. inl h) (�
     only (inl h) = h
     only (inr h) = absurd (none h)
 
-run-only : (s wanted : Status) (A B : Type 0) → ComesExactly s wanted B → (A → ⊥) →
-    ComesExactly s wanted (A ⊎ B)
-run-only s wanted A B e none = same-cause s wanted B (A ⊎ B) (λ h. inr h) (λ h. only h) e
-  where
-    only : A ⊎ B → B
-    only (inl h) = absurd (none h)
-    only (inr h) = h
-
 -- TextRefused
 refused-plain : FollowPlans → (files : FileMap) (rose refused : Type 0)
     (Started : ℕ → Type 0) (asked : Option Request) (old new : Output) (s : Status) (word : ℕ)
@@ -192,7 +179,7 @@ refused-plain follow files rose refused Started (Some (of_file q)) old new s wor
     (status.TextRefused word r.place r.rule) e refl (λ h. h) (inl refl)
     (inl refl)) (λ h. h)
 refused-plain follow files rose refused Started (Some (of_run q)) old new s word r e plain =
-    run-only s _ _ _ (e.of_text files (status.TextRefused word r.place r.rule) refl refl) (λ h. h)
+    right-alone s _ _ _ (e.of_text files (status.TextRefused word r.place r.rule) refl refl) (λ h. h)
 refused-plain follow files rose refused Started (Some (of_load seed)) old new s word r e plain =
     text-only s _ _ _ (file-comes follow files rose refused Started (Some (of_load seed)) old new s
     (status.TextRefused word r.place r.rule) e refl (λ h. h) (inl refl)
@@ -237,7 +224,7 @@ long-plain follow files rose refused Started (Some (of_file r)) old new s word (
 long-plain follow files rose refused Started (Some (of_file r)) old new s word (inr e) plain =
     faulted s (status.TooLong word) _ refl (ap is_fault e.status)
 long-plain follow files rose refused Started (Some (of_run r)) old new s word e plain =
-    run-only s _ _ _ (e.of_text files (status.TooLong word) refl refl) (λ h. h.1)
+    right-alone s _ _ _ (e.of_text files (status.TooLong word) refl refl) (λ h. h.1)
 long-plain follow files rose refused Started (Some (of_load seed)) old new s word e plain =
     same-cause s (status.TooLong word) ⊥ _ (λ h. absurd h) (λ h. absurd (none h))
     (comes follow old new (load_plan seed) LoadCause s e.by (status.TooLong word) refl)

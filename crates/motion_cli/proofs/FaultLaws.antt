@@ -2,10 +2,10 @@
 use Rattle.std.specs.Prelude.{◌≡◌, ◌≢◌, ◌⊎◌, refl, ℕ, true, false, Option, Some, None, IsSomeAnd, Err, List}
 use Rattle.std.specs.Result.{IsOk}
 use Rattle.std.specs.Option.{option_and_then}
-use Rattle.std.proofs.Common.{◌∙◌, inl, inr, sym, ap, subst}
+use Rattle.std.proofs.Common.{◌∙◌, inl, inr, sym, subst}
 use Rattle.std.proofs.lemmas.Bool.{cases_Bool}
-use Rattle.job_ends.specs.Causes.{ComesExactly, is_fault, is_told, is_traced}
-use Rattle.job_ends.specs.Ends.{Content, EndsBy, EndsEarly, Found, IsFound, Longer, Unread}
+use Rattle.job_ends.specs.Causes.{ComesExactly, is_fault, is_traced}
+use Rattle.job_ends.specs.Ends.{Content, Found, IsFound, Longer, Unread}
 use Rattle.job_ends.specs.Follows.{FollowPlans}
 use Rattle.job_ends.specs.Plans.{too_long_plan, unread_plan}
 use Rattle.job_ends.specs.declared.status.Status.{Status}
@@ -15,7 +15,7 @@ use Rattle.outside.specs.Faults.{Rose}
 use Rattle.outside.specs.Told.{FileMap, LacksFile}
 use Rattle.run_job.specs.Causes.{plant_in}
 use Rattle.trace_text.specs.writing.Writes.{Output}
-use Rattle.motion_cli.proofs.CauseLaws.{no-run}
+use Rattle.motion_cli.proofs.CauseLaws.{neither, no-run}
 use Rattle.motion_cli.proofs.FileLaws.{ends-by, ends-for, plan_of}
 use Rattle.motion_cli.proofs.PlanLaws.{by-plan, not-told}
 use Rattle.motion_cli.proofs.ReportLaws.{no-report, report-unread, report-unwritten}
@@ -228,10 +228,6 @@ no-file files P (Some (of_report r)) word (inl (inr h)) v = h
 no-file files P (Some (of_report r)) word (inr h) (inl (inl v)) = v.1
 no-file files P (Some (of_report r)) word (inr h) (inl (inr v)) = v
 no-file files P (Some (of_report r)) word (inr h) (inr v) = h word v
-
-neither : (A B : Type 0) → (A → ⊥) → (B → ⊥) → A ⊎ B → ⊥
-neither A B a b (inl h) = a h
-neither A B a b (inr h) = b h
 
 pub fault-by : FollowPlans → (files : FileMap) (rose refused : Type 0) (Started : ℕ → Type 0)
     (asked : Option Request) (old new : Output) (s : Status) (P : Job → List ℕ → Type 0) →

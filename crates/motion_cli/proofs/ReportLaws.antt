@@ -1,20 +1,18 @@
 -- What the end of a report says of its status.
-use Rattle.std.specs.Prelude.{◌≡◌, ◌⊎◌, refl, ℕ, true, false, Option, Some, None, IsSomeAnd, Err, List}
+use Rattle.std.specs.Prelude.{◌≡◌, ◌⊎◌, refl, ℕ, true, false, Option, Some, None, IsSomeAnd, List}
 use Rattle.std.specs.Option.{option_and_then}
 use Rattle.std.proofs.Common.{◌∙◌, inl, inr, sym, ap, subst}
-use Rattle.command_words.specs.Requests.{Report, Request, file_of, files_of, load_of, of_file, of_load, of_report, of_run, of_scope, of_switches, told_report}
+use Rattle.command_words.specs.Requests.{Report, Request, of_file, of_load, of_report, of_run, of_scope, of_switches, told_report}
 use Rattle.job_ends.specs.Causes.{ComesExactly, is_fault}
 use Rattle.job_ends.specs.declared.status.Status.{Status}
 use Rattle.job_ends.specs.declared.status.Status.TheVariants as status
 use Rattle.outside.specs.Faults.{Rose}
 use Rattle.outside.specs.Told.{FileMap, LacksFile}
-use Rattle.scope_job.specs.Causes.{is_of_scope, status_by_text, status_in}
-use Rattle.scope_job.specs.Scoped.{Scoped}
+use Rattle.scope_job.specs.Causes.{is_of_scope, status_by_text}
 use Rattle.switch_job.specs.Causes.{is_of_switches}
-use Rattle.switch_job.specs.Switched.{Switched}
 use Rattle.trace_text.specs.writing.Writes.{Output}
 use Rattle.motion_cli.specs.Ends.{EndsByRequest}
-use Rattle.motion_cli.specs.Reports.{AsksReport, AsksWithAll, EndsByReport, LacksFor, ReportCause, ReportsInVain, is_of_report}
+use Rattle.motion_cli.specs.Reports.{AsksReport, EndsByReport, LacksFor, ReportCause, is_of_report}
 
 scope-kind : (s : Status) → is_of_scope s ≡ true → is_of_report s ≡ true
 scope-kind status.Usage h = h
@@ -114,7 +112,7 @@ report-unwritten told rose (of_scope trace) old new s e h = e.unwritten h
 
 -- ---- by what was asked
 
-not-asked : {A : Type 0} (r : A) → Some r ≡ None → ⊥
+pub not-asked : {A : Type 0} (r : A) → Some r ≡ None → ⊥
 not-asked r e = absurd (cc)
 
 left-alone : (s wanted : Status) (A : Type 0) → ComesExactly s wanted A →
@@ -125,7 +123,7 @@ left-alone s wanted A e = record { only = λ h. inl (e.only h); always = λ h. e
     only (inl h) = h
     only (inr h) = absurd h
 
-right-alone : (s wanted : Status) (A B : Type 0) → ComesExactly s wanted B → (A → ⊥) →
+pub right-alone : (s wanted : Status) (A B : Type 0) → ComesExactly s wanted B → (A → ⊥) →
     ComesExactly s wanted (A ⊎ B)
 right-alone s wanted A B e none =
     record { only = λ h. inr (e.only h); always = λ h. e.always (only h) }
@@ -157,7 +155,7 @@ or-report files rose refused Started (Some (of_report r)) old new s wanted A e f
 same-report : (r q : Report) → Some r ≡ Some q → r ≡ q
 same-report r q e = cc
 
-none-asked : {A : Type 0} (x : A) → None ≡ Some x → ⊥
+pub none-asked : {A : Type 0} (x : A) → None ≡ Some x → ⊥
 none-asked x e = absurd (cc)
 
 pub report-as : (told : Option FileMap) (rose refused : Type 0) (Started : ℕ → Type 0)

@@ -1,12 +1,13 @@
 -- What was written stands for, by what was asked.
-use Rattle.std.specs.Prelude.{◌≡◌, ◌≢◌, refl, ℕ, true, false, Option, Some, None, List}
+use Rattle.std.specs.Prelude.{◌≡◌, refl, ℕ, true, false, Option, Some, None, List}
 use Rattle.std.specs.Option.{option_and_then}
 use Rattle.std.proofs.Common.{◌∙◌, inl, inr, sym, ap, subst}
 use Rattle.bench_job.specs.Headline.{Headline}
+use Rattle.job_ends.proofs.Statuses.{untraced}
 use Rattle.job_ends.specs.Causes.{is_traced}
-use Rattle.job_ends.specs.Ends.{Content, EndsBy, Found, IsFound, Longer, Unread}
+use Rattle.job_ends.specs.Ends.{Content, Found, IsFound, Longer, Unread}
 use Rattle.job_ends.specs.Follows.{FollowPlans}
-use Rattle.job_ends.specs.Plans.{Plan, too_long_plan, unread_plan}
+use Rattle.job_ends.specs.Plans.{too_long_plan, unread_plan}
 use Rattle.job_ends.specs.declared.status.Status.{Status}
 use Rattle.job_ends.specs.declared.status.Status.TheVariants as status
 use Rattle.load_job.specs.Ends.{LoadLine}
@@ -14,17 +15,11 @@ use Rattle.outside.specs.Told.{FileMap}
 use Rattle.run_job.specs.Headline.{RunHeadline}
 use Rattle.trace_jobs.specs.Migrated.{Migrated}
 use Rattle.trace_text.specs.writing.Writes.{Output}
+use Rattle.motion_cli.proofs.ReportLaws.{none-asked}
 use Rattle.motion_cli.specs.Ends.{EndsByFound, EndsByRequest}
 use Rattle.motion_cli.specs.Plans.{most_of}
 use Rattle.command_words.specs.Requests.{FileJob, Request, RunFiles, file_of, files_of, load_of, of_file, of_load, of_report, of_run}
 use Rattle.command_words.specs.declared.request.Job.TheVariants.{Bench, Migrate}
-
--- a plan that stands for no trace
-untraced : FollowPlans → (old new : Output) (p : Plan) (s : Status) → EndsBy old new p s →
-    is_traced p.status ≡ false → is_traced s ≡ true → ⊥
-untraced follow old new p s e n t =
-    let same = follow.traces old new p s e t in
-    let bad : true ≡ false = sym t ∙ ap is_traced same.0 ∙ n in absurd (cc)
 
 found-headline : FollowPlans → (told : Option FileMap) (rose : Type 0) (name : List ℕ)
     (old new : Output) (s : Status) (found : Found) → IsFound told rose name (most_of Bench) found →
@@ -35,10 +30,6 @@ found-headline follow told rose name old new s Unread is e t =
 found-headline follow told rose name old new s Longer is e t =
     absurd (untraced follow old new (too_long_plan 1 name) s e refl t)
 found-headline follow told rose name old new s (Content text) is e t = e.headline told is.0 t
-
--- nothing of the kind is asked
-none-asked : {A : Type 0} (x : A) → None ≡ Some x → ⊥
-none-asked x e = absurd (cc)
 
 -- the same job with a file
 same-job : (r q : FileJob) → Some r ≡ Some q → r ≡ q

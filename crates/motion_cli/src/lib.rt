@@ -1,5 +1,6 @@
 //! The program `motion`: from its words and files to the text that it writes and the status that it
-//! ends with.
+//! ends with. It stands on the crates of the jobs, one for each command, and on `command_words`.
+//! Begin at [`top`]: its clauses are what is proved of the program, and the headline is among them.
 #![tactic(auto)]
 
 mod program;

@@ -98,14 +98,16 @@ struct Work {
 impl Work {
     // A job that is done by one alone.
     fn of(job: Job) -> Work
-        ensures { result.job ≡ job }
+        ensures job { result.job ≡ job }
+        ensures cut { result.cut ≡ None }
     {
         Work { job, cut: None }
     }
 
     // A bench that is handed over.
     fn handed_over(cut: u32) -> Work
-        ensures { result.job ≡ Job.Bench }
+        ensures job { result.job ≡ Job.Bench }
+        ensures cut { result.cut ≡ Some cut }
     {
         Work {
             job: Job::Bench,

@@ -1,5 +1,8 @@
 //! The motion kernel: block calls, cycles and ends of tasks, each one entry of a history whose
-//! replay is the kernel's state.
+//! replay is the kernel's state. It stands on `axis_core` and `group_core`, which decide, and on
+//! `motion_history`, which keeps; what is here is who is asked, in which order, and who is told.
+//! Begin at [`Kernel`]: its contracts say each entry in full. The laws over histories are in
+//! `motion_laws`.
 #![tactic(auto)]
 
 mod answering;

@@ -1,5 +1,7 @@
 //! What the motion kernel's legal histories keep: each law is the contract of a function that does
-//! nothing.
+//! nothing. It stands on `motion_kernel` and has no other code. Begin at
+//! [`histories_keep_their_laws`], which says all of them of a legal history; each of the others
+//! says one, in words of its own, with its definitions in specs/ by subject.
 #![tactic(auto)]
 
 mod arrival_laws;

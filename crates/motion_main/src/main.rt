@@ -1,4 +1,6 @@
-//! The program `motion`.
+//! The program `motion`. It gives `top` the words, the files, the output and the threads of the
+//! process, and ends with the status that `top` answers. It stands on `motion_cli` and `outside`;
+//! begin at `main`.
 #![tactic(auto)]
 
 use motion_cli::{PlantJob, Spawner, top_of_args};

@@ -1,4 +1,6 @@
-//! The whole numbers of motion: their ranges, and the sums of the ramps that they make.
+//! The whole numbers of motion: their ranges, and the sums of the ramps that they make. It stands
+//! on nothing, and nearly all else stands on it: ways, steps, counts and their greatest values, so
+//! that no number overflows 128 bits. Begin at [`ramp_sum`] and the ranges below.
 #![tactic(auto)]
 
 mod laws;

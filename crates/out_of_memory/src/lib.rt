@@ -1,4 +1,5 @@
-//! Want of memory, the one answer that a call may always give where it takes memory.
+//! Want of memory, the one answer that a call may always give where it takes memory. It stands on
+//! nothing but the standard library; nearly all else stands on it.
 #![tactic(auto)]
 
 use std::alloc::AllocError;

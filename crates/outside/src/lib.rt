@@ -1,4 +1,7 @@
-//! What the program asks of the world outside: files, an output, threads and gates, and what stands in for them in tests.
+//! What the program asks of the world outside: files, an output, threads and gates, and what stands
+//! in for them in tests. The core asks traits alone, which the process implements and tests stand
+//! in for. It stands on `out_of_memory` and `crossbeam_utils`. Begin at [`Files`], [`Sink`],
+//! [`Spawner`] and [`Gate`].
 #![tactic(auto)]
 
 mod files;

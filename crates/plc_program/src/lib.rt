@@ -1,4 +1,6 @@
-//! Task programs: the calls of a PLC's tasks as a text, read to the instructions of each task.
+//! Task programs: the calls of a PLC's tasks as a text, read to the instructions of each task. It
+//! stands on `machine_words` and `line_text`, as benches do; what runs a program is `task_run`.
+//! Begin at [`read_program`] and [`Instruction`]; the forms of lines are a table in specs/Forms.
 #![tactic(auto)]
 
 mod call;

@@ -1,4 +1,6 @@
-//! Greatest counts of the terms of a ramp, by an integer root, and the steps that they give.
+//! Greatest counts of the terms of a ramp, by an integer root, and the steps that they give. It
+//! stands on `motion_numbers`. The plans ask it how long a ramp may be: a closed form instead of a
+//! search. Begin at [`reach`] and [`greatest_count`].
 #![tactic(auto)]
 
 mod counts;

@@ -1,25 +1,20 @@
 -- What the course of a run says of its status.
-use Rattle.std.specs.Prelude.{◌≡◌, ◌≢◌, ◌⊎◌, refl, ℕ, true, false, Bool, Option, Some, None, IfSome, IsSomeAnd, Result, Ok, Err, List}
+use Rattle.std.specs.Prelude.{◌≡◌, ◌⊎◌, refl, ℕ, true, false, Option, Some, IsSomeAnd, Result, Ok, Err, List}
 use Rattle.std.specs.Result.{IsOk, is_ok}
 use Rattle.std.proofs.Common.{◌∙◌, inl, inr, sym, ap, subst}
+use Rattle.job_ends.proofs.Statuses.{Statuses, apart, early-not, same-told, text-always}
+use Rattle.job_ends.specs.Readings.{is_of_text}
 use Rattle.job_ends.specs.Causes.{ComesExactly, is_fault, is_traced}
-use Rattle.job_ends.specs.Ends.{EndsBy, EndsEarly}
 use Rattle.job_ends.specs.Follows.{FollowPlans}
 use Rattle.job_ends.specs.declared.status.Status.{Status}
 use Rattle.job_ends.specs.declared.status.Status.TheVariants as status
-use Rattle.machine_config.specs.declared.machine.Machine.{Machine}
 use Rattle.outside.specs.Faults.{Rose}
 use Rattle.outside.specs.Told.{FileMap}
-use Rattle.plc_program.specs.Reading.{Outcome}
 use Rattle.trace_text.specs.writing.Writes.{Output}
-use Rattle.run_job.proofs.CauseLaws.{LeadsTo, Planned, PlannedBy, TellsOf}
-use Rattle.run_job.specs.Causes.{is_of_run, is_of_text, plant_in}
+use Rattle.run_job.proofs.CauseLaws.{LeadsTo, Planned}
+use Rattle.run_job.specs.Causes.{is_of_run, plant_in}
 
 -- ---- statuses by their kinds
-
--- a status is not another where a test tells them apart
-apart : (test : Status → Bool) (s t : Status) → test s ≡ true → test t ≡ false → s ≡ t → ⊥
-apart test s t has hasnt e = let bad : true ≡ false = sym has ∙ ap test e ∙ hasnt in cc
 
 text-unfaulted : (s : Status) → is_of_text s ≡ true → is_fault s ≡ false
 text-unfaulted (status.TooLong word) t = refl
@@ -107,10 +102,6 @@ of-files files rose refuses config program p wanted t (inr (inl h, given)) e =
 of-files files rose refuses config program p wanted t (inr (inr traced, given)) e =
     absurd (apart is_of_text wanted p t (traced-no-text p traced) (sym e))
 
--- and where the files lead to it a run leads there, or a file couldn't be read
-same-told : {A : Type 0} (r : Result A Status) (s t : Status) → r ≡ Err s → r ≡ Err t → s ≡ t
-same-told r s t a b = let same : Err s ≡ Err t = sym a ∙ b in cc
-
 to-files : (files : FileMap) (rose refuses : Type 0) (config program : List ℕ)
     (p wanted : Status) → LeadsTo (Some files) rose refuses config program p →
     plant_in files config program ≡ Err wanted → (is_fault p ≡ true) ⊎ (p ≡ wanted)
@@ -122,15 +113,6 @@ to-files files rose refuses config program p wanted (inr (h, given)) e =
     absurd (given-not-wanting (plant_in files config program) wanted given e)
 
 -- ---- the status itself
-
--- the status by the plan's
-abbrev pub Statuses : Status → Status → Type 0 → Type 0
-Statuses s p R = (s ≡ p) ⊎ (((s ≡ status.WriteFault) × R) ⊎ (s ≡ status.OutOfMemory))
-
-fault-stays : (s p : Status) (R : Type 0) → Statuses s p R → is_fault p ≡ true → is_fault s ≡ true
-fault-stays s p R (inl e) f = ap is_fault e ∙ f
-fault-stays s p R (inr (inl e)) f = ap is_fault e.0
-fault-stays s p R (inr (inr e)) f = ap is_fault e
 
 kind-stays : (s p : Status) (R : Type 0) → Statuses s p R → is_of_run p ≡ true → is_of_run s ≡ true
 kind-stays s p R (inl e) k = ap is_of_run e ∙ k
@@ -144,10 +126,6 @@ trace-stays s p R (inr (inl e)) none t = absurd (none e.1)
 trace-stays s p R (inr (inr e)) none t = inr e
 
 -- ---- what each field of the end says
-
-early-not : (s wanted : Status) → s ≡ status.OutOfMemory → s ≡ wanted →
-    wanted ≢ status.OutOfMemory → ⊥
-early-not s wanted e h other = other (sym h ∙ e)
 
 pub refuses-of : FollowPlans → (told : Option FileMap) (rose refuses : Type 0)
     (config program : List ℕ) (old new : Output) (s : Status) →
@@ -188,13 +166,6 @@ kind-by follow told rose refuses config program old new s (inr p) =
     kind-stays s p.plan.status (Rose old.count new.count)
     (follow.statuses old new p.plan s p.ends)
     (kind-of told rose refuses config program p.plan.status p.leads)
-
--- where a file's text leads to a status, it comes, or a fault
-text-always : (s p wanted : Status) (R : Type 0) → Statuses s p R →
-    ComesExactly s wanted (p ≡ wanted) → (is_fault p ≡ true) ⊎ (p ≡ wanted) →
-    (s ≡ wanted) ⊎ (is_fault s ≡ true)
-text-always s p wanted R by comes (inl f) = inr (fault-stays s p R by f)
-text-always s p wanted R by comes (inr e) = comes.always e
 
 pub of-text-by : FollowPlans → (files : FileMap) (rose refuses : Type 0)
     (config program : List ℕ) (old new : Output) (s wanted : Status) → is_of_text wanted ≡ true →

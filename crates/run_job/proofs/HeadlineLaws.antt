@@ -2,34 +2,28 @@
 use Rattle.std.specs.Prelude.{◌≡◌, ◌⊎◌, refl, ℕ, ◌+◌, true, false, Option, Some, Result, List, map, slice_get}
 use Rattle.std.proofs.Common.{◌∙◌, inl, inr, sym, ap, subst, arith}
 use Rattle.drive_sim.specs.Sim.{DriveSim}
+use Rattle.job_ends.proofs.Readings.{TellsBy, TellsOf}
+use Rattle.job_ends.proofs.Statuses.{untraced}
+use Rattle.job_ends.specs.Readings.{is_of_text}
 use Rattle.job_ends.specs.Causes.{is_traced}
-use Rattle.job_ends.specs.Ends.{EndsBy, EndsEarly}
+use Rattle.job_ends.specs.Ends.{EndsEarly}
 use Rattle.job_ends.specs.Follows.{FollowPlans}
-use Rattle.job_ends.specs.Plans.{Plan}
 use Rattle.job_ends.specs.declared.status.Status.{Status}
 use Rattle.job_ends.specs.declared.status.Status.TheVariants as status
 use Rattle.machine_drives.specs.Drives.{drives_at_opening}
-use Rattle.motion_history.specs.Entries.{Entry}
 use Rattle.motion_plant.specs.Ran.{DriveMeets}
 use Rattle.outside.specs.Told.{FileMap}
-use Rattle.plc_program.specs.Reading.{Outcome}
 use Rattle.setpoint_ring.specs.declared.logs.DriveLog.{DriveLog}
 use Rattle.trace_text.specs.writing.Writes.{Output}
-use Rattle.run_job.proofs.CauseLaws.{Planned, TellsBy, TellsOf, no-plant, planned}
+use Rattle.run_job.proofs.CauseLaws.{Planned, no-plant, planned}
 use Rattle.run_job.proofs.EndLaws.{complete-by, kind-by, of-text-by, refuses-of, unread-of, unwritten-of}
 use Rattle.run_job.proofs.RowLaws.{AreReadBack, rows-same}
-use Rattle.run_job.specs.Causes.{is_of_text, plant_in}
+use Rattle.run_job.specs.Causes.{plant_in}
 use Rattle.run_job.specs.Ends.{Course, EndsByBoth, EndsByPlant, EndsByRun, WritesRun}
 use Rattle.run_job.specs.Headline.{HasEnded, RunHeadline}
 use Rattle.run_job.specs.Plans.{end_row, no_thread_plan, run_plan}
 
 -- ---- where there is no trace
-
-untraced : FollowPlans → (old new : Output) (p : Plan) (s : Status) → EndsBy old new p s →
-    is_traced p.status ≡ false → is_traced s ≡ true → ⊥
-untraced follow old new p s e n t =
-    let same = follow.traces old new p s e t in
-    let bad : true ≡ false = sym t ∙ ap is_traced same.0 ∙ n in cc
 
 text-untraced : (s : Status) → is_of_text s ≡ true → is_traced s ≡ false
 text-untraced (status.TooLong word) t = refl

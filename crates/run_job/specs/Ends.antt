@@ -1,6 +1,7 @@
 -- How the job ends. This project's profile.
 use Rattle.std.specs.Prelude.{◌≡◌, ◌⊎◌, ℕ, ◌+◌, Option, Some, IsSomeAnd, Err, List, length, map, true}
 use Rattle.std.specs.Result.{IsOk}
+use Rattle.job_ends.specs.Readings.{is_of_text}
 use Rattle.job_ends.specs.Causes.{ComesExactly, is_traced}
 use Rattle.job_ends.specs.Ends.{EndsBy, EndsEarly}
 use Rattle.job_ends.specs.declared.status.Status.{Status}
@@ -18,7 +19,7 @@ use Rattle.plc_program.specs.Reading.{Outcome}
 use Rattle.plc_program.specs.declared.program.Instruction.{Instruction}
 use Rattle.setpoint_ring.specs.declared.logs.DriveLog.{DriveLog}
 use Rattle.trace_text.specs.writing.Writes.{Output}
-use Rattle.run_job.specs.Causes.{is_of_run, is_of_text, plant_in}
+use Rattle.run_job.specs.Causes.{is_of_run, plant_in}
 use Rattle.run_job.specs.Headline.{HasEnded, RunHeadline}
 use Rattle.run_job.specs.Plans.{end_row, no_thread_plan, run_plan}
 use Rattle.run_job.specs.Plants.{GivesMachine, GivesProgram, NoPlant}

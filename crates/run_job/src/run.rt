@@ -3,11 +3,13 @@
 ghost use Rattle.std.specs.Prelude.{◌≡◌, ◌≤◌, ◌+◌, length};
 ghost use Rattle.std.specs.Arc.{arc_value};
 ghost use Rattle.std.specs.List.{All};
+ghost use Rattle.job_ends.specs.Ends.{EndsBy};
 ghost use Rattle.motion_history.specs.Drives.{IsDrive};
 ghost use Rattle.outside.specs.Faults.{Rose};
 ghost use Rattle.plc_program.specs.Programs.{IsProgramOf};
 ghost use Rattle.run_job.specs.Ends.{EndsByPlant, EndsByRun};
 ghost use Rattle.run_job.specs.Joined.{JoinsAll};
+ghost use Rattle.run_job.specs.Plans.{no_thread_plan};
 
 use crate::names::RunNames;
 use crate::reading::read_plant;
@@ -71,9 +73,15 @@ fn run_read<K: Sink, H: Host + Wait, G: Gate + Drop + Send + 'static>(
 {
     match run_plant(rt, alloc, plant, spawner, gate) {
         Ok(end) => write_run(alloc, &end, out),
-        Err(PlantFault::ThreadRefused) => {
-            say_all(b"thread refused\n", Status::ThreadRefused, out)
-        }
+        Err(PlantFault::ThreadRefused) => say_thread_refused(out),
         Err(PlantFault::OutOfMemory) => Status::OutOfMemory,
     }
+}
+
+// Says that a thread was refused.
+fn say_thread_refused<K: Sink>(out: &mut K) -> Status
+    ensures { EndsBy (record { count = K.count out.old; told = K.told out.old })
+        (record { count = K.count out.new; told = K.told out.new }) no_thread_plan result }
+{
+    say_all(b"thread refused\n", Status::ThreadRefused, out)
 }

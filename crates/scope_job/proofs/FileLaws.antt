@@ -1,7 +1,7 @@
 -- How the job ends with a file, and what that says of its status.
-use Rattle.std.specs.Prelude.{◌≡◌, ◌⊎◌, ◌≤◌, ◌<◌, refl, ℕ, nat_lt, if◌then◌else◌, Bool, true, false, Option, Some, None, IsSomeAnd, Result, Ok, Err, List, length}
-use Rattle.std.proofs.Common.{◌∙◌, sym, ap, subst, arith, inl, inr, ⊎_elim}
-use Rattle.std.proofs.lemmas.Bool.{cases_Bool, ltb-false, ltb-true}
+use Rattle.std.specs.Prelude.{◌≡◌, ◌⊎◌, ◌≤◌, ◌<◌, refl, ℕ, if◌then◌else◌, Bool, true, false, Option, Some, None, IsSomeAnd, Result, Ok, Err, List, length}
+use Rattle.std.proofs.Common.{◌∙◌, sym, ap, subst, inl, inr, ⊎_elim}
+use Rattle.job_ends.proofs.Readings.{long-text, short-text}
 use Rattle.job_ends.specs.Causes.{ComesExactly, is_fault, is_told}
 use Rattle.job_ends.specs.Ends.{Content, EndsBy, EndsEarly, Found, IsFound, Longer, Unread}
 use Rattle.job_ends.specs.Files.{IsText, NoText}
@@ -23,34 +23,18 @@ use Rattle.scope_job.specs.Scoped.{Scoped}
 
 -- ---- what a file leads to
 
-short-text : (text : List ℕ) → length text ≤ most_bytes → nat_lt most_bytes (length text) ≡ false
-short-text text within = elim (cases_Bool (nat_lt most_bytes (length text))) [
-  | inl long ↦
-      let beyond : most_bytes < length text = ltb-true most_bytes (length text) long in
-      absurd (omega (arith, within, beyond))
-  | inr short ↦ short
-]
-
-long-text : (text : List ℕ) → most_bytes < length text → nat_lt most_bytes (length text) ≡ true
-long-text text beyond = elim (cases_Bool (nat_lt most_bytes (length text))) [
-  | inl long ↦ long
-  | inr short ↦
-      let within : length text ≤ most_bytes = ltb-false most_bytes (length text) short in
-      absurd (omega (arith, within, beyond))
-]
-
 long-leads : (name : List ℕ) (o : Option (List ℕ)) → IsSomeAnd o (λ t. most_bytes < length t) →
     status_by_text name o ≡ status.TooLong 1
 long-leads name None h = absurd h
 long-leads name (Some text) h =
     ap (λ (b : Bool). if b then status.TooLong 1 else (scope_plan name text).status)
-    (long-text text h)
+    (long-text most_bytes text h)
 
 text-leads : (name text : List ℕ) → length text ≤ most_bytes →
     status_by_text name (Some text) ≡ (scope_plan name text).status
 text-leads name text h =
     ap (λ (b : Bool). if b then status.TooLong 1 else (scope_plan name text).status)
-    (short-text text h)
+    (short-text most_bytes text h)
 
 -- the plan that what was found leads to
 abbrev pub plan_by : List ℕ → Found → Plan

@@ -1,9 +1,12 @@
 -- What the course of the job says of its status.
-use Rattle.std.specs.Prelude.{◌≡◌, ◌≢◌, ◌⊎◌, refl, ℕ, true, false, Bool, Option, Some, None, IsSomeAnd, Result, Ok, Err, List}
+use Rattle.std.specs.Prelude.{◌≡◌, ◌⊎◌, refl, ℕ, true, false, Option, Some, None, IsSomeAnd, Result, Ok, Err, List}
 use Rattle.std.specs.Io.KnownBytes.{Appends}
 use Rattle.std.proofs.Common.{◌∙◌, inl, inr, sym, ap, subst}
 use Rattle.std.proofs.lemmas.Bool.{cases_Bool}
 use Rattle.cam_switch.specs.declared.switch.Switch.{Switch}
+use Rattle.job_ends.proofs.Readings.{TellsBy, TellsOf}
+use Rattle.job_ends.proofs.Statuses.{Statuses, apart, early-not, same-told, text-always}
+use Rattle.job_ends.specs.Readings.{is_of_text}
 use Rattle.job_ends.specs.Causes.{ComesExactly, is_fault}
 use Rattle.job_ends.specs.Ends.{EndsEarly}
 use Rattle.job_ends.specs.Follows.{FollowPlans}
@@ -16,18 +19,14 @@ use Rattle.trace_check.specs.Progress.{difference_in}
 use Rattle.trace_check.specs.declared.difference.Difference.{Difference}
 use Rattle.trace_text.specs.TraceState.{TraceState}
 use Rattle.trace_text.specs.writing.Writes.{Output}
-use Rattle.switch_job.proofs.CauseLaws.{TellsBy, TellsOf, both-given, no-both}
-use Rattle.switch_job.specs.Causes.{SwitchCause, both_in, is_decided, is_of_both, is_of_switches, is_of_text}
+use Rattle.switch_job.proofs.CauseLaws.{both-given, no-both}
+use Rattle.switch_job.specs.Causes.{SwitchCause, both_in, is_decided, is_of_both, is_of_switches}
 use Rattle.switch_job.specs.Ends.{Course, EndsByBoth, EndsBySwitches}
 use Rattle.switch_job.specs.Given.{TellsLegal}
 use Rattle.switch_job.specs.Plans.{plan_of_switches, switched_plan}
 use Rattle.switch_job.specs.Switched.{Switched}
 
 -- ---- statuses by their kinds
-
--- a status is not another where a test tells them apart
-apart : (test : Status → Bool) (s t : Status) → test s ≡ true → test t ≡ false → s ≡ t → ⊥
-apart test s t has hasnt e = let bad : true ≡ false = sym has ∙ ap test e ∙ hasnt in cc
 
 decided-unfaulted : (s : Status) → is_decided s ≡ true → is_fault s ≡ false
 decided-unfaulted status.Ok t = refl
@@ -61,14 +60,6 @@ plan-of-both t ss (Some d) = refl
 
 -- ---- the status by the plan's
 
-abbrev Statuses : Status → Status → Type 0 → Type 0
-Statuses s p R = (s ≡ p) ⊎ (((s ≡ status.WriteFault) × R) ⊎ (s ≡ status.OutOfMemory))
-
-fault-stays : (s p : Status) (R : Type 0) → Statuses s p R → is_fault p ≡ true → is_fault s ≡ true
-fault-stays s p R (inl e) f = ap is_fault e ∙ f
-fault-stays s p R (inr (inl e)) f = ap is_fault e.0
-fault-stays s p R (inr (inr e)) f = ap is_fault e
-
 kind-stays : (s p : Status) (R : Type 0) → Statuses s p R → is_of_switches p ≡ true →
     is_of_switches s ≡ true
 kind-stays s p R (inl e) k = ap is_of_switches e ∙ k
@@ -81,15 +72,7 @@ unfaulted-stays s p R (inl e) none f = inl (ap is_fault e ∙ f)
 unfaulted-stays s p R (inr (inl e)) none f = absurd (none e.1)
 unfaulted-stays s p R (inr (inr e)) none f = inr e
 
-early-not : (s wanted : Status) → s ≡ status.OutOfMemory → s ≡ wanted →
-    wanted ≢ status.OutOfMemory → ⊥
-early-not s wanted e h other = other (sym h ∙ e)
-
 -- ---- a file that gives nothing: the plan's status
-
--- the files lead to one thing
-same-told : {A : Type 0} (r : Result A Status) (s t : Status) → r ≡ Err s → r ≡ Err t → s ≡ t
-same-told r s t a b = let same : Err s ≡ Err t = sym a ∙ b in cc
 
 not-both : {A : Type 0} (r : Result A Status) (x : A) (s : Status) → r ≡ Ok x → r ≡ Err s → ⊥
 not-both r x s a b = let bad : Ok x ≡ Err s = sym a ∙ b in cc
@@ -294,12 +277,6 @@ unwritten-of follow told rose trace file old new s (inr b) is =
 
 -- ---- the statuses that the files decide
 
-always-by : (s p wanted : Status) (R : Type 0) → Statuses s p R →
-    ComesExactly s wanted (p ≡ wanted) → (is_fault p ≡ true) ⊎ (p ≡ wanted) →
-    (s ≡ wanted) ⊎ (is_fault s ≡ true)
-always-by s p wanted R by comes (inl f) = inr (fault-stays s p R by f)
-always-by s p wanted R by comes (inr e) = comes.always e
-
 caused-both : FollowPlans → (files : FileMap) (trace file : List ℕ) (old new : Output)
     (s wanted : Status) → is_decided wanted ≡ true →
     EndsByBoth (Some files) trace file old new s →
@@ -336,7 +313,7 @@ caused-of follow files rose trace file old new s wanted d (inl (inr h)) =
     record {
       only = λ is. told-cause files rose trace file h.plan.status wanted d h.tells
           (comes.only is);
-      always = λ c. always-by s h.plan.status wanted (Rose old.count new.count)
+      always = λ c. text-always s h.plan.status wanted (Rose old.count new.count)
           (follow.statuses old new h.plan s h.ends) comes
           (cause-told files rose trace file h.plan.status wanted h.tells c);
     }

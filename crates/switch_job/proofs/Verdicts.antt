@@ -1,10 +1,7 @@
 -- What a verdict on a trace tells.
 use Rattle.std.specs.Prelude.{◌≡◌, ◌↔◌, refl, ℕ, Option, Some, None, List, length}
-use Rattle.std.proofs.Common.{◌∙◌, ap, subst, sym}
+use Rattle.std.proofs.Common.{◌∙◌, ap, sym}
 use Rattle.cam_switch.specs.declared.switch.Switch.{Switch}
-use Rattle.job_ends.specs.Ends.{EndsBy}
-use Rattle.job_ends.specs.Plans.{Plan}
-use Rattle.job_ends.specs.declared.status.Status.{Status}
 use Rattle.trace_check.specs.Legal.{IsLegalTrace}
 use Rattle.trace_check.specs.Progress.{difference_in}
 use Rattle.trace_check.specs.Verdicts.{verdict_by, verdict_of}
@@ -12,7 +9,6 @@ use Rattle.trace_check.specs.declared.difference.Difference.{Difference}
 use Rattle.trace_check.specs.declared.verdict.Verdict.{Verdict}
 use Rattle.trace_check.specs.declared.verdict.Verdict.TheVariants as verdict
 use Rattle.trace_text.specs.TraceState.{TraceState, entries_of}
-use Rattle.trace_text.specs.writing.Writes.{Output}
 use Rattle.switch_job.specs.Given.{TellsLegal}
 use Rattle.switch_job.specs.Plans.{plan_of_switches, switched_plan}
 
@@ -65,8 +61,3 @@ unfolding verdict_of
 plan-of-illegal t ss place x y e =
     ap (switched_plan t ss)
     (sym (illegal-by (length (entries_of t)) place x y (difference_in t) e))
-
--- the same plan
-pub same-plan : (old new : Output) (p q : Plan) (s : Status) → p ≡ q → EndsBy old new p s →
-    EndsBy old new q s
-same-plan old new p q s e w = let P : Plan → Type 0 = λ x. EndsBy old new x s in subst P e w

@@ -1,6 +1,7 @@
 -- Why the job ends with a status that its two files decide. This project's profile.
-use Rattle.std.specs.Prelude.{◌≡◌, ℕ, nat_lt, if◌then◌else◌, Bool, true, false, Option, Some, None, Result, Ok, Err, List, length}
+use Rattle.std.specs.Prelude.{◌≡◌, ℕ, Bool, true, false, Some, Result, Ok, Err, List}
 use Rattle.cam_switch.specs.declared.switch.Switch.{Switch}
+use Rattle.job_ends.specs.Readings.{reading_in, text_in}
 use Rattle.job_ends.specs.declared.status.Status.{Status}
 use Rattle.job_ends.specs.declared.status.Status.TheVariants as status
 use Rattle.line_text.specs.Reading.{◌>>=◌}
@@ -13,18 +14,6 @@ use Rattle.trace_check.specs.declared.difference.Difference.{Difference}
 use Rattle.trace_text.specs.reading.Reading.{trace_of}
 use Rattle.trace_text.specs.TraceState.{TraceState}
 use Rattle.switch_job.specs.Given.{most_of_switches, most_of_trace}
-
--- the text of a word's file, of at most so many bytes; or what is told where it isn't there or is
--- too long
-abbrev pub text_in : ℕ → ℕ → Option (List ℕ) → Result (List ℕ) Status
-text_in most word None = Err (status.ReadFault word)
-text_in most word (Some text) =
-    if nat_lt most (length text) then Err (status.TooLong word) else Ok text
-
--- what the text of a word's file is read as, or where and by which rule it is refused
-abbrev pub reading_in : {A : Type 0} → ℕ → Result A TextRefused → Result A Status
-reading_in word (Ok x) = Ok x
-reading_in word (Err r) = Err (status.TextRefused word r.place r.rule)
 
 -- the trace that the file of word 1 is
 abbrev pub trace_in : FileMap → List ℕ → Result TraceState Status
@@ -70,12 +59,6 @@ SwitchCause files trace file (status.TooLong word) =
 SwitchCause files trace file (status.TextRefused word place rule) =
     both_in files trace file ≡ Err (status.TextRefused word place rule)
 SwitchCause files trace file _ = ⊥
-
--- the statuses that tell of a file's text
-abbrev pub is_of_text : Status → Bool
-is_of_text (status.TooLong word) = true
-is_of_text (status.TextRefused word place rule) = true
-is_of_text _ = false
 
 -- the statuses that tell of a trace and its switches
 abbrev pub is_of_both : Status → Bool

@@ -1,5 +1,6 @@
 //! The texts of digital cam switches: the switches of a file, read, and the lines of their edges in
-//! a trace, written.
+//! a trace, written. It stands on `cam_switch`, on `line_text` and `machine_words` for lines and
+//! words, and on `trace_text` for the trace. Begin at [`read_switches`] and [`write_edges`].
 #![tactic(auto)]
 
 mod lines;

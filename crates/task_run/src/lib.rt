@@ -1,5 +1,6 @@
 //! Runs the program of one task: which call comes next, and when it has ended; and by a caller, to
-//! its end.
+//! its end. It stands on `plc_program`, and on no kernel: whoever answers calls is a [`Caller`].
+//! Begin at [`TaskRun`] and [`run_task`].
 #![tactic(auto)]
 
 mod caller;

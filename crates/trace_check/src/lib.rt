@@ -1,4 +1,6 @@
-//! Replays a trace on the kernel and judges it: legal, or the first record that differs.
+//! Replays a trace on the kernel and judges it: legal, or the first record that differs. It stands
+//! on `trace_text`, which reads, and on `motion_kernel`, which makes each entry anew; records are
+//! compared only where an entry differs. Begin at [`check`] and [`Verdict`].
 #![tactic(auto)]
 
 mod difference;

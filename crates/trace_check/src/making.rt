@@ -32,13 +32,11 @@ pub fn has_room(kernel: &Kernel, entry: &EntryLook<'_>) -> bool
     requires { kernel.now.stopped ≡ false }
     ensures { result ≡ spec.has_room kernel.now.config kernel.now.history (told entry.now) }
 {
-    if kernel.room_left() == 0 {
-        return false;
-    }
-    match entry {
+    let is_in_time = match entry {
         EntryLook::Cycle { .. } => kernel.cycles_left() != 0,
         _ => true,
-    }
+    };
+    kernel.room_left() != 0 && is_in_time
 }
 
 // The answers that the rows of a cycle show.
@@ -63,11 +61,10 @@ fn make_cycle(kernel: &mut Kernel, rows: &[AxisRow])
     } }
 {
     let mut answers = [NO_ANSWER; MOST_AXES];
-    let answers = &mut answers[..kernel.config().axes().len()];
+    let answers = &mut answers[..rows.len()];
     let mut outs = [NO_OUTPUT; MOST_AXES];
-    let outs = &mut outs[..answers.len()];
     take_answers(rows, answers);
-    kernel.cycle(answers, outs);
+    kernel.cycle(answers, &mut outs[..rows.len()]);
 }
 
 /// Makes the event of an entry, for which there is room.

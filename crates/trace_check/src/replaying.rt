@@ -3,8 +3,6 @@
 ghost use Rattle.std.specs.Prelude.{◌≡◌, ◌+◌, ◌≤◌, [], IfOk, false, length};
 ghost use Rattle.trace_text.specs.Trace.{machine_records};
 ghost use Rattle.trace_text.specs.declared.command.Command.{Command};
-ghost use Rattle.motion_history.specs.Entries.{cycles_of};
-ghost use Rattle.motion_kernel.specs.Histories.{IsLegal};
 ghost use Rattle.motion_history.specs.declared.refused.TraceVersion.{TraceVersion};
 ghost use Rattle.trace_text.specs.TraceKept.{IsTraceKept};
 ghost use Rattle.trace_check.specs.Progress.{EntriesReplay, Judges};
@@ -57,15 +55,6 @@ fn replay_entries(alloc: Global, trace: &Trace, kernel: &mut Kernel) -> Result<u
     Ok(place)
 }
 
-// How many cycles were made.
-fn cycles_made(kernel: &Kernel) -> u32
-    ensures cycles { result ≡ cycles_of kernel.now.history }
-    ensures legal { IsLegal kernel.now.config kernel.now.history }
-{
-    let _ = kernel.history();
-    kernel.config().cycles() - kernel.cycles_left()
-}
-
 // Replays a trace up to the first record that differs.
 fn kernel_of(alloc: Global, trace: &Trace) -> Result<Kernel, Stop>
     ensures { Judges trace.now result }
@@ -82,7 +71,8 @@ fn kernel_of(alloc: Global, trace: &Trace) -> Result<Kernel, Stop>
         Ok(place) => place,
         Err(stop) => return Err(stop),
     };
-    match check_drives(alloc, trace, cycles_made(&kernel), place) {
+    let _ = kernel.history();
+    match check_drives(alloc, trace, kernel.cycles_made(), place) {
         Ok(()) => Ok(kernel),
         Err(stop) => Err(stop),
     }

@@ -1,5 +1,7 @@
 //! The columns of a trace: how the values of its fields are spelled, and which value a field
-//! spells.
+//! spells. It stands on `line_text` for numbers and on the types of axes, groups and blocks. Begin
+//! at `fields` for writing, and `number`, `word` and `state` for reading; that one undoes the other
+//! is [`columns_are_read_back`].
 #![tactic(auto)]
 
 mod fields;

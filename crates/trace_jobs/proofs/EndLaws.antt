@@ -103,11 +103,6 @@ judges-legal t v entries s is e legal again n =
     let fair : IsLegalTrace t = legal.0 (is ∙ ap verdict.Legal count) in
     judges-fair t s fair again n
 
--- the same plan
-pub same-plan : (old new : Output) (p q : Plan) (s : Status) → p ≡ q → EndsBy old new p s →
-    EndsBy old new q s
-same-plan old new p q s e w = let P : Plan → Type 0 = λ x. EndsBy old new x s in subst P e w
-
 -- a text that is refused ends by its reading's plan
 pub refused-ends : (old new : Output) (plan : TraceState → Plan) (name : List ℕ)
     (reading : Result TraceState TextRefused) (r : TextRefused) (s : Status) → reading ≡ Err r →

@@ -59,3 +59,21 @@ fn the_history_is_the_same_wherever_it_is_switched(rt: HostRuntime) -> Result<()
     }
     Ok(())
 }
+
+#[test]
+fn a_standby_follows_up_to_the_switch_and_no_longer(rt: HostRuntime) -> Result<(), Fail> {
+    let config = machine(rt.alloc(), 40, 20)?;
+    let mut primary = PrimaryKernel::open(rt.alloc(), config, Some(3))?;
+    for place in 0..3 {
+        assert!(rt; primary.follower.is_some());
+        make(&rt, &mut primary, &event(place));
+    }
+    assert!(rt; primary.follower.is_none());
+    let config = machine(rt.alloc(), 40, 20)?;
+    assert!(rt;
+        PrimaryKernel::open(rt.alloc(), config, None)?
+            .follower
+            .is_none()
+    );
+    Ok(())
+}

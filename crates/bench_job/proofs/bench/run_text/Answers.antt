@@ -3,7 +3,8 @@ use Rattle.std.proofs.Common.{ap, refl, sym}
 use Rattle.job_ends.specs.Plans.{Plan, plan_of_reading}
 use Rattle.job_ends.specs.declared.status.Status.TheVariants as status
 use Rattle.bench_job.specs.Plans.{plan_of_bench}
-use Rattle.bench_job.proofs.EndLaws.{ended, refused-ends, refused-why, runs-none, runs-other, runs-read, same-plan}
+use Rattle.job_ends.proofs.Statuses.{same-plan}
+use Rattle.bench_job.proofs.EndLaws.{ended, refused-ends, refused-why, runs-none, runs-other, runs-read}
 use Rattle.bench_job.proofs.bench.run_text.Goals as goal
 
 pub returns-in-Ok : goal.returns-in-Ok

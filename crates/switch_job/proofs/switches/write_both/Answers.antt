@@ -1,6 +1,7 @@
 -- The trace was judged, or there was no memory for it.
 use Rattle.std.proofs.Common.{◌∙◌, sym}
-use Rattle.switch_job.proofs.Verdicts.{plan-of-illegal, plan-of-legal, same-plan, tells-legal}
+use Rattle.job_ends.proofs.Statuses.{same-plan}
+use Rattle.switch_job.proofs.Verdicts.{plan-of-illegal, plan-of-legal, tells-legal}
 use Rattle.switch_job.proofs.switches.write_both.Goals as goal
 
 pub returns-in-Ok-Legal-clause-ends : goal.returns-in-Ok-Legal-clause-ends

@@ -8,7 +8,7 @@ returns-in-Err c = illegal-entry c.args.trace.now _ c.replay_entries.new.kernel 
 pub returns-in-Ok-check_drives : goal.returns-in-Ok-check_drives
 returns-in-Ok-check_drives c =
     legal-kernel c.args.trace.now c.replay_entries.new.kernel c.in-Ok-replay_entries.place c.cycles_made.result c.in-Ok-replay_entries.ensures
-    c.cycles_made.ensures.cycles c.in-Ok-check_drives.ensures.taken c.cycles_made.ensures.legal
+    c.cycles_made.ensures.cycles c.in-Ok-check_drives.ensures.taken c.history.ensures.legal
 
 pub returns-in-Err-check_drives : goal.returns-in-Err-check_drives
 returns-in-Err-check_drives c =

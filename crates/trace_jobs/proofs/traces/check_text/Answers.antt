@@ -2,7 +2,8 @@
 use Rattle.std.proofs.Common.{ap, refl, sym}
 use Rattle.job_ends.specs.Plans.{plan_of_reading}
 use Rattle.trace_jobs.specs.Plans.{plan_of_check}
-use Rattle.trace_jobs.proofs.EndLaws.{check-ended, judges-none, judges-other, judges-read, refused-ends, refused-why, same-plan}
+use Rattle.job_ends.proofs.Statuses.{same-plan}
+use Rattle.trace_jobs.proofs.EndLaws.{check-ended, judges-none, judges-other, judges-read, refused-ends, refused-why}
 use Rattle.trace_jobs.proofs.traces.check_text.Goals as goal
 
 pub returns-in-Ok : goal.returns-in-Ok

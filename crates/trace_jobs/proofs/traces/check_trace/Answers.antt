@@ -2,7 +2,8 @@
 use Rattle.std.specs.Prelude.{None}
 use Rattle.std.proofs.Common.{◌∙◌, ap, refl, sym}
 use Rattle.trace_jobs.specs.Plans.{judged_plan}
-use Rattle.trace_jobs.proofs.EndLaws.{checked, illegal-of, judges-legal, legal-of, same-plan}
+use Rattle.job_ends.proofs.Statuses.{same-plan}
+use Rattle.trace_jobs.proofs.EndLaws.{checked, illegal-of, judges-legal, legal-of}
 use Rattle.trace_jobs.proofs.traces.check_trace.Goals as goal
 
 pub returns-in-Ok-Legal : goal.returns-in-Ok-Legal

@@ -2,7 +2,8 @@
 use Rattle.std.proofs.Common.{ap, refl, sym}
 use Rattle.job_ends.specs.Plans.{plan_of_reading}
 use Rattle.trace_jobs.specs.Plans.{plan_of_migrate}
-use Rattle.trace_jobs.proofs.EndLaws.{judges-none, judges-other, judges-read, migrate-ended, refused-ends, refused-why, same-plan}
+use Rattle.job_ends.proofs.Statuses.{same-plan}
+use Rattle.trace_jobs.proofs.EndLaws.{judges-none, judges-other, judges-read, migrate-ended, refused-ends, refused-why}
 use Rattle.trace_jobs.proofs.traces.migrate_text.Goals as goal
 
 pub returns-in-Ok : goal.returns-in-Ok
