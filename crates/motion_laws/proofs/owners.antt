@@ -2,4 +2,5 @@
 pub mod Counts
 pub mod commands
 pub mod active
-pub mod holders
+pub mod Holders
+pub mod Shown

@@ -29,9 +29,7 @@ use Rattle.motion_laws.specs.entries.Replies.{AreOfBlocks}
 use Rattle.motion_laws.specs.results.Results.{AreNoCalls, KeepsResults, ResultsAreTold, Tells, TellsNext, end_in, is_call_of, is_rising, takes_away}
 use Rattle.motion_laws.proofs.owners.active.Cycles.{found_in}
 use Rattle.motion_laws.proofs.arrivals.Moves.{behind}
-use Rattle.motion_laws.proofs.owners.holders.Calls.{call_all_shown}
-use Rattle.motion_laws.proofs.owners.holders.Cycles.{cycle_all_shown}
-use Rattle.motion_laws.proofs.owners.holders.Histories.{legal_all_shown}
+use Rattle.motion_laws.proofs.owners.Shown.{call_all_shown, cycle_all_shown, legal_all_shown}
 use Rattle.motion_kernel.proofs.kept.Machine.{kept_by_cycle}
 use Rattle.motion_laws.proofs.owners.commands.Events.{IsGood, block_there, shown_where, there_where}
 use Rattle.motion_laws.proofs.owners.commands.Asked.{set_at}

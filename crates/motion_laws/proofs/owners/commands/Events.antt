@@ -13,6 +13,7 @@ use Rattle.axis_core.specs.Refusals.{Asked}
 use Rattle.axis_core.specs.declared.look.AxisLook.{AxisLook}
 use Rattle.buffer_modes.specs.Owners.{is_owner, told}
 use Rattle.command_pool.specs.declared.notes.Note.{Note}
+use Rattle.command_core.specs.Laws.{AreToldOnce, HaveCommands}
 use Rattle.command_pool.specs.declared.wanted.Wanted.{Wanted}
 use Rattle.fb_outputs.specs.InstanceState.{InstanceState}
 use Rattle.fb_outputs.specs.Steps.{is_power}
@@ -39,6 +40,7 @@ use Rattle.motion_kernel.proofs.kept.Machine.{MachinesStayKept}
 use Rattle.motion_laws.specs.owners.Commands.{CommandsAreShown, commands_at, commands_shown}
 use Rattle.motion_laws.specs.owners.Objects.{IsThere, Object, has_commands_on, is_same, object_of, a_group, an_axis}
 use Rattle.motion_laws.proofs.owners.Counts.{shown_by, told_shows_none, untold_stays}
+use Rattle.motion_laws.proofs.walk.Keeps.{WalkLaws}
 
 -- axis_core's ends_are_told_once
 pub record AxesTellOnce : Type 0 where
@@ -80,6 +82,9 @@ pub record OwnerLaws : Type 0 where
   pub may_call : (s : Setup) (k : ℕ) (b : BlockDef) (i : Inputs) (m : Machine) → AreWhole s →
       slice_get s.blocks k ≡ Some b → IsCall s k i →
       IsMachineKept s m → MayCall s k b i (with_execute k i m)
+  pub walk : WalkLaws
+  pub once : AreToldOnce
+  pub hold : HaveCommands
   pub axes : AxesTellOnce
   pub groups : GroupsTellOnce
 
