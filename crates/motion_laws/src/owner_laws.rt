@@ -14,7 +14,7 @@ ghost use Rattle.motion_kernel.specs.kept.Machine.{AreWhole, IsMachineKept};
 ghost use Rattle.motion_laws.specs.owners.Shown.{AreWhereShown};
 
 use command_changes::{axis_changes_are_made, group_changes_are_made};
-use command_core::holders_have_commands;
+use command_core::{commands_come_from_calls, ends_are_told_once, holders_have_commands};
 use motion_kernel::machines_stay_kept;
 
 /// Each instance shows Active exactly while its command is the active one of the axis or group on
@@ -34,8 +34,7 @@ pub fn commands_are_where_their_instances_show()
     machines_stay_kept();
     axis_changes_are_made();
     group_changes_are_made();
-    command_core::ends_are_told_once();
+    ends_are_told_once();
+    commands_come_from_calls();
     holders_have_commands();
-    axis_core::ends_are_told_once();
-    group_core::ends_are_told_once();
 }

@@ -8,7 +8,7 @@ ghost use Rattle.motion_kernel.specs.kept.Machine.{AreWhole};
 ghost use Rattle.motion_laws.specs.results.Results.{ResultsAreTold};
 
 use command_changes::{axis_changes_are_made, group_changes_are_made};
-use command_core::holders_have_commands;
+use command_core::{commands_come_from_calls, holders_have_commands};
 use motion_kernel::machines_stay_kept;
 
 /// In every legal history the end of a command is told to its instance, and to no other. Wherever
@@ -25,6 +25,7 @@ pub fn results_are_told()
     axis_changes_are_made();
     group_changes_are_made();
     command_core::ends_are_told_once();
+    commands_come_from_calls();
     holders_have_commands();
     axis_core::ends_are_told_once();
     group_core::ends_are_told_once();

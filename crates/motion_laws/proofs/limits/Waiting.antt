@@ -30,7 +30,7 @@ FewWait m = (o : Object) → IsThere m o → length (charge_at m o).waiting ≤ 
 alike_few : (m x : Machine) → Alike m x → FewWait m → FewWait x
 alike_few m x a h p l =
     let was = a.as_many p l in
-    subst (λ (c : Charge). length c.waiting ≤ 8) (sym (a.same p was)) (h p was)
+    subst (λ (c : Charge). length c.waiting ≤ 8) (sym (a.same p)) (h p was)
 
 event_few : (m x : Machine) (o : Object) (xs : List Change) → Event m x o xs →
     (length (charge_at m o).waiting ≤ 8 → length (charge_at x o).waiting ≤ 8) → FewWait m → FewWait x

@@ -25,6 +25,7 @@ use Rattle.motion_laws.specs.owners.Commands.{CommandsAreShown}
 use Rattle.motion_laws.specs.owners.Holders.{HoldersHaveBlocks}
 use Rattle.motion_laws.specs.owners.Objects.{a_group, an_axis, IsThere, Object, has_commands_on, is_same}
 use Rattle.motion_laws.proofs.owners.Counts.{shown_by}
+use Rattle.motion_laws.proofs.owners.Events.{untold}
 use Rattle.motion_laws.proofs.owners.commands.Events.{same_object, shown_where}
 use Rattle.motion_laws.proofs.walk.Calls.{by_call}
 use Rattle.motion_laws.proofs.walk.Cycles.{by_cycle}
@@ -42,15 +43,10 @@ HasBlock s k o c = Has k c (has_commands_on (slice_get s.blocks k) o ≡ true)
 abbrev pub HaveBlocks : Setup → Machine → Type 0
 HaveBlocks s m = (o : Object) → IsThere m o → (k : ℕ) → HasBlock s k o (charge_at m o)
 
--- nothing is told yet
-untold : (m : Machine) (o : Object) → (charge_at m o).notes ≡ []
-untold m (an_axis n) = refl
-untold m (a_group j) = refl
-
 alike_has : (s : Setup) (m x : Machine) → Alike m x → HaveBlocks s m → HaveBlocks s x
 alike_has s m x a h p there k =
     let was = a.as_many p there in
-    subst (HasBlock s k p) (sym (a.same p was)) (h p was k)
+    subst (HasBlock s k p) (sym (a.same p)) (h p was k)
 
 hold_without : (k j : ℕ) (o : Option ℕ) → without k o ≡ Some j → o ≡ Some j
 hold_without k j None e = e

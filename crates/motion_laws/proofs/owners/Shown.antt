@@ -14,8 +14,8 @@ use Rattle.motion_kernel.specs.kept.Machine.{AreWhole, IsMachineKept}
 use Rattle.motion_kernel.proofs.kept.Machine.{kept_by_cycle}
 use Rattle.motion_laws.specs.owners.Shown.{AreWhereShown}
 use Rattle.motion_laws.proofs.owners.Holders.{call_holders, cycle_holders, opening_holders}
-use Rattle.motion_laws.proofs.owners.active.Calls.{call_truly_shown}
-use Rattle.motion_laws.proofs.owners.active.Cycles.{cycle_truly_shown, opening_truly_shown}
+use Rattle.motion_laws.proofs.owners.Kept.{call_truly_shown, cycle_truly_shown}
+use Rattle.motion_laws.proofs.owners.active.Cycles.{opening_truly_shown}
 use Rattle.motion_laws.proofs.owners.commands.Events.{OwnerLaws}
 
 pub opening_all_shown : (s : Setup) → AreWhereShown s (machine_at_opening s)
@@ -51,12 +51,12 @@ module _ (laws : OwnerLaws) where
   replay_all_shown s cycles m [] whole kept h f = h
   replay_all_shown s cycles m (call k i reply ∷ es) whole kept h f =
       replay_all_shown s (cycles + cycle_count (call k i reply)) (after_call s m k i) es whole
-      (laws.machines.call s m k i whole f.0.0 kept)
+      (laws.walk.machines.call s m k i whole f.0.0 kept)
       (call_all_shown s m k i whole f.0.0 kept h) f.1
   replay_all_shown s cycles m (cycle c rows grows ∷ es) whole kept h f =
       replay_all_shown s (cycles + cycle_count (cycle c rows grows))
       (after_cycle s m (inputs_of rows)) es whole
-      (kept_by_cycle laws.machines s m rows grows kept f.0.1)
+      (kept_by_cycle laws.walk.machines s m rows grows kept f.0.1)
       (cycle_all_shown s m (inputs_of rows) kept h) f.1
   replay_all_shown s cycles m (end_of task ∷ es) whole kept h f =
       replay_all_shown s (cycles + cycle_count (end_of task)) m es whole kept h f.1
@@ -65,5 +65,5 @@ module _ (laws : OwnerLaws) where
       IsLegal s es → AreWhereShown s (machine_after s es)
   unfolding machine_after
   legal_all_shown s es setup whole legal =
-      replay_all_shown s 0 (machine_at_opening s) es whole (laws.machines.opened s setup whole)
+      replay_all_shown s 0 (machine_at_opening s) es whole (laws.walk.machines.opened s setup whole)
       (opening_all_shown s) legal.follows

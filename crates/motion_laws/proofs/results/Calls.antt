@@ -27,9 +27,9 @@ use Rattle.motion_laws.specs.arrivals.AxisFates as axis_entry
 use Rattle.motion_laws.specs.arrivals.GroupFates as group_entry
 use Rattle.motion_laws.specs.owners.Objects.{a_group, an_axis, has_commands_on}
 use Rattle.motion_laws.specs.owners.Commands.{active_at, commands_shown}
-use Rattle.motion_laws.proofs.owners.active.Freed.{active_left}
+use Rattle.motion_laws.proofs.owners.Events.{active_left, asks}
 use Rattle.motion_laws.proofs.owners.commands.Events.{IsGood, OwnerLaws}
-use Rattle.motion_laws.proofs.owners.commands.Freed.{asks, instances_without}
+use Rattle.motion_laws.proofs.owners.commands.Freed.{instances_without}
 use Rattle.motion_laws.proofs.owners.commands.Calls.{power_execute}
 use Rattle.motion_laws.proofs.results.Steps.{TellLaws}
 use Rattle.motion_laws.proofs.results.Events.{HasEnded, progress_in}
@@ -101,7 +101,7 @@ rising_tells laws s j k b i m n f d within l there h owns ends =
     let here = ends_where (nat_eq b.object n) fate f on_axis.1 in
     let is : b.object ≡ n = eqb-true b.object n here.0 in
     let left : active_at free j (an_axis n) ≡ 1 =
-    active_left j k (with_execute k i m) (an_axis n) d l ∙ owns in
+    active_left laws.owners k j v m (an_axis n) d l ∙ owns in
     subst (λ x. HasEnded f j (if x then after_group_command s k b.object b.kind i free
     else after_axis_command s k b.object b.kind i free)) (sym on_axis.0)
     (subst (λ x. HasEnded f j (after_axis_command s k x b.kind i free)) (sym is)
@@ -129,7 +129,7 @@ rising_tells_group laws s j k b i m g f d within l there h owns ends =
     let here = ends_where (nat_eq b.object g) fate f on_group.1 in
     let is : b.object ≡ g = eqb-true b.object g here.0 in
     let left : active_at free j (a_group g) ≡ 1 =
-    active_left j k (with_execute k i m) (a_group g) d l ∙ owns in
+    active_left laws.owners k j v m (a_group g) d l ∙ owns in
     subst (λ x. HasEnded f j (if x then after_group_command s k b.object b.kind i free
     else after_axis_command s k b.object b.kind i free)) (sym on_group.0)
     (subst (λ x. HasEnded f j (after_group_command s k x b.kind i free)) (sym is)
@@ -267,7 +267,7 @@ where_tells_group laws s (Some b) j k i m g f at may d l there on h owns ends =
 made_by : OwnerLaws → (s : Setup) (m : Machine) (k : ℕ) (i : Inputs) → AreWhole s → IsCall s k i →
     IsMachineKept s m → MayBeMade s m k i
 made_by laws s m k i whole call kept b at =
-    let may = laws.may_call s k b i m whole at call kept in may.object
+    let may = laws.walk.may_call s k b i m whole at call kept in may.object
 
 pub call_spares : OwnerLaws → (s : Setup) (m : Machine) (j k : ℕ) (i : Inputs) → AreWhole s →
     IsCall s k i → IsMachineKept s m → IsGood s m → nat_eq k j ≡ false →

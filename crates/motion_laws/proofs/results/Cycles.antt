@@ -23,7 +23,8 @@ use Rattle.motion_kernel.proofs.kept.GroupSteps.{have_stepped}
 use Rattle.motion_laws.specs.owners.Commands.{CommandsAreShown, commands_shown}
 use Rattle.motion_laws.specs.owners.Objects.{a_group, an_axis, has_commands_on}
 use Rattle.motion_laws.proofs.owners.commands.Events.{IsGood, OwnerLaws}
-use Rattle.motion_laws.proofs.owners.commands.Cycles.{axes_good, axis_active_shown, group_active_shown, resets_good, steps_good}
+use Rattle.motion_laws.proofs.owners.Kept.{axes_good, resets_good, steps_good}
+use Rattle.motion_laws.proofs.owners.commands.Cycles.{axis_active_shown, group_active_shown}
 use Rattle.motion_laws.proofs.results.Events.{HasEnded, ended_spared, none_spared, progress_in}
 use Rattle.motion_laws.proofs.results.Steps.{TellLaws, steps_spare, axes_spare, resets_spare, steps_tell, axes_tell}
 

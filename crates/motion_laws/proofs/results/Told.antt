@@ -53,12 +53,12 @@ good_of s m h = record { sized = h.kept.sized; shown = h.shown.commands }
 runs_on : TellLaws → (s : Setup) (cycles : ℕ) (m : Machine) (e : Entry) → AreWhole s →
     IsRunning s m → IsOf s cycles m e → IsRunning s (after s m e)
 runs_on laws s cycles m (call k i reply) whole h is = record {
-  kept = laws.owners.machines.call s m k i whole is.0 h.kept;
+  kept = laws.owners.walk.machines.call s m k i whole is.0 h.kept;
   shown = call_all_shown laws.owners s m k i whole is.0 h.kept h.shown;
   blocks = call_of_blocks s m k i h.blocks;
 }
 runs_on laws s cycles m (cycle c rows grows) whole h is = record {
-  kept = kept_by_cycle laws.owners.machines s m rows grows h.kept is.1;
+  kept = kept_by_cycle laws.owners.walk.machines s m rows grows h.kept is.1;
   shown = cycle_all_shown laws.owners s m (inputs_of rows) h.kept h.shown;
   blocks = cycle_of_blocks s m (inputs_of rows) h.blocks;
 }
@@ -309,7 +309,7 @@ results_told laws s es setup whole legal made more e k is =
     let so_far = legal_so_far s made (e ∷ more) all in
     results_kept laws s (0 + cycles_of made) (machine_after s made) e more k whole
     (record {
-      kept = legal_kept laws.owners.machines s made setup whole so_far;
+      kept = legal_kept laws.owners.walk.machines s made setup whole so_far;
       shown = legal_all_shown laws.owners s made setup whole so_far;
       blocks = replay_of_blocks s (machine_at_opening s) made (opening_of_blocks s);
     }) (behind s 0 (machine_at_opening s) made (e ∷ more) all.follows)

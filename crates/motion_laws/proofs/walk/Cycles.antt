@@ -21,12 +21,12 @@ use Rattle.motion_laws.proofs.walk.Events.{axis_event, group_event}
 use Rattle.motion_laws.proofs.walk.Keeps.{Keeps, WalkLaws}
 
 -- what is kept, and the sizes
-record Good (s : Setup) (Q : Machine → Type 0) (m : Machine) : Type 0 where
-  sized : IsSized s m
-  keeps : Q m
+pub record Good (s : Setup) (Q : Machine → Type 0) (m : Machine) : Type 0 where
+  pub sized : IsSized s m
+  pub keeps : Q m
 
 module _ (laws : WalkLaws) (s : Setup) (P Q : Machine → Type 0) (keeps : Keeps s P Q) where
-  by_steps : (n : ℕ) (ins : List DriveIn) (m : Machine) → n ≤ length s.groups → Good s Q m → Good s Q (groups_stepped s n ins m).machine
+  pub by_steps : (n : ℕ) (ins : List DriveIn) (m : Machine) → n ≤ length s.groups → Good s Q m → Good s Q (groups_stepped s n ins m).machine
   unfolding groups_stepped
   by_steps zero ins m l g = g
   by_steps (suc n) ins m l g =
@@ -43,7 +43,7 @@ module _ (laws : WalkLaws) (s : Setup) (P Q : Machine → Type 0) (keeps : Keeps
             (group_event s n x d (group.cycle_changes look c) so_far.sized (omega arith) (laws.group.cycle look c)) (laws.group.cycle_brings look c) so_far.keeps;
       }
 
-  by_axes : (n : ℕ) (around : Surroundings) (m : Machine) → n ≤ length s.axes → Good s Q m → Good s Q (axes_cycled s n around m).machine
+  pub by_axes : (n : ℕ) (around : Surroundings) (m : Machine) → n ≤ length s.axes → Good s Q m → Good s Q (axes_cycled s n around m).machine
   unfolding axes_cycled
   by_axes zero around m l g = g
   by_axes (suc n) around m l g =
@@ -60,7 +60,7 @@ module _ (laws : WalkLaws) (s : Setup) (P Q : Machine → Type 0) (keeps : Keeps
             (axis_event s n x d (axis.cycle_changes look c) so_far.sized (omega arith) (laws.axis.cycle look c)) (laws.axis.cycle_brings look c) so_far.keeps;
       }
 
-  by_resets : (n : ℕ) (m : Machine) → n ≤ length s.groups → Good s Q m → Good s Q (groups_reset s n m).machine
+  pub by_resets : (n : ℕ) (m : Machine) → n ≤ length s.groups → Good s Q m → Good s Q (groups_reset s n m).machine
   unfolding groups_reset
   by_resets zero m l g = g
   by_resets (suc n) m l g =

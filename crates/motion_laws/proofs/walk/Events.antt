@@ -76,7 +76,7 @@ there_still m is (an_axis n) l = l
 there_still m is (a_group j) l = l
 
 pub instances_alike : (m : Machine) (is : List InstanceState) → Alike m (record m { instances = is })
-instances_alike m is = record { as_many = there_same m is; there = there_still m is; same = λ p l. charge_same m is p }
+instances_alike m is = record { as_many = there_same m is; there = there_still m is; same = charge_same m is }
 
 -- so where a call takes Execute, a reply is shown and a cycle's end is told
 pub executed_alike : (k : ℕ) (i : Inputs) (m : Machine) → Alike m (with_execute k i m)
@@ -93,7 +93,7 @@ pub then_alike : (m x y : Machine) → Alike m x → Alike x y → Alike m y
 then_alike m x y a b = record {
   as_many = λ p l. a.as_many p (b.as_many p l);
   there = λ p l. b.there p (a.there p l);
-  same = λ p l. b.same p (a.there p l) ∙ a.same p l;
+  same = λ p. b.same p ∙ a.same p;
 }
 
 pub freed_there : (k : ℕ) (i : InstanceState) (m : Machine) (p : Object) → IsThere (freed k i m) p → IsThere m p
@@ -127,7 +127,7 @@ module _ (laws : WalkLaws) where
   one_same on (a ∷ more) (suc i) (suc n) ws = one_same on more i n ws
 
   one_alike : (on : Bool) (n : ℕ) (m : Machine) → Alike m (one_led on n m)
-  one_alike on n m = record { as_many = as_many; there = there; same = λ p l. same p }
+  one_alike on n m = record { as_many = as_many; there = there; same = same }
     where
       size : length (slice_set m.axes n (axis_led on (axis_at m n))) ≡ length m.axes
       size = length-set m.axes n (axis_led on (axis_at m n))
@@ -146,7 +146,7 @@ module _ (laws : WalkLaws) where
           ap (λ count. group.charge_of (groups.core_in (group_at m j).group (group_at m j).path m.queues (count + j) [])) size
 
   led_alike : (on : Bool) (ns : List ℕ) (m : Machine) → Alike m (axes_led on ns m)
-  led_alike on [] m = record { as_many = λ p l. l; there = λ p l. l; same = λ p l. refl }
+  led_alike on [] m = record { as_many = λ p l. l; there = λ p l. l; same = λ p. refl }
   led_alike on (n ∷ ns) m = then_alike m (one_led on n m) (axes_led on ns (one_led on n m)) (one_alike on n m) (led_alike on ns (one_led on n m))
 
   pub members_alike : (s : Setup) (j : ℕ) (x : BlockKind) (answer : Result Bool Refusal) (m : Machine) → Alike m (members_led s j x answer m)

@@ -43,7 +43,7 @@ charge_at m (a_group j) = group.charge_of (group_core_at m j)
 pub record Alike (m x : Machine) : Type 0 where
   pub as_many : (p : Object) → IsThere x p → IsThere m p
   pub there : (p : Object) → IsThere m p → IsThere x p
-  pub same : (p : Object) → IsThere m p → charge_at x p ≡ charge_at m p
+  pub same : (p : Object) → charge_at x p ≡ charge_at m p
 
 -- an event at one object: its commands change so, those of others don't, and the instances are told
 pub record Event (m x : Machine) (o : Object) (xs : List Change) : Type 0 where

@@ -8,12 +8,8 @@ use Rattle.motion_laws.proofs.result_laws.results_are_told.Goals as goal
 owners : (c : goal.After-ends_are_told_once-3) → OwnerLaws
 owners c =
     let m = c.machines_stay_kept.ensures in
-    let a = c.ends_are_told_once-2.ensures in
-    let g = c.ends_are_told_once-3.ensures in
     let machines : MachinesStayKept = record { opened = m.opened; call = m.call; may_go_on = m.may_go_on; cycle = m.cycle } in
     record {
-      machines = machines;
-      may_call = m.may_call;
       walk = record {
         machines = machines;
         may_call = m.may_call;
@@ -21,22 +17,8 @@ owners c =
         group = c.group_changes_are_made.ensures;
       };
       once = c.ends_are_told_once.ensures;
+      more = c.commands_come_from_calls.ensures;
       hold = c.holders_have_commands.ensures;
-      axes = record {
-        command = a.once_command;
-        power = a.once_power;
-        cycle = a.once_cycle;
-        taken_away = a.taken_away;
-        left = a.left;
-      };
-      groups = record {
-        command = g.once_command;
-        power_off = g.once_power_off;
-        cycle = g.once_cycle;
-        reset = g.once_reset;
-        taken_away = g.taken_away;
-        left = g.left;
-      };
     }
 
 laws : (c : goal.After-ends_are_told_once-3) → TellLaws
