@@ -21,7 +21,7 @@ use Rattle.motion_laws.proofs.Histories.{legal_kept}
 use Rattle.motion_laws.proofs.owners.commands.Events.{same_object}
 use Rattle.motion_laws.proofs.walk.Events.{executed_alike, found_alike, freed_at, freed_there, replied_alike}
 use Rattle.motion_laws.proofs.walk.Histories.{by_history}
-use Rattle.motion_laws.proofs.walk.Keeps.{Alike, Asks, Event, FewLaws, Keeps, WalkLaws, charge_at, freed}
+use Rattle.motion_laws.proofs.walk.Keeps.{Alike, Anyone, Asks, Event, FewLaws, Keeps, WalkLaws, charge_at, freed}
 
 -- at most eight commands wait for each axis and each group
 abbrev FewWait : Machine → Type 0
@@ -59,12 +59,12 @@ asked_few laws few s k m z a h =
     omega arith in
     alike_few a.asked z a.alike (event_few (freed k a.called m) a.asked a.object a.changes a.event (a.few few) free)
 
-few_kept : WalkLaws → FewLaws → WaitAtMost → (s : Setup) → Keeps s FewWait FewWait
+few_kept : WalkLaws → FewLaws → WaitAtMost → (s : Setup) → Keeps s Anyone FewWait FewWait
 few_kept laws few law s = record {
-  executed = λ k b i m at quiet h. alike_few m (with_execute k i m) (executed_alike k i m) h;
+  executed = λ k b i m may at quiet h. alike_few m (with_execute k i m) (executed_alike k i m) h;
   powered = λ m x o xs e none call h. none_few law m x o xs e none h;
-  asked = λ k m z a h. asked_few laws few s k m z a h;
-  replied = λ k m h. alike_few m (after_reply k m) (replied_alike k m) h;
+  asked = λ k m z may a h. asked_few laws few s k m z a h;
+  replied = λ k m may h. alike_few m (after_reply k m) (replied_alike k m) h;
   begins = λ m sized h. h;
   cycled = λ m x o xs e none h. none_few law m x o xs e none h;
   found = λ m sized h. alike_few m (with_found s m) (found_alike s m) h;
@@ -106,4 +106,4 @@ pub legal_short : WalkLaws → FewLaws → WaitAtMost → (s : Setup) (es : List
     (list : ℕ) → length (queue_of (replay s (machine_at_opening s) es).queues list) ≤ 8
 legal_short laws few law s es setup whole legal =
     all_short s (replay s (machine_at_opening s) es) (legal_kept laws.machines s es setup whole legal).sized
-    (by_history laws s FewWait FewWait (few_kept laws few law s) (opened_few s) es setup whole legal)
+    (by_history laws s Anyone FewWait FewWait (few_kept laws few law s) (λ k. tt) (opened_few s) es setup whole legal)

@@ -122,17 +122,9 @@ brings_axis : (kind : BlockKind) (i : InstanceState) (k : ℕ) (w : Wanted) (c :
     ≡ is_owner k (owner_brought_by kind w)
 brings_axis kind.GearOut i k w c e a = sym (none_owned k)
 brings_axis kind.CamOut i k w c e a = sym (none_owned k)
-brings_axis kind.Reset i k w c e a = brings_one kind.Reset false i k w.owner e refl
-brings_axis kind.Power i k w c e a = brings_one kind.Power _ i k w.owner e refl
-brings_axis kind.Home i k w c e a = brings_one kind.Home _ i k w.owner e refl
-brings_axis kind.Stop i k w c e a = brings_one kind.Stop _ i k w.owner e refl
-brings_axis kind.Halt i k w c e a = brings_one kind.Halt _ i k w.owner e refl
-brings_axis kind.MoveAbsolute i k w c e a = brings_one kind.MoveAbsolute _ i k w.owner e refl
-brings_axis kind.MoveRelative i k w c e a = brings_one kind.MoveRelative _ i k w.owner e refl
-brings_axis kind.MoveVelocity i k w c e a = brings_one kind.MoveVelocity _ i k w.owner e refl
-brings_axis kind.GearIn i k w c e a = brings_one kind.GearIn _ i k w.owner e refl
-brings_axis kind.CamIn i k w c e a = brings_one kind.CamIn _ i k w.owner e refl
-brings_axis _ i k w c e a = absurd (cc)
+brings_axis kind.GroupEnable i k w c e a = absurd (cc)
+brings_axis kind.GroupDisable i k w c e a = absurd (cc)
+brings_axis x i k w c e a = brings_one x (axis_calls.is_active_by x w c) i k w.owner e refl
 
 pub answer_shows : (o : Option axis_reason.Reason) (i : InstanceState) (k : ℕ) (w : Wanted)
     (c : Core) → w.owner ≡ Some k → acts_on_group w.kind ≡ false →

@@ -14,8 +14,10 @@ use Rattle.command_core.specs.Laws.{AreToldOnce, HaveCommands}
 use Rattle.command_pool.specs.Waiting.{without}
 use Rattle.fb_outputs.specs.declared.inputs.Inputs.{Inputs}
 use Rattle.motion_history.specs.Calls.{IsCall}
-use Rattle.motion_history.specs.Setup.{Setup}
+use Rattle.motion_history.specs.Entries.{Entry}
+use Rattle.motion_history.specs.Setup.{Setup, IsSetup}
 use Rattle.motion_history.specs.declared.config.GroupDef.{GroupDef}
+use Rattle.motion_kernel.specs.Histories.{IsLegal, replay}
 use Rattle.motion_kernel.specs.Machine.{Machine, axis_among, group_among, group_at_opening, machine_at_opening}
 use Rattle.motion_kernel.specs.calls.Calls.{after_call, after_reply, with_execute}
 use Rattle.motion_kernel.specs.cycles.Cycles.{after_cycle}
@@ -30,7 +32,9 @@ use Rattle.motion_laws.proofs.owners.commands.Events.{same_object, shown_where}
 use Rattle.motion_laws.proofs.walk.Calls.{by_call}
 use Rattle.motion_laws.proofs.walk.Cycles.{by_cycle}
 use Rattle.motion_laws.proofs.walk.Events.{executed_alike, found_alike, freed_at, freed_there, replied_alike}
-use Rattle.motion_laws.proofs.walk.Keeps.{Alike, Asks, Event, Keeps, WalkLaws, charge_at, freed}
+use Rattle.motion_laws.proofs.owners.commands.Opening.{opening_shown}
+use Rattle.motion_laws.proofs.walk.Histories.{by_history}
+use Rattle.motion_laws.proofs.walk.Keeps.{Alike, Anyone, Asks, Event, Keeps, WalkLaws, charge_at, freed}
 
 -- who has commands of an axis or a group, or holds it, has this
 pub record Has (k : ℕ) (c : Charge) (there : Type 0) : Type 0 where
@@ -105,12 +109,12 @@ module _ (laws : WalkLaws) (once : AreToldOnce) (hold : HaveCommands) where
       ] in
       alike_has s a.asked z a.alike (event_has s (freed k a.called m) a.asked a.object a.changes a.event brings free)
 
-  blocks_kept : (s : Setup) → Keeps s (HaveBlocks s) (HaveBlocks s)
+  blocks_kept : (s : Setup) → Keeps s Anyone (HaveBlocks s) (HaveBlocks s)
   blocks_kept s = record {
-    executed = λ k b i m at quiet h. alike_has s m (with_execute k i m) (executed_alike k i m) h;
+    executed = λ k b i m may at quiet h. alike_has s m (with_execute k i m) (executed_alike k i m) h;
     powered = λ m x o xs e none call h. none_has s m x o xs e none h;
-    asked = asked_has s;
-    replied = λ k m h. alike_has s m (after_reply k m) (replied_alike k m) h;
+    asked = λ k m z may a h. asked_has s k m z a h;
+    replied = λ k m may h. alike_has s m (after_reply k m) (replied_alike k m) h;
     begins = λ m sized h. h;
     cycled = none_has s;
     found = λ m sized h. alike_has s m (with_found s m) (found_alike s m) h;
@@ -137,12 +141,12 @@ module _ (laws : WalkLaws) (once : AreToldOnce) (hold : HaveCommands) where
   pub call_holders : (s : Setup) (m : Machine) (k : ℕ) (i : Inputs) → AreWhole s → IsCall s k i → IsMachineKept s m →
       CommandsAreShown s m → HoldersHaveBlocks s m → HoldersHaveBlocks s (after_call s m k i)
   call_holders s m k i whole made kept shown h =
-      holders_of s (after_call s m k i) (by_call laws s (HaveBlocks s) (HaveBlocks s) (blocks_kept s) m k i whole made kept (have_blocks s m shown h))
+      holders_of s (after_call s m k i) (by_call laws s Anyone (HaveBlocks s) (HaveBlocks s) (blocks_kept s) k tt m i whole made kept (have_blocks s m shown h))
 
   pub cycle_holders : (s : Setup) (m : Machine) (ins : List DriveIn) → IsMachineKept s m →
       CommandsAreShown s m → HoldersHaveBlocks s m → HoldersHaveBlocks s (after_cycle s m ins)
   cycle_holders s m ins kept shown h =
-      holders_of s (after_cycle s m ins) (by_cycle laws s (HaveBlocks s) (HaveBlocks s) (blocks_kept s) m ins kept (have_blocks s m shown h))
+      holders_of s (after_cycle s m ins) (by_cycle laws s Anyone (HaveBlocks s) (HaveBlocks s) (blocks_kept s) m ins kept (have_blocks s m shown h))
 
 -- at opening nobody holds
 axis_opens_free : (axes : List AxisDef) (n : ℕ) → (axis_among (map axis_at_opening axes) n).hold ≡ None
@@ -159,3 +163,10 @@ group_opens_free (d ∷ ds) (suc j) = group_opens_free ds j
 pub opening_holders : (s : Setup) → HoldersHaveBlocks s (machine_at_opening s)
 opening_holders s (an_axis n) there k e = absurd (let free = axis_opens_free s.axes n in cc)
 opening_holders s (a_group j) there k e = absurd (let free = group_opens_free s.groups j in cc)
+
+pub legal_holders : WalkLaws → AreToldOnce → HaveCommands → (s : Setup) (es : List Entry) → IsSetup s → AreWhole s → IsLegal s es →
+    HoldersHaveBlocks s (replay s (machine_at_opening s) es)
+legal_holders laws once hold s es setup whole legal =
+    let opened = have_blocks laws once hold s (machine_at_opening s) (opening_shown s) (opening_holders s) in
+    holders_of laws once hold s (replay s (machine_at_opening s) es)
+    (by_history laws s Anyone (HaveBlocks s) (HaveBlocks s) (blocks_kept laws once hold s) (λ k. tt) opened es setup whole legal)

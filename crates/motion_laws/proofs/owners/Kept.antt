@@ -14,8 +14,10 @@ use Rattle.fb_outputs.specs.InstanceState.{InstanceState}
 use Rattle.fb_outputs.specs.Steps as instance
 use Rattle.fb_outputs.specs.declared.inputs.Inputs.{Inputs}
 use Rattle.motion_history.specs.Calls.{IsCall}
-use Rattle.motion_history.specs.Setup.{Setup}
-use Rattle.motion_kernel.specs.Machine.{Machine, axis_core_at, instance_at, no_instance}
+use Rattle.motion_history.specs.Entries.{Entry}
+use Rattle.motion_history.specs.Setup.{Setup, IsSetup}
+use Rattle.motion_kernel.specs.Histories.{IsLegal, replay}
+use Rattle.motion_kernel.specs.Machine.{Machine, machine_at_opening, axis_core_at, instance_at, no_instance}
 use Rattle.motion_kernel.specs.calls.Calls.{after_call, with_axis_core, with_instance}
 use Rattle.motion_kernel.specs.cycles.AxisCycles.{axes_cycled}
 use Rattle.motion_kernel.specs.cycles.Cycles.{after_cycle}
@@ -28,10 +30,9 @@ use Rattle.motion_laws.specs.owners.Commands.{ActiveAreShown, CommandsAreShown, 
 use Rattle.motion_laws.specs.owners.Objects.{an_axis, IsThere, Object, has_commands_on, is_same}
 use Rattle.motion_laws.proofs.owners.Counts.{shown_by}
 use Rattle.motion_laws.proofs.owners.Events.{active_in, axis_changes, commands_of, event_changes, event_keeps, event_keeps_waiting, free_active, free_none, free_shown, untold}
-use Rattle.motion_laws.proofs.owners.active.Asked.{all_active}
 use Rattle.motion_laws.proofs.owners.active.Calls.{executed_active, instance_active, reply_active}
-use Rattle.motion_laws.proofs.owners.active.Cycles.{found_truly}
-use Rattle.motion_laws.proofs.owners.active.Events.{ActiveOf, AreTrulyShown, active_by, event_active}
+use Rattle.motion_laws.proofs.owners.active.Cycles.{found_truly, opening_truly_shown}
+use Rattle.motion_laws.proofs.owners.active.Events.{all_active, ActiveOf, AreTrulyShown, active_by, event_active}
 use Rattle.motion_laws.proofs.owners.active.Waiting.{WaitsOf, event_waits, waits_first}
 use Rattle.motion_laws.proofs.owners.commands.Asked.{all_shown, own_at, set_at}
 use Rattle.motion_laws.proofs.owners.commands.Calls.{executed_shown, instance_shown, reply_shown}
@@ -40,7 +41,8 @@ use Rattle.motion_laws.proofs.owners.commands.Events.{IsGood, OwnerLaws, ShownOf
 use Rattle.motion_laws.proofs.owners.commands.Freed.{instances_without}
 use Rattle.motion_laws.proofs.walk.Calls.{by_call}
 use Rattle.motion_laws.proofs.walk.Cycles.{Good, by_axes, by_cycle, by_resets, by_steps}
-use Rattle.motion_laws.proofs.walk.Keeps.{Asks, Keeps, charge_at, freed}
+use Rattle.motion_laws.proofs.walk.Histories.{by_history}
+use Rattle.motion_laws.proofs.walk.Keeps.{Anyone, Asks, Keeps, charge_at, freed}
 
 -- within a cycle an instance that shows Active has no command that waits
 record AreWaiting (s : Setup) (m : Machine) : Type 0 where
@@ -60,7 +62,7 @@ answered_own s k m z a =
     let there : k < length a.asked.instances = omega arith in
     ap (λ is. instance_at is k) a.answered ∙ set_at a.asked.instances k a.shown there
 
-answered_other : (s : Setup) (k j : ℕ) (m z : Machine) (a : Asks s k m z) → nat_eq k j ≡ false →
+pub answered_other : (s : Setup) (k j : ℕ) (m z : Machine) (a : Asks s k m z) → nat_eq k j ≡ false →
     instance_at z.instances j ≡ instance_at a.asked.instances j
 answered_other s k j m z a d =
     ap (λ is. instance_at is j) a.answered ∙ get_or-set_other a.asked.instances k j a.shown no_instance (λ e. eqb-false k j d (sym e))
@@ -137,25 +139,25 @@ module _ (laws : OwnerLaws) where
           (sym (answered_other s k j m z a d))
 
   -- what each event keeps
-  commands_kept : (s : Setup) → Keeps s (CommandsAreShown s) (CommandsAreShown s)
+  pub commands_kept : (s : Setup) → Keeps s Anyone (CommandsAreShown s) (CommandsAreShown s)
   commands_kept s = record {
-    executed = executed_shown s;
+    executed = λ k b i m may at quiet h. executed_shown s k b i m at quiet h;
     powered = λ m x o xs e none call h k.
         event_shown s k m x o _ (event_changes laws k m x o xs e (laws.once.none k xs none)) (h k);
-    asked = asked_shown s;
-    replied = λ k m h. instance_shown s m k (instance.shown (instance_at m.instances k)) (reply_shown (instance_at m.instances k).progress) h;
+    asked = λ k m z may a h. asked_shown s k m z a h;
+    replied = λ k m may h. instance_shown s m k (instance.shown (instance_at m.instances k)) (reply_shown (instance_at m.instances k).progress) h;
     begins = λ m sized h. h;
     cycled = λ m x o xs e none h k.
         event_shown s k m x o _ (event_changes laws k m x o xs e (laws.once.none k xs none)) (h k);
     found = λ m sized h. found_shown s m h;
   }
 
-  truly_kept : (s : Setup) → Keeps s (AreTrulyShown s) (AreWaiting s)
+  truly_kept : (s : Setup) → Keeps s Anyone (AreTrulyShown s) (AreWaiting s)
   truly_kept s =
       let c = commands_kept s in
       record {
-        executed = λ k b i m at quiet h. record {
-          commands = c.executed k b i m at quiet h.commands;
+        executed = λ k b i m may at quiet h. record {
+          commands = c.executed k b i m may at quiet h.commands;
           active = executed_active s k b i m at quiet h.active;
         };
         powered = λ m x o xs e none call h. record {
@@ -163,12 +165,12 @@ module _ (laws : OwnerLaws) where
           active = λ k. event_active s k m x o _ (event_changes laws k m x o xs e (laws.once.none k xs none))
               (event_keeps laws k m x o xs e (laws.once.none k xs none) call) (h.commands k) (h.active k);
         };
-        asked = λ k m z a h. record {
+        asked = λ k m z may a h. record {
           commands = asked_shown s k m z a h.commands;
           active = asked_active s k m z a h.commands h.active;
         };
-        replied = λ k m h. record {
-          commands = c.replied k m h.commands;
+        replied = λ k m may h. record {
+          commands = c.replied k m may h.commands;
           active = instance_active s m k (instance.shown (instance_at m.instances k)) (reply_active (instance_at m.instances k).progress) h.active;
         };
         begins = λ m sized h. record { commands = h.commands; waits = waits_first s m h.commands h.active };
@@ -182,11 +184,16 @@ module _ (laws : OwnerLaws) where
 
   pub call_truly_shown : (s : Setup) (m : Machine) (k : ℕ) (i : Inputs) → AreWhole s → IsCall s k i → IsMachineKept s m →
       AreTrulyShown s m → AreTrulyShown s (after_call s m k i)
-  call_truly_shown s m k i whole made kept h = by_call laws.walk s (AreTrulyShown s) (AreWaiting s) (truly_kept s) m k i whole made kept h
+  call_truly_shown s m k i whole made kept h = by_call laws.walk s Anyone (AreTrulyShown s) (AreWaiting s) (truly_kept s) k tt m i whole made kept h
 
   pub cycle_truly_shown : (s : Setup) (m : Machine) (ins : List DriveIn) → IsMachineKept s m → AreTrulyShown s m →
       AreTrulyShown s (after_cycle s m ins)
-  cycle_truly_shown s m ins kept h = by_cycle laws.walk s (AreTrulyShown s) (AreWaiting s) (truly_kept s) m ins kept h
+  cycle_truly_shown s m ins kept h = by_cycle laws.walk s Anyone (AreTrulyShown s) (AreWaiting s) (truly_kept s) m ins kept h
+
+  pub legal_truly_shown : (s : Setup) (es : List Entry) → IsSetup s → AreWhole s → IsLegal s es →
+      AreTrulyShown s (replay s (machine_at_opening s) es)
+  legal_truly_shown s es setup whole legal =
+      by_history laws.walk s Anyone (AreTrulyShown s) (AreWaiting s) (truly_kept s) (λ k. tt) (opening_truly_shown s) es setup whole legal
 
   -- so within a call and a cycle
   good_of : (s : Setup) (m : Machine) → IsGood s m → Good s (CommandsAreShown s) m
@@ -209,12 +216,12 @@ module _ (laws : OwnerLaws) where
 
   pub steps_good : (s : Setup) (n : ℕ) (ins : List DriveIn) (m : Machine) → n ≤ length s.groups → IsGood s m → IsGood s (groups_stepped s n ins m).machine
   steps_good s n ins m l h =
-      shown_of s (groups_stepped s n ins m).machine (by_steps laws.walk s (CommandsAreShown s) (CommandsAreShown s) (commands_kept s) n ins m l (good_of s m h))
+      shown_of s (groups_stepped s n ins m).machine (by_steps laws.walk s Anyone (CommandsAreShown s) (CommandsAreShown s) (commands_kept s) n ins m l (good_of s m h))
 
   pub axes_good : (s : Setup) (n : ℕ) (around : Surroundings) (m : Machine) → n ≤ length s.axes → IsGood s m → IsGood s (axes_cycled s n around m).machine
   axes_good s n around m l h =
-      shown_of s (axes_cycled s n around m).machine (by_axes laws.walk s (CommandsAreShown s) (CommandsAreShown s) (commands_kept s) n around m l (good_of s m h))
+      shown_of s (axes_cycled s n around m).machine (by_axes laws.walk s Anyone (CommandsAreShown s) (CommandsAreShown s) (commands_kept s) n around m l (good_of s m h))
 
   pub resets_good : (s : Setup) (n : ℕ) (m : Machine) → n ≤ length s.groups → IsGood s m → IsGood s (groups_reset s n m).machine
   resets_good s n m l h =
-      shown_of s (groups_reset s n m).machine (by_resets laws.walk s (CommandsAreShown s) (CommandsAreShown s) (commands_kept s) n m l (good_of s m h))
+      shown_of s (groups_reset s n m).machine (by_resets laws.walk s Anyone (CommandsAreShown s) (CommandsAreShown s) (commands_kept s) n m l (good_of s m h))

@@ -114,19 +114,6 @@ group_there s n x h at e =
     let size = (h.sized).groups in
     omega arith
 
-pub power_spares : OwnerLaws → (s : Setup) (j n : ℕ) (enable : Bool) (m : Machine) → n < length m.axes →
-    IsGood s m → commands_shown (progress_in m.instances j) ≡ 0 →
-    IsSameAt j m (after_power s n enable m)
-unfolding after_power
-power_spares laws s j n enable m l h none =
-    let powered = with_axis_core m n (core_after_power enable (axis_core_at m n)) in
-    let good = power_good laws s n enable m l h in
-    let one = event_spares s j m powered (an_axis n) _ (power_changes laws s j n enable m h l)
-    (h.shown j) (none_spared s j m.instances (an_axis n) none) in
-    by_if (IsSameAt j m) enable powered (group_without_power (membership_of s n) powered) one
-    (off_spares laws s j (membership_of s n) powered (group_there s n powered good) good
-    (ap (λ (x : InstanceState). commands_shown x.progress) one ∙ none) ∙ one)
-
 pub power_tells : TellLaws → (s : Setup) (j n : ℕ) (enable : Bool) (m : Machine) (f : Finish) →
     n < length m.axes → j < length m.instances → IsGood s m → active_at m j (an_axis n) ≡ 1 →
     (axis_fates.power_fate enable (axis_core_at m n)).ends ≡ Some f →
@@ -198,18 +185,6 @@ command_changes laws s j k n x i m d h l =
     axis_changes laws s j n m (core_after_command q c) (axis.command_changes q c) h.sized l
     (laws.walk.axis.command q c) (laws.walk.axis.command_brings j q c ∙ none)
 
-pub command_spares : OwnerLaws → (s : Setup) (j k n : ℕ) (x : BlockKind) (i : Inputs) (m : Machine) →
-    nat_eq k j ≡ false → n < length m.axes → IsAsking s k m →
-    commands_shown (progress_in m.instances j) ≡ 0 →
-    IsSameAt j m (after_axis_command s k n x i m)
-unfolding after_axis_command
-command_spares laws s j k n x i m d l h none =
-    let q = asked_of_axis s k n x i m in
-    let y = with_axis_core m n (core_after_command q (axis_core_at m n)) in
-    beside y k j _ d
-    ∙ event_spares s j m y (an_axis n) _ (command_changes laws s j k n x i m d h l) (h.others j d)
-    (none_spared s j m.instances (an_axis n) none)
-
 pub command_tells : TellLaws → (s : Setup) (j k n : ℕ) (x : BlockKind) (i : Inputs) (m : Machine)
     (f : Finish) → nat_eq k j ≡ false → n < length m.axes → j < length m.instances →
     IsAsking s k m → active_at m j (an_axis n) ≡ 1 →
@@ -241,22 +216,6 @@ group_command_changes laws s j k n x i m d h l =
     group_changes laws s j n m (commanded w i.jerk members c)
     (group.command_changes w i.jerk members c) h.sized l (laws.walk.group.command w i.jerk members c)
     (laws.walk.group.command_brings j w i.jerk members c ∙ none)
-
-pub group_command_spares : OwnerLaws → (s : Setup) (j k n : ℕ) (x : BlockKind) (i : Inputs)
-    (m : Machine) → nat_eq k j ≡ false → n < length m.groups → IsAsking s k m →
-    commands_shown (progress_in m.instances j) ≡ 0 →
-    IsSameAt j m (after_group_command s k n x i m)
-unfolding after_group_command
-group_command_spares laws s j k n x i m d l h none =
-    let c = group_core_at m n in
-    let w = wanted_of k x i in
-    let members = group_look s m n 0 in
-    let y = with_group_core m n (commanded w i.jerk members c) in
-    let answer = group_calls.answer_of w i.jerk members c in
-    let led = members_instances s n x answer y in
-    beside (members_led s n x answer y) k j _ d ∙ ap (λ is. instance_at is j) led
-    ∙ event_spares s j m y (a_group n) _ (group_command_changes laws s j k n x i m d h l)
-    (h.others j d) (none_spared s j m.instances (a_group n) none)
 
 pub group_command_tells : TellLaws → (s : Setup) (j k n : ℕ) (x : BlockKind) (i : Inputs)
     (m : Machine) (f : Finish) → nat_eq k j ≡ false → n < length m.groups →

@@ -89,23 +89,6 @@ reset_changes laws s k n x good there =
     group_changes laws s k n x (group_cycles.reset_cycled look c) xs good.sized there
     (laws.walk.group.reset look c) (laws.once.none k xs (laws.walk.group.reset_brings c))
 
--- an instance that has no command at some objects stays as it is in their steps
-pub steps_spare : OwnerLaws → (s : Setup) (k n : ℕ) (ins : List DriveIn) (m : Machine) →
-    n ≤ length s.groups → IsGood s m →
-    ((j : ℕ) → j < n → IsSpared s k m.instances (a_group j)) →
-    instance_at (groups_stepped s n ins m).machine.instances k ≡ instance_at m.instances k
-unfolding groups_stepped
-steps_spare laws s k zero ins m l h spared = refl
-steps_spare laws s k (suc n) ins m l h spared =
-    let so_far = steps_good laws s n ins m (omega arith) h in
-    let before = steps_spare laws s k n ins m (omega arith) h (λ j b. spared j (omega arith)) in
-    let x = (groups_stepped s n ins m).machine in
-    let g = (so_far.sized).groups in
-    event_spares s k x (after_group_step s ins n x) (a_group n) _
-    (step_changes laws s k n ins x so_far (omega arith)) (so_far.shown k)
-    (still_spared s k m.instances x.instances (a_group n) before (spared n (omega arith)))
-    ∙ before
-
 pub axes_spare : OwnerLaws → (s : Setup) (k n : ℕ) (around : Surroundings) (m : Machine) →
     n ≤ length s.axes → IsGood s m →
     ((i : ℕ) → i < n → IsSpared s k m.instances (an_axis i)) →

@@ -36,9 +36,10 @@ use Rattle.motion_laws.proofs.owners.commands.Asked.{set_at}
 use Rattle.motion_laws.proofs.entries.replies.Entries.{call_of_blocks, cycle_of_blocks, opening_of_blocks}
 use Rattle.motion_laws.proofs.entries.replies.Histories.{kind_after, replay_of_blocks}
 use Rattle.motion_laws.proofs.Histories.{legal_kept, legal_so_far}
-use Rattle.motion_laws.proofs.results.Calls.{call_spares, call_tells_axis, call_tells_group}
+use Rattle.motion_laws.proofs.results.Spared.{call_spares, cycle_spares}
+use Rattle.motion_laws.proofs.results.Calls.{call_tells_axis, call_tells_group}
 use Rattle.motion_laws.proofs.results.Steps.{TellLaws}
-use Rattle.motion_laws.proofs.results.Cycles.{cycle_spares, cycle_tells_axis, cycle_tells_group}
+use Rattle.motion_laws.proofs.results.Cycles.{cycle_tells_axis, cycle_tells_group}
 use Rattle.motion_laws.proofs.results.Events.{HasEnded, progress_in}
 
 -- a machine of a legal history
@@ -69,9 +70,9 @@ untold_by : TellLaws → (s : Setup) (cycles : ℕ) (m : Machine) (e : Entry) (k
     IsRunning s m → IsOf s cycles m e → commands_shown (progress_in m.instances k) ≡ 0 →
     is_call_of k e ≡ false → progress_in (after s m e).instances k ≡ progress_in m.instances k
 untold_by laws s cycles m (call j i reply) k whole h is none other =
-    call_spares laws.owners s m k j i whole is.0 h.kept (good_of s m h) other none
+    call_spares laws.owners s m k j i whole is.0 h.kept h.shown.commands other none
 untold_by laws s cycles m (cycle c rows grows) k whole h is none other =
-    cycle_spares laws.owners s m (inputs_of rows) k (good_of s m h) none
+    cycle_spares laws.owners s m (inputs_of rows) k h.kept h.shown.commands none
 untold_by laws s cycles m (end_of task) k whole h is none other = refl
 
 -- an instance's own call that is no rising edge ends none of its commands

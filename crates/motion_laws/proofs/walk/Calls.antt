@@ -31,7 +31,7 @@ use Rattle.motion_laws.proofs.walk.Asked.{axis_asks, group_asks}
 use Rattle.motion_laws.proofs.walk.Events.{axis_event, group_event}
 use Rattle.motion_laws.proofs.walk.Keeps.{Keeps, WalkLaws}
 
-module _ (laws : WalkLaws) (s : Setup) (P Q : Machine → Type 0) (keeps : Keeps s P Q) where
+module _ (laws : WalkLaws) (s : Setup) (May : ℕ → Type 0) (P Q : Machine → Type 0) (keeps : Keeps s May P Q) (k : ℕ) (free : May k) where
   -- a Power
   by_group_off : (o : Option Membership) (m : Machine) → ((at : Membership) → o ≡ Some at → at.group < length m.groups) → IsSized s m →
       P m → P (group_without_power o m)
@@ -57,52 +57,52 @@ module _ (laws : WalkLaws) (s : Setup) (P Q : Machine → Type 0) (keeps : Keeps
       by_if P enable powered (group_without_power (membership_of s n) powered) one (by_group_off (membership_of s n) powered there size one)
 
   -- a rising edge
-  by_rising : (k : ℕ) (b : BlockDef) (i : Inputs) (m : Machine) → slice_get s.blocks k ≡ Some b → is_power b.kind ≡ false → k < length m.instances →
+  by_rising : (b : BlockDef) (i : Inputs) (m : Machine) → slice_get s.blocks k ≡ Some b → is_power b.kind ≡ false → k < length m.instances →
       IsMachineKept s (with_execute k i m) → MayCall s k b i (with_execute k i m) → P m → P (after_rising s k b i (with_execute k i m))
-  by_rising k b i m at other place kept may h =
-      let free = without_owner k (with_execute k i m) in
+  by_rising b i m at other place kept may h =
+      let freed = without_owner k (with_execute k i m) in
       let There : Bool → Type 0 = λ x. b.object < (if x then length s.groups else length s.axes) in
       let After : Bool → Type 0 =
-      λ x. P (if x then after_group_command s k b.object b.kind i free else after_axis_command s k b.object b.kind i free) in
+      λ x. P (if x then after_group_command s k b.object b.kind i freed else after_axis_command s k b.object b.kind i freed) in
       elim (cases_Bool (acts_on_group b.kind)) [
-        | inl on ↦ subst After (sym on) (keeps.asked k m (after_group_command s k b.object b.kind i free)
+        | inl on ↦ subst After (sym on) (keeps.asked k m (after_group_command s k b.object b.kind i freed) free
             (group_asks laws s k b i m at other on (subst There on may.object) place kept may) h)
-        | inr off ↦ subst After (sym off) (keeps.asked k m (after_axis_command s k b.object b.kind i free)
+        | inr off ↦ subst After (sym off) (keeps.asked k m (after_axis_command s k b.object b.kind i freed) free
             (axis_asks laws s k b i m at other off (subst There off may.object) place kept may) h)
       ]
 
-  by_edge : (e : Edge) (k : ℕ) (b : BlockDef) (i : Inputs) (m : Machine) → edge_of (instance_at m.instances k).execute i.execute ≡ e →
+  by_edge : (e : Edge) (b : BlockDef) (i : Inputs) (m : Machine) → edge_of (instance_at m.instances k).execute i.execute ≡ e →
       slice_get s.blocks k ≡ Some b → is_power b.kind ≡ false → k < length m.instances →
       IsMachineKept s (with_execute k i m) → MayCall s k b i (with_execute k i m) → P m → P (after_edge s e k b i (with_execute k i m))
-  by_edge edge.Rising k b i m is at other place kept may h = by_rising k b i m at other place kept may h
-  by_edge edge.High k b i m is at other place kept may h = keeps.executed k b i m at (λ x e. cc) h
-  by_edge edge.Falling k b i m is at other place kept may h = keeps.executed k b i m at (λ x e. cc) h
-  by_edge edge.Low k b i m is at other place kept may h = keeps.executed k b i m at (λ x e. cc) h
+  by_edge edge.Rising b i m is at other place kept may h = by_rising b i m at other place kept may h
+  by_edge edge.High b i m is at other place kept may h = keeps.executed k b i m free at (λ x e. cc) h
+  by_edge edge.Falling b i m is at other place kept may h = keeps.executed k b i m free at (λ x e. cc) h
+  by_edge edge.Low b i m is at other place kept may h = keeps.executed k b i m free at (λ x e. cc) h
 
-  by_asking : (x : BlockKind) (k : ℕ) (b : BlockDef) (i : Inputs) (m : Machine) → b.kind ≡ x → slice_get s.blocks k ≡ Some b → k < length m.instances →
+  by_asking : (x : BlockKind) (b : BlockDef) (i : Inputs) (m : Machine) → b.kind ≡ x → slice_get s.blocks k ≡ Some b → k < length m.instances →
       IsMachineKept s (with_execute k i m) → MayCall s k b i (with_execute k i m) → P m →
       P (after_asking s x (edge_of (instance_at m.instances k).execute i.execute) k b i (with_execute k i m))
-  by_asking kind.Power k b i m is at place kept may h =
+  by_asking kind.Power b i m is at place kept may h =
       let on_axis : b.object < length s.axes =
       subst (λ y. b.object < (if acts_on_group y then length s.groups else length s.axes)) is may.object in
       let sizes = kept.sized in
       let a = sizes.axes in
       by_power b.object i.execute (with_execute k i m) (omega arith) kept.sized
-      (keeps.executed k b i m at (λ x e. let power = ap is_power is in cc) h)
-  by_asking _ k b i m is at place kept may h =
-      by_edge (edge_of (instance_at m.instances k).execute i.execute) k b i m refl at (ap is_power is) place kept may h
+      (keeps.executed k b i m free at (λ x e. let power = ap is_power is in cc) h)
+  by_asking _ b i m is at place kept may h =
+      by_edge (edge_of (instance_at m.instances k).execute i.execute) b i m refl at (ap is_power is) place kept may h
 
-  by_where : (o : Option BlockDef) (k : ℕ) (i : Inputs) (m : Machine) → slice_get s.blocks k ≡ o → AreWhole s → IsCall s k i →
+  by_where : (o : Option BlockDef) (i : Inputs) (m : Machine) → slice_get s.blocks k ≡ o → AreWhole s → IsCall s k i →
       IsMachineKept s m → P m → P (called_where s o k i m)
-  by_where None k i m at whole made kept h = h
-  by_where (Some b) k i m at whole made kept h =
+  by_where None i m at whole made kept h = h
+  by_where (Some b) i m at whole made kept h =
       let there = made.there in
       let sizes = kept.sized in
       let n = sizes.instances in
-      by_asking b.kind k b i m refl at (omega arith) (instance_kept s m k (instance.called (instance_at m.instances k) i.execute) kept)
+      by_asking b.kind b i m refl at (omega arith) (instance_kept s m k (instance.called (instance_at m.instances k) i.execute) kept)
       (laws.may_call s k b i m whole at made kept) h
 
-  pub by_call : (m : Machine) (k : ℕ) (i : Inputs) → AreWhole s → IsCall s k i → IsMachineKept s m → P m → P (after_call s m k i)
+  pub by_call : (m : Machine) (i : Inputs) → AreWhole s → IsCall s k i → IsMachineKept s m → P m → P (after_call s m k i)
   unfolding called
-  by_call m k i whole made kept h =
-      keeps.replied k (called s k i m) (by_where (slice_get s.blocks k) k i m refl whole made kept h)
+  by_call m i whole made kept h =
+      keeps.replied k (called s k i m) free (by_where (slice_get s.blocks k) i m refl whole made kept h)

@@ -25,7 +25,7 @@ pub record Good (s : Setup) (Q : Machine → Type 0) (m : Machine) : Type 0 wher
   pub sized : IsSized s m
   pub keeps : Q m
 
-module _ (laws : WalkLaws) (s : Setup) (P Q : Machine → Type 0) (keeps : Keeps s P Q) where
+module _ (laws : WalkLaws) (s : Setup) (May : ℕ → Type 0) (P Q : Machine → Type 0) (keeps : Keeps s May P Q) where
   pub by_steps : (n : ℕ) (ins : List DriveIn) (m : Machine) → n ≤ length s.groups → Good s Q m → Good s Q (groups_stepped s n ins m).machine
   unfolding groups_stepped
   by_steps zero ins m l g = g

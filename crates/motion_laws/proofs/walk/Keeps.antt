@@ -95,19 +95,24 @@ pub record Asks (s : Setup) (k : ℕ) (m z : Machine) : Type 0 where
   pub few : FewLaws → length (charge_at (freed k called m) object).waiting ≤ 8 →
       length (charge_at asked object).waiting ≤ 8
 
--- what every event keeps: P in calls and between entries, Q within a cycle
-pub record Keeps (s : Setup) (P Q : Machine → Type 0) : Type 0 where
+-- any instance may call
+abbrev pub Anyone : ℕ → Type 0
+Anyone k = Unit {0}
+
+-- what every event keeps, where these instances may call: P in calls and between entries, Q within
+-- a cycle
+pub record Keeps (s : Setup) (May : ℕ → Type 0) (P Q : Machine → Type 0) : Type 0 where
   -- a call that asks no command takes Execute
-  pub executed : (k : ℕ) (b : BlockDef) (i : Inputs) (m : Machine) → slice_get s.blocks k ≡ Some b →
+  pub executed : (k : ℕ) (b : BlockDef) (i : Inputs) (m : Machine) → May k → slice_get s.blocks k ≡ Some b →
       (is_power b.kind ≡ false → edge_of (instance_at m.instances k).execute i.execute ≡ Rising → ⊥) →
       P m → P (with_execute k i m)
   -- a Power ends commands
   pub powered : (m x : Machine) (o : Object) (xs : List Change) → Event m x o xs → BringNone xs →
       calls.IsCall xs → P m → P x
   -- a rising edge asks one
-  pub asked : (k : ℕ) (m z : Machine) → Asks s k m z → P m → P z
+  pub asked : (k : ℕ) (m z : Machine) → May k → Asks s k m z → P m → P z
   -- a reply is shown
-  pub replied : (k : ℕ) (m : Machine) → P m → P (after_reply k m)
+  pub replied : (k : ℕ) (m : Machine) → May k → P m → P (after_reply k m)
   -- a cycle begins, its events end commands and let others take over, and the instances are told
   pub begins : (m : Machine) → IsSized s m → P m → Q m
   pub cycled : (m x : Machine) (o : Object) (xs : List Change) → Event m x o xs → BringNone xs →

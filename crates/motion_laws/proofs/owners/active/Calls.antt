@@ -16,11 +16,10 @@ use Rattle.motion_kernel.specs.calls.Calls.{with_execute, with_instance}
 use Rattle.motion_kernel.specs.Machine.{Machine, instance_at}
 use Rattle.motion_laws.specs.owners.Commands.{ActiveAreShown, active_shown}
 use Rattle.motion_laws.specs.owners.Objects.{has_commands_on}
-use Rattle.motion_laws.proofs.owners.commands.Asked.{same_there}
 use Rattle.motion_laws.proofs.owners.commands.Events.{none_beside, not_shown}
 use Rattle.motion_laws.proofs.owners.commands.Calls.{power_has_none}
-use Rattle.motion_laws.proofs.owners.active.Asked.{active_same, all_active}
-use Rattle.motion_laws.proofs.owners.active.Events.{active_by, instances_active, beside_active}
+use Rattle.motion_laws.proofs.owners.active.Events.{active_same, all_active, active_by, instances_active, beside_active}
+use Rattle.motion_laws.proofs.walk.Events.{there_same}
 
 -- an instance that changes so that it shows the same
 pub one_active : (is : List InstanceState) (j k : ℕ) (v : InstanceState) → active_shown v.progress
@@ -55,7 +54,7 @@ power_execute_active : (s : Setup) (k : ℕ) (b : BlockDef) (m : Machine) (v : I
 power_execute_active s k b m v at power h =
     all_active s k (with_instance m k v)
     (λ o l.
-    let there = same_there m (slice_set m.instances k v) o l in
+    let there = there_same m (slice_set m.instances k v) o l in
     let off : has_commands_on (slice_get s.blocks k) o ≡ false = ap (λ x. has_commands_on x o) at
     ∙ power_has_none b o power in
     none_beside (has_commands_on (slice_get s.blocks k) o) _ _ off

@@ -14,15 +14,14 @@ use Rattle.motion_kernel.specs.Machine.{Machine, PlacedGroup, axis_at, group_at,
 use Rattle.motion_laws.specs.owners.Commands.{ActiveAreShown, CommandsAreShown, active_at, commands_at}
 use Rattle.motion_laws.specs.owners.Objects.{IsThere, Object, has_commands_on, is_same, a_group, an_axis}
 use Rattle.motion_laws.proofs.owners.Counts.{none_owned, other_owner, shown_by}
-use Rattle.motion_laws.proofs.owners.commands.Asked.{same_there}
 use Rattle.motion_laws.proofs.owners.commands.Cycles.{axes_told}
 use Rattle.motion_laws.proofs.owners.commands.Events.{beside_none, most_one, none_beside, none_if, same_object, shown_if, shown_where}
 use Rattle.motion_laws.proofs.owners.commands.Opening.{opening_shown, shows_none}
-use Rattle.motion_laws.proofs.owners.active.Asked.{active_same}
 use Rattle.motion_laws.proofs.owners.active.Calls.{one_active}
-use Rattle.motion_laws.proofs.owners.active.Events.{AreTrulyShown, active_by, all_are, no_more_than_shown, none_is_active}
+use Rattle.motion_laws.proofs.owners.active.Events.{active_same, AreTrulyShown, active_by, all_are, no_more_than_shown, none_is_active}
 use Rattle.motion_laws.proofs.owners.active.Told.{IsTold, most_active, axes_are_told, groups_are_told, groups_grow, axes_done, groups_done}
 use Rattle.motion_laws.proofs.owners.active.Waiting.{WaitsOf, at_most}
+use Rattle.motion_laws.proofs.walk.Events.{there_same}
 
 -- an owner by its count
 pub found_in : (k : ℕ) (o : Option ℕ) → 0 < is_owner k o → o ≡ Some k
@@ -151,7 +150,7 @@ pub found_truly : (s : Setup) (m : Machine) → CommandsAreShown s m → ((k : �
 unfolding with_found
 found_truly s m h waits k o l =
     let found = instances_found (length s.blocks) s.blocks m.axes m.groups (told_in m) in
-    let there = same_there m found o l in
+    let there = there_same m found o l in
     active_same m found k o ∙ told_truly s m k o h (waits k) there
     ∙ ap (λ x. if has_commands_on (slice_get s.blocks k) o then x else 0)
     (sym (all_found_active (length s.blocks) s.blocks m.axes m.groups (told_in m) k))

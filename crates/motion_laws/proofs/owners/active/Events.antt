@@ -1,7 +1,7 @@
 -- What an event leaves of the active commands that instances show.
 use Rattle.std.specs.Prelude.{◌≡◌, refl, ℕ, ◌+◌, ◌≤◌, false, nat_eq, if◌then◌else◌, List, slice_get, slice_set}
 use Rattle.std.proofs.Common.{arith, ap, sym, subst, ◌∙◌, inl, inr}
-use Rattle.std.proofs.lemmas.Bool.{cases_Bool, cases_eq, eqb-false}
+use Rattle.std.proofs.lemmas.Bool.{cases_Bool, cases_eq, eqb-false, eqb-true}
 use Rattle.std.proofs.lemmas.List.{get_or-set_other}
 use Rattle.buffer_modes.specs.Owners.{told}
 use Rattle.command_pool.specs.declared.notes.Note.{Note}
@@ -110,3 +110,20 @@ beside_active s j k m i d active =
     instances_active s j m (slice_set m.instances k i)
     (ap (λ (x : InstanceState). active_shown x.progress)
     (get_or-set_other m.instances k j i no_instance (λ e. eqb-false k j d (sym e)))) active
+
+-- instances change no command
+pub active_same : (m : Machine) (is : List InstanceState) (k : ℕ) (o : Object) → active_at
+    (record m { instances = is }) k o ≡ active_at m k o
+active_same m is k (an_axis n) = refl
+active_same m is k (a_group j) = refl
+
+-- who has no command has none that is active
+pub none_active_at : (m : Machine) (k : ℕ) (o : Object) → commands_at m k o ≡ 0 → active_at m k o ≡ 0
+none_active_at m k o e = let all = all_are m k o in omega arith
+
+pub all_active : (s : Setup) (k : ℕ) (m : Machine) → ActiveOf s k m →
+    ((j : ℕ) → nat_eq k j ≡ false → ActiveOf s j m) → ActiveAreShown s m
+all_active s k m own others j = elim (cases_Bool (nat_eq k j)) [
+  | inl e ↦ subst (λ x. ActiveOf s x m) (eqb-true k j e) own
+  | inr d ↦ others j d
+]

@@ -16,7 +16,7 @@ use Rattle.group_core.specs.declared.reason.Reason as group_reasons
 use Rattle.motion_history.specs.Setup.{Setup}
 use Rattle.motion_kernel.specs.Machine.{Machine, instance_at, no_instance}
 use Rattle.motion_laws.specs.owners.Commands.{CommandsAreShown, commands_at}
-use Rattle.motion_laws.specs.owners.Objects.{IsThere, Object, has_commands_on, is_same, a_group, an_axis}
+use Rattle.motion_laws.specs.owners.Objects.{Object, has_commands_on, is_same, a_group, an_axis}
 use Rattle.motion_laws.proofs.owners.Counts.{none_owned, other_owner}
 use Rattle.motion_laws.proofs.owners.commands.Events.{ShownOf, beside_none, none_beside, same_object}
 
@@ -43,11 +43,6 @@ pub same_commands : (m : Machine) (is : List InstanceState) (k : ℕ) (o : Objec
     (record m { instances = is }) k o ≡ commands_at m k o
 same_commands m is k (an_axis n) = refl
 same_commands m is k (a_group j) = refl
-
-pub same_there : (m : Machine) (is : List InstanceState) (o : Object) → IsThere
-    (record m { instances = is }) o → IsThere m o
-same_there m is (an_axis n) l = l
-same_there m is (a_group j) l = l
 
 -- all instances, by their own and the others
 pub all_shown : (s : Setup) (k : ℕ) (m : Machine) → ShownOf s k m →

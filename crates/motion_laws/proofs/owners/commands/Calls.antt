@@ -18,9 +18,10 @@ use Rattle.motion_kernel.proofs.Sizes.{sized_instance}
 use Rattle.motion_laws.specs.owners.Commands.{CommandsAreShown, commands_shown}
 use Rattle.motion_laws.specs.owners.Objects.{Object, has_commands_on, is_same, object_of}
 use Rattle.motion_laws.proofs.owners.Counts.{shown_by}
-use Rattle.motion_laws.proofs.owners.commands.Asked.{same_commands, same_there, all_shown}
+use Rattle.motion_laws.proofs.owners.commands.Asked.{same_commands, all_shown}
 use Rattle.motion_laws.proofs.owners.commands.Events.{not_shown, none_beside, instances_shown, IsGood}
 use Rattle.motion_laws.proofs.owners.commands.Freed.{beside_own}
+use Rattle.motion_laws.proofs.walk.Events.{there_same}
 
 -- an instance that changes so that it shows as many commands
 pub one_shown : (is : List InstanceState) (j k : ℕ) (v : InstanceState) → commands_shown v.progress
@@ -60,7 +61,7 @@ pub power_shown : (s : Setup) (k : ℕ) (b : BlockDef) (m : Machine) (v : Instan
 power_shown s k b m v at power h =
     all_shown s k (with_instance m k v)
     (λ o l.
-    let there = same_there m (slice_set m.instances k v) o l in
+    let there = there_same m (slice_set m.instances k v) o l in
     let off : has_commands_on (slice_get s.blocks k) o ≡ false = ap (λ x. has_commands_on x o) at
     ∙ power_has_none b o power in
     none_beside (has_commands_on (slice_get s.blocks k) o) _ _ off
