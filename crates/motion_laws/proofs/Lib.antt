@@ -1,15 +1,16 @@
 -- rows_keep_limits: limits/Rows
 -- axes_stay_stoppable: limits/Stoppable, over Histories
--- at_most_eight_wait: limits/Waiting
+-- at_most_eight_wait: limits/Waiting, by the walk
 -- refusals_change_nothing: entries/refusals/Calls
 -- replies_tell_one_result: entries/replies/Histories
 -- states_follow_the_diagrams: entries/diagrams/Histories
--- commands_are_where_their_instances_show: owners/holders/Histories, over owners/commands and
--- owners/active
+-- commands_are_where_their_instances_show: owners/Shown, over owners/Holders by the walk,
+-- owners/commands and owners/active
 -- entries_keep_their_laws: entries/Kept
 -- moves_arrive_in_time: arrivals/Moves
 -- paths_end_in_time: arrivals/PathsEnd
 -- results_are_told: results/Told
+pub mod walk
 pub mod limits
 pub mod Histories
 pub mod owners

@@ -2,4 +2,7 @@
 pub mod Counts
 pub mod commands
 pub mod active
-pub mod holders
+pub mod Events
+pub mod Kept
+pub mod Holders
+pub mod Shown

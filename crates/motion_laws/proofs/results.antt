@@ -4,4 +4,5 @@ pub mod Commands
 pub mod Calls
 pub mod Steps
 pub mod Cycles
+pub mod Spared
 pub mod Told

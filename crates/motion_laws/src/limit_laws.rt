@@ -14,6 +14,7 @@ ghost use Rattle.motion_kernel.specs.kept.Machine.{AreWhole, IsMachineKept, limi
 ghost use Rattle.motion_kernel.specs.members.Members.{members_at};
 
 use axis_core::{axes_keep_their_definitions, axes_stay_kept, calls_move_no_axis};
+use command_changes::{axis_changes_are_made, group_changes_are_made};
 use group_core::{groups_keep_their_axes, groups_stay_kept};
 use motion_kernel::machines_stay_kept;
 
@@ -64,6 +65,9 @@ pub fn at_most_eight_wait()
     axes_keep_their_definitions();
     groups_stay_kept();
     groups_keep_their_axes();
+    axis_changes_are_made();
+    group_changes_are_made();
     axis_core::at_most_eight_wait();
     group_core::at_most_eight_wait();
+    command_core::at_most_eight_wait();
 }

@@ -13,6 +13,8 @@ ghost use Rattle.motion_kernel.specs.Machine.{Machine, machine_at_opening};
 ghost use Rattle.motion_kernel.specs.kept.Machine.{AreWhole, IsMachineKept};
 ghost use Rattle.motion_laws.specs.owners.Shown.{AreWhereShown};
 
+use command_changes::{axis_changes_are_made, group_changes_are_made};
+use command_core::{commands_come_from_calls, ends_are_told_once, holders_have_commands};
 use motion_kernel::machines_stay_kept;
 
 /// Each instance shows Active exactly while its command is the active one of the axis or group on
@@ -30,6 +32,9 @@ pub fn commands_are_where_their_instances_show()
         AreWhereShown s (machine_after s es) }
 {
     machines_stay_kept();
-    axis_core::ends_are_told_once();
-    group_core::ends_are_told_once();
+    axis_changes_are_made();
+    group_changes_are_made();
+    ends_are_told_once();
+    commands_come_from_calls();
+    holders_have_commands();
 }

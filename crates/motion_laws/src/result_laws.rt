@@ -7,6 +7,8 @@ ghost use Rattle.motion_kernel.specs.Histories.{IsLegal};
 ghost use Rattle.motion_kernel.specs.kept.Machine.{AreWhole};
 ghost use Rattle.motion_laws.specs.results.Results.{ResultsAreTold};
 
+use command_changes::{axis_changes_are_made, group_changes_are_made};
+use command_core::{commands_come_from_calls, holders_have_commands};
 use motion_kernel::machines_stay_kept;
 
 /// In every legal history the end of a command is told to its instance, and to no other. Wherever
@@ -20,6 +22,11 @@ pub fn results_are_told()
         ResultsAreTold s es }
 {
     machines_stay_kept();
+    axis_changes_are_made();
+    group_changes_are_made();
+    command_core::ends_are_told_once();
+    commands_come_from_calls();
+    holders_have_commands();
     axis_core::ends_are_told_once();
     group_core::ends_are_told_once();
 }

@@ -1,24 +1,16 @@
 -- How many commands an instance has, how many it brings, and of how many ends it is told.
-use Rattle.std.specs.Prelude.{◌≡◌, refl, ℕ, zero, suc, ◌<◌, Bool, true, false, nat_eq, ℤ, if◌then◌else◌, Option, Some, None, Ok, List, [], ◌∷◌, ◌++◌}
+use Rattle.std.specs.Prelude.{◌≡◌, refl, ℕ, zero, suc, ◌<◌, Bool, true, false, nat_eq, if◌then◌else◌, Option, Some, None, Ok, List, [], ◌∷◌, ◌++◌}
 use Rattle.std.proofs.Common.{arith, ap, sym, subst, ◌∙◌, inl, inr}
 use Rattle.std.proofs.lemmas.Bool.{cases_eq, eq-eqb, eqb-false, ne_eqb}
 use Rattle.std.proofs.lemmas.List.{get_or-set_other}
 use Rattle.axis_core.specs.Calls.{core_after_admission, core_after_command, core_after_joining, core_after_leaving, core_after_verdict, queue_in}
 use Rattle.axis_core.specs.Calls as axis_calls
 use Rattle.axis_core.specs.Cores.{Core}
-use Rattle.buffer_modes.specs.Resets.{replaced_note, reset_owner}
-use Rattle.axis_core.specs.Owners.{owner_brought, owner_brought_by, owns}
-use Rattle.axis_core.specs.Refusals as axis_refusals
-use Rattle.axis_core.specs.Refusals.{Asked}
-use Rattle.axis_core.specs.blocks.Moves.{known_target_of, with_target}
-use Rattle.buffer_modes.specs.declared.reset.PendingReset.{PendingReset}
+use Rattle.axis_core.specs.Owners.{owner_brought, owner_brought_by}
 use Rattle.axis_core.specs.declared.reason.Reason as axis_reason
-use Rattle.buffer_modes.specs.Owners.{is_owner, one_of, owner_by, told, waits_of}
-use Rattle.buffer_modes.specs.Queue.{active_note, end_notes, is_aborting, is_active_at_once, noted}
+use Rattle.buffer_modes.specs.Owners.{is_owner, one_of, told}
 use Rattle.command_pool.specs.Kinds.{acts_on_group}
-use Rattle.command_pool.specs.Waiting.{last_of, notes_of, told_to}
 use Rattle.command_pool.specs.declared.ending.Finish.{Finish}
-use Rattle.command_pool.specs.declared.ending.Finish.TheVariants as finish
 use Rattle.command_pool.specs.declared.kind.BlockKind.{BlockKind}
 use Rattle.command_pool.specs.declared.kind.BlockKind.TheVariants as kind
 use Rattle.command_pool.specs.declared.notes.Note.{Note}
@@ -31,7 +23,6 @@ use Rattle.group_core.specs.Kinds as group_kinds
 use Rattle.group_core.specs.Owners as group_owners
 use Rattle.group_core.specs.Refusals as group_refusals
 use Rattle.group_core.specs.blocks.Line.{line_tests}
-use Rattle.group_core.specs.declared.look.GroupLook.{GroupLook}
 use Rattle.group_core.specs.declared.reason.Reason as group_reason
 use Rattle.group_core.specs.declared.reason.Reason.TheVariants as group_reasons
 use Rattle.motion_kernel.specs.calls.Asking.{is_done_at_once}
@@ -39,7 +30,6 @@ use Rattle.motion_kernel.specs.calls.Calls.{answered_instance}
 use Rattle.motion_kernel.specs.Machine.{instance_at, no_instance}
 use Rattle.motion_laws.specs.owners.Commands.{commands_shown}
 use Rattle.motion_kernel.specs.calls.Telling.{told_end, told_notes}
-use Rattle.motion_kernel.proofs.Sizes.{by_if}
 
 -- an instance is its own
 pub owner_is : (k : ℕ) → is_owner k (Some k) ≡ 1
@@ -106,142 +96,6 @@ told_shows_none k (n ∷ ns) is l = elim (cases_eq n.owner k) [
       told_shows_none k ns (told_end n.owner n.finish is) (omega arith)
 ]
 
--- no note for an instance that has no command
-none_more : (k : ℕ) (xs ys : List Note) → told k xs ≡ 0 → told k ys ≡ 0 → told k
-    (xs ++ ys) ≡ 0
-none_more k [] ys e f = f
-none_more k (x ∷ xs) ys e f = let rest = none_more k xs ys (omega arith) f in omega arith
-
-none_to : (k : ℕ) (o : Option ℕ) (f : Finish) → is_owner k o ≡ 0 → told k (told_to o f) ≡ 0
-none_to k None f e = refl
-none_to k (Some j) f e = omega arith
-
-none_waiting : (k : ℕ) (f : Finish) (ws : List Wanted) → waits_of k ws ≡ 0 → told k
-    (notes_of f ws) ≡ 0
-none_waiting k f [] e = refl
-none_waiting k f (w ∷ ws) e =
-    none_more k (told_to w.owner f) (notes_of f ws) (none_to k w.owner f (omega arith))
-    (none_waiting k f ws (omega arith))
-
-none_active : (k : ℕ) (f : Finish) (active : Option Wanted) → is_owner k (owner_by active) ≡ 0 →
-    told k (active_note f active) ≡ 0
-none_active k f None e = refl
-none_active k f (Some w) e = none_to k w.owner f e
-
-none_ended : (k : ℕ) (f : Finish) (active : Option Wanted) (ws : List Wanted) → is_owner k
-    (owner_by active) ≡ 0 → waits_of k ws ≡ 0 →
-    told k (end_notes f (record { active = active; waiting = ws })) ≡ 0
-none_ended k f active ws a w = none_more k (active_note f active) (notes_of finish.Aborted ws)
-    (none_active k f active a) (none_waiting k finish.Aborted ws w)
-
-none_noted : (k : ℕ) (active : Option Wanted) (ws : List Wanted) (w : Wanted) → is_owner k
-    (owner_by active) ≡ 0 → waits_of k ws ≡ 0 →
-    told k (noted (record { active = active; waiting = ws }) w) ≡ 0
-none_noted k active ws w a e =
-    by_if (λ ns. told k ns ≡ 0) (is_aborting w.mode) _ _
-    (none_ended k finish.Aborted active ws a e) refl
-
--- a command of an axis tells nothing to an instance that has none
-abbrev Untold : ℕ → Core → Type 0
-Untold k c = told k c.notes ≡ 0
-
-none_replaced : (k : ℕ) (o : Option PendingReset) → is_owner k (reset_owner o) ≡ 0 →
-    told k (replaced_note o) ≡ 0
-none_replaced k None e = refl
-none_replaced k (Some p) e = none_to k p.owner finish.Aborted e
-
--- who has no command has none that is active, waits or is a reset
-record HasNone (k : ℕ) (c : Core) : Type 0 where
-  active : is_owner k (owner_by c.axis.active) ≡ 0
-  waiting : waits_of k c.waiting ≡ 0
-  reset : is_owner k (reset_owner c.axis.reset) ≡ 0
-
-has_none : (k : ℕ) (c : Core) → owns k c ≡ 0 → HasNone k c
-has_none k c e = record { active = omega arith; waiting = omega arith; reset = omega arith }
-
-joined_untold : (k : ℕ) (w : Wanted) (c : Core) → HasNone k c → Untold k c → Untold k
-    (core_after_joining w c)
-joined_untold k w c h e =
-    let all = none_more k c.notes (noted (queue_in c) w) e
-    (none_noted k c.axis.active c.waiting w h.active h.waiting) in
-    by_if (Untold k) (is_active_at_once (queue_in c) w) _ _ all all
-
-left_untold : (k : ℕ) (w : Wanted) (c : Core) → HasNone k c → Untold k c → Untold k
-    (core_after_leaving w c)
-left_untold k w c h e = none_more k c.notes _ e
-    (none_ended k finish.Aborted c.axis.active c.waiting h.active h.waiting)
-
-admitted_untold : (k : ℕ) (kind : BlockKind) (w : Wanted) (c : Core) → HasNone k c → Untold k c →
-    Untold k (core_after_admission kind w c)
-admitted_untold k kind.Reset w c h e = none_more k c.notes _ e
-    (none_replaced k c.axis.reset h.reset)
-admitted_untold k kind.GearOut w c h e = left_untold k w c h e
-admitted_untold k kind.CamOut w c h e = left_untold k w c h e
-admitted_untold k _ w c h e = joined_untold k w c h e
-
-verdict_untold : (k : ℕ) (o : Option axis_reason.Reason) (w : Wanted) (c : Core) → HasNone k c →
-    Untold k c → Untold k (core_after_verdict o w c)
-verdict_untold k None w c h e = admitted_untold k w.kind
-    (with_target (known_target_of c.axis (last_of c.waiting) w) w) c h e
-verdict_untold k (Some r) w c h e = e
-
-pub command_untold : (k : ℕ) (q : Asked) (c : Core) → owns k c ≡ 0 → told k c.notes ≡ 0 →
-    told k (core_after_command q c).notes ≡ 0
-unfolding core_after_command
-command_untold k q c h e = verdict_untold k (axis_refusals.refusal_of q) q.wanted c
-    (has_none k c h) e
-
--- a command of a group neither
-abbrev GroupUntold : ℕ → groups.Core → Type 0
-GroupUntold k c = told k c.notes ≡ 0
-
-record GroupHasNone (k : ℕ) (c : groups.Core) : Type 0 where
-  active : is_owner k (owner_by c.group.active) ≡ 0
-  waiting : waits_of k c.waiting ≡ 0
-  reset : is_owner k (reset_owner c.group.reset) ≡ 0
-
-group_has_none : (k : ℕ) (c : groups.Core) → group_owners.owns k c ≡ 0 → GroupHasNone k c
-group_has_none k c e = record { active = omega arith; waiting = omega arith; reset = omega arith }
-
-halted_untold : (k : ℕ) (c : groups.Core) → GroupHasNone k c → GroupUntold k c →
-    told k (c.notes ++ end_notes finish.Aborted (group_calls.queue_in c)) ≡ 0
-halted_untold k c h e = none_more k c.notes _ e
-    (none_ended k finish.Aborted c.group.active c.waiting h.active h.waiting)
-
-line_untold : (k : ℕ) (members : GroupLook) (w : Wanted) (c : groups.Core) → GroupHasNone k c →
-    GroupUntold k c → GroupUntold k (group_calls.line_joined members w c)
-line_untold k members w c h e =
-    let all = none_more k c.notes (noted (group_calls.queue_in c) w) e
-    (none_noted k c.group.active c.waiting w h.active h.waiting) in
-    by_if (GroupUntold k) (group_calls.waits_for_rest w c.path) _ _ (halted_untold k c h e)
-    (by_if (GroupUntold k) (is_active_at_once (group_calls.queue_in c) w) _ _ all all)
-
-group_admitted : (k : ℕ) (kind : BlockKind) (members : GroupLook) (w : Wanted) (c : groups.Core) →
-    GroupHasNone k c → GroupUntold k c →
-    GroupUntold k (group_calls.admitted_by kind members w c)
-group_admitted k kind.GroupReset members w c h e = none_more k c.notes _ e
-    (none_replaced k c.group.reset h.reset)
-group_admitted k kind.GroupStop members w c h e = halted_untold k c h e
-group_admitted k kind.GroupHalt members w c h e = halted_untold k c h e
-group_admitted k kind.MoveLinearAbsolute members w c h e = line_untold k members w c h e
-group_admitted k kind.GroupEnable members w c h e = e
-group_admitted k kind.GroupDisable members w c h e = e
-group_admitted k _ members w c h e = e
-
-group_verdict : (k : ℕ) (o : Option group_reason.Reason) (members : GroupLook) (w : Wanted)
-    (c : groups.Core) → GroupHasNone k c → GroupUntold k c →
-    GroupUntold k (group_calls.commanded_by o members w c)
-group_verdict k None members w c h e = group_admitted k w.kind members w c h e
-group_verdict k (Some r) members w c h e = e
-
-pub group_command_untold : (k : ℕ) (w : Wanted) (jerk : ℤ) (members : GroupLook) (c : groups.Core) →
-    group_owners.owns k c ≡ 0 → told k c.notes ≡ 0 →
-    told k (group_calls.commanded w jerk members c).notes ≡ 0
-unfolding group_calls.commanded
-group_command_untold k w jerk members c h e =
-    group_verdict k (group_refusals.refusal_of (group_calls.asked_in c w jerk members)) members w c
-    (group_has_none k c h) e
-
 -- an instance whose command starts shows it
 answered_one : (kind : BlockKind) (active : Bool) (i : InstanceState) →
     is_done_at_once kind ≡ false →
@@ -268,17 +122,9 @@ brings_axis : (kind : BlockKind) (i : InstanceState) (k : ℕ) (w : Wanted) (c :
     ≡ is_owner k (owner_brought_by kind w)
 brings_axis kind.GearOut i k w c e a = sym (none_owned k)
 brings_axis kind.CamOut i k w c e a = sym (none_owned k)
-brings_axis kind.Reset i k w c e a = brings_one kind.Reset false i k w.owner e refl
-brings_axis kind.Power i k w c e a = brings_one kind.Power _ i k w.owner e refl
-brings_axis kind.Home i k w c e a = brings_one kind.Home _ i k w.owner e refl
-brings_axis kind.Stop i k w c e a = brings_one kind.Stop _ i k w.owner e refl
-brings_axis kind.Halt i k w c e a = brings_one kind.Halt _ i k w.owner e refl
-brings_axis kind.MoveAbsolute i k w c e a = brings_one kind.MoveAbsolute _ i k w.owner e refl
-brings_axis kind.MoveRelative i k w c e a = brings_one kind.MoveRelative _ i k w.owner e refl
-brings_axis kind.MoveVelocity i k w c e a = brings_one kind.MoveVelocity _ i k w.owner e refl
-brings_axis kind.GearIn i k w c e a = brings_one kind.GearIn _ i k w.owner e refl
-brings_axis kind.CamIn i k w c e a = brings_one kind.CamIn _ i k w.owner e refl
-brings_axis _ i k w c e a = absurd (cc)
+brings_axis kind.GroupEnable i k w c e a = absurd (cc)
+brings_axis kind.GroupDisable i k w c e a = absurd (cc)
+brings_axis x i k w c e a = brings_one x (axis_calls.is_active_by x w c) i k w.owner e refl
 
 pub answer_shows : (o : Option axis_reason.Reason) (i : InstanceState) (k : ℕ) (w : Wanted)
     (c : Core) → w.owner ≡ Some k → acts_on_group w.kind ≡ false →

@@ -2,8 +2,6 @@
 pub mod AxisCounts
 pub mod GroupCounts
 pub mod Events
-pub mod Freed
-pub mod Asked
 pub mod Calls
 pub mod Waiting
 pub mod Told

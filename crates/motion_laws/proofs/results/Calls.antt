@@ -1,14 +1,13 @@
 -- A call tells the other instances whose commands end by it, and none without a command.
-use Rattle.std.specs.Prelude.{◌≡◌, refl, ℕ, ◌<◌, Bool, true, false, nat_eq, if◌then◌else◌, Option, Some, None, length, slice_get}
-use Rattle.std.proofs.Common.{arith, ap, sym, subst, ◌∙◌, inl, inr}
-use Rattle.std.proofs.lemmas.Bool.{cases_Bool, eqb-true}
+use Rattle.std.specs.Prelude.{◌≡◌, refl, ℕ, ◌<◌, true, false, nat_eq, if◌then◌else◌, Option, Some, None, length, slice_get}
+use Rattle.std.proofs.Common.{arith, ap, sym, subst, ◌∙◌}
+use Rattle.std.proofs.lemmas.Bool.{eqb-true}
 use Rattle.std.proofs.lemmas.List.{length-set}
 use Rattle.axis_core.specs.Fates as axis_fates
 use Rattle.command_pool.specs.Kinds.{acts_on_group}
 use Rattle.command_pool.specs.declared.ending.Finish.{Finish}
 use Rattle.command_pool.specs.declared.kind.BlockKind.{BlockKind}
 use Rattle.command_pool.specs.declared.kind.BlockKind.TheVariants as kind
-use Rattle.fb_outputs.specs.InstanceState.{InstanceState}
 use Rattle.fb_outputs.specs.Steps as instance
 use Rattle.fb_outputs.specs.Steps.{edge_of, is_power}
 use Rattle.fb_outputs.specs.declared.inputs.Inputs.{Inputs}
@@ -26,14 +25,14 @@ use Rattle.motion_kernel.specs.kept.Machine.{AreWhole, IsMachineKept}
 use Rattle.motion_laws.specs.arrivals.AxisFates as axis_entry
 use Rattle.motion_laws.specs.arrivals.GroupFates as group_entry
 use Rattle.motion_laws.specs.owners.Objects.{a_group, an_axis, has_commands_on}
-use Rattle.motion_laws.specs.owners.Commands.{active_at, commands_shown}
-use Rattle.motion_laws.proofs.owners.active.Freed.{active_left}
+use Rattle.motion_laws.specs.owners.Commands.{active_at}
+use Rattle.motion_laws.proofs.owners.Events.{active_left, asks}
 use Rattle.motion_laws.proofs.owners.commands.Events.{IsGood, OwnerLaws}
-use Rattle.motion_laws.proofs.owners.commands.Freed.{asks, instances_without}
+use Rattle.motion_laws.proofs.owners.commands.Freed.{instances_without}
 use Rattle.motion_laws.proofs.owners.commands.Calls.{power_execute}
 use Rattle.motion_laws.proofs.results.Steps.{TellLaws}
-use Rattle.motion_laws.proofs.results.Events.{HasEnded, progress_in}
-use Rattle.motion_laws.proofs.results.Commands.{IsSameAt, beside, ended_beside, ends_where, ends_else, power_spares, power_tells, power_tells_group, command_spares, command_tells, group_command_spares, group_command_tells}
+use Rattle.motion_laws.proofs.results.Events.{HasEnded}
+use Rattle.motion_laws.proofs.results.Commands.{IsSameAt, beside, ended_beside, ends_where, ends_else, power_tells, power_tells_group, command_tells, group_command_tells}
 
 -- the machine in which a rising edge asks
 abbrev free_of : ℕ → Inputs → Machine → Machine
@@ -48,37 +47,6 @@ free_same k j i m d =
 -- where a block acts
 abbrev ActsWithin : Setup → BlockDef → Type 0
 ActsWithin s b = b.object < (if acts_on_group b.kind then length s.groups else length s.axes)
-
--- a rising edge of another instance
-rising_spares : OwnerLaws → (s : Setup) (j k : ℕ) (b : BlockDef) (i : Inputs) (m : Machine) →
-    nat_eq k j ≡ false → ActsWithin s b → IsGood s m →
-    commands_shown (progress_in m.instances j) ≡ 0 →
-    IsSameAt j m (after_rising s k b i (with_execute k i m))
-rising_spares laws s j k b i m d within h none =
-    let free = free_of k i m in
-    let asking = asks laws s k (instance.called (instance_at m.instances k) i.execute) m h in
-    let sizes = asking.sized in
-    let a = sizes.axes in
-    let g = sizes.groups in
-    let same = free_same k j i m d in
-    let still : commands_shown (progress_in free.instances j) ≡ 0 =
-    ap (λ (x : InstanceState). commands_shown x.progress) same ∙ none in
-    let P : Bool → Type 0 = λ x. IsSameAt j m
-    (if x then after_group_command s k b.object b.kind i free
-    else after_axis_command s k b.object b.kind i free) in
-    elim (cases_Bool (acts_on_group b.kind)) [
-      | inl on ↦
-          let is : b.object < length s.groups =
-          subst (λ x. b.object < (if x then length s.groups else length s.axes)) on within in
-          subst P (sym on)
-          (group_command_spares laws s j k b.object b.kind i free d (omega arith) asking still
-          ∙ same)
-      | inr off ↦
-          let is : b.object < length s.axes =
-          subst (λ x. b.object < (if x then length s.groups else length s.axes)) off within in
-          subst P (sym off)
-          (command_spares laws s j k b.object b.kind i free d (omega arith) asking still ∙ same)
-    ]
 
 rising_tells : TellLaws → (s : Setup) (j k : ℕ) (b : BlockDef) (i : Inputs) (m : Machine) (n : ℕ)
     (f : Finish) → nat_eq k j ≡ false → ActsWithin s b → n < length m.axes →
@@ -101,7 +69,7 @@ rising_tells laws s j k b i m n f d within l there h owns ends =
     let here = ends_where (nat_eq b.object n) fate f on_axis.1 in
     let is : b.object ≡ n = eqb-true b.object n here.0 in
     let left : active_at free j (an_axis n) ≡ 1 =
-    active_left j k (with_execute k i m) (an_axis n) d l ∙ owns in
+    active_left laws.owners k j v m (an_axis n) d l ∙ owns in
     subst (λ x. HasEnded f j (if x then after_group_command s k b.object b.kind i free
     else after_axis_command s k b.object b.kind i free)) (sym on_axis.0)
     (subst (λ x. HasEnded f j (after_axis_command s k x b.kind i free)) (sym is)
@@ -129,23 +97,12 @@ rising_tells_group laws s j k b i m g f d within l there h owns ends =
     let here = ends_where (nat_eq b.object g) fate f on_group.1 in
     let is : b.object ≡ g = eqb-true b.object g here.0 in
     let left : active_at free j (a_group g) ≡ 1 =
-    active_left j k (with_execute k i m) (a_group g) d l ∙ owns in
+    active_left laws.owners k j v m (a_group g) d l ∙ owns in
     subst (λ x. HasEnded f j (if x then after_group_command s k b.object b.kind i free
     else after_axis_command s k b.object b.kind i free)) (sym on_group.0)
     (subst (λ x. HasEnded f j (after_group_command s k x b.kind i free)) (sym is)
     (group_command_tells laws s j k g b.kind i free f d (omega arith) (omega arith) asking left
     here.1))
-
--- other edges ask for nothing
-edge_spares : OwnerLaws → (s : Setup) (e : Edge) (j k : ℕ) (b : BlockDef) (i : Inputs)
-    (m : Machine) → nat_eq k j ≡ false → ActsWithin s b → IsGood s m →
-    commands_shown (progress_in m.instances j) ≡ 0 →
-    IsSameAt j m (after_edge s e k b i (with_execute k i m))
-edge_spares laws s edge.Rising j k b i m d within h none =
-    rising_spares laws s j k b i m d within h none
-edge_spares laws s edge.High j k b i m d within h none = beside m k j _ d
-edge_spares laws s edge.Falling j k b i m d within h none = beside m k j _ d
-edge_spares laws s edge.Low j k b i m d within h none = beside m k j _ d
 
 edge_tells : TellLaws → (s : Setup) (e : Edge) (j k : ℕ) (b : BlockDef) (i : Inputs) (m : Machine)
     (n : ℕ) (f : Finish) → nat_eq k j ≡ false → ActsWithin s b → n < length m.axes →
@@ -177,21 +134,6 @@ on_axis s b m is within h =
     subst (λ y. b.object < (if acts_on_group y then length s.groups else length s.axes)) is within in
     let a = (h.sized).axes in
     omega arith
-
-asking_spares : OwnerLaws → (s : Setup) (x : BlockKind) (j k : ℕ) (b : BlockDef) (i : Inputs)
-    (m : Machine) → b.kind ≡ x → slice_get s.blocks k ≡ Some b → nat_eq k j ≡ false →
-    ActsWithin s b → IsGood s m → commands_shown (progress_in m.instances j) ≡ 0 →
-    IsSameAt j m
-    (after_asking s x (edge_of (instance_at m.instances k).execute i.execute) k b i
-    (with_execute k i m))
-asking_spares laws s kind.Power j k b i m is at d within h none =
-    let v = instance.called (instance_at m.instances k) i.execute in
-    let good = power_execute s k b m v at (ap is_power is) h in
-    let same = beside m k j v d in
-    power_spares laws s j b.object i.execute (with_execute k i m) (on_axis s b m is within h) good
-    (ap (λ (y : InstanceState). commands_shown y.progress) same ∙ none) ∙ same
-asking_spares laws s _ j k b i m is at d within h none =
-    edge_spares laws s _ j k b i m d within h none
 
 asking_tells : TellLaws → (s : Setup) (x : BlockKind) (j k : ℕ) (b : BlockDef) (i : Inputs)
     (m : Machine) (n : ℕ) (f : Finish) → b.kind ≡ x → slice_get s.blocks k ≡ Some b →
@@ -239,13 +181,6 @@ asking_tells_group laws s _ j k b i m g f is at d within l there on h owns ends 
 abbrev MayBeMade : Setup → Machine → ℕ → Inputs → Type 0
 MayBeMade s m k i = (b : BlockDef) → slice_get s.blocks k ≡ Some b → ActsWithin s b
 
-where_spares : OwnerLaws → (s : Setup) (o : Option BlockDef) (j k : ℕ) (i : Inputs) (m : Machine) →
-    slice_get s.blocks k ≡ o → MayBeMade s m k i → nat_eq k j ≡ false → IsGood s m →
-    commands_shown (progress_in m.instances j) ≡ 0 → IsSameAt j m (called_where s o k i m)
-where_spares laws s None j k i m at may d h none = refl
-where_spares laws s (Some b) j k i m at may d h none =
-    asking_spares laws s b.kind j k b i m refl at d (may b at) h none
-
 where_tells : TellLaws → (s : Setup) (o : Option BlockDef) (j k : ℕ) (i : Inputs) (m : Machine)
     (n : ℕ) (f : Finish) → slice_get s.blocks k ≡ o → MayBeMade s m k i → nat_eq k j ≡ false →
     n < length m.axes → j < length m.instances → IsGood s m → active_at m j (an_axis n) ≡ 1 →
@@ -267,19 +202,7 @@ where_tells_group laws s (Some b) j k i m g f at may d l there on h owns ends =
 made_by : OwnerLaws → (s : Setup) (m : Machine) (k : ℕ) (i : Inputs) → AreWhole s → IsCall s k i →
     IsMachineKept s m → MayBeMade s m k i
 made_by laws s m k i whole call kept b at =
-    let may = laws.may_call s k b i m whole at call kept in may.object
-
-pub call_spares : OwnerLaws → (s : Setup) (m : Machine) (j k : ℕ) (i : Inputs) → AreWhole s →
-    IsCall s k i → IsMachineKept s m → IsGood s m → nat_eq k j ≡ false →
-    commands_shown (progress_in m.instances j) ≡ 0 →
-    progress_in (after_call s m k i).instances j ≡ progress_in m.instances j
-unfolding called
-call_spares laws s m j k i whole made kept h d none =
-    let x = called s k i m in
-    ap (λ (y : InstanceState). y.progress)
-    (beside x k j (instance.shown (instance_at x.instances k)) d
-    ∙ where_spares laws s (slice_get s.blocks k) j k i m refl (made_by laws s m k i whole made kept)
-    d h none)
+    let may = laws.walk.may_call s k b i m whole at call kept in may.object
 
 pub call_tells_axis : TellLaws → (s : Setup) (m : Machine) (j k : ℕ) (i : Inputs) (n : ℕ)
     (f : Finish) → AreWhole s → IsCall s k i → IsMachineKept s m → IsGood s m →

@@ -31,9 +31,14 @@ use Rattle.motion_laws.specs.arrivals.GroupFates as group_entry
 use Rattle.motion_laws.specs.owners.Objects.{a_group, an_axis, has_commands_on}
 use Rattle.motion_laws.specs.owners.Commands.{active_at, commands_shown}
 use Rattle.motion_laws.proofs.owners.active.Cycles.{found_in}
-use Rattle.motion_laws.proofs.owners.commands.Events.{Changes, IsGood, OwnerLaws, axis_changes, block_there, group_changes}
-use Rattle.motion_laws.proofs.owners.commands.Freed.{IsAsking, plus_none, power_good}
-use Rattle.motion_laws.proofs.owners.commands.Asked.{members_are_led, other_brings, other_brings_group, plus_nothing}
+use Rattle.motion_laws.proofs.owners.commands.Events.{Changes, IsGood, OwnerLaws, block_there}
+use Rattle.command_changes.specs.Axis as axis
+use Rattle.command_changes.specs.Group as group
+use Rattle.motion_laws.proofs.owners.Events.{axis_changes, group_changes}
+use Rattle.motion_laws.proofs.owners.Kept.{power_good}
+use Rattle.motion_laws.proofs.owners.commands.Freed.{IsAsking}
+use Rattle.motion_laws.proofs.walk.Events.{members_instances}
+use Rattle.motion_laws.proofs.owners.commands.Asked.{other_brings, other_brings_group}
 use Rattle.motion_laws.proofs.results.Steps.{TellLaws}
 use Rattle.motion_laws.proofs.results.Events.{HasEnded, event_spares, event_tells, none_spared, one_there, progress_in}
 
@@ -77,8 +82,9 @@ power_changes : OwnerLaws → (s : Setup) (j n : ℕ) (enable : Bool) (m : Machi
     (core_after_power enable (axis_core_at m n)).notes
 power_changes laws s j n enable m h l =
     let c = axis_core_at m n in
-    axis_changes s j n m (core_after_power enable c) h.sized l
-    (plus_none _ _ _ _ refl (laws.axes.power j enable c))
+    let xs = axis.power_changes enable c in
+    axis_changes laws s j n m (core_after_power enable c) xs h.sized l
+    (laws.walk.axis.power enable c) (laws.once.none j xs (laws.walk.axis.power_brings enable c))
 
 off_changes : OwnerLaws → (s : Setup) (j g : ℕ) (m : Machine) → IsGood s m →
     g < length m.groups →
@@ -86,8 +92,9 @@ off_changes : OwnerLaws → (s : Setup) (j g : ℕ) (m : Machine) → IsGood s m
     (powered_off (group_core_at m g)).notes
 off_changes laws s j g m h l =
     let c = group_core_at m g in
-    group_changes s j g m (powered_off c) h.sized l
-    (plus_none _ _ _ _ refl (laws.groups.power_off j c))
+    let xs = group.power_off_changes c in
+    group_changes laws s j g m (powered_off c) xs h.sized l
+    (laws.walk.group.power_off c) (laws.once.none j xs (laws.walk.group.power_brings c))
 
 off_spares : OwnerLaws → (s : Setup) (j : ℕ) (o : Option Membership) (m : Machine) →
     ((at : Membership) → o ≡ Some at → at.group < length m.groups) → IsGood s m →
@@ -106,19 +113,6 @@ group_there s n x h at e =
     let g = found.group in
     let size = (h.sized).groups in
     omega arith
-
-pub power_spares : OwnerLaws → (s : Setup) (j n : ℕ) (enable : Bool) (m : Machine) → n < length m.axes →
-    IsGood s m → commands_shown (progress_in m.instances j) ≡ 0 →
-    IsSameAt j m (after_power s n enable m)
-unfolding after_power
-power_spares laws s j n enable m l h none =
-    let powered = with_axis_core m n (core_after_power enable (axis_core_at m n)) in
-    let good = power_good laws s n enable m l h in
-    let one = event_spares s j m powered (an_axis n) _ (power_changes laws s j n enable m h l)
-    (h.shown j) (none_spared s j m.instances (an_axis n) none) in
-    by_if (IsSameAt j m) enable powered (group_without_power (membership_of s n) powered) one
-    (off_spares laws s j (membership_of s n) powered (group_there s n powered good) good
-    (ap (λ (x : InstanceState). commands_shown x.progress) one ∙ none) ∙ one)
 
 pub power_tells : TellLaws → (s : Setup) (j n : ℕ) (enable : Bool) (m : Machine) (f : Finish) →
     n < length m.axes → j < length m.instances → IsGood s m → active_at m j (an_axis n) ≡ 1 →
@@ -188,20 +182,8 @@ command_changes laws s j k n x i m d h l =
     let c = axis_core_at m n in
     let q = asked_of_axis s k n x i m in
     let none = other_brings j k (axis_refusals.refusal_of q) q.wanted d refl in
-    axis_changes s j n m (core_after_command q c) h.sized l
-    (plus_nothing _ _ _ _ _ none refl (laws.axes.command j q c))
-
-pub command_spares : OwnerLaws → (s : Setup) (j k n : ℕ) (x : BlockKind) (i : Inputs) (m : Machine) →
-    nat_eq k j ≡ false → n < length m.axes → IsAsking s k m →
-    commands_shown (progress_in m.instances j) ≡ 0 →
-    IsSameAt j m (after_axis_command s k n x i m)
-unfolding after_axis_command
-command_spares laws s j k n x i m d l h none =
-    let q = asked_of_axis s k n x i m in
-    let y = with_axis_core m n (core_after_command q (axis_core_at m n)) in
-    beside y k j _ d
-    ∙ event_spares s j m y (an_axis n) _ (command_changes laws s j k n x i m d h l) (h.others j d)
-    (none_spared s j m.instances (an_axis n) none)
+    axis_changes laws s j n m (core_after_command q c) (axis.command_changes q c) h.sized l
+    (laws.walk.axis.command q c) (laws.walk.axis.command_brings j q c ∙ none)
 
 pub command_tells : TellLaws → (s : Setup) (j k n : ℕ) (x : BlockKind) (i : Inputs) (m : Machine)
     (f : Finish) → nat_eq k j ≡ false → n < length m.axes → j < length m.instances →
@@ -231,24 +213,9 @@ group_command_changes laws s j k n x i m d h l =
     let members = group_look s m n 0 in
     let none = other_brings_group j k
     (group_refusals.refusal_of (group_calls.asked_in c w i.jerk members)) w d refl in
-    group_changes s j n m (commanded w i.jerk members c) h.sized l
-    (plus_nothing _ _ _ _ _ none refl (laws.groups.command j w i.jerk members c))
-
-pub group_command_spares : OwnerLaws → (s : Setup) (j k n : ℕ) (x : BlockKind) (i : Inputs)
-    (m : Machine) → nat_eq k j ≡ false → n < length m.groups → IsAsking s k m →
-    commands_shown (progress_in m.instances j) ≡ 0 →
-    IsSameAt j m (after_group_command s k n x i m)
-unfolding after_group_command
-group_command_spares laws s j k n x i m d l h none =
-    let c = group_core_at m n in
-    let w = wanted_of k x i in
-    let members = group_look s m n 0 in
-    let y = with_group_core m n (commanded w i.jerk members c) in
-    let answer = group_calls.answer_of w i.jerk members c in
-    let led = members_are_led s n x answer y in
-    beside (members_led s n x answer y) k j _ d ∙ ap (λ is. instance_at is j) led.instances
-    ∙ event_spares s j m y (a_group n) _ (group_command_changes laws s j k n x i m d h l)
-    (h.others j d) (none_spared s j m.instances (a_group n) none)
+    group_changes laws s j n m (commanded w i.jerk members c)
+    (group.command_changes w i.jerk members c) h.sized l (laws.walk.group.command w i.jerk members c)
+    (laws.walk.group.command_brings j w i.jerk members c ∙ none)
 
 pub group_command_tells : TellLaws → (s : Setup) (j k n : ℕ) (x : BlockKind) (i : Inputs)
     (m : Machine) (f : Finish) → nat_eq k j ≡ false → n < length m.groups →
@@ -263,11 +230,11 @@ group_command_tells laws s j k n x i m f d l there h owns ends =
     let members = group_look s m n 0 in
     let y = with_group_core m n (commanded w i.jerk members c) in
     let answer = group_calls.answer_of w i.jerk members c in
-    let led = members_are_led s n x answer y in
+    let led = members_instances s n x answer y in
     let owned = group_owner j n m owns in
     let told : HasEnded f j y = event_tells s j m y (a_group n) _ f
     (group_command_changes laws.owners s j k n x i m d h l)
     (laws.group_command w i.jerk members c j f ends owned)
     (one_there s j m (a_group n) (h.others j d) l) there in
     ended_beside (members_led s n x answer y) k j _ f d
-    (ap (λ is. progress_in is j) led.instances ∙ told)
+    (ap (λ is. progress_in is j) led ∙ told)

@@ -23,9 +23,10 @@ use Rattle.motion_kernel.proofs.kept.GroupSteps.{have_stepped}
 use Rattle.motion_laws.specs.owners.Commands.{CommandsAreShown, commands_shown}
 use Rattle.motion_laws.specs.owners.Objects.{a_group, an_axis, has_commands_on}
 use Rattle.motion_laws.proofs.owners.commands.Events.{IsGood, OwnerLaws}
-use Rattle.motion_laws.proofs.owners.commands.Cycles.{axes_good, axis_active_shown, group_active_shown, resets_good, steps_good}
+use Rattle.motion_laws.proofs.owners.Kept.{axes_good, resets_good, steps_good}
+use Rattle.motion_laws.proofs.owners.commands.Cycles.{axis_active_shown, group_active_shown}
 use Rattle.motion_laws.proofs.results.Events.{HasEnded, ended_spared, none_spared, progress_in}
-use Rattle.motion_laws.proofs.results.Steps.{TellLaws, steps_spare, axes_spare, resets_spare, steps_tell, axes_tell}
+use Rattle.motion_laws.proofs.results.Steps.{TellLaws, axes_spare, resets_spare, steps_tell, axes_tell}
 
 -- what the instances are told at a cycle's end leaves those without a command
 owner_spares : (o : Option ℕ) (reached : Bool) (is : List InstanceState) (k : ℕ) →
@@ -93,7 +94,7 @@ all_progress (suc n) blocks axes groups is k =
     where_progress (slice_get blocks n) axes groups n (instances_found n blocks axes groups is) k
     ∙ all_progress n blocks axes groups is k
 
-found_spares : (s : Setup) (m : Machine) (k : ℕ) → CommandsAreShown s m →
+pub found_spares : (s : Setup) (m : Machine) (k : ℕ) → CommandsAreShown s m →
     commands_shown (progress_in m.instances k) ≡ 0 →
     progress_in (with_found s m).instances k ≡ progress_in m.instances k
 unfolding with_found
@@ -148,24 +149,6 @@ rests laws s m ins k h none =
     (λ j l. none_spared s k moved.instances (a_group j) none)) in
     found_spares s (cycled s m ins).machine k going.reset.shown
     (ap commands_shown last ∙ none) ∙ last
-
--- a cycle leaves an instance without a command
-pub cycle_spares : OwnerLaws → (s : Setup) (m : Machine) (ins : List DriveIn) (k : ℕ) →
-    IsGood s m → commands_shown (progress_in m.instances k) ≡ 0 →
-    progress_in (after_cycle s m ins).instances k ≡ progress_in m.instances k
-cycle_spares laws s m ins k h none =
-    let g = (h.sized).groups in
-    let going = goes laws s m ins h in
-    let stepped = (stepped_in s ins m).machine in
-    let a = (going.stepped.sized).axes in
-    let one = steps_spare laws s k (length m.groups) ins m (omega arith) h
-    (λ j l. none_spared s k m.instances (a_group j) none) in
-    let still : commands_shown (progress_in stepped.instances k) ≡ 0 =
-    ap (λ (i : InstanceState). commands_shown i.progress) one ∙ none in
-    let two = axes_spare laws s k (length stepped.axes) (around_in s ins m) stepped (omega arith)
-    going.stepped (λ i l. none_spared s k stepped.instances (an_axis i) still) in
-    rests laws s m ins k h (ap (λ (i : InstanceState). commands_shown i.progress) two ∙ still)
-    ∙ ap (λ (i : InstanceState). i.progress) (two ∙ one)
 
 -- a cycle in which the command of an axis or a group ends tells its instance
 pub cycle_tells_axis : TellLaws → (s : Setup) (m : Machine) (ins : List DriveIn) (k n : ℕ)

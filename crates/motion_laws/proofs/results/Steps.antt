@@ -31,9 +31,11 @@ use Rattle.motion_kernel.specs.kept.Machine.{IsMachineKept}
 use Rattle.motion_kernel.proofs.kept.GroupSteps.{have_stepped}
 use Rattle.motion_kernel.proofs.cycles.OneAxis.{not_yet}
 use Rattle.motion_laws.specs.owners.Objects.{a_group, an_axis, has_commands_on}
-use Rattle.motion_laws.proofs.owners.commands.Events.{Changes, IsGood, OwnerLaws, axis_changes, block_there, group_changes}
-use Rattle.motion_laws.proofs.owners.commands.Cycles.{axes_good, resets_good, steps_good}
-use Rattle.motion_laws.proofs.owners.commands.Freed.{plus_none}
+use Rattle.motion_laws.proofs.owners.commands.Events.{Changes, IsGood, OwnerLaws, block_there}
+use Rattle.command_changes.specs.Axis as axis
+use Rattle.command_changes.specs.Group as group
+use Rattle.motion_laws.proofs.owners.Events.{axis_changes, group_changes}
+use Rattle.motion_laws.proofs.owners.Kept.{axes_good, resets_good, steps_good}
 use Rattle.motion_laws.proofs.results.Events.{HasEnded, IsSpared, ended_spared, event_spares, event_tells, one_there, still_spared}
 
 -- the laws on which it rests that results are told: axis_core's and group_core's ends_are_told_once
@@ -63,8 +65,9 @@ step_changes : OwnerLaws → (s : Setup) (k n : ℕ) (ins : List DriveIn) (x : M
 step_changes laws s k n ins x good there =
     let look = look_in_cycle s ins n x in
     let c = group_core_at x n in
-    group_changes s k n x (group_cycles.cycled look c) good.sized there
-    (plus_none _ _ _ _ refl (laws.groups.cycle k look c))
+    let xs = group.cycle_changes look c in
+    group_changes laws s k n x (group_cycles.cycled look c) xs good.sized there
+    (laws.walk.group.cycle look c) (laws.once.none k xs (laws.walk.group.cycle_brings look c))
 
 cycle_changes : OwnerLaws → (s : Setup) (k n : ℕ) (around : Surroundings) (x : Machine) →
     IsGood s x → n < length x.axes →
@@ -72,8 +75,9 @@ cycle_changes : OwnerLaws → (s : Setup) (k n : ℕ) (around : Surroundings) (x
 cycle_changes laws s k n around x good there =
     let look = axis_look s around x n in
     let c = axis_core_at x n in
-    axis_changes s k n x (core_after_cycle look c) good.sized there
-    (plus_none _ _ _ _ refl (laws.axes.cycle k look c))
+    let xs = axis.cycle_changes look c in
+    axis_changes laws s k n x (core_after_cycle look c) xs good.sized there
+    (laws.walk.axis.cycle look c) (laws.once.none k xs (laws.walk.axis.cycle_brings look c))
 
 reset_changes : OwnerLaws → (s : Setup) (k n : ℕ) (x : Machine) → IsGood s x →
     n < length x.groups →
@@ -81,25 +85,9 @@ reset_changes : OwnerLaws → (s : Setup) (k n : ℕ) (x : Machine) → IsGood s
 reset_changes laws s k n x good there =
     let look = group_look s x n 0 in
     let c = group_core_at x n in
-    group_changes s k n x (group_cycles.reset_cycled look c) good.sized there
-    (plus_none _ _ _ _ refl (laws.groups.reset k look c))
-
--- an instance that has no command at some objects stays as it is in their steps
-pub steps_spare : OwnerLaws → (s : Setup) (k n : ℕ) (ins : List DriveIn) (m : Machine) →
-    n ≤ length s.groups → IsGood s m →
-    ((j : ℕ) → j < n → IsSpared s k m.instances (a_group j)) →
-    instance_at (groups_stepped s n ins m).machine.instances k ≡ instance_at m.instances k
-unfolding groups_stepped
-steps_spare laws s k zero ins m l h spared = refl
-steps_spare laws s k (suc n) ins m l h spared =
-    let so_far = steps_good laws s n ins m (omega arith) h in
-    let before = steps_spare laws s k n ins m (omega arith) h (λ j b. spared j (omega arith)) in
-    let x = (groups_stepped s n ins m).machine in
-    let g = (so_far.sized).groups in
-    event_spares s k x (after_group_step s ins n x) (a_group n) _
-    (step_changes laws s k n ins x so_far (omega arith)) (so_far.shown k)
-    (still_spared s k m.instances x.instances (a_group n) before (spared n (omega arith)))
-    ∙ before
+    let xs = group.reset_changes c in
+    group_changes laws s k n x (group_cycles.reset_cycled look c) xs good.sized there
+    (laws.walk.group.reset look c) (laws.once.none k xs (laws.walk.group.reset_brings c))
 
 pub axes_spare : OwnerLaws → (s : Setup) (k n : ℕ) (around : Surroundings) (m : Machine) →
     n ≤ length s.axes → IsGood s m →

@@ -29,18 +29,17 @@ use Rattle.motion_laws.specs.entries.Replies.{AreOfBlocks}
 use Rattle.motion_laws.specs.results.Results.{AreNoCalls, KeepsResults, ResultsAreTold, Tells, TellsNext, end_in, is_call_of, is_rising, takes_away}
 use Rattle.motion_laws.proofs.owners.active.Cycles.{found_in}
 use Rattle.motion_laws.proofs.arrivals.Moves.{behind}
-use Rattle.motion_laws.proofs.owners.holders.Calls.{call_all_shown}
-use Rattle.motion_laws.proofs.owners.holders.Cycles.{cycle_all_shown}
-use Rattle.motion_laws.proofs.owners.holders.Histories.{legal_all_shown}
+use Rattle.motion_laws.proofs.owners.Shown.{call_all_shown, cycle_all_shown, legal_all_shown}
 use Rattle.motion_kernel.proofs.kept.Machine.{kept_by_cycle}
 use Rattle.motion_laws.proofs.owners.commands.Events.{IsGood, block_there, shown_where, there_where}
 use Rattle.motion_laws.proofs.owners.commands.Asked.{set_at}
 use Rattle.motion_laws.proofs.entries.replies.Entries.{call_of_blocks, cycle_of_blocks, opening_of_blocks}
 use Rattle.motion_laws.proofs.entries.replies.Histories.{kind_after, replay_of_blocks}
 use Rattle.motion_laws.proofs.Histories.{legal_kept, legal_so_far}
-use Rattle.motion_laws.proofs.results.Calls.{call_spares, call_tells_axis, call_tells_group}
+use Rattle.motion_laws.proofs.results.Spared.{call_spares, cycle_spares}
+use Rattle.motion_laws.proofs.results.Calls.{call_tells_axis, call_tells_group}
 use Rattle.motion_laws.proofs.results.Steps.{TellLaws}
-use Rattle.motion_laws.proofs.results.Cycles.{cycle_spares, cycle_tells_axis, cycle_tells_group}
+use Rattle.motion_laws.proofs.results.Cycles.{cycle_tells_axis, cycle_tells_group}
 use Rattle.motion_laws.proofs.results.Events.{HasEnded, progress_in}
 
 -- a machine of a legal history
@@ -55,12 +54,12 @@ good_of s m h = record { sized = h.kept.sized; shown = h.shown.commands }
 runs_on : TellLaws → (s : Setup) (cycles : ℕ) (m : Machine) (e : Entry) → AreWhole s →
     IsRunning s m → IsOf s cycles m e → IsRunning s (after s m e)
 runs_on laws s cycles m (call k i reply) whole h is = record {
-  kept = laws.owners.machines.call s m k i whole is.0 h.kept;
+  kept = laws.owners.walk.machines.call s m k i whole is.0 h.kept;
   shown = call_all_shown laws.owners s m k i whole is.0 h.kept h.shown;
   blocks = call_of_blocks s m k i h.blocks;
 }
 runs_on laws s cycles m (cycle c rows grows) whole h is = record {
-  kept = kept_by_cycle laws.owners.machines s m rows grows h.kept is.1;
+  kept = kept_by_cycle laws.owners.walk.machines s m rows grows h.kept is.1;
   shown = cycle_all_shown laws.owners s m (inputs_of rows) h.kept h.shown;
   blocks = cycle_of_blocks s m (inputs_of rows) h.blocks;
 }
@@ -71,9 +70,9 @@ untold_by : TellLaws → (s : Setup) (cycles : ℕ) (m : Machine) (e : Entry) (k
     IsRunning s m → IsOf s cycles m e → commands_shown (progress_in m.instances k) ≡ 0 →
     is_call_of k e ≡ false → progress_in (after s m e).instances k ≡ progress_in m.instances k
 untold_by laws s cycles m (call j i reply) k whole h is none other =
-    call_spares laws.owners s m k j i whole is.0 h.kept (good_of s m h) other none
+    call_spares laws.owners s m k j i whole is.0 h.kept h.shown.commands other none
 untold_by laws s cycles m (cycle c rows grows) k whole h is none other =
-    cycle_spares laws.owners s m (inputs_of rows) k (good_of s m h) none
+    cycle_spares laws.owners s m (inputs_of rows) k h.kept h.shown.commands none
 untold_by laws s cycles m (end_of task) k whole h is none other = refl
 
 -- an instance's own call that is no rising edge ends none of its commands
@@ -311,7 +310,7 @@ results_told laws s es setup whole legal made more e k is =
     let so_far = legal_so_far s made (e ∷ more) all in
     results_kept laws s (0 + cycles_of made) (machine_after s made) e more k whole
     (record {
-      kept = legal_kept laws.owners.machines s made setup whole so_far;
+      kept = legal_kept laws.owners.walk.machines s made setup whole so_far;
       shown = legal_all_shown laws.owners s made setup whole so_far;
       blocks = replay_of_blocks s (machine_at_opening s) made (opening_of_blocks s);
     }) (behind s 0 (machine_at_opening s) made (e ∷ more) all.follows)

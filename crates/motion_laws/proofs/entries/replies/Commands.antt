@@ -1,5 +1,5 @@
 -- What a call leaves of the instances, before its reply.
-use Rattle.std.specs.Prelude.{◌≡◌, refl, ℕ, Bool, true, false, Option, Some, None, Result, Ok, Err, List, [], ◌∷◌, slice_set}
+use Rattle.std.specs.Prelude.{◌≡◌, ℕ, Bool, true, false, Option, Some, None, Result, Ok, Err, List, [], ◌∷◌, slice_set}
 use Rattle.std.specs.List.{AllByRecursion}
 use Rattle.std.proofs.Common.{sym, subst}
 use Rattle.axis_core.specs.Calls.{answer_by, answer_of, core_after_command, core_after_power}
@@ -28,14 +28,15 @@ use Rattle.group_core.specs.declared.reason.Reason as group_reason
 use Rattle.motion_history.specs.Setup.{Setup}
 use Rattle.motion_history.specs.declared.config.BlockDef.{BlockDef}
 use Rattle.motion_kernel.specs.calls.Asking.{is_done_at_once, wanted_of}
-use Rattle.motion_kernel.specs.calls.Calls.{after_asking, after_axis_command, after_edge, after_group_command, after_power, after_rising, asked_of_axis, axes_led, called_block, enters_path, group_without_power, leaves_path, members_led, with_answer, with_axis_core, with_execute, with_group_core, without_owner}
+use Rattle.motion_kernel.specs.calls.Calls.{after_asking, after_axis_command, after_edge, after_group_command, after_power, after_rising, asked_of_axis, called_block, group_without_power, members_led, with_answer, with_axis_core, with_execute, with_group_core, without_owner}
 use Rattle.motion_kernel.specs.looks.GroupLooks.{group_look}
 use Rattle.motion_kernel.specs.Machine.{Machine, axis_core_at, group_core_at, instance_at}
-use Rattle.motion_kernel.specs.members.Members.{members_at, membership_of}
+use Rattle.motion_kernel.specs.members.Members.{membership_of}
 use Rattle.motion_kernel.specs.calls.Telling.{told_end, told_notes}
 use Rattle.motion_kernel.specs.declared.memberships.Membership.{Membership}
 use Rattle.motion_kernel.proofs.kept.Machine.{MachinesStayKept}
 use Rattle.motion_kernel.proofs.Sizes.{by_if}
+use Rattle.motion_laws.proofs.walk.Events.{members_instances}
 use Rattle.motion_laws.proofs.entries.replies.AxisNumbers.{AreNumbered, axis_numbered, command_told, group_numbered, power_told}
 use Rattle.motion_laws.proofs.entries.replies.GroupNumbers.{group_command_told, group_power_told}
 
@@ -99,19 +100,6 @@ axis_command_stays P c s k n kind i m h =
     (axis_answered (axis_refusals.refusal_of q) q.wanted core)
     (notes_stay P c (core_after_command q core).notes m.instances (command_told q core tt) h)
 
-axes_led_instances : (on : Bool) (ns : List ℕ) (m : Machine) → (axes_led on ns m).instances
-    ≡ m.instances
-axes_led_instances on [] m = refl
-axes_led_instances on (n ∷ ns) m = axes_led_instances on ns _
-
-led_instances : (s : Setup) (j : ℕ) (kind : BlockKind) (answer : Result Bool Refusal)
-    (m : Machine) → (members_led s j kind answer m).instances ≡ m.instances
-led_instances s j kind answer m =
-    by_if (λ (x : Machine). x.instances ≡ m.instances) (enters_path answer) _ _
-    (axes_led_instances true (members_at s j) m)
-    (by_if (λ (x : Machine). x.instances ≡ m.instances) (leaves_path kind answer) _ _
-    (axes_led_instances false (members_at s j) m) refl)
-
 group_answered : (o : Option group_reason.Reason) (w : Wanted) (c : group_cores.Core) → IsAnswer
     (group_calls.answer_by o w c)
 group_answered None w c = tt
@@ -129,7 +117,7 @@ group_command_stays P c s k j kind i m h =
     let answer = group_calls.answer_by refusal w core in
     let x = with_group_core m j (commanded w i.jerk members core) in
     answer_stays P c k kind answer (members_led s j kind answer x) (group_answered refusal w core)
-    (subst P (sym (led_instances s j kind answer x))
+    (subst P (sym (members_instances s j kind answer x))
     (notes_stay P c (commanded w i.jerk members core).notes m.instances
     (group_command_told w i.jerk members core tt) h))
 

@@ -1,38 +1,23 @@
 -- Commands are where their instances show, by the laws of the machine, its axes and its groups.
-use Rattle.motion_laws.proofs.owners.holders.Calls.{call_all_shown}
-use Rattle.motion_laws.proofs.owners.holders.Cycles.{cycle_all_shown}
-use Rattle.motion_laws.proofs.owners.holders.Histories.{legal_all_shown, opening_all_shown}
+use Rattle.motion_laws.proofs.owners.Shown.{call_all_shown, cycle_all_shown, legal_all_shown, opening_all_shown}
+use Rattle.motion_kernel.proofs.kept.Machine.{MachinesStayKept}
 use Rattle.motion_laws.proofs.owners.commands.Events.{OwnerLaws}
 use Rattle.motion_laws.proofs.owner_laws.commands_are_where_their_instances_show.Goals as goal
 
-laws : (c : goal.After-ends_are_told_once-2) → OwnerLaws
+laws : (c : goal.After-holders_have_commands) → OwnerLaws
 laws c =
     let m = c.machines_stay_kept.ensures in
-    let a = c.ends_are_told_once.ensures in
-    let g = c.ends_are_told_once-2.ensures in
+    let machines : MachinesStayKept = record { opened = m.opened; call = m.call; may_go_on = m.may_go_on; cycle = m.cycle } in
     record {
-      machines = record {
-        opened = m.opened;
-        call = m.call;
-        may_go_on = m.may_go_on;
-        cycle = m.cycle;
+      walk = record {
+        machines = machines;
+        may_call = m.may_call;
+        axis = c.axis_changes_are_made.ensures;
+        group = c.group_changes_are_made.ensures;
       };
-      may_call = m.may_call;
-      axes = record {
-        command = a.once_command;
-        power = a.once_power;
-        cycle = a.once_cycle;
-        taken_away = a.taken_away;
-        left = a.left;
-      };
-      groups = record {
-        command = g.once_command;
-        power_off = g.once_power_off;
-        cycle = g.once_cycle;
-        reset = g.once_reset;
-        taken_away = g.taken_away;
-        left = g.left;
-      };
+      once = c.ends_are_told_once.ensures;
+      more = c.commands_come_from_calls.ensures;
+      hold = c.holders_have_commands.ensures;
     }
 
 pub returns-clause-opened : goal.returns-clause-opened

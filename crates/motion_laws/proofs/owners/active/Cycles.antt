@@ -4,28 +4,24 @@ use Rattle.std.proofs.Common.{arith, ap, sym, subst, ◌∙◌, inl, inr}
 use Rattle.std.proofs.lemmas.Bool.{cases_Bool, cases_eq, eqb-true}
 use Rattle.axis_core.specs.declared.axis.Axis.{Axis}
 use Rattle.buffer_modes.specs.Owners.{is_owner, owner_by}
-use Rattle.cia402_machine.specs.declared.drive.DriveIn.{DriveIn}
 use Rattle.command_pool.specs.declared.wanted.Wanted.{Wanted}
 use Rattle.fb_outputs.specs.InstanceState.{InstanceState}
 use Rattle.fb_outputs.specs.Steps as instance
 use Rattle.motion_history.specs.Setup.{Setup}
 use Rattle.motion_history.specs.declared.config.BlockDef.{BlockDef}
-use Rattle.motion_kernel.specs.cycles.Cycles.{after_cycle, cycled}
 use Rattle.motion_kernel.specs.cycles.Showing.{axes_shown, found_by, groups_shown, instance_found, instances_found, told_found, with_found}
 use Rattle.motion_kernel.specs.Machine.{Machine, PlacedGroup, axis_at, group_at, instance_at, machine_at_opening}
-use Rattle.motion_kernel.specs.kept.Machine.{IsMachineKept}
 use Rattle.motion_laws.specs.owners.Commands.{ActiveAreShown, CommandsAreShown, active_at, commands_at}
 use Rattle.motion_laws.specs.owners.Objects.{IsThere, Object, has_commands_on, is_same, a_group, an_axis}
 use Rattle.motion_laws.proofs.owners.Counts.{none_owned, other_owner, shown_by}
-use Rattle.motion_laws.proofs.owners.commands.Asked.{same_there}
-use Rattle.motion_laws.proofs.owners.commands.Cycles.{axes_told, cycle_shown, cycled_good}
-use Rattle.motion_laws.proofs.owners.commands.Events.{IsGood, OwnerLaws, beside_none, most_one, none_beside, none_if, same_object, shown_if, shown_where}
+use Rattle.motion_laws.proofs.owners.commands.Cycles.{axes_told}
+use Rattle.motion_laws.proofs.owners.commands.Events.{beside_none, most_one, none_beside, none_if, same_object, shown_if, shown_where}
 use Rattle.motion_laws.proofs.owners.commands.Opening.{opening_shown, shows_none}
-use Rattle.motion_laws.proofs.owners.active.Asked.{active_same}
 use Rattle.motion_laws.proofs.owners.active.Calls.{one_active}
-use Rattle.motion_laws.proofs.owners.active.Events.{AreTrulyShown, active_by, all_are, no_more_than_shown, none_is_active}
+use Rattle.motion_laws.proofs.owners.active.Events.{active_same, AreTrulyShown, active_by, all_are, no_more_than_shown, none_is_active}
 use Rattle.motion_laws.proofs.owners.active.Told.{IsTold, most_active, axes_are_told, groups_are_told, groups_grow, axes_done, groups_done}
-use Rattle.motion_laws.proofs.owners.active.Waiting.{WaitsOf, waits_first, at_most, cycled_waits}
+use Rattle.motion_laws.proofs.owners.active.Waiting.{WaitsOf, at_most}
+use Rattle.motion_laws.proofs.walk.Events.{there_same}
 
 -- an owner by its count
 pub found_in : (k : ℕ) (o : Option ℕ) → 0 < is_owner k o → o ≡ Some k
@@ -149,26 +145,15 @@ told_truly s m k o h waits there =
           eq_if b (active_at m k o) (active_by (told_in m) k) on (omega arith)
     ]
 
-found_truly : (s : Setup) (m : Machine) → CommandsAreShown s m → ((k : ℕ) → WaitsOf s k m) →
+pub found_truly : (s : Setup) (m : Machine) → CommandsAreShown s m → ((k : ℕ) → WaitsOf s k m) →
     ActiveAreShown s (with_found s m)
 unfolding with_found
 found_truly s m h waits k o l =
     let found = instances_found (length s.blocks) s.blocks m.axes m.groups (told_in m) in
-    let there = same_there m found o l in
+    let there = there_same m found o l in
     active_same m found k o ∙ told_truly s m k o h (waits k) there
     ∙ ap (λ x. if has_commands_on (slice_get s.blocks k) o then x else 0)
     (sym (all_found_active (length s.blocks) s.blocks m.axes m.groups (told_in m) k))
-
-pub cycle_truly_shown : OwnerLaws → (s : Setup) (m : Machine) (ins : List DriveIn) →
-    IsMachineKept s m → AreTrulyShown s m → AreTrulyShown s (after_cycle s m ins)
-cycle_truly_shown laws s m ins kept h =
-    let good : IsGood s m = record { sized = kept.sized; shown = h.commands } in
-    let after = cycled_good laws s m ins good in
-    let waits = cycled_waits laws s m ins good (waits_first s m h.commands h.active) in
-    record {
-      commands = cycle_shown laws s m ins kept h.commands;
-      active = found_truly s (cycled s m ins).machine after.shown waits;
-    }
 
 -- at opening
 pub opening_truly_shown : (s : Setup) → AreTrulyShown s (machine_at_opening s)

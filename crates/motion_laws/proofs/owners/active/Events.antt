@@ -1,26 +1,22 @@
 -- What an event leaves of the active commands that instances show.
-use Rattle.std.specs.Prelude.{◌≡◌, refl, ℕ, ◌+◌, ◌<◌, ◌≤◌, false, nat_eq, if◌then◌else◌, List, length, slice_get, slice_set}
+use Rattle.std.specs.Prelude.{◌≡◌, refl, ℕ, ◌+◌, ◌≤◌, false, nat_eq, if◌then◌else◌, List, slice_get, slice_set}
 use Rattle.std.proofs.Common.{arith, ap, sym, subst, ◌∙◌, inl, inr}
-use Rattle.std.proofs.lemmas.Bool.{cases_Bool, cases_eq, eqb-false}
+use Rattle.std.proofs.lemmas.Bool.{cases_Bool, cases_eq, eqb-false, eqb-true}
 use Rattle.std.proofs.lemmas.List.{get_or-set_other}
-use Rattle.axis_core.specs.Cores as cores
 use Rattle.buffer_modes.specs.Owners.{told}
 use Rattle.command_pool.specs.declared.notes.Note.{Note}
 use Rattle.fb_outputs.specs.InstanceState.{InstanceState}
 use Rattle.fb_outputs.specs.declared.instance.Progress.{Progress}
 use Rattle.fb_outputs.specs.declared.instance.Progress.TheVariants.{Idle, Waiting, Active, Ended}
-use Rattle.group_core.specs.Cores as group_cores
 use Rattle.motion_history.specs.Setup.{Setup}
-use Rattle.motion_kernel.specs.calls.Calls.{with_axis_core, with_group_core, with_instance}
-use Rattle.motion_kernel.specs.Machine.{Machine, axis_core_at, group_core_at, instance_at, no_instance}
-use Rattle.motion_kernel.specs.kept.Machine.{IsSized}
-use Rattle.motion_kernel.proofs.kept.Events.{axis_beside_axis, axis_beside_group, axis_written, group_beside_axis, group_beside_group, group_written}
+use Rattle.motion_kernel.specs.calls.Calls.{with_instance}
+use Rattle.motion_kernel.specs.Machine.{Machine, instance_at, no_instance}
 use Rattle.motion_laws.specs.owners.Commands.{ActiveAreShown, CommandsAreShown, active_at, active_shown, commands_at, commands_shown}
 use Rattle.motion_laws.specs.owners.Objects.{IsThere, Object, has_commands_on, is_same, a_group, an_axis}
-use Rattle.motion_laws.proofs.owners.active.AxisCounts.{AxisNoMore, active_of, waiting_of}
-use Rattle.motion_laws.proofs.owners.active.GroupCounts.{GroupNoMore, group_active_of, group_waiting_of}
+use Rattle.command_core.specs.Charge.{waiting_of}
+use Rattle.motion_laws.proofs.walk.Keeps.{charge_at}
 use Rattle.motion_laws.proofs.owners.Counts.{told_shows_none, shown_by, untold_stays}
-use Rattle.motion_laws.proofs.owners.commands.Events.{Changes, ShownOf, event_shown, group_list, lists_there, none_if, same_object}
+use Rattle.motion_laws.proofs.owners.commands.Events.{Changes, ShownOf, event_shown, none_if, same_object}
 
 -- commands are where their instances show, apart from holds
 pub record AreTrulyShown (s : Setup) (m : Machine) : Type 0 where
@@ -33,15 +29,12 @@ active_by is k = active_shown (instance_at is k).progress
 
 -- how many commands of an instance wait for an axis or group, a reset among them
 abbrev pub waits_at : Machine → ℕ → Object → ℕ
-waits_at m k (an_axis n) = waiting_of k (axis_core_at m n)
-waits_at m k (a_group j) = group_waiting_of k (group_core_at m j)
+waits_at m k o = waiting_of k (charge_at m o)
 
 -- commands are active or wait
 pub all_are : (m : Machine) (k : ℕ) (o : Object) → commands_at m k o ≡ active_at m k o + waits_at m k o
 all_are m k (an_axis n) = omega arith
-all_are m k (a_group j) =
-    let c = group_core_at m j in
-    omega arith
+all_are m k (a_group j) = omega arith
 
 pub no_more_than_shown : (p : Progress) → active_shown p ≤ commands_shown p
 no_more_than_shown Idle = omega arith
@@ -102,53 +95,6 @@ event_active s k m x o ns h keeps shown active = elim (cases_eq (told k ns) 0) [
       (ap (λ is. shown_by is k) h.told ∙ told_shows_none k ns m.instances (omega arith))
 ]
 
-pub axis_active_beside : (m : Machine) (n k : ℕ) (c : cores.Core) → n < length m.axes → (p : Object) →
-    IsThere m p → is_same (an_axis n) p ≡ false →
-    active_at (with_axis_core m n c) k p ≡ active_at m k p
-axis_active_beside m n k c l (an_axis j) there d = ap (active_of k)
-    (axis_beside_axis m n j c (λ e. eqb-false n j d (sym e)))
-axis_active_beside m n k c l (a_group j) there d = ap (group_active_of k)
-    (group_beside_axis m n j c l)
-
-pub group_active_beside : (m : Machine) (j k : ℕ) (c : group_cores.Core) (p : Object) → IsThere m p →
-    is_same (a_group j) p ≡ false →
-    active_at (with_group_core m j c) k p ≡ active_at m k p
-group_active_beside m j k c (an_axis n) there d = ap (active_of k) (axis_beside_group m j n c there)
-group_active_beside m j k c (a_group i) there d = ap (group_active_of k)
-    (group_beside_group m j i c (λ e. eqb-false j i d (sym e)))
-
-pub axis_keeps : (s : Setup) (k n : ℕ) (m : Machine) (c : cores.Core) → IsSized s m →
-    n < length m.axes → AxisNoMore k (axis_core_at m n) c →
-    KeepsActive k m (with_axis_core m n c) (an_axis n)
-axis_keeps s k n m c h l fewer =
-    let written = axis_written m n c l (lists_there s m n h l) in
-    let a = ap (active_of k) written in
-    let w = ap (waiting_of k) written in
-    let f = fewer.active in
-    let g = fewer.waiting in
-    record {
-      active = omega arith;
-      waiting = omega arith;
-      beside =
-          λ p there d. axis_active_beside m n k c l p there d;
-    }
-
-pub group_keeps : (s : Setup) (k j : ℕ) (m : Machine) (c : group_cores.Core) → IsSized s m →
-    j < length m.groups → GroupNoMore k (group_core_at m j) c →
-    KeepsActive k m (with_group_core m j c) (a_group j)
-group_keeps s k j m c h l fewer =
-    let written = group_written m j c l (group_list s m j h l) in
-    let a = ap (group_active_of k) written in
-    let w = ap (group_waiting_of k) written in
-    let f = fewer.active in
-    let g = fewer.waiting in
-    record {
-      active = omega arith;
-      waiting = omega arith;
-      beside =
-          λ p there d. group_active_beside m j k c p there d;
-    }
-
 -- where nothing else changes than what an instance shows not
 pub instances_active : (s : Setup) (k : ℕ) (m : Machine) (is : List InstanceState) →
     active_by is k ≡ active_by m.instances k → ActiveOf s k m →
@@ -164,3 +110,20 @@ beside_active s j k m i d active =
     instances_active s j m (slice_set m.instances k i)
     (ap (λ (x : InstanceState). active_shown x.progress)
     (get_or-set_other m.instances k j i no_instance (λ e. eqb-false k j d (sym e)))) active
+
+-- instances change no command
+pub active_same : (m : Machine) (is : List InstanceState) (k : ℕ) (o : Object) → active_at
+    (record m { instances = is }) k o ≡ active_at m k o
+active_same m is k (an_axis n) = refl
+active_same m is k (a_group j) = refl
+
+-- who has no command has none that is active
+pub none_active_at : (m : Machine) (k : ℕ) (o : Object) → commands_at m k o ≡ 0 → active_at m k o ≡ 0
+none_active_at m k o e = let all = all_are m k o in omega arith
+
+pub all_active : (s : Setup) (k : ℕ) (m : Machine) → ActiveOf s k m →
+    ((j : ℕ) → nat_eq k j ≡ false → ActiveOf s j m) → ActiveAreShown s m
+all_active s k m own others j = elim (cases_Bool (nat_eq k j)) [
+  | inl e ↦ subst (λ x. ActiveOf s x m) (eqb-true k j e) own
+  | inr d ↦ others j d
+]

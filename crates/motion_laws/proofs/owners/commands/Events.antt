@@ -1,87 +1,34 @@
 -- What an event leaves of the commands that instances show.
-use Rattle.std.specs.Prelude.{◌≡◌, refl, ℕ, zero, suc, ◌+◌, ◌<◌, ◌≤◌, ℤ, Bool, true, false, not, ◌&&◌, nat_eq, if◌then◌else◌, Option, Some, None, List, [], ◌∷◌, length, slice_get}
+use Rattle.std.specs.Prelude.{◌≡◌, refl, ℕ, zero, suc, ◌+◌, ◌<◌, ◌≤◌, Bool, true, false, not, ◌&&◌, if◌then◌else◌, Option, Some, None, List, [], ◌∷◌, length, slice_get}
 use Rattle.std.proofs.Common.{arith, ap, sym, subst, ◌∙◌, inl, inr}
-use Rattle.std.proofs.lemmas.Bool.{and_parts, cases_Bool, cases_eq, eq-eqb, eqb-false, eqb-true}
+use Rattle.std.proofs.lemmas.Bool.{and_parts, cases_Bool, cases_eq, eq-eqb, eqb-true}
 use Rattle.std.proofs.lemmas.List.{length-set}
-use Rattle.axis_core.specs.Calls.{core_after_command, core_after_power}
 use Rattle.axis_core.specs.Cores as cores
-use Rattle.axis_core.specs.Cycles.{core_after_cycle}
-use Rattle.axis_core.specs.Owners as axis
-use Rattle.axis_core.specs.Owners.{core_without_owner, owner_brought}
-use Rattle.axis_core.specs.Refusals as axis_refusals
-use Rattle.axis_core.specs.Refusals.{Asked}
-use Rattle.axis_core.specs.declared.look.AxisLook.{AxisLook}
-use Rattle.buffer_modes.specs.Owners.{is_owner, told}
+use Rattle.buffer_modes.specs.Owners.{told}
 use Rattle.command_pool.specs.declared.notes.Note.{Note}
-use Rattle.command_pool.specs.declared.wanted.Wanted.{Wanted}
+use Rattle.command_core.specs.Laws.{AreToldOnce, HaveCommands, HaveNoMore}
 use Rattle.fb_outputs.specs.InstanceState.{InstanceState}
 use Rattle.fb_outputs.specs.Steps.{is_power}
-use Rattle.fb_outputs.specs.declared.inputs.Inputs.{Inputs}
 use Rattle.fb_outputs.specs.declared.instance.Progress.{Progress}
 use Rattle.fb_outputs.specs.declared.instance.Progress.TheVariants.{Idle, Waiting, Active, Ended}
-use Rattle.group_core.specs.Calls as group_calls
-use Rattle.group_core.specs.Calls.{commanded, disowned, powered_off}
 use Rattle.group_core.specs.Cores as group_cores
-use Rattle.group_core.specs.Cycles as group_cycles
-use Rattle.group_core.specs.Owners as group
-use Rattle.group_core.specs.Refusals as group_refusals
-use Rattle.group_core.specs.declared.look.GroupLook.{GroupLook}
-use Rattle.motion_history.specs.Calls.{IsCall}
 use Rattle.motion_history.specs.Setup.{Setup}
 use Rattle.motion_history.specs.declared.config.BlockDef.{BlockDef}
-use Rattle.motion_kernel.specs.calls.Calls.{with_axis_core, with_execute, with_group_core}
-use Rattle.motion_kernel.specs.Machine.{Machine, axis_core_at, group_core_at, instance_at, list_of}
-use Rattle.motion_kernel.specs.kept.Machine.{AreWhole, IsMachineKept, IsSized}
-use Rattle.motion_kernel.specs.kept.Ready.{MayCall}
+use Rattle.motion_kernel.specs.calls.Calls.{with_axis_core, with_group_core}
+use Rattle.motion_kernel.specs.Machine.{Machine, instance_at, list_of}
+use Rattle.motion_kernel.specs.kept.Machine.{IsSized}
 use Rattle.motion_kernel.specs.calls.Telling.{told_notes}
-use Rattle.motion_kernel.proofs.kept.Events.{axis_beside_axis, axis_beside_group, axis_written, group_beside_axis, group_beside_group, group_written}
-use Rattle.motion_kernel.proofs.kept.Machine.{MachinesStayKept}
 use Rattle.motion_laws.specs.owners.Commands.{CommandsAreShown, commands_at, commands_shown}
 use Rattle.motion_laws.specs.owners.Objects.{IsThere, Object, has_commands_on, is_same, object_of, a_group, an_axis}
 use Rattle.motion_laws.proofs.owners.Counts.{shown_by, told_shows_none, untold_stays}
-
--- axis_core's ends_are_told_once
-pub record AxesTellOnce : Type 0 where
-  pub command : (k : ℕ) (q : Asked) (c : cores.Core) → axis.owns k
-      (core_after_command q c) + told k (core_after_command q c).notes
-      ≡ axis.owns k c + told k c.notes + is_owner k
-      (owner_brought (axis_refusals.refusal_of q) q.wanted)
-  pub power : (k : ℕ) (enable : Bool) (c : cores.Core) → axis.owns k
-      (core_after_power enable c) + told k (core_after_power enable c).notes
-      ≡ axis.owns k c + told k c.notes
-  pub cycle : (k : ℕ) (look : AxisLook) (c : cores.Core) → axis.owns k
-      (core_after_cycle look c) + told k (core_after_cycle look c).notes
-      ≡ axis.owns k c + told k c.notes
-  pub taken_away : (k : ℕ) (c : cores.Core) → axis.owns k (core_without_owner k c) ≡ 0
-  pub left : (j k : ℕ) (c : cores.Core) → nat_eq k j ≡ false → axis.owns j (core_without_owner k c)
-      ≡ axis.owns j c
-
--- group_core's ends_are_told_once
-pub record GroupsTellOnce : Type 0 where
-  pub command : (k : ℕ) (w : Wanted) (jerk : ℤ) (members : GroupLook) (c : group_cores.Core) →
-      group.owns k (commanded w jerk members c) + told k (commanded w jerk members c).notes
-      ≡ group.owns k c + told k c.notes + is_owner k
-      (group.brought (group_refusals.refusal_of (group_calls.asked_in c w jerk members)) w)
-  pub power_off : (k : ℕ) (c : group_cores.Core) → group.owns k (powered_off c) + told k
-      (powered_off c).notes ≡ group.owns k c + told k c.notes
-  pub cycle : (k : ℕ) (members : GroupLook) (c : group_cores.Core) →
-      group.owns k (group_cycles.cycled members c) + told k
-      (group_cycles.cycled members c).notes ≡ group.owns k c + told k c.notes
-  pub reset : (k : ℕ) (members : GroupLook) (c : group_cores.Core) →
-      group.owns k (group_cycles.reset_cycled members c) + told k
-      (group_cycles.reset_cycled members c).notes ≡ group.owns k c + told k c.notes
-  pub taken_away : (k : ℕ) (c : group_cores.Core) → group.owns k (disowned k c) ≡ 0
-  pub left : (j k : ℕ) (c : group_cores.Core) → nat_eq k j ≡ false → group.owns j
-      (disowned k c) ≡ group.owns j c
+use Rattle.motion_laws.proofs.walk.Keeps.{WalkLaws}
 
 -- the laws on which it rests that commands are where their instances show
 pub record OwnerLaws : Type 0 where
-  pub machines : MachinesStayKept
-  pub may_call : (s : Setup) (k : ℕ) (b : BlockDef) (i : Inputs) (m : Machine) → AreWhole s →
-      slice_get s.blocks k ≡ Some b → IsCall s k i →
-      IsMachineKept s m → MayCall s k b i (with_execute k i m)
-  pub axes : AxesTellOnce
-  pub groups : GroupsTellOnce
+  pub walk : WalkLaws
+  pub once : AreToldOnce
+  pub more : HaveNoMore
+  pub hold : HaveCommands
 
 -- objects that are the same
 pub same_object : (o p : Object) → is_same o p ≡ true → o ≡ p
@@ -217,29 +164,9 @@ pub axis_as_many : (m : Machine) (n : ℕ) (c : cores.Core) (p : Object) → IsT
 axis_as_many m n c (an_axis k) l = let size = length-set m.axes n c.axis in omega arith
 axis_as_many m n c (a_group j) l = l
 
-pub axis_beside : (m : Machine) (n k : ℕ) (c : cores.Core) → n < length m.axes → (p : Object) →
-    IsThere m p → is_same (an_axis n) p ≡ false →
-    commands_at (with_axis_core m n c) k p ≡ commands_at m k p
-axis_beside m n k c l (an_axis j) there d = ap (axis.owns k)
-    (axis_beside_axis m n j c (λ e. eqb-false n j d (sym e)))
-axis_beside m n k c l (a_group j) there d = ap (group.owns k) (group_beside_axis m n j c l)
-
 pub lists_there : (s : Setup) (m : Machine) (n : ℕ) → IsSized s m → n < length m.axes →
     n < length m.queues
 lists_there s m n h l = let a = h.axes in let q = h.queues in omega arith
-
-pub axis_changes : (s : Setup) (k n : ℕ) (m : Machine) (c : cores.Core) → IsSized s m →
-    n < length m.axes →
-    axis.owns k c + told k c.notes ≡ axis.owns k (axis_core_at m n) → Changes k m
-    (with_axis_core m n c) (an_axis n) c.notes
-axis_changes s k n m c h l e = record {
-  there = l;
-  as_many = axis_as_many m n c;
-  here = ap (λ (x : cores.Core). axis.owns k x + told k c.notes)
-      (axis_written m n c l (lists_there s m n h l)) ∙ e;
-  beside = axis_beside m n k c l;
-  told = refl;
-}
 
 -- an event of a group
 pub group_as_many : (m : Machine) (j : ℕ) (c : group_cores.Core) (p : Object) → IsThere
@@ -248,29 +175,9 @@ group_as_many m j c (an_axis n) l = l
 group_as_many m j c (a_group k) l =
     let size = length-set m.groups j (record { group = c.group; path = c.path }) in omega arith
 
-pub group_beside : (m : Machine) (j k : ℕ) (c : group_cores.Core) → (p : Object) → IsThere m p →
-    is_same (a_group j) p ≡ false →
-    commands_at (with_group_core m j c) k p ≡ commands_at m k p
-group_beside m j k c (an_axis n) there d = ap (axis.owns k) (axis_beside_group m j n c there)
-group_beside m j k c (a_group i) there d = ap (group.owns k)
-    (group_beside_group m j i c (λ e. eqb-false j i d (sym e)))
-
 pub group_list : (s : Setup) (m : Machine) (j : ℕ) → IsSized s m → j < length m.groups →
     list_of m j < length m.queues
 group_list s m j h l = let a = h.axes in let g = h.groups in let q = h.queues in omega arith
-
-pub group_changes : (s : Setup) (k j : ℕ) (m : Machine) (c : group_cores.Core) → IsSized s m →
-    j < length m.groups →
-    group.owns k c + told k c.notes ≡ group.owns k (group_core_at m j) → Changes k m
-    (with_group_core m j c) (a_group j) c.notes
-group_changes s k j m c h l e = record {
-  there = l;
-  as_many = group_as_many m j c;
-  here = ap (λ (x : group_cores.Core). group.owns k x + told k c.notes)
-      (group_written m j c l (group_list s m j h l)) ∙ e;
-  beside = group_beside m j k c;
-  told = refl;
-}
 
 -- where nothing else changes than what an instance shows not
 pub instances_shown : (s : Setup) (k : ℕ) (m : Machine) (is : List InstanceState) →

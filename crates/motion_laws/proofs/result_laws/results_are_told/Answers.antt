@@ -1,43 +1,30 @@
 -- Results are told, by the laws of the machine, its axes and its groups.
+use Rattle.motion_kernel.proofs.kept.Machine.{MachinesStayKept}
 use Rattle.motion_laws.proofs.owners.commands.Events.{OwnerLaws}
 use Rattle.motion_laws.proofs.results.Steps.{TellLaws}
 use Rattle.motion_laws.proofs.results.Told.{results_told}
 use Rattle.motion_laws.proofs.result_laws.results_are_told.Goals as goal
 
-owners : (c : goal.After-ends_are_told_once-2) → OwnerLaws
+owners : (c : goal.After-ends_are_told_once-3) → OwnerLaws
 owners c =
     let m = c.machines_stay_kept.ensures in
-    let a = c.ends_are_told_once.ensures in
-    let g = c.ends_are_told_once-2.ensures in
+    let machines : MachinesStayKept = record { opened = m.opened; call = m.call; may_go_on = m.may_go_on; cycle = m.cycle } in
     record {
-      machines = record {
-        opened = m.opened;
-        call = m.call;
-        may_go_on = m.may_go_on;
-        cycle = m.cycle;
+      walk = record {
+        machines = machines;
+        may_call = m.may_call;
+        axis = c.axis_changes_are_made.ensures;
+        group = c.group_changes_are_made.ensures;
       };
-      may_call = m.may_call;
-      axes = record {
-        command = a.once_command;
-        power = a.once_power;
-        cycle = a.once_cycle;
-        taken_away = a.taken_away;
-        left = a.left;
-      };
-      groups = record {
-        command = g.once_command;
-        power_off = g.once_power_off;
-        cycle = g.once_cycle;
-        reset = g.once_reset;
-        taken_away = g.taken_away;
-        left = g.left;
-      };
+      once = c.ends_are_told_once.ensures;
+      more = c.commands_come_from_calls.ensures;
+      hold = c.holders_have_commands.ensures;
     }
 
-laws : (c : goal.After-ends_are_told_once-2) → TellLaws
+laws : (c : goal.After-ends_are_told_once-3) → TellLaws
 laws c =
-    let a = c.ends_are_told_once.ensures in
-    let g = c.ends_are_told_once-2.ensures in
+    let a = c.ends_are_told_once-2.ensures in
+    let g = c.ends_are_told_once-3.ensures in
     record {
       owners = owners c;
       command = a.told_command;

@@ -1,0 +1,4 @@
+mod Choices
+mod Alike
+mod axis
+mod group

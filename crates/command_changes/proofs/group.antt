@@ -1,0 +1,3 @@
+-- The changes of a group.
+pub mod Made
+pub mod Brought

@@ -1,0 +1,4 @@
+pub mod Failing
+pub mod Axis
+pub mod Group
+pub mod Laws

@@ -1,0 +1,6 @@
+pub mod Charge
+pub mod Changes
+pub mod Brought
+pub mod Calls
+pub mod Fates
+pub mod Laws

@@ -1,0 +1,129 @@
+-- What happens to the commands of the machine, one event after another, and what all events keep.
+use Rattle.std.specs.Prelude.{◌≡◌, ℕ, ◌<◌, ◌≤◌, ℤ, Bool, true, false, nat_eq, Some, List, [], length, slice_get, slice_set}
+use Rattle.axis_core.specs.AxisKept as axis_kept
+use Rattle.axis_core.specs.Calls.{core_after_command}
+use Rattle.axis_core.specs.Cores as axes
+use Rattle.axis_core.specs.Demands as demands
+use Rattle.command_changes.specs.Axis as axis
+use Rattle.command_changes.specs.Group as group
+use Rattle.command_changes.specs.Laws.{AreAxisChanges, AreGroupChanges}
+use Rattle.command_core.specs.Brought.{BringNone, brought}
+use Rattle.command_core.specs.Calls as calls
+use Rattle.command_core.specs.Changes.{Change, all_changed}
+use Rattle.command_core.specs.Charge.{Charge, active_of}
+use Rattle.command_pool.specs.declared.wanted.Wanted.{Wanted}
+use Rattle.fb_outputs.specs.InstanceState.{InstanceState}
+use Rattle.fb_outputs.specs.Steps.{edge_of, is_power}
+use Rattle.fb_outputs.specs.declared.inputs.Inputs.{Inputs}
+use Rattle.fb_outputs.specs.declared.instance.Edge.TheVariants.{Rising}
+use Rattle.group_core.specs.Calls.{commanded}
+use Rattle.group_core.specs.Cores as groups
+use Rattle.group_core.specs.GroupKept as group_kept
+use Rattle.group_core.specs.declared.look.GroupLook.{GroupLook}
+use Rattle.motion_history.specs.Calls.{IsCall}
+use Rattle.motion_history.specs.Setup.{Setup}
+use Rattle.motion_history.specs.declared.config.BlockDef.{BlockDef}
+use Rattle.motion_kernel.specs.Machine.{Machine, axis_core_at, group_core_at, instance_at}
+use Rattle.motion_kernel.specs.calls.Calls.{after_reply, with_execute, with_instance, without_owner}
+use Rattle.motion_kernel.specs.calls.Telling.{told_notes}
+use Rattle.motion_kernel.specs.cycles.Showing.{with_found}
+use Rattle.motion_kernel.specs.kept.Machine.{AreWhole, IsMachineKept, IsSized}
+use Rattle.motion_kernel.specs.kept.Ready.{MayCall}
+use Rattle.motion_kernel.proofs.kept.Laws.{AxesKeepDefinitions, AxesStayKept, GroupsKeepAxes, GroupsStayKept}
+use Rattle.motion_kernel.proofs.kept.Machine.{MachinesStayKept}
+use Rattle.motion_laws.specs.owners.Commands.{active_shown, commands_shown}
+use Rattle.motion_laws.specs.owners.Objects.{a_group, an_axis, IsThere, Object, has_commands_on, is_same}
+
+-- the commands of an axis or a group
+abbrev pub charge_at : Machine → Object → Charge
+charge_at m (an_axis n) = axis.charge_of (axis_core_at m n)
+charge_at m (a_group j) = group.charge_of (group_core_at m j)
+
+-- the commands are the same
+pub record Alike (m x : Machine) : Type 0 where
+  pub as_many : (p : Object) → IsThere x p → IsThere m p
+  pub there : (p : Object) → IsThere m p → IsThere x p
+  pub same : (p : Object) → charge_at x p ≡ charge_at m p
+
+-- an event at one object: its commands change so, those of others don't, and the instances are told
+pub record Event (m x : Machine) (o : Object) (xs : List Change) : Type 0 where
+  pub there : IsThere m o
+  pub as_many : (p : Object) → IsThere x p → IsThere m p
+  pub here : charge_at x o ≡ record (all_changed xs (charge_at m o)) { notes = [] }
+  pub beside : (p : Object) → IsThere m p → is_same o p ≡ false → charge_at x p ≡ charge_at m p
+  pub told : x.instances ≡ told_notes (all_changed xs (charge_at m o)).notes m.instances
+
+-- the machine in which an instance asks: it shows this, and has its earlier command no longer
+abbrev pub freed : ℕ → InstanceState → Machine → Machine
+freed k i m = without_owner k (with_instance m k i)
+
+-- the laws by which at most eight wait after a command
+pub record FewLaws : Type 0 where
+  pub kept_axes : AxesStayKept
+  pub definitions : AxesKeepDefinitions
+  pub kept_groups : GroupsStayKept
+  pub counts : GroupsKeepAxes
+  pub axes : (c : axes.Core) (number : ℕ) (w : Wanted) (jerk : ℤ) (held : Bool) (tables : ℕ) →
+      axis_kept.IsCoreKept c → demands.IsMade w → length c.waiting ≤ 8 →
+      length (core_after_command (demands.asked_in c number w jerk held tables) c).waiting ≤ 8
+  pub groups : (w : Wanted) (jerk : ℤ) (members : GroupLook) (c : groups.Core) →
+      group_kept.IsMade c.group.axes w → length c.waiting ≤ 8 →
+      length (commanded w jerk members c).waiting ≤ 8
+
+-- an instance asks a command by a rising edge: its earlier one is taken from it, its block's object
+-- changes, some axes are led, and it is answered
+pub record Asks (s : Setup) (k : ℕ) (m z : Machine) : Type 0 where
+  pub block : BlockDef
+  pub at : slice_get s.blocks k ≡ Some block
+  pub other : is_power block.kind ≡ false
+  pub object : Object
+  pub on : has_commands_on (slice_get s.blocks k) object ≡ true
+  pub place : k < length m.instances
+  pub called : InstanceState
+  pub asked : Machine
+  pub changes : List Change
+  pub event : Event (freed k called m) asked object changes
+  pub alike : Alike asked z
+  pub shown : InstanceState
+  pub answered : z.instances ≡ slice_set asked.instances k shown
+  -- the changes are a call's, and bring no command but the one that the instance shows then
+  pub call : calls.IsCall changes
+  pub others : (j : ℕ) → nat_eq k j ≡ false → brought j changes ≡ 0
+  pub brings : commands_shown shown.progress ≡ brought k changes
+  pub active : active_of k (charge_at (freed k called m) object) ≡ 0 →
+      active_shown shown.progress ≡ active_of k (charge_at asked object)
+  pub few : FewLaws → length (charge_at (freed k called m) object).waiting ≤ 8 →
+      length (charge_at asked object).waiting ≤ 8
+
+-- any instance may call
+abbrev pub Anyone : ℕ → Type 0
+Anyone k = Unit {0}
+
+-- what every event keeps, where these instances may call: P in calls and between entries, Q within
+-- a cycle
+pub record Keeps (s : Setup) (May : ℕ → Type 0) (P Q : Machine → Type 0) : Type 0 where
+  -- a call that asks no command takes Execute
+  pub executed : (k : ℕ) (b : BlockDef) (i : Inputs) (m : Machine) → May k → slice_get s.blocks k ≡ Some b →
+      (is_power b.kind ≡ false → edge_of (instance_at m.instances k).execute i.execute ≡ Rising → ⊥) →
+      P m → P (with_execute k i m)
+  -- a Power ends commands
+  pub powered : (m x : Machine) (o : Object) (xs : List Change) → Event m x o xs → BringNone xs →
+      calls.IsCall xs → P m → P x
+  -- a rising edge asks one
+  pub asked : (k : ℕ) (m z : Machine) → May k → Asks s k m z → P m → P z
+  -- a reply is shown
+  pub replied : (k : ℕ) (m : Machine) → May k → P m → P (after_reply k m)
+  -- a cycle begins, its events end commands and let others take over, and the instances are told
+  pub begins : (m : Machine) → IsSized s m → P m → Q m
+  pub cycled : (m x : Machine) (o : Object) (xs : List Change) → Event m x o xs → BringNone xs →
+      Q m → Q x
+  pub found : (m : Machine) → IsSized s m → Q m → P (with_found s m)
+
+-- the laws on which the walk rests
+pub record WalkLaws : Type 0 where
+  pub machines : MachinesStayKept
+  pub may_call : (s : Setup) (k : ℕ) (b : BlockDef) (i : Inputs) (m : Machine) → AreWhole s →
+      slice_get s.blocks k ≡ Some b → IsCall s k i →
+      IsMachineKept s m → MayCall s k b i (with_execute k i m)
+  pub axis : AreAxisChanges
+  pub group : AreGroupChanges
