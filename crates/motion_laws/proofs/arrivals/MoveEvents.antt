@@ -21,7 +21,7 @@ use Rattle.command_pool.specs.Waiting.{detached}
 use Rattle.command_pool.specs.declared.ending.Finish.TheVariants as finish
 use Rattle.command_pool.specs.declared.wanted.Wanted.{Wanted}
 use Rattle.motion_kernel.proofs.kept.Machine.{MachinesStayKept}
-use Rattle.motion_laws.proofs.arrivals.AxisCalls.{IsByFate}
+use Rattle.motion_laws.proofs.walk.AxisCalls.{AnyAsked, IsByFate, led_by}
 
 -- axis_core's fates_are_told
 pub record FatesAreTold : Type 0 where
@@ -122,15 +122,17 @@ chained f a b c s h = record {
 }
 
 pub fates_by : ArrivalLaws → (a : Axis) (ws : List Wanted) →
-    IsByFate a ws (λ f x us. IsFate f a.active x.active)
+    IsByFate AnyAsked a ws (λ f x us. IsFate f a.active x.active)
 fates_by laws a ws = record {
   rests = stays a.active a.active (as_it_is a.active);
-  path = λ on x us h. subst (IsFate goes_on a.active) (sym (laws.fates.path on x)) h;
+  led = λ owner. led_by (axis_without_owner owner a) (λ x. IsFate goes_on a.active x.active)
+      (λ on x h. subst (IsFate goes_on a.active) (sym (laws.fates.path on x)) h)
+      (stays a.active (axis_without_owner owner a).active (laws.fates.detach owner a));
   detach = λ owner. stays a.active (axis_without_owner owner a).active (laws.fates.detach owner a);
   power = λ enable c e _. subst
       (λ (x : Axis). IsFate (power_fate enable c) x.active (core_after_power enable c).axis.active)
       e (laws.fates.power enable c);
-  command = λ owner q c e _.
+  command = λ owner q c e _ _.
       let same = subst (λ (x : Axis). IsSame a.active x.active) (sym e)
       (laws.fates.detach owner a) in
       chained (command_fate q c) a.active c.axis.active (core_after_command q c).axis.active same
@@ -153,20 +155,20 @@ led_on n course on a h = record {
 }
 
 pub carried_by : ArrivalLaws → (n : ℕ) (course : Course) (a : Axis) (ws : List Wanted) →
-    IsUnderWay n course a → IsByFate a ws (λ f x us. Carried n 0 course (turn_of f) x)
+    IsUnderWay n course a → IsByFate AnyAsked a ws (λ f x us. Carried n 0 course (turn_of f) x)
 carried_by laws n course a ws h = record {
   rests = on_it n course a h;
-  path = λ on x us g. record {
-    left = g.left;
-    sum = g.sum;
-    under_way =
-        led_on g.left course on x g.under_way;
-  };
+  led = λ owner. led_by (axis_without_owner owner a) (GoesOn n 0 course)
+      (λ on x g. record {
+        left = g.left;
+        sum = g.sum;
+        under_way = led_on g.left course on x g.under_way;
+      }) (on_it n course (axis_without_owner owner a) (laws.courses.detach n course owner a h));
   detach = λ owner. on_it n course (axis_without_owner owner a)
       (laws.courses.detach n course owner a h);
   power = λ enable c e _. laws.courses.power n course enable c
       (subst (IsUnderWay n course) (sym e) h);
-  command = λ owner q c e _. laws.courses.command n course q c
+  command = λ owner q c e _ _. laws.courses.command n course q c
       (subst (IsUnderWay n course) (sym e) (laws.courses.detach n course owner a h));
 }
 
@@ -187,22 +189,23 @@ blend_led_on n on a ws h = record {
 }
 
 pub blended_by : ArrivalLaws → (n : ℕ) (a : Axis) (ws : List Wanted) → IsBlending n a ws →
-    IsByFate a ws (λ f x us. BlendingCarried n 0 f.ends x us)
+    IsByFate AnyAsked a ws (λ f x us. BlendingCarried n 0 f.ends x us)
 blended_by laws n a ws h =
     let freed : (owner : ℕ) → IsBlending n (axis_without_owner owner a) (map (detached owner) ws) =
     λ owner. laws.blends.detach n owner (record { axis = a; waiting = ws; notes = [] }) h in
     record {
       rests = blend_on_it n a ws h;
-      path = λ on x us g. record {
-        left = g.left;
-        sum = g.sum;
-        under_way = blend_led_on g.left on x us g.under_way;
-      };
+      led = λ owner. led_by (axis_without_owner owner a) (λ x. BlendingGoesOn n 0 x (map (detached owner) ws))
+          (λ on x g. record {
+            left = g.left;
+            sum = g.sum;
+            under_way = blend_led_on g.left on x (map (detached owner) ws) g.under_way;
+          }) (blend_on_it n (axis_without_owner owner a) (map (detached owner) ws) (freed owner));
       detach = λ owner. blend_on_it n (axis_without_owner owner a) (map (detached owner) ws)
           (freed owner);
       power = λ enable c e w. laws.blends.power n enable c
           (subst (IsBlending n c.axis) (sym w) (subst (λ x. IsBlending n x ws) (sym e) h));
-      command = λ owner q c e w. laws.blends.command n q c
+      command = λ owner q c e w _. laws.blends.command n q c
           (subst (IsBlending n c.axis) (sym w)
           (subst (λ x. IsBlending n x (map (detached owner) ws)) (sym e) (freed owner)));
     }

@@ -30,7 +30,7 @@ use Rattle.motion_kernel.proofs.cycles.OneAxis.{GoesThrough, goes_through}
 use Rattle.motion_kernel.proofs.Sizes.{by_if}
 use Rattle.motion_laws.specs.arrivals.Moves.{IsMoveEndedWithin, IsTurnedWithin, IsWithin, KeepsMotion, MovesArrive, Turned, move_end_in, turned_by, turned_by_fates, turned_in}
 use Rattle.motion_laws.specs.arrivals.AxisFates.{axis_fate}
-use Rattle.motion_laws.proofs.arrivals.AxisCalls.{IsByFate, IsThere, by_call}
+use Rattle.motion_laws.proofs.walk.AxisCalls.{AnyAsked, IsByFate, IsThere, by_call}
 use Rattle.motion_laws.proofs.Histories.{legal_kept, legal_so_far, replay_kept}
 use Rattle.motion_laws.proofs.arrivals.MoveEvents.{ArrivalLaws, as_it_is, stays, fates_by, on_it, carried_by, blend_on_it, blended_by}
 
@@ -53,7 +53,7 @@ fate_shown : ArrivalLaws → (s : Setup) (m : Machine) (e : Entry) (n : ℕ) →
     IsFate (axis_fate s m e n) (axis_at m n).active (axis_at (after s m e) n).active
 fate_shown laws s m (call k i reply) n h l =
     by_call (λ f x us. IsFate f (axis_at m n).active x.active) s m k i n
-    (fates_by laws (axis_at m n) (queue_of m.queues n)) (is_there s m n h l)
+    (fates_by laws (axis_at m n) (queue_of m.queues n)) (is_there s m n h l) (λ b at other off same. tt)
 fate_shown laws s m (cycle c rows grows) n h l =
     let look = look_of_axis s m (inputs_of rows) n in
     subst (λ (a : Axis). IsFate (cycle_fate look (axis_core_at m n)) (axis_at m n).active a.active)
@@ -67,7 +67,7 @@ carried_on : ArrivalLaws → (s : Setup) (m : Machine) (e : Entry) (n most : ℕ
     (turn_of (axis_fate s m e n)) (axis_at (after s m e) n)
 carried_on laws s m (call k i reply) n most course h l u =
     by_call (λ f x us. Carried most 0 course (turn_of f) x) s m k i n
-    (carried_by laws most course (axis_at m n) (queue_of m.queues n) u) (is_there s m n h l)
+    (carried_by laws most course (axis_at m n) (queue_of m.queues n) u) (is_there s m n h l) (λ b at other off same. tt)
 carried_on laws s m (cycle c rows grows) n most course h l u =
     let look = look_of_axis s m (inputs_of rows) n in
     let goes = through laws s m (inputs_of rows) n h l in
@@ -81,7 +81,7 @@ blended_on : ArrivalLaws → (s : Setup) (m : Machine) (e : Entry) (n most : ℕ
     (axis_fate s m e n).ends (axis_at (after s m e) n) (queue_of (after s m e).queues n)
 blended_on laws s m (call k i reply) n most h l u =
     by_call (λ f x us. BlendingCarried most 0 f.ends x us) s m k i n
-    (blended_by laws most (axis_at m n) (queue_of m.queues n) u) (is_there s m n h l)
+    (blended_by laws most (axis_at m n) (queue_of m.queues n) u) (is_there s m n h l) (λ b at other off same. tt)
 blended_on laws s m (cycle c rows grows) n most h l u =
     let look = look_of_axis s m (inputs_of rows) n in
     let goes = through laws s m (inputs_of rows) n h l in
@@ -244,13 +244,13 @@ power_not_done true c = goes_on_not_done
 power_not_done false c = by_if IsNotDone (is_error_stop c.axis.state) _ _ goes_on_not_done
     (replaced_not_done c.axis.active None)
 
-not_done_by : (a : Axis) (ws : List Wanted) → IsByFate a ws (λ f x us. IsNotDone f)
+not_done_by : (a : Axis) (ws : List Wanted) → IsByFate AnyAsked a ws (λ f x us. IsNotDone f)
 not_done_by a ws = record {
   rests = goes_on_not_done;
-  path = λ on x us h. h;
+  led = λ owner on x h. goes_on_not_done;
   detach = λ owner. goes_on_not_done;
   power = λ enable c e _. power_not_done enable c;
-  command = λ owner q c e _. command_not_done q c;
+  command = λ owner q c e _ _. command_not_done q c;
 }
 
 -- a move is Done at its target
@@ -261,7 +261,7 @@ done_there : ArrivalLaws → (s : Setup) (m : Machine) (e : Entry) (n : ℕ) (w 
     (axis_at m n).setpoint (axis_at (after s m e) n)
 done_there laws s m (call k i reply) n w h l active move done =
     absurd (by_call (λ f x us. IsNotDone f) s m k i n
-    (not_done_by (axis_at m n) (queue_of m.queues n)) (is_there s m n h l) done)
+    (not_done_by (axis_at m n) (queue_of m.queues n)) (is_there s m n h l) (λ b at other off same. tt) done)
 done_there laws s m (cycle c rows grows) n w h l active move done =
     let look = look_of_axis s m (inputs_of rows) n in
     let goes = through laws s m (inputs_of rows) n h l in

@@ -39,7 +39,7 @@ use Rattle.motion_kernel.specs.kept.Machine.{AreWhole, IsMachineKept}
 use Rattle.motion_kernel.specs.kept.Ready.{MayCall}
 use Rattle.motion_laws.proofs.arrivals.MoveEvents.{as_it_is, chained, stays}
 use Rattle.motion_kernel.proofs.cycles.Rows.{axes_count}
-use Rattle.motion_laws.proofs.arrivals.GroupCalls.{IsByFate, IsThere, by_call}
+use Rattle.motion_laws.proofs.walk.GroupCalls.{IsByFate, IsThere, by_call}
 use Rattle.motion_kernel.proofs.kept.Events.{IsAsLarge, axis_event_size, group_beside_axis, group_beside_group, group_event_size, group_written}
 use Rattle.motion_kernel.proofs.kept.GroupSteps.{IsLooking, have_stepped, larger}
 use Rattle.motion_kernel.proofs.kept.Machine.{MachinesStayKept}

@@ -51,7 +51,7 @@ use Rattle.motion_kernel.proofs.Sizes.{by_if}
 use Rattle.motion_kernel.proofs.cycles.Rows.{look_input}
 use Rattle.motion_laws.specs.arrivals.Paths.{AreAtEnd}
 use Rattle.motion_laws.specs.arrivals.GroupFates.{group_fate}
-use Rattle.motion_laws.proofs.arrivals.GroupCalls.{IsByFate, by_call}
+use Rattle.motion_laws.proofs.walk.GroupCalls.{IsByFate, by_call}
 use Rattle.motion_laws.proofs.arrivals.Paths.{GroupLaws, IsLasting, by_cycle, kept_after, there}
 
 -- group_core's lines_lead_to_their_targets

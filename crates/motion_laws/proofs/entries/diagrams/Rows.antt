@@ -1,5 +1,5 @@
 -- Each axis and each group goes by at most one row of its diagram in an event.
-use Rattle.std.specs.Prelude.{◌≡◌, refl, ℕ, zero, suc, ◌+◌, ℤ, Bool, Some, List, [], ◌∷◌, ◌++◌, map, slice_get, slice_set}
+use Rattle.std.specs.Prelude.{◌≡◌, refl, ℕ, ◌+◌, ℤ, Bool, Some, List, [], ◌∷◌, ◌++◌, slice_get}
 use Rattle.std.proofs.Common.{arith, subst, inl, inr}
 use Rattle.std.proofs.lemmas.List.{length-append}
 use Rattle.axis_core.specs.AxisKept as axis
@@ -27,8 +27,8 @@ use Rattle.group_state.specs.declared.state.GroupState.{GroupState}
 use Rattle.motion_history.specs.Calls.{IsCall}
 use Rattle.motion_history.specs.Setup.{Setup}
 use Rattle.motion_history.specs.declared.config.BlockDef.{BlockDef}
-use Rattle.motion_kernel.specs.calls.Calls.{with_axis_core, with_execute, without_owner}
-use Rattle.motion_kernel.specs.Machine.{Machine, PlacedGroup, axis_among, axis_at, group_among, group_at}
+use Rattle.motion_kernel.specs.calls.Calls.{with_execute}
+use Rattle.motion_kernel.specs.Machine.{Machine}
 use Rattle.motion_kernel.specs.kept.Machine.{AreWhole, IsMachineKept}
 use Rattle.motion_kernel.specs.kept.Ready.{MayCall}
 use Rattle.motion_kernel.proofs.kept.Laws.{AxesKeepDefinitions, AxesStayKept, GroupsKeepAxes, GroupsStayKept}
@@ -104,68 +104,3 @@ next_goes s t h = elim h [
   | inl e ↦ record { events = []; few = omega arith; lead = e }
   | inr r ↦ record { events = r.event ∷ []; few = omega arith; lead = (r.from, r.to) }
 ]
-
--- each axis and each group goes by at most one row
-pub record GoOn (m x : Machine) : Type 0 where
-  pub axes : (n : ℕ) → GoesBy 1 (axis_at m n).state (axis_at x n).state
-  pub groups : (j : ℕ) → GroupGoesBy 1 (group_at m j).group.state (group_at x j).group.state
-
-pub all_stay : (m : Machine) → GoOn m m
-all_stay m = record {
-  axes = λ n. axis_stays 1 (axis_at m n).state;
-  groups = λ j. group_stays 1
-      (group_at m j).group.state;
-}
-
--- an owner that is taken away leaves the states
-axis_disowned : AxesFollow → (k : ℕ) (axes : List Axis) (n : ℕ) →
-    (axis_among (map (axis_without_owner k) axes) n).state ≡ (axis_among axes n).state
-axis_disowned laws k [] n = refl
-axis_disowned laws k (a ∷ more) zero = laws.detach k a
-axis_disowned laws k (a ∷ more) (suc n) = axis_disowned laws k more n
-
-group_disowned : GroupsFollow → (k : ℕ) (groups : List PlacedGroup) (j : ℕ) →
-    (group_among
-    (map (λ (g : PlacedGroup). record g {
-      group =
-          group_without k g.group;
-    }) groups) j).group.state ≡ (group_among groups j).group.state
-group_disowned laws k [] j = refl
-group_disowned laws k (g ∷ more) zero = laws.detach k g.group
-group_disowned laws k (g ∷ more) (suc j) = group_disowned laws k more j
-
-pub from_disowned : DiagramLaws → (k : ℕ) (m x : Machine) → GoOn (without_owner k m) x → GoOn m x
-unfolding without_owner
-from_disowned laws k m x h = record {
-  axes = λ n. subst (λ s. GoesBy 1 s (axis_at x n).state) (axis_disowned laws.axes k m.axes n)
-      (h.axes n);
-  groups = λ j. subst (λ s. GroupGoesBy 1 s (group_at x j).group.state)
-      (group_disowned laws.groups k m.groups j) (h.groups j);
-}
-
--- where one axis or one group is written
-one_axis : (axes : List Axis) (i n : ℕ) (a : Axis) → GoesBy 1 (axis_among axes i).state a.state →
-    GoesBy 1 (axis_among axes n).state (axis_among (slice_set axes i a) n).state
-one_axis [] i n a h = axis_stays 1 _
-one_axis (x ∷ xs) zero zero a h = h
-one_axis (x ∷ xs) zero (suc n) a h = axis_stays 1 _
-one_axis (x ∷ xs) (suc i) zero a h = axis_stays 1 _
-one_axis (x ∷ xs) (suc i) (suc n) a h = one_axis xs i n a h
-
-pub one_group : (groups : List PlacedGroup) (i j : ℕ) (g : PlacedGroup) → GroupGoesBy 1
-    (group_among groups i).group.state g.group.state →
-    GroupGoesBy 1 (group_among groups j).group.state
-    (group_among (slice_set groups i g) j).group.state
-one_group [] i j g h = group_stays 1 _
-one_group (x ∷ xs) zero zero g h = h
-one_group (x ∷ xs) zero (suc j) g h = group_stays 1 _
-one_group (x ∷ xs) (suc i) zero g h = group_stays 1 _
-one_group (x ∷ xs) (suc i) (suc j) g h = one_group xs i j g h
-
-pub axis_event : (m : Machine) (n : ℕ) (c : cores.Core) → GoesBy 1 (axis_at m n).state c.axis.state →
-    GoOn m (with_axis_core m n c)
-axis_event m n c h = record {
-  axes = λ k. one_axis m.axes n k c.axis h;
-  groups = λ j. group_stays 1
-      (group_at m j).group.state;
-}
