@@ -30,7 +30,7 @@ unfolding made_all
 made_all-append s [] more r = refl
 made_all-append s (e ∷ es) more r = made_all-append s es more (made s e r)
 
-made-ended : (s : Setup) (e : Event) (r : Run) (f : RunFault) → r.ending ≡ Err f → made s e r ≡ r
+pub made-ended : (s : Setup) (e : Event) (r : Run) (f : RunFault) → r.ending ≡ Err f → made s e r ≡ r
 unfolding made
 made-ended s e r f h = ap (next_of s e r) h
 

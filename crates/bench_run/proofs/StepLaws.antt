@@ -12,25 +12,10 @@ use Rattle.motion_history.specs.Setup.{Setup}
 use Rattle.motion_kernel.specs.cycles.Cycles as machine
 use Rattle.motion_kernel.specs.Histories.{machine_after}
 use Rattle.machine_drives.specs.Laws.{FollowOutputs}
-use Rattle.bench_run.specs.InStep.{IsInStep}
+use Rattle.bench_run.specs.InStep.{AreInStep, IsInStep, Takes, axis_rows}
 use Rattle.machine_drives.specs.Drives.{drives_after, drives_at_opening, drives_stepped}
-use Rattle.bench_run.specs.Run.{Event, Run, a_call, a_cycle, an_end, cycled, events_in, happened, is_cycle, made, made_all, next_of, room_for, run_at_opening, run_of, tried}
+use Rattle.bench_run.specs.Run.{Event, Run, a_call, a_cycle, an_end, cycled, events_in, first_run, happened, is_cycle, made, made_all, next_of, room_for, run_at_opening, run_of, tried}
 use Rattle.bench_run.specs.declared.bench.RunFault.{RunFault}
-
--- what the machine gives in a cycle after a history
-abbrev pub axis_rows : Setup → List DriveSim → List Entry → List AxisRow
-axis_rows s ds es =
-    (machine.cycled s (machine_after s es) (map answer_of (drives_after 0 ds es))).axes
-
--- each cycle of a history takes the answers of the drives
-abbrev pub Takes : Setup → List DriveSim → List Entry → Type 0
-Takes s ds es = (before more : List Entry) (n : ℕ) (rows : List AxisRow) (grows : List GroupRow) →
-    es ≡ before ++ cycle n rows grows ∷ more → rows ≡ axis_rows s ds before
-
--- a run whose drives are in step, from these at opening
-pub record AreInStep (s : Setup) (ds : List DriveSim) (r : Run) : Type 0 where
-  pub drives : r.drives ≡ drives_after 0 ds r.history
-  pub takes : Takes s ds r.history
 
 -- where a list ends: before its last item, or with it
 pub record IsBefore (es before : List Entry) (c : Entry) : Type 0 where
@@ -140,16 +125,26 @@ next-in-step : FollowOutputs → (s : Setup) (ds : List DriveSim) (e : Event) (r
 next-in-step law s ds e r (Ok u) is = tried-in-step law s ds e r (room_for s r.history (is_cycle e)) is
 next-in-step law s ds e r (Err f) is = is
 
+-- an event more
+pub made-in-step : FollowOutputs → (s : Setup) (ds : List DriveSim) (e : Event) (r : Run) →
+    AreInStep s ds r → AreInStep s ds (made s e r)
+unfolding made
+made-in-step law s ds e r is = next-in-step law s ds e r r.ending is
+
 all-in-step : FollowOutputs → (s : Setup) (ds : List DriveSim) (es : List Event) (r : Run) → AreInStep s ds r →
     AreInStep s ds (made_all s es r)
-unfolding made made_all
+unfolding made_all
 all-in-step law s ds [] r is = is
 all-in-step law s ds (e ∷ es) r is =
-    all-in-step law s ds es (made s e r) (next-in-step law s ds e r r.ending is)
+    all-in-step law s ds es (made s e r) (made-in-step law s ds e r is)
 
 none-taken : (s : Setup) (ds : List DriveSim) → Takes s ds []
 none-taken s ds =
     λ before more n rows grows h. absurd (none_behind before (cycle n rows grows) more h)
+
+-- at its beginning it is
+pub first-in-step : FollowOutputs → (s : Setup) (ds : List DriveSim) → AreInStep s ds (first_run ds)
+first-in-step law s ds = record { drives = sym (law.first ds); takes = none-taken s ds }
 
 -- the drives of a bench's run are in step
 pub run-in-step : FollowOutputs → (b : BenchState) → IsInStep b
@@ -157,5 +152,5 @@ unfolding run_of
 run-in-step law b =
     let ds = drives_at_opening b.config.axes b.drives in
     let is = all-in-step law b.config ds (events_in b) (run_at_opening b)
-    (record { drives = sym (law.first ds); takes = none-taken b.config ds }) in
+    (first-in-step law b.config ds) in
     record { drives = is.drives; answers = is.takes }

@@ -1,5 +1,5 @@
 -- The run that a kernel and its drives are at, and what it keeps while it goes on.
-use Rattle.std.specs.Prelude.{◌≡◌, ◌≤◌, false, Result, List, length}
+use Rattle.std.specs.Prelude.{◌≡◌, ◌≤◌, false, Result, Ok, Err, List, length}
 use Rattle.drive_sim.specs.Sim.{DriveSim}
 use Rattle.motion_kernel.specs.KernelState.{KernelState}
 use Rattle.bench_run.specs.Run.{Run}
@@ -15,3 +15,8 @@ pub record IsGoing (k : KernelState) (drives : List DriveSim) : Type 0 where
   pub each : length drives ≡ length k.config.axes
   pub few : length k.config.axes ≤ 16
   pub runs : k.stopped ≡ false
+
+-- how an event ended the run, if it did
+abbrev pub ending_of : {A : Type 0} → Result A RunFault → Result (Unit {0}) RunFault
+ending_of (Ok x) = Ok tt
+ending_of (Err fault) = Err fault

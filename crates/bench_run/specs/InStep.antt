@@ -7,9 +7,10 @@ use Rattle.drive_sim.specs.Steps.{answer_of}
 use Rattle.group_state.specs.declared.state.GroupRow.{GroupRow}
 use Rattle.machine_drives.specs.Drives.{drives_after, drives_at_opening}
 use Rattle.motion_history.specs.Entries.{Entry, cycle}
+use Rattle.motion_history.specs.Setup.{Setup}
 use Rattle.motion_kernel.specs.cycles.Cycles.{cycled}
 use Rattle.motion_kernel.specs.Histories.{machine_after}
-use Rattle.bench_run.specs.Run.{run_of}
+use Rattle.bench_run.specs.Run.{Run, run_of}
 
 -- the simulated drives of a bench after a history, each by the outputs of its axis
 abbrev pub drives_of : BenchState → List Entry → List DriveSim
@@ -29,3 +30,22 @@ TakesAnswers b es =
 pub record IsInStep (b : BenchState) : Type 0 where
   pub drives : (run_of b).drives ≡ drives_of b (run_of b).history
   pub answers : TakesAnswers b (run_of b).history
+
+-- ---- of any run
+
+-- the axes' rows in a cycle behind a history, with the answers of the drives that were these at
+-- opening
+abbrev pub axis_rows : Setup → List DriveSim → List Entry → List AxisRow
+axis_rows s ds es =
+    (cycled s (machine_after s es) (map answer_of (drives_after 0 ds es))).axes
+
+-- the rows of each cycle are the machine's with the answers of the drives after the cycles before
+-- it
+abbrev pub Takes : Setup → List DriveSim → List Entry → Type 0
+Takes s ds es = (before more : List Entry) (n : ℕ) (rows : List AxisRow) (grows : List GroupRow) →
+    es ≡ before ++ cycle n rows grows ∷ more → rows ≡ axis_rows s ds before
+
+-- the drives of a run are where its history leads them, and each of its cycles takes their answers
+pub record AreInStep (s : Setup) (ds : List DriveSim) (r : Run) : Type 0 where
+  pub drives : r.drives ≡ drives_after 0 ds r.history
+  pub takes : Takes s ds r.history

@@ -3,3 +3,4 @@ pub mod Going
 pub mod LegalRun
 pub mod InStep
 pub mod Enough
+pub mod Endings

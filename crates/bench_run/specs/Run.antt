@@ -101,13 +101,12 @@ abbrev pub cycles_in : List Event → ℕ
 cycles_in [] = 0
 cycles_in (e ∷ es) = (if is_cycle e then 1 else 0) + cycles_in es
 
--- a run at its beginning
+-- a run at its beginning, with these drives
+abbrev pub first_run : List DriveSim → Run
+first_run drives = record { history = []; drives = drives; ending = Ok tt }
+
 abbrev pub run_at_opening : BenchState → Run
-run_at_opening b = record {
-  history = [];
-  drives = drives_at_opening b.config.axes b.drives;
-  ending = Ok tt;
-}
+run_at_opening b = first_run (drives_at_opening b.config.axes b.drives)
 
 -- the run of a bench: the events of its file one after another. This project's profile
 unfoldable pub run_of : BenchState → Run

@@ -34,8 +34,8 @@ pub struct Ran {
     pub ending: Result<(), RunFault>,
 }
 
-// The history of a kernel is legal, and keeps the laws of the machine.
-fn histories_are_legal(kernel: &Kernel)
+/// The history of a kernel is legal, and keeps the laws of the machine. Nothing runs.
+pub fn histories_are_legal(kernel: &Kernel)
     ensures legal { IsLegal kernel.now.config kernel.now.history }
     ensures laws { KeepsLaws kernel.now.config kernel.now.history }
 {

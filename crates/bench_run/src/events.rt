@@ -1,19 +1,21 @@
 // The events of a bench, one after another on a kernel, with its drives in step.
 
-ghost use Rattle.std.specs.Prelude.{◌≡◌, ◌<◌, IsTrue, OnOk, Ok, List, length, All, false, replicate};
+ghost use Rattle.std.specs.Prelude.{◌≡◌, ◌<◌, IfOk, IsTrue, OnOk, Ok, List, length, All, false, replicate};
 ghost use Rattle.std.specs.List.{flat_map};
 ghost use Rattle.bench_text.specs.BenchState.{IsLineOf};
 ghost use Rattle.drive_sim.specs.Sim.{DriveSim};
 ghost use Rattle.motion_history.specs.Calls.{IsCall};
 ghost use Rattle.motion_history.specs.Entries.{cycles_of};
-ghost use Rattle.bench_run.specs.Going.{IsGoing, run_at};
+ghost use Rattle.motion_kernel.specs.calls.Calls.{reply_of};
+ghost use Rattle.motion_kernel.specs.KernelState.{state_of};
+ghost use Rattle.bench_run.specs.Going.{IsGoing, ending_of, run_at};
 ghost use Rattle.bench_run.specs.Run as spec;
 
 use crate::bench::RunFault;
 use bench_text::BenchLine;
 use cia402_machine::{DriveIn, DriveOut};
 use drive_sim::Drive;
-use fb_outputs::Inputs;
+use fb_outputs::{Inputs, Outputs};
 use hot_standby::PrimaryKernel;
 use machine_drives::{answer_all, step_all};
 use motion_history::MOST_AXES;
@@ -70,8 +72,8 @@ fn cycle(kernel: &mut PrimaryKernel, drives: &mut [Drive])
     step_all(drives, outs);
 }
 
-// A cycle.
-fn make_cycle(kernel: &mut PrimaryKernel, drives: &mut [Drive]) -> Result<(), RunFault>
+/// A cycle, where one is left and there is room for it: each drive makes a step with its output.
+pub fn make_cycle(kernel: &mut PrimaryKernel, drives: &mut [Drive]) -> Result<(), RunFault>
     requires going { IsGoing kernel.old drives.old }
     ensures config { kernel.new.config ≡ kernel.old.config }
     ensures made { run_at kernel.new drives.new result ≡
@@ -99,24 +101,29 @@ fn make_cycles(kernel: &mut PrimaryKernel, drives: &mut [Drive], count: u32) -> 
     Ok(())
 }
 
-// A call of a block, in its task.
-fn make_call(kernel: &mut PrimaryKernel, instance: u16, inputs: &Inputs) -> Result<(), RunFault>
+/// A call of a block, in its task, where there is room for it: its reply.
+pub fn make_call(
+    kernel: &mut PrimaryKernel,
+    instance: u16,
+    inputs: &Inputs,
+) -> Result<Outputs, RunFault>
     requires runs { kernel.old.stopped ≡ false }
     requires call { IsCall kernel.old.config instance inputs.now }
     ensures config { kernel.new.config ≡ kernel.old.config }
     ensures runs { kernel.new.stopped ≡ false }
-    ensures made { (drives : List DriveSim) → run_at kernel.new drives result ≡
+    ensures made { (drives : List DriveSim) → run_at kernel.new drives (ending_of result) ≡
         spec.made kernel.old.config (spec.a_call instance inputs.now)
         (run_at kernel.old drives (Ok tt)) }
+    ensures reply { IfOk result (λ o. o ≡
+        reply_of kernel.old.config (state_of kernel.old) instance inputs.now) }
 {
     room_for(kernel, false)?;
     let task = kernel.config().blocks()[instance as usize].task;
-    kernel.call(task, instance, inputs);
-    Ok(())
+    Ok(kernel.call(task, instance, inputs))
 }
 
-// The end of a task.
-fn make_end(kernel: &mut PrimaryKernel, task: u8) -> Result<(), RunFault>
+/// The end of a task, where there is room for it.
+pub fn make_end(kernel: &mut PrimaryKernel, task: u8) -> Result<(), RunFault>
     requires runs { kernel.old.stopped ≡ false }
     requires task { task < length kernel.old.config.tasks }
     ensures config { kernel.new.config ≡ kernel.old.config }
@@ -146,7 +153,10 @@ fn make_line(
     ensures going { IsGoing kernel.new drives.new }
 {
     match line {
-        BenchLine::Call { instance, inputs } => make_call(kernel, *instance, inputs),
+        BenchLine::Call { instance, inputs } => {
+            make_call(kernel, *instance, inputs)?;
+            Ok(())
+        }
         BenchLine::Cycles { count } => make_cycles(kernel, drives, *count),
         BenchLine::End { task } => make_end(kernel, *task),
     }

@@ -6,6 +6,7 @@
 -- states_follow_the_diagrams: entries/diagrams/Histories
 -- commands_are_where_their_instances_show: owners/Shown, over owners/Holders by the walk,
 -- owners/commands and owners/active
+-- rows_show_the_machine: entries/rows/Histories
 -- entries_keep_their_laws: entries/Kept
 -- moves_arrive_in_time: arrivals/Moves
 -- paths_end_in_time: arrivals/PathsEnd

@@ -2,4 +2,5 @@
 pub mod refusals
 pub mod replies
 pub mod diagrams
+pub mod rows
 pub mod Kept

@@ -2,4 +2,5 @@
 pub mod Refusals
 pub mod Replies
 pub mod Diagrams
+pub mod Rows
 pub mod Kept

@@ -11,10 +11,12 @@ use crate::diagram_laws::states_follow_the_diagrams;
 use crate::owner_laws::commands_are_where_their_instances_show;
 use crate::refusal_laws::refusals_change_nothing;
 use crate::reply_laws::replies_tell_one_result;
+use crate::row_laws::rows_show_the_machine;
 
 /// In every entry of a legal history a call's reply tells one result, with the number of its error;
 /// a call that is refused changes nothing but its instance; the states of axes and groups follow
-/// their diagrams; and after it each instance shows Waiting or Active exactly where its command is.
+/// their diagrams; after it each instance shows Waiting or Active exactly where its command is; and
+/// the rows of a cycle show the machine behind it.
 pub fn entries_keep_their_laws()
     ensures { (s : Setup) (es : List Entry) → IsSetup s → AreWhole s → IsLegal s es →
         KeepsEntries s es }
@@ -23,4 +25,5 @@ pub fn entries_keep_their_laws()
     replies_tell_one_result();
     states_follow_the_diagrams();
     commands_are_where_their_instances_show();
+    rows_show_the_machine();
 }

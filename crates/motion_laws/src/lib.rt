@@ -13,6 +13,7 @@ mod owner_laws;
 mod refusal_laws;
 mod reply_laws;
 mod result_laws;
+mod row_laws;
 
 pub use arrival_laws::{moves_arrive_in_time, paths_end_in_time};
 pub use diagram_laws::states_follow_the_diagrams;
@@ -23,3 +24,4 @@ pub use owner_laws::commands_are_where_their_instances_show;
 pub use refusal_laws::refusals_change_nothing;
 pub use reply_laws::replies_tell_one_result;
 pub use result_laws::results_are_told;
+pub use row_laws::rows_show_the_machine;

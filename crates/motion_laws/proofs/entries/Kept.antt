@@ -14,6 +14,7 @@ use Rattle.motion_kernel.specs.kept.Machine.{AreWhole}
 use Rattle.motion_laws.specs.owners.Shown.{AreWhereShown}
 use Rattle.motion_laws.specs.entries.Refusals.{IsRefused, machine_refused}
 use Rattle.motion_laws.specs.entries.Replies.{IsReplyOf}
+use Rattle.motion_laws.specs.entries.Rows.{RowsShow}
 use Rattle.motion_laws.proofs.Histories.{replay_append, legal_so_far}
 
 -- the laws of entries
@@ -31,6 +32,8 @@ pub record EntryLaws : Type 0 where
       FollowsDiagrams s (machine_after s made) e
   pub commands : (s : Setup) (es : List Entry) → IsSetup s → AreWhole s → IsLegal s es →
       AreWhereShown s (machine_after s es)
+  pub rows : (s : Setup) (made more : List Entry) (e : Entry) → IsSetup s → AreWhole s →
+      IsLegal s (made ++ e ∷ more) → RowsShow (after s (machine_after s made) e) e
 
 -- the machine after one entry more
 one_more : (s : Setup) (made : List Entry) (e : Entry) → machine_after s (made ++ e ∷ []) ≡ after s
@@ -64,6 +67,7 @@ entry_kept laws s made more e setup whole legal =
       states = laws.states s made more e setup whole legal;
       commands = subst (AreWhereShown s) (one_more s made e)
           (laws.commands s (made ++ e ∷ []) setup whole so_far);
+      rows = laws.rows s made more e setup whole legal;
     }
 
 pub entries_kept : EntryLaws → (s : Setup) (es : List Entry) → IsSetup s → AreWhole s →

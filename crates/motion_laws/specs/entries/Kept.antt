@@ -12,6 +12,7 @@ use Rattle.motion_kernel.specs.Machine.{Machine}
 use Rattle.motion_laws.specs.owners.Shown.{AreWhereShown}
 use Rattle.motion_laws.specs.entries.Refusals.{IsRefused, machine_refused}
 use Rattle.motion_laws.specs.entries.Replies.{IsReplyOf}
+use Rattle.motion_laws.specs.entries.Rows.{RowsShow}
 
 -- a call is answered: its reply is one of its block, and where it is refused nothing has changed
 -- but its instance
@@ -26,11 +27,13 @@ KeepsReply s m (call k i reply) = IsAnswered s m k i reply
 KeepsReply s m (cycle n rows grows) = Unit {0}
 KeepsReply s m (end_of task) = Unit {0}
 
--- a call is answered, the states follow their diagrams, and commands are where their instances show
+-- a call is answered, the states follow their diagrams, commands are where their instances show,
+-- and the rows show the machine
 pub record KeepsEntry (s : Setup) (m : Machine) (e : Entry) : Type 0 where
   pub reply : KeepsReply s m e
   pub states : FollowsDiagrams s m e
   pub commands : AreWhereShown s (after s m e)
+  pub rows : RowsShow (after s m e) e
 
 -- so it is with each entry after those before it
 abbrev pub KeepsEntries : Setup → List Entry → Type 0

@@ -78,7 +78,7 @@ record HaveReset (n : ℕ) (m x : Machine) : Type 0 where
   done : (k : ℕ) → k < n → IsNext (group_at m k).group.state (group_at x k).group.state
   rest : (k : ℕ) → n ≤ k → group_at x k ≡ group_at m k
 
-resets_count : (s : Setup) (n : ℕ) (m : Machine) → length (groups_reset s n m).machine.groups
+pub resets_count : (s : Setup) (n : ℕ) (m : Machine) → length (groups_reset s n m).machine.groups
     ≡ length m.groups
 unfolding groups_reset
 resets_count s zero m = refl
@@ -115,7 +115,7 @@ groups_go laws s (suc n) m l =
     }
 
 -- the machine whose axes went through the cycle
-abbrev moved_in : Setup → Machine → List DriveIn → Machine
+abbrev pub moved_in : Setup → Machine → List DriveIn → Machine
 moved_in s m ins = (axes_cycled s (length (stepped_in s ins m).machine.axes) (around_in s ins m)
     (stepped_in s ins m).machine).machine
 
@@ -133,7 +133,7 @@ unfolding cycled
 axes_moved s m ins = found_parts s (cycled s m ins).machine ∙ resets_axes s
     (length (moved_in s m ins).groups) (moved_in s m ins)
 
-groups_moved : (s : Setup) (m : Machine) (ins : List DriveIn) →
+pub groups_moved : (s : Setup) (m : Machine) (ins : List DriveIn) →
     (after_cycle s m ins).groups ≡ (groups_reset s (length (moved_in s m ins).groups)
     (moved_in s m ins)).machine.groups
 unfolding cycled

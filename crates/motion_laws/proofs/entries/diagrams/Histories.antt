@@ -12,11 +12,11 @@ use Rattle.motion_laws.proofs.entries.diagrams.Cycles.{cycle_follows}
 use Rattle.motion_laws.proofs.entries.diagrams.Rows.{DiagramLaws, axis_stays, group_stays}
 
 -- an entry of a history is the machine's
-record IsEntry (s : Setup) (m : Machine) (e : Entry) : Type 0 where
-  cycles : ℕ
-  is : IsOf s cycles m e
+pub record IsEntry (s : Setup) (m : Machine) (e : Entry) : Type 0 where
+  pub cycles : ℕ
+  pub is : IsOf s cycles m e
 
-entry_in : (s : Setup) (cycles : ℕ) (m : Machine) (made more : List Entry) (e : Entry) →
+pub entry_in : (s : Setup) (cycles : ℕ) (m : Machine) (made more : List Entry) (e : Entry) →
     Follows s cycles m (made ++ e ∷ more) → IsEntry s (replay s m made) e
 entry_in s cycles m [] more e f = record { cycles = cycles; is = f.0 }
 entry_in s cycles m (x ∷ xs) more e f = entry_in s (cycles + cycle_count x)

@@ -8,4 +8,5 @@ returns c = entries_kept (record {
   replies = c.replies_tell_one_result.ensures.entries;
   states = c.states_follow_the_diagrams.ensures.entries;
   commands = c.commands_are_where_their_instances_show.ensures.entries;
+  rows = c.rows_show_the_machine.ensures.entries;
 })

@@ -1,0 +1,3 @@
+-- Rows show the machine.
+pub mod Cycles
+pub mod Histories

@@ -1,0 +1,28 @@
+// The law of rows: the contract of a function that does nothing.
+
+ghost use Rattle.std.specs.Prelude.{ℕ, List, ◌∷◌, ◌++◌};
+ghost use Rattle.axis_state.specs.declared.definition.AxisRow.{AxisRow};
+ghost use Rattle.group_state.specs.declared.state.GroupRow.{GroupRow};
+ghost use Rattle.motion_history.specs.Entries.{Entry};
+ghost use Rattle.motion_history.specs.Setup.{Setup, IsSetup};
+ghost use Rattle.motion_kernel.specs.Histories.{IsCycleOf, IsLegal, after, inputs_of, machine_after};
+ghost use Rattle.motion_kernel.specs.Machine.{Machine};
+ghost use Rattle.motion_kernel.specs.cycles.Cycles.{after_cycle};
+ghost use Rattle.motion_kernel.specs.kept.Machine.{AreWhole, IsMachineKept};
+ghost use Rattle.motion_laws.specs.entries.Rows.{RowsShow, ShowMachine};
+
+use motion_kernel::machines_stay_kept;
+
+/// The rows of a cycle show the machine behind it: the row of an axis its state, its error, whether
+/// it is driven, its setpoint and its offset, and the row of a group its state and its error. So it
+/// is in every cycle of a machine that is kept, and in every entry of a legal history.
+pub fn rows_show_the_machine()
+    ensures cycle { (s : Setup) (m : Machine) (rows : List AxisRow) (grows : List GroupRow) →
+        IsMachineKept s m → IsCycleOf s m rows grows →
+        ShowMachine (after_cycle s m (inputs_of rows)) rows grows }
+    ensures entries { (s : Setup) (made more : List Entry) (e : Entry) → IsSetup s → AreWhole s →
+        IsLegal s (made ++ e ∷ more) →
+        RowsShow (after s (machine_after s made) e) e }
+{
+    machines_stay_kept();
+}
