@@ -29,10 +29,15 @@ left n m f = elim (cases_lt m n) [
 
 -- ---- by the room for an event
 
+-- whether there is room for an event that is a cycle or isn't, where no cycle is left or one is, and
+-- where the history is full or isn't
+abbrev room_by : Bool → Bool → Bool → Result (Unit {0}) RunFault
+room_by c over full =
+    if c && over then Err CyclesOver else if full then Err HistoryFull else Ok tt
+
 why-by : (s : Setup) (h : List Entry) (c over full : Bool) →
     over ≡ (s.cycles - cycles_of h == 0) → full ≡ (s.entries - length h == 0) → (f : RunFault) →
-    (if c && over then Err CyclesOver else if full then Err HistoryFull else Ok tt) ≡ Err f →
-    Why s h c f
+    room_by c over full ≡ Err f → Why s h c f
 why-by s h true true full a b CyclesOver e =
     let zero = eqb-true (s.cycles - cycles_of h) 0 (sym a) in (refl, omega (arith, zero))
 why-by s h true true full a b HistoryFull e = absurd (cc)
@@ -54,8 +59,7 @@ why s h c f e = why-by s h c _ _ refl refl f e
 
 none-by : (s : Setup) (h : List Entry) (c over full : Bool) →
     over ≡ (s.cycles - cycles_of h == 0) → full ≡ (s.entries - length h == 0) → (f : RunFault) →
-    Why s h c f →
-    (if c && over then Err CyclesOver else if full then Err HistoryFull else Ok tt) ≡ Err f
+    Why s h c f → room_by c over full ≡ Err f
 none-by s h true true full a b CyclesOver w = refl
 none-by s h true false full a b CyclesOver w =
     let some = eqb-false (s.cycles - cycles_of h) 0 (sym a) in
@@ -119,32 +123,37 @@ in-front s e es r f x = record {
   reason = x.reason;
 }
 
-err-is : (f g : RunFault) → Err f ≡ Err g → f ≡ g
-err-is f g e = cc
+same-fault : (r : Result (Unit {0}) RunFault) (f g : RunFault) → r ≡ Err f → r ≡ Err g → f ≡ g
+same-fault r f g a b = let same : Err f ≡ Err g = sym a ∙ b in cc
+
+-- the first event is made, and the others end the run; or it ends it
+one-ends : (s : Setup) (e : Event) (es : List Event) (r : Run) (f : RunFault) → r.ending ≡ Ok tt →
+    (w : Result (Unit {0}) RunFault) → room_for s r.history (is_cycle e) ≡ w →
+    ((made s e r).ending ≡ Ok tt → EndsAt s (made s e r) es (Reason s f)) →
+    (made_all s es (made s e r)).ending ≡ Err f → EndsAt s r (e ∷ es) (Reason s f)
+one-ends s e es r f o (Ok u) is rest h =
+    in-front s e es r f (rest (goes-by s e r (Ok u) o (sym is) refl))
+one-ends s e es r f o (Err g) is rest h =
+    let ended = ends-by s e r g o is in
+    let same : g ≡ f = same-fault (made s e r).ending g f ended
+    (ap (λ (x : Run). x.ending) (sym (ended-stays s es (made s e r) g ended)) ∙ h) in
+    record {
+      before = [];
+      event = e;
+      more = es;
+      split = refl;
+      made = o;
+      reason = reason-of s f e r.history (subst (Why s r.history (is_cycle e)) same
+          (why s r.history (is_cycle e) g is));
+    }
 
 ends-at : (s : Setup) (es : List Event) (r : Run) (f : RunFault) → r.ending ≡ Ok tt →
     (made_all s es r).ending ≡ Err f → EndsAt s r es (Reason s f)
 unfolding made_all
 ends-at s [] r f o h = let bad : Ok tt ≡ Err f = sym o ∙ h in absurd (cc)
-ends-at s (e ∷ es) r f o h = at-first (room_for s r.history (is_cycle e)) refl
-  where
-    at-first : (w : Result (Unit {0}) RunFault) → room_for s r.history (is_cycle e) ≡ w →
-        EndsAt s r (e ∷ es) (Reason s f)
-    at-first (Ok u) is =
-        in-front s e es r f (ends-at s es (made s e r) f (goes-by s e r (Ok u) o (sym is) refl) h)
-    at-first (Err g) is =
-        let ended = ends-by s e r g o is in
-        let same : g ≡ f = err-is g f
-        (sym ended ∙ ap (λ (x : Run). x.ending) (sym (ended-stays s es (made s e r) g ended)) ∙ h) in
-        record {
-          before = [];
-          event = e;
-          more = es;
-          split = refl;
-          made = o;
-          reason = reason-of s f e r.history
-              (why s r.history (is_cycle e) f (is ∙ ap Err same));
-        }
+ends-at s (e ∷ es) r f o h =
+    one-ends s e es r f o (room_for s r.history (is_cycle e)) refl
+    (λ k. ends-at s es (made s e r) f k h) h
 
 ends-behind : (s : Setup) (e : Event) (more : List Event) (r : Run) (f : RunFault) →
     r.ending ≡ Ok tt → Reason s f e r.history → (made_all s (e ∷ more) r).ending ≡ Err f
