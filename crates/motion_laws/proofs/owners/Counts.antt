@@ -103,10 +103,6 @@ answered_one : (kind : BlockKind) (active : Bool) (i : InstanceState) →
 answered_one kind true i e = refl
 answered_one kind false i e = rw e refl
 
-answered_done : (kind : BlockKind) (i : InstanceState) → is_done_at_once kind ≡ true →
-    commands_shown (answered_instance kind (Ok false) i).progress ≡ 0
-answered_done kind i e = rw e refl
-
 -- the command that an instance brings to an axis is what it shows
 pub owned_one : (k : ℕ) (o : Option ℕ) → o ≡ Some k → is_owner k o ≡ 1
 owned_one k o e = subst (λ x. is_owner k x ≡ 1) (sym e) (owner_is k)
