@@ -131,6 +131,7 @@ one-ends : (s : Setup) (e : Event) (es : List Event) (r : Run) (f : RunFault) �
     (w : Result (Unit {0}) RunFault) → room_for s r.history (is_cycle e) ≡ w →
     ((made s e r).ending ≡ Ok tt → EndsAt s (made s e r) es (Reason s f)) →
     (made_all s es (made s e r)).ending ≡ Err f → EndsAt s r (e ∷ es) (Reason s f)
+unfolding made_all
 one-ends s e es r f o (Ok u) is rest h =
     in-front s e es r f (rest (goes-by s e r (Ok u) o (sym is) refl))
 one-ends s e es r f o (Err g) is rest h =

@@ -14,10 +14,6 @@ pub record Brings (owner : Option ℕ) (xs : List Change) : Type 0 where
   pub brings : (k : ℕ) → brought k xs ≡ is_owner k owner
   pub call : IsCall xs
 
-pub nobody : (k : ℕ) → is_owner k None ≡ 0
-unfolding is_owner
-nobody k = refl
-
 -- an error brings none
 pub fails : (n : ℕ) → BringNone (failing n)
 fails n = ((refl, refl), (tt, tt))

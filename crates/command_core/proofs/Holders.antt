@@ -14,7 +14,7 @@ use Rattle.command_core.proofs.Owners.{once_by}
 abbrev Holds : ℕ → ℕ → Option ℕ → Option ℕ → Type 0
 Holds k n before now = now ≡ Some k → (before ≡ Some k) ⊎ (0 < n)
 
-owner_counts : (k : ℕ) (o : Option ℕ) → o ≡ Some k → is_owner k o ≡ 1
+pub owner_counts : (k : ℕ) (o : Option ℕ) → o ≡ Some k → is_owner k o ≡ 1
 unfolding is_owner
 owner_counts k None e = absurd (cc)
 owner_counts k (Some n) e = let same : n ≡ k = cc in ap one_of (eq-eqb n k same)

@@ -4,8 +4,8 @@
 -- refusals_change_nothing: entries/refusals/Calls
 -- replies_tell_one_result: entries/replies/Histories
 -- states_follow_the_diagrams: entries/diagrams/Histories
--- commands_are_where_their_instances_show: owners/Shown, over owners/Holders by the walk,
--- owners/commands and owners/active
+-- commands_are_where_their_instances_show: owners/Shown, over owners/Kept and owners/Holders, by
+-- the walk
 -- rows_show_the_machine: entries/rows/Histories
 -- entries_keep_their_laws: entries/Kept
 -- moves_arrive_in_time: arrivals/Moves

@@ -30,7 +30,8 @@ use Rattle.command_pool.specs.declared.kind.BlockKind.TheVariants as kind
 use Rattle.command_pool.specs.declared.wanted.Wanted.{Wanted}
 use Rattle.motion_numbers.specs.Ranges.{is_outside}
 use Rattle.command_changes.specs.Axis.{admitted_changes, answer_changes, asked_changes, command_changes, cycle_changes, ended_changes, ending_changes, joined_changes, power_changes, release_changes, reset_changes, step_changes, taking_changes}
-use Rattle.command_changes.proofs.Alike.{Brings, fails, nobody}
+use Rattle.buffer_modes.proofs.Owners.{nobody}
+use Rattle.command_changes.proofs.Alike.{Brings, fails}
 use Rattle.command_changes.proofs.Choices.{by_if}
 
 joined_brings : (w : Wanted) (c : Core) → Brings w.owner (joined_changes w c)

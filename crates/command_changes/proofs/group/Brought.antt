@@ -28,10 +28,11 @@ use Rattle.group_core.specs.declared.look.GroupLook.{GroupLook}
 use Rattle.group_core.specs.declared.reason.Reason.{Reason}
 use Rattle.command_changes.specs.Failing.{failing}
 use Rattle.command_changes.specs.Group.{admitted_changes, answer_changes, asked_changes, command_changes, cycle_changes, ending_changes, line_changes, power_off_changes, release_changes, reset_changes, reset_changes_by}
-use Rattle.command_changes.proofs.Alike.{Brings, fails, nobody}
+use Rattle.buffer_modes.proofs.Owners.{nobody}
+use Rattle.command_changes.proofs.Alike.{Brings, fails}
 use Rattle.command_changes.proofs.Choices.{by_if}
 
-nobody_brakes : (k : ℕ) (active : Option Wanted) → is_owner k (owner_by (braking_for active)) ≡ 0
+pub nobody_brakes : (k : ℕ) (active : Option Wanted) → is_owner k (owner_by (braking_for active)) ≡ 0
 nobody_brakes k None = nobody k
 nobody_brakes k (Some w) = nobody k
 

@@ -3,12 +3,13 @@ use Rattle.std.specs.Prelude.{◌≡◌, refl, ℕ, zero, suc, ◌<◌, Bool, tr
 use Rattle.std.proofs.Common.{arith, ap, sym, subst, ◌∙◌, inl, inr}
 use Rattle.std.proofs.lemmas.Bool.{cases_eq, eq-eqb, eqb-false, ne_eqb}
 use Rattle.std.proofs.lemmas.List.{get_or-set_other}
-use Rattle.axis_core.specs.Calls.{core_after_admission, core_after_command, core_after_joining, core_after_leaving, core_after_verdict, queue_in}
 use Rattle.axis_core.specs.Calls as axis_calls
 use Rattle.axis_core.specs.Cores.{Core}
 use Rattle.axis_core.specs.Owners.{owner_brought, owner_brought_by}
 use Rattle.axis_core.specs.declared.reason.Reason as axis_reason
+use Rattle.buffer_modes.proofs.Owners.{nobody}
 use Rattle.buffer_modes.specs.Owners.{is_owner, one_of, told}
+use Rattle.command_core.proofs.Holders.{owner_counts}
 use Rattle.command_pool.specs.Kinds.{acts_on_group}
 use Rattle.command_pool.specs.declared.ending.Finish.{Finish}
 use Rattle.command_pool.specs.declared.kind.BlockKind.{BlockKind}
@@ -47,10 +48,6 @@ owner_not k j e = one_zero (nat_eq j k) e
 pub other_owner : (k j : ℕ) → nat_eq j k ≡ false → is_owner k (Some j) ≡ 0
 unfolding is_owner
 other_owner k j e = ap one_of e
-
-pub none_owned : (k : ℕ) → is_owner k None ≡ 0
-unfolding is_owner
-none_owned k = refl
 
 -- an instance that is told nothing is as it was
 pub untold_stays : (k : ℕ) (ns : List Note) (is : List InstanceState) → told k ns ≡ 0 →
@@ -103,25 +100,18 @@ answered_one : (kind : BlockKind) (active : Bool) (i : InstanceState) →
 answered_one kind true i e = refl
 answered_one kind false i e = rw e refl
 
-answered_done : (kind : BlockKind) (i : InstanceState) → is_done_at_once kind ≡ true →
-    commands_shown (answered_instance kind (Ok false) i).progress ≡ 0
-answered_done kind i e = rw e refl
-
 -- the command that an instance brings to an axis is what it shows
-pub owned_one : (k : ℕ) (o : Option ℕ) → o ≡ Some k → is_owner k o ≡ 1
-owned_one k o e = subst (λ x. is_owner k x ≡ 1) (sym e) (owner_is k)
-
 brings_one : (kind : BlockKind) (active : Bool) (i : InstanceState) (k : ℕ) (o : Option ℕ) →
     o ≡ Some k → is_done_at_once kind ≡ false →
     commands_shown (answered_instance kind (Ok active) i).progress ≡ is_owner k o
-brings_one kind active i k o e d = answered_one kind active i d ∙ sym (owned_one k o e)
+brings_one kind active i k o e d = answered_one kind active i d ∙ sym (owner_counts k o e)
 
 brings_axis : (kind : BlockKind) (i : InstanceState) (k : ℕ) (w : Wanted) (c : Core) →
     w.owner ≡ Some k → acts_on_group kind ≡ false →
     commands_shown (answered_instance kind (Ok (axis_calls.is_active_by kind w c)) i).progress
     ≡ is_owner k (owner_brought_by kind w)
-brings_axis kind.GearOut i k w c e a = sym (none_owned k)
-brings_axis kind.CamOut i k w c e a = sym (none_owned k)
+brings_axis kind.GearOut i k w c e a = sym (nobody k)
+brings_axis kind.CamOut i k w c e a = sym (nobody k)
 brings_axis kind.GroupEnable i k w c e a = absurd (cc)
 brings_axis kind.GroupDisable i k w c e a = absurd (cc)
 brings_axis x i k w c e a = brings_one x (axis_calls.is_active_by x w c) i k w.owner e refl
@@ -131,7 +121,7 @@ pub answer_shows : (o : Option axis_reason.Reason) (i : InstanceState) (k : ℕ)
     commands_shown (answered_instance w.kind (axis_calls.answer_by o w c) i).progress ≡ is_owner k
     (owner_brought o w)
 answer_shows None i k w c e a = brings_axis w.kind i k w c e a
-answer_shows (Some r) i k w c e a = sym (none_owned k)
+answer_shows (Some r) i k w c e a = sym (nobody k)
 
 -- a circle is refused
 no_other : (b : Bool) (r : group_reason.Reason) (o : Option group_reason.Reason) → (o ≡ None → ⊥) →
@@ -158,8 +148,8 @@ brings_group : (x : BlockKind) (i : InstanceState) (k : ℕ) (w : Wanted) (c : g
     (x ≡ kind.MoveCircularAbsolute → ⊥) →
     commands_shown (answered_instance x (Ok (group_calls.is_active_by x w c)) i).progress
     ≡ is_owner k (group_owners.brought_by x w)
-brings_group kind.GroupEnable i k w c e a n = sym (none_owned k)
-brings_group kind.GroupDisable i k w c e a n = sym (none_owned k)
+brings_group kind.GroupEnable i k w c e a n = sym (nobody k)
+brings_group kind.GroupDisable i k w c e a n = sym (nobody k)
 brings_group kind.GroupReset i k w c e a n = brings_one kind.GroupReset false i k w.owner e refl
 brings_group kind.GroupStop i k w c e a n = brings_one kind.GroupStop true i k w.owner e refl
 brings_group kind.GroupHalt i k w c e a n = brings_one kind.GroupHalt true i k w.owner e refl
@@ -175,4 +165,4 @@ pub group_answer_shows : (q : group_refusals.Asked) (o : Option group_reason.Rea
     ≡ is_owner k (group_owners.brought o q.wanted)
 group_answer_shows q None r i k c e a =
     brings_group q.wanted.kind i k q.wanted c e a (λ circle. circle_refused q circle r)
-group_answer_shows q (Some x) r i k c e a = sym (none_owned k)
+group_answer_shows q (Some x) r i k c e a = sym (nobody k)

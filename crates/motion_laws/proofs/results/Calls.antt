@@ -1,4 +1,4 @@
--- A call tells the other instances whose commands end by it, and none without a command.
+-- A call tells the other instances whose commands end by it.
 use Rattle.std.specs.Prelude.{◌≡◌, refl, ℕ, ◌<◌, true, false, nat_eq, if◌then◌else◌, Option, Some, None, length, slice_get}
 use Rattle.std.proofs.Common.{arith, ap, sym, subst, ◌∙◌}
 use Rattle.std.proofs.lemmas.Bool.{eqb-true}
@@ -28,21 +28,14 @@ use Rattle.motion_laws.specs.owners.Objects.{a_group, an_axis, has_commands_on}
 use Rattle.motion_laws.specs.owners.Commands.{active_at}
 use Rattle.motion_laws.proofs.owners.Events.{active_left, asks}
 use Rattle.motion_laws.proofs.owners.commands.Events.{IsGood, OwnerLaws}
-use Rattle.motion_laws.proofs.owners.commands.Freed.{instances_without}
 use Rattle.motion_laws.proofs.owners.commands.Calls.{power_execute}
 use Rattle.motion_laws.proofs.results.Steps.{TellLaws}
 use Rattle.motion_laws.proofs.results.Events.{HasEnded}
-use Rattle.motion_laws.proofs.results.Commands.{IsSameAt, beside, ended_beside, ends_where, ends_else, power_tells, power_tells_group, command_tells, group_command_tells}
+use Rattle.motion_laws.proofs.results.Commands.{ended_beside, ends_where, ends_else, power_tells, power_tells_group, command_tells, group_command_tells}
 
 -- the machine in which a rising edge asks
 abbrev free_of : ℕ → Inputs → Machine → Machine
 free_of k i m = without_owner k (with_execute k i m)
-
-free_same : (k j : ℕ) (i : Inputs) (m : Machine) → nat_eq k j ≡ false →
-    IsSameAt j m (free_of k i m)
-free_same k j i m d =
-    ap (λ is. instance_at is j) (instances_without k (with_execute k i m))
-    ∙ beside m k j (instance.called (instance_at m.instances k) i.execute) d
 
 -- where a block acts
 abbrev ActsWithin : Setup → BlockDef → Type 0

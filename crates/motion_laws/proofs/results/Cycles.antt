@@ -1,4 +1,4 @@
--- A cycle tells the instances whose commands end in it, and no instance without a command.
+-- A cycle tells the instances whose commands end in it.
 use Rattle.std.specs.Prelude.{◌≡◌, ◌≢◌, refl, ℕ, zero, suc, ◌<◌, ◌≤◌, Bool, true, false, Option, Some, None, List, [], ◌∷◌, length, slice_get, slice_set}
 use Rattle.std.proofs.Common.{arith, ap, sym, ◌∙◌}
 use Rattle.std.proofs.lemmas.List.{get_or-set_other}

@@ -12,11 +12,11 @@ use Rattle.fb_outputs.specs.declared.instance.Progress.{Progress}
 use Rattle.fb_outputs.specs.declared.instance.Progress.TheVariants.{Ended}
 use Rattle.motion_history.specs.Setup.{Setup}
 use Rattle.motion_kernel.specs.Machine.{Machine, instance_at}
-use Rattle.motion_laws.specs.owners.Objects.{IsThere, Object, has_commands_on, is_same}
+use Rattle.motion_laws.specs.owners.Objects.{IsThere, Object, has_commands_on}
 use Rattle.motion_laws.specs.owners.Commands.{commands_at, commands_shown}
 use Rattle.motion_kernel.specs.calls.Telling.{told_end, told_notes}
 use Rattle.motion_laws.proofs.owners.Counts.{owner_is, untold_stays}
-use Rattle.motion_laws.proofs.owners.commands.Events.{Changes, ShownOf, beside_none, most_one}
+use Rattle.motion_laws.proofs.owners.commands.Events.{Changes, ShownOf, most_one}
 use Rattle.motion_laws.proofs.owners.commands.Asked.{set_at}
 
 -- how far an instance's command is
@@ -100,13 +100,6 @@ none_spared s k is o none = if_none (has_commands_on (slice_get s.blocks k) o)
 pub ended_spared : (s : Setup) (k : ℕ) (f : Finish) (m : Machine) (o : Object) → HasEnded f k m →
     IsSpared s k m.instances o
 ended_spared s k f m o e = none_spared s k m.instances o (ap commands_shown e)
-
--- one that has its command at an object has none at another
-pub spared_beside : (s : Setup) (k : ℕ) (is : List InstanceState) (o p : Object) →
-    has_commands_on (slice_get s.blocks k) o ≡ true → is_same o p ≡ false → IsSpared s k is p
-spared_beside s k is o p on d =
-    ap (λ b. if b then commands_shown (progress_in is k) else 0)
-    (beside_none (slice_get s.blocks k) o p on d)
 
 -- it has one command there at most
 pub one_there : (s : Setup) (k : ℕ) (m : Machine) (o : Object) → ShownOf s k m → IsThere m o →

@@ -2,7 +2,7 @@
 use Rattle.std.specs.Prelude.{◌≡◌, refl, ℕ, Bool, true, false, ◌||◌, is_none, if◌then◌else◌, Option, Some, None, Ok, List, []}
 use Rattle.std.proofs.Common.{ap, sym, ◌∙◌}
 use Rattle.axis_core.specs.Calls as axis_calls
-use Rattle.axis_core.specs.Calls.{core_after_admission, core_after_command, core_after_joining, core_after_leaving, core_after_power, core_after_verdict, core_with_queued, queue_in}
+use Rattle.axis_core.specs.Calls.{core_after_admission, core_after_command, core_after_joining, core_after_leaving, core_after_verdict, core_with_queued, queue_in}
 use Rattle.axis_core.specs.Cores.{Core, axis_under, axis_under_by}
 use Rattle.axis_core.specs.Refusals as axis_refusals
 use Rattle.axis_core.specs.Refusals.{Asked}
@@ -19,7 +19,8 @@ use Rattle.motion_kernel.specs.calls.Asking.{is_done_at_once}
 use Rattle.motion_kernel.specs.calls.Calls.{answered_instance}
 use Rattle.motion_kernel.proofs.Sizes.{by_if}
 use Rattle.motion_laws.specs.owners.Commands.{active_shown}
-use Rattle.motion_laws.proofs.owners.Counts.{none_owned, owned_one}
+use Rattle.buffer_modes.proofs.Owners.{nobody}
+use Rattle.command_core.proofs.Holders.{owner_counts}
 
 -- whether an instance has the active command, and how many of its commands wait, a reset among them
 abbrev pub active_of : ℕ → Core → ℕ
@@ -52,7 +53,7 @@ joined_active k w c true e own none =
       axis = axis_under w
           (core_with_queued w c).axis;
     } else core_with_queued w c)) e
-    ∙ owned_one k w.owner own
+    ∙ owner_counts k w.owner own
 joined_active k w c false e own none =
     ap (λ x. active_of k
     (if x then record (core_with_queued w c) {
@@ -64,7 +65,7 @@ joined_active k w c false e own none =
 
 left_active : (k : ℕ) (w : Wanted) (c : Core) → active_of k (core_after_leaving w c) ≡ 0
 unfolding axis_under_by
-left_active k w c = none_owned k
+left_active k w c = nobody k
 
 own_admitted : (k : ℕ) (x : BlockKind) (w v : Wanted) (c : Core) (i : InstanceState) →
     v.mode ≡ w.mode → v.owner ≡ Some k → active_of k c ≡ 0 →

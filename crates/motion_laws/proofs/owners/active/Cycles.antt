@@ -13,7 +13,8 @@ use Rattle.motion_kernel.specs.cycles.Showing.{axes_shown, found_by, groups_show
 use Rattle.motion_kernel.specs.Machine.{Machine, PlacedGroup, axis_at, group_at, instance_at, machine_at_opening}
 use Rattle.motion_laws.specs.owners.Commands.{ActiveAreShown, CommandsAreShown, active_at, commands_at}
 use Rattle.motion_laws.specs.owners.Objects.{IsThere, Object, has_commands_on, is_same, a_group, an_axis}
-use Rattle.motion_laws.proofs.owners.Counts.{none_owned, other_owner, shown_by}
+use Rattle.buffer_modes.proofs.Owners.{nobody}
+use Rattle.motion_laws.proofs.owners.Counts.{other_owner, shown_by}
 use Rattle.motion_laws.proofs.owners.commands.Cycles.{axes_told}
 use Rattle.motion_laws.proofs.owners.commands.Events.{beside_none, most_one, none_beside, none_if, same_object, shown_if, shown_where}
 use Rattle.motion_laws.proofs.owners.commands.Opening.{opening_shown, shows_none}
@@ -25,7 +26,7 @@ use Rattle.motion_laws.proofs.walk.Events.{there_same}
 
 -- an owner by its count
 pub found_in : (k : ℕ) (o : Option ℕ) → 0 < is_owner k o → o ≡ Some k
-found_in k None l = let n = none_owned k in absurd (omega arith)
+found_in k None l = let n = nobody k in absurd (omega arith)
 found_in k (Some j) l = elim (cases_Bool (nat_eq j k)) [
   | inl e ↦ ap Some (eqb-true j k e)
   | inr d ↦ let n = other_owner k j d in absurd (omega arith)
@@ -33,7 +34,7 @@ found_in k (Some j) l = elim (cases_Bool (nat_eq j k)) [
 
 owner_found : (k : ℕ) (active : Option Wanted) → 0 < is_owner k (owner_by active) →
     owner_by active ≡ Some k
-owner_found k None l = let n = none_owned k in absurd (omega arith)
+owner_found k None l = let n = nobody k in absurd (omega arith)
 owner_found k (Some w) l = found_in k w.owner l
 
 -- what an instance found leaves its command

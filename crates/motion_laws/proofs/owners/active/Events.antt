@@ -117,10 +117,6 @@ pub active_same : (m : Machine) (is : List InstanceState) (k : ℕ) (o : Object)
 active_same m is k (an_axis n) = refl
 active_same m is k (a_group j) = refl
 
--- who has no command has none that is active
-pub none_active_at : (m : Machine) (k : ℕ) (o : Object) → commands_at m k o ≡ 0 → active_at m k o ≡ 0
-none_active_at m k o e = let all = all_are m k o in omega arith
-
 pub all_active : (s : Setup) (k : ℕ) (m : Machine) → ActiveOf s k m →
     ((j : ℕ) → nat_eq k j ≡ false → ActiveOf s j m) → ActiveAreShown s m
 all_active s k m own others j = elim (cases_Bool (nat_eq k j)) [

@@ -10,20 +10,16 @@ use Rattle.fb_outputs.specs.InstanceState.{InstanceState}
 use Rattle.group_core.specs.Calls as group_calls
 use Rattle.group_core.specs.Cores as groups
 use Rattle.group_core.specs.Refusals as group_refusals
-use Rattle.group_core.specs.blocks.Line.{braking_for}
 use Rattle.group_core.specs.declared.look.GroupLook.{GroupLook}
 use Rattle.group_core.specs.declared.reason.Reason as group_reason
 use Rattle.motion_kernel.specs.calls.Calls.{answered_instance}
+use Rattle.command_changes.proofs.group.Brought.{nobody_brakes}
+use Rattle.command_core.proofs.Holders.{owner_counts}
 use Rattle.motion_laws.specs.owners.Commands.{active_shown}
-use Rattle.motion_laws.proofs.owners.Counts.{none_owned, owned_one}
 use Rattle.motion_laws.proofs.owners.active.AxisCounts.{not_at_once, active_by}
 
 abbrev pub group_active_of : ℕ → groups.Core → ℕ
 group_active_of k c = is_owner k (owner_by c.group.active)
-
-braked_no_one : (k : ℕ) (active : Option Wanted) → is_owner k (owner_by (braking_for active)) ≡ 0
-braked_no_one k None = none_owned k
-braked_no_one k (Some w) = none_owned k
 
 -- an instance's own command of a group is active where it shows so
 line_active : (k : ℕ) (members : GroupLook) (w : Wanted) (c : groups.Core) (waits once : Bool) →
@@ -34,9 +30,9 @@ line_active : (k : ℕ) (members : GroupLook) (w : Wanted) (c : groups.Core) (wa
     else (if once then groups.line_begun members members.setpoints w
     (group_calls.queued w c) else group_calls.queued w c))
     ≡ (if not waits && once then 1 else 0)
-line_active k members w c true true r o e n = braked_no_one k c.group.active
-line_active k members w c true false r o e n = braked_no_one k c.group.active
-line_active k members w c false true r o e n = owned_one k w.owner e
+line_active k members w c true true r o e n = nobody_brakes k c.group.active
+line_active k members w c true false r o e n = nobody_brakes k c.group.active
+line_active k members w c false true r o e n = owner_counts k w.owner e
 line_active k members w c false false r o e n =
     ap (λ a. is_owner k (owner_by a))
     (not_at_once c.group.active c.waiting w (is_aborting w.mode) refl o) ∙ n
@@ -48,8 +44,8 @@ group_own_admitted : (k : ℕ) (x : BlockKind) (members : GroupLook) (w : Wanted
 group_own_admitted k kind.GroupEnable members w c i e n = n
 group_own_admitted k kind.GroupDisable members w c i e n = n
 group_own_admitted k kind.GroupReset members w c i e n = n
-group_own_admitted k kind.GroupStop members w c i e n = owned_one k w.owner e
-group_own_admitted k kind.GroupHalt members w c i e n = owned_one k w.owner e
+group_own_admitted k kind.GroupStop members w c i e n = owner_counts k w.owner e
+group_own_admitted k kind.GroupHalt members w c i e n = owner_counts k w.owner e
 group_own_admitted k kind.MoveLinearAbsolute members w c i e n =
     line_active k members w c (group_calls.waits_for_rest w c.path)
     (is_active_at_once (group_calls.queue_in c) w) refl refl e n

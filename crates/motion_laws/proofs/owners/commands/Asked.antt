@@ -17,7 +17,8 @@ use Rattle.motion_history.specs.Setup.{Setup}
 use Rattle.motion_kernel.specs.Machine.{Machine, instance_at, no_instance}
 use Rattle.motion_laws.specs.owners.Commands.{CommandsAreShown, commands_at}
 use Rattle.motion_laws.specs.owners.Objects.{Object, has_commands_on, is_same, a_group, an_axis}
-use Rattle.motion_laws.proofs.owners.Counts.{none_owned, other_owner}
+use Rattle.buffer_modes.proofs.Owners.{nobody}
+use Rattle.motion_laws.proofs.owners.Counts.{other_owner}
 use Rattle.motion_laws.proofs.owners.commands.Events.{ShownOf, beside_none, none_beside, same_object}
 
 -- a command that is asked of an axis
@@ -29,10 +30,10 @@ other_brings j k None w d e = other_brings_by w.kind
     none = ap (is_owner j) e ∙ other_owner j k d
 
     other_brings_by : (x : BlockKind) → is_owner j (axis.owner_brought_by x w) ≡ 0
-    other_brings_by kind.GearOut = none_owned j
-    other_brings_by kind.CamOut = none_owned j
+    other_brings_by kind.GearOut = nobody j
+    other_brings_by kind.CamOut = nobody j
     other_brings_by _ = none
-other_brings j k (Some r) w d e = none_owned j
+other_brings j k (Some r) w d e = nobody j
 
 pub set_at : (is : List InstanceState) (k : ℕ) (i : InstanceState) → k < length is → instance_at
     (slice_set is k i) k ≡ i
@@ -60,7 +61,7 @@ other_brings_group j k None w d e = other_brings_by w.kind
     none = ap (is_owner j) e ∙ other_owner j k d
 
     nobody : is_owner j None ≡ 0
-    nobody = none_owned j
+    nobody = nobody j
 
     other_brings_by : (x : BlockKind) → is_owner j (group.brought_by x w) ≡ 0
     other_brings_by kind.GroupReset = none
@@ -68,7 +69,7 @@ other_brings_group j k None w d e = other_brings_by w.kind
     other_brings_by kind.GroupHalt = none
     other_brings_by kind.MoveLinearAbsolute = none
     other_brings_by _ = nobody
-other_brings_group j k (Some r) w d e = none_owned j
+other_brings_group j k (Some r) w d e = nobody j
 
 -- an instance that shows as many as it has at its block's object, and has none at another
 pub own_at : (s : Setup) (k : ℕ) (o : Object) (has : Object → ℕ) (there : Object → Type 0) (shown n : ℕ) →
