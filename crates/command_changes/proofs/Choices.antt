@@ -1,11 +1,6 @@
 -- A choice of two, and what holds of both.
+pub use Rattle.group_core.proofs.KeptCalls.{by-if as by_if}
 use Rattle.std.specs.Prelude.{◌≡◌, refl, Bool, true, false, if◌then◌else◌}
-
--- a choice, by what holds where it falls
-pub by_if : {A : Type 0} (P : A → Type 0) (b : Bool) (x y : A) → (b ≡ true → P x) →
-    (b ≡ false → P y) → P (if b then x else y)
-by_if P true x y f g = f refl
-by_if P false x y f g = g refl
 
 -- a choice of two things alike
 pub either : {A B : Type 0} (R : A → B → Type 0) (b : Bool) (f g : A) (x y : B) →

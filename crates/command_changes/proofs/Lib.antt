@@ -1,4 +1,4 @@
 mod Choices
 mod Alike
 mod axis
-mod group
+pub mod group

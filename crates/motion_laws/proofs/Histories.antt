@@ -1,7 +1,8 @@
 -- The machines of a legal history are kept, and the entries with which it begins are a legal one.
 use Rattle.std.specs.Prelude.{◌≡◌, ℕ, ◌+◌, List, [], ◌∷◌, ◌++◌, length, refl}
 use Rattle.std.proofs.Common.{arith}
-use Rattle.motion_history.specs.Entries.{Entry, call, cycle, cycle_count, cycles_of, end_of}
+use Rattle.motion_history.proofs.HistoryLemmas.{cycles_of-append}
+use Rattle.motion_history.specs.Entries.{Entry, call, cycle, cycle_count, end_of}
 use Rattle.motion_history.specs.Setup.{Setup, IsSetup}
 use Rattle.motion_kernel.specs.calls.Calls.{after_call}
 use Rattle.motion_kernel.specs.cycles.Cycles.{after_cycle}
@@ -32,12 +33,6 @@ pub legal_kept : MachinesStayKept → (s : Setup) (es : List Entry) → IsSetup 
 legal_kept laws s es setup whole legal = replay_kept laws s 0 (machine_at_opening s) es whole (laws.opened s setup whole) legal.follows
 
 -- the entries with which a legal history begins are a legal one
-cycles_append : (es fs : List Entry) → cycles_of (es ++ fs) ≡ cycles_of es + cycles_of fs
-cycles_append [] fs = omega arith
-cycles_append (call k i reply ∷ es) fs = let more = cycles_append es fs in omega (arith, more)
-cycles_append (cycle c rows grows ∷ es) fs = let more = cycles_append es fs in omega (arith, more)
-cycles_append (end_of task ∷ es) fs = let more = cycles_append es fs in omega (arith, more)
-
 length_append : (es fs : List Entry) → length (es ++ fs) ≡ length es + length fs
 length_append [] fs = omega arith
 length_append (e ∷ es) fs = let more = length_append es fs in omega (arith, more)
@@ -49,6 +44,6 @@ follows_so_far s cycles m (e ∷ es) fs f = (f.0, follows_so_far s (cycles + cyc
 pub legal_so_far : (s : Setup) (es fs : List Entry) → IsLegal s (es ++ fs) → IsLegal s es
 legal_so_far s es fs legal = record {
   entries = let most = legal.entries in let sum = length_append es fs in omega (arith, sum);
-  cycles = let most = legal.cycles in let sum = cycles_append es fs in omega (arith, sum);
+  cycles = let most = legal.cycles in let sum = cycles_of-append es fs in omega (arith, sum);
   follows = follows_so_far s 0 (machine_at_opening s) es fs legal.follows;
 }

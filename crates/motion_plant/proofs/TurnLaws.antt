@@ -12,17 +12,14 @@ use Rattle.kernel_turn.specs.declared.turn.Turn.TheVariants as turns
 use Rattle.motion_plant.specs.Calls.{IsCut, fixed_part}
 use Rattle.motion_plant.specs.Makers.{IsBy, Owns, own_entries, task_of}
 use Rattle.motion_plant.proofs.OwnEntries.{entries_prefix, entries_more, owns_prefix, owns_snoc}
+use Rattle.motion_history.proofs.HistoryLemmas.{cycles_of-append}
 use Rattle.motion_history.specs.Entries.{Entry, call, end_of, cycle_count, cycles_of}
 use Rattle.motion_history.specs.Setup.{Setup}
 use Rattle.motion_history.specs.declared.config.BlockDef.{BlockDef}
 use Rattle.motion_kernel.specs.KernelState.{KernelState}
 
-pub cycles_more : (xs ys : List Entry) → cycles_of (xs ++ ys) ≡ cycles_of xs + cycles_of ys
-cycles_more [] ys = omega arith
-cycles_more (x ∷ xs) ys = let r = cycles_more xs ys in omega arith
-
 pub cycles_begin : (xs ys : List Entry) → IsPrefix xs ys → cycles_of xs ≤ cycles_of ys
-cycles_begin xs ys p = let e = ap cycles_of p.1 in let m = cycles_more xs p.0 in omega arith
+cycles_begin xs ys p = let e = ap cycles_of p.1 in let m = cycles_of-append xs p.0 in omega arith
 
 -- a turn that made nothing
 pub record LeavesAll (old new : PassState) : Type 0 where
@@ -49,7 +46,7 @@ module _ (P : Entry → Type 0) (old new : PassState) (f g : KernelState)
       let seen : new.seen ≡ old.seen ++ w.begins.0 = ap (λ (p : PassState). p.seen) is ∙
       ap (λ (k : KernelState). k.history) same ∙ h in
       let own : new.own ≡ old.own = ap (λ (p : PassState). p.own) is ∙ append-nil old.own in
-      let c = cycles_more old.seen w.begins.0 in
+      let c = cycles_of-append old.seen w.begins.0 in
       let d = ap cycles_of seen in (
         subst (λ ns. Owns P ns new.seen) (sym own) (subst (λ es. Owns P old.own es) (sym seen)
             (owns_prefix P old.own old.seen w.begins.0 o)),
@@ -71,10 +68,10 @@ module _ (P : Entry → Type 0) (old new : PassState) (f g : KernelState)
       ap (λ (k : KernelState). k.history) same in
       let own : new.own ≡ old.own ++ length f.history ∷ [] = ap (λ (q : PassState). q.own) is ∙
       ap (λ t. old.own ++ t ∷ []) is_ticket in
-      let c = cycles_more old.seen w.begins.0 in
+      let c = cycles_of-append old.seen w.begins.0 in
       let b = ap cycles_of h in
       let d = ap cycles_of seen in
-      let m = cycles_more f.history (e ∷ []) in (
+      let m = cycles_of-append f.history (e ∷ []) in (
         subst (λ ns. Owns P ns new.seen) (sym own)
             (subst (λ es. Owns P (old.own ++ length f.history ∷ []) es) (sym seen)
             (owns_snoc P old.own f.history e mid p)),
@@ -116,7 +113,7 @@ module _ (t : ℕ) (old new : PassState) where
       a.2.pass in
       let c = m.cycles_is in
       let d = ap (λ (q : KernelState). cycles_of q.history) (m.kernel ∙ ap (with_entry f) same) in
-      let n = cycles_more f.history (call k i answer ∷ []) in
+      let n = cycles_of-append f.history (call k i answer ∷ []) in
       let few = m.few in
       let config = ap (λ (q : Setup). q.cycles) a.2.found.config in
       (f.history, r.0, r.1, omega arith, told.0, omega arith)
