@@ -60,15 +60,15 @@ other_brings_group j k None w d e = other_brings_by w.kind
     none : is_owner j w.owner ≡ 0
     none = ap (is_owner j) e ∙ other_owner j k d
 
-    nobody : is_owner j None ≡ 0
-    nobody = nobody j
+    no_owner : is_owner j None ≡ 0
+    no_owner = nobody j
 
     other_brings_by : (x : BlockKind) → is_owner j (group.brought_by x w) ≡ 0
     other_brings_by kind.GroupReset = none
     other_brings_by kind.GroupStop = none
     other_brings_by kind.GroupHalt = none
     other_brings_by kind.MoveLinearAbsolute = none
-    other_brings_by _ = nobody
+    other_brings_by _ = no_owner
 other_brings_group j k (Some r) w d e = nobody j
 
 -- an instance that shows as many as it has at its block's object, and has none at another
