@@ -61,10 +61,10 @@ fn make_cycle(kernel: &mut Kernel, rows: &[AxisRow])
     } }
 {
     let mut answers = [NO_ANSWER; MOST_AXES];
-    let answers = &mut answers[..rows.len()];
+    let answers = &mut answers[..kernel.config().axes().len()];
     let mut outs = [NO_OUTPUT; MOST_AXES];
     take_answers(rows, answers);
-    kernel.cycle(answers, &mut outs[..rows.len()]);
+    kernel.cycle(answers, &mut outs[..answers.len()]);
 }
 
 /// Makes the event of an entry, for which there is room.
