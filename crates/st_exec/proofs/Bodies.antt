@@ -1,11 +1,11 @@
 -- The code of a task's statements runs as the scan goes, and no operand is missing in it.
-use Rattle.std.proofs.Common.{◌≡◌, ◌≢◌, ℕ, ℤ, List, [], ◌∷◌, ◌++◌, map, ap, sym, refl, subst, ◌∙◌, append-nil}
+use Rattle.std.proofs.Common.{◌≡◌, ℕ, ℤ, List, [], ◌∷◌, map, ap, sym, refl, subst, ◌∙◌, append-nil}
 use Rattle.fb_outputs.specs.Inputs.{inputs_off}
 use Rattle.fb_outputs.specs.declared.outputs.Outputs.{Outputs}
 use Rattle.st_tree.specs.declared.statement.Stmt.{Stmt}
-use Rattle.st_exec.specs.Code.{Code, all_of, body_code, stmt_code}
+use Rattle.st_exec.specs.Code.{all_of, body_code, stmt_code}
 use Rattle.st_exec.specs.Machine.{run}
-use Rattle.st_exec.specs.Scan.{Course, Over, Waits, Missing, Stand, at_first, in_order, scan, scan_of, then_do}
+use Rattle.st_exec.specs.Scan.{Course, Over, Waits, Missing, at_first, in_order, scan, scan_of, then_do}
 use Rattle.st_exec.proofs.Statements.{Follows, IsScanned, all_run, goes_on, stmt_follows}
 
 -- the firsts of pairs with a proof

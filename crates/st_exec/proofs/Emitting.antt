@@ -9,7 +9,8 @@ use Rattle.st_tree.specs.declared.statement.Stmt.TheOpen.{Stmt-F}
 use Rattle.st_tree.specs.declared.statement.Stmt.TheVariants.{Case, rolls-Case}
 use Rattle.st_exec.specs.Code.{Code, all_of, branch_code, branch_code_step, branches_before, branches_code, expr_code, stmt_code, stmt_code_step}
 use Rattle.st_exec.specs.Jumps.{branches_over, side_over}
-use Rattle.st_exec.specs.declared.instruction.Act.TheVariants.{Forget, Match, Pass}
+use Rattle.st_exec.specs.declared.instruction.Act.TheVariants.{Pass, Take}
+use Rattle.st_exec.specs.declared.instruction.Use.TheVariants.{Forget, Match}
 use Rattle.st_exec.specs.declared.instruction.Instruction.TheVariants.{Do}
 
 -- what stands before the rest is as long as what the rest leaves
@@ -28,18 +29,18 @@ pub branches_over_is : (bs : List (ℤ × Code)) (others rest : Code) →
     branches_over bs (length rest) (others ++ rest) ≡ branches_before bs others ++ rest
 branches_over_is [] others rest = refl
 branches_over_is (b ∷ bs) others rest =
-    ap (λ l. Do (Match b.0 (length b.1 + 1)) ∷ side_over b.1 (length rest) l)
+    ap (λ l. Do (Take (Match b.0 (length b.1 + 1))) ∷ side_over b.1 (length rest) l)
     (branches_over_is bs others rest) ∙
-    ap (λ l. Do (Match b.0 (length b.1 + 1)) ∷ l) (side_over_is b.1 (branches_before bs others) rest)
+    ap (λ l. Do (Take (Match b.0 (length b.1 + 1))) ∷ l) (side_over_is b.1 (branches_before bs others) rest)
 
 -- a CASE that is put from its ELSE part on
 pub case_put : (e otherwise : Code) (bs : List (ℤ × Code)) (rest after_else forgets branched all : Code)
     (left : ℕ) → left ≡ length rest → after_else ≡ otherwise ++ rest →
-    forgets ≡ Do Forget ∷ after_else → branched ≡ branches_over bs left forgets →
+    forgets ≡ Do (Take Forget) ∷ after_else → branched ≡ branches_over bs left forgets →
     all ≡ e ++ branched → all ≡ (e ++ branches_code bs otherwise) ++ rest
 case_put e otherwise bs rest after_else forgets branched all left is_left is_else is_forget is_branched is_all =
     rw (is_all, is_branched, is_forget, is_else, is_left)
-    (ap (λ l. e ++ l) (branches_over_is bs (Do Forget ∷ otherwise) rest) ∙
+    (ap (λ l. e ++ l) (branches_over_is bs (Do (Take Forget) ∷ otherwise) rest) ∙
     sym (append_assoc e (branches_code bs otherwise) rest))
 
 -- the code of a CASE

@@ -1,6 +1,10 @@
 pub mod Passing
-pub mod Values
+pub mod Expressions
 pub mod Statements
 pub mod Bodies
 pub mod Wholes
 pub mod Emitting
+pub mod Sound
+pub mod Walking
+pub mod Tasks
+pub mod Replies

@@ -1,9 +1,9 @@
 -- How a run passes instructions, and how courses are joined.
-use Rattle.std.proofs.Common.{◌≡◌, ℕ, suc, ◌+◌, ℤ, Bool, true, false, if◌then◌else◌, List, [], ◌∷◌, ◌++◌, length, ap, refl, ◌∙◌, append_assoc, arith}
+use Rattle.std.proofs.Common.{◌≡◌, ℕ, suc, ◌+◌, ℤ, Bool, true, false, if◌then◌else◌, List, [], ◌∷◌, ◌++◌, length, ap, refl, ◌∙◌, arith}
 use Rattle.fb_outputs.specs.declared.inputs.Inputs.{Inputs}
 use Rattle.fb_outputs.specs.declared.outputs.Outputs.{Outputs}
 use Rattle.st_exec.specs.Code.{Code}
-use Rattle.st_exec.specs.Machine.{Effect, Goes, led_on, run}
+use Rattle.st_exec.specs.Machine.{run}
 use Rattle.st_exec.specs.Scan.{Asked, Course, Over, Waits, Missing, Stand, asked, then_do}
 use Rattle.st_exec.specs.declared.instruction.Act.TheVariants.{Pass}
 use Rattle.st_exec.specs.declared.instruction.Instruction.{Instruction}

@@ -12,13 +12,14 @@ use Rattle.st_tree.specs.declared.statement.Stmt.TheOpen.{Stmt-F, Branch-F}
 use Rattle.st_tree.specs.declared.statement.Stmt.TheViews.{roll-Stmt, roll-Branch}
 use Rattle.st_tree.specs.declared.statement.Stmt.TheFolds.{ind-Stmt, fold-Branch, fold-roll-Stmt, fold-roll-Branch, map-Stmt, map-Branch}
 use Rattle.st_exec.specs.Code.{Code, all_of, branch_code, branch_code_step, branches_code, expr_code, given_code, sides_code, stmt_code, stmt_code_step}
-use Rattle.st_exec.specs.Machine.{Effect, Goes, led_on, run}
+use Rattle.st_exec.specs.Machine.{Goes, led_on, run}
 use Rattle.st_exec.specs.Scan.{Course, Over, Stand, asked, begun, branch_step, call_of, chosen, in_order, scan, scan_step, then_do, with_all, with_given}
 use Rattle.st_exec.specs.Values.{is_true, value_of}
-use Rattle.st_exec.specs.declared.instruction.Act.TheVariants.{Begin, Forget, Give, Pass, Store, Unless}
+use Rattle.st_exec.specs.declared.instruction.Act.TheVariants.{Pass, Take}
+use Rattle.st_exec.specs.declared.instruction.Use.TheVariants.{Begin, Give, Store}
 use Rattle.st_exec.specs.declared.instruction.Instruction.TheVariants.{Ask, Do}
 use Rattle.st_exec.proofs.Passing.{asked_then, jumped, passed_one, same_choice, then_choice, then_same, then_twice}
-use Rattle.st_exec.proofs.Values.{expr_runs}
+use Rattle.st_exec.proofs.Expressions.{expr_runs}
 
 -- the rest of a run, between two statements
 abbrev pub goes_on : ℕ → Code → Stand → Course
@@ -48,7 +49,7 @@ given_runs : (us : ℕ) (g : Given) (rest : Code) (i : Inputs) (s : Stand) →
     run us (given_code g ++ rest) 0 [] i s ≡ run us rest 0 [] (with_given us s.vars s.last g i) s
 given_runs us (Number key e) rest i s =
     ap (λ l. run us l 0 [] i s) (append_assoc (expr_code e) _ rest) ∙
-    (expr_runs us e).runs (Do (Give key) ∷ rest) [] i s
+    (expr_runs us e).runs (Do (Take (Give key)) ∷ rest) [] i s
 given_runs us (Mode mode) rest i s = refl
 given_runs us (Master axis) rest i s = refl
 
@@ -64,7 +65,7 @@ all_given_run us (g ∷ gs) rest i s =
 
 -- the code of a call
 call_runs : (us k : ℕ) (e : Expr) (gs : List Given) (rest : Code) (s : Stand) →
-    goes_on us ((expr_code e ++ (Do Begin ∷ all_of (map given_code gs) ++ Ask k ∷ [])) ++ rest) s ≡
+    goes_on us ((expr_code e ++ (Do (Take Begin) ∷ all_of (map given_code gs) ++ Ask k ∷ [])) ++ rest) s ≡
     then_do (asked (call_of us k e gs s) s s.left Over) (goes_on us rest)
 call_runs us k e gs rest s =
     ap (λ l. goes_on us l s) (append_assoc (expr_code e) _ rest) ∙
@@ -176,7 +177,7 @@ parts_follow : (us : ℕ) (y : Stmt-F ((t : Stmt) × IsScanned us t) ((b : Branc
 parts_follow us (Stmt-F.Set x e) = level_follows us (Stmt-F.Set x e) (record {
   runs = λ rest s.
       ap (λ l. goes_on us l s) (append_assoc (expr_code e) _ rest) ∙
-      (expr_runs us e).runs (Do (Store x) ∷ rest) [] inputs_off s;
+      (expr_runs us e).runs (Do (Take (Store x)) ∷ rest) [] inputs_off s;
 })
 parts_follow us (Stmt-F.Call k e given) = level_follows us (Stmt-F.Call k e given)
     (record { runs = λ rest s. call_runs us k e given.items rest s })

@@ -1,21 +1,15 @@
 -- No operand is missing in the scan of a tree.
-use Rattle.std.proofs.Common.{◌≡◌, ◌≢◌, ℕ, ℤ, Bool, true, false, if◌then◌else◌, List, [], ◌∷◌, map, sym, subst}
+use Rattle.std.proofs.Common.{ℕ, ℤ, Bool, true, false, if◌then◌else◌, List, [], ◌∷◌, map, sym, subst}
 use Rattle.std.specs.Ordering.{int_eq}
 use Rattle.fb_outputs.specs.declared.outputs.Outputs.{Outputs}
 use Rattle.st_tree.specs.declared.statement.Branch.{Branch}
 use Rattle.st_tree.specs.declared.statement.Stmt.{Stmt}
-use Rattle.st_tree.specs.declared.statement.Stmt.TheOpen.{Stmt-F, Branch-F}
+use Rattle.st_tree.specs.declared.statement.Stmt.TheOpen.{Stmt-F}
 use Rattle.st_tree.specs.declared.statement.Stmt.TheViews.{roll-Stmt, roll-Branch}
 use Rattle.st_tree.specs.declared.statement.Stmt.TheFolds.{ind-Stmt, fold-roll-Stmt, fold-roll-Branch, map-Stmt, map-Branch}
-use Rattle.st_exec.specs.Scan.{Asked, Course, Over, Waits, Missing, Stand, asked, at_first, branch_step, call_of, chosen, in_order, scan, scan_of, scan_step, then_do}
+use Rattle.st_exec.specs.Scan.{Asked, Course, HasAll, Over, Waits, Missing, Stand, asked, at_first, branch_step, call_of, chosen, in_order, scan, scan_of, scan_step, then_do}
 use Rattle.st_exec.specs.Values.{is_true, value_of}
 use Rattle.st_exec.proofs.Statements.{branch_scan}
-
--- no operand is missing
-abbrev pub HasAll : Course → Type 0
-HasAll (Over s) = Unit {0}
-HasAll (Waits calls) = Unit {0}
-HasAll Missing = ⊥
 
 -- a scan from any stand has all operands
 abbrev pub IsWhole : (Stand → Course) → Type 0

@@ -3,3 +3,7 @@ pub mod Scan
 pub mod Code
 pub mod Machine
 pub mod Jumps
+pub mod Acting
+pub mod Compiled
+pub mod Standing
+pub mod Following

@@ -1,6 +1,6 @@
 -- A scan of a task: the calls that its tree makes, by the replies that they get. IEC 61131-3
 -- section 3.3.2 (statements), in this project's profile.
-use Rattle.std.specs.Prelude.{ℕ, ℤ, pos, ◌*ℤ◌, int_le, unsigned_abs, Bool, true, ◌&&◌, if◌then◌else◌, List, [], ◌∷◌, ◌++◌, map, slice_set}
+use Rattle.std.specs.Prelude.{ℕ, ℤ, pos, ◌*ℤ◌, int_le, unsigned_abs, Bool, ◌&&◌, if◌then◌else◌, List, [], ◌∷◌, ◌++◌, map, slice_set}
 use Rattle.std.specs.Ordering.{int_eq}
 use Rattle.fb_outputs.specs.Inputs.{inputs_off}
 use Rattle.fb_outputs.specs.declared.inputs.Inputs.{Inputs}
@@ -26,9 +26,13 @@ thousandths z = z *ℤ pos 1000000
 unfoldable pub table_of : ℤ → ℕ
 table_of z = if int_le (pos 0) z && int_le z (pos 65535) then unsigned_abs z else 0
 
+-- inputs with a position
+abbrev pub with_position : ℕ → ℤ → Inputs → Inputs
+with_position place z i = record i { positions = slice_set i.positions place z }
+
 -- inputs with a number for a key, where a cycle has so many microseconds
 abbrev pub with_number : ℕ → Key → ℤ → Inputs → Inputs
-with_number us (Position place) z i = record i { positions = slice_set i.positions place (thousandths z) }
+with_number us (Position place) z i = with_position place (thousandths z) i
 with_number us Velocity z i = record i { velocity = per_cycle_of (thousandths z) us }
 with_number us Acceleration z i = record i { acceleration = per_cycle_squared_of (thousandths z) us }
 with_number us Deceleration z i = record i { deceleration = per_cycle_squared_of (thousandths z) us }
@@ -49,8 +53,11 @@ with_all us vars last [] i = i
 with_all us vars last (g ∷ gs) i = with_all us vars last gs (with_given us vars last g i)
 
 -- inputs of which Execute alone is given
+abbrev pub with_execute : Bool → Inputs
+with_execute execute = record inputs_off { execute = execute }
+
 abbrev pub begun : ℤ → Inputs
-begun execute = record inputs_off { execute = is_true execute }
+begun z = with_execute (is_true z)
 
 -- ---- a scan
 
@@ -73,6 +80,12 @@ pub data Course : Type 0 where
   Over : Stand → Course
   Waits : List Asked → Course
   Missing : Course
+
+-- no operand is missing
+abbrev pub HasAll : Course → Type 0
+HasAll (Over s) = Unit {0}
+HasAll (Waits calls) = Unit {0}
+HasAll Missing = ⊥
 
 -- goes on where a scan isn't waiting
 abbrev pub then_do : Course → (Stand → Course) → Course

@@ -3,10 +3,10 @@
 ghost use Rattle.std.specs.Prelude.{◌≡◌, ◌≤◌, ◌+◌, ◌++◌, IfOk, OnOk, map, length};
 ghost use Rattle.st_exec.specs.Code.{all_of, body_code, branch_code, expr_code, given_code, stmt_code, term_code};
 ghost use Rattle.st_exec.specs.Jumps.{branches_over, side_over};
-ghost use Rattle.st_exec.specs.Values.{truth_of};
 
 use crate::from_end::CodeFromEnd;
-use crate::instruction::{Act, Instruction};
+use crate::instruction::{Act, Instruction, Use};
+use crate::values::truth_of;
 use out_of_memory::OutOfMemory;
 use st_tree::{Branch, Expr, Given, Stmt, Term};
 use std::alloc::Global;
@@ -18,18 +18,18 @@ fn put_expr(code: &mut CodeFromEnd, e: &Expr) -> Result<(), OutOfMemory>
 {
     match e {
         Expr::Number(n) => code.put_act(Act::Push(*n)),
-        Expr::Truth(holds) => code.put_act(Act::Push(truth(*holds))),
+        Expr::Truth(holds) => code.put_act(Act::Push(truth_of(*holds))),
         Expr::Variable(x) => code.put_act(Act::Load(*x)),
         Expr::Flag { instance, flag } => code.put_act(Act::Show {
             instance: *instance,
             flag: *flag,
         }),
         Expr::Negative(a) => {
-            code.put_act(Act::Negate)?;
+            code.put_use(Use::Negate)?;
             put_expr(code, a)
         }
         Expr::Not(a) => {
-            code.put_act(Act::Invert)?;
+            code.put_use(Use::Invert)?;
             put_expr(code, a)
         }
         Expr::Chain { first, terms } => {
@@ -48,18 +48,10 @@ fn put_terms(code: &mut CodeFromEnd, terms: &[Term]) -> Result<(), OutOfMemory>
     while 0 < left {
         left -= 1;
         let term = &terms[left];
-        code.put_act(Act::Join(term.operator))?;
+        code.put_use(Use::Join(term.operator))?;
         put_expr(code, &term.operand)?;
     }
     Ok(())
-}
-
-// A truth as a number.
-#[tactic(auto, unfolding(crate::specs::Values::truth_of))]
-fn truth(holds: bool) -> i32
-    ensures { result ≡ truth_of holds }
-{
-    if holds { 1 } else { 0 }
 }
 
 // The code of what a key gives.
@@ -68,7 +60,7 @@ fn put_given(code: &mut CodeFromEnd, given: &Given) -> Result<(), OutOfMemory>
 {
     match given {
         Given::Number { key, value } => {
-            code.put_act(Act::Give(*key))?;
+            code.put_use(Use::Give(*key))?;
             put_expr(code, value)
         }
         Given::Mode(mode) => code.put_act(Act::Choose(*mode)),
@@ -95,7 +87,7 @@ fn put_stmt(code: &mut CodeFromEnd, statement: &Stmt) -> Result<(), OutOfMemory>
 {
     match statement {
         Stmt::Set { variable, value } => {
-            code.put_act(Act::Store(*variable))?;
+            code.put_use(Use::Store(*variable))?;
             put_expr(code, value)
         }
         Stmt::Call {
@@ -105,7 +97,7 @@ fn put_stmt(code: &mut CodeFromEnd, statement: &Stmt) -> Result<(), OutOfMemory>
         } => {
             code.put(Instruction::Ask(*instance))?;
             put_all_given(code, given.as_slice())?;
-            code.put_act(Act::Begin)?;
+            code.put_use(Use::Begin)?;
             put_expr(code, execute)
         }
         Stmt::If {
@@ -116,7 +108,7 @@ fn put_stmt(code: &mut CodeFromEnd, statement: &Stmt) -> Result<(), OutOfMemory>
             let left = code.len();
             put_body(code, otherwise.as_slice())?;
             let passed = put_side(code, then.as_slice(), left)?;
-            code.put_act(Act::Unless(passed))?;
+            code.put_use(Use::Unless(passed))?;
             put_expr(code, condition)
         }
         Stmt::Case {
@@ -126,7 +118,7 @@ fn put_stmt(code: &mut CodeFromEnd, statement: &Stmt) -> Result<(), OutOfMemory>
         } => {
             let left = code.len();
             put_body(code, otherwise.as_slice())?;
-            code.put_act(Act::Forget)?;
+            code.put_use(Use::Forget)?;
             put_branches(code, branches.as_slice(), left)?;
             put_expr(code, selector)
         }
@@ -172,7 +164,7 @@ fn put_branches(code: &mut CodeFromEnd, branches: &[Branch], left: usize) -> Res
         next -= 1;
         let branch = &branches[next];
         let passed = put_side(code, branch.body.as_slice(), left)?;
-        code.put_act(Act::Match {
+        code.put_use(Use::Match {
             value: branch.value,
             passed,
         })?;

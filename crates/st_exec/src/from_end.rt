@@ -2,7 +2,7 @@
 
 ghost use Rattle.std.specs.Prelude.{◌≡◌, ◌∷◌, [], OnOk, length};
 
-use crate::instruction::{Act, Instruction};
+use crate::instruction::{Act, Instruction, Use};
 use out_of_memory::OutOfMemory;
 use std::alloc::Global;
 use std::marker::Model;
@@ -55,6 +55,13 @@ impl CodeFromEnd {
         ensures { OnOk result (self.new ≡ Instruction.Do act ∷ self.old) }
     {
         self.put(Instruction::Do(act))
+    }
+
+    /// One use of a value before those that are there.
+    pub fn put_use(&mut self, how: Use) -> Result<(), OutOfMemory>
+        ensures { OnOk result (self.new ≡ Instruction.Do (Act.Take how) ∷ self.old) }
+    {
+        self.put_act(Act::Take(how))
     }
 
     /// The instructions, from the first on.

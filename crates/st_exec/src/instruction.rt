@@ -4,7 +4,7 @@ use command_pool::BufferMode;
 use st_tree::{Flag, Key, Operator};
 
 /// What an instruction does with the stack, the inputs that are being made and the variables. A
-/// truth is 1 or 0. What it takes, it takes from the top of the stack.
+/// truth is 1 or 0.
 #[derive(Clone, Copy, Debug, PartialEq, Eq)]
 pub enum Act {
     /// Puts a number on the stack.
@@ -13,30 +13,36 @@ pub enum Act {
     Load(u32),
     /// Puts a flag of a block's last reply on the stack.
     Show { instance: u16, flag: Flag },
-    /// Puts the negative of the number that it takes on the stack.
-    Negate,
-    /// Puts the contrary of the truth that it takes on the stack.
-    Invert,
-    /// Takes two values, and puts what joins them on the stack; the second is on top.
-    Join(Operator),
-    /// Gives a variable the value that it takes.
-    Store(u32),
-    /// Begins the inputs of a call, with the Execute that it takes.
-    Begin,
-    /// Gives an input the number that it takes.
-    Give(Key),
     /// Gives the inputs a mode.
     Choose(BufferMode),
     /// Gives the inputs a master, by the number of its axis.
     Follow(u8),
-    /// Takes a truth, and passes so many instructions where it is false.
-    Unless(usize),
     /// Passes so many instructions.
     Pass(usize),
-    /// Takes the value on top where it is this one, and else leaves it and passes so many
-    /// instructions.
+    /// Takes the value on top of the stack, and uses it.
+    Take(Use),
+}
+
+/// What is done with a value that was taken from the top of the stack.
+#[derive(Clone, Copy, Debug, PartialEq, Eq)]
+pub enum Use {
+    /// Puts its negative on the stack.
+    Negate,
+    /// Puts the contrary of the truth on the stack.
+    Invert,
+    /// Takes the value under it too, and puts on the stack what joins the two.
+    Join(Operator),
+    /// Gives it to a variable.
+    Store(u32),
+    /// Begins the inputs of a call with this Execute.
+    Begin,
+    /// Gives it to an input.
+    Give(Key),
+    /// Passes so many instructions where the truth doesn't hold.
+    Unless(usize),
+    /// Puts it back where it isn't this value, and then passes so many instructions.
     Match { value: i32, passed: usize },
-    /// Takes a value.
+    /// Nothing.
     Forget,
 }
 

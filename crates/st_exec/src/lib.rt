@@ -3,9 +3,19 @@
 //! the trees of `st_tree` and on the units of `fixed_units`. Begin with specs/Scan.antt, then `task`.
 #![tactic(auto)]
 
+mod code;
 mod emit;
 mod from_end;
+mod given;
 mod instruction;
+mod listed;
+mod machine;
+mod task;
+mod values;
+mod walk;
 
+pub use code::{StCode, TaskCode, compile};
 pub use fb_outputs::{Inputs, Outputs};
-pub use instruction::{Act, Instruction};
+pub use instruction::{Act, Instruction, Use};
+pub use out_of_memory::OutOfMemory;
+pub use task::{StNext, StTask};

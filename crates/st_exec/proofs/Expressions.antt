@@ -5,10 +5,11 @@ use Rattle.st_tree.specs.declared.expression.Expr.{Expr}
 use Rattle.st_tree.specs.declared.expression.Term.{Term}
 use Rattle.st_tree.specs.declared.expression.Expr.TheOpen.{Expr-F, Term-F}
 use Rattle.st_tree.specs.declared.expression.Expr.TheViews.{roll-Expr, roll-Term}
-use Rattle.st_tree.specs.declared.expression.Expr.TheFolds.{ind-Expr, ind-Term, fold-Term, fold-roll-Expr, fold-roll-Term, map-Expr, map-Term}
+use Rattle.st_tree.specs.declared.expression.Expr.TheFolds.{ind-Expr, fold-Term, fold-roll-Expr, fold-roll-Term, map-Expr, map-Term}
 use Rattle.st_exec.specs.Code.{Code, all_of, expr_code, expr_code_step, term_code, term_code_step}
 use Rattle.st_exec.specs.Machine.{run}
-use Rattle.st_exec.specs.declared.instruction.Act.TheVariants.{Negate, Invert, Join}
+use Rattle.st_exec.specs.declared.instruction.Act.TheVariants.{Take}
+use Rattle.st_exec.specs.declared.instruction.Use.TheVariants.{Negate, Invert, Join}
 use Rattle.st_exec.specs.declared.instruction.Instruction.TheVariants.{Do}
 use Rattle.st_exec.specs.Scan.{Stand}
 use Rattle.st_exec.specs.Values.{Value, chained, term_step, value_of, value_step}
@@ -65,10 +66,10 @@ parts_run us (Expr-F.Variable x) = level_runs us (Expr-F.Variable x) (λ rest st
 parts_run us (Expr-F.Flag k flag) = level_runs us (Expr-F.Flag k flag) (λ rest stack i s. refl)
 parts_run us (Expr-F.Negative a) = level_runs us _ (λ rest stack i s.
     ap (λ l. run us l 0 stack i s) (append_assoc (expr_code a.value.0) _ rest) ∙
-    a.value.1.runs (Do Negate ∷ rest) stack i s)
+    a.value.1.runs (Do (Take Negate) ∷ rest) stack i s)
 parts_run us (Expr-F.Not a) = level_runs us _ (λ rest stack i s.
     ap (λ l. run us l 0 stack i s) (append_assoc (expr_code a.value.0) _ rest) ∙
-    a.value.1.runs (Do Invert ∷ rest) stack i s)
+    a.value.1.runs (Do (Take Invert) ∷ rest) stack i s)
 parts_run us (Expr-F.Chain first terms) = level_runs us _ (λ rest stack i s.
     ap (λ l. run us l 0 stack i s) (append_assoc (expr_code first.value.0) _ rest) ∙
     (first.value.1.runs _ stack i s ∙
@@ -82,7 +83,7 @@ operand_runs us y = record {
       ap (λ c. run us (c ++ rest) 0 (v ∷ stack) i s)
       (fold-roll-Term Code Code expr_code_step term_code_step (map-Term _ _ _ _ (λ e. e.0) (λ t. t.0) y)) ∙
       (ap (λ l. run us l 0 (v ∷ stack) i s) (append_assoc (expr_code y.operand.0) _ rest) ∙
-      (y.operand.1.runs (Do (Join y.operator) ∷ rest) (v ∷ stack) i s ∙
+      (y.operand.1.runs (Do (Take (Join y.operator)) ∷ rest) (v ∷ stack) i s ∙
       sym (ap (λ (f : ℤ → Value). run us rest 0 (f v s.vars s.last ∷ stack) i s)
       (fold-roll-Term Value (ℤ → Value) value_step term_step (map-Term _ _ _ _ (λ e. e.0) (λ t. t.0) y)))));
 }
