@@ -3,6 +3,7 @@ pub mod Expressions
 pub mod Statements
 pub mod Bodies
 pub mod Wholes
+pub mod Steady
 pub mod Emitting
 pub mod Sound
 pub mod Walking

@@ -125,6 +125,12 @@ pub record IsReset (before after : StTask) : Type 0 where
   pub place : after.place ≡ 0
   pub asked : after.asked ≡ before.asked
 
+-- the block that is called by what is given, for whose reply the task then waits
+abbrev pub asked_by : StNext → Option ℕ
+asked_by (Call k i) = Some k
+asked_by ScanDone = None
+asked_by End = None
+
 -- what is given at the end of a scan
 abbrev pub end_of_scan : Bool → StNext
 end_of_scan ended = if ended then End else ScanDone

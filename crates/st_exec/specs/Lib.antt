@@ -7,3 +7,4 @@ pub mod Acting
 pub mod Compiled
 pub mod Standing
 pub mod Following
+pub mod Laws

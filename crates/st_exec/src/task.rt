@@ -3,7 +3,7 @@
 ghost use Rattle.std.specs.Prelude.{◌≡◌, ◌<◌, ◌≤◌, ◌+◌, ◌^◌, [], IfOk, IsSome, None, Some, length, replicate, vec_len, vec_capacity};
 ghost use Rattle.st_exec.specs.Compiled as spec;
 ghost use Rattle.st_exec.specs.Compiled.{Compiled, program_at, program_of};
-ghost use Rattle.st_exec.specs.Following.{Follows, HasReplied, IsAnswered, IsOpened, IsReset, Says, end_of_scan};
+ghost use Rattle.st_exec.specs.Following.{Follows, HasReplied, IsAnswered, IsOpened, IsReset, Says, asked_by, end_of_scan};
 ghost use Rattle.st_exec.specs.Scan.{scan_of};
 ghost use Rattle.st_exec.specs.Values.{silent};
 ghost use Rattle.st_tree.specs.declared.program.Task.{Task};
@@ -85,6 +85,7 @@ impl StTask {
             Says (program_of t).finished
             (scan_of code.now.us t.body.items self.old.vars.items self.old.last.items self.old.got.items)
             self.old result self.new }
+        ensures asked { self.new.asked ≡ asked_by result }
         ensures follows { Follows code.now self.new }
     {
         let program = code.task(self.task);
