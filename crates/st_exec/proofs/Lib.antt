@@ -1,0 +1,11 @@
+pub mod Passing
+pub mod Expressions
+pub mod Statements
+pub mod Bodies
+pub mod Wholes
+pub mod Steady
+pub mod Emitting
+pub mod Sound
+pub mod Walking
+pub mod Tasks
+pub mod Replies

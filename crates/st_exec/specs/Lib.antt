@@ -1,0 +1,10 @@
+pub mod Values
+pub mod Scan
+pub mod Code
+pub mod Machine
+pub mod Jumps
+pub mod Acting
+pub mod Compiled
+pub mod Standing
+pub mod Following
+pub mod Laws
