@@ -13,5 +13,5 @@ pub use axis_state::Name;
 pub use call::{Given, Key};
 pub use command_pool::BufferMode;
 pub use expression::{Expr, Flag, Operator, Term};
-pub use program::{Start, StProgram, Task, Variable};
+pub use program::{StProgram, Start, Task, Variable};
 pub use statement::{Branch, Stmt};

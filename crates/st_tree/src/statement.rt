@@ -8,7 +8,10 @@ use crate::expression::Expr;
 #[derive(Drop)]
 pub enum Stmt {
     /// Gives a variable of the task, by its number, a value.
-    Set { variable: u32, value: Expr },
+    Set {
+        variable: u32,
+        value: Expr,
+    },
     /// Calls a block, by its number. The keys stand in the order of the text.
     Call {
         instance: u16,
