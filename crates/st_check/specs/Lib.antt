@@ -1,0 +1,11 @@
+pub mod Piles
+pub mod Checked
+pub mod Names
+pub mod Keys
+pub mod Typed
+pub mod Declarations
+pub mod Expressions
+pub mod Statements
+pub mod Noted
+pub mod Reading
+pub mod Told
