@@ -1,0 +1,43 @@
+-- The inputs that a C program's struct gives a call of a block. This project's profile.
+use Rattle.std.specs.Prelude.{ℕ, ℤ, pos, Bool, not, if◌then◌else◌, nat_eq, Option, Some, None, List, take, slice_get}
+use Rattle.std.specs.Option.{option_map}
+use Rattle.command_pool.specs.declared.kind.BlockKind.{BlockKind}
+use Rattle.command_pool.specs.declared.kind.BufferMode.{BufferMode}
+use Rattle.command_pool.specs.declared.kind.BufferMode.TheVariants.{Aborting}
+use Rattle.fb_outputs.specs.Inputs.{takes}
+use Rattle.fb_outputs.specs.declared.inputs.Input.TheVariants.{Position, Velocity, Acceleration, Deceleration, Jerk, Mode, Master, Numerator, Denominator, Table}
+use Rattle.fb_outputs.specs.declared.inputs.Inputs.{Inputs}
+use Rattle.fb_outputs.specs.declared.names.TheConstants.{MODES}
+use Rattle.machine_words.specs.Positions.{no_positions, positions_from}
+use Rattle.c_inputs.specs.declared.given.MotionInputs.{MotionInputs}
+
+-- the positions of a block that takes some: one for each of its axes, and 0 behind them
+abbrev pub positions_in : Bool → ℕ → List ℤ → List ℤ
+positions_in taken axes positions =
+    if taken then positions_from (take axes positions) else no_positions
+
+-- the mode of a number, in the order of PLCopen's MC_BUFFER_MODE, where the kind takes a mode
+abbrev pub mode_given : BlockKind → ℕ → Option BufferMode
+mode_given kind number = if takes kind Mode then slice_get MODES number else Some Aborting
+
+-- the inputs in a struct: what the kind takes is the field of its name, and what it doesn't take is
+-- its default
+abbrev pub inputs_in : BlockKind → ℕ → MotionInputs → BufferMode → Inputs
+inputs_in kind axes given mode = record {
+  execute = not (nat_eq given.execute 0);
+  positions = positions_in (takes kind Position) axes given.positions;
+  velocity = if takes kind Velocity then given.velocity else pos 0;
+  acceleration = if takes kind Acceleration then given.acceleration else pos 0;
+  deceleration = if takes kind Deceleration then given.deceleration else pos 0;
+  jerk = if takes kind Jerk then given.jerk else pos 0;
+  mode = mode;
+  master = if takes kind Master then given.master else 0;
+  numerator = if takes kind Numerator then given.numerator else pos 1;
+  denominator = if takes kind Denominator then given.denominator else pos 1;
+  table = if takes kind Table then given.table else 0;
+}
+
+-- the inputs that a struct gives a block of a kind that acts on so many axes, unless there is no
+-- mode of its number
+abbrev pub inputs_given : BlockKind → ℕ → MotionInputs → Option Inputs
+inputs_given kind axes given = option_map (inputs_in kind axes given) (mode_given kind given.mode)
