@@ -1,0 +1,11 @@
+-- One number more.
+use Rattle.std.proofs.Common.{◌≡◌, ◌+◌, ◌++◌, ◌∷◌, [], length, ap, sym, ◌∙◌}
+use Rattle.st_parts.specs.Parts.{numbers_from}
+use Rattle.st_build.proofs.Numbers.{length_numbers, one_number_more}
+use Rattle.st_build.proofs.program.numbers_from.Goals as goal
+
+pub loop-i-preserved : goal.loop-i-preserved
+loop-i-preserved c =
+    c.in_ok-push.ensures ∙ ap (λ l. l ++ c.in-Some.number ∷ []) c.loop-i.invariant ∙
+    ap (λ k. numbers_from c.args.first c.loop-i.i ++ k ∷ []) c.in-Some.ensures ∙
+    sym (one_number_more c.args.first c.loop-i.i)
