@@ -42,12 +42,6 @@ pushed_over f all xs ys x left rest is_all is_left is =
     is_all ∙ ap (λ l. all_of (map f xs) ++ l) is_left ∙ sym (append_assoc (all_of (map f xs)) (f x) rest) ∙
     ap (λ l. l ++ rest) (sym (ap (λ l. all_of (map f l)) is ∙ all_of_push f xs x))
 
--- the same, where its first part is told apart
-pub pushed_over_front : {X : Type 0} (f : X → Parts) (all : Parts) (xs ys : List X) (x : X) (left between rest : Parts) →
-    all ≡ all_of (map f xs) ++ left → left ≡ between → between ≡ f x ++ rest → ys ≡ xs ++ x ∷ [] → all ≡ all_of (map f ys) ++ rest
-pushed_over_front f all xs ys x left between rest is_all is_left is_between is =
-    pushed_over f all xs ys x left rest is_all (is_left ∙ is_between) is
-
 -- lists of anything, joined by `flat_map`
 pub joined_push : {X Y : Type 0} (f : X → List Y) (xs ys : List X) (x : X) → ys ≡ xs ++ x ∷ [] → flat_map f ys ≡ flat_map f xs ++ f x
 joined_push f xs ys x is = ap (λ l. flat_map f l) is ∙ flat_map-append f xs (x ∷ []) ∙ ap (λ l. flat_map f xs ++ l) (append-nil (f x))

@@ -25,4 +25,6 @@ length_numbers n (suc a) = ap suc (length_numbers (n + 1) a)
 -- the numbers so far, and those of one list more
 pub numbers_joined : (sofar more all : List ℕ) (a b n : ℕ) → sofar ≡ numbers_from 0 a → more ≡ numbers_from a b → all ≡ sofar ++ more → n ≡ a + b → all ≡ numbers_from 0 n
 numbers_joined sofar more all a b n is_sofar is_more is_all is_n =
-    is_all ∙ ap (λ l. l ++ more) is_sofar ∙ ap (λ l. numbers_from 0 a ++ l) is_more ∙ sym (ap (λ k. numbers_from 0 k) is_n ∙ numbers_behind 0 a b)
+    let start : a ≡ 0 + a = omega arith in
+    is_all ∙ ap (λ l. l ++ more) is_sofar ∙ ap (λ l. numbers_from 0 a ++ l) (is_more ∙ ap (λ k. numbers_from k b) start) ∙
+    sym (ap (λ k. numbers_from 0 k) is_n ∙ numbers_behind 0 a b)

@@ -1,6 +1,6 @@
 // Statements from their parts.
 
-ghost use Rattle.std.specs.Prelude.{◌≡◌, ◌++◌, ◌∷◌, None, IfOk, IfSome, drop, map};
+ghost use Rattle.std.specs.Prelude.{◌≡◌, ◌++◌, ◌∷◌, IfOk, drop, map};
 ghost use Rattle.st_parts.specs.Parts as spec;
 ghost use Rattle.st_parts.specs.declared.part.Part.{Part};
 
@@ -180,30 +180,20 @@ fn case_at(
     })
 }
 
-// The value of the branch at this place, which is gone over where there is one.
-fn next_branch(parts: &[Part], at: &mut usize) -> Option<i32>
-    ensures value { IfSome result (λ v. drop at.old parts.now ≡ Part.Branch v ∷ drop at.new parts.now) }
-    ensures left { result ≡ None → at.new ≡ at.old }
-{
-    let Some(Part::Branch(value)) = parts.get(*at).copied() else {
-        return None;
-    };
-    *at += 1;
-    Some(value)
-}
-
-// A branch behind its value.
+// A branch.
 #[cycle(statement)]
 fn branch_at(
     alloc: Global,
     depth: u32,
     parts: &[Part],
     at: &mut usize,
-    value: i32,
 ) -> Result<Branch, OutOfMemory>
     ensures { IfOk result (λ b.
-        Part.Branch value ∷ drop at.old parts.now ≡ spec.branch_parts b ++ drop at.new parts.now) }
+        drop at.old parts.now ≡ spec.branch_parts b ++ drop at.new parts.now) }
 {
+    let Some(Part::Branch(value)) = next(parts, at) else {
+        return Err(OutOfMemory);
+    };
     let body = body_at(alloc, depth, parts, at)?;
     Ok(Branch { value, body })
 }
@@ -221,10 +211,10 @@ fn branches_at(
 {
     let mut branches = Vec::new(alloc);
     for _gone in 0..parts.len() {
-        let Some(value) = next_branch(parts, at) else {
+        if !matches!(parts.get(*at), Some(Part::Branch(_))) {
             return Ok(branches);
-        };
-        let branch = branch_at(alloc, depth, parts, at, value)?;
+        }
+        let branch = branch_at(alloc, depth, parts, at)?;
         push(&mut branches, branch)?;
     }
     Ok(branches)

@@ -1,7 +1,7 @@
 -- One statement or branch more spells what was gone over behind those before.
 use Rattle.std.proofs.Common.{drop}
 use Rattle.st_parts.specs.Parts.{branch_parts, stmt_parts}
-use Rattle.st_build.proofs.Lists.{pushed_over, pushed_over_front}
+use Rattle.st_build.proofs.Lists.{pushed_over}
 use Rattle.st_build.proofs.statement.+statement.Goals as goal
 
 pub body_at-loop-gone-preserved : goal.body_at-loop-gone-preserved
@@ -12,6 +12,6 @@ body_at-loop-gone-preserved t c =
 
 pub branches_at-loop-gone-preserved : goal.branches_at-loop-gone-preserved
 branches_at-loop-gone-preserved t c =
-    pushed_over_front branch_parts (drop c.args.at.now c.args.parts.now) c.loop-gone.branches.items c.push.new.list.items c.in_ok-branch.branch
-    (drop c.loop-gone.at c.args.parts.now) _ (drop c.branch_at.new.at c.args.parts.now)
-    c.loop-gone.invariant c.in-Some.ensures.value c.in_ok-branch.ensures c.in_ok-push.ensures
+    pushed_over branch_parts (drop c.args.at.now c.args.parts.now) c.loop-gone.branches.items c.push.new.list.items c.in_ok-branch.branch
+    (drop c.loop-gone.at c.args.parts.now) (drop c.branch_at.new.at c.args.parts.now)
+    c.loop-gone.invariant c.in_ok-branch.ensures c.in_ok-push.ensures
