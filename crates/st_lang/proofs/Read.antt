@@ -26,13 +26,13 @@ whole_by (Some f) c o h = absurd (cc)
 
 whole_of : (s : Setup) (text : List ℕ) (o : Outcome) → reading_of s text ≡ Ok o →
     ((run (opening s) (tokens_of text)).checked.fault ≡ None) × (o ≡ told (run (opening s) (tokens_of text)).checked)
-unfolding reading_of, outcome_of
+unfolding reading_of outcome_of
 whole_of s text o h = whole_by _ _ o h
 
 -- and where none is broken that is read
 read_of : (s : Setup) (text : List ℕ) → (run (opening s) (tokens_of text)).checked.fault ≡ None →
     reading_of s text ≡ Ok (told (run (opening s) (tokens_of text)).checked)
-unfolding reading_of, outcome_of
+unfolding reading_of outcome_of
 read_of s text h = ap (λ f. refused_by letter (outcome_by f (run (opening s) (tokens_of text)).checked)) h
 
 -- what is read is a program of the text
@@ -61,13 +61,15 @@ text_is_told s text tasks after t =
 same_read : (read : Result Outcome TextRefused) (tasks : List Task) (after : Setup) (o : Outcome) (answer : Result StProgram TextFault) (s : Setup) →
     read ≡ Ok o → o.setup ≡ after → Spells tasks o.names o.parts → ReadsBy read answer s → ReadsSame tasks after answer s
 same_read read tasks after o (Ok p) s is setup spelled r =
-    let same : o ≡ r.outcome = cc in
-    (record {
-      names = o.names;
-      parts = o.parts;
-      first = spelled;
-      second = subst (λ (u : Outcome). Spells p.tasks.items u.names u.parts) (sym same) r.spelled;
-    }, sym r.setup ∙ ap (λ u. u.setup) (sym same) ∙ setup)
+    let same : o ≡ r.outcome = cc in (
+      record {
+        names = o.names;
+        parts = o.parts;
+        first = spelled;
+        second = subst (λ (u : Outcome). Spells p.tasks.items u.names u.parts) (sym same) r.spelled;
+      },
+      sym r.setup ∙ ap (λ u. u.setup) (sym same) ∙ setup,
+    )
 same_read read tasks after o (Err (Refused r)) s is setup spelled no =
     let clash : Ok o ≡ Err r = sym is ∙ no in absurd (cc)
 same_read read tasks after o (Err OutOfMemory) s is setup spelled no = tt

@@ -18,11 +18,7 @@ use std::mem;
 /// refused at its first line that breaks a rule, by the first rule that it breaks there: S1 to S6. A
 /// token that breaks S1 or S2 ends the reading. The machine may then hold some of the text's tasks
 /// and blocks. It takes memory for what is open, for the names of the text, and for the program.
-pub fn read_st(
-    alloc: Global,
-    text: &[u8],
-    config: &mut Builder,
-) -> Result<StProgram, TextFault>
+pub fn read_st(alloc: Global, text: &[u8], config: &mut Builder) -> Result<StProgram, TextFault>
     requires tasks { config.old.tasks ≡ [] }
     // What is read is a program of the text.
     ensures found { IfOk result (λ p. IsStText config.old text.now p.tasks.items config.new) }
@@ -42,11 +38,7 @@ pub fn read_st(
 }
 
 // The program that a text is, and the machine with its tasks and blocks.
-fn read(
-    alloc: Global,
-    text: &[u8],
-    machine: Builder,
-) -> (Builder, Result<StProgram, TextFault>)
+fn read(alloc: Global, text: &[u8], machine: Builder) -> (Builder, Result<StProgram, TextFault>)
     ensures { ReadsBy (reading_of machine text.now) result.1 result.0 }
 {
     let (machine, told) = check_text(alloc, text, machine);

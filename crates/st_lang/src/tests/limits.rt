@@ -18,7 +18,10 @@ fn nests_32_parentheses(rt: HostRuntime) -> Result<(), Fail> {
     for (depth, wanted) in [(32, None), (33, Some((2, 6)))] {
         let open = repeated(rt.alloc(), b"(", depth)?;
         let close = repeated(rt.alloc(), b")", depth)?;
-        let text = text_of(rt.alloc(), &[b"n := ", open.as_slice(), b"1", close.as_slice(), b";"])?;
+        let text = text_of(
+            rt.alloc(),
+            &[b"n := ", open.as_slice(), b"1", close.as_slice(), b";"],
+        )?;
         assert_eq!(rt; refusal(rt.alloc(), text.as_slice())?, wanted, "{depth}");
     }
     Ok(())
@@ -75,7 +78,11 @@ fn takes_8_tasks_and_256_blocks(rt: HostRuntime) -> Result<(), Fail> {
     ];
     for (tasks, blocks, wanted) in cases {
         let text = tasks_of(rt.alloc(), tasks, blocks)?;
-        assert_eq!(rt; refusal(rt.alloc(), text.as_slice())?, wanted, "{tasks} {blocks}");
+        assert_eq!(rt;
+            refusal(rt.alloc(), text.as_slice())?,
+            wanted,
+            "{tasks} {blocks}"
+        );
     }
     Ok(())
 }

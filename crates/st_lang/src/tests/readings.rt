@@ -37,7 +37,16 @@ fn reads_calls(rt: HostRuntime) -> Result<(), Fail> {
     let [task] = program.tasks.as_slice() else {
         return Err(Fail::new("one task"));
     };
-    let [_, Stmt::Call { instance, given, .. }, _] = task.body.as_slice() else {
+    let [
+        _,
+        Stmt::Call {
+            instance,
+            given,
+            ..
+        },
+        _,
+    ] = task.body.as_slice()
+    else {
         return Err(Fail::new("a call"));
     };
     assert_eq!(rt; *instance, 1);
@@ -46,7 +55,7 @@ fn reads_calls(rt: HostRuntime) -> Result<(), Fail> {
             key: Key::Position(0),
             value: Expr::Number(200_000),
         },
-        ..,
+        ..
     ] = given.as_slice()
     else {
         return Err(Fail::new("a position"));

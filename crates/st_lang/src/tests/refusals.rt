@@ -132,16 +132,43 @@ fn refuses_texts(rt: HostRuntime) -> Result<(), Fail> {
         (b"PROGRAM a VAR END_VAR END_PROGRAM", Some((1, 6))),
         (b"PROGRAM a VAR END_VAR END_PROGRAM\n\n", Some((2, 6))),
         (b"PROGRAM a VAR p : Power(X); END_VAR END_PROGRAM", None),
-        (b"PROGRAM a\r\nVAR p\r\n: Power(X);\r\nEND_VAR END_PROGRAM\r\n", None),
+        (
+            b"PROGRAM a\r\nVAR p\r\n: Power(X);\r\nEND_VAR END_PROGRAM\r\n",
+            None,
+        ),
         (b"PROGRAM a VAR p : Power(X); END_VAR", Some((1, 2))),
-        (b"PROGRAM X VAR p : Power(X); END_VAR END_PROGRAM", Some((1, 3))),
-        (b"PROGRAM a VAR a : Power(X); END_VAR END_PROGRAM", Some((1, 3))),
-        (b"PROGRAM a VAR p : Power(X); p : BOOL; END_VAR END_PROGRAM", Some((1, 3))),
-        (b"PROGRAM a VAR p : Power(G); END_VAR END_PROGRAM", Some((1, 3))),
-        (b"PROGRAM a VAR p : GroupEnable(X); END_VAR END_PROGRAM", Some((1, 3))),
-        (b"PROGRAM a VAR p : Powers(X); END_VAR END_PROGRAM", Some((1, 2))),
-        (b"PROGRAM a VAR x : DINT := 2147483648; END_VAR END_PROGRAM", Some((1, 5))),
-        (b"PROGRAM a VAR x : BOOL := 1; END_VAR END_PROGRAM", Some((1, 2))),
+        (
+            b"PROGRAM X VAR p : Power(X); END_VAR END_PROGRAM",
+            Some((1, 3)),
+        ),
+        (
+            b"PROGRAM a VAR a : Power(X); END_VAR END_PROGRAM",
+            Some((1, 3)),
+        ),
+        (
+            b"PROGRAM a VAR p : Power(X); p : BOOL; END_VAR END_PROGRAM",
+            Some((1, 3)),
+        ),
+        (
+            b"PROGRAM a VAR p : Power(G); END_VAR END_PROGRAM",
+            Some((1, 3)),
+        ),
+        (
+            b"PROGRAM a VAR p : GroupEnable(X); END_VAR END_PROGRAM",
+            Some((1, 3)),
+        ),
+        (
+            b"PROGRAM a VAR p : Powers(X); END_VAR END_PROGRAM",
+            Some((1, 2)),
+        ),
+        (
+            b"PROGRAM a VAR x : DINT := 2147483648; END_VAR END_PROGRAM",
+            Some((1, 5)),
+        ),
+        (
+            b"PROGRAM a VAR x : BOOL := 1; END_VAR END_PROGRAM",
+            Some((1, 2)),
+        ),
         (
             b"PROGRAM a VAR p : Power(X); x : BOOL; END_VAR END_PROGRAM PROGRAM b VAR x : DINT;\nEND_VAR x := 1; END_PROGRAM",
             None,
