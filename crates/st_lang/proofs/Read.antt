@@ -70,9 +70,9 @@ same_read read tasks after o (Ok p) s is setup spelled r =
       },
       sym r.setup ∙ ap (λ u. u.setup) (sym same) ∙ setup,
     )
-same_read read tasks after o (Err (Refused r)) s is setup spelled no =
-    let clash : Ok o ≡ Err r = sym is ∙ no in absurd (cc)
-same_read read tasks after o (Err OutOfMemory) s is setup spelled no = tt
+same_read read tasks after o (Err (Refused r)) s is setup spelled e =
+    let clash : Ok o ≡ Err r = sym is ∙ e in absurd (cc)
+same_read read tasks after o (Err OutOfMemory) s is setup spelled e = tt
 
 pub text_is_read : (s : Setup) (text : List ℕ) (tasks : List Task) (after : Setup) (answer : Result StProgram TextFault) (now : Setup) →
     IsStText s text tasks after → ReadsBy (reading_of s text) answer now → ReadsSame tasks after answer now
