@@ -1,0 +1,59 @@
+// Reading tasks in Structured Text.
+
+ghost use Rattle.std.specs.Prelude.{◌≡◌, [], List, IfOk};
+ghost use Rattle.motion_history.specs.Setup.{Setup};
+ghost use Rattle.st_check.specs.Reading.{reading_of};
+ghost use Rattle.st_lang.specs.Reading.{IsBuilt, ReadsBy, ReadsSame};
+ghost use Rattle.st_lang.specs.Spelled.{IsStText};
+ghost use Rattle.st_tree.specs.declared.program.Task.{Task};
+
+use motion_history::{Builder, TextFault};
+use st_build::program_of;
+use st_check::{Told, check_text};
+use st_tree::StProgram;
+use std::alloc::Global;
+use std::mem;
+
+/// The program that a text is for a machine, which gets its tasks and blocks. A text that is none is
+/// refused at its first line that breaks a rule, by the first rule that it breaks there: S1 to S6. A
+/// token that breaks S1 or S2 ends the reading. The machine may then hold some of the text's tasks
+/// and blocks. It takes memory for what is open, for the names of the text, and for the program.
+pub fn read_st(alloc: Global, text: &[u8], config: &mut Builder) -> Result<StProgram, TextFault>
+    requires tasks { config.old.tasks ≡ [] }
+    // What is read is a program of the text.
+    ensures found { IfOk result (λ p. IsStText config.old text.now p.tasks.items config.new) }
+    // A program of the text is read, unless memory runs out: one that spells the same.
+    ensures only { (tasks : List Task) → (after : Setup) →
+        IsStText config.old text.now tasks after → ReadsSame tasks after result config.new }
+    // A text that has none is refused so.
+    ensures exact { ReadsBy (reading_of config.old text.now) result config.new }
+{
+    let Ok(empty) = Builder::open(alloc, 1, 1) else {
+        return Err(TextFault::OutOfMemory);
+    };
+    let machine = mem::replace(config, empty);
+    let (machine, program) = read(alloc, text, machine);
+    *config = machine;
+    program
+}
+
+// The program that a text is, and the machine with its tasks and blocks.
+fn read(alloc: Global, text: &[u8], machine: Builder) -> (Builder, Result<StProgram, TextFault>)
+    ensures { ReadsBy (reading_of machine text.now) result.1 result.0 }
+{
+    let (machine, told) = check_text(alloc, text, machine);
+    match told {
+        Ok(told) => (machine, built(alloc, &told)),
+        Err(fault) => (machine, Err(fault)),
+    }
+}
+
+// The trees of what was told.
+fn built(alloc: Global, told: &Told) -> Result<StProgram, TextFault>
+    ensures { IsBuilt told.now result }
+{
+    match program_of(alloc, told.names.as_slice(), told.parts.as_slice()) {
+        Ok(program) => Ok(program),
+        Err(_) => Err(TextFault::OutOfMemory),
+    }
+}
