@@ -7,6 +7,3 @@
 mod reading;
 
 pub use reading::read_st;
-
-#[cfg(test)]
-mod tests;
