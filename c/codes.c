@@ -1,0 +1,196 @@
+/* A test of codes: each call with each wrong argument is answered by its code, and has changed nothing;
+ * and two handles at once keep apart. Silent where all is as expected. */
+#include "motion.h"
+
+#include <stdio.h>
+#include <string.h>
+
+static const char small[] =
+    "motion-bench 1\n"
+    "limit 2 6\n"
+    "axis X 0 50 10 4 1 0 ready\n"
+    "axis Y 0 50 10 4 1 0 ready\n"
+    "group XY X Y\n"
+    "task main\n"
+    "block G main GearIn Y\n"
+    "block E main GroupEnable XY\n";
+
+static const char first[] =
+    "motion-bench 1\n"
+    "limit 20 40\n"
+    "axis X 0 50 10 4 1 0 ready\n"
+    "task main\n"
+    "block M main MoveAbsolute X";
+
+static const motion_inputs nothing = { { 0, 0, 0, 0, 0, 0 }, 0, 0, 0, 0, 0, 0, 0, 0, 0, 0 };
+static const motion_drive_in enabled[2] = { { 0, 0x0037, 8 }, { 0, 0x0037, 8 } };
+static int faults;
+
+static void want(const char *what, uint64_t found, uint64_t wanted)
+{
+    if (found == wanted) return;
+    fprintf(stderr, "%s: %lu in place of %lu\n", what, (unsigned long)found, (unsigned long)wanted);
+    faults++;
+}
+
+static uint32_t open_text(motion *m, const char *text, motion_refusal *why)
+{
+    return motion_open(m, (const uint8_t *)text, strlen(text), why);
+}
+
+static uint32_t name_of(uint32_t (*find)(motion *, const uint8_t *, size_t), motion *m, const char *name)
+{
+    return find(m, (const uint8_t *)name, strlen(name));
+}
+
+/* Nothing but CLOSED, 0 and no number comes of a closed handle. */
+static void closed_handle(void)
+{
+    motion m = MOTION_NONE;
+    motion_outputs out = { 999, 9, 9, 9, 9, 9, 9 };
+    motion_drive_out given[1] = { { -1, 0xffff, -1 } };
+    motion_axis_row axis = { -1, -1, 99, 999, 9 };
+    motion_group_row group = { 99, 999 };
+    uint8_t room[4] = { 7, 7, 7, 7 };
+    want("call", motion_call(&m, 0, &nothing, &out), MOTION_CLOSED);
+    want("cycle", motion_cycle(&m, enabled, 1, given, 1), MOTION_CLOSED);
+    want("end", motion_end(&m, 0), MOTION_CLOSED);
+    want("axis look", motion_axis_look(&m, 0, &axis), MOTION_CLOSED);
+    want("group look", motion_group_look(&m, 0, &group), MOTION_CLOSED);
+    want("trace", motion_trace(&m, enabled, 1), MOTION_CLOSED);
+    want("trace text", motion_trace_text(&m, 0, room, 4), 0);
+    want("close", motion_close(&m), MOTION_CLOSED);
+    want("axis", name_of(motion_axis, &m, "X"), MOTION_NO_NUMBER);
+    want("group", name_of(motion_group, &m, "XY"), MOTION_NO_NUMBER);
+    want("task", name_of(motion_task, &m, "main"), MOTION_NO_NUMBER);
+    want("block", name_of(motion_block, &m, "G"), MOTION_NO_NUMBER);
+    want("counts", motion_axes(&m) + motion_groups(&m), 0);
+    want("left", motion_cycles_left(&m) + motion_room_left(&m), 0);
+    want("unchanged", out.error_id == 999 && given[0].mode == -1 && axis.state == 99
+                          && group.state == 99 && room[0] == 7, 1);
+}
+
+/* A text is refused at its line, by its rule; an open handle isn't opened again. */
+static void opening(void)
+{
+    motion m = MOTION_NONE;
+    motion_refusal why = { 0, 0, 0 };
+    want("empty", open_text(&m, "", &why), MOTION_REFUSED);
+    want("empty's rule", why.letter * 100 + why.number, 'B' * 100 + 2);
+    want("range", open_text(&m, "motion-bench 1\nlimit 20 40\naxis X 50 0 10 4 1 0", &why), MOTION_REFUSED);
+    want("range's line", why.line * 100 + why.number, 308);
+    want("not whole", open_text(&m, "motion-bench 1\nlimit 20 40", &why), MOTION_REFUSED);
+    want("not whole's rule", why.number, 10);
+    want("first", open_text(&m, first, &why), MOTION_OK);
+    want("again", open_text(&m, small, &why), MOTION_OPEN);
+    want("still first", motion_axes(&m), 1);
+    want("close", motion_close(&m), MOTION_OK);
+    want("closed", motion_close(&m), MOTION_CLOSED);
+}
+
+static void names(motion *m)
+{
+    want("axis Y", name_of(motion_axis, m, "Y"), 1);
+    want("group XY", name_of(motion_group, m, "XY"), 0);
+    want("task main", name_of(motion_task, m, "main"), 0);
+    want("block E", name_of(motion_block, m, "E"), 1);
+    want("no axis", name_of(motion_axis, m, "XY"), MOTION_NO_NUMBER);
+    want("no name", name_of(motion_block, m, ""), MOTION_NO_NUMBER);
+    want("counts", motion_axes(m) * 10 + motion_groups(m), 21);
+}
+
+/* Calls that are none, and inputs that aren't read. */
+static void calls(motion *m)
+{
+    motion_outputs out = { 999, 9, 9, 9, 9, 9, 9 };
+    motion_inputs in = nothing;
+    want("no block", motion_call(m, 2, &in, &out), MOTION_UNKNOWN);
+    in.acceleration = INT64_MIN;
+    want("acceleration", motion_call(m, 0, &in, &out), MOTION_RANGE);
+    in = nothing;
+    in.numerator = 1000000000000000001;
+    want("numerator", motion_call(m, 0, &in, &out), MOTION_RANGE);
+    in = nothing;
+    in.mode = 6;
+    want("mode", motion_call(m, 0, &in, &out), MOTION_RANGE);
+    in = nothing;
+    in.master = 2;
+    want("master", motion_call(m, 0, &in, &out), MOTION_RANGE);
+    want("unchanged", out.error_id, 999);
+    in.mode = 9;
+    in.velocity = INT64_MIN;
+    in.positions[5] = INT64_MAX;
+    want("not read", motion_call(m, 1, &in, &out), MOTION_OK);
+    want("no task", motion_end(m, 1), MOTION_UNKNOWN);
+}
+
+/* Looks before and behind a cycle; then cycles and entries that are over. */
+static void cycles(motion *m)
+{
+    motion_drive_out given[2];
+    motion_axis_row axis = { -1, -1, 99, 999, 9 };
+    motion_group_row group = { 99, 999 };
+    motion_outputs out;
+    int i;
+    want("no cycle", motion_axis_look(m, 1, &axis), MOTION_NO_CYCLE);
+    want("no cycle", motion_group_look(m, 0, &group), MOTION_NO_CYCLE);
+    want("no axis", motion_axis_look(m, 2, &axis), MOTION_UNKNOWN);
+    want("no group", motion_group_look(m, 1, &group), MOTION_UNKNOWN);
+    want("unchanged", axis.state == 99 && group.state == 99, 1);
+    want("answers", motion_cycle(m, enabled, 1, given, 2), MOTION_LENGTH);
+    want("outputs", motion_cycle(m, enabled, 2, given, 1), MOTION_LENGTH);
+    for (i = 0; i < 2; i++) want("cycle", motion_cycle(m, enabled, 2, given, 2), MOTION_OK);
+    want("over", motion_cycle(m, enabled, 2, given, 2), MOTION_OVER);
+    for (i = 0; i < 3; i++) want("call", motion_call(m, 1, &nothing, &out), MOTION_OK);
+    want("full", motion_call(m, 1, &nothing, &out), MOTION_FULL);
+    want("full", motion_end(m, 0), MOTION_FULL);
+    want("axis", motion_axis_look(m, 1, &axis), MOTION_OK);
+    want("standstill", axis.state, MOTION_STANDSTILL);
+    want("driven", axis.driven, 1);
+    want("group", motion_group_look(m, 0, &group), MOTION_OK);
+    want("left", motion_cycles_left(m) + motion_room_left(m), 0);
+    want("answers", motion_trace(m, enabled, 1), MOTION_LENGTH);
+    want("trace", motion_trace(m, enabled, 2), MOTION_OK);
+}
+
+/* Two handles at once. */
+static void two_handles(void)
+{
+    motion one = MOTION_NONE, other = MOTION_NONE;
+    motion_refusal why;
+    motion_inputs in = nothing;
+    motion_outputs out;
+    motion_drive_out given;
+    motion_axis_row axis = { -1, 0, 0, 0, 0 };
+    in.execute = 1;
+    in.positions[0] = 20;
+    in.velocity = 6;
+    in.acceleration = in.deceleration = 2;
+    want("one", open_text(&one, first, &why), MOTION_OK);
+    want("other", open_text(&other, first, &why), MOTION_OK);
+    want("call", motion_call(&other, 0, &in, &out), MOTION_OK);
+    want("cycle", motion_cycle(&one, enabled, 1, &given, 1), MOTION_OK);
+    want("at rest", (uint64_t)given.target, 0);
+    want("cycle", motion_cycle(&other, enabled, 1, &given, 1), MOTION_OK);
+    want("on the way", (uint64_t)given.target, 2);
+    want("close", motion_close(&one), MOTION_OK);
+    want("closed", motion_axis_look(&one, 0, &axis), MOTION_CLOSED);
+    want("open", motion_axis_look(&other, 0, &axis), MOTION_OK);
+    want("setpoint", (uint64_t)axis.setpoint, 2);
+    want("close", motion_close(&other), MOTION_OK);
+}
+
+int main(void)
+{
+    motion m = MOTION_NONE;
+    motion_refusal why;
+    closed_handle();
+    opening();
+    want("open", open_text(&m, small, &why), MOTION_OK);
+    names(&m);
+    calls(&m);
+    cycles(&m);
+    want("close", motion_close(&m), MOTION_OK);
+    two_handles();
+    return faults != 0;
+}

@@ -1,0 +1,155 @@
+/* A test of memory: each allocation of opening and of tracing fails in turn, and is told or borne, with
+ * nothing left behind; then CYCLES cycles are made with no call of the heap at all. `memory CYCLES`. */
+#include "drive.h"
+#include "motion.h"
+
+#include <stdio.h>
+#include <stdlib.h>
+#include <string.h>
+
+static unsigned long heap_calls, fails;
+static long live;
+
+static rattle_tried tried(void *p)
+{
+    rattle_tried made;
+    made.ok = p != NULL;
+    made.p = p;
+    return made;
+}
+
+rattle_tried rattle_alloc(size_t size, size_t align)
+{
+    if (++heap_calls == fails) return tried(NULL);
+    live++;
+    return tried(malloc(size ? size : align));
+}
+
+rattle_tried rattle_realloc(void *p, size_t used, size_t size, size_t align)
+{
+    (void)used;
+    if (++heap_calls == fails) return tried(NULL);
+    return tried(realloc(p, size ? size : align));
+}
+
+void rattle_dealloc(void *p)
+{
+    heap_calls++;
+    live--;
+    free(p);
+}
+
+static const char machine[] =
+    "motion-bench 2\n"
+    "limit 200000 1000000\n"
+    "axis X 0 400000 500 5 5 1 0\n"
+    "axis Y 0 400000 500 5 5 1 0\n"
+    "task main\n"
+    "block P main Power X\n"
+    "block M main MoveAbsolute X\n";
+
+enum { AXES = 2, RUN = 200000 };
+
+static motion_refusal why;
+
+static uint32_t open_machine(motion *m)
+{
+    return motion_open(m, (const uint8_t *)machine, sizeof machine - 1, &why);
+}
+
+/* Each allocation of opening fails in turn. */
+static int opening_fails(void)
+{
+    unsigned told = 0;
+    for (fails = 1;; fails++) {
+        motion m = MOTION_NONE;
+        uint32_t code;
+        heap_calls = 0;
+        code = open_machine(&m);
+        if (code == MOTION_OK && motion_close(&m) != MOTION_OK) return 1;
+        if (code != MOTION_OK && motion_close(&m) != MOTION_CLOSED) return 2;
+        if (live != 0) return 3;
+        if (code == MOTION_NO_MEMORY) told++;
+        else if (code != MOTION_OK) return 4;
+        else if (heap_calls < fails) break;
+    }
+    fails = 0;
+    fprintf(stderr, "opening: %u failures told, nothing left behind\n", told);
+    return told == 0;
+}
+
+/* A cycle with its calls: a move to and fro. */
+static uint32_t run_cycle(motion *m, drive *drives, long cycle)
+{
+    motion_inputs in;
+    motion_outputs out;
+    motion_drive_in answers[AXES];
+    motion_drive_out given[AXES];
+    uint32_t code;
+    int i;
+    memset(&in, 0, sizeof in);
+    in.execute = 1;
+    code = motion_call(m, 0, &in, &out);
+    in.execute = cycle > 20 && cycle % 1000 > 4;
+    in.positions[0] = cycle / 1000 % 2 ? 0 : 100000;
+    in.velocity = 400;
+    in.acceleration = 4;
+    in.deceleration = 4;
+    if (code == MOTION_OK) code = motion_call(m, 1, &in, &out);
+    for (i = 0; i < AXES; i++) answers[i] = drive_answer(&drives[i]);
+    if (code == MOTION_OK) code = motion_cycle(m, answers, AXES, given, AXES);
+    for (i = 0; code == MOTION_OK && i < AXES; i++) drive_step(&drives[i], &given[i]);
+    return code;
+}
+
+/* Each allocation of tracing fails in turn, behind some cycles. */
+static int tracing_fails(void)
+{
+    static drive drives[AXES];
+    motion m = MOTION_NONE;
+    motion_drive_in last[AXES] = { { 0, 0, 0 }, { 0, 0, 0 } };
+    unsigned told = 0;
+    long cycle;
+    if (open_machine(&m) != MOTION_OK) return 1;
+    for (cycle = 0; cycle < 100; cycle++)
+        if (run_cycle(&m, drives, cycle) != MOTION_OK) return 2;
+    for (fails = 1;; fails++) {
+        uint32_t code;
+        heap_calls = 0;
+        code = motion_trace(&m, last, AXES);
+        if (code == MOTION_NO_MEMORY) told++;
+        else if (code != MOTION_OK) return 3;
+        else if (heap_calls < fails) break;
+    }
+    fails = 0;
+    fprintf(stderr, "tracing: %u failures told\n", told);
+    return motion_close(&m) != MOTION_OK || live != 0 || told == 0;
+}
+
+/* So many cycles with no call of the heap. */
+static int cycles_take_none(long cycles)
+{
+    static drive drives[AXES];
+    long done = 0, cycle;
+    while (done < cycles) {
+        motion m = MOTION_NONE;
+        unsigned long before;
+        memset(drives, 0, sizeof drives);
+        if (open_machine(&m) != MOTION_OK) return 1;
+        before = heap_calls;
+        for (cycle = 0; cycle < RUN && done < cycles; cycle++, done++)
+            if (run_cycle(&m, drives, cycle) != MOTION_OK) return 2;
+        if (heap_calls != before) return 3;
+        if (motion_close(&m) != MOTION_OK || live != 0) return 4;
+    }
+    fprintf(stderr, "%ld cycles without a call of the heap\n", done);
+    return 0;
+}
+
+int main(int argc, char **argv)
+{
+    long cycles = argc > 1 ? atol(argv[1]) : 1000000;
+    if (opening_fails() != 0) return 1;
+    if (tracing_fails() != 0) return 2;
+    return cycles_take_none(cycles) == 0 ? 0 : 3;
+}

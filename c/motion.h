@@ -1,0 +1,276 @@
+/* motion.h: a PLCopen motion kernel for C (C99) and C++ programs.
+ *
+ * A handle holds one machine: its axes, groups, tasks and function blocks, and the history of what
+ * was called, cycled and ended. A loop reads the drives, calls blocks, makes a cycle and writes the
+ * drives; docs/c.md leads from nothing to a turning axis. The library is proved; what a C program
+ * owes it isn't seen by any proof, and stands here:
+ *
+ *  - A handle begins as MOTION_NONE. From then on the library alone changes it. It is never copied;
+ *    a copy that is used is a fault that nothing finds.
+ *  - One thread at a time uses a handle. It may go from one thread to another, where a lock, a
+ *    start or a join puts their calls in an order. Two handles are independent of each other.
+ *  - No pointer is null or dangling, also where a length beside it is 0, and what a call writes
+ *    overlaps nothing else that it is given. (The inline functions at the end test for null.)
+ *  - MOTION_STACK bytes of stack are left, MOTION_TRACE_STACK for motion_trace.
+ *  - The three functions motion_heap.c has are there, and all memory comes from them.
+ *
+ * All else is tested by the calls themselves: a closed handle, a wrong number, length or range is
+ * answered by a code, and then the call has changed nothing at all. No call blocks, makes a system
+ * call or touches anything but its handle and what it is given. motion_open, motion_trace and
+ * motion_close alone take or give memory.
+ *
+ * This is no safety function: a real machine has its own.
+ *
+ * Units: positions are whole internal units, of which a drive increment has as many as the axis's
+ * `inc` in the text; rates are units a cycle, and units a cycle a cycle. How long a cycle is, is the
+ * caller's own: choose a unit and a cycle, as 1 nm and 1 ms, and count in them. Numbers of items
+ * count from 0 in the order of the text, those of cam tables from 1.
+ */
+#ifndef MOTION_H
+#define MOTION_H
+
+#include <stddef.h>
+#include <stdint.h>
+
+#ifdef __cplusplus
+extern "C" {
+#endif
+
+#define MOTION_MOST_AXES 16
+#define MOTION_MOST_GROUPS 4
+#define MOTION_NO_NUMBER UINT32_MAX
+#define MOTION_STACK 8192
+#define MOTION_TRACE_STACK 131072
+
+/* A handle. Its fields are the library's own. */
+typedef struct motion {
+    uint32_t state;
+    void *at;
+} motion;
+
+/* How a handle begins: `motion m = MOTION_NONE;`. */
+#define MOTION_NONE { 0, NULL }
+
+/* What a call answers. In a loop every code but MOTION_OK leaves the drives' outputs as they were:
+ * quick-stop the drives, or let their own supervision do it, and then find out why. */
+enum motion_code {
+    MOTION_OK = 0,
+    MOTION_CLOSED = 1,    /* the handle holds no machine */
+    MOTION_OPEN = 2,      /* the handle holds one already */
+    MOTION_NO_MEMORY = 3, /* there was no memory; nothing is left behind */
+    MOTION_REFUSED = 4,   /* the text breaks a rule: see motion_refusal */
+    MOTION_UNKNOWN = 5,   /* there is no block, task, axis or group of this number */
+    MOTION_LENGTH = 6,    /* an array has more or fewer items than there are axes */
+    MOTION_RANGE = 7,     /* the inputs are none of the block's kind: see motion_call */
+    MOTION_FULL = 8,      /* the history has no room for an entry */
+    MOTION_OVER = 9,      /* no cycle is left */
+    MOTION_NO_CYCLE = 10, /* no cycle was made yet */
+    MOTION_NULL = 11      /* a pointer is null: the inline functions alone */
+};
+
+/* Where a text is refused: the line, counted from 1, and the rule, as letter 'B' and number 8. The
+ * rules stand in docs/rules.md. */
+typedef struct motion_refusal {
+    uint64_t line;
+    uint8_t letter;
+    uint8_t number;
+} motion_refusal;
+
+/* The inputs of a function block, each by its PLCopen name. What the block's kind doesn't take isn't
+ * read, whatever stands in it; docs/blocks.md says what each kind takes. */
+typedef struct motion_inputs {
+    int64_t positions[6];  /* Position or Distance in the first; of a group one for each of its axes */
+    int64_t velocity;      /* units a cycle */
+    int64_t acceleration;  /* units a cycle a cycle */
+    int64_t deceleration;  /* units a cycle a cycle */
+    int64_t jerk;          /* must be 0: the block refuses another value with an ErrorID */
+    int64_t numerator;     /* of a GearIn */
+    int64_t denominator;   /* of a GearIn */
+    uint32_t mode;         /* an enum motion_mode */
+    uint16_t table;        /* of a CamIn: the number of its table, from 1 */
+    uint8_t master;        /* of a GearIn or CamIn: the number of the master axis */
+    uint8_t execute;       /* Execute, or Enable of a Power: 0 is false, all else true */
+} motion_inputs;
+
+/* PLCopen's MC_BUFFER_MODE. */
+enum motion_mode {
+    MOTION_ABORTING = 0,
+    MOTION_BUFFERED = 1,
+    MOTION_BLENDING_LOW = 2,
+    MOTION_BLENDING_PREVIOUS = 3,
+    MOTION_BLENDING_NEXT = 4,
+    MOTION_BLENDING_HIGH = 5
+};
+
+/* The outputs of a function block: each is 0 or 1, but for the ErrorID (docs/errors.md). */
+typedef struct motion_outputs {
+    uint16_t error_id;     /* 0 where `error` is 0 */
+    uint8_t busy;
+    uint8_t active;
+    uint8_t done;
+    uint8_t aborted;       /* CommandAborted */
+    uint8_t error;
+    uint8_t reached;       /* InVelocity, InGear, InSync, or the Status of a Power */
+} motion_outputs;
+
+/* What a drive answers in a cycle (CiA 402, IEC 61800-7-201). */
+typedef struct motion_drive_in {
+    int32_t actual;        /* position actual value, 6064h, in drive increments */
+    uint16_t statusword;   /* 6041h */
+    int8_t mode_display;   /* modes of operation display, 6061h */
+} motion_drive_in;
+
+/* What a drive is given in a cycle. */
+typedef struct motion_drive_out {
+    int32_t target;        /* target position, 607Ah, in drive increments */
+    uint16_t controlword;  /* 6040h */
+    int8_t mode;           /* modes of operation, 6060h: 8, cyclic synchronous position */
+} motion_drive_out;
+
+/* What the last cycle shows of an axis. */
+typedef struct motion_axis_row {
+    int64_t setpoint;      /* units */
+    int64_t offset;        /* units: what Home has moved the coordinate by */
+    uint32_t state;        /* an enum motion_axis_state */
+    uint16_t error;        /* 101 to 106 in ErrorStop, else 0 (docs/errors.md) */
+    uint8_t driven;        /* 1 where the axis was driven in the cycle */
+} motion_axis_row;
+
+/* The states of an axis, PLCopen Motion Control Part 1. */
+enum motion_axis_state {
+    MOTION_DISABLED = 0,
+    MOTION_STANDSTILL = 1,
+    MOTION_HOMING = 2,
+    MOTION_STOPPING = 3,
+    MOTION_DISCRETE_MOTION = 4,
+    MOTION_CONTINUOUS_MOTION = 5,
+    MOTION_SYNCHRONIZED_MOTION = 6,
+    MOTION_ERROR_STOP = 7
+};
+
+/* What the last cycle shows of a group. */
+typedef struct motion_group_row {
+    uint32_t state;        /* an enum motion_group_state */
+    uint16_t error;        /* 101 to 106 in GroupErrorStop, else 0 */
+} motion_group_row;
+
+/* The states of a group, PLCopen Motion Control Part 4. */
+enum motion_group_state {
+    MOTION_GROUP_DISABLED = 0,
+    MOTION_GROUP_STANDBY = 1,
+    MOTION_GROUP_MOVING = 2,
+    MOTION_GROUP_HOMING = 3,
+    MOTION_GROUP_STOPPING = 4,
+    MOTION_GROUP_ERROR_STOP = 5
+};
+
+/* Opens a closed handle by a text: the machine part of a bench (docs/formats.md), with neither `go`
+ * nor anything behind it. `len` counts its bytes; a 0 byte at its end isn't one of them. The whole
+ * memory that the machine will ever need is taken here, but for a trace's.
+ *   MOTION_OK        the machine is open, at rest, and its history empty
+ *   MOTION_OPEN      exactly where the handle is open; it stays so
+ *   MOTION_REFUSED   the text is no machine: `why` tells where. What is missing at its end is told
+ *                    at the line of the `go` behind it
+ *   MOTION_NO_MEMORY */
+uint32_t motion_open(motion *m, const uint8_t *text, size_t len, motion_refusal *why);
+
+/* Closes a handle, and gives all its memory back.
+ *   MOTION_OK        the handle is closed, and may be opened anew
+ *   MOTION_CLOSED    exactly where it was closed */
+uint32_t motion_close(motion *m);
+
+/* The number of the axis, group, task or block of a name of `len` bytes. MOTION_NO_NUMBER where
+ * there is none, and where the handle is closed. */
+uint32_t motion_axis(motion *m, const uint8_t *name, size_t len);
+uint32_t motion_group(motion *m, const uint8_t *name, size_t len);
+uint32_t motion_task(motion *m, const uint8_t *name, size_t len);
+uint32_t motion_block(motion *m, const uint8_t *name, size_t len);
+
+/* How many axes and groups there are: 1 to 16, and 0 to 4. 0 where the handle is closed. */
+uint32_t motion_axes(motion *m);
+uint32_t motion_groups(motion *m);
+
+/* How many cycles more there may be, and for how many entries more the history has room: each call,
+ * cycle and end is one entry. 0 where the handle is closed. */
+uint32_t motion_cycles_left(motion *m);
+uint64_t motion_room_left(motion *m);
+
+/* Calls a block by its number, and shows its outputs. It is one entry of the history. A block acts at
+ * the rising edge of `execute`, and is called in each cycle in which its outputs are wanted. What can't
+ * be done is no code, but an error among the outputs.
+ *   MOTION_OK        the call was made
+ *   MOTION_CLOSED    exactly where the handle is closed
+ *   MOTION_UNKNOWN   exactly where there is no such block
+ *   MOTION_RANGE     exactly where a number that the block's kind takes is over 10^18 in size, or it
+ *                    takes a mode and there is none of the number, or a master and there is no such axis
+ *   MOTION_FULL      where none of these, exactly where the history is full */
+uint32_t motion_call(motion *m, uint16_t block, const motion_inputs *in, motion_outputs *out);
+
+/* Goes through a cycle: takes the answer of each axis's drive, and gives each drive its output, both in
+ * the order of the axes. It is one entry of the history. Any answer is taken: a fault, a lost
+ * Operation enabled or a wrong mode leads to the axis's error.
+ *   MOTION_OK        the cycle was made
+ *   MOTION_CLOSED    exactly where the handle is closed
+ *   MOTION_LENGTH    exactly where one of the lengths isn't the number of axes
+ *   MOTION_OVER      where neither, exactly where no cycle is left
+ *   MOTION_FULL      where none of these, exactly where the history is full */
+uint32_t motion_cycle(motion *m, const motion_drive_in *in, size_t in_len,
+                      motion_drive_out *out, size_t out_len);
+
+/* Ends a task by its number: one entry of the history, by which a trace tells that the task ended.
+ *   MOTION_OK        the end was made
+ *   MOTION_CLOSED    exactly where the handle is closed
+ *   MOTION_UNKNOWN   exactly where there is no such task
+ *   MOTION_FULL      where neither, exactly where the history is full */
+uint32_t motion_end(motion *m, uint8_t task);
+
+/* Shows an axis or a group as the last cycle left it. It takes longer the more calls were made since
+ * that cycle, so look right behind it.
+ *   MOTION_OK        it is shown
+ *   MOTION_CLOSED    exactly where the handle is closed
+ *   MOTION_UNKNOWN   exactly where there is no such axis or group
+ *   MOTION_NO_CYCLE  where neither, where no cycle was made */
+uint32_t motion_axis_look(motion *m, uint8_t axis, motion_axis_row *row);
+uint32_t motion_group_look(motion *m, uint8_t group, motion_group_row *row);
+
+/* Makes the trace of all that was called, cycled and ended, which `motion check` judges. `last` has each
+ * drive's last answer: the trace says that it took the output of every cycle and ends so, which the
+ * caller knows. It takes memory and time in proportion to the history: not for a loop.
+ *   MOTION_OK        the trace was made, and is kept until the next one or the close
+ *   MOTION_CLOSED    exactly where the handle is closed
+ *   MOTION_LENGTH    exactly where there isn't an answer of each axis
+ *   MOTION_NO_MEMORY the trace that was made before, if one was, is kept */
+uint32_t motion_trace(motion *m, const motion_drive_in *last, size_t len);
+
+/* Copies the trace that was made last into `room`, from the byte `from` on, and tells how many bytes it
+ * copied: `len`, or what is left. 0 behind its end, where none was made, and where the handle is
+ * closed. */
+uint64_t motion_trace_text(motion *m, uint64_t from, uint8_t *room, size_t len);
+
+/* What the library asks of its host, over malloc or an arena: motion_heap.c has them. `ok` is 1 where
+ * `p` is a block of `size` bytes, or of `align` where that is 0; it is aligned to 16. */
+typedef struct rattle_tried {
+    uint8_t ok;
+    void *p;
+} rattle_tried;
+rattle_tried rattle_alloc(size_t size, size_t align);
+rattle_tried rattle_realloc(void *p, size_t used, size_t size, size_t align);
+void rattle_dealloc(void *p);
+
+/* The calls of a loop with their pointers tested: MOTION_NULL where one is null, and nothing is done. */
+static inline uint32_t motion_call_tested(motion *m, uint16_t block, const motion_inputs *in,
+                                          motion_outputs *out)
+{
+    return m && in && out ? motion_call(m, block, in, out) : (uint32_t)MOTION_NULL;
+}
+
+static inline uint32_t motion_cycle_tested(motion *m, const motion_drive_in *in, size_t in_len,
+                                           motion_drive_out *out, size_t out_len)
+{
+    return m && in && out ? motion_cycle(m, in, in_len, out, out_len) : (uint32_t)MOTION_NULL;
+}
+
+#ifdef __cplusplus
+}
+#endif
+#endif

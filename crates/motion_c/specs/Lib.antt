@@ -1,0 +1,11 @@
+pub mod Owned
+pub mod Held
+pub mod Entries
+pub mod Calls
+pub mod Drives
+pub mod Cycles
+pub mod Ends
+pub mod Numbers
+pub mod Looks
+pub mod Traces
+pub mod Opened

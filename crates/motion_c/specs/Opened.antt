@@ -1,0 +1,33 @@
+-- The machine that a text opens. This project's profile.
+use Rattle.std.specs.Prelude.{◌≡◌, ◌≢◌, ℕ, List, [], ◌∷◌, ◌++◌, codes, false, Option, Some, None, Ok, Err, IsOk, IsErr}
+use Rattle.bench_text.specs.BenchState.{BenchState}
+use Rattle.bench_text.specs.Reading.{bench_of}
+use Rattle.motion_history.specs.declared.refused.TextRefused.{TextRefused}
+use Rattle.motion_c.specs.declared.machine.Machine.{Machine}
+use Rattle.motion_c.specs.declared.opening.MotionRefusal.{MotionRefusal}
+
+-- a machine's text is a bench without `go` and what comes behind it
+abbrev pub with_go : List ℕ → List ℕ
+with_go text = text ++ (10 ∷ codes "go" ++ 10 ∷ [])
+
+-- the machine of a bench: at rest, with no trace
+abbrev pub machine_at_rest : BenchState → Machine
+machine_at_rest b = record {
+  kernel = record { config = b.config; history = []; stopped = false };
+  version = b.version;
+  trace = None;
+}
+
+-- a text opens a machine: that of the bench that it is with `go`
+pub record Opens (text : List ℕ) (after : Option Machine) : Type 0 where
+  pub bench : BenchState
+  pub read : bench_of (with_go text) ≡ Ok bench
+  pub opened : after ≡ Some (machine_at_rest bench)
+
+-- a text is refused: with `go` it is no bench, and the line and the rule are told
+pub record IsRefused (text : List ℕ) (told : MotionRefusal) : Type 0 where
+  pub refused : TextRefused
+  pub read : bench_of (with_go text) ≡ Err refused
+  pub line : told.line ≡ refused.place
+  pub letter : told.letter ≡ refused.rule.letter
+  pub number : told.number ≡ refused.rule.number

@@ -1,0 +1,62 @@
+-- The trace of a machine, as C asks for it. This project's profile.
+use Rattle.std.specs.Prelude.{◌≡◌, ◌↔◌, ℕ, Option, Some, None, List, [], map, take, drop}
+use Rattle.cia402_machine.specs.Statusword.{state_of_word}
+use Rattle.cia402_machine.specs.declared.drive.DriveState.{DriveState}
+use Rattle.cia402_machine.specs.declared.drive.DriveState.TheVariants.{NotReady}
+use Rattle.motion_history.specs.Entries.{cycles_of}
+use Rattle.motion_history.specs.Setup.{Setup}
+use Rattle.motion_history.specs.declared.refused.TraceVersion.{TraceVersion}
+use Rattle.motion_history.specs.declared.refused.TraceVersion.TheVariants.{One}
+use Rattle.outside.specs.MemorySink.{bytes_of}
+use Rattle.outside.specs.declared.memory_sink.MemorySink.{MemorySink}
+use Rattle.trace_text.specs.Trace.{CanHold, trace_text}
+use Rattle.trace_text.specs.declared.command.Command.TheVariants.{Bench}
+use Rattle.trace_text.specs.declared.drive_end.DriveEndRow.{DriveEndRow}
+use Rattle.motion_c.specs.declared.drives.MotionDriveIn.{MotionDriveIn}
+use Rattle.motion_c.specs.declared.machine.Machine.{Machine}
+
+-- a state, or NotReady where a statusword is none's
+abbrev pub state_or_not_ready : Option DriveState → DriveState
+state_or_not_ready (Some state) = state
+state_or_not_ready None = NotReady
+
+-- what a drive took that took the setpoint of each cycle, and answers so
+abbrev pub end_of_drive : ℕ → MotionDriveIn → DriveEndRow
+end_of_drive cycles answer = record {
+  taken = cycles;
+  state = state_or_not_ready (state_of_word answer.statusword);
+  actual = answer.actual;
+}
+
+-- the version of a machine's trace: 1 exactly where the machine was opened by a text of version 1,
+-- and version 1 can hold it
+abbrev pub IsTraceVersion : TraceVersion → Setup → TraceVersion → Type 0
+IsTraceVersion opened s v = (v ≡ One) ↔ ((opened ≡ One) × CanHold One s)
+
+-- a text is the trace of a machine whose drives took the setpoint of each cycle and answer so
+pub record IsTraceOf (m : Machine) (answers : List MotionDriveIn) (text : List ℕ) : Type 0 where
+  pub version : TraceVersion
+  pub fits : IsTraceVersion m.version m.kernel.config version
+  pub tells : text ≡ trace_text version Bench m.kernel.config m.kernel.history
+      (map (end_of_drive (cycles_of m.kernel.history)) answers)
+
+-- a trace was made of a machine, and is kept with it
+pub record MakesTrace (m : Machine) (answers : List MotionDriveIn) (after : Option Machine)
+    : Type 0 where
+  pub trace : MemorySink
+  pub held : after ≡ Some (record m { trace = Some trace })
+  pub text : IsTraceOf m answers (bytes_of trace)
+
+-- the bytes of the trace that was made last, if one was
+abbrev pub bytes_in : Option MemorySink → List ℕ
+bytes_in (Some trace) = bytes_of trace
+bytes_in None = []
+
+-- the bytes of the trace of a held machine
+abbrev pub trace_of : Option Machine → List ℕ
+trace_of (Some m) = bytes_in m.trace
+trace_of None = []
+
+-- so many bytes of a text at most, from a place on
+abbrev pub piece_of : List ℕ → ℕ → ℕ → List ℕ
+piece_of text from most = take most (drop from text)

@@ -1,0 +1,96 @@
+// Cycles.
+
+ghost use Rattle.std.specs.Prelude.{◌≡◌, ◌≢◌, ◌↔◌, Some, None, length};
+ghost use Rattle.motion_c.specs.Cycles.{AreEach, HasCycle, TellsCycle, after_cycle, outputs_after};
+ghost use Rattle.motion_c.specs.Entries.{HasRoom};
+ghost use Rattle.motion_c.specs.Held.{held};
+ghost use Rattle.motion_c.specs.declared.machine.Machine.{Machine};
+
+use crate::code::{CLOSED, FULL, LENGTH, OK, OVER};
+use crate::drives::{MotionDriveIn, MotionDriveOut, give_outputs, take_answers};
+use crate::motion::{Motion, put, take};
+use cia402_machine::{DriveIn, DriveOut};
+use motion_history::MOST_AXES;
+use motion_kernel::Kernel;
+use std::alloc::Global;
+
+/// An answer before it is taken.
+const NO_ANSWER: DriveIn = DriveIn {
+    statusword: 0,
+    mode_display: 0,
+    actual: 0,
+};
+
+/// An output before it is made.
+const NO_OUTPUT: DriveOut = DriveOut {
+    controlword: 0,
+    mode: 0,
+    target: 0,
+};
+
+/// Goes through a cycle with the drives' answers, and gives each drive its output.
+#[unsafe(no_mangle)]
+pub extern "C" fn motion_cycle(
+    alloc: Global,
+    motion: &mut Motion,
+    answers: &[MotionDriveIn],
+    outputs: &mut [MotionDriveOut],
+) -> u32
+    ensures closed { (result ≡ 1) ↔ (held motion.old ≡ None) }
+    ensures code { (m : Machine) → held motion.old ≡ Some m →
+        TellsCycle m.kernel (length answers.now) (length outputs.old) result }
+    ensures made { (m : Machine) → held motion.old ≡ Some m → result ≡ 0 →
+        held motion.new ≡ Some (record m { kernel = after_cycle m.kernel answers.now }) }
+    ensures outputs { (m : Machine) → held motion.old ≡ Some m → result ≡ 0 →
+        outputs.new ≡ outputs_after m.kernel answers.now }
+    ensures kept { result ≢ 0 → held motion.new ≡ held motion.old }
+    ensures same { result ≢ 0 → outputs.new ≡ outputs.old }
+{
+    let Some(mut machine) = take(alloc, motion) else {
+        return CLOSED;
+    };
+    let answer = cycle(&mut machine.kernel, answers, outputs);
+    put(motion, machine);
+    answer
+}
+
+// Goes through a cycle where it may.
+fn cycle(kernel: &mut Kernel, answers: &[MotionDriveIn], outputs: &mut [MotionDriveOut]) -> u32
+    ensures code { TellsCycle kernel.old (length answers.now) (length outputs.old) result }
+    ensures open { result ≢ 1 }
+    ensures made { result ≡ 0 → kernel.new ≡ after_cycle kernel.old answers.now }
+    ensures outputs { result ≡ 0 → outputs.new ≡ outputs_after kernel.old answers.now }
+    ensures kept { result ≢ 0 → kernel.new ≡ kernel.old }
+    ensures same { result ≢ 0 → outputs.new ≡ outputs.old }
+{
+    let axes = kernel.config().axes().len();
+    if answers.len() != axes || outputs.len() != axes {
+        return LENGTH;
+    }
+    if kernel.cycles_left() == 0 {
+        return OVER;
+    }
+    if kernel.room_left() == 0 {
+        return FULL;
+    }
+    make_cycle(kernel, answers, outputs);
+    OK
+}
+
+// Goes through a cycle that may be made.
+fn make_cycle(kernel: &mut Kernel, answers: &[MotionDriveIn], outputs: &mut [MotionDriveOut])
+    requires each { AreEach kernel.old (length answers.now) (length outputs.old) }
+    requires cycle { HasCycle kernel.old }
+    requires room { HasRoom kernel.old }
+    ensures made { kernel.new ≡ after_cycle kernel.old answers.now }
+    ensures outputs { outputs.new ≡ outputs_after kernel.old answers.now }
+{
+    let axes = kernel.config().axes().len();
+    let mut taken = [NO_ANSWER; MOST_AXES];
+    let taken = &mut taken[..axes];
+    let mut made = [NO_OUTPUT; MOST_AXES];
+    let made = &mut made[..axes];
+    take_answers(answers, taken);
+    kernel.cycle(taken, made);
+    give_outputs(made, outputs);
+}

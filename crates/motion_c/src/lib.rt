@@ -1,0 +1,42 @@
+//! The kernel for C and C++ programs, as a static library: `c/motion.h` declares what is exported
+//! here. A handle that C holds owns a machine, a kernel with its trace; each export takes it out,
+//! works on it and puts it back, so that the work itself is plain code over `motion_kernel`,
+//! `bench_text` and `trace_text`. Begin with `specs/Held.antt`, then `src/calling.rt`; `src/laws.rt`
+//! says what always holds of the history behind a handle.
+#![tactic(auto)]
+
+mod calling;
+mod code;
+mod cycling;
+mod drives;
+mod ending;
+mod laws;
+mod looking;
+mod machine;
+mod motion;
+mod naming;
+mod opening;
+mod parts;
+mod rows;
+mod seat;
+mod sending;
+mod tracing;
+
+pub use c_inputs::MotionInputs;
+pub use calling::{MotionOutputs, motion_call};
+pub use cycling::motion_cycle;
+pub use drives::{MotionDriveIn, MotionDriveOut};
+pub use ending::motion_end;
+pub use laws::held_histories_keep_their_laws;
+pub use looking::{
+    MotionAxisRow, MotionGroupRow, motion_axis_look, motion_cycles_left, motion_group_look,
+    motion_room_left,
+};
+pub use machine::Machine;
+pub use motion::Motion;
+pub use naming::{
+    motion_axes, motion_axis, motion_block, motion_group, motion_groups, motion_task,
+};
+pub use opening::{MotionRefusal, motion_close, motion_open};
+pub use seat::Seat;
+pub use tracing::{motion_trace, motion_trace_text};
