@@ -7,3 +7,6 @@
 mod reading;
 
 pub use reading::read_st;
+
+#[cfg(test)]
+mod tests;
