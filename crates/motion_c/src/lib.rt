@@ -20,6 +20,8 @@ mod parts;
 mod rows;
 mod seat;
 mod sending;
+#[cfg(test)]
+mod tests;
 mod tracing;
 
 pub use c_inputs::MotionInputs;
