@@ -89,24 +89,42 @@ fn run_scan(code: &StCode, task: &mut StTask, made: &mut Vec<Made>) -> Result<bo
     Ok(false)
 }
 
+// Runs so many scans, up to the task's last; whether it was among them.
+fn run_scans(
+    code: &StCode,
+    task: &mut StTask,
+    scans: u32,
+    made: &mut Vec<Made>,
+) -> Result<bool, AllocError>
+    requires follows { Follows code.now task.old }
+    requires answered { task.old.asked ≡ None }
+{
+    let mut ended = false;
+    for _scan in 0..scans {
+        if !ended {
+            ended = run_scan(code, task, made)?;
+        }
+    }
+    Ok(ended)
+}
+
 // Runs so many scans of a body, up to its last.
 fn run(alloc: Global, body: Vec<Stmt>, cycle_us: u32, scans: u32) -> Result<Scans, Fail> {
     if !(100 <= cycle_us && cycle_us <= 100_000) {
         return Err(Fail::new("no cycle"));
     }
     let program = program(alloc, body)?;
-    let code = compile(alloc, &program, cycle_us).ok().ok_or("code")?;
+    let Ok(code) = compile(alloc, &program, cycle_us) else {
+        return Err(Fail::new("no code"));
+    };
     if code.tasks() != 1 {
         return Err(Fail::new("not one task"));
     }
-    let mut task = StTask::open(alloc, &code, 0).ok().ok_or("a task")?;
+    let Ok(mut task) = StTask::open(alloc, &code, 0) else {
+        return Err(Fail::new("no task"));
+    };
     let mut made = Vec::new(alloc);
-    let mut ended = false;
-    for _scan in 0..scans {
-        if !ended {
-            ended = run_scan(&code, &mut task, &mut made)?;
-        }
-    }
+    let ended = run_scans(&code, &mut task, scans, &mut made)?;
     Ok(Scans { made, ended })
 }
 

@@ -1,11 +1,12 @@
 // Drawn trees: what scans of their code make is what a plain walker makes.
 
-ghost use Rattle.std.specs.Prelude.{◌<◌};
+ghost use Rattle.std.specs.Prelude.{◌≡◌, ◌<◌, None};
+ghost use Rattle.st_exec.specs.Following.{Follows};
 
 use super::walker::Walker;
 use super::{program, run_scan};
-use crate::{StTask, compile};
-use st_tree::{Branch, BufferMode, Expr, Flag, Given, Key, Operator, Stmt, Term};
+use crate::{StCode, StTask, compile};
+use st_tree::{Branch, BufferMode, Expr, Flag, Given, Key, Operator, Stmt, Task, Term};
 use std::alloc::{AllocError, Global};
 use std::process::Abort;
 use std::test::Fail;
@@ -192,24 +193,43 @@ fn body(alloc: Global, draws: &mut Draws) -> Result<Vec<Stmt>, AllocError> {
     Ok(bodies.pop().unwrap_or(Vec::new(alloc)))
 }
 
-// Stops the test unless three scans of a drawn program make what a walker makes.
-fn compare(rt: &impl Abort, alloc: Global, draws: &mut Draws) -> Result<usize, Fail> {
-    let program = program(alloc, body(alloc, draws)?)?;
-    let code = compile(alloc, &program, 1000).ok().ok_or("code")?;
-    if code.tasks() != 1 {
-        return Err(Fail::new("not one task"));
-    }
-    let mut task = StTask::open(alloc, &code, 0).ok().ok_or("a task")?;
+// Stops the test unless three scans of a task make what a walker makes of its tree; says how many
+// calls were made.
+fn compare_scans(
+    rt: &impl Abort,
+    code: &StCode,
+    task: &mut StTask,
+    tree: &Task,
+    alloc: Global,
+) -> Result<usize, Fail>
+    requires follows { Follows code.now task.old }
+    requires answered { task.old.asked ≡ None }
+{
     let mut walker = Walker::new([-3, 0, 1, 0], Vec::new(alloc));
     let mut made = Vec::new(alloc);
-    let tree = program.tasks.first().ok_or("a tree")?;
     for _scan in 0..3 {
-        let ended = run_scan(&code, &mut task, &mut made)?;
+        let ended = run_scan(code, task, &mut made)?;
         walker.walk_all(tree.body.as_slice())?;
         assert_eq!(rt; made.as_slice(), walker.made.as_slice());
         assert_eq!(rt; ended, walker.vars[3] != 0);
     }
     Ok(made.len())
+}
+
+// Stops the test unless a drawn program runs as a walker walks it.
+fn compare(rt: &impl Abort, alloc: Global, draws: &mut Draws) -> Result<usize, Fail> {
+    let program = program(alloc, body(alloc, draws)?)?;
+    let Ok(code) = compile(alloc, &program, 1000) else {
+        return Err(Fail::new("no code"));
+    };
+    if code.tasks() != 1 {
+        return Err(Fail::new("not one task"));
+    }
+    let Ok(mut task) = StTask::open(alloc, &code, 0) else {
+        return Err(Fail::new("no task"));
+    };
+    let tree = program.tasks.first().ok_or("a tree")?;
+    compare_scans(rt, &code, &mut task, tree, alloc)
 }
 
 // 2,000 programs.
