@@ -1,3 +1,2 @@
-pub mod Flags
 pub mod Lines
 pub mod Table

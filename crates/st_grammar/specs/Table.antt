@@ -6,7 +6,7 @@ use Rattle.std.specs.Option.{option_map_or}
 use Rattle.command_pool.specs.declared.kind.BlockKind.{BlockKind}
 use Rattle.fb_outputs.specs.Names.{kind_named}
 use Rattle.line_text.specs.Texts.{says}
-use Rattle.st_grammar.specs.Flags.{flag_named}
+use Rattle.fb_outputs.specs.Flags.{flag_named}
 use Rattle.st_grammar.specs.Lines.{Line, takes, passes, refuses}
 use Rattle.st_grammar.specs.declared.item.Item.{Item}
 use Rattle.st_grammar.specs.declared.item.Item.TheVariants as item
