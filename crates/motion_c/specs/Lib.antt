@@ -1,6 +1,5 @@
 pub mod Owned
 pub mod Held
-pub mod Entries
 pub mod Calls
 pub mod Drives
 pub mod Cycles
