@@ -21,7 +21,7 @@ pub record IsUnderWay (limits : Limits) (rates : Rates) (target before now : ℤ
 
 -- what two moves are under way with
 pub record AreUnderWay (limits : Limits) (target1 target2 before now : ℤ) (first second : Rates)
-      (vb : ℤ) : Type 0 where
+    (vb : ℤ) : Type 0 where
   pub limits_ok : AreLimits limits
   pub first_ok : AreRates first
   pub second_ok : AreRates second
