@@ -8,3 +8,4 @@ pub mod Numbers
 pub mod Looks
 pub mod Traces
 pub mod Opened
+pub mod Configured
