@@ -1,17 +1,16 @@
 -- The numbers that a history keeps have the bits of their types, and the last cycle that it keeps
 -- is the last that was made.
-use Rattle.std.specs.Prelude.{◌≡◌, refl, ℕ, ◌+◌, ◌-◌, ◌*◌, ◌<◌, ◌≤◌, zero, suc, List, [], ◌∷◌, ◌++◌, drop, length, slice_get, slice_index_or, take, All, Option, Some, None}
+use Rattle.std.specs.Prelude.{◌≡◌, refl, ℕ, ◌+◌, ◌-◌, ◌*◌, ◌≤◌, zero, suc, List, [], ◌∷◌, ◌++◌, drop, slice_get, take, All, Option, Some, None}
 use Rattle.std.specs.List.{AllByRecursion}
 use Rattle.std.specs.Option.{option_map}
-use Rattle.std.proofs.Common.{Vec, Global, ◌∙◌, sym, ap, subst, arith}
-use Rattle.axis_state.specs.declared.definition.AxisRow.{AxisRow}
-use Rattle.group_state.specs.declared.state.GroupRow.{GroupRow}
+use Rattle.std.proofs.Common.{◌∙◌, sym, ap, subst, arith}
+use Rattle.std.proofs.lemmas.List.Elements.{All-from_recursion}
 use Rattle.motion_history.specs.Bits.{HasBits, HasCallBits, HasGroupRowBits, HasRowBits}
 use Rattle.motion_history.specs.declared.entry.CallMade.{CallMade}
 use Rattle.motion_history.specs.declared.entry.Stored.{Stored}
 use Rattle.motion_history.specs.declared.entry.Stored.TheVariants as stored
 use Rattle.motion_history.specs.declared.history.History.TheInside.{Inside}
-use Rattle.motion_history.specs.Entries.{Entry, HistoryState, cycle}
+use Rattle.motion_history.specs.Entries.{HistoryState}
 use Rattle.motion_history.specs.Kept.{HaveBits, IsWhole, state_of, store_of}
 use Rattle.motion_history.specs.LastCycles.{cycle_in, last_cycle_of, later}
 use Rattle.motion_history.specs.Rows.{rows_at}
@@ -40,12 +39,6 @@ each-at P [] n x h at = absurd (cc)
 each-at P (y ∷ xs) zero x h at = let same : y ≡ x = cc in subst P same h.0
 each-at P (y ∷ xs) (suc n) x h at = each-at P xs n x h.1 at
 
--- and of all by their places
-all-each : {X : Type 0} (P : X → Type 0) (xs : List X) → AllByRecursion P xs → All P xs
-all-each P [] h n d l = absurd (omega arith)
-all-each P (x ∷ xs) h zero d l = h.0
-all-each P (x ∷ xs) h (suc n) d l = all-each P xs h.1 n d (omega arith)
-
 -- the rows of a cycle
 rows-bits : {X : Type 0} (P : X → Type 0) (width n : ℕ) (rows : List X) → AllByRecursion P rows → AllByRecursion P (rows_at width n rows)
 rows-bits P width n rows h = each-take P width _ (each-drop P ((n - 1) * width) rows h)
@@ -70,7 +63,7 @@ kept-bits h b (e ∷ es) = (entry-bits h b e, kept-bits h b es)
 -- the entries of a history
 pub entries-bits : (h : Inside) (s : HistoryState) → IsWhole h → state_of h ≡ s → All HasBits s.entries
 entries-bits h s w e =
-    let here : All HasBits (state_of h).entries = all-each HasBits _ (kept-bits h w.bits h.stored.items) in
+    let here : All HasBits (state_of h).entries = All-from_recursion HasBits (state_of h).entries (kept-bits h w.bits h.stored.items) in
     subst (λ (t : HistoryState). All HasBits t.entries) e here
 
 -- ---- the last cycle

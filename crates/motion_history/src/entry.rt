@@ -30,8 +30,8 @@ pub enum EntryLook<'a> {
     },
 }
 
-/// A cycle of a history, as it is looked at: its number, counted from 1, and the rows that it left of
-/// the axes and groups.
+/// A cycle of a history, as it is looked at: its number, counted from 1, and the rows that it left
+/// of the axes and groups.
 #[derive(Clone, Copy)]
 pub struct CycleLook<'a> {
     pub number: u32,
