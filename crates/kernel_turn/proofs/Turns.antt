@@ -6,7 +6,8 @@ use Rattle.atomic_table.specs.Seated.{TableId}
 use Rattle.motion_history.specs.Entries.{Entry}
 use Rattle.motion_history.specs.Setup.{Setup}
 use Rattle.motion_kernel.specs.KernelState.{KernelState}
-use Rattle.kernel_turn.specs.Events.{Makes, with_entry}
+use Rattle.kernel_turn.specs.Events.{Makes}
+use Rattle.motion_kernel.specs.KernelState.{with_entry}
 use Rattle.kernel_turn.specs.Inside.{state_of}
 use Rattle.kernel_turn.specs.PassState.{PassState}
 use Rattle.kernel_turn.specs.PassView.{PassView}

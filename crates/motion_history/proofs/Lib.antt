@@ -5,5 +5,6 @@ pub mod SetupLemmas
 pub mod TableLemmas
 pub mod HistoryLemmas
 pub mod KeptLemmas
+pub mod WholeLemmas
 pub mod RangeLaws
 pub mod SoundLaws

@@ -4,7 +4,9 @@ use Rattle.std.specs.Prelude.{◌≡◌, ◌≤◌, ◌*◌, drop, vec_len, vec_
 use Rattle.std.specs.List.{AllByRecursion}
 use Rattle.motion_history.specs.declared.history.History.TheInside.{Inside}
 use Rattle.motion_history.specs.Entries.{cycles_of, HistoryState}
-use Rattle.motion_history.specs.Stored.{Store, entries_of, IsMade}
+use Rattle.motion_history.specs.Bits.{HasCallBits, HasGroupRowBits, HasRowBits}
+use Rattle.motion_history.specs.declared.entry.CallMade.{CallMade}
+use Rattle.motion_history.specs.Stored.{Store, entries_of, IsMade, last_number_of, number_from}
 
 -- what stands beside the entries
 abbrev pub store_of : Inside → Store
@@ -41,3 +43,16 @@ pub record IsKept (h : Inside) : Type 0 where
   pub made : h.made ≤ h.most
   pub cycles : h.made ≡ cycles_of (entries_of (store_of h) h.stored.items)
   pub numbers : AllByRecursion (IsMade (vec_len h.calls) h.made) h.stored.items
+
+-- the numbers that are kept have the bits of their types
+pub record HaveBits (h : Inside) : Type 0 where
+  pub calls : AllByRecursion (λ (c : CallMade). HasCallBits c.inputs c.reply) h.calls.items
+  pub axis_rows : AllByRecursion HasRowBits h.axis_rows.items
+  pub group_rows : AllByRecursion HasGroupRowBits h.group_rows.items
+
+-- the arrays are in step and hold numbers of their bits, and the last cycle that is kept is the
+-- last that was made
+pub record IsWhole (h : Inside) : Type 0 where
+  pub kept : IsKept h
+  pub bits : HaveBits h
+  pub last : last_number_of h.stored.items ≡ number_from h.made

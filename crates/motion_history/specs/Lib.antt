@@ -6,6 +6,8 @@ pub mod Faults
 pub mod Entries
 pub mod Looks
 pub mod Rows
+pub mod Bits
+pub mod LastCycles
 pub mod Stored
 pub mod Kept
 pub mod Calls

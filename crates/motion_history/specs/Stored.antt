@@ -1,12 +1,13 @@
 -- Entries that are kept without what they hold: the calls stand in one array, the rows of all
 -- cycles in two others.
-use Rattle.std.specs.Prelude.{ℕ, ◌<◌, ◌≤◌, ◌*◌, List, Option, Some, None, length, map, slice_get}
+use Rattle.std.specs.Prelude.{ℕ, zero, suc, ◌<◌, ◌≤◌, ◌*◌, List, [], ◌∷◌, Option, Some, None, length, map, slice_get}
 use Rattle.axis_state.specs.declared.definition.AxisRow.{AxisRow}
 use Rattle.group_state.specs.declared.state.GroupRow.{GroupRow}
 use Rattle.motion_history.specs.declared.entry.CallMade.{CallMade}
 use Rattle.motion_history.specs.declared.entry.Stored.{Stored}
 use Rattle.motion_history.specs.declared.entry.Stored.TheVariants as stored
 use Rattle.motion_history.specs.Entries.{Entry, call, cycle, end_of}
+use Rattle.motion_history.specs.LastCycles.{later}
 use Rattle.motion_history.specs.Rows.{rows_at}
 
 -- what stands beside the entries: how many rows a cycle has, the calls, and the rows of all cycles
@@ -45,3 +46,19 @@ IsThere s (stored.Call place) = place < length s.calls
 IsThere s (stored.Cycle n) =
     (1 ≤ n) × (n * s.axes ≤ length s.axis_rows) × (n * s.groups ≤ length s.group_rows)
 IsThere s (stored.End task) = Unit {0}
+
+-- the number of what is kept, if it is a cycle
+abbrev pub number_in : Stored → Option ℕ
+number_in (stored.Call place) = None
+number_in (stored.Cycle n) = Some n
+number_in (stored.End task) = None
+
+-- the number of the last cycle that is kept, if there is one
+abbrev pub last_number_of : List Stored → Option ℕ
+last_number_of [] = None
+last_number_of (e ∷ es) = later (number_in e) (last_number_of es)
+
+-- a number that counts from 1, if it is one
+abbrev pub number_from : ℕ → Option ℕ
+number_from zero = None
+number_from (suc n) = Some (suc n)

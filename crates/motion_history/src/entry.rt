@@ -30,6 +30,15 @@ pub enum EntryLook<'a> {
     },
 }
 
+/// A cycle of a history, as it is looked at: its number, counted from 1, and the rows that it left
+/// of the axes and groups.
+#[derive(Clone, Copy)]
+pub struct CycleLook<'a> {
+    pub number: u32,
+    pub axes: &'a [AxisRow],
+    pub groups: &'a [GroupRow],
+}
+
 /// A call that was made, and its reply.
 #[derive(Clone, Copy)]
 pub struct CallMade {

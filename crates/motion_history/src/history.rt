@@ -1,14 +1,17 @@
 // The history of a kernel: each call, cycle and end of a task, in room that is reserved at opening.
 
-ghost use Rattle.std.specs.Prelude.{◌≡◌, ◌<◌, ◌≤◌, ◌+◌, ◌-◌, ◌*◌, ◌++◌, ◌∷◌, [], IfOk, length, slice_get};
+ghost use Rattle.std.specs.Prelude.{◌≡◌, ◌<◌, ◌≤◌, ◌+◌, ◌-◌, ◌*◌, ◌++◌, ◌∷◌, [], All, IfOk, length, slice_get};
 ghost use Rattle.std.specs.Option.{option_map};
 ghost use Rattle.motion_history.specs.Entries.{call, cycle, end_of, cycles_of, HistoryState};
+ghost use Rattle.motion_history.specs.Bits.{HasBits};
+ghost use Rattle.motion_history.specs.LastCycles.{cycle_told, last_cycle_of};
 ghost use Rattle.motion_history.specs.Looks.{told};
 ghost use Rattle.motion_history.specs.Rows as kept;
 ghost use Rattle.motion_history.specs.Stored.{call_entry};
 
+use crate::bits::{call_has_bits, group_row_has_bits, row_has_bits};
 use crate::config::Config;
-use crate::entry::{CallMade, EntryLook, Stored, call_at, rows_at, stored_at};
+use crate::entry::{CallMade, CycleLook, EntryLook, Stored, call_at, rows_at, stored_at};
 use axis_state::AxisRow;
 use fb_outputs::{Inputs, Outputs};
 use group_state::GroupRow;
@@ -35,11 +38,11 @@ impl Model for History {
 
     ghost Value = { HistoryState };
 
-    ghost use Rattle.motion_history.specs.Kept.{state_of, IsKept};
+    ghost use Rattle.motion_history.specs.Kept.{state_of, IsWhole};
 
     ghost view = { state_of };
 
-    ghost invariant = { IsKept };
+    ghost invariant = { IsWhole };
 }
 
 impl History {
@@ -65,6 +68,7 @@ impl History {
           entries = self.old.entries ++ call instance inputs.now reply.now ∷ [];
         } }
     {
+        call_has_bits(inputs, reply);
         let place = self.calls.len() as u32;
         self.calls.push_reserved(CallMade {
             instance,
@@ -80,6 +84,7 @@ impl History {
         requires room { length self.old.rows < self.old.axes }
         ensures { self.new ≡ record self.old { rows = self.old.rows ++ row ∷ [] } }
     {
+        row_has_bits(&row);
         self.axis_rows.push_reserved(row);
     }
 
@@ -89,6 +94,7 @@ impl History {
         requires room { length self.old.group_rows < self.old.groups }
         ensures { self.new ≡ record self.old { group_rows = self.old.group_rows ++ row ∷ [] } }
     {
+        group_row_has_bits(&row);
         self.group_rows.push_reserved(row);
     }
 
@@ -139,6 +145,27 @@ impl History {
             Some(Stored::End { task }) => Some(EntryLook::End { task }),
             None => None,
         }
+    }
+
+    /// The last cycle, if there was one.
+    pub fn last_cycle(&self) -> Option<CycleLook<'_>>
+        ensures { option_map cycle_told result ≡ last_cycle_of self.now.entries }
+    {
+        if self.made == 0 {
+            return None;
+        }
+        Some(CycleLook {
+            number: self.made,
+            axes: rows_at(self.axis_rows.as_slice(), self.axes, self.made),
+            groups: rows_at(self.group_rows.as_slice(), self.groups, self.made),
+        })
+    }
+
+    /// The numbers of the entries have the bits of their types. Nothing runs.
+    pub fn has_bits(&self)
+        ensures { All HasBits self.now.entries }
+    {
+        let _made = self.made;
     }
 
     /// How many entries more it has room for.

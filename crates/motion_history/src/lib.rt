@@ -5,6 +5,7 @@
 #![tactic(auto)]
 
 mod axes;
+mod bits;
 mod blocks;
 mod builder;
 mod config;
@@ -32,7 +33,7 @@ pub use builder::Builder;
 pub use cam_table::{CamFault, CamTable};
 pub use config::{BlockDef, Config, GroupDef};
 pub use drives::{DriveDef, DriveDefs, FaultList};
-pub use entry::EntryLook;
+pub use entry::{CycleLook, EntryLook};
 pub use event::Event;
 pub use fault::ConfigFault;
 pub use fb_outputs::{BlockKind, BufferMode, Inputs, Outputs};

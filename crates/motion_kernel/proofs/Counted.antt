@@ -1,5 +1,5 @@
 -- The rows of a legal history are counted.
-use Rattle.std.specs.Prelude.{◌≡◌, refl, ℕ, zero, suc, ◌+◌, ◌<◌, ℤ, List, [], ◌∷◌, ◌++◌, length, slice_index_or}
+use Rattle.std.specs.Prelude.{◌≡◌, refl, ℕ, pos, zero, suc, ◌+◌, ◌<◌, ℤ, List, [], ◌∷◌, ◌++◌, length, slice_index_or}
 use Rattle.std.specs.List.{AllZip}
 use Rattle.std.proofs.Common.{arith, ap, sym, subst, ◌∙◌}
 use Rattle.std.proofs.lemmas.List.{get_or-map, length-map}
@@ -62,6 +62,11 @@ shows_offset : (input : DriveIn) (a : Axis) → (row_shown input a).offset ≡ a
 unfolding row_shown
 shows_offset input a = refl
 
+-- and a mode
+shows_mode : (input : DriveIn) (a : Axis) → (row_shown input a).output.mode ≡ pos 8
+unfolding row_shown
+shows_mode input a = refl
+
 -- so it is counted
 row_counted : CountLaws → (s : Setup) (m : Machine) (rows : List AxisRow) (grows : List GroupRow) → IsMachineKept s m → AreConfigured s m →
     IsCycleOf s m rows grows → (n : ℕ) → n < length s.axes → IsCounted (slice_index_or s.axes n no_def) (slice_index_or rows n no_row)
@@ -79,6 +84,8 @@ row_counted laws s m rows grows kept h is n l =
     let offset : (slice_index_or rows n no_row).offset ≡ a.offset =
     ap (λ (r : AxisRow). r.offset) (row ∙ through.row) ∙ shows_offset look.input (core_after_cycle look (axis_core_at m n)).axis
     ∙ ap (λ (x : Axis). x.offset) (sym through.after) in
+    let mode : (slice_index_or rows n no_row).output.mode ≡ pos 8 =
+    ap (λ (r : AxisRow). r.output.mode) (row ∙ through.row) ∙ shows_mode look.input (core_after_cycle look (axis_core_at m n)).axis in
     let inc : a.inc ≡ inc_of s n = configured_by_cycle laws s m ins kept h n l in
     let next_sizes = next.sized in
     let next_size = next_sizes.axes in
@@ -89,6 +96,7 @@ row_counted laws s m rows grows kept h is n l =
           (subst (λ (x : Limits). HasCounts x a.offset a.inc) here.limits here.core.axis.base.counts));
       reported = subst (λ (d : DriveIn). IsCount d.actual) (get_or-map (λ (r : AxisRow). r.input) rows n no_row no_answer (omega arith))
           (All-get_or (λ (d : DriveIn). IsCount d.actual) (inputs_of rows) n no_answer (let long = length-map rows (λ (r : AxisRow). r.input) in omega arith) is.counts);
+      mode = mode;
     }
 
 -- what holds place by place holds of the lists

@@ -1,5 +1,5 @@
 -- Which counts the rows of legal histories have.
-use Rattle.std.specs.Prelude.{◌≡◌, ℕ, List, ◌∷◌, ◌++◌}
+use Rattle.std.specs.Prelude.{◌≡◌, ℕ, pos, List, ◌∷◌, ◌++◌}
 use Rattle.std.specs.List.{AllZip}
 use Rattle.axis_state.specs.Counts.{HasCounts, IsCount}
 use Rattle.axis_state.specs.declared.definition.AxisDef.{AxisDef}
@@ -8,11 +8,12 @@ use Rattle.group_state.specs.declared.state.GroupRow.{GroupRow}
 use Rattle.motion_history.specs.Entries.{Entry, cycle}
 use Rattle.motion_history.specs.Setup.{Setup}
 
--- with the offset of a row the places within the limits of its axis have counts of 32 bits, and its
--- drive reported one. IEC 61800-7-201, objects 607Ah and 6064h
+-- with the offset of a row the places within the limits of its axis have counts of 32 bits; its
+-- drive reported one, and is given mode 8. IEC 61800-7-201, objects 607Ah, 6064h and 6060h
 pub record IsCounted (d : AxisDef) (r : AxisRow) : Type 0 where
   pub places : HasCounts d.limits r.offset d.inc
   pub reported : IsCount r.input.actual
+  pub mode : r.output.mode ≡ pos 8
 
 -- so it is with each row of each cycle
 abbrev pub RowsAreCounted : Setup → List Entry → Type 0

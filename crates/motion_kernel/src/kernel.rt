@@ -1,11 +1,14 @@
 // The kernel: its state is the replay of its history.
 
 ghost use Rattle.std.specs.Prelude.{◌≡◌, ◌<◌, ◌≤◌, ◌+◌, ◌-◌, ◌++◌, ◌∷◌, [], length, map, IfOk, IsSomeAnd, slice_get, All, true, false};
+ghost use Rattle.std.specs.Option.{option_map};
 ghost use Rattle.axis_state.specs.Counts.{IsCount};
 ghost use Rattle.axis_state.specs.declared.definition.AxisRow.{AxisRow};
 ghost use Rattle.cia402_machine.specs.declared.drive.DriveIn.{DriveIn};
+ghost use Rattle.motion_history.specs.Bits.{HasBits};
 ghost use Rattle.motion_history.specs.Calls.{IsCall};
 ghost use Rattle.motion_history.specs.Entries.{call, cycle, end_of, cycles_of};
+ghost use Rattle.motion_history.specs.LastCycles.{cycle_told, last_cycle_of};
 ghost use Rattle.motion_history.specs.Setup.{IsSetup};
 ghost use Rattle.motion_kernel.specs.calls.Calls.{reply_of};
 ghost use Rattle.motion_kernel.specs.cycles.Cycles.{cycled};
@@ -24,7 +27,9 @@ use crate::parts::Parts;
 use crate::tasks::TaskMarks;
 use cia402_machine::{DriveIn, DriveOut};
 use fb_outputs::{Inputs, Outputs};
-use motion_history::{Config, History, OutOfMemory, configurations_are_sound, cycles_add_up};
+use motion_history::{
+    Config, CycleLook, History, OutOfMemory, configurations_are_sound, cycles_add_up,
+};
 use std::alloc::{AllocError, Global};
 use std::marker::Model;
 
@@ -212,13 +217,22 @@ impl Kernel {
     }
 
     /// The history so far: a legal one, for a sound configuration whose groups are whole. That is
-    /// what the laws over histories ask of one.
+    /// what the laws over histories ask of one. Its numbers have the bits of their types.
     pub fn history(&self) -> &History
         ensures entries { result.now.entries ≡ self.now.history }
         ensures legal { IsLegal self.now.config self.now.history }
         ensures setup { IsSetup self.now.config }
         ensures whole { AreWhole self.now.config }
+        ensures bits { All HasBits self.now.history }
     {
+        self.history.has_bits();
         &self.history
+    }
+
+    /// The last cycle, if there was one: its number and its rows.
+    pub fn last_cycle(&self) -> Option<CycleLook<'_>>
+        ensures { option_map cycle_told result ≡ last_cycle_of self.now.history }
+    {
+        self.history.last_cycle()
     }
 }

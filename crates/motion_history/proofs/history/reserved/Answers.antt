@@ -1,25 +1,34 @@
 -- Nothing is kept yet, and there is room for all.
 use Rattle.std.specs.Prelude.{◌*◌, refl, length}
 use Rattle.std.proofs.Common.{arith, ap}
+use Rattle.motion_history.specs.Stored.{last_number_of}
 use Rattle.motion_history.proofs.KeptLemmas.{IsKept-open, rows-open, state-open}
 use Rattle.motion_history.proofs.history.reserved.Goals as goal
 
 pub invariant_of-result : goal.invariant_of-result
 invariant_of-result c =
-    IsKept-open _
-    (record {
-      stored = c.in_ok-with_capacity.ensures.items;
-      calls = c.in_ok-with_capacity-2.ensures.items;
-      axis_rows = c.in_ok-with_capacity-3.ensures.items;
-      group_rows = c.in_ok-with_capacity-4.ensures.items;
-      made = refl;
-    })
-    (record {
-      stored = omega (arith, c.in_ok-with_capacity.ensures.exact);
-      calls = omega (arith, c.in_ok-with_capacity-2.ensures.exact);
-      axis_rows = omega (arith, c.in_ok-with_capacity-3.ensures.exact);
-      group_rows = omega (arith, c.in_ok-with_capacity-4.ensures.exact);
-    })
+    record {
+      kept = IsKept-open _
+          (record {
+            stored = c.in_ok-with_capacity.ensures.items;
+            calls = c.in_ok-with_capacity-2.ensures.items;
+            axis_rows = c.in_ok-with_capacity-3.ensures.items;
+            group_rows = c.in_ok-with_capacity-4.ensures.items;
+            made = refl;
+          })
+          (record {
+            stored = omega (arith, c.in_ok-with_capacity.ensures.exact);
+            calls = omega (arith, c.in_ok-with_capacity-2.ensures.exact);
+            axis_rows = omega (arith, c.in_ok-with_capacity-3.ensures.exact);
+            group_rows = omega (arith, c.in_ok-with_capacity-4.ensures.exact);
+          });
+      bits = record {
+        calls = rw c.in_ok-with_capacity-2.ensures.items tt;
+        axis_rows = rw c.in_ok-with_capacity-3.ensures.items tt;
+        group_rows = rw c.in_ok-with_capacity-4.ensures.items tt;
+      };
+      last = ap last_number_of c.in_ok-with_capacity.ensures.items;
+    }
 
 pub returns : goal.returns
 returns c =

@@ -21,11 +21,11 @@ call_at-requires c =
       some = c.in-Some-Call.is;
       is = c.in-Some-Call.field-0-is;
     } in
-    rw c.as_slice-in-Some-Call.ensures.value (IsThere-found _ _ _ c.self.invariant found)
+    rw c.as_slice-in-Some-Call.ensures.value (IsThere-found _ _ _ c.self.invariant.kept found)
 
 there_cycle : (c : goal.After-as_slice-in-Some-Cycle) → IsThere (store_of c.self.inside) (stored.Cycle c.in-Some-Cycle.number)
 there_cycle c =
-    IsThere-found c.self.inside c.args.place (stored.Cycle c.in-Some-Cycle.number) c.self.invariant
+    IsThere-found c.self.inside c.args.place (stored.Cycle c.in-Some-Cycle.number) c.self.invariant.kept
     (record {
       items = c.as_slice.result.now;
       same = c.as_slice.ensures.value;
@@ -38,7 +38,7 @@ there_cycle c =
 
 there_next : (c : goal.After-as_slice-in-Some-Cycle-2) → IsThere (store_of c.self.inside) (stored.Cycle c.in-Some-Cycle.number)
 there_next c =
-    IsThere-found c.self.inside c.args.place (stored.Cycle c.in-Some-Cycle.number) c.self.invariant
+    IsThere-found c.self.inside c.args.place (stored.Cycle c.in-Some-Cycle.number) c.self.invariant.kept
     (record {
       items = c.as_slice.result.now;
       same = c.as_slice.ensures.value;

@@ -4,22 +4,33 @@ use Rattle.std.proofs.Common.{◌∙◌, ap}
 use Rattle.motion_history.specs.Entries.{HistoryState}
 use Rattle.motion_history.specs.Kept.{state_of}
 use Rattle.motion_history.proofs.KeptLemmas.{HasRow, few-rows, has-cycle, row-room, row-next}
+use Rattle.motion_history.specs.Bits.{HasRowBits}
+use Rattle.motion_history.proofs.WholeLemmas.{each-more}
 use Rattle.motion_history.proofs.history.History.push_row.Goals as goal
 
 pub push_reserved-requires : goal.push_reserved-requires
 push_reserved-requires c =
     let h = c.self.inside in
-    row-room h.axis_rows h.made h.most h.axes c.self.invariant.axis_rows (has-cycle h _ c.self.invariant c.self.view_is c.requires.cycle)
-    c.self.invariant.axis_room (few-rows h _ c.self.view_is c.requires.room)
+    row-room h.axis_rows h.made h.most h.axes c.self.invariant.kept.axis_rows (has-cycle h _ c.self.invariant.kept c.self.view_is c.requires.cycle)
+    c.self.invariant.kept.axis_room (few-rows h _ c.self.view_is c.requires.room)
 
 next : (c : goal.After-push_reserved) → HasRow c.self.inside (record c.self.inside { axis_rows = c.push_reserved.new.self })
     ((state_of c.self.inside).rows ++ c.args.row ∷ []) (state_of c.self.inside).group_rows
 next c =
-    row-next c.self.inside c.push_reserved.new.self c.args.row c.self.invariant c.push_reserved.ensures.items c.push_reserved.ensures.len
+    row-next c.self.inside c.push_reserved.new.self c.args.row c.self.invariant.kept c.push_reserved.ensures.items c.push_reserved.ensures.len
     c.push_reserved.ensures.capacity
 
 pub invariant_of-self : goal.invariant_of-self
-invariant_of-self c = (next c).kept
+invariant_of-self c = record {
+  kept = (next c).kept;
+  bits = record {
+    calls = c.self.invariant.bits.calls;
+    axis_rows = each-more HasRowBits c.self.inside.axis_rows.items c.push_reserved.new.self.items c.args.row c.push_reserved.ensures.items
+        c.self.invariant.bits.axis_rows c.row_has_bits.ensures;
+    group_rows = c.self.invariant.bits.group_rows;
+  };
+  last = c.self.invariant.last;
+}
 
 pub returns : goal.returns
 returns c = (next c).state ∙ ap (λ (s : HistoryState). record s { rows = s.rows ++ c.args.row ∷ [] }) c.self.view_is

@@ -6,4 +6,4 @@ use Rattle.motion_history.proofs.history.History.room_left.Goals as goal
 pub returns : goal.returns
 returns c =
     let kept = kept-length c.self.inside in
-    rw (← c.self.view_is) (record { left = omega (arith, kept); within = omega (arith, kept, c.self.invariant.stored) })
+    rw (← c.self.view_is) (record { left = omega (arith, kept); within = omega (arith, kept, c.self.invariant.kept.stored) })
