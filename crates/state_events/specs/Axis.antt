@@ -30,22 +30,24 @@ abbrev pub state_by : AxisState → List AxisEvent → AxisState
 state_by s [] = s
 state_by s (e ∷ es) = state_by (next_of e) es
 
--- an event, if there is one; an event where this holds
+-- an event, if there is one
 abbrev pub events_by : Option AxisEvent → List AxisEvent
 events_by None = []
 events_by (Some e) = e ∷ []
 
+-- an event where this holds
 abbrev pub event_where : Bool → AxisEvent → List AxisEvent
 event_where holds e = if holds then e ∷ [] else []
 
--- a call of a command on the axis brings the event by which its command becomes active, where it
--- does; a GearOut and a CamOut their own
+-- the event by which a command becomes active in its call, where it does; a GearOut and a CamOut
+-- have their own
 abbrev pub begin_events : BlockKind → Option Wanted → List AxisEvent
 begin_events k None = []
 begin_events kind.GearOut (Some w) = out_event ∷ []
 begin_events kind.CamOut (Some w) = out_event ∷ []
 begin_events k (Some w) = events_by (event_of w.kind)
 
+-- the events of a command that is asked
 unfoldable pub command_events : Asked → Core → List AxisEvent
 command_events q c = begin_events q.wanted.kind (command_fate q c).begins
 
@@ -73,15 +75,18 @@ giving_events None [] s = last_events s
 giving_events None (w ∷ ws) s = event.Error ∷ []
 
 -- how the active command ends, if it does, in a state in which these wait
-abbrev pub ending_events : Option Finish → Option Wanted → List Wanted → AxisState → List AxisEvent
+abbrev pub ending_events : Option Finish → Option Wanted → List Wanted → AxisState →
+    List AxisEvent
 ending_events None begins ws s = []
 ending_events (Some (finish.Error n)) begins ws s = event.Error ∷ []
 ending_events (Some f) begins ws s = giving_events begins ws s
 
+-- what becomes of the active command
 abbrev pub fate_events : Fate → List Wanted → AxisState → List AxisEvent
 fate_events f ws s = ending_events f.ends f.begins ws s
 
--- the axis on its group's path leaves it where that ends, another does what becomes of its command
+-- an axis on its group's path leaves it where that ends; another goes by what becomes of its
+-- command
 abbrev pub step_events : AxisLook → Core → Fate → List AxisEvent
 step_events look c f =
     event_where (is_some (place_on_path c.axis look) && look.path_ends) event.PathRest
@@ -90,15 +95,16 @@ step_events look c f =
 -- then Stopping is left, where no command is active, the axis is at rest and nobody holds it
 abbrev pub release_events : AxisLook → AxisState → Axis → Axis → List AxisEvent
 release_events look s before after =
-    event_where (is_stopping s && not (is_some after.active) && is_at_rest after && is_released before.hold look.stop_held)
-    event.StopReleased
+    event_where (is_stopping s && not (is_some after.active) && is_at_rest after
+    && is_released before.hold look.stop_held) event.StopReleased
 
+-- both, where a driven spell goes on
 abbrev pub going_events : AxisLook → Core → Fate → Axis → List AxisEvent
 going_events look c f after =
     let step = step_events look c f in
     step ++ release_events look (state_by c.axis.state step) c.axis after
 
--- an axis that was not driven, or is not any more: the first row of a driven spell
+-- where none does: the first row of a driven spell, or none
 abbrev pub driven_events : Bool → AxisState → List AxisEvent
 driven_events true state.Disabled = event.DrivenFirst ∷ []
 driven_events driven s = []
@@ -111,16 +117,18 @@ run_events look c f after =
     else driven_events after.driven c.axis.state)
     else event.Error ∷ []
 
--- last a pending Reset that is done, in ErrorStop. MC_Reset
+-- a Reset leads from ErrorStop, by whether the axis is driven. MC_Reset
 abbrev pub reset_row : Bool → AxisState → List AxisEvent
 reset_row true state.ErrorStop = event.ResetDriven ∷ []
 reset_row false state.ErrorStop = event.ResetNotDriven ∷ []
 reset_row driven s = []
 
+-- last a pending Reset that is done
 abbrev pub reset_events : AxisState → Axis → Axis → List AxisEvent
 reset_events s before after =
     if is_some before.reset && not (is_some after.reset) then reset_row after.driven s else []
 
+-- all of a cycle, one after another
 abbrev pub events_in_cycle : AxisLook → Core → Fate → Axis → List AxisEvent
 events_in_cycle look c f after =
     let run = run_events look c f after in

@@ -1,5 +1,5 @@
--- By which events of its diagram a group changes its state in a cycle (PLCopen Motion Control Part
--- 4; their order within a cycle is this project's profile).
+-- By which events of its diagram a group changes its state, in a call and in a cycle (PLCopen Motion
+-- Control Part 4; their order within a cycle is this project's profile).
 use Rattle.std.specs.Prelude.{◌≡◌, ℤ, Bool, true, false, ◌&&◌, not, if◌then◌else◌, Option, Some, None, is_some, List, [], ◌∷◌, ◌++◌}
 use Rattle.std.specs.List.{list_any}
 use Rattle.command_pool.specs.declared.ending.Finish.{Finish}
@@ -30,10 +30,12 @@ abbrev pub Lead : GroupState → List GroupEvent → GroupState → Type 0
 Lead s [] t = t ≡ s
 Lead s (e ∷ es) t = IsFrom s e × Lead (next_of e) es t
 
+-- the state to which events lead, one after another
 abbrev pub state_by : GroupState → List GroupEvent → GroupState
 state_by s [] = s
 state_by s (e ∷ es) = state_by (next_of e) es
 
+-- an event where this holds
 abbrev pub event_where : Bool → GroupEvent → List GroupEvent
 event_where holds e = if holds then e ∷ [] else []
 
@@ -47,6 +49,7 @@ abbrev pub giving_events : Option Wanted → GroupState → List GroupEvent
 giving_events (Some w) s = event_of w.kind ∷ []
 giving_events None s = last_events s
 
+-- how the active command ends, if it does
 abbrev pub ending_events : Option Finish → Option Wanted → GroupState → List GroupEvent
 ending_events None begins s = []
 ending_events (Some f) begins s = giving_events begins s
@@ -54,8 +57,10 @@ ending_events (Some f) begins s = giving_events begins s
 -- then GroupStopping is left, where no command is active, nothing moves and nobody holds it
 abbrev pub release_events : Bool → GroupState → Group → Option OnPath → Group → List GroupEvent
 release_events held s before path after =
-    event_where (is_stopping s && not (is_some after.active) && not (is_moving path) && is_released before.hold held) event.StopReleased
+    event_where (is_stopping s && not (is_some after.active) && not (is_moving path)
+    && is_released before.hold held) event.StopReleased
 
+-- both, where no error of a member stops the group
 abbrev pub going_events : Bool → Fate → Core → Option OnPath → Group → List GroupEvent
 going_events held f c path after =
     let ends = ending_events f.ends f.begins c.group.state in
@@ -67,19 +72,20 @@ step_events members c after =
     if is_failing members c then event.MemberError ∷ []
     else going_events members.stop_held (cycle_fate members c) c (path_taken members c) after
 
--- and behind the cycles of its axes a pending GroupReset that is done, in GroupErrorStop
+-- a GroupReset leads from GroupErrorStop, by whether an axis is not in Standstill. MC_GroupReset
 abbrev pub reset_row : Bool → GroupState → List GroupEvent
 reset_row false state.GroupErrorStop = event.ResetAllStandstill ∷ []
 reset_row true state.GroupErrorStop = event.ResetElse ∷ []
 reset_row moved s = []
 
+-- behind the cycles of its axes a pending GroupReset that is done
 abbrev pub reset_events : GroupLook → Group → Group → List GroupEvent
 reset_events members before after =
     if is_some before.reset && not (is_some after.reset)
     then reset_row (list_any is_moved (states_in members)) before.state
     else []
 
--- a Power with Enable false on a member
+-- a Power with Enable false on a member. MC_Power
 abbrev pub power_off_events : GroupState → List GroupEvent
 power_off_events s = event_where (may_fail s) event.MemberError
 
@@ -93,9 +99,11 @@ admitted_events kind.GroupHalt w c = event.MoveAdmitted ∷ []
 admitted_events kind.MoveLinearAbsolute w c = event_where (is_line_active w c) event.MoveAdmitted
 admitted_events k w c = []
 
+-- a refused command brings none
 abbrev pub asked_events : Option Reason → Wanted → Core → List GroupEvent
 asked_events None w c = admitted_events w.kind w c
 asked_events (Some reason) w c = []
 
+-- the events of a command that is asked
 unfoldable pub command_events : Wanted → ℤ → GroupLook → Core → List GroupEvent
 command_events w jerk members c = asked_events (refusal_of (asked_in c w jerk members)) w c
