@@ -35,7 +35,8 @@ use Rattle.motion_kernel.proofs.kept.Detached.{disowned_kept}
 use Rattle.motion_kernel.proofs.kept.Events.{axis_beside_axis, axis_written, instance_kept}
 use Rattle.motion_kernel.proofs.kept.LedAxes.{led_twice}
 use Rattle.motion_laws.specs.entries.AxisEvents.{events_among, events_by_call, events_by_edge, events_by_kind, events_by_rising, led_events, member_events}
-use Rattle.motion_laws.proofs.entries.events.Laws.{EventLaws, both, one}
+use Rattle.motion_laws.proofs.entries.events.Laws.{EventLaws}
+use Rattle.motion_laws.proofs.walk.ByTest.{both, one}
 use Rattle.motion_laws.proofs.walk.AxisCalls.{IsThere, freed, freed_count, freed_lists, powered}
 use Rattle.state_events.specs.Axis.{command_events, power_events}
 use Rattle.state_events.specs.Laws.{AreAxisEvents}

@@ -29,7 +29,8 @@ use Rattle.motion_kernel.specs.members.Members.{membership_of}
 use Rattle.motion_kernel.proofs.kept.Detached.{disowned_size, group_disowned}
 use Rattle.motion_kernel.proofs.kept.Events.{group_beside_axis, group_beside_group, group_written}
 use Rattle.motion_laws.specs.entries.GroupEvents.{events_by_call, events_by_edge, events_by_kind, events_by_power_off, events_by_rising}
-use Rattle.motion_laws.proofs.entries.events.Laws.{EventLaws, both, one}
+use Rattle.motion_laws.proofs.entries.events.Laws.{EventLaws}
+use Rattle.motion_laws.proofs.walk.ByTest.{both, one}
 use Rattle.motion_laws.proofs.walk.GroupCalls.{IsAsked, IsThere, axis_command, group_led}
 use Rattle.state_events.specs.Group.{Lead, command_events, power_off_events}
 use Rattle.state_events.specs.Laws.{AreGroupEvents}
