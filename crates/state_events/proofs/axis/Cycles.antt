@@ -66,7 +66,7 @@ gone-by look c after may s =
     let at : a.state ≡ state_by c.axis.state es = led-to c.axis.state a.state es h in
     let t = through-advance look c in
     let same : leaves_stopping look a ≡ (is_stopping (state_by c.axis.state es) && not (is_some after.active) && is_at_rest after && is_released c.axis.hold look.stop_held) =
-        t.test ∙ (λ i. is_stopping (at i) && not (is_some (sym s.active i)) && sym s.rest i && is_released c.axis.hold look.stop_held) in
+    t.test ∙ (λ i. is_stopping (at i) && not (is_some (sym s.active i)) && sym s.rest i && is_released c.axis.hold look.stop_held) in
     let P : Bool → Type 0 = λ b. Lead a.state (event_where b event.StopReleased) (core_after_going_on look c).axis.state in
     lead-on c.axis.state a.state _ es (release_events look (state_by c.axis.state es) c.axis after) h
     (subst P same (stops-by (leaves_stopping look a) a (leaves-says look a)))
@@ -165,16 +165,16 @@ cycles-by g look c brought k =
     let on : after.driven ≡ d = driven-reset r.reset look.input r ∙ step-driven (d && read.axis.driven) d look read refl in
     let alike = reset-alike r.reset look.input r in
     let shown : nat_eq (answer_error_of c.axis look.input) 0 ≡ true → (d && c.axis.driven) ≡ true → IsShownOf (core_after_advance look c).axis after = λ e h.
-        let same = going-run look c e h in
-        let stop = stop-alike look (core_after_advance look c).axis in
-        record {
-          active = alike.active ∙ ap (λ (x : Core). x.axis.active) same ∙ stop.active;
-          rest = (λ i. int_eq (alike.setpoint i) (alike.previous i)) ∙ ap (λ (x : Core). is_at_rest x.axis) same ∙ (λ i. int_eq (stop.setpoint i) (stop.previous i));
-        } in
+    let same = going-run look c e h in
+    let stop = stop-alike look (core_after_advance look c).axis in
+    record {
+      active = alike.active ∙ ap (λ (x : Core). x.axis.active) same ∙ stop.active;
+      rest = (λ i. int_eq (alike.setpoint i) (alike.previous i)) ∙ ap (λ (x : Core). is_at_rest x.axis) same ∙ (λ i. int_eq (stop.setpoint i) (stop.previous i));
+    } in
     let may : nat_eq (answer_error_of c.axis look.input) 0 ≡ true → (d && c.axis.driven) ≡ true → is_error_stop c.axis.state ≡ false → MayTakeOver c.axis.state c.waiting = λ e h s.
-        let back : read ≡ c = if-true (nat_eq (answer_error_of c.axis look.input) 0) c (core_after_error (answer_error_of c.axis look.input) c) e in
-        let P : Core → Type 0 = λ x. (d && x.axis.driven) ≡ true → is_error_stop x.axis.state ≡ false → MayTakeOver x.axis.state x.waiting in
-        subst P back (λ y z. (may-go-on g look c brought k y).queue) h s in
+    let back : read ≡ c = if-true (nat_eq (answer_error_of c.axis look.input) 0) c (core_after_error (answer_error_of c.axis look.input) c) e in
+    let P : Core → Type 0 = λ x. (d && x.axis.driven) ≡ true → is_error_stop x.axis.state ≡ false → MayTakeOver x.axis.state x.waiting in
+    subst P back (λ y z. (may-go-on g look c brought k y).queue) h s in
     let P : Bool → Type 0 = λ x. Lead c.axis.state (if nat_eq (answer_error_of c.axis look.input) 0 then (if x && c.axis.driven then going_events look c f after else driven_events x c.axis.state) else event.Error ∷ []) r.state in
     let run : Lead c.axis.state (run_events look c f after) r.state = subst P (sym on) (answered-by (nat_eq (answer_error_of c.axis look.input) 0) look c after refl may shown) in
     let at : r.state ≡ state_by c.axis.state (run_events look c f after) = led-to c.axis.state r.state (run_events look c f after) run in

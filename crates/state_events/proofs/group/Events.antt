@@ -123,7 +123,7 @@ goes-by members c k =
     let h : Lead c.group.state es d.group.state = ends (limits_in members) members s o on k.waiting k.queue in
     let at = led-to c.group.state d.group.state es h in
     let same : leaves_stopping members.stop_held d.group d.path ≡ (is_stopping (state_by c.group.state es) && not (is_some d.group.active) && not (is_moving on.path) && is_released c.group.hold members.stop_held) =
-        test-ended members s o members.stop_held on ∙ (λ i. is_stopping (at i) && not (is_some d.group.active) && not (is_moving on.path) && is_released c.group.hold members.stop_held) in
+    test-ended members s o members.stop_held on ∙ (λ i. is_stopping (at i) && not (is_some d.group.active) && not (is_moving on.path) && is_released c.group.hold members.stop_held) in
     let P : Bool → Type 0 = λ b. Lead d.group.state (event_where b event.StopReleased) (released members.stop_held d).group.state in
     lead-on c.group.state d.group.state _ es (release_events members.stop_held (state_by c.group.state es) c.group on.path d.group) h
     (subst P same (leaves (leaves_stopping members.stop_held d.group d.path) d.group (λ e. (left-idle members.stop_held d.group d.path e).0)))
