@@ -40,4 +40,4 @@ pub record OpensBoth (config program : List ℕ) (after : Option held.Machine) :
 pub record IsOneRefused (config program : List ℕ) (told : MotionRefusal) : Type 0 where
   pub refused : TextRefused
   pub read : reading_of config program ≡ Err refused
-  pub told : IsTold refused told
+  pub tells : IsTold refused told

@@ -36,4 +36,4 @@ pub record IsTold (refused : TextRefused) (told : MotionRefusal) : Type 0 where
 pub record IsRefused (text : List ℕ) (told : MotionRefusal) : Type 0 where
   pub refused : TextRefused
   pub read : bench_of (with_go text) ≡ Err refused
-  pub told : IsTold refused told
+  pub tells : IsTold refused told
