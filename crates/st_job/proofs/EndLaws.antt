@@ -1,0 +1,184 @@
+-- What the course of the job says of its status.
+use Rattle.std.specs.Prelude.{◌≡◌, ◌⊎◌, refl, ℕ, true, false, Option, Some, IsSomeAnd, Result, Ok, Err, List}
+use Rattle.std.specs.Result.{IsOk, is_ok}
+use Rattle.std.proofs.Common.{◌∙◌, inl, inr, sym, ap, subst}
+use Rattle.job_ends.proofs.Statuses.{Statuses, apart, early-not, same-told, text-always}
+use Rattle.job_ends.specs.Readings.{is_of_text}
+use Rattle.job_ends.specs.Causes.{ComesExactly, is_fault, is_traced}
+use Rattle.job_ends.specs.Follows.{FollowPlans}
+use Rattle.job_ends.specs.declared.status.Status.{Status}
+use Rattle.job_ends.specs.declared.status.Status.TheVariants as status
+use Rattle.outside.specs.Faults.{Rose}
+use Rattle.outside.specs.Told.{FileMap}
+use Rattle.trace_text.specs.writing.Writes.{Output}
+use Rattle.st_job.proofs.CauseLaws.{LeadsTo, Planned}
+use Rattle.st_job.specs.Causes.{both_in, is_of_st}
+
+-- ---- statuses by their kinds
+
+text-unfaulted : (s : Status) → is_of_text s ≡ true → is_fault s ≡ false
+text-unfaulted (status.TooLong word) t = refl
+text-unfaulted (status.TextRefused word place rule) t = refl
+text-unfaulted s t = absurd (cc)
+
+text-of-st : (s : Status) → is_of_text s ≡ true → is_of_st s ≡ true
+text-of-st (status.TooLong word) t = refl
+text-of-st (status.TextRefused word place rule) t = refl
+text-of-st s t = absurd (cc)
+
+traced-of-st : (s : Status) → is_traced s ≡ true → is_of_st s ≡ true
+traced-of-st status.Ok t = refl
+traced-of-st status.CyclesOver t = refl
+traced-of-st status.HistoryFull t = refl
+traced-of-st s t = absurd (cc)
+
+traced-no-text : (s : Status) → is_traced s ≡ true → is_of_text s ≡ false
+traced-no-text status.Ok t = refl
+traced-no-text status.CyclesOver t = refl
+traced-no-text status.HistoryFull t = refl
+traced-no-text s t = absurd (cc)
+
+-- ---- what a status that the job leads to says
+
+unread-why : (told : Option FileMap) (rose : Type 0) (config program : List ℕ)
+    (p : Status) (word : ℕ) → LeadsTo told rose config program p →
+    p ≡ status.ReadFault word → rose ⊎
+    IsSomeAnd told (λ files. both_in files config program ≡ Err (status.ReadFault word))
+unread-why told rose config program p word (inl (inl (other, is, h))) e =
+    let same : other ≡ word =
+    let faults : status.ReadFault other ≡ status.ReadFault word = sym is ∙ e in cc in
+    subst (λ w. rose ⊎
+    IsSomeAnd told (λ files. both_in files config program ≡ Err (status.ReadFault w))) same h
+unread-why told rose config program p word (inl (inr h)) e =
+    absurd (apart is_of_text p (status.ReadFault word) h.0 refl e)
+unread-why told rose config program p word (inr (t, given)) e =
+    absurd (apart is_traced p (status.ReadFault word) t refl e)
+
+not-written : (told : Option FileMap) (rose : Type 0) (config program : List ℕ)
+    (p : Status) → LeadsTo told rose config program p → p ≡ status.WriteFault → ⊥
+not-written told rose config program p (inl (inl (word, is, h))) e =
+    let bad : status.ReadFault word ≡ status.WriteFault = sym is ∙ e in cc
+not-written told rose config program p (inl (inr h)) e =
+    apart is_of_text p status.WriteFault h.0 refl e
+not-written told rose config program p (inr (t, given)) e =
+    apart is_traced p status.WriteFault t refl e
+
+kind-of : (told : Option FileMap) (rose : Type 0) (config program : List ℕ)
+    (p : Status) → LeadsTo told rose config program p → is_of_st p ≡ true
+kind-of told rose config program p (inl (inl (word, is, h))) = ap is_of_st is
+kind-of told rose config program p (inl (inr h)) = text-of-st p h.0
+kind-of told rose config program p (inr (t, given)) = traced-of-st p t
+
+-- both that are given are not wanting
+given-not-wanting : {A : Type 0} (r : Result A Status) (s : Status) → IsOk r → r ≡ Err s → ⊥
+given-not-wanting r s given e = let bad : true ≡ false = sym given ∙ ap is_ok e in cc
+
+-- what tells of a file's text comes of the files
+of-files : (files : FileMap) (rose : Type 0) (config program : List ℕ)
+    (p wanted : Status) → is_of_text wanted ≡ true →
+    LeadsTo (Some files) rose config program p → p ≡ wanted →
+    both_in files config program ≡ Err wanted
+of-files files rose config program p wanted t (inl (inl (word, is, h))) e =
+    absurd (apart is_of_text wanted (status.ReadFault word) t refl (sym e ∙ is))
+of-files files rose config program p wanted t (inl (inr h)) e =
+    subst (λ s. both_in files config program ≡ Err s) e h.1
+of-files files rose config program p wanted t (inr (traced, given)) e =
+    absurd (apart is_of_text wanted p t (traced-no-text p traced) (sym e))
+
+to-files : (files : FileMap) (rose : Type 0) (config program : List ℕ)
+    (p wanted : Status) → LeadsTo (Some files) rose config program p →
+    both_in files config program ≡ Err wanted → (is_fault p ≡ true) ⊎ (p ≡ wanted)
+to-files files rose config program p wanted (inl (inl (word, is, h))) e =
+    inl (ap is_fault is)
+to-files files rose config program p wanted (inl (inr h)) e =
+    inr (same-told (both_in files config program) p wanted h.1 e)
+to-files files rose config program p wanted (inr (h, given)) e =
+    absurd (given-not-wanting (both_in files config program) wanted given e)
+
+-- ---- the status itself
+
+kind-stays : (s p : Status) (R : Type 0) → Statuses s p R → is_of_st p ≡ true → is_of_st s ≡ true
+kind-stays s p R (inl e) k = ap is_of_st e ∙ k
+kind-stays s p R (inr (inl e)) k = ap is_of_st e.0
+kind-stays s p R (inr (inr e)) k = ap is_of_st e
+
+trace-stays : (s p : Status) (R : Type 0) → Statuses s p R → (R → ⊥) → is_traced p ≡ true →
+    (is_traced s ≡ true) ⊎ (s ≡ status.OutOfMemory)
+trace-stays s p R (inl e) none t = inl (ap is_traced e ∙ t)
+trace-stays s p R (inr (inl e)) none t = absurd (none e.1)
+trace-stays s p R (inr (inr e)) none t = inr e
+
+-- ---- what each field of the end says
+
+pub unread-of : FollowPlans → (told : Option FileMap) (rose : Type 0)
+    (config program : List ℕ) (old new : Output) (s : Status) (word : ℕ) →
+    Planned told rose config program old new s → s ≡ status.ReadFault word →
+    rose ⊎ IsSomeAnd told (λ files. both_in files config program ≡ Err (status.ReadFault word))
+unread-of follow told rose config program old new s word (inl e) h =
+    absurd (early-not s (status.ReadFault word) e.status h (λ x. absurd (cc)))
+unread-of follow told rose config program old new s word (inr p) h =
+    unread-why told rose config program p.plan.status word p.leads
+    (follow.only old new p.plan s (status.ReadFault word) p.ends h (λ x. absurd (cc))
+    (λ x. absurd (cc)))
+
+pub unwritten-of : FollowPlans → (told : Option FileMap) (rose : Type 0)
+    (config program : List ℕ) (old new : Output) (s : Status) →
+    Planned told rose config program old new s → s ≡ status.WriteFault →
+    Rose old.count new.count
+unwritten-of follow told rose config program old new s (inl e) h =
+    absurd (early-not s status.WriteFault e.status h (λ x. absurd (cc)))
+unwritten-of follow told rose config program old new s (inr p) h =
+    follow.write old new p.plan s p.ends
+    (λ e. absurd (not-written told rose config program p.plan.status p.leads e)) h
+
+pub kind-by : FollowPlans → (told : Option FileMap) (rose : Type 0)
+    (config program : List ℕ) (old new : Output) (s : Status) →
+    Planned told rose config program old new s → is_of_st s ≡ true
+kind-by follow told rose config program old new s (inl e) = ap is_of_st e.status
+kind-by follow told rose config program old new s (inr p) =
+    kind-stays s p.plan.status (Rose old.count new.count)
+    (follow.statuses old new p.plan s p.ends)
+    (kind-of told rose config program p.plan.status p.leads)
+
+pub of-text-by : FollowPlans → (files : FileMap) (rose : Type 0)
+    (config program : List ℕ) (old new : Output) (s wanted : Status) → is_of_text wanted ≡ true →
+    Planned (Some files) rose config program old new s →
+    ComesExactly s wanted (both_in files config program ≡ Err wanted)
+of-text-by follow files rose config program old new s wanted t (inl e) = record {
+  only = λ h. absurd (early-not s wanted e.status h
+      (λ x. absurd (apart is_of_text wanted status.OutOfMemory t refl x)));
+  always = λ c. inr (ap is_fault e.status);
+}
+of-text-by follow files rose config program old new s wanted t (inr p) =
+    let comes : ComesExactly s wanted (p.plan.status ≡ wanted) =
+    follow.comes old new p.plan s wanted p.ends (text-unfaulted wanted t) in
+    record {
+      only = λ h. of-files files rose config program p.plan.status wanted t p.leads
+          (comes.only h);
+      always = λ c. text-always s p.plan.status wanted (Rose old.count new.count)
+          (follow.statuses old new p.plan s p.ends) comes
+          (to-files files rose config program p.plan.status wanted p.leads c);
+    }
+
+-- where both are given there is a trace
+given-traced : (files : FileMap) (rose : Type 0) (config program : List ℕ) (p : Status) →
+    LeadsTo (Some files) rose config program p → IsOk (both_in files config program) →
+    (rose → ⊥) → is_traced p ≡ true
+given-traced files rose config program p (inl (inl (word, is, inl h))) given r =
+    absurd (r h)
+given-traced files rose config program p (inl (inl (word, is, inr h))) given r =
+    absurd (given-not-wanting (both_in files config program) (status.ReadFault word) given h)
+given-traced files rose config program p (inl (inr h)) given r =
+    absurd (given-not-wanting (both_in files config program) p given h.1)
+given-traced files rose config program p (inr (t, given2)) given r = t
+
+pub complete-by : FollowPlans → (files : FileMap) (rose : Type 0)
+    (config program : List ℕ) (old new : Output) (s : Status) →
+    Planned (Some files) rose config program old new s →
+    IsOk (both_in files config program) → (rose → ⊥) →
+    (Rose old.count new.count → ⊥) → (is_traced s ≡ true) ⊎ (s ≡ status.OutOfMemory)
+complete-by follow files rose config program old new s (inl e) given r w = inr e.status
+complete-by follow files rose config program old new s (inr p) given r w =
+    trace-stays s p.plan.status (Rose old.count new.count)
+    (follow.statuses old new p.plan s p.ends) w
+    (given-traced files rose config program p.plan.status p.leads given r)

@@ -1,0 +1,17 @@
+pub mod MadeLaws
+pub mod Kept
+pub mod ScanLaws
+pub mod ScanEnds
+pub mod TurnLaws
+pub mod RoundLaws
+pub mod OpenLaws
+pub mod ReadyLaws
+pub mod StepLaws
+pub mod OwnEntries
+pub mod TaskScans
+pub mod AllScans
+pub mod TraceLaws
+pub mod GivenLaws
+pub mod CauseLaws
+pub mod EndLaws
+pub mod HeadlineLaws

@@ -1,0 +1,41 @@
+-- The trace of a run that was written.
+use Rattle.std.specs.Prelude.{◌≡◌, true, false, Result, List, map}
+use Rattle.std.proofs.Common.{◌∙◌, sym, ap, subst}
+use Rattle.bench_run.specs.Going.{run_at}
+use Rattle.bench_run.specs.Run.{Run}
+use Rattle.bench_run.specs.declared.bench.RunFault.{RunFault}
+use Rattle.drive_sim.specs.Sim.{DriveSim}
+use Rattle.job_ends.specs.Causes.{is_traced}
+use Rattle.job_ends.specs.Ends.{EndsBy, status_by}
+use Rattle.job_ends.specs.declared.status.Status.{Status}
+use Rattle.machine_drives.specs.Drives.{drive_end}
+use Rattle.motion_history.specs.Entries.{cycles_of}
+use Rattle.motion_history.specs.declared.refused.TraceVersion.TheVariants.{Two}
+use Rattle.motion_kernel.specs.KernelState.{KernelState}
+use Rattle.trace_text.specs.Trace.{trace_text}
+use Rattle.trace_text.specs.writing.Writes.{Output, Writes}
+use Rattle.trace_text.specs.declared.command.Command.TheVariants as command
+use Rattle.trace_text.specs.declared.writing.write.TraceFault.{TraceFault}
+use Rattle.st_job.specs.Cell.{Cell}
+use Rattle.st_job.specs.LegalRun.{IsLegalRun}
+use Rattle.st_job.specs.Plans.{drive_ends, plan_of, status_of}
+use Rattle.st_job.specs.Rounds.{run_of}
+
+-- the trace is that of the machine's run, and the status is the run's
+pub wrote : (old new : Output) (c : Cell) (k : KernelState) (drives : List DriveSim)
+    (ending : Result (Unit {0}) RunFault) (written : Result (Unit {0}) TraceFault) →
+    run_at k drives ending ≡ run_of c →
+    Writes old new
+    (trace_text Two command.Run c.setup k.history (map (drive_end (cycles_of k.history)) drives))
+    written → EndsBy old new (plan_of c) (status_by (status_of ending) written)
+wrote old new c k drives ending written e w = record {
+  written = written;
+  writes = subst (λ t. Writes old new t written)
+      (ap (λ (r : Run). trace_text Two command.Run c.setup r.history (drive_ends r)) e) w;
+  status = ap (λ (r : Run). status_by (status_of r.ending) written) e;
+}
+
+-- where there is no trace nothing is said of the run
+pub untraced-legal : (c : Cell) (s : Status) → is_traced s ≡ false → is_traced s ≡ true →
+    IsLegalRun c
+untraced-legal c s e t = absurd (let bad : true ≡ false = sym t ∙ e in cc)

@@ -1,0 +1,14 @@
+pub mod Cell
+pub mod Rounds
+pub mod Ready
+pub mod Playing
+pub mod Players
+pub mod Opening
+pub mod Controllers
+pub mod LegalRun
+pub mod Plans
+pub mod Given
+pub mod Causes
+pub mod Headline
+pub mod Ends
+pub mod TaskScans

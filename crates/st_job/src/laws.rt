@@ -1,0 +1,34 @@
+// Laws of rounds: each is the contract of a function that does nothing.
+
+ghost use Rattle.std.specs.Prelude.{◌≡◌, ℕ, Some, slice_get};
+ghost use Rattle.bench_run.specs.InStep.{AreInStep};
+ghost use Rattle.machine_drives.specs.Drives.{drives_at_opening};
+ghost use Rattle.st_tree.specs.declared.program.Task.{Task};
+ghost use Rattle.st_job.specs.Cell.{Cell};
+ghost use Rattle.st_job.specs.Ready.{AreReady};
+ghost use Rattle.st_job.specs.Rounds.{run_of};
+ghost use Rattle.st_job.specs.TaskScans.{IsMadeBy, own_entries};
+
+use bench_run::events_keep_drives_in_step;
+use st_exec::{scans_ask_in_order, scans_have_their_operands};
+
+/// The drives of a machine that is run with its tasks are in step with its history: each is where the
+/// outputs of its axis lead it, and the rows of each cycle are the machine's with the answers that
+/// the drives give after the cycles before it. Nothing runs.
+pub fn rounds_are_in_step()
+    ensures { (c : Cell) → AreInStep c.setup (drives_at_opening c.setup.axes c.drives) (run_of c) }
+{
+    events_keep_drives_in_step();
+}
+
+/// The entries of each task in the history of a run are those of its scans, each with its own
+/// replies: the calls of a scan in their order and each once, from the variables and last replies that
+/// the scan before left, and the task's end behind its last. Nothing runs.
+pub fn tasks_make_their_scans()
+    ensures { (c : Cell) → AreReady c.setup c.cycle_us c.trees → (n : ℕ) (t : Task) →
+        slice_get c.trees n ≡ Some t →
+        IsMadeBy c n t (own_entries c.setup n (run_of c).history) }
+{
+    scans_ask_in_order();
+    scans_have_their_operands();
+}

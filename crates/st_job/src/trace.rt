@@ -1,0 +1,87 @@
+// A machine is run with its tasks, and its trace written.
+
+ghost use Rattle.std.specs.Prelude.{◌≡◌, IfOk, length, map, true};
+ghost use Rattle.job_ends.specs.Causes.{is_traced};
+ghost use Rattle.job_ends.specs.Ends.{EndsBy};
+ghost use Rattle.machine_drives.specs.Drives.{drive_end};
+ghost use Rattle.motion_history.specs.Entries.{cycles_of};
+ghost use Rattle.st_job.specs.Controllers.{cell_of};
+ghost use Rattle.st_job.specs.LegalRun.{IsLegalRun};
+ghost use Rattle.st_job.specs.Plans as plans;
+ghost use Rattle.st_job.specs.Ready.{AreReady};
+ghost use Rattle.trace_text.specs.Trace.{trace_text};
+ghost use Rattle.trace_text.specs.writing.Writes.{Writes};
+
+use crate::cell::Controller;
+use crate::run::run_rounds;
+use bench_run::{Ran, RunFault};
+use job_ends::{Status, ends_follow_plans, status_by};
+use machine_drives::end_rows;
+use motion_history::TraceVersion;
+use outside::Sink;
+use std::alloc::{AllocError, Global};
+use trace_text::{Command, DriveEndRow, TraceFault, parts_are_beginnings, write_trace};
+
+/// Runs a machine with its tasks, and writes its trace.
+pub fn run_cell<K: Sink>(alloc: Global, cell: &Controller, out: &mut K) -> Status
+    requires ready { AreReady cell.now.config cell.now.code.us cell.now.program.tasks.items }
+    ensures ends { EndsBy (record { count = K.count out.old; told = K.told out.old })
+        (record { count = K.count out.new; told = K.told out.new })
+        (plans.plan_of (cell_of cell.now)) result }
+    ensures legal { is_traced result ≡ true → IsLegalRun (cell_of cell.now) }
+{
+    ends_follow_plans();
+    let Ok(ran) = run_rounds(alloc, cell) else {
+        return Status::OutOfMemory;
+    };
+    status_by(status_of(ran.ending), write_run(alloc, cell, &ran, out))
+}
+
+// The status that a run ends with.
+fn status_of(ending: Result<(), RunFault>) -> Status
+    ensures { result ≡ plans.status_of ending }
+{
+    match ending {
+        Ok(()) => Status::Ok,
+        Err(RunFault::CyclesOver) => Status::CyclesOver,
+        Err(RunFault::HistoryFull) => Status::HistoryFull,
+    }
+}
+
+// Writes the trace of a run.
+fn write_run<K: Sink>(
+    alloc: Global,
+    cell: &Controller,
+    ran: &Ran,
+    out: &mut K,
+) -> Result<(), TraceFault>
+    requires config { ran.now.kernel.config ≡ cell.now.config }
+    requires each { length ran.now.drives.items ≡ length cell.now.config.axes }
+    ensures { Writes (record { count = K.count out.old; told = K.told out.old })
+        (record { count = K.count out.new; told = K.told out.new })
+        (trace_text TraceVersion.Two Command.Run cell.now.config ran.now.kernel.history
+        (map (drive_end (cycles_of ran.now.kernel.history)) ran.now.drives.items)) result }
+{
+    parts_are_beginnings();
+    let history = ran.kernel.history();
+    let Ok(drives) = ends_of(alloc, ran) else {
+        return Err(TraceFault::OutOfMemory);
+    };
+    write_trace(
+        alloc,
+        TraceVersion::Two,
+        Command::Run,
+        &cell.config,
+        history,
+        drives.as_slice(),
+        out,
+    )
+}
+
+// How the drives of a run ended.
+fn ends_of(alloc: Global, ran: &Ran) -> Result<Vec<DriveEndRow>, AllocError>
+    ensures { IfOk result (λ rows. rows.items ≡
+        map (drive_end (cycles_of ran.now.kernel.history)) ran.now.drives.items) }
+{
+    end_rows(alloc, ran.kernel.cycles_made(), ran.drives.as_slice())
+}
