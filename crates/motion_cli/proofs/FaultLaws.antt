@@ -2,7 +2,7 @@
 use Rattle.std.specs.Prelude.{◌≡◌, ◌≢◌, ◌⊎◌, refl, ℕ, true, false, Option, Some, None, IsSomeAnd, Err, List}
 use Rattle.std.specs.Result.{IsOk}
 use Rattle.std.specs.Option.{option_and_then}
-use Rattle.std.proofs.Common.{◌∙◌, inl, inr, sym, subst}
+use Rattle.std.proofs.Common.{◌∙◌, inl, inr, sym, ap, subst}
 use Rattle.std.proofs.lemmas.Bool.{cases_Bool}
 use Rattle.job_ends.specs.Causes.{ComesExactly, is_fault, is_traced}
 use Rattle.job_ends.specs.Ends.{Content, Found, IsFound, Longer, Unread}
@@ -14,16 +14,17 @@ use Rattle.load_job.specs.Ends.{load_plan}
 use Rattle.outside.specs.Faults.{Rose}
 use Rattle.outside.specs.Told.{FileMap, LacksFile}
 use Rattle.run_job.specs.Causes.{plant_in}
+use Rattle.st_job.specs.Causes.{both_in, is_of_st}
 use Rattle.trace_text.specs.writing.Writes.{Output}
-use Rattle.motion_cli.proofs.CauseLaws.{neither, no-run}
+use Rattle.motion_cli.proofs.CauseLaws.{AsksNoRun, neither, no-run, no-tasks}
 use Rattle.motion_cli.proofs.FileLaws.{ends-by, ends-for, plan_of}
 use Rattle.motion_cli.proofs.PlanLaws.{by-plan, not-told}
 use Rattle.motion_cli.proofs.ReportLaws.{no-report, report-unread, report-unwritten}
-use Rattle.motion_cli.specs.Causes.{Asks, AsksInVain, AsksRun, LacksNone, RunsInVain}
+use Rattle.motion_cli.specs.Causes.{Asks, AsksInVain, AsksRun, AsksTasks, LacksNone, RunsInVain, TasksInVain}
 use Rattle.motion_cli.specs.Ends.{EndsByFound, EndsByRequest}
 use Rattle.motion_cli.specs.Plans.{most_of, plan_of_text, usage_plan}
 use Rattle.motion_cli.specs.Reports.{AsksWithAll, LacksFor, ReportsInVain}
-use Rattle.command_words.specs.Requests.{FileJob, Report, Request, RunFiles, file_of, files_of, load_of, of_file, of_load, of_report, of_run, told_report}
+use Rattle.command_words.specs.Requests.{FileJob, Report, Request, RunFiles, file_of, files_of, load_of, of_file, of_load, of_report, of_run, of_tasks, tasks_of, told_report}
 use Rattle.command_words.specs.declared.request.Job.{Job}
 
 -- Usage
@@ -39,9 +40,10 @@ pub usage-comes : FollowPlans → (told : Option FileMap) (rose refused : Type 0
     (Started : ℕ → Type 0) (asked : Option Request) (old new : Output) (s : Status) →
     EndsByRequest told rose refused Started asked old new s → ComesExactly s status.Usage
     ((option_and_then file_of asked ≡ None) × (option_and_then load_of asked ≡ None) ×
-    (option_and_then files_of asked ≡ None) × (option_and_then told_report asked ≡ None))
+    (option_and_then files_of asked ≡ None) × (option_and_then tasks_of asked ≡ None) ×
+    (option_and_then told_report asked ≡ None))
 usage-comes follow told rose refused Started None old new s e =
-    record { only = λ h. (refl, refl, refl, refl); always = λ h. by-plan follow old new usage_plan s e }
+    record { only = λ h. (refl, refl, refl, refl, refl); always = λ h. by-plan follow old new usage_plan s e }
 usage-comes follow told rose refused Started (Some (of_file r)) old new s (inl e) = record {
   only = λ h. absurd (no-usage r e.found old new s e.ends
       (follow.only old new (plan_of r e.found) s status.Usage
@@ -62,9 +64,13 @@ usage-comes follow told rose refused Started (Some (of_load seed)) old new s e =
       (λ x. absurd (cc)) in cc);
   always = λ h. absurd (let bad : Some seed ≡ None = h.1 in cc);
 }
+usage-comes follow told rose refused Started (Some (of_tasks r)) old new s e = record {
+  only = λ h. absurd (no-tasks s status.Usage e.kind refl h);
+  always = λ h. absurd (let bad : Some r ≡ None = h.3 in cc);
+}
 usage-comes follow told rose refused Started (Some (of_report r)) old new s e = record {
   only = λ h. absurd (no-report told rose r old new s status.Usage e refl h);
-  always = λ h. absurd (let bad : Some r ≡ None = h.3 in cc);
+  always = λ h. absurd (let bad : Some r ≡ None = h.4 in cc);
 }
 
 -- ReadFault
@@ -89,27 +95,35 @@ found-unread follow told rose r old new s word (Content text) is e h =
     (λ x. absurd (cc)) (λ x. absurd (cc))))
 
 -- it failed for a file, or for one of a run or of a report
-abbrev pub InVain : Option FileMap → Option FileJob → Option RunFiles → Option Report → ℕ → Type 0
-InVain told file run report word =
-    (((word ≡ 1) × AsksInVain told file) ⊎ RunsInVain told run word) ⊎
-    ReportsInVain told report word
+abbrev pub InVain : Option FileMap → Option FileJob → Option RunFiles → Option RunFiles →
+    Option Report → ℕ → Type 0
+InVain told file run tasks report word =
+    ((((word ≡ 1) × AsksInVain told file) ⊎ RunsInVain told run word) ⊎
+    TasksInVain told tasks word) ⊎ ReportsInVain told report word
 
 run-unread : (told : Option FileMap) (rose : Type 0) (r : RunFiles) (word : ℕ) →
     rose ⊎ IsSomeAnd told
     (λ files. plant_in files r.config r.program ≡ Err (status.ReadFault word)) →
-    rose ⊎ InVain told None (Some r) None word
+    rose ⊎ InVain told None (Some r) None None word
 run-unread told rose r word (inl h) = inl h
-run-unread told rose r word (inr h) = inr (inl (inr h))
+run-unread told rose r word (inr h) = inr (inl (inl (inr h)))
+
+tasks-unread : (told : Option FileMap) (rose : Type 0) (r : RunFiles) (word : ℕ) →
+    rose ⊎ IsSomeAnd told
+    (λ files. both_in files r.config r.program ≡ Err (status.ReadFault word)) →
+    rose ⊎ InVain told None None (Some r) None word
+tasks-unread told rose r word (inl h) = inl h
+tasks-unread told rose r word (inr h) = inr (inl (inr h))
 
 file-unread : (told : Option FileMap) (rose : Type 0) (r : FileJob) (word : ℕ) → word ≡ 1 →
     rose ⊎ LacksFile told r.name →
-    rose ⊎ InVain told (Some r) None None word
+    rose ⊎ InVain told (Some r) None None None word
 file-unread told rose r word first (inl h) = inl h
-file-unread told rose r word first (inr h) = inr (inl (inl (first, h)))
+file-unread told rose r word first (inr h) = inr (inl (inl (inl (first, h))))
 
 report-vain : (told : Option FileMap) (rose : Type 0) (r : Report) (word : ℕ) →
     rose ⊎ IsSomeAnd told (λ files. LacksFor files r word) →
-    rose ⊎ InVain told None None (Some r) word
+    rose ⊎ InVain told None None None (Some r) word
 report-vain told rose r word (inl h) = inl h
 report-vain told rose r word (inr h) = inr (inr h)
 
@@ -117,7 +131,7 @@ pub unread-why : FollowPlans → (told : Option FileMap) (rose refused : Type 0)
     (Started : ℕ → Type 0) (asked : Option Request) (old new : Output) (s : Status) (word : ℕ) →
     EndsByRequest told rose refused Started asked old new s → s ≡ status.ReadFault word →
     rose ⊎ InVain told (option_and_then file_of asked) (option_and_then files_of asked)
-    (option_and_then told_report asked) word
+    (option_and_then tasks_of asked) (option_and_then told_report asked) word
 unread-why follow told rose refused Started None old new s word e h =
     absurd (let bad : status.Usage ≡ status.ReadFault word =
     follow.only old new usage_plan s (status.ReadFault word) e h
@@ -129,6 +143,8 @@ unread-why follow told rose refused Started (Some (of_file r)) old new s word (i
     absurd (let bad : status.OutOfMemory ≡ status.ReadFault word = sym e.status ∙ h in cc)
 unread-why follow told rose refused Started (Some (of_run r)) old new s word e h =
     run-unread told rose r word (e.unread word h)
+unread-why follow told rose refused Started (Some (of_tasks r)) old new s word e h =
+    tasks-unread told rose r word (e.unread word h)
 unread-why follow told rose refused Started (Some (of_load seed)) old new s word e h =
     absurd (let bad : status.Ok ≡ status.ReadFault word =
     follow.only old new (load_plan seed) s (status.ReadFault word) e.by.ends h
@@ -159,6 +175,8 @@ refused-why follow told rose refused Started (Some (of_file r)) old new s (inl e
 refused-why follow told rose refused Started (Some (of_file r)) old new s (inr e) h =
     absurd (let bad : status.OutOfMemory ≡ status.ThreadRefused = sym e.status ∙ h in cc)
 refused-why follow told rose refused Started (Some (of_run r)) old new s e h = e.refuses h
+refused-why follow told rose refused Started (Some (of_tasks r)) old new s e h =
+    absurd (let bad : false ≡ true = sym (ap is_of_st h) ∙ e.kind in cc)
 refused-why follow told rose refused Started (Some (of_load seed)) old new s e h =
     absurd (let bad : status.Ok ≡ status.ThreadRefused =
     follow.only old new (load_plan seed) s status.ThreadRefused e.by.ends h
@@ -187,6 +205,7 @@ write-why follow told rose refused Started (Some (of_file r)) old new s (inl e) 
 write-why follow told rose refused Started (Some (of_file r)) old new s (inr e) h =
     absurd (let bad : status.OutOfMemory ≡ status.WriteFault = sym e.status ∙ h in cc)
 write-why follow told rose refused Started (Some (of_run r)) old new s e h = e.unwritten h
+write-why follow told rose refused Started (Some (of_tasks r)) old new s e h = e.unwritten h
 write-why follow told rose refused Started (Some (of_load seed)) old new s e h =
     follow.write old new (load_plan seed) s e.by.ends (λ x. absurd (cc)) h
 write-why follow told rose refused Started (Some (of_report r)) old new s e h =
@@ -200,34 +219,40 @@ in-vain files P (Some r) v h = subst (λ o. IsSomeAnd o (P r.job)) v h
 
 -- the words ask for a file that is there, or for a run or a report that lacks none
 abbrev pub IsAllThere : (Job → List ℕ → Type 0) → FileMap → Option Request → Type 0
-IsAllThere P files asked = (Asks P files (option_and_then file_of asked) ⊎
+IsAllThere P files asked = ((Asks P files (option_and_then file_of asked) ⊎
     AsksRun LacksNone files (option_and_then files_of asked)) ⊎
+    AsksTasks LacksNone files (option_and_then tasks_of asked)) ⊎
     AsksWithAll files (option_and_then told_report asked)
+
+-- one of four, where three can't be
+abbrev Four : Type 0 → Type 0 → Type 0 → Type 0 → Type 0
+Four A B C D = ((A ⊎ B) ⊎ C) ⊎ D
+
+none-of : (A B C D : Type 0) → (A → ⊥) → (B → ⊥) → (C → ⊥) → (D → ⊥) → Four A B C D → ⊥
+none-of A B C D a b c d (inl (inl (inl h))) = a h
+none-of A B C D a b c d (inl (inl (inr h))) = b h
+none-of A B C D a b c d (inl (inr h)) = c h
+none-of A B C D a b c d (inr h) = d h
 
 no-file : (files : FileMap) (P : Job → List ℕ → Type 0) (asked : Option Request) (word : ℕ) →
     IsAllThere P files asked → InVain (Some files) (option_and_then file_of asked)
-    (option_and_then files_of asked) (option_and_then told_report asked) word → ⊥
-no-file files P None word (inl (inl h)) v = h
-no-file files P None word (inl (inr h)) v = h
-no-file files P None word (inr h) v = h
-no-file files P (Some (of_file r)) word (inl (inl h)) (inl (inl v)) = in-vain files P (Some r) v.1 h
-no-file files P (Some (of_file r)) word (inl (inl h)) (inl (inr v)) = v
-no-file files P (Some (of_file r)) word (inl (inl h)) (inr v) = v
-no-file files P (Some (of_file r)) word (inl (inr h)) v = h
-no-file files P (Some (of_file r)) word (inr h) v = h
-no-file files P (Some (of_run r)) word (inl (inl h)) v = h
-no-file files P (Some (of_run r)) word (inl (inr h)) (inl (inl v)) = v.1
-no-file files P (Some (of_run r)) word (inl (inr h)) (inl (inr v)) = h word v
-no-file files P (Some (of_run r)) word (inl (inr h)) (inr v) = v
-no-file files P (Some (of_run r)) word (inr h) v = h
-no-file files P (Some (of_load seed)) word (inl (inl h)) v = h
-no-file files P (Some (of_load seed)) word (inl (inr h)) v = h
-no-file files P (Some (of_load seed)) word (inr h) v = h
-no-file files P (Some (of_report r)) word (inl (inl h)) v = h
-no-file files P (Some (of_report r)) word (inl (inr h)) v = h
-no-file files P (Some (of_report r)) word (inr h) (inl (inl v)) = v.1
-no-file files P (Some (of_report r)) word (inr h) (inl (inr v)) = v
-no-file files P (Some (of_report r)) word (inr h) (inr v) = h word v
+    (option_and_then files_of asked) (option_and_then tasks_of asked)
+    (option_and_then told_report asked) word → ⊥
+no-file files P None word h v = none-of ⊥ ⊥ ⊥ ⊥ (λ x. x) (λ x. x) (λ x. x) (λ x. x) h
+no-file files P (Some (of_file r)) word h v =
+    none-of _ ⊥ ⊥ ⊥ (λ is. none-of _ ⊥ ⊥ ⊥ (λ u. in-vain files P (Some r) u.1 is) (λ x. x) (λ x. x)
+    (λ x. x) v) (λ x. x) (λ x. x) (λ x. x) h
+no-file files P (Some (of_run r)) word h v =
+    none-of ⊥ _ ⊥ ⊥ (λ x. x) (λ is. none-of _ _ ⊥ ⊥ (λ u. u.1) (λ u. is word u) (λ x. x) (λ x. x) v)
+    (λ x. x) (λ x. x) h
+no-file files P (Some (of_load seed)) word h v =
+    none-of ⊥ ⊥ ⊥ ⊥ (λ x. x) (λ x. x) (λ x. x) (λ x. x) h
+no-file files P (Some (of_tasks r)) word h v =
+    none-of ⊥ ⊥ _ ⊥ (λ x. x) (λ x. x) (λ is. none-of _ ⊥ _ ⊥ (λ u. u.1) (λ x. x) (λ u. is word u)
+    (λ x. x) v) (λ x. x) h
+no-file files P (Some (of_report r)) word h v =
+    none-of ⊥ ⊥ ⊥ _ (λ x. x) (λ x. x) (λ x. x) (λ is. none-of _ ⊥ ⊥ _ (λ u. u.1) (λ x. x) (λ x. x)
+    (λ u. is word u) v) h
 
 pub fault-by : FollowPlans → (files : FileMap) (rose refused : Type 0) (Started : ℕ → Type 0)
     (asked : Option Request) (old new : Output) (s : Status) (P : Job → List ℕ → Type 0) →
@@ -269,10 +294,11 @@ complete follow files rose refused Started asked old new s P e comes cause h r w
 
 -- words that ask for a file ask for no run
 pub file-no-run : (files : FileMap) (P : Job → List ℕ → Type 0) (asked : Option Request) →
-    Asks P files (option_and_then file_of asked) → option_and_then files_of asked ≡ None
+    Asks P files (option_and_then file_of asked) → AsksNoRun asked
 file-no-run files P None h = absurd h
-file-no-run files P (Some (of_file r)) h = refl
+file-no-run files P (Some (of_file r)) h = (refl, refl)
 file-no-run files P (Some (of_run r)) h = absurd h
+file-no-run files P (Some (of_tasks r)) h = absurd h
 file-no-run files P (Some (of_load seed)) h = absurd h
 file-no-run files P (Some (of_report r)) h = absurd h
 
@@ -287,4 +313,19 @@ complete-run files rose refused Started (Some (of_file q)) old new s e h r f w =
 complete-run files rose refused Started (Some (of_run q)) old new s e h r f w =
     e.complete files refl h r f w
 complete-run files rose refused Started (Some (of_load seed)) old new s e h r f w = absurd h
+complete-run files rose refused Started (Some (of_tasks q)) old new s e h r f w = absurd h
 complete-run files rose refused Started (Some (of_report r)) old new s e h r' f w = absurd h
+
+-- and so has one of tasks in Structured Text
+pub complete-tasks : (files : FileMap) (rose refused : Type 0) (Started : ℕ → Type 0)
+    (asked : Option Request) (old new : Output) (s : Status) →
+    EndsByRequest (Some files) rose refused Started asked old new s →
+    AsksTasks IsOk files (option_and_then tasks_of asked) → (rose → ⊥) →
+    (Rose old.count new.count → ⊥) → (is_traced s ≡ true) ⊎ (s ≡ status.OutOfMemory)
+complete-tasks files rose refused Started None old new s e h r w = absurd h
+complete-tasks files rose refused Started (Some (of_file q)) old new s e h r w = absurd h
+complete-tasks files rose refused Started (Some (of_run q)) old new s e h r w = absurd h
+complete-tasks files rose refused Started (Some (of_load seed)) old new s e h r w = absurd h
+complete-tasks files rose refused Started (Some (of_tasks q)) old new s e h r w =
+    e.complete files refl h r w
+complete-tasks files rose refused Started (Some (of_report q)) old new s e h r w = absurd h

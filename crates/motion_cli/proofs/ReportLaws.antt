@@ -2,7 +2,7 @@
 use Rattle.std.specs.Prelude.{◌≡◌, ◌⊎◌, refl, ℕ, true, false, Option, Some, None, IsSomeAnd, List}
 use Rattle.std.specs.Option.{option_and_then}
 use Rattle.std.proofs.Common.{◌∙◌, inl, inr, sym, ap, subst}
-use Rattle.command_words.specs.Requests.{Report, Request, of_file, of_load, of_report, of_run, of_scope, of_switches, told_report}
+use Rattle.command_words.specs.Requests.{Report, Request, of_file, of_load, of_report, of_run, of_scope, of_switches, of_tasks, told_report}
 use Rattle.job_ends.specs.Causes.{ComesExactly, is_fault}
 use Rattle.job_ends.specs.declared.status.Status.{Status}
 use Rattle.job_ends.specs.declared.status.Status.TheVariants as status
@@ -147,6 +147,8 @@ or-report files rose refused Started (Some (of_run q)) old new s wanted A e f pl
     left-alone s wanted A (plain refl)
 or-report files rose refused Started (Some (of_load n)) old new s wanted A e f plain apart =
     left-alone s wanted A (plain refl)
+or-report files rose refused Started (Some (of_tasks q)) old new s wanted A e f plain apart =
+    left-alone s wanted A (plain refl)
 or-report files rose refused Started (Some (of_report r)) old new s wanted A e f plain apart =
     right-alone s wanted A (ReportCause files r wanted)
     (report-comes files rose r old new s wanted e f) (apart r refl)
@@ -166,5 +168,6 @@ report-as told rose refused Started None r old new s e a = absurd (none-asked r 
 report-as told rose refused Started (Some (of_file q)) r old new s e a = absurd (none-asked r a)
 report-as told rose refused Started (Some (of_run q)) r old new s e a = absurd (none-asked r a)
 report-as told rose refused Started (Some (of_load n)) r old new s e a = absurd (none-asked r a)
+report-as told rose refused Started (Some (of_tasks q)) r old new s e a = absurd (none-asked r a)
 report-as told rose refused Started (Some (of_report q)) r old new s e a =
     subst (λ x. EndsByReport told rose x old new s) (same-report q r a) e

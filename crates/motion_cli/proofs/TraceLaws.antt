@@ -13,12 +13,13 @@ use Rattle.job_ends.specs.declared.status.Status.TheVariants as status
 use Rattle.load_job.specs.Ends.{LoadLine}
 use Rattle.outside.specs.Told.{FileMap}
 use Rattle.run_job.specs.Headline.{RunHeadline}
+use Rattle.st_job.specs.Headline.{StHeadline}
 use Rattle.trace_jobs.specs.Migrated.{Migrated}
 use Rattle.trace_text.specs.writing.Writes.{Output}
 use Rattle.motion_cli.proofs.ReportLaws.{none-asked}
 use Rattle.motion_cli.specs.Ends.{EndsByFound, EndsByRequest}
 use Rattle.motion_cli.specs.Plans.{most_of}
-use Rattle.command_words.specs.Requests.{FileJob, Request, RunFiles, file_of, files_of, load_of, of_file, of_load, of_report, of_run}
+use Rattle.command_words.specs.Requests.{FileJob, Request, RunFiles, file_of, files_of, load_of, of_file, of_load, of_report, of_run, of_tasks, tasks_of}
 use Rattle.command_words.specs.declared.request.Job.TheVariants.{Bench, Migrate}
 
 found-headline : FollowPlans → (told : Option FileMap) (rose : Type 0) (name : List ℕ)
@@ -58,6 +59,8 @@ headline-of follow told rose refused Started (Some (of_run r)) name old new s e 
     absurd (none-asked (record { job = Bench; name = name }) a)
 headline-of follow told rose refused Started (Some (of_load seed)) name old new s e a t =
     absurd (none-asked (record { job = Bench; name = name }) a)
+headline-of follow told rose refused Started (Some (of_tasks r)) name old new s e a t =
+    absurd (none-asked (record { job = Bench; name = name }) a)
 headline-of follow told rose refused Started (Some (of_report r)) name old new s e a t =
     absurd (none-asked (record { job = Bench; name = name }) a)
 
@@ -95,6 +98,8 @@ migrated-of follow told rose refused Started (Some (of_run r)) name old new s e 
     absurd (none-asked (record { job = Migrate; name = name }) a)
 migrated-of follow told rose refused Started (Some (of_load seed)) name old new s e a h =
     absurd (none-asked (record { job = Migrate; name = name }) a)
+migrated-of follow told rose refused Started (Some (of_tasks r)) name old new s e a h =
+    absurd (none-asked (record { job = Migrate; name = name }) a)
 migrated-of follow told rose refused Started (Some (of_report r)) name old new s e a h =
     absurd (none-asked (record { job = Migrate; name = name }) a)
 
@@ -107,6 +112,8 @@ pub line-of : (told : Option FileMap) (rose refused : Type 0) (Started : ℕ →
 line-of told rose refused Started None seed old new s e a h = absurd (none-asked seed a)
 line-of told rose refused Started (Some (of_file r)) seed old new s e a h = absurd (none-asked seed a)
 line-of told rose refused Started (Some (of_run r)) seed old new s e a h =
+    absurd (none-asked seed a)
+line-of told rose refused Started (Some (of_tasks r)) seed old new s e a h =
     absurd (none-asked seed a)
 line-of told rose refused Started (Some (of_report r)) seed old new s e a h =
     absurd (none-asked seed a)
@@ -130,5 +137,25 @@ run-of told rose refused Started (Some (of_run r)) names old new s e a t =
     (same-files r names a) (e.headline t)
 run-of told rose refused Started (Some (of_load seed)) names old new s e a t =
     absurd (none-asked names a)
+run-of told rose refused Started (Some (of_tasks r)) names old new s e a t =
+    absurd (none-asked names a)
 run-of told rose refused Started (Some (of_report r)) names old new s e a t =
+    absurd (none-asked names a)
+
+pub tasks-of : (told : Option FileMap) (rose refused : Type 0) (Started : ℕ → Type 0)
+    (asked : Option Request) (names : RunFiles) (old new : Output) (s : Status) →
+    EndsByRequest told rose refused Started asked old new s →
+    option_and_then tasks_of asked ≡ Some names → is_traced s ≡ true →
+    StHeadline told names.config names.program old.told new.told s
+tasks-of told rose refused Started None names old new s e a t = absurd (none-asked names a)
+tasks-of told rose refused Started (Some (of_file r)) names old new s e a t =
+    absurd (none-asked names a)
+tasks-of told rose refused Started (Some (of_run r)) names old new s e a t =
+    absurd (none-asked names a)
+tasks-of told rose refused Started (Some (of_load seed)) names old new s e a t =
+    absurd (none-asked names a)
+tasks-of told rose refused Started (Some (of_tasks r)) names old new s e a t =
+    subst (λ q. StHeadline told q.config q.program old.told new.told s)
+    (same-files r names a) (e.headline t)
+tasks-of told rose refused Started (Some (of_report r)) names old new s e a t =
     absurd (none-asked names a)

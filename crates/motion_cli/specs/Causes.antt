@@ -10,6 +10,8 @@ use Rattle.motion_history.specs.declared.refused.TextRefused.{TextRefused}
 use Rattle.outside.specs.Told.{FileMap, LacksFile}
 use Rattle.plc_program.specs.Reading.{Outcome}
 use Rattle.run_job.specs.Causes.{plant_in}
+use Rattle.st_check.specs.Reading as st
+use Rattle.st_job.specs.Causes.{both_in}
 use Rattle.trace_jobs.specs.Causes.{CheckCause, MigrateCause}
 use Rattle.motion_cli.specs.Plans.{most_of}
 use Rattle.command_words.specs.Requests.{FileJob, RunFiles}
@@ -31,14 +33,26 @@ abbrev pub AsksRun : (Result (Machine × Outcome) Status → Type 0) → FileMap
 AsksRun P files None = ⊥
 AsksRun P files (Some r) = P (plant_in files r.config r.program)
 
+-- the words ask for a run of tasks in Structured Text, and this holds of what its two files give
+abbrev pub AsksTasks : (Result (Machine × st.Outcome) Status → Type 0) → FileMap →
+    Option RunFiles → Type 0
+AsksTasks P files None = ⊥
+AsksTasks P files (Some r) = P (both_in files r.config r.program)
+
 -- what two files give doesn't lack one of them
-abbrev pub LacksNone : Result (Machine × Outcome) Status → Type 0
+abbrev pub LacksNone : {A : Type 0} → Result A Status → Type 0
 LacksNone r = (word : ℕ) → r ≡ Err (status.ReadFault word) → ⊥
 
 -- the words ask for a run, whose files lack that of this word where it is to be read
 abbrev pub RunsInVain : Option FileMap → Option RunFiles → ℕ → Type 0
 RunsInVain told asked word = IsSomeAnd told
     (λ files. AsksRun (λ r. r ≡ Err (status.ReadFault word)) files asked)
+
+-- the words ask for a run of tasks in Structured Text, whose files lack that of this word where it
+-- is to be read
+abbrev pub TasksInVain : Option FileMap → Option RunFiles → ℕ → Type 0
+TasksInVain told asked word = IsSomeAnd told
+    (λ files. AsksTasks (λ r. r ≡ Err (status.ReadFault word)) files asked)
 
 -- a text is longer than 16 MiB where it is to be run, and than 256 MiB where it is a trace
 abbrev pub IsTooLong : Job → List ℕ → Type 0

@@ -7,11 +7,12 @@ use Rattle.job_ends.specs.declared.status.Status.{Status}
 use Rattle.load_job.specs.Ends.{EndsByLoad}
 use Rattle.outside.specs.Told.{FileMap}
 use Rattle.run_job.specs.Ends.{EndsByRun}
+use Rattle.st_job.specs.Ends.{EndsBySt}
 use Rattle.trace_jobs.specs.Ends.{EndsByCheck, EndsByMigrate}
 use Rattle.trace_text.specs.writing.Writes.{Output}
 use Rattle.motion_cli.specs.Plans.{most_of, usage_plan}
 use Rattle.motion_cli.specs.Reports.{EndsByReport}
-use Rattle.command_words.specs.Requests.{FileJob, Request, asked_of, of_file, of_load, of_report, of_run}
+use Rattle.command_words.specs.Requests.{FileJob, Request, asked_of, of_file, of_load, of_report, of_run, of_tasks}
 use Rattle.command_words.specs.declared.request.Job.{Job}
 use Rattle.command_words.specs.declared.request.Job.TheVariants.{Bench, Check, Migrate}
 
@@ -35,7 +36,7 @@ pub record EndsByFile (told : Option FileMap) (rose : Type 0) (r : FileJob) (old
   pub ends : EndsByFound r found old new s
 
 -- how the program ends: words that are no request are told what is one; else it is as the file, the
--- run, the load or the report leads to, or there was no memory to read the file
+-- run, the load, the tasks or the report leads to, or there was no memory to read the file
 abbrev pub EndsByRequest : Option FileMap → Type 0 → Type 0 → (ℕ → Type 0) → Option Request →
     Output → Output → Status → Type 0
 EndsByRequest told rose refused Started None old new s = EndsBy old new usage_plan s
@@ -44,6 +45,8 @@ EndsByRequest told rose refused Started (Some (of_file r)) old new s =
 EndsByRequest told rose refused Started (Some (of_run r)) old new s =
     EndsByRun told rose refused Started r.config r.program old new s
 EndsByRequest told rose refused Started (Some (of_load seed)) old new s = EndsByLoad seed old new s
+EndsByRequest told rose refused Started (Some (of_tasks r)) old new s =
+    EndsBySt told rose r.config r.program old new s
 EndsByRequest told rose refused Started (Some (of_report r)) old new s =
     EndsByReport told rose r old new s
 

@@ -12,7 +12,7 @@ use Rattle.command_words.specs.declared.request.Job.TheVariants.{Bench, Check, M
 abbrev pub usage_line : List ℕ
 usage_line = concat
     (codes "usage: motion bench FILE | run CONFIG PROGRAM | check TRACE | gen SEED | migrate TRACE"
-    ∷ codes " | switches TRACE FILE | standby FILE CUT | scope TRACE WORKERS\n" ∷ [])
+    ∷ codes " | st CONFIG FILE | switches TRACE FILE | standby FILE CUT | scope TRACE WORKERS\n" ∷ [])
 
 -- what faulty words lead to: they are told what the program takes
 abbrev pub usage_plan : Plan

@@ -5,11 +5,11 @@ ghost use Rattle.std.specs.IoError.{error_kind};
 ghost use Rattle.std.specs.Result.{IsOk};
 ghost use Rattle.bench_job.specs.Headline.{Headline};
 ghost use Rattle.command_words.specs.Args.{words_of};
-ghost use Rattle.command_words.specs.Requests.{RunFiles, of_scope, of_switches, report_of, request_of, run_of, seed_of};
+ghost use Rattle.command_words.specs.Requests.{RunFiles, of_scope, of_switches, report_of, request_of, run_of, seed_of, tasks_run_of};
 ghost use Rattle.job_ends.specs.Causes.{ComesExactly, is_fault, is_traced};
 ghost use Rattle.job_ends.specs.Ends.{EndsBy, EndsEarly};
 ghost use Rattle.load_job.specs.Ends.{LoadLine};
-ghost use Rattle.motion_cli.specs.Causes.{Asks, AsksInVain, AsksRun, HasRoom, IsChecked, IsDone, IsIllegal, IsRefused, IsThere, IsTooLong, LacksNone, RunsInVain, RunsTo};
+ghost use Rattle.motion_cli.specs.Causes.{Asks, AsksInVain, AsksRun, AsksTasks, HasRoom, IsChecked, IsDone, IsIllegal, IsRefused, IsThere, IsTooLong, LacksNone, RunsInVain, RunsTo, TasksInVain};
 ghost use Rattle.motion_cli.specs.Ends.{EndsByWords};
 ghost use Rattle.motion_cli.specs.Plans.{usage_plan};
 ghost use Rattle.motion_cli.specs.Reports.{AsksReport, AsksWithAll, ReportsInVain};
@@ -19,6 +19,7 @@ ghost use Rattle.outside.specs.Told.{FileMap};
 ghost use Rattle.run_job.specs.Headline.{RunHeadline};
 ghost use Rattle.run_job.specs.Joined.{JoinsAll};
 ghost use Rattle.scope_job.specs.Scoped.{Scoped};
+ghost use Rattle.st_job.specs.Headline.{StHeadline};
 ghost use Rattle.switch_job.specs.Switched.{Switched};
 ghost use Rattle.trace_jobs.specs.Migrated.{Migrated};
 
@@ -102,7 +103,7 @@ fn top_of_words<F: Files, K: Sink, H: Host + Wait + Sync, G: Gate + Drop + Send 
 /// Does what the words ask for with the files, writes to the output, and answers how it ended. A
 /// run starts its threads by the spawner, and each turn of a task passes a twin of the gate.
 ///
-/// Where it answers Ok, CyclesOver or HistoryFull to `bench` or `run`, what was written is the
+/// Where it answers Ok, CyclesOver or HistoryFull to `bench`, `run` or `st`, what was written is the
 /// trace of a bench or of a run, as the headlines say, and `standby` is as `bench`; where it answers
 /// Ok to `migrate`, the trace that was read, in version 2; to `gen`, the line of the load that the
 /// seed generates; to `switches`, the edges of the switches in a legal trace; to `scope`, the report
@@ -134,6 +135,10 @@ pub fn top<F: Files, K: Sink, H: Host + Wait + Sync, G: Gate + Drop + Send + 'st
         is_traced result ≡ true →
         RunHeadline (F.told files.old) names.config names.program (K.told out.old) (K.told out.new)
         (λ n. length spawner.new.jobs ≡ length spawner.old.jobs + n) result }
+    ensures headline_st { (names : RunFiles) → tasks_run_of words.now ≡ Some names →
+        is_traced result ≡ true →
+        StHeadline (F.told files.old) names.config names.program (K.told out.old) (K.told out.new)
+        result }
     ensures switched { (trace switches : List ℕ) →
         report_of words.now ≡ Some (of_switches trace switches) → result ≡ Status.Ok →
         Switched (F.told files.old) trace switches (K.told out.old) (K.told out.new) }
@@ -144,35 +149,41 @@ pub fn top<F: Files, K: Sink, H: Host + Wait + Sync, G: Gate + Drop + Send + 'st
         result ≡ Status.Ok → Migrated (F.told files.old) name (K.told out.old) (K.told out.new) }
     ensures usage { ComesExactly result Status.Usage ((request_of words.now ≡ None) ×
         (seed_of words.now ≡ None) × (run_of words.now ≡ None) ×
-        (report_of words.now ≡ None)) }
+        (tasks_run_of words.now ≡ None) × (report_of words.now ≡ None)) }
     ensures read_fault { (word : ℕ) → result ≡ Status.ReadFault word →
         Rose (F.count files.old) (F.count files.new) ⊎
-        ((((word ≡ 1) × AsksInVain (F.told files.old) (request_of words.now)) ⊎
+        (((((word ≡ 1) × AsksInVain (F.told files.old) (request_of words.now)) ⊎
         RunsInVain (F.told files.old) (run_of words.now) word) ⊎
+        TasksInVain (F.told files.old) (tasks_run_of words.now) word) ⊎
         ReportsInVain (F.told files.old) (report_of words.now) word) }
     ensures too_long { (map : FileMap) (word : ℕ) → F.told files.old ≡ Some map →
         ComesExactly result (Status.TooLong word)
-        ((((word ≡ 1) × Asks IsTooLong map (request_of words.now)) ⊎
+        (((((word ≡ 1) × Asks IsTooLong map (request_of words.now)) ⊎
         AsksRun (λ r. r ≡ Err (Status.TooLong word)) map (run_of words.now)) ⊎
+        AsksTasks (λ r. r ≡ Err (Status.TooLong word)) map (tasks_run_of words.now)) ⊎
         AsksReport (Status.TooLong word) map (report_of words.now)) }
     ensures refused { (map : FileMap) (word : ℕ) (r : TextRefused) → F.told files.old ≡ Some map →
         ComesExactly result (Status.TextRefused word r.place r.rule)
-        ((Asks (IsRefused word r) map (request_of words.now) ⊎
+        (((Asks (IsRefused word r) map (request_of words.now) ⊎
         AsksRun (λ x. x ≡ Err (Status.TextRefused word r.place r.rule)) map
         (run_of words.now)) ⊎
+        AsksTasks (λ x. x ≡ Err (Status.TextRefused word r.place r.rule)) map
+        (tasks_run_of words.now)) ⊎
         AsksReport (Status.TextRefused word r.place r.rule) map (report_of words.now)) }
     ensures joined { JoinsAll spawner.old.jobs spawner.new.jobs }
     ensures alone { run_of words.now ≡ None → spawner.new ≡ spawner.old }
     ensures thread_refused { result ≡ Status.ThreadRefused →
         Rose spawner.old.faults spawner.new.faults }
     ensures cycles_over { (map : FileMap) → F.told files.old ≡ Some map →
-        run_of words.now ≡ None → ComesExactly result Status.CyclesOver
+        run_of words.now ≡ None → tasks_run_of words.now ≡ None →
+        ComesExactly result Status.CyclesOver
         (Asks (RunsTo (Err RunFault.CyclesOver)) map (request_of words.now)) }
     ensures history_full { (map : FileMap) → F.told files.old ≡ Some map →
-        run_of words.now ≡ None → ComesExactly result Status.HistoryFull
+        run_of words.now ≡ None → tasks_run_of words.now ≡ None →
+        ComesExactly result Status.HistoryFull
         (Asks (RunsTo (Err RunFault.HistoryFull)) map (request_of words.now)) }
     ensures ok { (map : FileMap) → F.told files.old ≡ Some map → run_of words.now ≡ None →
-        ComesExactly result Status.Ok
+        tasks_run_of words.now ≡ None → ComesExactly result Status.Ok
         ((Asks IsDone map (request_of words.now) ⊎ IsSome (seed_of words.now)) ⊎
         AsksReport Status.Ok map (report_of words.now)) }
     ensures legal { (map : FileMap) (entries : ℕ) → F.told files.old ≡ Some map →
@@ -184,8 +195,9 @@ pub fn top<F: Files, K: Sink, H: Host + Wait + Sync, G: Gate + Drop + Send + 'st
         AsksReport (Status.Illegal place) map (report_of words.now)) }
     ensures write_fault { result ≡ Status.WriteFault → Rose (K.count out.old) (K.count out.new) }
     ensures faultless { (map : FileMap) → F.told files.old ≡ Some map →
-        (Asks IsThere map (request_of words.now) ⊎
+        ((Asks IsThere map (request_of words.now) ⊎
         AsksRun LacksNone map (run_of words.now)) ⊎
+        AsksTasks LacksNone map (tasks_run_of words.now)) ⊎
         AsksWithAll map (report_of words.now) →
         (Rose (F.count files.old) (F.count files.new) → ⊥) →
         (Rose (K.count out.old) (K.count out.new) → ⊥) →
@@ -199,6 +211,11 @@ pub fn top<F: Files, K: Sink, H: Host + Wait + Sync, G: Gate + Drop + Send + 'st
         AsksRun IsOk map (run_of words.now) →
         (Rose (F.count files.old) (F.count files.new) → ⊥) →
         (Rose spawner.old.faults spawner.new.faults → ⊥) →
+        (Rose (K.count out.old) (K.count out.new) → ⊥) →
+        (is_traced result ≡ true) ⊎ (result ≡ Status.OutOfMemory) }
+    ensures complete_st { (map : FileMap) → F.told files.old ≡ Some map →
+        AsksTasks IsOk map (tasks_run_of words.now) →
+        (Rose (F.count files.old) (F.count files.new) → ⊥) →
         (Rose (K.count out.old) (K.count out.new) → ⊥) →
         (is_traced result ≡ true) ⊎ (result ≡ Status.OutOfMemory) }
 {

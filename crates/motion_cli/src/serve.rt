@@ -17,6 +17,7 @@ use load_job::run_load;
 use outside::{Files, Gate, Host, MOST_JOBS, Sink, Spawner};
 use run_job::{PlantJob, RunNames, run_files};
 use scope_job::scope_file;
+use st_job::st_files;
 use std::alloc::Global;
 use std::sync::Wait;
 use switch_job::switch_files;
@@ -81,6 +82,9 @@ fn serve_request<F: Files, K: Sink, H: Host + Wait + Sync, G: Gate + Drop + Send
             files,
             out,
         ),
+        Request::StructuredText { config, program } => {
+            st_files(alloc, config, program, files, out)
+        }
         Request::Switches { trace, switches } => switch_files(alloc, trace, switches, files, out),
         Request::Scope { trace, workers } => {
             scope_file(rt, alloc, trace, workers.get(), files, out)

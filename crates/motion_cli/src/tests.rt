@@ -5,6 +5,7 @@ mod reports;
 mod rows;
 mod runs;
 mod states;
+mod tasks;
 mod traces;
 
 use crate::*;
@@ -91,7 +92,7 @@ end main
 
 const USAGE: &[u8] =
     b"usage: motion bench FILE | run CONFIG PROGRAM | check TRACE | gen SEED | migrate TRACE \
-    | switches TRACE FILE | standby FILE CUT | scope TRACE WORKERS\n";
+    | st CONFIG FILE | switches TRACE FILE | standby FILE CUT | scope TRACE WORKERS\n";
 
 // How the program ends on these words and files.
 fn status<H: Host + Wait + Sync>(
@@ -247,7 +248,7 @@ fn writes_a_byte_at_a_time(rt: HostRuntime) -> Result<(), Fail> {
 
 #[test]
 fn tells_the_words_that_it_takes(rt: HostRuntime) -> Result<(), Fail> {
-    let cases: [&[&str]; 22] = [
+    let cases: [&[&str]; 23] = [
         &[],
         &["bench"],
         &["bench", ""],
@@ -266,6 +267,7 @@ fn tells_the_words_that_it_takes(rt: HostRuntime) -> Result<(), Fail> {
         &["Bench", "one_move"],
         &["run", "one_move", ""],
         &["help"],
+        &["st", "one_move"],
         &["switches", "one_move"],
         &["standby", "one_move", "+3"],
         &["scope", "one_move", "17"],

@@ -9,7 +9,7 @@ use outside::Sink;
 /// The line that tells which words the program takes.
 const USAGE: &[u8] =
     b"usage: motion bench FILE | run CONFIG PROGRAM | check TRACE | gen SEED | migrate TRACE \
-    | switches TRACE FILE | standby FILE CUT | scope TRACE WORKERS\n";
+    | st CONFIG FILE | switches TRACE FILE | standby FILE CUT | scope TRACE WORKERS\n";
 
 /// Tells which words the program takes.
 pub fn say_usage<K: Sink>(out: &mut K) -> Status

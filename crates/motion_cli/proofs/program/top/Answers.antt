@@ -10,10 +10,10 @@ use Rattle.outside.specs.Told.{FileMap}
 use Rattle.trace_text.specs.writing.Writes.{Output}
 use Rattle.motion_cli.proofs.AskedLaws.{request-told}
 use Rattle.motion_cli.proofs.CauseLaws.{enough, file-comes, illegal-comes, long-comes, ok-comes, refused-comes}
-use Rattle.motion_cli.proofs.FaultLaws.{complete, complete-run, faultless, file-no-run, refused-why, unread-why, usage-comes, write-why}
+use Rattle.motion_cli.proofs.FaultLaws.{complete, complete-run, complete-tasks, faultless, file-no-run, refused-why, unread-why, usage-comes, write-why}
 use Rattle.motion_cli.proofs.PlanLaws.{faulted}
 use Rattle.motion_cli.proofs.ReportLaws.{report-as}
-use Rattle.motion_cli.proofs.TraceLaws.{headline-of, line-of, migrated-of, run-of}
+use Rattle.motion_cli.proofs.TraceLaws.{headline-of, line-of, migrated-of, run-of, tasks-of}
 use Rattle.motion_cli.specs.Causes.{HasRoom, IsThere}
 use Rattle.motion_cli.specs.Ends.{EndsByRequest}
 use Rattle.motion_cli.proofs.program.top.Goals as goal
@@ -47,6 +47,7 @@ returns-in-Ok g c =
       headline = λ name a h. headline-of follow told rose refused Started asked name old new s by a
           h;
       headline_run = λ names a h. run-of told rose refused Started asked names old new s by a h;
+      headline_st = λ names a h. tasks-of told rose refused Started asked names old new s by a h;
       switched = λ trace switches a h.
           (report-as told rose refused Started asked (of_switches trace switches) old new s by
           a).switched h;
@@ -63,11 +64,12 @@ returns-in-Ok g c =
       joined = c.serve.ensures.joined;
       alone = λ none. c.serve.ensures.alone (ap (option_and_then files_of) is_asked ∙ none);
       thread_refused = λ h. refused-why follow told rose refused Started asked old new s by h;
-      cycles_over = λ map t none. file-comes follow map rose refused Started asked old new s
-          status.CyclesOver (at map t) refl (λ h. h) (inl none) (inr refl);
-      history_full = λ map t none. file-comes follow map rose refused Started asked old new s
-          status.HistoryFull (at map t) refl (λ h. h) (inl none) (inr refl);
-      ok = λ map t none. ok-comes follow map rose refused Started asked old new s (at map t) none;
+      cycles_over = λ map t run tasks. file-comes follow map rose refused Started asked old new s
+          status.CyclesOver (at map t) refl (λ h. h) (inl (run, tasks)) (inr refl);
+      history_full = λ map t run tasks. file-comes follow map rose refused Started asked old new s
+          status.HistoryFull (at map t) refl (λ h. h) (inl (run, tasks)) (inr refl);
+      ok = λ map t run tasks. ok-comes follow map rose refused Started asked old new s (at map t)
+          (run, tasks);
       legal = λ map n t. file-comes follow map rose refused Started asked old new s
           (status.Legal n) (at map t) refl (λ h. h) (inr refl) (inr refl);
       illegal = λ map p t. illegal-comes follow map rose refused Started asked old new s p
@@ -79,9 +81,11 @@ returns-in-Ok g c =
           (at map t)
           (ok-comes follow map rose refused Started asked old new s (at map t)
           (file-no-run map HasRoom asked h))
-          (inl (inl (enough c.room_leads_to_ok.ensures map _ h))) (inl (inl h)) r w;
+          (inl (inl (enough c.room_leads_to_ok.ensures map _ h))) (inl (inl (inl h))) r w;
       complete_run = λ map t h r f w. complete-run map rose refused Started asked old new s
           (at map t) h r f w;
+      complete_st = λ map t h r w. complete-tasks map rose refused Started asked old new s
+          (at map t) h r w;
     }
 
 pub returns-in-Err : goal.returns-in-Err
@@ -90,6 +94,7 @@ returns-in-Err g c = record {
   load = λ n is h. absurd (cc);
   headline = λ name a h. absurd (cc);
   headline_run = λ names a h. absurd (cc);
+  headline_st = λ names a h. absurd (cc);
   switched = λ trace switches a h. absurd (cc);
   scoped = λ trace a h. absurd (cc);
   migrated = λ name a h. absurd (cc);
@@ -100,13 +105,14 @@ returns-in-Err g c = record {
   joined = (0, sym (append-nil c.args.spawner.now.jobs));
   alone = λ none. refl;
   thread_refused = λ h. absurd (cc);
-  cycles_over = λ map t none. faulted _ _ _ refl refl;
-  history_full = λ map t none. faulted _ _ _ refl refl;
-  ok = λ map t none. faulted _ _ _ refl refl;
+  cycles_over = λ map t run tasks. faulted _ _ _ refl refl;
+  history_full = λ map t run tasks. faulted _ _ _ refl refl;
+  ok = λ map t run tasks. faulted _ _ _ refl refl;
   legal = λ map n t. faulted _ _ _ refl refl;
   illegal = λ map p t. faulted _ _ _ refl refl;
   write_fault = λ h. absurd (cc);
   faultless = λ map t h r w. inr refl;
   complete = λ map t h r w. inr refl;
   complete_run = λ map t h r f w. inr refl;
+  complete_st = λ map t h r w. inr refl;
 }

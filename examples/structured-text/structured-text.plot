@@ -1,0 +1,1 @@
+--cycle-us 8000 --scale 1e-9mm
