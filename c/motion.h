@@ -224,8 +224,7 @@ uint32_t motion_cycle(motion *m, const motion_drive_in *in, size_t in_len,
  *   MOTION_FULL      where neither, exactly where the history is full */
 uint32_t motion_end(motion *m, uint8_t task);
 
-/* Shows an axis or a group as the last cycle left it. It takes longer the more calls were made since
- * that cycle, so look right behind it.
+/* Shows an axis or a group as the last cycle left it.
  *   MOTION_OK        it is shown
  *   MOTION_CLOSED    exactly where the handle is closed
  *   MOTION_UNKNOWN   exactly where there is no such axis or group

@@ -57,6 +57,21 @@ stopped_when true fs gs ms st st' at eq is has e = let a = one_true true refl in
 stopped_when false true gs ms st st' at eq is has e = let a = has refl in let b = or_le false ms in omega arith
 stopped_when false false gs ms st st' at eq is has e = absurd (off gs e is)
 
+or_yes : (b : Bool) → (b || true) ≡ true
+or_yes true = refl
+or_yes false = refl
+
+stopped_by : (stop fs gs ms : Bool) (st st' : ℕ) → st' + one ms ≡ st + one (stop || ms) → gs ≡ (fs || stop) → (0 < st → fs ≡ true) → 0 < st' → gs ≡ true
+stopped_by true fs gs ms st st' eq is has z = is ∙ or_yes fs
+stopped_by false fs gs ms st st' eq is has z =
+    let same : st' + one ms ≡ st + one ms = eq in
+    is ∙ ap (λ b. b || false) (has (omega arith))
+
+-- where a pass has made or met a stop the kernel is stopped
+stays : (made met : Bool) (st : ℕ) (stopped : Bool) → (made ≡ true → 0 < st) → (met ≡ true → 0 < st) → (0 < st → stopped ≡ true) → (made || met) ≡ true → stopped ≡ true
+stays true met st stopped a b is e = is (a refl)
+stays false met st stopped a b is e = is (b e)
+
 met_when : (met fs ms stop : Bool) (st st' : ℕ) → st' + one ms ≡ st + one (stop || ms) → (met ≡ true → 0 < st) → (fs ≡ true → 0 < st) → (met || fs) ≡ true → 0 < st'
 met_when true fs ms stop st st' eq a b e = let x = a refl in let y = or_le stop ms in omega arith
 met_when false fs ms stop st st' eq a b e = let x = b e in let y = or_le stop ms in omega arith
@@ -74,14 +89,14 @@ ticket_times o f g added is few grown x = subst (λ p. once_below x (length g.hi
         rw (ne_eqb (length g.history) (length f.history) (λ z. omega arith)) (omega (arith, ap (once_below x) l))
     go (e ∷ e' ∷ es) few grown = absurd (omega arith)
 
-fits_more : (c : Setup) (h : List Entry) (st st' p i : ℕ) (v : PassView) → (0 < st → 0 < st') → Fits c h st p i v → Fits c h st' p i v
-fits_more c h st st' p i v more k = record {
+fits_more : (c : Setup) (h : List Entry) (st st' p i : ℕ) (v : PassView) → (0 < st → 0 < st') → (0 < st' → 0 < st) → Fits c h st p i v → Fits c h st' p i v
+fits_more c h st st' p i v more less k = record {
   first = k.first;
   aside = k.aside;
   config_is = k.config_is;
   seen = k.seen;
   spent = k.spent;
-  found = λ f e. let r = k.found f e in (r.0, record { config_is = r.1.config_is; history_is = r.1.history_is; stop = λ s. more (r.1.stop s) });
+  found = λ f e. let r = k.found f e in (r.0, record { config_is = r.1.config_is; history_is = r.1.history_is; stop = λ s. more (r.1.stop s); stopped = λ s. r.1.stopped (less s) });
   stop = λ e. more (k.stop e);
 }
 
@@ -92,11 +107,11 @@ each_set c h st p views id w others mine j u e =
     (λ (t : (j ≢ id) × (get_elem? views j ≡ some u)). others j u t.0 t.1)
     (at_set views id j w u e)
 
-place_same : (c : Setup) (h : List Entry) (homes : Homes) (views views' : List PassView) → with_kernel views' ≡ with_kernel views → (0 < stoppers views → 0 < stoppers views') → Away homes views ⊎ Home c h homes views → Away homes views' ⊎ Home c h homes views'
-place_same c h homes views views' same more place =
+place_same : (c : Setup) (h : List Entry) (homes : Homes) (views views' : List PassView) → with_kernel views' ≡ with_kernel views → (0 < stoppers views → 0 < stoppers views') → (0 < stoppers views' → 0 < stoppers views) → Away homes views ⊎ Home c h homes views → Away homes views' ⊎ Home c h homes views'
+place_same c h homes views views' same more less place =
     ⊎_elim
     (λ (a : Away homes views). inl (a.0, same ∙ a.1))
-    (λ (a : Home c h homes views). inr (a.0, a.1, same ∙ a.2, record { config_is = a.3.config_is; history_is = a.3.history_is; stop = λ s. more (a.3.stop s) }))
+    (λ (a : Home c h homes views). inr (a.0, a.1, same ∙ a.2, record { config_is = a.3.config_is; history_is = a.3.history_is; stop = λ s. more (a.3.stop s); stopped = λ s. a.3.stopped (less s) }))
     place
 
 counted_set : (views : List PassView) (id : ℕ) (v w : PassView) → get_elem? views id ≡ some v → w.live ≡ v.live → w.out ≡ v.out → Counted views → Counted (set views id w)
@@ -140,7 +155,7 @@ draws c slots id v idle s k long at word =
             let h = k.hands x in
             omega arith;
         tickets = λ x. let t = total_set (λ (u : PassView). times x u.own) s.views id v w at in let h = k.tickets x in omega arith;
-        each = each_set c k.history _ _ s.views id w (λ j u apart e. fits_more c k.history _ _ p j u (λ z. omega arith) (k.each j u e)) (record {
+        each = each_set c k.history _ _ s.views id w (λ j u apart e. fits_more c k.history _ _ p j u (λ z. omega arith) (λ z. omega arith) (k.each j u e)) (record {
           first = mine.first;
           aside = mine.aside;
           config_is = mine.config_is;
@@ -149,7 +164,7 @@ draws c slots id v idle s k long at word =
           found = λ f e. nones v.found f idle.found e;
           stop = λ e. let z = mine.stop e in omega arith;
         });
-        place = place_same c k.history s.homes s.views _ (omega arith) (λ z. omega arith) k.place;
+        place = place_same c k.history s.homes s.views _ (omega arith) (λ z. omega arith) (λ z. omega arith) k.place;
         count = counted_set s.views id v w at refl refl k.count;
       },
       (k.drawn, sym (ap (λ (ws : List ℕ). slice_index ws 0) k.words), refl),
@@ -293,19 +308,19 @@ looks c slots id v h live hand found s k long at word = dite (ℕ_discrete (slic
             wait = omega arith;
             hands = λ x. let t = total_set (λ (u : PassView). if_hand_is x u.hand) s.views id v w at in let z = k.hands x in omega arith;
             tickets = λ x. let t = total_set (λ (u : PassView). times x u.own) s.views id v w at in let z = k.tickets x in omega arith;
-            each = each_set c k.history _ _ s.views id w (λ j u apart z. fits_more c k.history _ _ _ j u (λ y. omega arith) (k.each j u z)) (record {
+            each = each_set c k.history _ _ s.views id w (λ j u apart z. fits_more c k.history _ _ _ j u (λ y. omega arith) (λ y. omega arith) (k.each j u z)) (record {
               first = mine.first;
               aside = mine.aside;
               config_is = mine.config_is;
               seen = mine.seen;
               spent = mine.spent;
-              found = λ g z. (hand ∙ ap Some (sym same), subst (Is c k.history _) (some_is f g z) (record { config_is = place.3.config_is; history_is = place.3.history_is; stop = λ y. let q = place.3.stop y in omega arith }));
+              found = λ g z. (hand ∙ ap Some (sym same), subst (Is c k.history _) (some_is f g z) (record { config_is = place.3.config_is; history_is = place.3.history_is; stop = λ y. let q = place.3.stop y in omega arith; stopped = λ y. place.3.stopped (omega arith) }));
               stop = λ z. let y = mine.stop z in omega arith;
             });
             place = inl (homes, omega arith);
             count = counted_set s.views id v w at refl refl k.count;
           },
-          ((λ _. (f, refl, subst (IsPrefix v.seen) (sym place.3.history_is) mine.seen, place.3.config_is ∙ sym (mine.config_is live), whole c s k id v f at place.3)), (λ n. absurd (n e))),
+          ((λ _. (f, refl, subst (IsPrefix v.seen) (sym place.3.history_is) mine.seen, place.3.config_is ∙ sym (mine.config_is live), stays (v.made_stop) v.met_stop (stoppers s.views) f.stopped (λ e. let z = total_at (λ (u : PassView). one u.made_stop) s.views id v at in let y = one_true v.made_stop e in omega arith) mine.stop place.3.stopped, whole c s k id v f at place.3)), (λ n. absurd (n e))),
         )
 
 pub looks_at : (c : Setup) (slots id : ℕ) (m : Seated) (h : ℕ) → m.0.live ≡ true → m.0.hand ≡ Some h → m.0.found ≡ None → m.1 ≡ [] → Allows (Kept c) slots id m 1 (λ n. n) (Looks (step slots 1 0 0 none) m)
@@ -333,6 +348,7 @@ passes stop c slots id v f g live found grows s k long at word =
     let homes : set s.homes 0 (some (Some g)) ≡ some (Some g) ∷ [] = ap (λ (hs : Homes). set hs 0 (some (Some g))) place.0 in
     let history : g.history ≡ k.history ++ grows.added = grows.history ∙ ap (λ es. es ++ grows.added) had.1.history_is in
     let more : (xs : List Entry) → IsPrefix xs k.history → IsPrefix xs g.history = λ xs pre. subst (IsPrefix xs) (sym history) (prefix_more xs k.history grows.added pre) in
+    let stays_so : 0 < stoppers (set s.views id w) → g.stopped ≡ true = stopped_by stop f.stopped g.stopped v.made_stop _ _ stops grows.stopped had.1.stopped in
     let is_stopped : g.stopped ≡ true → 0 < stoppers (set s.views id w) = λ e. stopped_when stop f.stopped g.stopped v.made_stop _ _ (total_at (λ (u : PassView). one u.made_stop) s.views id v at) stops grows.stopped had.1.stop e in (
       w,
       gives,
@@ -374,7 +390,7 @@ passes stop c slots id v f g live found grows s k long at word =
               found = λ x e. nones None x refl e;
               stop = λ e. met_when v.met_stop f.stopped v.made_stop stop _ _ stops mine.stop had.1.stop (ap (λ o. v.met_stop || was_stopped o) (sym found) ∙ e);
             });
-        place = inr (g, homes, omega arith, record { config_is = grows.config ∙ had.1.config_is; history_is = refl; stop = is_stopped });
+        place = inr (g, homes, omega arith, record { config_is = grows.config ∙ had.1.config_is; history_is = refl; stop = is_stopped; stopped = stays_so });
         count = counted_set s.views id v w at refl refl k.count;
       },
       (g, refl, refl),
@@ -440,7 +456,7 @@ settles c slots id v idle s k long at word =
         wait = omega arith;
         hands = λ x. let t = total_set (λ (u : PassView). if_hand_is x u.hand) s.views id v w at in let z = k.hands x in omega arith;
         tickets = λ x. let t = total_set (λ (u : PassView). times x u.own) s.views id v w at in let z = k.tickets x in omega arith;
-        each = each_set c k.history _ _ s.views id w (λ j u apart z. fits_more c k.history _ _ _ j u (λ y. omega arith) (k.each j u z)) (record {
+        each = each_set c k.history _ _ s.views id w (λ j u apart z. fits_more c k.history _ _ _ j u (λ y. omega arith) (λ y. omega arith) (k.each j u z)) (record {
           first = mine.first;
           aside = (k.history, refl);
           config_is = mine.config_is;
@@ -449,7 +465,7 @@ settles c slots id v idle s k long at word =
           found = λ f e. nones v.found f idle.found e;
           stop = λ e. let z = mine.stop e in omega arith;
         });
-        place = place_same c k.history s.homes s.views _ (omega arith) (λ z. omega arith) k.place;
+        place = place_same c k.history s.homes s.views _ (omega arith) (λ z. omega arith) (λ z. omega arith) k.place;
         count = counted_set s.views id v w at refl refl k.count;
       },
       (l.0, l.1, refl),
@@ -507,7 +523,7 @@ splits c id v idle opening few s k at =
           let z = k.tickets x in
           omega arith;
       each = λ j u e. ⊎_elim
-          (λ was. each_set c k.history _ _ s.views id w (λ i y apart z. fits_more c k.history _ _ _ i y (λ q. omega arith) (k.each i y z)) (record {
+          (λ was. each_set c k.history _ _ s.views id w (λ i y apart z. fits_more c k.history _ _ _ i y (λ q. omega arith) (λ q. omega arith) (k.each i y z)) (record {
             first = mine.first;
             aside = mine.aside;
             config_is = mine.config_is;
@@ -526,13 +542,17 @@ splits c id v idle opening few s k at =
             stop = λ y. absurd (off false y refl);
           }))
           (at_snoc mid r u j e);
-      place = place_same c k.history s.homes s.views _ (omega arith) (λ z. omega arith) k.place;
+      place = place_same c k.history s.homes s.views _ (omega arith) (λ z. omega arith) (λ z. omega arith) k.place;
       count = (w, at_longer mid (r ∷ []) 0 w (subst (λ (i : ℕ). get_elem? (set s.views id w) i ≡ some w) o.0 (here s.views id v w at)), idle.live, omega arith, omega arith);
     }
 
 or_first : (a b : Bool) → one a ≤ one (a || b)
 or_first true b = omega arith
 or_first false b = let z = one_false false refl in omega arith
+
+or_sum : (a b : Bool) → one (a || b) ≤ one a + one b
+or_sum true b = omega arith
+or_sum false b = omega arith
 
 met_either : (a b : Bool) (n : ℕ) → (a ≡ true → 0 < n) → (b ≡ true → 0 < n) → (a || b) ≡ true → 0 < n
 met_either true b n x y e = x refl
@@ -569,7 +589,9 @@ joins c id v other w idle opening widle s k at apart there =
     let before = k.wait in
     let all = o.1 in
     let few = o.2 in
-    let more : 0 < stoppers s.views → 0 < stoppers (set mid other spent_view) = λ z. omega arith in record {
+    let or3 = or_sum v.made_stop w.made_stop in
+    let more : 0 < stoppers s.views → 0 < stoppers (set mid other spent_view) = λ z. omega arith in
+    let less : 0 < stoppers (set mid other spent_view) → 0 < stoppers s.views = λ z. omega arith in record {
       history = k.history;
       drawn = k.drawn;
       passed = k.passed;
@@ -589,7 +611,7 @@ joins c id v other w idle opening widle s k at apart there =
           let z = k.tickets x in
           omega arith;
       each = each_set c k.history _ _ mid other spent_view
-          (λ j y _ e. each_set c k.history _ _ s.views id u (λ i x _ z. fits_more c k.history _ _ _ i x more (k.each i x z)) (record {
+          (λ j y _ e. each_set c k.history _ _ s.views id u (λ i x _ z. fits_more c k.history _ _ _ i x more less (k.each i x z)) (record {
             first = mine.first;
             aside = theirs.seen;
             config_is = mine.config_is;
@@ -607,7 +629,7 @@ joins c id v other w idle opening widle s k at apart there =
             found = λ f y. nones None f refl y;
             stop = λ y. absurd (off false y refl);
           });
-      place = place_same c k.history s.homes s.views _ (omega arith) more k.place;
+      place = place_same c k.history s.homes s.views _ (omega arith) more less k.place;
       count = (u, set_else mid other 0 spent_view (λ e. apart (sym e ∙ sym o.0)) ∙ subst (λ (i : ℕ). get_elem? (set s.views id u) i ≡ some u) o.0 (here s.views id v u at), idle.live, omega arith, omega arith);
     }
 
@@ -625,7 +647,7 @@ begins c l config empty running =
       hands = λ x. let n = is_none x None refl in omega arith;
       tickets = λ x. refl;
       each = λ j u e. at_first j u e;
-      place = inr (l, refl, omega arith, record { config_is = config; history_is = empty; stop = λ e. absurd (off l.stopped e running) });
+      place = inr (l, refl, omega arith, record { config_is = config; history_is = empty; stop = λ e. absurd (off l.stopped e running); stopped = λ z. absurd (omega arith) });
       count = (opening_view c, refl, refl, omega arith, omega arith);
     }
   where

@@ -1,30 +1,31 @@
 -- What a whole turn leaves.
 use Rattle.std.proofs.Common.{◌≡◌, ℕ, suc, ◌∷◌, [], ◌++◌, List, length, ap, ◌∙◌, sym, refl, subst, true, false, Bool, Some, None, eq-eqb, ne_eqb, length-append, append-nil, arith}
-use Rattle.std.specs.Prelude.{◌||◌}
+use Rattle.std.specs.Prelude.{◌||◌, ◌<◌, if◌then◌else◌}
 use mathlib.Core.List.{IsPrefix}
 use Rattle.atomic_table.specs.Seated.{TableId}
 use Rattle.motion_history.specs.Entries.{Entry}
 use Rattle.motion_history.specs.Setup.{Setup}
-use Rattle.motion_kernel.specs.KernelState.{KernelState}
-use Rattle.kernel_turn.specs.Events.{Makes, with_entry}
+use Rattle.motion_kernel.specs.KernelState.{KernelState, room_of}
+use Rattle.kernel_turn.specs.Events.{HasRoom, Makes, with_entry}
 use Rattle.kernel_turn.specs.Inside.{state_of}
 use Rattle.kernel_turn.specs.PassState.{PassState}
 use Rattle.kernel_turn.specs.PassView.{PassView}
-use Rattle.kernel_turn.specs.Steps.{Grows, Holds, IsWhole, Seated}
-use Rattle.kernel_turn.specs.Turns.{IsClosed, IsFound, IsLawful, TakesTurn, pass_after, pass_after_stop, tickets_of}
+use Rattle.kernel_turn.specs.Steps.{Grows, Holds, IsWhole, Seated, StaysStopped}
+use Rattle.kernel_turn.specs.Turns.{IsClosed, IsFound, IsLawful, MadeUnstopped, TakesTurn, pass_after, pass_after_stop, tickets_of}
 use Rattle.kernel_turn.specs.Views.{ticket_of, view_after_turn, with_found, with_number}
 use Rattle.kernel_turn.specs.declared.turn.Turn.{Turn}
 use Rattle.kernel_turn.specs.declared.turn.Turn.TheVariants.{Made, Full, Early}
 use Rattle.kernel_turn.proofs.Moves.{whole_drawn}
 
 -- what a pass holds that drew a number and then found the kernel
-pub holds_of : (m m1 m2 : Seated) (f : KernelState) (n : ℕ) → m1 ≡ (with_number m.0 n, []) → m2 ≡ (with_found m1.0 f, (0, None) ∷ []) → IsPrefix m1.0.seen f.history → f.config ≡ m1.0.config → (m1.0.opening ≡ true → m1.0.out ≡ 0 → IsWhole m1.0 f) → Holds m.0 f m2
-holds_of m m1 m2 f n drawn found begins config whole =
+pub holds_of : (m m1 m2 : Seated) (f : KernelState) (n : ℕ) → m1 ≡ (with_number m.0 n, []) → m2 ≡ (with_found m1.0 f, (0, None) ∷ []) → IsPrefix m1.0.seen f.history → f.config ≡ m1.0.config → StaysStopped m1.0 f → (m1.0.opening ≡ true → m1.0.out ≡ 0 → IsWhole m1.0 f) → Holds m.0 f m2
+holds_of m m1 m2 f n drawn found begins config stopped whole =
     let v : m1.0 ≡ with_number m.0 n = ap (λ (x : Seated). x.0) drawn in record {
       number = n;
       me = found ∙ ap (λ (y : PassView). (with_found y f, (0, None) ∷ [])) v;
       begins = subst (λ (y : PassView). IsPrefix y.seen f.history) v begins;
       config = config ∙ ap (λ (y : PassView). y.config) v;
+      stopped = subst (λ (y : PassView). StaysStopped y f) v stopped;
       whole = λ a b. whole_drawn m.0 n f (subst (λ (y : PassView). y.opening ≡ true → y.out ≡ 0 → IsWhole y f) v whole a b);
     }
 
@@ -83,6 +84,7 @@ turn_taken old table table' v f g e t m m' is same h makes passed = record {
   found = record {
     begins = subst (λ (p : PassState). IsPrefix p.seen f.history) is h.begins;
     config = h.config ∙ ap (λ (p : PassState). p.config) is;
+    stopped = subst (λ (p : PassState). p.made_stop || p.met_stop ≡ true → f.stopped ≡ true) is h.stopped;
   };
   makes = makes;
   pass = ap (λ (x : Seated). state_of table' x.0) passed ∙ ap (λ (x : Seated). state_of table' (view_after_turn false x.0 g)) h.me
@@ -116,6 +118,7 @@ pub is_found : (old : PassState) (table : TableId) (v : PassView) (f : KernelSta
 is_found old table v f m is h = record {
   begins = subst (λ (p : PassState). IsPrefix p.seen f.history) is h.begins;
   config = h.config ∙ ap (λ (p : PassState). p.config) is;
+  stopped = subst (λ (p : PassState). p.made_stop || p.met_stop ≡ true → f.stopped ≡ true) is h.stopped;
 }
 
 -- a pass that held the kernel and gave it back stopped
@@ -139,8 +142,31 @@ pub closed_of : (p : PassState) (table : TableId) (v : PassView) (f : KernelStat
 closed_of p table v f m is opening none h = subst (λ (q : PassState). IsClosed q f) is (closed (h.whole (ap (λ (q : PassState). q.opening) is ∙ opening) (ap (λ (q : PassState). q.out) is ∙ none)))
   where
     closed : IsWhole v f → IsClosed (state_of table v) f
-    closed w = record { begins = h.begins; config = h.config; tickets = w.tickets; stop = w.stop }
+    closed w = record {
+      begins = h.begins;
+      config = h.config;
+      tickets = w.tickets;
+      stop = w.stop;
+      stopped = λ e. h.stopped (ap (λ b. b || v.met_stop) e);
+    }
 
 -- what a turn makes of a kernel it makes of an equal one
 pub makes_same : {T : Type 0} (entry : KernelState → Entry) (f f' g : KernelState) (t : Turn T) → f ≡ f' → Makes f g (entry f) t → Makes f' g (entry f') t
 makes_same entry f f' g t same makes = subst (λ (k : KernelState). Makes k g (entry k) t) same makes
+
+both_false : (b : Bool) → (b ≡ true → ⊥) → b ≡ false
+both_false true h = absurd (h refl)
+both_false false h = refl
+
+-- a stopped kernel has no room for an entry
+no_room : (k : KernelState) → k.stopped ≡ true → HasRoom k → ⊥
+no_room k stopped room =
+    let full : room_of k ≡ length k.history = ap (λ (b : Bool). if b then length k.history else k.config.entries) stopped in
+    let some : length k.history < room_of k = room in
+    absurd (omega arith)
+
+-- a turn that makes an entry finds the kernel not stopped
+pub made_unstopped : {T : Type 0} (old new : PassState) (f g : KernelState) (e : Entry) (t : Turn T) → TakesTurn old new f g e t → MadeUnstopped old t
+made_unstopped old new f g e (Made ticket cycles answer) taken = both_false _ (λ s. no_room f (taken.found.stopped s) taken.makes.room)
+made_unstopped old new f g e (Full entries cycles) taken = tt
+made_unstopped old new f g e (Early quiet cycles) taken = tt

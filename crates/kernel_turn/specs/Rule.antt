@@ -54,11 +54,13 @@ with_ticket x views = total (λ v. times x v.own) views
 abbrev pub stoppers : List PassView → ℕ
 stoppers views = total (λ v. one v.made_stop) views
 
--- the kernel has this configuration and history, and where it is stopped a pass has made a stop
+-- the kernel has this configuration and history, and is stopped exactly where a pass has made a
+-- stop
 pub record Is (config : Setup) (history : List Entry) (stops : ℕ) (k : KernelState) : Type 0 where
   pub config_is : k.config ≡ config
   pub history_is : k.history ≡ history
   pub stop : k.stopped ≡ true → 0 < stops
+  pub stopped : 0 < stops → k.stopped ≡ true
 
 -- a pass fits the history: what it has seen begins it, it has the kernel only where the next number
 -- is in its hand, and where it has met a stop a pass has made one

@@ -27,12 +27,16 @@ pub record IsWhole (v : PassView) (k : KernelState) : Type 0 where
   pub tickets : (x : ℕ) → times x v.own ≡ once_below x (length k.history)
   pub stop : k.stopped || v.met_stop ≡ true → v.made_stop ≡ true
 
--- the kernel is taken: it has the configuration, and its history begins with what was seen. The
--- opening pass has all tickets, where no other pass is out
+-- where the pass has made or met a stop, the kernel is stopped
+abbrev pub StaysStopped : PassView → KernelState → Type 0
+StaysStopped v k = v.made_stop || v.met_stop ≡ true → k.stopped ≡ true
+
+-- the kernel is taken: it has the configuration, its history begins with what was seen, and it
+-- stays stopped. The opening pass has all tickets, where no other pass is out
 abbrev pub Takes : Seated → Seated → Type 0
 Takes m m' = (k : KernelState) × (m' ≡ (with_found m.0 k, (0, Some k) ∷ m.1)) ×
     IsPrefix m.0.seen k.history × (k.config ≡ m.0.config) ×
-    (m.0.opening ≡ true → m.0.out ≡ 0 → IsWhole m.0 k)
+    StaysStopped m.0 k × (m.0.opening ≡ true → m.0.out ≡ 0 → IsWhole m.0 k)
 
 -- where the number in hand is served the kernel is taken, else nothing changes
 abbrev pub Looks : Step (Option KernelState) → Seated → ℕ → Seated → Type 0
@@ -62,4 +66,5 @@ pub record Holds (before : PassView) (k : KernelState) (m : Seated) : Type 0 whe
   pub me : m ≡ (with_found (with_number before number) k, (0, None) ∷ [])
   pub begins : IsPrefix before.seen k.history
   pub config : k.config ≡ before.config
+  pub stopped : StaysStopped before k
   pub whole : before.opening ≡ true → before.out ≡ 0 → IsWhole before k

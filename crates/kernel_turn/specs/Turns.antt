@@ -14,6 +14,7 @@ use Rattle.motion_kernel.specs.kept.Machine.{AreWhole}
 use Rattle.kernel_turn.specs.Events.{CallTold, CycleTold, EndTold, Makes, call_of, cycle_of}
 use Rattle.kernel_turn.specs.PassState.{PassState}
 use Rattle.kernel_turn.specs.Times.{times, once_below}
+use Rattle.kernel_turn.specs.Views.{longer}
 use Rattle.kernel_turn.specs.declared.turn.Turn.{Turn}
 use Rattle.kernel_turn.specs.declared.turn.Turn.TheVariants.{Made, Full, Early}
 
@@ -38,11 +39,12 @@ pass_after_split p = record p { out = suc p.out }
 abbrev pub split_pass : PassState → PassState
 split_pass p = record p { opening = false; own = []; made_stop = false; met_stop = false; out = 0 }
 
--- a pass that has taken another in: a history that begins with what each had seen, the tickets of
--- both and the marks of either
+-- a pass that has taken another in: the longer of the two histories that were seen, which begins
+-- with each, the tickets of both and the marks of either
 pub record IsJoined (old other new : PassState) : Type 0 where
   pub begins : IsPrefix old.seen new.seen
   pub begins_other : IsPrefix other.seen new.seen
+  pub seen : new.seen ≡ longer old.seen other.seen
   pub pass : new ≡ record old {
     seen = new.seen;
     own = old.own ++ other.own;
@@ -52,10 +54,11 @@ pub record IsJoined (old other new : PassState) : Type 0 where
   }
 
 -- the kernel that a pass finds has its configuration, and a history that begins with what it has
--- seen
+-- seen, and is stopped where the pass has made or met a stop
 pub record IsFound (p : PassState) (k : KernelState) : Type 0 where
   pub begins : IsPrefix p.seen k.history
   pub config : k.config ≡ p.config
+  pub stopped : p.made_stop || p.met_stop ≡ true → k.stopped ≡ true
 
 -- the tickets of a turn: that of its entry, if it made one
 module _ {T : Type 0} where
@@ -129,11 +132,17 @@ module _ {T : Type 0} where
       (entries ≡ new.config.entries) ⊎ (cycles ≡ new.config.cycles)
   FullOfEither new turn = Unit {0}
 
+  -- a turn makes an entry only where the pass has neither made nor met a stop
+  abbrev pub MadeUnstopped : PassState → Turn T → Type 0
+  MadeUnstopped old (Made ticket cycles answer) = old.made_stop || old.met_stop ≡ false
+  MadeUnstopped old turn = Unit {0}
+
 -- at closing the kernel has the pass's configuration and a history that begins with what the pass
--- has seen; the own tickets are all that were given, each once; and a pass that has met a stop has
--- made one
+-- has seen; the own tickets are all that were given, each once; the kernel is stopped exactly where
+-- the pass has made a stop, and a pass that has met one has made one
 pub record IsClosed (p : PassState) (k : KernelState) : Type 0 where
   pub begins : IsPrefix p.seen k.history
   pub config : k.config ≡ p.config
   pub tickets : (x : ℕ) → times x p.own ≡ once_below x (length k.history)
   pub stop : k.stopped || p.met_stop ≡ true → p.made_stop ≡ true
+  pub stopped : p.made_stop ≡ true → k.stopped ≡ true

@@ -3,7 +3,7 @@
 ghost use Rattle.std.specs.Prelude.{◌≡◌, ◌<◌, ◌∷◌, [], IfOk, IsSomeAnd, length, slice_get, Some, true, false};
 ghost use Rattle.motion_history.specs.Calls.{IsCall};
 ghost use Rattle.motion_kernel.specs.KernelState.{KernelState};
-ghost use Rattle.kernel_turn.specs.Turns.{CallAnswered, CycleAnswered, EndAnswered, FullOfEither, FullOfEntries, IsClosed, IsFound, IsJoined, IsLawful, IsSamePass, opening_pass, pass_after_split, pass_after_stop, split_pass};
+ghost use Rattle.kernel_turn.specs.Turns.{CallAnswered, CycleAnswered, EndAnswered, FullOfEither, FullOfEntries, IsClosed, IsFound, IsJoined, IsLawful, IsSamePass, MadeUnstopped, opening_pass, pass_after_split, pass_after_stop, split_pass};
 
 use crate::events::{try_call, try_cycle, try_end};
 use crate::housed::Housed;
@@ -94,6 +94,7 @@ impl KernelTurn {
         requires call { IsCall pass.old.config instance inputs.now }
         ensures answer { CallAnswered after instance inputs.now pass.old pass.new result }
         ensures full { FullOfEntries pass.new result }
+        ensures unstopped { MadeUnstopped pass.old result }
         ensures lawful { IsLawful pass.new.config pass.new.seen }
         ensures same { IsSamePass pass.old pass.new }
     {
@@ -118,6 +119,7 @@ impl KernelTurn {
         requires outs { length outs.old ≡ length pass.old.config.axes }
         ensures answer { CycleAnswered ins.now outs.old outs.new pass.old pass.new result }
         ensures full { FullOfEither pass.new result }
+        ensures unstopped { MadeUnstopped pass.old result }
         ensures lawful { IsLawful pass.new.config pass.new.seen }
         ensures same { IsSamePass pass.old pass.new }
     {
@@ -134,6 +136,7 @@ impl KernelTurn {
         requires task { task < length pass.old.config.tasks }
         ensures answer { EndAnswered task pass.old pass.new result }
         ensures full { FullOfEntries pass.new result }
+        ensures unstopped { MadeUnstopped pass.old result }
         ensures lawful { IsLawful pass.new.config pass.new.seen }
         ensures same { IsSamePass pass.old pass.new }
     {
@@ -144,7 +147,8 @@ impl KernelTurn {
         turn
     }
 
-    /// Stops the kernel: no turn makes an entry after it.
+    /// Stops the kernel: no turn makes an entry after it. The pass has then made a stop, and so has
+    /// one that it is joined into: a later turn of these is not `Made`.
     pub fn turn_stop<R: Wait>(&self, rt: &R, pass: &mut Pass)
         requires own { pass.old.table ≡ self.now }
         ensures stopped { (f : KernelState) × IsFound pass.old f ×

@@ -4,7 +4,7 @@ ghost use Rattle.std.specs.Prelude.{◌≡◌, ◌<◌, ◌%◌, ◌^◌, ◌∷
 ghost use mathlib.Core.List.{IsPrefix};
 ghost use Rattle.motion_kernel.specs.KernelState.{KernelState};
 ghost use Rattle.kernel_turn.specs.Inside.{IsReady};
-ghost use Rattle.kernel_turn.specs.Steps.{Grows, Holds, IsSeatOf, IsWhole, Takes};
+ghost use Rattle.kernel_turn.specs.Steps.{Grows, Holds, IsSeatOf, IsWhole, StaysStopped, Takes};
 ghost use Rattle.kernel_turn.specs.Turns.{IsLawful};
 ghost use Rattle.kernel_turn.specs.Views.{settled_view, split_view, view_after_join, view_after_split, view_after_turn, with_found, with_number};
 
@@ -70,6 +70,7 @@ fn wait<R: Wait>(rt: &R, top: &Top, seat: &mut Place, number: u64) -> Housed
     ensures same { (seat.new.table_id ≡ seat.old.table_id) × (seat.new.id ≡ seat.old.id) }
     ensures found { (seat.new.me ≡ (with_found seat.old.me.0 result, (0, None) ∷ [])) ×
         IsPrefix seat.old.me.0.seen result.history × (result.config ≡ seat.old.me.0.config) }
+    ensures stopped { StaysStopped seat.old.me.0 result }
     ensures whole { seat.old.me.0.opening ≡ true → seat.old.me.0.out ≡ 0 →
         IsWhole seat.old.me.0 result }
 {

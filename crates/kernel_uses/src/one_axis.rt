@@ -3,13 +3,14 @@
 
 ghost use Rattle.std.specs.Prelude.{◌≡◌, ◌∷◌, [], IfOk, IsTrue, OnErr, OnOk, length};
 ghost use Rattle.drive_sim.specs.Steps.{answer_of};
-ghost use Rattle.kernel_uses.specs.Uses.{AddsEntry, GoesOn, next_cycle};
+ghost use Rattle.kernel_uses.specs.Uses.{AddsEntry, GoesOn, next_cycle, row_in};
 ghost use Rattle.kernel_uses.specs.Uses as spec;
+ghost use Rattle.motion_history.specs.LastCycles.{last_cycle_of};
 
 use crate::full_history::{NotMade, try_call, try_cycle};
 use drive_sim::Drive;
 use fb_outputs::INPUTS_OFF;
-use motion_history::{AxisRow, BlockKind, Builder, ConfigFault, EntryLook, Limits};
+use motion_history::{AxisRow, BlockKind, Builder, ConfigFault, Limits};
 use motion_kernel::{Config, DriveOut, Inputs, Kernel, Outputs};
 use std::alloc::Global;
 
@@ -132,12 +133,11 @@ pub fn move_axis(kernel: &mut Kernel, drive: &mut Drive, position: i64) -> Resul
 
 /// The row of an axis in the last cycle, if there was one: what its drive answered and was given,
 /// its state, error and setpoint.
-pub fn last_row(kernel: &Kernel, axis: u8) -> Option<AxisRow> {
-    let history = kernel.history();
-    for place in (0..history.entries()).rev() {
-        if let Some(EntryLook::Cycle { axes, .. }) = history.look(place) {
-            return axes.get(axis as usize).copied();
-        }
+pub fn last_row(kernel: &Kernel, axis: u8) -> Option<AxisRow>
+    ensures { result ≡ row_in axis (last_cycle_of kernel.now.history) }
+{
+    match kernel.last_cycle() {
+        Some(cycle) => cycle.axes.get(axis as usize).copied(),
+        None => None,
     }
-    None
 }

@@ -1,31 +1,15 @@
 -- What a look at a machine shows. This project's profile.
-use Rattle.std.specs.Prelude.{◌≡◌, ◌≢◌, ◌↔◌, ◌≤◌, ◌<◌, ℕ, Option, Some, None, List, [], ◌∷◌, slice_get}
+use Rattle.std.specs.Prelude.{◌≡◌, ◌≢◌, ◌↔◌, ◌≤◌, ◌<◌, ℕ, Option, Some, None, slice_get}
 use Rattle.axis_state.specs.declared.definition.AxisRow.{AxisRow}
 use Rattle.axis_state.specs.declared.state.AxisState.{AxisState}
 use Rattle.axis_state.specs.declared.state.AxisState.TheVariants as axis
 use Rattle.group_state.specs.declared.state.GroupRow.{GroupRow}
 use Rattle.group_state.specs.declared.state.GroupState.{GroupState}
 use Rattle.group_state.specs.declared.state.GroupState.TheVariants as group
-use Rattle.motion_history.specs.Entries.{Entry, call, cycle, end_of}
+use Rattle.motion_history.specs.Entries.{Entry, cycle}
 use Rattle.motion_c.specs.Calls.{bit}
 use Rattle.motion_c.specs.declared.looking.MotionAxisRow.{MotionAxisRow}
 use Rattle.motion_c.specs.declared.looking.MotionGroupRow.{MotionGroupRow}
-
--- an entry, if it is a cycle
-abbrev pub cycle_in : Entry → Option Entry
-cycle_in (call n inputs reply) = None
-cycle_in (cycle n axes groups) = Some (cycle n axes groups)
-cycle_in (end_of task) = None
-
--- the later of two entries, of which each may be missing
-abbrev pub later : Option Entry → Option Entry → Option Entry
-later earlier (Some e) = Some e
-later earlier None = earlier
-
--- the last cycle of a history, if there was one
-abbrev pub last_cycle : List Entry → Option Entry
-last_cycle [] = None
-last_cycle (e ∷ es) = later (cycle_in e) (last_cycle es)
 
 -- the row of an axis in a cycle, if both are there
 abbrev pub axis_row_in : ℕ → Option Entry → Option AxisRow

@@ -2,10 +2,11 @@
 
 ghost use Rattle.std.specs.Prelude.{◌≡◌, ◌≢◌, ◌↔◌, ◌-◌, Some, None, IfSome, length};
 ghost use Rattle.motion_c.specs.Held.{held};
-ghost use Rattle.motion_c.specs.Looks.{TellsLook, axis_row_in, axis_shown, group_row_in, group_shown, last_cycle};
+ghost use Rattle.motion_c.specs.Looks.{TellsLook, axis_row_in, axis_shown, group_row_in, group_shown};
 ghost use Rattle.motion_c.specs.Numbers.{count_in};
 ghost use Rattle.motion_c.specs.declared.machine.Machine.{Machine};
 ghost use Rattle.motion_history.specs.Entries.{cycles_of};
+ghost use Rattle.motion_history.specs.LastCycles.{last_cycle_of};
 ghost use Rattle.motion_kernel.specs.KernelState.{room_of};
 
 use crate::code::{CLOSED, NO_CYCLE, OK, UNKNOWN};
@@ -53,9 +54,9 @@ pub extern "C" fn motion_axis_look(
     ensures closed { (result ≡ 1) ↔ (held motion.old ≡ None) }
     ensures code { (m : Machine) → held motion.old ≡ Some m →
         TellsLook (length m.kernel.config.axes) axis
-        (axis_row_in axis (last_cycle m.kernel.history)) result }
+        (axis_row_in axis (last_cycle_of m.kernel.history)) result }
     ensures shown { (m : Machine) → held motion.old ≡ Some m → result ≡ 0 →
-        IfSome (axis_row_in axis (last_cycle m.kernel.history)) (λ r. look.new ≡ axis_shown r) }
+        IfSome (axis_row_in axis (last_cycle_of m.kernel.history)) (λ r. look.new ≡ axis_shown r) }
     ensures kept { held motion.new ≡ held motion.old }
     ensures same { result ≢ 0 → look.new ≡ look.old }
 {
@@ -78,9 +79,10 @@ pub extern "C" fn motion_group_look(
     ensures closed { (result ≡ 1) ↔ (held motion.old ≡ None) }
     ensures code { (m : Machine) → held motion.old ≡ Some m →
         TellsLook (length m.kernel.config.groups) group
-        (group_row_in group (last_cycle m.kernel.history)) result }
+        (group_row_in group (last_cycle_of m.kernel.history)) result }
     ensures shown { (m : Machine) → held motion.old ≡ Some m → result ≡ 0 →
-        IfSome (group_row_in group (last_cycle m.kernel.history)) (λ r. look.new ≡ group_shown r) }
+        IfSome (group_row_in group (last_cycle_of m.kernel.history))
+        (λ r. look.new ≡ group_shown r) }
     ensures kept { held motion.new ≡ held motion.old }
     ensures same { result ≢ 0 → look.new ≡ look.old }
 {
@@ -123,16 +125,17 @@ pub extern "C" fn motion_room_left(alloc: Global, motion: &mut Motion) -> u64
 // Looks at an axis.
 fn look_at_axis(kernel: &Kernel, axis: u8, look: &mut MotionAxisRow) -> u32
     ensures code { TellsLook (length kernel.now.config.axes) axis
-        (axis_row_in axis (last_cycle kernel.now.history)) result }
+        (axis_row_in axis (last_cycle_of kernel.now.history)) result }
     ensures open { result ≢ 1 }
     ensures shown { result ≡ 0 →
-        IfSome (axis_row_in axis (last_cycle kernel.now.history)) (λ r. look.new ≡ axis_shown r) }
+        IfSome (axis_row_in axis (last_cycle_of kernel.now.history))
+        (λ r. look.new ≡ axis_shown r) }
     ensures same { result ≢ 0 → look.new ≡ look.old }
 {
     if axis as usize >= kernel.config().axes().len() {
         return UNKNOWN;
     }
-    match axis_row(kernel.history(), axis) {
+    match axis_row(kernel, axis) {
         Some(row) => {
             *look = row_of_axis(&row);
             OK
@@ -144,17 +147,17 @@ fn look_at_axis(kernel: &Kernel, axis: u8, look: &mut MotionAxisRow) -> u32
 // Looks at a group.
 fn look_at_group(kernel: &Kernel, group: u8, look: &mut MotionGroupRow) -> u32
     ensures code { TellsLook (length kernel.now.config.groups) group
-        (group_row_in group (last_cycle kernel.now.history)) result }
+        (group_row_in group (last_cycle_of kernel.now.history)) result }
     ensures open { result ≢ 1 }
     ensures shown { result ≡ 0 →
-        IfSome (group_row_in group (last_cycle kernel.now.history))
+        IfSome (group_row_in group (last_cycle_of kernel.now.history))
         (λ r. look.new ≡ group_shown r) }
     ensures same { result ≢ 0 → look.new ≡ look.old }
 {
     if group as usize >= kernel.config().groups().len() {
         return UNKNOWN;
     }
-    match group_row(kernel.history(), group) {
+    match group_row(kernel, group) {
         Some(row) => {
             *look = row_of_group(&row);
             OK

@@ -1,69 +1,32 @@
 // The rows of the last cycle, and how C has them.
 
-ghost use Rattle.std.specs.Prelude.{◌≡◌, slice_get};
-ghost use Rattle.std.specs.Option.{option_and_then, option_map};
+ghost use Rattle.std.specs.Prelude.{◌≡◌};
 ghost use Rattle.motion_c.specs.Looks as spec;
-ghost use Rattle.motion_c.specs.Looks.{axis_row_in, axis_shown, cycle_in, group_row_in, group_shown, last_cycle};
-ghost use Rattle.motion_history.specs.Looks.{told};
+ghost use Rattle.motion_c.specs.Looks.{axis_row_in, axis_shown, group_row_in, group_shown};
+ghost use Rattle.motion_history.specs.LastCycles.{last_cycle_of};
 
 use crate::looking::{MotionAxisRow, MotionGroupRow};
 use axis_state::{AxisRow, AxisState};
 use group_state::{GroupRow, GroupState};
-use motion_history::{EntryLook, History};
+use motion_kernel::Kernel;
 
 /// The row of an axis in the last cycle.
-pub fn axis_row(history: &History, axis: u8) -> Option<AxisRow>
-    ensures { result ≡ axis_row_in axis (last_cycle history.now.entries) }
+pub fn axis_row(kernel: &Kernel, axis: u8) -> Option<AxisRow>
+    ensures { result ≡ axis_row_in axis (last_cycle_of kernel.now.history) }
 {
-    match latest_cycle(history) {
-        Some(EntryLook::Cycle { axes, .. }) => axes.get(axis as usize).copied(),
-        _ => None,
+    match kernel.last_cycle() {
+        Some(cycle) => cycle.axes.get(axis as usize).copied(),
+        None => None,
     }
 }
 
 /// The row of a group in the last cycle.
-pub fn group_row(history: &History, group: u8) -> Option<GroupRow>
-    ensures { result ≡ group_row_in group (last_cycle history.now.entries) }
+pub fn group_row(kernel: &Kernel, group: u8) -> Option<GroupRow>
+    ensures { result ≡ group_row_in group (last_cycle_of kernel.now.history) }
 {
-    match latest_cycle(history) {
-        Some(EntryLook::Cycle { groups, .. }) => groups.get(group as usize).copied(),
-        _ => None,
-    }
-}
-
-// The last cycle: the entries are looked at from the last one on backwards.
-fn latest_cycle(history: &History) -> Option<EntryLook<'_>>
-    ensures { option_map told result ≡ last_cycle history.now.entries }
-{
-    let mut place = history.entries();
-    while place > 0 {
-        place -= 1;
-        let cycle = cycle_at(history, place);
-        if cycle.is_some() {
-            return cycle;
-        }
-    }
-    None
-}
-
-// The entry at a place, if it is a cycle.
-fn cycle_at(history: &History, place: u64) -> Option<EntryLook<'_>>
-    ensures { option_map told result ≡
-        option_and_then cycle_in (slice_get history.now.entries place) }
-{
-    match history.look(place) {
-        Some(
-            EntryLook::Cycle {
-                number,
-                axes,
-                groups,
-            },
-        ) => Some(EntryLook::Cycle {
-            number,
-            axes,
-            groups,
-        }),
-        _ => None,
+    match kernel.last_cycle() {
+        Some(cycle) => cycle.groups.get(group as usize).copied(),
+        None => None,
     }
 }
 

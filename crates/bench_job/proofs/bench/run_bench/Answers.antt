@@ -1,6 +1,6 @@
 -- The trace of the run was written, or there was no memory for the run.
 use Rattle.std.proofs.Common.{refl}
-use Rattle.bench_job.proofs.EndLaws.{bench-ends, can-hold, runs-bench, runs-other}
+use Rattle.bench_job.proofs.EndLaws.{bench-ends, can-hold, runs-bench, runs-other, traced-run}
 use Rattle.bench_job.proofs.bench.run_bench.Goals as goal
 
 pub returns-in_default-clause-ends : goal.returns-in_default-clause-ends
