@@ -16,8 +16,8 @@
  *
  * All else is tested by the calls themselves: a closed handle, a wrong number, length or range is
  * answered by a code, and then the call has changed nothing at all. No call blocks, makes a system
- * call or touches anything but its handle and what it is given. motion_open, motion_trace and
- * motion_close alone take or give memory.
+ * call or touches anything but its handle and what it is given. motion_open, motion_open_config,
+ * motion_trace and motion_close alone take or give memory.
  *
  * This is no safety function: a real machine has its own.
  *
@@ -174,6 +174,19 @@ enum motion_group_state {
  *   MOTION_NO_MEMORY */
 uint32_t motion_open(motion *m, const uint8_t *text, size_t len, motion_refusal *why);
 
+/* Opens a closed handle by the two texts that `motion run` takes (docs/formats.md): a configuration in
+ * TOML, in units of its own with nine decimals, and a program, whose tasks and blocks the machine gets.
+ * Other lines of the program are read and not kept: the calls are yours. Here a position or a rate is a
+ * number of internal units, of which one of the configuration's units has 10^9, and rates count a cycle;
+ * traces are of version 2. motion_setup, below, writes the program by calls.
+ *   MOTION_OK        the machine is open, at rest, and its history empty
+ *   MOTION_OPEN      exactly where the handle is open; it stays so
+ *   MOTION_REFUSED   one of the texts breaks a rule, the configuration a C and the program a P: `why`
+ *                    tells where
+ *   MOTION_NO_MEMORY */
+uint32_t motion_open_config(motion *m, const uint8_t *config, size_t config_len,
+                            const uint8_t *program, size_t program_len, motion_refusal *why);
+
 /* Closes a handle, and gives all its memory back.
  *   MOTION_OK        the handle is closed, and may be opened anew
  *   MOTION_CLOSED    exactly where it was closed */
@@ -245,6 +258,68 @@ uint32_t motion_trace(motion *m, const motion_drive_in *last, size_t len);
  * copied: `len`, or what is left. 0 behind its end, where none was made, and where the handle is
  * closed. */
 uint64_t motion_trace_text(motion *m, uint64_t from, uint8_t *room, size_t len);
+
+/* The tasks and blocks of a machine, added one by one before it is opened by a configuration:
+ *
+ *     uint8_t room[1000];
+ *     motion_setup s;
+ *     motion_setup_begin(&s, room, sizeof room);
+ *     motion_setup_task(&s, "main");
+ *     motion_setup_block(&s, "MX", "MoveAbsolute", "X");     a block of the task before it
+ *     motion_open_setup(&m, config, config_len, &s, &why);
+ *
+ * They are lines of a program in `room`, 600 bytes for ten blocks; a name or a kind that breaks a rule
+ * is told when the machine is opened, by its line. Blocks and tasks count from 0 in their order. */
+typedef struct motion_setup {
+    uint8_t *text;
+    size_t room;
+    size_t len;   /* what stands in `text`; more than `room` where it didn't fit */
+} motion_setup;
+
+static inline void motion_setup_put(motion_setup *s, const char *word)
+{
+    for (; *word; word++) {
+        if (s->len < s->room)
+            s->text[s->len] = (uint8_t)*word;
+        s->len++;
+    }
+}
+
+static inline void motion_setup_begin(motion_setup *s, uint8_t *text, size_t room)
+{
+    s->text = text;
+    s->room = room;
+    s->len = 0;
+    motion_setup_put(s, "motion-program 1\n");
+}
+
+static inline void motion_setup_task(motion_setup *s, const char *name)
+{
+    motion_setup_put(s, "task ");
+    motion_setup_put(s, name);
+    motion_setup_put(s, "\n");
+}
+
+static inline void motion_setup_block(motion_setup *s, const char *name, const char *kind,
+                                      const char *object)
+{
+    motion_setup_put(s, "block ");
+    motion_setup_put(s, name);
+    motion_setup_put(s, " ");
+    motion_setup_put(s, kind);
+    motion_setup_put(s, " ");
+    motion_setup_put(s, object);
+    motion_setup_put(s, "\n");
+}
+
+/* motion_open_config with these tasks and blocks; MOTION_NO_MEMORY where they didn't fit into their
+ * room, and then nothing is done. */
+static inline uint32_t motion_open_setup(motion *m, const uint8_t *config, size_t config_len,
+                                         const motion_setup *s, motion_refusal *why)
+{
+    return s->len <= s->room ? motion_open_config(m, config, config_len, s->text, s->len, why)
+                             : (uint32_t)MOTION_NO_MEMORY;
+}
 
 /* What the library asks of its host, over malloc or an arena: motion_heap.c has them. `ok` is 1 where
  * `p` is a block of `size` bytes, or of `align` where that is 0; it is aligned to 16. */

@@ -17,7 +17,6 @@ pub mod KeptPowers
 pub mod ShownKept
 pub mod FateLaws
 pub mod ToldLaws
-pub mod OwnerLaws
 pub mod ArrivalLaws
 pub mod DoneLaws
 pub mod BlendedLaws

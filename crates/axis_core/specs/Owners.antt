@@ -1,6 +1,6 @@
--- Which instance has a command of an axis, how often, and how often it is told of an end (PLCopen
--- Motion Control Part 1, general rules).
-use Rattle.std.specs.Prelude.{ℕ, ◌+◌, map, Option, Some, None, ◌≤◌}
+-- Which instance has a command of an axis, and how often (PLCopen Motion Control Part 1, general
+-- rules).
+use Rattle.std.specs.Prelude.{ℕ, ◌+◌, map, Option, Some, None}
 use Rattle.buffer_modes.specs.Owners.{is_owner, owner_by, waits_of}
 use Rattle.command_pool.specs.declared.kind.BlockKind.{BlockKind}
 use Rattle.command_pool.specs.declared.kind.BlockKind.TheVariants as kind
@@ -17,10 +17,6 @@ abbrev pub owns : ℕ → Core → ℕ
 owns k c =
     is_owner k (owner_by c.axis.active) + waits_of k c.waiting
     + is_owner k (reset_owner c.axis.reset)
-
--- no instance has two commands of the axis
-abbrev pub AreApart : Core → Type 0
-AreApart c = (k : ℕ) → owns k c ≤ 1
 
 -- the owner that a command brings which is not refused; a GearOut and a CamOut are done at once
 abbrev pub owner_brought_by : BlockKind → Wanted → Option ℕ

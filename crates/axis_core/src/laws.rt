@@ -1,7 +1,7 @@
 // Laws of an axis: each is the contract of a function that does nothing.
 
-ghost use Rattle.std.specs.Prelude.{◌≡◌, ◌↔◌, ◌+ℤ◌, ◌≤◌, ◌⊎◌, length, IsTrue, None, ℤ, [], ◌+◌, ℕ, Bool, true, false, nat_eq};
-ghost use Rattle.buffer_modes.specs.Owners.{IsSame, is_owner, told};
+ghost use Rattle.std.specs.Prelude.{◌≡◌, ◌↔◌, ◌+ℤ◌, ◌≤◌, ◌⊎◌, length, IsTrue, None, ℤ, [], ℕ, Bool, true, nat_eq};
+ghost use Rattle.buffer_modes.specs.Owners.{IsSame};
 ghost use Rattle.command_pool.specs.declared.wanted.Wanted.{Wanted};
 ghost use Rattle.axis_core.specs.AxisKept.{IsAxisDef, IsCoreKept, IsLook};
 ghost use Rattle.axis_core.specs.Changes.{GoesBy};
@@ -16,8 +16,8 @@ ghost use Rattle.axis_core.specs.Steps.{is_safe_step, taken_step_in};
 ghost use Rattle.axis_state.specs.declared.state.AxisState.TheVariants as state;
 ghost use Rattle.kin_core.specs.Admissible.{AreLimits, IsKept, IsSafe, IsTakenStep};
 ghost use Rattle.buffer_modes.specs.Fates.{IsFate, TellsOwner};
-ghost use Rattle.axis_core.specs.Owners.{AreApart, owns, owner_brought, core_without_owner};
-ghost use Rattle.axis_core.specs.Refusals.{Asked, refusal_of};
+ghost use Rattle.axis_core.specs.Owners.{core_without_owner};
+ghost use Rattle.axis_core.specs.Refusals.{Asked};
 ghost use Rattle.axis_core.specs.Rows.{KeepsSpell, Stays};
 ghost use Rattle.axis_core.specs.Shown.{IsShown};
 ghost use Rattle.axis_core.specs.blocks.Path.{axis_on_path};
@@ -103,46 +103,17 @@ pub fn fates_are_told()
     owners_are_taken_away();
 }
 
-/// The owner of the active command is told how it ends; and each instance is told of each command
-/// that it has no longer, once, and of no other: what it has and what it was told stay the same
-/// together, but for the command that it brings.
-pub fn ends_are_told_once()
+/// The owner of the active command is told how it ends, by a command that is asked, a Power and a
+/// cycle.
+pub fn ends_are_told()
     ensures told_command { (q : Asked) (c : Core) →
         TellsOwner (command_fate q c) c.axis.active (core_after_command q c).notes }
     ensures told_power { (enable : Bool) (c : Core) →
         TellsOwner (power_fate enable c) c.axis.active (core_after_power enable c).notes }
     ensures told_cycle { (look : AxisLook) (c : Core) →
         TellsOwner (cycle_fate look c) c.axis.active (core_after_cycle look c).notes }
-    ensures once_command { (k : ℕ) (q : Asked) (c : Core) →
-        owns k (core_after_command q c) + told k (core_after_command q c).notes
-        ≡ owns k c + told k c.notes + is_owner k (owner_brought (refusal_of q) q.wanted) }
-    ensures once_power { (k : ℕ) (enable : Bool) (c : Core) →
-        owns k (core_after_power enable c) + told k (core_after_power enable c).notes
-        ≡ owns k c + told k c.notes }
-    ensures once_cycle { (k : ℕ) (look : AxisLook) (c : Core) →
-        owns k (core_after_cycle look c) + told k (core_after_cycle look c).notes
-        ≡ owns k c + told k c.notes }
-    ensures taken_away { (k : ℕ) (c : Core) → owns k (core_without_owner k c) ≡ 0 }
-    ensures left { (j k : ℕ) (c : Core) → nat_eq k j ≡ false →
-        owns j (core_without_owner k c) ≡ owns j c }
 {
     ends_tell_their_owners();
-    owners_are_taken_away();
-}
-
-/// Owners stay apart: where no instance has two commands of the axis, none has after a command that
-/// is asked by one that has none, after a Power, a cycle, and where an owner is taken away.
-pub fn owners_stay_apart()
-    ensures command { (q : Asked) (c : Core) → AreApart c → c.notes ≡ [] →
-        ((k : ℕ) → owns k c + is_owner k q.wanted.owner ≤ 1) → AreApart (core_after_command q c) }
-    ensures power { (enable : Bool) (c : Core) → AreApart c → c.notes ≡ [] →
-        AreApart (core_after_power enable c) }
-    ensures cycle { (look : AxisLook) (c : Core) → AreApart c → c.notes ≡ [] →
-        AreApart (core_after_cycle look c) }
-    ensures detach { (owner : ℕ) (c : Core) → AreApart c → AreApart (core_without_owner owner c) }
-{
-    ends_tell_their_owners();
-    owners_are_taken_away();
 }
 
 /// The taken step is the safe step nearest to the wanted one, and a step is safe exactly where it
@@ -201,14 +172,9 @@ pub fn moving_axes_have_commands()
         StaysLed c.axis (core_after_cycle look c).axis }
 {}
 
-/// At most eight commands wait for an axis: a command that is asked keeps that, and a Power and a
-/// cycle add none.
+/// Where at most eight commands wait for an axis, at most eight do after a command that is asked.
 pub fn at_most_eight_wait()
     ensures command { (c : Core) (number : ℕ) (w : Wanted) (jerk : ℤ) (held : Bool) (tables : ℕ) →
         IsCoreKept c → IsMade w → length c.waiting ≤ 8 →
         length (core_after_command (asked_in c number w jerk held tables) c).waiting ≤ 8 }
-    ensures power { (enable : Bool) (c : Core) →
-        length (core_after_power enable c).waiting ≤ length c.waiting }
-    ensures cycle { (look : AxisLook) (c : Core) →
-        length (core_after_cycle look c).waiting ≤ length c.waiting }
 {}

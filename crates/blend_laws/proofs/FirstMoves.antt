@@ -12,7 +12,7 @@ use Rattle.trapezoid_plan.specs.MoveRun.{IsHeading, HeadsFor, IsDoneWithin, move
 use Rattle.blend_plan.specs.Blends.{BlendApplies, blend_applies}
 use Rattle.blend_plan.specs.BlendRun.{HasBlend, SettlesWithin, CrossesWithin, blend_taken_of, has_crossed}
 use Rattle.blend_laws.specs.FirstMove.{FirstEnds, FirstEndsWithin, crossing_bound_of, first_bound_of, first_taken_of}
-use Rattle.blend_laws.proofs.Given.{IsUnderWay, AreUnderWay, AreMoves, AreBlends}
+use Rattle.blend_laws.specs.Given.{IsUnderWay, AreUnderWay, AreMoves, AreBlends}
 
 -- after some number of cycles the first move ends
 pub record Ends (limits : Limits) (target1 target2 before now : ℤ) (first second : Rates) (vb : ℤ) : Type 0 where

@@ -5,7 +5,7 @@ use Rattle.kin_core.specs.Laws.{AreTakenSteps}
 use Rattle.command_pool.specs.declared.rates.Rates.{Rates}
 use Rattle.trapezoid_plan.specs.MoveRun.{move_taken_of}
 use Rattle.blend_plan.specs.BlendRun.{blend_taken_of}
-use Rattle.blend_laws.proofs.Given.{IsUnderWay, AreUnderWay}
+use Rattle.blend_laws.specs.Given.{IsUnderWay, AreUnderWay}
 
 module _ (taken : AreTakenSteps) where
   pub move-kept : (limits : Limits) (rates : Rates) (target before now : ℤ) → IsUnderWay limits rates target before now →

@@ -1,4 +1,3 @@
-pub mod Given
 pub mod Kept
 pub mod SecondMoves
 pub mod FirstMoves

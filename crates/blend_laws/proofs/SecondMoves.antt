@@ -11,7 +11,7 @@ use Rattle.blend_plan.specs.Blends.{BlendApplies}
 use Rattle.blend_plan.specs.BlendStep.{Crosses}
 use Rattle.blend_plan.specs.BlendRun.{has_crossed}
 use Rattle.blend_laws.specs.SecondMove.{NeverPasses}
-use Rattle.blend_laws.proofs.Given.{IsUnderWay, AreHeading, AreCrossings}
+use Rattle.blend_laws.specs.Given.{IsUnderWay, AreHeading, AreCrossings}
 
 module _ (heading : AreHeading) where
   -- a move that heads for its target never passes it

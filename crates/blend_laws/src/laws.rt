@@ -7,6 +7,7 @@ ghost use Rattle.command_pool.specs.Rates.{AreRates};
 ghost use Rattle.trapezoid_plan.specs.MoveRun.{IsMoveWithin};
 ghost use Rattle.blend_plan.specs.Blends.{BlendApplies};
 ghost use Rattle.blend_plan.specs.BlendRun.{HasBlend, IsBlendWithin, has_crossed};
+ghost use Rattle.blend_laws.specs.Given.{AreBlends, AreMoves};
 ghost use Rattle.blend_laws.specs.FirstMove.{FirstEndsWithin, crossing_bound_of, first_bound_of};
 ghost use Rattle.blend_laws.specs.SecondMove.{NeverPasses};
 
@@ -46,11 +47,26 @@ pub fn first_moves_end()
         limits target1 target2 before now first second vb }
 {
     ways_to_rest();
+    moves_go_by_their_laws();
+    blends_go_by_their_laws();
+}
+
+// What is known of each move by itself.
+fn moves_go_by_their_laws()
+    ensures { AreMoves }
+{
     taken_steps_keep();
     moves_arrive_in_time();
     cycles_bounds_grow();
     moves_head_for_their_targets();
     moves_that_head_away_brake();
+}
+
+// What is known of each blend.
+fn blends_go_by_their_laws()
+    ensures { AreBlends }
+{
+    taken_steps_keep();
     blends_apply_by_test();
     blends_settle();
     blends_without_steps_brake();

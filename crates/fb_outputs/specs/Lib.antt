@@ -4,3 +4,4 @@ pub mod Inputs
 pub mod InputParts
 pub mod Replies
 pub mod Names
+pub mod Flags

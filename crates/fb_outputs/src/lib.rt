@@ -4,6 +4,7 @@
 //! It stands on `command_pool`. Begin at [`Instance`] and [`takes`].
 #![tactic(auto)]
 
+mod flag;
 mod inputs;
 mod instance;
 mod kind_inputs;
@@ -15,6 +16,7 @@ mod reply;
 mod tests;
 
 pub use command_pool::{BlockKind, BufferMode, Finish, Rates, Refusal};
+pub use flag::{Flag, flag_named, is_shown};
 pub use inputs::{INPUTS_OFF, Input, Inputs, takes};
 pub use instance::{Edge, Instance, Progress};
 pub use kind_inputs::are_inputs;

@@ -5,7 +5,6 @@ pub mod PathChanges
 pub mod ShownLaws
 pub mod WaitingLaws
 pub mod ChangeLaws
-pub mod OwnerLaws
 pub mod ToldLaws
 pub mod CourseLaws
 pub mod StepLaws

@@ -1,21 +1,17 @@
 -- At most eight commands wait for a group.
-use Rattle.std.specs.Prelude.{◌≡◌, refl, ℕ, suc, ◌≤◌, Bool, true, false, not, ◌&&◌, ◌||◌, nat_eq, ℤ, Option, Some, None, is_none, is_some, List, [], ◌∷◌, ◌++◌, length, if◌then◌else◌}
-use Rattle.std.proofs.Common.{ap, subst, arith, inl, inr}
+use Rattle.std.specs.Prelude.{◌≡◌, refl, ◌≤◌, Bool, true, false, not, ◌&&◌, ◌||◌, nat_eq, ℤ, Option, Some, None, is_none, is_some, List, [], ◌∷◌, length, if◌then◌else◌}
+use Rattle.std.proofs.Common.{subst, arith, inl, inr}
 use Rattle.std.proofs.lemmas.Bool.{cases_eq}
 use Rattle.std.proofs.lemmas.List.{length-append}
-use Rattle.buffer_modes.specs.Queue.{Commands, active_note, behind, is_aborting}
-use Rattle.command_pool.specs.declared.ending.Finish.{Finish}
+use Rattle.buffer_modes.specs.Queue.{Commands, behind, is_aborting}
 use Rattle.command_pool.specs.declared.kind.BlockKind.{BlockKind}
 use Rattle.command_pool.specs.declared.kind.BlockKind.TheVariants as kind
 use Rattle.command_pool.specs.declared.wanted.Wanted.{Wanted}
-use Rattle.group_core.specs.Calls.{admitted_by, asked_in, braked_for, commanded, commanded_by, powered_off, queued, waits_for_rest}
-use Rattle.group_core.specs.Cores.{Core, ended, ended_by, failed, line_begun, taken_over}
-use Rattle.group_core.specs.Cycles.{answered, cycled, ending_of, moved, path_after}
+use Rattle.group_core.specs.Calls.{admitted_by, asked_in, braked_for, commanded, commanded_by, queued, waits_for_rest}
+use Rattle.group_core.specs.Cores.{Core, line_begun}
 use Rattle.group_core.specs.GroupKept.{IsMade}
 use Rattle.group_core.specs.Kinds.{tests_of}
 use Rattle.group_core.specs.Refusals.{holds, refusal_of}
-use Rattle.group_core.specs.States.{may_fail}
-use Rattle.group_core.specs.Tracks.{places_at}
 use Rattle.group_core.specs.declared.look.GroupLook.{GroupLook}
 use Rattle.group_core.specs.declared.reason.Reason.{Reason}
 use Rattle.group_core.proofs.KeptCalls.{by-if, of_kind}
@@ -70,39 +66,3 @@ few-asked (Some r) members w jerk c m h few = few
 pub command-few : (w : Wanted) (jerk : ℤ) (members : GroupLook) (c : Core) → IsMade c.group.axes w → length c.waiting ≤ 8 → length (commanded w jerk members c).waiting ≤ 8
 unfolding commanded
 command-few w jerk members c m few = few-asked (refusal_of (asked_in c w jerk members)) members w jerk c m refl few
-
--- no more than before
-abbrev NoMore : Core → Core → Type 0
-NoMore before after = length after.waiting ≤ length before.waiting
-
-failed-less : (n : ℕ) (c : Core) → NoMore c (failed n c)
-unfolding failed
-failed-less n c = omega arith
-
-pub off-few : (c : Core) → length (powered_off c).waiting ≤ length c.waiting
-unfolding powered_off
-off-few c = by-if (NoMore c) (may_fail c.group.state) (failed 102 c) c (λ h. failed-less 102 c) (λ h. omega arith)
-
-taken-less : (members : GroupLook) (s : List ℤ) (ws : List Wanted) (c : Core) → c.waiting ≡ ws → NoMore c (taken_over members s ws c)
-taken-less members s [] c e = omega arith
-taken-less members s (w ∷ ws) c e = let many : length c.waiting ≡ suc (length ws) = ap length e in omega arith
-
-ended-less : (members : GroupLook) (s : List ℤ) (o : Option Finish) (c : Core) → NoMore c (ended_by members s o c)
-unfolding ended
-ended-less members s None c = omega arith
-ended-less members s (Some f) c =
-    taken-less members s c.waiting (record c { group = record c.group { active = None }; notes = c.notes ++ active_note f c.group.active }) refl
-
-moved-less : (members : GroupLook) (c : Core) → NoMore c (moved members c)
-moved-less members c =
-    ended-less members (places_at (path_after c.group c.path) members.setpoints) (ending_of c.group c.path) (record c { path = path_after c.group c.path })
-
-answered-less : (error : ℕ) (c : Core) → NoMore c (answered error c)
-answered-less error c = by-if (NoMore c) (not (nat_eq error 0) && may_fail c.group.state) (failed error c) c (λ h. failed-less error c) (λ h. omega arith)
-
-pub cycle-few : (members : GroupLook) (c : Core) → length (cycled members c).waiting ≤ length c.waiting
-unfolding cycled
-cycle-few members c =
-    let a = answered-less members.error c in
-    let b = moved-less members (answered members.error c) in
-    omega arith

@@ -1,5 +1,5 @@
--- Which instance has a command of a group, how often, and how often it is told of an end (PLCopen
--- Motion Control Part 1, general rules).
+-- Which instance has a command of a group, and how often (PLCopen Motion Control Part 1, general
+-- rules).
 use Rattle.std.specs.Prelude.{ℕ, ◌+◌, Option, Some, None}
 use Rattle.buffer_modes.specs.Owners.{is_owner, owner_by, waits_of}
 use Rattle.command_pool.specs.declared.kind.BlockKind.{BlockKind}

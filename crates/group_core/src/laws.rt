@@ -1,8 +1,8 @@
 // Laws of a group: each is the contract of a function that does nothing.
 
 ghost use Rattle.std.specs.Ordering.{int_eq};
-ghost use Rattle.std.specs.Prelude.{◌≡◌, ◌⊎◌, ◌+◌, ◌<◌, ◌≤◌, nat_eq, length, ℕ, ℤ, pos, Bool, true, false, Some, None, List};
-ghost use Rattle.buffer_modes.specs.Owners.{IsSame, is_owner, told};
+ghost use Rattle.std.specs.Prelude.{◌≡◌, ◌⊎◌, ◌<◌, ◌≤◌, length, ℕ, ℤ, pos, Bool, true, false, Some, None, List};
+ghost use Rattle.buffer_modes.specs.Owners.{IsSame};
 ghost use Rattle.command_pool.specs.declared.wanted.Wanted.{Wanted};
 ghost use Rattle.group_core.specs.Calls.{asked_in, commanded, disowned, group_without, powered_off};
 ghost use Rattle.group_core.specs.Changes.{IsNext};
@@ -13,7 +13,6 @@ ghost use Rattle.group_core.specs.Fates.{command_fate, cycle_fate, is_failing, p
 ghost use Rattle.group_core.specs.GroupKept.{AreGroupLimits, IsCoreKept, IsCount, IsLook, IsMade};
 ghost use Rattle.group_core.specs.Members.{StandsOn, TakesSafely};
 ghost use Rattle.buffer_modes.specs.Fates.{IsFate, TellsOwner};
-ghost use Rattle.group_core.specs.Owners.{brought, owns};
 ghost use Rattle.group_core.specs.Refusals.{limits_in, refusal_of};
 ghost use Rattle.group_core.specs.Shown.{IsShown};
 ghost use Rattle.group_core.specs.States.{is_error_stop};
@@ -178,10 +177,9 @@ pub fn courses_end_in_time()
     halts_come_to_rest_in_time();
 }
 
-/// The owner of the active command is told how it ends; and each instance is told of each command
-/// that it has no longer, once, and of no other: what it has and what it was told stay the same
-/// together, but for the command that it brings.
-pub fn ends_are_told_once()
+/// The owner of the active command is told how it ends, by a command that is asked, a Power off of
+/// a member and a cycle.
+pub fn ends_are_told()
     ensures told_command { (w : Wanted) (jerk : ℤ) (members : GroupLook) (c : Core) →
         TellsOwner (command_fate w jerk members c) c.group.active
         (commanded w jerk members c).notes }
@@ -189,22 +187,8 @@ pub fn ends_are_told_once()
         TellsOwner (power_off_fate c) c.group.active (powered_off c).notes }
     ensures told_cycle { (members : GroupLook) (c : Core) →
         TellsOwner (cycle_fate members c) c.group.active (cycled members c).notes }
-    ensures once_command { (k : ℕ) (w : Wanted) (jerk : ℤ) (members : GroupLook) (c : Core) →
-        owns k (commanded w jerk members c) + told k (commanded w jerk members c).notes
-        ≡ owns k c + told k c.notes + is_owner k (brought (refusal_of
-        (asked_in c w jerk members)) w) }
-    ensures once_power_off { (k : ℕ) (c : Core) →
-        owns k (powered_off c) + told k (powered_off c).notes ≡ owns k c + told k c.notes }
-    ensures once_cycle { (k : ℕ) (members : GroupLook) (c : Core) →
-        owns k (cycled members c) + told k (cycled members c).notes ≡ owns k c + told k c.notes }
-    ensures once_reset { (k : ℕ) (members : GroupLook) (c : Core) →
-        owns k (reset_cycled members c) + told k (reset_cycled members c).notes
-        ≡ owns k c + told k c.notes }
-    ensures taken_away { (k : ℕ) (c : Core) → owns k (disowned k c) ≡ 0 }
-    ensures left { (j k : ℕ) (c : Core) → nat_eq k j ≡ false → owns j (disowned k c) ≡ owns j c }
 {
     ends_tell_their_owners();
-    owners_are_taken_away();
 }
 
 /// A group changes its state by the diagram alone: each call, each cycle and each GroupReset takes
@@ -236,13 +220,9 @@ pub fn errors_stand_in_error_stop()
         IsShown (reset_where members on_path g) }
 {}
 
-/// At most eight commands wait for a group: a command that is asked keeps that, and a Power off of
-/// a member and a cycle add none.
+/// Where at most eight commands wait for a group, at most eight do after a command that is asked.
 pub fn at_most_eight_wait()
     ensures command { (w : Wanted) (jerk : ℤ) (members : GroupLook) (c : Core) →
         IsMade c.group.axes w → length c.waiting ≤ 8 →
         length (commanded w jerk members c).waiting ≤ 8 }
-    ensures power_off { (c : Core) → length (powered_off c).waiting ≤ length c.waiting }
-    ensures cycle { (members : GroupLook) (c : Core) →
-        length (cycled members c).waiting ≤ length c.waiting }
 {}

@@ -34,7 +34,7 @@ pub use group::{Group, GroupOnPath, Motion, Track};
 pub use group_state::{GroupRow, GroupState};
 pub use kin_core::Limits;
 pub use laws::{
-    at_most_eight_wait, courses_end_in_time, ends_are_told_once, errors_stand_in_error_stop,
+    at_most_eight_wait, courses_end_in_time, ends_are_told, errors_stand_in_error_stop,
     fates_are_told, groups_stay_kept, members_keep_their_limits, paths_go_on_by_their_steps,
     states_change_by_the_diagram,
 };

@@ -1,10 +1,12 @@
 // The group state diagram: what changes the state of a group, and to which state.
 
-ghost use Rattle.std.specs.Prelude.{◌≡◌};
+ghost use Rattle.std.specs.Prelude.{◌≡◌, ◌≢◌};
 ghost use Rattle.group_state.specs.Diagram.{GroupTransition, IsFrom, next_of};
+ghost use Rattle.group_state.specs.declared.diagram.GroupEvent.{GroupEvent};
 ghost use Rattle.group_state.specs.declared.state.GroupState.{GroupState};
 
 use crate::state::GroupState;
+use GroupEvent::*;
 
 /// What changes the state of a group (PLCopen Motion Control Part 4, the state diagram).
 #[derive(Clone, Copy, Debug, PartialEq, Eq)]
@@ -37,14 +39,15 @@ pub fn group_next(state: GroupState, event: GroupEvent) -> GroupState
     ensures only { (next : GroupState) → GroupTransition state event next → next ≡ result }
 {
     match event {
-        GroupEvent::Enable => GroupState::GroupStandby,
-        GroupEvent::Disable => GroupState::GroupDisabled,
-        GroupEvent::MoveAdmitted => GroupState::GroupMoving,
-        GroupEvent::LastDone => GroupState::GroupStandby,
-        GroupEvent::StopAdmitted => GroupState::GroupStopping,
-        GroupEvent::StopReleased => GroupState::GroupStandby,
-        GroupEvent::MemberError => GroupState::GroupErrorStop,
-        GroupEvent::ResetAllStandstill => GroupState::GroupStandby,
-        GroupEvent::ResetElse => GroupState::GroupDisabled,
+        Enable | LastDone | StopReleased | ResetAllStandstill => GroupState::GroupStandby,
+        Disable | ResetElse => GroupState::GroupDisabled,
+        MoveAdmitted => GroupState::GroupMoving,
+        StopAdmitted => GroupState::GroupStopping,
+        MemberError => GroupState::GroupErrorStop,
     }
 }
+
+/// No event leads to GroupHoming: no block of this profile homes a group.
+pub fn groups_never_home()
+    ensures { (event : GroupEvent) → next_of event ≢ GroupState.GroupHoming }
+{}

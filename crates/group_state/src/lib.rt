@@ -7,5 +7,5 @@ mod state;
 #[cfg(test)]
 mod tests;
 
-pub use diagram::{GroupEvent, group_next};
+pub use diagram::{GroupEvent, group_next, groups_never_home};
 pub use state::{GroupRow, GroupState};

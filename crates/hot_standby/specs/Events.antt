@@ -6,14 +6,9 @@ use Rattle.motion_history.specs.Entries.{Entry, call, cycle, end_of, cycles_of}
 use Rattle.motion_history.specs.Setup.{Setup}
 use Rattle.motion_history.specs.declared.config.BlockDef.{BlockDef}
 use Rattle.motion_kernel.specs.calls.Calls.{reply_of}
-use Rattle.motion_kernel.specs.cycles.Cycles.{Cycled, cycled}
-use Rattle.motion_kernel.specs.KernelState.{KernelState, room_of, state_of}
+use Rattle.motion_kernel.specs.KernelState.{KernelState, cycled_of, room_of, state_of}
 use Rattle.hot_standby.specs.declared.event.FedEvent.{FedEvent}
 use Rattle.hot_standby.specs.declared.event.FedEvent.TheVariants as fed
-
--- what a cycle of the machine makes with these answers
-abbrev pub cycled_of : KernelState → List DriveIn → Cycled
-cycled_of k ins = cycled k.config (state_of k) ins
 
 -- the machine's entry of an event
 abbrev pub entry_of : KernelState → FedEvent → Entry

@@ -5,8 +5,8 @@ use mathlib.Core.List.{IsPrefix}
 use Rattle.atomic_table.specs.Seated.{TableId}
 use Rattle.motion_history.specs.Entries.{Entry}
 use Rattle.motion_history.specs.Setup.{Setup}
-use Rattle.motion_kernel.specs.KernelState.{KernelState, room_of}
-use Rattle.kernel_turn.specs.Events.{HasRoom, Makes, with_entry}
+use Rattle.motion_kernel.specs.KernelState.{HasRoom, KernelState, room_of, with_entry}
+use Rattle.kernel_turn.specs.Events.{Makes}
 use Rattle.kernel_turn.specs.Inside.{state_of}
 use Rattle.kernel_turn.specs.PassState.{PassState}
 use Rattle.kernel_turn.specs.PassView.{PassView}

@@ -7,16 +7,12 @@ use Rattle.fb_outputs.specs.declared.inputs.Inputs.{Inputs}
 use Rattle.fb_outputs.specs.declared.outputs.Outputs.{Outputs}
 use Rattle.motion_history.specs.Entries.{Entry, call, cycle, cycles_of}
 use Rattle.motion_kernel.specs.calls.Calls.{reply_of}
-use Rattle.motion_kernel.specs.cycles.Cycles.{Cycled, cycled}
-use Rattle.motion_kernel.specs.KernelState.{KernelState, room_of, state_of}
+use Rattle.motion_kernel.specs.KernelState.{HasRoom, KernelState, cycled_of, room_of, state_of, with_entry}
 use Rattle.motion_kernel.specs.Tasks.{live_tasks, quiet_tasks}
 use Rattle.kernel_turn.specs.declared.turn.Turn.{Turn}
 use Rattle.kernel_turn.specs.declared.turn.Turn.TheVariants.{Made, Full, Early}
 
--- the entries are fewer than the room, or equal to it
-abbrev pub HasRoom : KernelState → Type 0
-HasRoom k = length k.history < room_of k
-
+-- the entries are as many as the room
 abbrev pub IsFull : KernelState → Type 0
 IsFull k = length k.history ≡ room_of k
 
@@ -24,17 +20,9 @@ IsFull k = length k.history ≡ room_of k
 abbrev pub quiet_of : KernelState → ℕ
 quiet_of k = quiet_tasks k.config k.history
 
--- the kernel with an entry more
-abbrev pub with_entry : KernelState → Entry → KernelState
-with_entry k e = record k { history = k.history ++ e ∷ [] }
-
 -- the machine's entry of a call
 abbrev pub call_of : KernelState → ℕ → Inputs → Entry
 call_of k b i = call b i (reply_of k.config (state_of k) b i)
-
--- what a cycle of the machine makes
-abbrev pub cycled_of : KernelState → List DriveIn → Cycled
-cycled_of k ins = cycled k.config (state_of k) ins
 
 -- the machine's entry of a cycle
 abbrev pub cycle_of : KernelState → List DriveIn → Entry

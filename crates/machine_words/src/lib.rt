@@ -24,7 +24,7 @@ pub use item::{add_task, free_name, is_whole};
 pub use laws::{inputs_are_fit, sizes_of_machines};
 pub use name::{
     axes_named, axis_at, axis_named, block_at, group_at, is_same_name, kind_of, object_at,
-    object_named, task_at,
+    object_named, place_of_axis, place_of_block, place_of_group, place_of_task, task_at,
 };
 pub use position::{axes_of, parts_of, positions_from};
 pub use rule::{

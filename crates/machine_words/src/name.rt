@@ -22,16 +22,16 @@ pub fn is_same_name(name: &Name, bytes: &[u8]) -> bool
     name.bytes() == bytes
 }
 
-// Where the axis of this name stands.
-fn place_of_axis(axes: &[AxisDef], name: &[u8]) -> Option<usize>
+/// Where the axis of this name stands.
+pub fn place_of_axis(axes: &[AxisDef], name: &[u8]) -> Option<usize>
     ensures place { result ≡ position (λ d. bytes_eq d.name name.now) axes.now }
     ensures within { IfSome result (λ place. place < length axes.now) }
 {
     axes.iter().position(|axis| is_same_name(&axis.name, name))
 }
 
-// Where the group of this name stands.
-fn place_of_group(groups: &[GroupDef], name: &[u8]) -> Option<usize>
+/// Where the group of this name stands.
+pub fn place_of_group(groups: &[GroupDef], name: &[u8]) -> Option<usize>
     ensures place { result ≡ position (λ d. bytes_eq d.name name.now) groups.now }
     ensures within { IfSome result (λ place. place < length groups.now) }
 {
@@ -40,16 +40,16 @@ fn place_of_group(groups: &[GroupDef], name: &[u8]) -> Option<usize>
         .position(|group| is_same_name(&group.name, name))
 }
 
-// Where the task of this name stands.
-fn place_of_task(tasks: &[Name], name: &[u8]) -> Option<usize>
+/// Where the task of this name stands.
+pub fn place_of_task(tasks: &[Name], name: &[u8]) -> Option<usize>
     ensures place { result ≡ position (λ n. bytes_eq n name.now) tasks.now }
     ensures within { IfSome result (λ place. place < length tasks.now) }
 {
     tasks.iter().position(|task| is_same_name(task, name))
 }
 
-// Where the block of this name stands.
-fn place_of_block(blocks: &[BlockDef], name: &[u8]) -> Option<usize>
+/// Where the block of this name stands.
+pub fn place_of_block(blocks: &[BlockDef], name: &[u8]) -> Option<usize>
     ensures place { result ≡ position (λ d. bytes_eq d.name name.now) blocks.now }
     ensures within { IfSome result (λ place. place < length blocks.now) }
 {

@@ -11,7 +11,7 @@ use Rattle.motion_history.specs.Setup.{Setup}
 use Rattle.motion_history.specs.declared.config.BlockDef.{BlockDef}
 use Rattle.motion_kernel.specs.calls.Calls.{reply_of}
 use Rattle.motion_kernel.specs.KernelState.{KernelState, state_of}
-use Rattle.motion_c.specs.Entries.{HasRoom, with_entry}
+use Rattle.motion_kernel.specs.KernelState.{HasRoom, with_entry}
 use Rattle.motion_c.specs.declared.calling.MotionOutputs.{MotionOutputs}
 use Rattle.motion_c.specs.declared.machine.Machine.{Machine}
 

@@ -5,7 +5,7 @@ use Rattle.motion_history.specs.Entries.{cycle, cycles_of}
 use Rattle.motion_kernel.specs.cycles.Cycles.{Cycled, cycled}
 use Rattle.motion_kernel.specs.KernelState.{KernelState, state_of}
 use Rattle.motion_c.specs.Drives.{answer_of, output_of}
-use Rattle.motion_c.specs.Entries.{HasRoom, with_entry}
+use Rattle.motion_kernel.specs.KernelState.{HasRoom, with_entry}
 use Rattle.motion_c.specs.declared.drives.MotionDriveIn.{MotionDriveIn}
 use Rattle.motion_c.specs.declared.drives.MotionDriveOut.{MotionDriveOut}
 

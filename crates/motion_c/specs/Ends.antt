@@ -1,7 +1,7 @@
 -- What the end of a task makes of a machine. This project's profile.
 use Rattle.std.specs.Prelude.{◌≡◌, ◌↔◌, ◌≤◌, ◌<◌, ℕ, length}
 use Rattle.motion_kernel.specs.KernelState.{KernelState}
-use Rattle.motion_c.specs.Entries.{HasRoom}
+use Rattle.motion_kernel.specs.KernelState.{HasRoom}
 
 -- which code an end answers: 0 where it is made, 5 where there is no such task, and else 8 where
 -- the history is full

@@ -1,6 +1,5 @@
 pub mod Owned
 pub mod Held
-pub mod Entries
 pub mod Calls
 pub mod Drives
 pub mod Cycles
@@ -9,3 +8,4 @@ pub mod Numbers
 pub mod Looks
 pub mod Traces
 pub mod Opened
+pub mod Configured

@@ -2,7 +2,9 @@
 use Rattle.std.specs.Prelude.{◌≡◌, ◌≢◌, ℕ, List, [], ◌∷◌, ◌++◌, codes, false, Option, Some, None, Ok, Err, IsOk, IsErr}
 use Rattle.bench_text.specs.BenchState.{BenchState}
 use Rattle.bench_text.specs.Reading.{bench_of}
+use Rattle.motion_history.specs.Setup.{Setup}
 use Rattle.motion_history.specs.declared.refused.TextRefused.{TextRefused}
+use Rattle.motion_history.specs.declared.refused.TraceVersion.{TraceVersion}
 use Rattle.motion_c.specs.declared.machine.Machine.{Machine}
 use Rattle.motion_c.specs.declared.opening.MotionRefusal.{MotionRefusal}
 
@@ -10,11 +12,11 @@ use Rattle.motion_c.specs.declared.opening.MotionRefusal.{MotionRefusal}
 abbrev pub with_go : List ℕ → List ℕ
 with_go text = text ++ (10 ∷ codes "go" ++ 10 ∷ [])
 
--- the machine of a bench: at rest, with no trace
-abbrev pub machine_at_rest : BenchState → Machine
-machine_at_rest b = record {
-  kernel = record { config = b.config; history = []; stopped = false };
-  version = b.version;
+-- a machine at rest, with no trace, whose traces are of this version or of the first
+abbrev pub at_rest : Setup → TraceVersion → Machine
+at_rest s v = record {
+  kernel = record { config = s; history = []; stopped = false };
+  version = v;
   trace = None;
 }
 
@@ -22,12 +24,16 @@ machine_at_rest b = record {
 pub record Opens (text : List ℕ) (after : Option Machine) : Type 0 where
   pub bench : BenchState
   pub read : bench_of (with_go text) ≡ Ok bench
-  pub opened : after ≡ Some (machine_at_rest bench)
+  pub opened : after ≡ Some (at_rest bench.config bench.version)
+
+-- where and by which rule a text is refused is told
+pub record IsTold (refused : TextRefused) (told : MotionRefusal) : Type 0 where
+  pub line : told.line ≡ refused.place
+  pub letter : told.letter ≡ refused.rule.letter
+  pub number : told.number ≡ refused.rule.number
 
 -- a text is refused: with `go` it is no bench, and the line and the rule are told
 pub record IsRefused (text : List ℕ) (told : MotionRefusal) : Type 0 where
   pub refused : TextRefused
   pub read : bench_of (with_go text) ≡ Err refused
-  pub line : told.line ≡ refused.place
-  pub letter : told.letter ≡ refused.rule.letter
-  pub number : told.number ≡ refused.rule.number
+  pub told : IsTold refused told

@@ -2,7 +2,7 @@
 
 ghost use Rattle.std.specs.Prelude.{◌≡◌, ◌≢◌, ◌↔◌, Some, None, length};
 ghost use Rattle.motion_c.specs.Cycles.{AreEach, HasCycle, TellsCycle, after_cycle, outputs_after};
-ghost use Rattle.motion_c.specs.Entries.{HasRoom};
+ghost use Rattle.motion_kernel.specs.KernelState.{HasRoom};
 ghost use Rattle.motion_c.specs.Held.{held};
 ghost use Rattle.motion_c.specs.declared.machine.Machine.{Machine};
 

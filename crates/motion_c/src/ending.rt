@@ -2,7 +2,7 @@
 
 ghost use Rattle.std.specs.Prelude.{◌≡◌, ◌≢◌, ◌↔◌, Some, None};
 ghost use Rattle.motion_c.specs.Ends.{TellsEnd};
-ghost use Rattle.motion_c.specs.Entries.{with_entry};
+ghost use Rattle.motion_kernel.specs.KernelState.{with_entry};
 ghost use Rattle.motion_c.specs.Held.{held};
 ghost use Rattle.motion_c.specs.declared.machine.Machine.{Machine};
 ghost use Rattle.motion_history.specs.Entries.{end_of};

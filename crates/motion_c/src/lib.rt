@@ -1,12 +1,13 @@
 //! The kernel for C and C++ programs, as a static library: `c/motion.h` declares what is exported
 //! here. A handle that C holds owns a machine, a kernel with its trace; each export takes it out,
-//! works on it and puts it back, so that the work itself is plain code over `motion_kernel`,
-//! `bench_text` and `trace_text`. Begin with `specs/Held.antt`, then `src/calling.rt`; `src/laws.rt`
-//! says what always holds of the history behind a handle.
+//! works on it and puts it back, so that the work itself is plain code over `motion_kernel`, the
+//! readers of texts and `trace_text`. Begin with `specs/Held.antt`, then `src/calling.rt`;
+//! `src/laws.rt` says what always holds of the history behind a handle.
 #![tactic(auto)]
 
 mod calling;
 mod code;
+mod configuring;
 mod cycling;
 mod drives;
 mod ending;
@@ -26,6 +27,7 @@ mod tracing;
 
 pub use c_inputs::MotionInputs;
 pub use calling::{MotionOutputs, motion_call};
+pub use configuring::motion_open_config;
 pub use cycling::motion_cycle;
 pub use drives::{MotionDriveIn, MotionDriveOut};
 pub use ending::motion_end;

@@ -1,16 +1,14 @@
 // Numbers of items, by their names, and how many there are.
 
 ghost use Rattle.std.specs.Prelude.{◌≡◌, ◌<◌, IfSome, length};
-ghost use Rattle.std.specs.List.{position};
-ghost use Rattle.std.specs.Str.{bytes_eq};
 ghost use Rattle.machine_words.specs.Names.{axis_at, block_at, group_at, task_at};
 ghost use Rattle.motion_c.specs.Held.{held};
 ghost use Rattle.motion_c.specs.Numbers.{count_in, item_at, number_in, number_or_none};
 
 use crate::code::NO_NUMBER;
 use crate::motion::{Motion, put, take};
-use machine_words::is_same_name;
-use motion_history::{AxisDef, BlockDef, Config, GroupDef, Name};
+use machine_words::{place_of_axis, place_of_block, place_of_group, place_of_task};
+use motion_history::Config;
 use std::alloc::Global;
 
 /// What has a name.
@@ -131,42 +129,6 @@ fn block_in(config: &Config, name: &[u8]) -> Option<usize>
 {
     let _ = config.axes();
     place_of_block(config.blocks(), name)
-}
-
-// Where the axis of this name stands.
-fn place_of_axis(axes: &[AxisDef], name: &[u8]) -> Option<usize>
-    ensures place { result ≡ position (λ d. bytes_eq d.name name.now) axes.now }
-    ensures within { IfSome result (λ place. place < length axes.now) }
-{
-    axes.iter().position(|axis| is_same_name(&axis.name, name))
-}
-
-// Where the group of this name stands.
-fn place_of_group(groups: &[GroupDef], name: &[u8]) -> Option<usize>
-    ensures place { result ≡ position (λ d. bytes_eq d.name name.now) groups.now }
-    ensures within { IfSome result (λ place. place < length groups.now) }
-{
-    groups
-        .iter()
-        .position(|group| is_same_name(&group.name, name))
-}
-
-// Where the task of this name stands.
-fn place_of_task(tasks: &[Name], name: &[u8]) -> Option<usize>
-    ensures place { result ≡ position (λ n. bytes_eq n name.now) tasks.now }
-    ensures within { IfSome result (λ place. place < length tasks.now) }
-{
-    tasks.iter().position(|task| is_same_name(task, name))
-}
-
-// Where the block of this name stands.
-fn place_of_block(blocks: &[BlockDef], name: &[u8]) -> Option<usize>
-    ensures place { result ≡ position (λ d. bytes_eq d.name name.now) blocks.now }
-    ensures within { IfSome result (λ place. place < length blocks.now) }
-{
-    blocks
-        .iter()
-        .position(|block| is_same_name(&block.name, name))
 }
 
 /// How many axes there are: 0 where the handle is closed.

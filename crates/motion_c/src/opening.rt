@@ -1,17 +1,18 @@
 // Opening a machine by its text, and closing it.
 
-ghost use Rattle.std.specs.Prelude.{◌≡◌, ◌≢◌, ◌↔◌, IfOk, IfSome, Some, None, Err, Ok};
+ghost use Rattle.std.specs.Prelude.{◌≡◌, ◌≢◌, ◌↔◌, IfOk, IfErr, IfSome, Some, None, Err, Ok};
 ghost use Rattle.bench_text.specs.Reading.{bench_of, ReadsBy};
 ghost use Rattle.motion_c.specs.Held.{held};
-ghost use Rattle.motion_c.specs.Opened.{IsRefused, Opens, machine_at_rest, with_go};
+ghost use Rattle.motion_c.specs.Opened.{IsRefused, IsTold, Opens, at_rest, with_go};
 ghost use Rattle.motion_c.specs.declared.machine.Machine.{Machine};
+ghost use Rattle.motion_history.specs.declared.refused.TextFault.{TextFault};
 ghost use Rattle.motion_history.specs.declared.refused.TextRefused.{TextRefused};
 
 use crate::code::{CLOSED, NO_MEMORY, OK, OPEN, REFUSED};
 use crate::machine::Machine;
 use crate::motion::{Motion, is_open, put, take};
 use bench_text::{Bench, read_bench};
-use motion_history::{TextFault, TextRefused};
+use motion_history::{Config, TextFault, TextRefused, TraceVersion};
 use motion_kernel::Kernel;
 use std::alloc::Global;
 
@@ -73,11 +74,9 @@ pub extern "C" fn motion_close(alloc: Global, motion: &mut Motion) -> u32
     }
 }
 
-// The refusal as C has it.
-fn told(refused: &TextRefused) -> MotionRefusal
-    ensures line { result.line ≡ refused.now.place }
-    ensures letter { result.letter ≡ refused.now.rule.letter }
-    ensures number { result.number ≡ refused.now.rule.number }
+/// The refusal as C has it.
+pub fn told(refused: &TextRefused) -> MotionRefusal
+    ensures { IsTold refused.now result }
 {
     MotionRefusal {
         line: refused.place,
@@ -96,10 +95,10 @@ fn opened(alloc: Global, text: &[u8]) -> Result<Box<Machine>, TextFault>
         Ok(bench) => bench,
         Err(fault) => return Err(fault),
     };
-    match machine_of(alloc, &bench) {
-        Some(machine) => Ok(machine),
-        None => Err(TextFault::OutOfMemory),
-    }
+    let Some(config) = copied(alloc, bench.config()) else {
+        return Err(TextFault::OutOfMemory);
+    };
+    machine_of(alloc, config, bench.version())
 }
 
 // The bench that a machine's text is with `go`.
@@ -122,15 +121,36 @@ fn whole_text(alloc: Global, text: &[u8]) -> Option<Vec<u8>>
     Some(whole)
 }
 
-// The machine of a bench, if there is memory for it.
-fn machine_of(alloc: Global, bench: &Bench) -> Option<Box<Machine>>
-    ensures { IfSome result (λ b. b.value ≡ machine_at_rest bench.now) }
+// An equal configuration, if there is memory for it.
+fn copied(alloc: Global, config: &Config) -> Option<Config>
+    ensures { IfSome result (λ c. c ≡ config.now) }
 {
-    let config = bench.config().copy(alloc).ok()?;
+    config.copy(alloc).ok()
+}
+
+/// The machine of a configuration, at rest.
+pub fn machine_of(
+    alloc: Global,
+    config: Config,
+    version: TraceVersion,
+) -> Result<Box<Machine>, TextFault>
+    ensures machine { IfOk result (λ b. b.value ≡ at_rest config version) }
+    ensures memory { IfErr result (λ e. e ≡ TextFault.OutOfMemory) }
+{
+    match boxed(alloc, config, version) {
+        Some(machine) => Ok(machine),
+        None => Err(TextFault::OutOfMemory),
+    }
+}
+
+// The machine of a configuration, if there is memory for it.
+fn boxed(alloc: Global, config: Config, version: TraceVersion) -> Option<Box<Machine>>
+    ensures { IfSome result (λ b. b.value ≡ at_rest config version) }
+{
     let kernel = Kernel::open(alloc, config).ok()?;
     let machine = Machine {
         kernel,
-        version: bench.version(),
+        version,
         trace: None,
     };
     Box::new(alloc, machine).ok()

@@ -1,6 +1,7 @@
 // The exports, called as C calls them.
 
 mod codes;
+mod configured;
 mod runs;
 
 use crate::motion::Motion;

@@ -6,5 +6,6 @@ pub mod Asked
 pub mod Calls
 pub mod Cycles
 pub mod Histories
+pub mod ByTest
 pub mod AxisCalls
 pub mod GroupCalls

@@ -27,6 +27,6 @@ pub fn results_are_told()
     command_core::ends_are_told_once();
     commands_come_from_calls();
     holders_have_commands();
-    axis_core::ends_are_told_once();
-    group_core::ends_are_told_once();
+    axis_core::ends_are_told();
+    group_core::ends_are_told();
 }

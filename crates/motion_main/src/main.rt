@@ -10,16 +10,8 @@ use std::process::ExitCode;
 
 fn main(rt: HostRuntime) -> ExitCode {
     let (alloc, args) = (rt.alloc(), env::args(&rt));
-    let (mut files, mut out) = (HostFiles::new(&rt), StdSink::new(&rt));
-    let mut spawner: Spawner<HostRuntime, PlantJob<OpenGate>> = Spawner::new(rt, alloc);
-    let status = top_of_args(
-        &rt,
-        alloc,
-        args,
-        &mut files,
-        &mut out,
-        &mut spawner,
-        &OpenGate,
-    );
+    let (files, out) = (&mut HostFiles::new(&rt), &mut StdSink::new(&rt));
+    let spawner: &mut Spawner<HostRuntime, PlantJob<OpenGate>> = &mut Spawner::new(rt, alloc);
+    let status = top_of_args(&rt, alloc, args, files, out, spawner, &OpenGate);
     ExitCode::from(status.exit())
 }

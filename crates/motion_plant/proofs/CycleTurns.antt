@@ -2,7 +2,8 @@
 use Rattle.std.proofs.Common.{◌≡◌, ◌≢◌, ℕ, List, [], ◌∷◌, ◌++◌, length, sym, ap, ◌∙◌, subst, arith, ⊎_elim}
 use Rattle.cia402_machine.specs.declared.drive.DriveIn.{DriveIn}
 use Rattle.cia402_machine.specs.declared.drive.DriveOut.{DriveOut}
-use Rattle.kernel_turn.specs.Events.{cycle_of, outputs_of, with_entry}
+use Rattle.kernel_turn.specs.Events.{cycle_of, outputs_of}
+use Rattle.motion_kernel.specs.KernelState.{with_entry}
 use Rattle.kernel_turn.specs.PassState.{PassState}
 use Rattle.kernel_turn.specs.Turns.{CycleAnswered, FullOfEither}
 use Rattle.kernel_turn.specs.declared.turn.Turn.{Turn}

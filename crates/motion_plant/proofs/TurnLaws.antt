@@ -4,7 +4,8 @@ use Rattle.std.specs.Prelude.{slice_get, IsSomeAnd}
 use mathlib.Core.List.{IsPrefix}
 use Rattle.fb_outputs.specs.declared.inputs.Inputs.{Inputs}
 use Rattle.fb_outputs.specs.declared.outputs.Outputs.{Outputs}
-use Rattle.kernel_turn.specs.Events.{call_of, with_entry}
+use Rattle.kernel_turn.specs.Events.{call_of}
+use Rattle.motion_kernel.specs.KernelState.{with_entry}
 use Rattle.kernel_turn.specs.PassState.{PassState}
 use Rattle.kernel_turn.specs.Turns.{CallAnswered, EndAnswered, FullOfEntries, IsFound, TakesTurn, pass_after}
 use Rattle.kernel_turn.specs.declared.turn.Turn.{Turn}

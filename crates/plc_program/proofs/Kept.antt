@@ -24,7 +24,8 @@ use Rattle.motion_history.specs.Setup.{Setup}
 use Rattle.motion_history.specs.declared.config.BlockDef.{BlockDef}
 use Rattle.plc_program.specs.Calls.{call_meaning}
 use Rattle.plc_program.specs.Forms.{form_of, is_counted}
-use Rattle.plc_program.specs.Lines.{block_meaning, flag_named, repeat_meaning, wait_meaning}
+use Rattle.fb_outputs.specs.Flags.{flag_named}
+use Rattle.plc_program.specs.Lines.{block_meaning, repeat_meaning, wait_meaning}
 use Rattle.plc_program.specs.Named.{block_named}
 use Rattle.plc_program.specs.Programs.{AreTasksOf, IsBehindItsCall, IsCounted, IsLineOf, IsTask, is_called, repeating_after}
 use Rattle.plc_program.specs.Reading.{blocks_meaning, form_in, is_repeating, is_version, later_meaning, line_added, may_stand, meaning, opening, tasks_meaning, version_meaning, with_line, words_meaning}

@@ -1,9 +1,8 @@
 -- The lines of a program but its tasks and calls: blocks, waits and repeats. This project's
 -- profile.
-use Rattle.std.specs.Prelude.{ℕ, codes, Option, Result, Ok, Err, List, [], ◌∷◌, ◌++◌}
-use Rattle.std.specs.List.{find}
+use Rattle.std.specs.Prelude.{ℕ, Option, Result, Ok, Err, List, [], ◌∷◌, ◌++◌}
 use Rattle.std.specs.Option.{ok_or}
-use Rattle.std.specs.Str.{bytes_eq}
+use Rattle.fb_outputs.specs.Flags.{flag_named}
 use Rattle.line_text.specs.Reading.{◌>>=◌}
 use Rattle.line_text.specs.Rules.{broken_unless, in_range}
 use Rattle.machine_words.specs.Names.{kind_of, object_named}
@@ -15,8 +14,6 @@ use Rattle.motion_history.specs.Setup.{Setup}
 use Rattle.plc_program.specs.Named.{block_named}
 use Rattle.plc_program.specs.Programs.{is_called}
 use Rattle.plc_program.specs.SoFar.{SoFar, task_of}
-use Rattle.plc_program.specs.declared.program.Flag.{Flag}
-use Rattle.plc_program.specs.declared.program.Flag.TheVariants.{Busy, Active, Done, Aborted, Error, Reached}
 use Rattle.plc_program.specs.declared.program.Instruction.{Instruction}
 use Rattle.plc_program.specs.declared.program.Instruction.TheVariants.{Wait, Repeat}
 
@@ -36,23 +33,6 @@ block_meaning s task (name ∷ of_kind ∷ of_object ∷ []) = do
     } ∷ [];
   })
 block_meaning s task _ = Err wrong_count
-
--- the flags, in the order of a block's outputs
-abbrev pub flags : List Flag
-flags = Busy ∷ Active ∷ Done ∷ Aborted ∷ Error ∷ Reached ∷ []
-
--- the name of each flag
-unfoldable pub flag_name : Flag → List ℕ
-flag_name Busy = codes "busy"
-flag_name Active = codes "active"
-flag_name Done = codes "done"
-flag_name Aborted = codes "aborted"
-flag_name Error = codes "error"
-flag_name Reached = codes "reached"
-
--- the flag of this name
-unfoldable pub flag_named : List ℕ → Option Flag
-flag_named name = find (λ f. bytes_eq (flag_name f) name) flags
 
 -- `wait BLOCK FLAG`, behind a call of the block in its task
 unfoldable pub wait_meaning : SoFar → List (List ℕ) → Result Instruction ℕ

@@ -13,7 +13,8 @@ mod reading;
 mod version;
 mod wait;
 
-pub use program::{Flag, Instruction, MOST_INSTRUCTIONS, MOST_TIMES, Program};
+pub use fb_outputs::Flag;
+pub use program::{Instruction, MOST_INSTRUCTIONS, MOST_TIMES, Program};
 pub use reading::read_program;
 
 #[cfg(test)]

@@ -3,7 +3,7 @@
 ghost use Rattle.std.specs.Prelude.{◌≡◌, ◌<◌, [], length, slice_index_or};
 ghost use Rattle.plc_program.specs.Programs.{IsProgram};
 
-use fb_outputs::Inputs;
+use fb_outputs::{Flag, Inputs};
 use std::marker::Model;
 
 /// The most instructions of a task.
@@ -11,17 +11,6 @@ pub const MOST_INSTRUCTIONS: usize = 10_000;
 
 /// The most times that lines are repeated.
 pub const MOST_TIMES: u32 = 1_000_000;
-
-/// The flags of a block's outputs.
-#[derive(Clone, Copy, Debug, PartialEq, Eq)]
-pub enum Flag {
-    Busy,
-    Active,
-    Done,
-    Aborted,
-    Error,
-    Reached,
-}
 
 /// An instruction of a task.
 #[derive(Clone, Copy, Debug, PartialEq, Eq)]

@@ -7,45 +7,11 @@ ghost use Rattle.plc_program.specs.Lines as spec;
 ghost use Rattle.plc_program.specs.Programs as programs;
 
 use crate::name::block_named;
-use crate::program::{Flag, Instruction, MOST_TIMES};
+use crate::program::{Instruction, MOST_TIMES};
 use crate::reader::ProgramReader;
+use fb_outputs::flag_named;
 use line_text::{LineFault, broken_unless, in_range};
 use machine_words::{NO_VALUE, OUT_OF_RANGE, WRONG_COUNT, number};
-
-/// The flags, in the order of a block's outputs.
-const FLAGS: [Flag; 6] = [
-    Flag::Busy,
-    Flag::Active,
-    Flag::Done,
-    Flag::Aborted,
-    Flag::Error,
-    Flag::Reached,
-];
-
-// The name of a flag.
-#[tactic(auto, unfolding(crate::specs::Lines::flag_name))]
-fn flag_name(flag: Flag) -> &'static str
-    ensures { result.now ≡ spec.flag_name flag }
-{
-    match flag {
-        Flag::Busy => "busy",
-        Flag::Active => "active",
-        Flag::Done => "done",
-        Flag::Aborted => "aborted",
-        Flag::Error => "error",
-        Flag::Reached => "reached",
-    }
-}
-
-// The flag of this name.
-fn flag_named(name: &[u8]) -> Option<Flag>
-    ensures { result ≡ spec.flag_named name.now }
-{
-    FLAGS
-        .iter()
-        .find(|flag| flag_name(**flag).as_bytes() == name)
-        .copied()
-}
 
 // Whether an instruction calls the block with inputs of its own.
 fn is_call_of(block: u16, line: &Instruction) -> bool

@@ -4,6 +4,8 @@
 //! specs/Noted, which says what each note of the table does, then specs/Checked.
 #![tactic(auto)]
 
+mod blocks;
+mod calls;
 mod checker;
 mod declarations;
 mod expressions;

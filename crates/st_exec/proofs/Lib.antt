@@ -9,3 +9,5 @@ pub mod Sound
 pub mod Walking
 pub mod Tasks
 pub mod Replies
+pub mod FitInputs
+pub mod FitCalls

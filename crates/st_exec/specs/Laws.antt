@@ -1,6 +1,11 @@
--- Laws of scans: how those with more replies go on from those with fewer.
-use Rattle.std.specs.Prelude.{◌≡◌, ◌≢◌, ℕ, ◌+◌, ℤ, List, [], ◌++◌, length}
+-- Laws of scans: how those with more replies go on from those with fewer, and that their calls are
+-- calls of the machine that their tree fits.
+use Rattle.std.specs.Prelude.{◌≡◌, ℕ, ◌+◌, ℤ, Some, List, [], ◌++◌, length, slice_get}
+use Rattle.std.specs.List.{AllByRecursion}
 use Rattle.fb_outputs.specs.declared.outputs.Outputs.{Outputs}
+use Rattle.motion_history.specs.Calls.{IsCall}
+use Rattle.motion_history.specs.Setup.{Setup}
+use Rattle.motion_history.specs.declared.config.BlockDef.{BlockDef}
 use Rattle.st_tree.specs.declared.statement.Stmt.{Stmt}
 use Rattle.st_exec.specs.Scan.{Asked, Course, Over, Waits, Missing, Stand, scan_of}
 
@@ -26,3 +31,12 @@ pub record AsksInOrder (us : ℕ) (body : List Stmt) : Type 0 where
       scan_of us body vars last replies ≡ Waits calls → length calls ≡ length replies + 1
   pub over : (vars : List ℤ) (last replies : List Outputs) (s : Stand) →
       scan_of us body vars last replies ≡ Over s → length s.calls + length s.left ≡ length replies
+
+-- a call is one of a machine, of a block of the task
+pub record IsCallOf (s : Setup) (task : ℕ) (call : Asked) : Type 0 where
+  pub is : IsCall s call.instance call.inputs
+  pub own : (b : BlockDef) → slice_get s.blocks call.instance ≡ Some b → b.task ≡ task
+
+-- the calls of a course are calls of a machine, of blocks of the task
+abbrev pub AreCallsOf : Setup → ℕ → Course → Type 0
+AreCallsOf s task course = AllByRecursion (IsCallOf s task) (asks_of course)

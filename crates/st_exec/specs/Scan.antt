@@ -1,6 +1,7 @@
 -- A scan of a task: the calls that its tree makes, by the replies that they get. IEC 61131-3
 -- section 3.3.2 (statements), in this project's profile.
 use Rattle.std.specs.Prelude.{ℕ, ℤ, pos, ◌*ℤ◌, int_le, unsigned_abs, Bool, ◌&&◌, if◌then◌else◌, List, [], ◌∷◌, ◌++◌, map, slice_set}
+use Rattle.std.specs.Int.{int_wrap, w32}
 use Rattle.std.specs.Ordering.{int_eq}
 use Rattle.fb_outputs.specs.Inputs.{inputs_off}
 use Rattle.fb_outputs.specs.declared.inputs.Inputs.{Inputs}
@@ -30,16 +31,20 @@ table_of z = if int_le (pos 0) z && int_le z (pos 65535) then unsigned_abs z els
 abbrev pub with_position : ℕ → ℤ → Inputs → Inputs
 with_position place z i = record i { positions = slice_set i.positions place z }
 
--- inputs with a number for a key, where a cycle has so many microseconds
+-- inputs with a DINT for a key, where a cycle has so many microseconds
+abbrev pub with_dint : ℕ → Key → ℤ → Inputs → Inputs
+with_dint us (Position place) z i = with_position place (thousandths z) i
+with_dint us Velocity z i = record i { velocity = per_cycle_of (thousandths z) us }
+with_dint us Acceleration z i = record i { acceleration = per_cycle_squared_of (thousandths z) us }
+with_dint us Deceleration z i = record i { deceleration = per_cycle_squared_of (thousandths z) us }
+with_dint us Jerk z i = record i { jerk = thousandths z }
+with_dint us Numerator z i = record i { numerator = z }
+with_dint us Denominator z i = record i { denominator = z }
+with_dint us Table z i = record i { table = table_of z }
+
+-- inputs with a number for a key, which counts as a DINT: it wraps at 32 bits
 abbrev pub with_number : ℕ → Key → ℤ → Inputs → Inputs
-with_number us (Position place) z i = with_position place (thousandths z) i
-with_number us Velocity z i = record i { velocity = per_cycle_of (thousandths z) us }
-with_number us Acceleration z i = record i { acceleration = per_cycle_squared_of (thousandths z) us }
-with_number us Deceleration z i = record i { deceleration = per_cycle_squared_of (thousandths z) us }
-with_number us Jerk z i = record i { jerk = thousandths z }
-with_number us Numerator z i = record i { numerator = z }
-with_number us Denominator z i = record i { denominator = z }
-with_number us Table z i = record i { table = table_of z }
+with_number us key z i = with_dint us key (int_wrap w32 z) i
 
 -- inputs with what a key gives
 abbrev pub with_given : ℕ → List ℤ → List Outputs → Given → Inputs → Inputs

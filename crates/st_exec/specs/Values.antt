@@ -7,8 +7,8 @@ use Rattle.fb_outputs.specs.declared.outputs.Outputs.{Outputs}
 use Rattle.st_tree.specs.declared.expression.Expr.{Expr}
 use Rattle.st_tree.specs.declared.expression.Expr.TheOpen.{Expr-F, Term-F}
 use Rattle.st_tree.specs.declared.expression.Expr.TheFolds.{fold-Expr}
-use Rattle.st_tree.specs.declared.expression.Flag.{Flag}
-use Rattle.st_tree.specs.declared.expression.Flag.TheVariants.{Busy, Active, Done, Aborted, Error, Reached}
+use Rattle.fb_outputs.specs.Flags.{is_shown}
+use Rattle.fb_outputs.specs.declared.flag.Flag.{Flag}
 use Rattle.st_tree.specs.declared.expression.Operator.{Operator}
 use Rattle.st_tree.specs.declared.expression.Operator.TheVariants.{Or, And, Equal, Different, Below, AtMost, Above, AtLeast, Plus, Minus, Times}
 
@@ -42,15 +42,6 @@ negative_of a = int_wrap w32 (neg_ℤ a)
 abbrev pub contrary_of : ℤ → ℤ
 contrary_of a = truth_of (not (is_true a))
 
--- what a reply says of a flag
-abbrev pub flag_of : Flag → Outputs → Bool
-flag_of Busy o = o.busy
-flag_of Active o = o.active
-flag_of Done o = o.done
-flag_of Aborted o = o.aborted
-flag_of Error o = o.error
-flag_of Reached o = o.reached
-
 -- the outputs of a block that has not replied yet
 abbrev pub silent : Outputs
 silent = record {
@@ -69,7 +60,7 @@ variable_of vars x = slice_index_or vars x (pos 0)
 
 -- a flag of a block is that of its last reply
 unfoldable pub shown_of : List Outputs → ℕ → Flag → ℤ
-shown_of last k flag = truth_of (flag_of flag (slice_index_or last k silent))
+shown_of last k flag = truth_of (is_shown flag (slice_index_or last k silent))
 
 -- a value, by the variables of the task and the last reply of each block
 abbrev pub Value : Type 0

@@ -47,6 +47,14 @@ pub fn give_number(inputs: &mut Inputs, cycle_us: u32, key: Key, value: i32)
     requires { IsCycle cycle_us }
     ensures { inputs.new ≡ spec.with_number cycle_us key value inputs.old }
 {
+    give_dint(inputs, cycle_us, key, value);
+}
+
+// Gives an input the DINT of its key.
+fn give_dint(inputs: &mut Inputs, cycle_us: u32, key: Key, value: i32)
+    requires { IsCycle cycle_us }
+    ensures { inputs.new ≡ spec.with_dint cycle_us key value inputs.old }
+{
     match key {
         Key::Position(place) => {
             set_at(&mut inputs.positions, place as usize, thousandths(value));

@@ -3,7 +3,7 @@
 ghost use Rattle.std.specs.Prelude.{◌≡◌};
 ghost use Rattle.st_exec.specs.Values as spec;
 
-use fb_outputs::Outputs;
+use fb_outputs::{Outputs, is_shown};
 use st_tree::{Flag, Operator};
 
 /// A truth as a number.
@@ -57,20 +57,6 @@ pub fn joined(operator: Operator, a: i32, b: i32) -> i32
     }
 }
 
-// What a reply says of a flag.
-fn flag_of(flag: Flag, outputs: &Outputs) -> bool
-    ensures { result ≡ spec.flag_of flag outputs.now }
-{
-    match flag {
-        Flag::Busy => outputs.busy,
-        Flag::Active => outputs.active,
-        Flag::Done => outputs.done,
-        Flag::Aborted => outputs.aborted,
-        Flag::Error => outputs.error,
-        Flag::Reached => outputs.reached,
-    }
-}
-
 /// The outputs of a block that has not replied yet.
 pub const SILENT: Outputs = Outputs {
     busy: false,
@@ -96,5 +82,5 @@ pub fn shown_of(last: &[Outputs], instance: u16, flag: Flag) -> i32
     ensures { result ≡ spec.shown_of last.now instance flag }
 {
     let outputs = last.get(instance as usize).copied().unwrap_or(SILENT);
-    truth_of(flag_of(flag, &outputs))
+    truth_of(is_shown(flag, &outputs))
 }

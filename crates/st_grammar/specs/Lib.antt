@@ -1,3 +1,5 @@
-pub mod Flags
 pub mod Lines
+pub mod Tasks
+pub mod Statements
+pub mod Expressions
 pub mod Table

@@ -2,11 +2,11 @@
 
 ghost use Rattle.std.specs.Prelude.{◌≡◌};
 ghost use Rattle.st_grammar.specs.Lines.{line_of};
-ghost use Rattle.st_grammar.specs.Table as spec;
+ghost use Rattle.st_grammar.specs.Expressions as spec;
 
-use crate::flag::flag_named;
 use crate::item::Item;
 use crate::note::{Note, Row};
+use fb_outputs::flag_named;
 use st_tokens::{Sign, Token, Word};
 use st_tree::Operator;
 

@@ -5,14 +5,12 @@
 #![tactic(auto)]
 
 mod expressions;
-mod flag;
 mod item;
 mod note;
 mod statements;
 mod table;
 mod tasks;
 
-pub use flag::{FLAGS, flag_name, flag_named};
 pub use item::Item;
 pub use note::{Note, Row};
 pub use st_tokens::{Sign, Token, Word};

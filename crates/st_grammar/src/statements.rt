@@ -2,7 +2,7 @@
 
 ghost use Rattle.std.specs.Prelude.{◌≡◌, ◌∷◌};
 ghost use Rattle.st_grammar.specs.Lines.{line_of};
-ghost use Rattle.st_grammar.specs.Table as spec;
+ghost use Rattle.st_grammar.specs.Statements as spec;
 
 use crate::item::Item;
 use crate::note::{Note, Row};

@@ -1,5 +1,7 @@
 // Expressions.
 
+use fb_outputs::Flag;
+
 /// An expression: a DINT, a number of 32 bits with its sign, or a BOOL.
 #[cycle(expression)]
 #[derive(Drop)]
@@ -46,15 +48,4 @@ pub enum Operator {
     Plus,
     Minus,
     Times,
-}
-
-/// The flags of a block's outputs.
-#[derive(Clone, Copy, Debug, PartialEq, Eq)]
-pub enum Flag {
-    Busy,
-    Active,
-    Done,
-    Aborted,
-    Error,
-    Reached,
 }

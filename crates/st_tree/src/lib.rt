@@ -12,6 +12,7 @@ mod statement;
 pub use axis_state::Name;
 pub use call::{Given, Key};
 pub use command_pool::BufferMode;
-pub use expression::{Expr, Flag, Operator, Term};
+pub use expression::{Expr, Operator, Term};
+pub use fb_outputs::Flag;
 pub use program::{StProgram, Start, Task, Variable};
 pub use statement::{Branch, Stmt};

@@ -7,7 +7,7 @@ use Rattle.std.proofs.lemmas.List.Elements.{Contains-append_cases, Contains-appe
 use Rattle.std.proofs.lemmas.Bool.{eqb-true}
 use Rattle.fb_outputs.specs.declared.inputs.Inputs.{Inputs}
 use Rattle.plc_program.specs.Programs.{AreBehindTheirCalls, IsBehindItsCall, IsCounted, IsTask, is_call_of, is_called}
-use Rattle.plc_program.specs.declared.program.Flag.{Flag}
+use Rattle.fb_outputs.specs.declared.flag.Flag.{Flag}
 use Rattle.plc_program.specs.declared.program.Instruction.{Instruction}
 use Rattle.plc_program.specs.declared.program.Instruction.TheVariants.{Call, Wait, Repeat, Again}
 use Rattle.task_run.specs.Standing.{IsInside, IsOutside, Stands, StandsBy}

@@ -1,10 +1,10 @@
 -- The run of a task: its calls, by the replies to them. IEC 61131-3 has tasks; the program is this
 -- project's profile.
 use Rattle.std.specs.Prelude.{ℕ, ◌==◌, Bool, true, false, ◌||◌, if◌then◌else◌, Option, Some, None, List, [], ◌∷◌, ◌++◌}
+use Rattle.fb_outputs.specs.Flags.{is_shown}
+use Rattle.fb_outputs.specs.declared.flag.Flag.{Flag}
 use Rattle.fb_outputs.specs.declared.inputs.Inputs.{Inputs}
 use Rattle.fb_outputs.specs.declared.outputs.Outputs.{Outputs}
-use Rattle.plc_program.specs.declared.program.Flag.{Flag}
-use Rattle.plc_program.specs.declared.program.Flag.TheVariants.{Busy, Active, Done, Aborted, Error, Reached}
 use Rattle.plc_program.specs.declared.program.Instruction.{Instruction}
 use Rattle.plc_program.specs.declared.program.Instruction.TheVariants as lines
 use Rattle.task_run.specs.Written.{written_out}
@@ -56,15 +56,6 @@ next_in passed (lines.Again ∷ to_come) = End
 -- what a state gives: a rest, a call, or the end
 unfoldable pub next_of : TaskState → Next
 next_of s = if s.rests then Rest else next_in s.passed s.to_come
-
--- what the outputs of a block say of a flag
-abbrev pub is_shown : Flag → Outputs → Bool
-is_shown Busy o = o.busy
-is_shown Active o = o.active
-is_shown Done o = o.done
-is_shown Aborted o = o.aborted
-is_shown Error o = o.error
-is_shown Reached o = o.reached
 
 -- whether a reply ends a wait: it shows the flag, aborted or an error
 unfoldable pub ends_wait : Flag → Outputs → Bool

@@ -3,22 +3,8 @@
 ghost use Rattle.std.specs.Prelude.{◌≡◌};
 ghost use Rattle.task_run.specs.Tasks as spec;
 
-use fb_outputs::Outputs;
-use plc_program::{Flag, Instruction};
-
-// What the outputs say of a flag.
-fn is_shown(flag: Flag, outputs: &Outputs) -> bool
-    ensures { result ≡ spec.is_shown flag outputs.now }
-{
-    match flag {
-        Flag::Busy => outputs.busy,
-        Flag::Active => outputs.active,
-        Flag::Done => outputs.done,
-        Flag::Aborted => outputs.aborted,
-        Flag::Error => outputs.error,
-        Flag::Reached => outputs.reached,
-    }
-}
+use fb_outputs::{Flag, Outputs, is_shown};
+use plc_program::Instruction;
 
 // Whether a reply ends a wait: it shows the flag, aborted or an error.
 #[tactic(auto, unfolding(crate::specs::Tasks::ends_wait))]

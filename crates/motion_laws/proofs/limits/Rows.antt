@@ -80,12 +80,9 @@ is_there (a ∷ more) (suc n) d e =
     record { there = let l = h.there in omega arith; is = h.is }
 
 -- at opening
-less_nothing : (z : ℤ) → z -ℤ pos 0 ≡ z
-less_nothing z = omega (arith, ints)
-
 opens_in : (d : AxisDef) → spell_of (axis_at_opening d) ≡ opening_spell d
 unfolding axis_at_opening
-opens_in d = let same = less_nothing d.start in rw same refl
+opens_in d = let same : d.start -ℤ pos 0 ≡ d.start = omega (arith, ints) in rw same refl
 
 -- every row of a legal history keeps its axis's limits
 pub limits_kept : LimitLaws → (s : Setup) (es : List Entry) → IsSetup s → AreWhole s → IsLegal s es → KeepTheirLimits s es

@@ -27,15 +27,12 @@ use Rattle.motion_laws.specs.arrivals.GroupFates as group_entry
 use Rattle.motion_laws.specs.owners.Objects.{a_group, an_axis, has_commands_on}
 use Rattle.motion_laws.specs.owners.Commands.{active_at}
 use Rattle.motion_laws.proofs.owners.Events.{active_left, asks}
+use Rattle.motion_laws.proofs.entries.refusals.Instances.{asking_machine}
 use Rattle.motion_laws.proofs.owners.commands.Events.{IsGood, OwnerLaws}
 use Rattle.motion_laws.proofs.owners.commands.Calls.{power_execute}
 use Rattle.motion_laws.proofs.results.Steps.{TellLaws}
 use Rattle.motion_laws.proofs.results.Events.{HasEnded}
 use Rattle.motion_laws.proofs.results.Commands.{ended_beside, ends_where, ends_else, power_tells, power_tells_group, command_tells, group_command_tells}
-
--- the machine in which a rising edge asks
-abbrev free_of : ℕ → Inputs → Machine → Machine
-free_of k i m = without_owner k (with_execute k i m)
 
 -- where a block acts
 abbrev ActsWithin : Setup → BlockDef → Type 0
@@ -48,7 +45,7 @@ rising_tells : TellLaws → (s : Setup) (j k : ℕ) (b : BlockDef) (i : Inputs) 
     HasEnded f j (after_rising s k b i (with_execute k i m))
 rising_tells laws s j k b i m n f d within l there h owns ends =
     let v = instance.called (instance_at m.instances k) i.execute in
-    let free = free_of k i m in
+    let free = asking_machine k i m in
     let asking = asks laws.owners s k v m h in
     let sizes = asking.sized in
     let a = sizes.axes in
@@ -75,7 +72,7 @@ rising_tells_group : TellLaws → (s : Setup) (j k : ℕ) (b : BlockDef) (i : In
     HasEnded f j (after_rising s k b i (with_execute k i m))
 rising_tells_group laws s j k b i m g f d within l there h owns ends =
     let v = instance.called (instance_at m.instances k) i.execute in
-    let free = free_of k i m in
+    let free = asking_machine k i m in
     let asking = asks laws.owners s k v m h in
     let sizes = asking.sized in
     let a = sizes.groups in

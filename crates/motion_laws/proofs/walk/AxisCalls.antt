@@ -32,6 +32,7 @@ use Rattle.motion_kernel.specs.members.Members.{members_at, membership_of}
 use Rattle.motion_kernel.specs.declared.memberships.Membership.{Membership}
 use Rattle.motion_kernel.proofs.kept.Events.{axis_beside_axis, axis_beside_group, axis_written}
 use Rattle.motion_kernel.proofs.Sizes.{by_if}
+use Rattle.motion_laws.proofs.walk.ByTest.{both}
 use Rattle.motion_kernel.proofs.kept.LedAxes.{led_twice}
 
 -- an axis as it was, or led on a path, or from it
@@ -65,12 +66,7 @@ pub record IsThere (m : Machine) (n : ℕ) : Type 0 where
   pub axis : n < length m.axes
   pub list : n < length m.queues
 
--- the same test decides the fate and the axis
-both : (P : Fate → Machine → Type 0) (b : Bool) (f g : Fate) (x y : Machine) → (b ≡ true → P f x) →
-    (b ≡ false → P g y) → P (if b then f else g) (if b then x else y)
-both P true f g x y h k = h refl
-both P false f g x y h k = k refl
-
+-- a test decides the fate alone
 one_fate : (P : Fate → Machine → Type 0) (b : Bool) (f g : Fate) (x : Machine) →
     (b ≡ true → P f x) → (b ≡ false → P g x) → P (if b then f else g) x
 one_fate P true f g x h k = h refl

@@ -35,6 +35,7 @@ use Rattle.motion_kernel.specs.declared.memberships.Membership.{Membership}
 use Rattle.motion_kernel.proofs.kept.Events.{group_beside_axis, group_beside_group, group_written}
 use Rattle.motion_kernel.proofs.kept.Detached.{disowned_size, group_disowned}
 use Rattle.motion_kernel.proofs.Sizes.{by_if}
+use Rattle.motion_laws.proofs.walk.ByTest.{both}
 
 -- a property of a group after a call, by the fate of its active command, that every event of the
 -- group gives it
@@ -53,12 +54,7 @@ pub record IsThere (m : Machine) (j : ℕ) : Type 0 where
   pub group : j < length m.groups
   pub list : list_of m j < length m.queues
 
--- the same test decides the fate and the machine
-both : (P : Fate → Machine → Type 0) (b : Bool) (f g : Fate) (x y : Machine) → (b ≡ true → P f x) →
-    (b ≡ false → P g y) → P (if b then f else g) (if b then x else y)
-both P true f g x y h k = h refl
-both P false f g x y h k = k refl
-
+-- a test decides the fate alone
 one_fate : (P : Fate → Type 0) (b : Bool) (f g : Fate) → (b ≡ true → P f) →
     (b ≡ false → P g) → P (if b then f else g)
 one_fate P true f g h k = h refl

@@ -102,7 +102,7 @@ impl Drive {
 
 #[test]
 fn two_threads_pass_items_both_ways(rt: HostRuntime) -> Result<(), Fail> {
-    let count = 100_000;
+    let count = 10_000;
     let Pair { kernel, drive, .. } = Pair::new(rt.alloc(), 2)?;
     let shared = &rt;
     let (mut kernel, mut drive) = thread::join(

@@ -1,5 +1,5 @@
 -- The lemmas on the second move.
-use Rattle.blend_laws.proofs.Given.{AreHeading, AreCrossings}
+use Rattle.blend_laws.specs.Given.{AreHeading, AreCrossings}
 use Rattle.blend_laws.proofs.Kept.{move-kept}
 use Rattle.blend_laws.proofs.SecondMoves.{crossing-heads, never-passes}
 use Rattle.blend_laws.proofs.laws.second_targets_are_never_passed.Goals as goal

@@ -2,7 +2,7 @@
 use Rattle.std.specs.Prelude.{◌≡◌, refl, ℕ, zero, suc, ◌<◌, ◌≤◌, Some, List, [], ◌∷◌, ◌++◌, length, slice_get, slice_index_or, slice_set}
 use Rattle.std.proofs.Common.{arith, ap, sym, subst, ◌∙◌, inl, inr}
 use Rattle.std.proofs.lemmas.Bool.{cases_eq}
-use Rattle.std.proofs.lemmas.List.{get_or-set_other, get_or-set_same}
+use Rattle.std.proofs.lemmas.List.{get_or-set_other, get_or-set_same, length_push}
 use Rattle.axis_core.specs.Cycles.{core_after_cycle, row_shown}
 use Rattle.axis_core.specs.declared.axis.Axis.{Axis}
 use Rattle.axis_state.specs.declared.definition.AxisRow.{AxisRow}
@@ -61,13 +61,6 @@ axis_row_shows laws s m rows grows n r h is at =
     let Q : Axis → Type 0 = λ a. ShowsAxis (row_shown look.input made) a in
     subst P row (subst Q (sym through.after) (row_shows look.input made))
 
--- one row more
-length_more : {X : Type 0} (xs : List X) (x : X) (n : ℕ) → length xs ≡ n →
-    length (xs ++ x ∷ []) ≡ suc n
-length_more [] x n e = ap suc e
-length_more (y ∷ ys) x zero e = absurd (omega arith)
-length_more (y ∷ ys) x (suc n) e = ap suc (length_more ys x n (omega (arith, e)))
-
 -- a row before there is one
 no_group_row : GroupRow
 no_group_row = row_of no_group.group
@@ -92,7 +85,7 @@ groups_show s (suc n) m l =
     let written : group_among (slice_set x.groups n g) n ≡ g = get_or-set_same x.groups n g no_group
     (omega arith) in
     record {
-      many = length_more rows (row_of c.group) n many;
+      many = length_push rows (row_of c.group) ∙ ap suc many;
       shown = λ k b. elim (cases_eq k n) [
         | inl e ↦ index_last rows (row_of c.group) k no_group_row (e ∙ sym many)
             ∙ ap (λ (y : PlacedGroup). row_of y.group) (sym written)

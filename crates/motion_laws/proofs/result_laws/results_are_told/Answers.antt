@@ -5,7 +5,7 @@ use Rattle.motion_laws.proofs.results.Steps.{TellLaws}
 use Rattle.motion_laws.proofs.results.Told.{results_told}
 use Rattle.motion_laws.proofs.result_laws.results_are_told.Goals as goal
 
-owners : (c : goal.After-ends_are_told_once-3) → OwnerLaws
+owners : (c : goal.After-ends_are_told-2) → OwnerLaws
 owners c =
     let m = c.machines_stay_kept.ensures in
     let machines : MachinesStayKept = record { opened = m.opened; call = m.call; may_go_on = m.may_go_on; cycle = m.cycle } in
@@ -21,10 +21,10 @@ owners c =
       hold = c.holders_have_commands.ensures;
     }
 
-laws : (c : goal.After-ends_are_told_once-3) → TellLaws
+laws : (c : goal.After-ends_are_told-2) → TellLaws
 laws c =
-    let a = c.ends_are_told_once-2.ensures in
-    let g = c.ends_are_told_once-3.ensures in
+    let a = c.ends_are_told.ensures in
+    let g = c.ends_are_told-2.ensures in
     record {
       owners = owners c;
       command = a.told_command;

@@ -3,8 +3,8 @@ use Rattle.std.proofs.Common.{◌∙◌, rules, tests}
 use Rattle.std.specs.Str.{bytes_eq}
 use Rattle.std.proofs.lemmas.Iterator.{YieldsList-from_slice}
 use Rattle.std.proofs.lemmas.Iterator.Search.{find_from_yields_List}
-use Rattle.plc_program.specs.Lines.{flag_name, flag_named, flags}
-use Rattle.plc_program.proofs.wait.flag_named.Goals as goal
+use Rattle.fb_outputs.specs.Flags.{flag_name, flag_named, flags}
+use Rattle.fb_outputs.proofs.flag.flag_named.Goals as goal
 
 pub returns : goal.returns
 unfolding flag_named

@@ -1,0 +1,43 @@
+-- The machine that a configuration and a program open. This project's profile.
+use Rattle.std.specs.Prelude.{◌≡◌, ℕ, List, Option, Some, Result, Ok, Err}
+use Rattle.line_text.specs.Reading.{◌>>=◌}
+use Rattle.machine_config.specs.Reading.{machine_of}
+use Rattle.machine_config.specs.declared.machine.Machine.{Machine}
+use Rattle.motion_c.specs.Opened.{IsTold, at_rest}
+use Rattle.motion_c.specs.declared.machine.Machine as held
+use Rattle.motion_c.specs.declared.opening.MotionRefusal.{MotionRefusal}
+use Rattle.motion_history.specs.Setup.{Setup}
+use Rattle.motion_history.specs.declared.refused.TextFault.{TextFault}
+use Rattle.motion_history.specs.declared.refused.TextFault.TheVariants.{Refused, OutOfMemory}
+use Rattle.motion_history.specs.declared.refused.TextRefused.{TextRefused}
+use Rattle.motion_history.specs.declared.refused.TraceVersion.TheVariants.{Two}
+use Rattle.plc_program.specs.Reading.{Outcome, program_of}
+use Rattle.plc_program.specs.declared.program.Instruction.{Instruction}
+
+-- the reading of a configuration, and of a program over it: its lines, and the machine with its
+-- tasks and blocks; or the refusal of the one that breaks a rule, of the configuration first
+abbrev pub reading_of : List ℕ → List ℕ → Result Outcome TextRefused
+reading_of config program =
+    machine_of config >>= λ (m : Machine). program_of m.cycle_us m.config program
+
+-- what was read of both is the machine of this reading, or its refusal; or memory ran out
+abbrev pub ReadsBoth : List ℕ → List ℕ → Result Setup TextFault → Type 0
+ReadsBoth config program (Ok s) =
+    (lines : List (List Instruction)) × (reading_of config program ≡ Ok (record {
+      program = lines;
+      setup = s;
+    }))
+ReadsBoth config program (Err (Refused r)) = reading_of config program ≡ Err r
+ReadsBoth config program (Err OutOfMemory) = Unit {0}
+
+-- a configuration and a program open a machine: that of both, at rest, with traces of version 2
+pub record OpensBoth (config program : List ℕ) (after : Option held.Machine) : Type 0 where
+  pub outcome : Outcome
+  pub read : reading_of config program ≡ Ok outcome
+  pub opened : after ≡ Some (at_rest outcome.setup Two)
+
+-- one of them is refused, and the line and the rule are told
+pub record IsOneRefused (config program : List ℕ) (told : MotionRefusal) : Type 0 where
+  pub refused : TextRefused
+  pub read : reading_of config program ≡ Err refused
+  pub told : IsTold refused told
