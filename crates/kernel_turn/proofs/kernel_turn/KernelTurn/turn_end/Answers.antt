@@ -1,4 +1,4 @@
-use Rattle.std.proofs.Common.{rules, ◌≡◌, subst}
+use Rattle.std.proofs.Common.{rules, refl, ◌≡◌, subst}
 use Rattle.motion_kernel.specs.KernelState.{KernelState}
 use Rattle.motion_history.specs.Entries.{end_of}
 use Rattle.kernel_turn.specs.Events.{EndTold}
@@ -23,4 +23,4 @@ returns-clause-lawful g c =
 pub returns-clause-unstopped : goal.returns-clause-unstopped
 returns-clause-unstopped g c =
     let same : c.deref_mut.result.now ≡ c.take-kernel.result = search rules in
-    made_unstopped _ _ _ _ _ _ (turn_taken _ _ _ _ _ _ _ _ _ _ c.pass.view_is (search rules) c.take-kernel.ensures.holds (makes_same (λ k. end_of c.args.task) _ _ _ _ same c.try_end-turn.ensures.makes) c.pass_on.ensures.passed)
+    made_unstopped _ _ _ _ _ _ (turn_taken _ _ _ _ _ _ _ _ _ _ c.pass.view_is refl c.take-kernel.ensures.holds (makes_same (λ k. end_of c.args.task) _ _ _ _ same c.try_end-turn.ensures.makes) c.pass_on.ensures.passed)
