@@ -85,7 +85,7 @@ groups_show s (suc n) m l =
     let written : group_among (slice_set x.groups n g) n ≡ g = get_or-set_same x.groups n g no_group
     (omega arith) in
     record {
-      many = length_push rows (row_of c.group) ∙ ap suc many;
+      many = let pushed = length_push rows (row_of c.group) in omega (arith, pushed, many);
       shown = λ k b. elim (cases_eq k n) [
         | inl e ↦ index_last rows (row_of c.group) k no_group_row (e ∙ sym many)
             ∙ ap (λ (y : PlacedGroup). row_of y.group) (sym written)
