@@ -212,6 +212,28 @@ migrate_line : (words : List Text) → ArePlain words → IsRead (codes "migrate
 unfolding clap_on_literals
 migrate_line words e = read_behind (codes "migrate") words refl refl (migrate_rest words e)
 
+-- the words behind `st`
+st_rest : (words : List Text) → ArePlain words → IsReadBehind (codes "st") words
+unfolding clap_on_literals asked_by request_in
+st_rest [] e = refl
+st_rest (a ∷ []) e =
+    let h = first_operand a [] e in
+    rw (h.dashes, h.long, h.short) refl
+st_rest (a ∷ b ∷ []) e =
+    let h = first_operand a (b ∷ []) e in
+    let k = first_operand b [] (others_plain a (b ∷ []) e) in
+    rw (h.dashes, h.long, h.short, k.dashes, k.long, k.short) refl
+st_rest (a ∷ b ∷ c ∷ more) e =
+    let h = first_operand a (b ∷ c ∷ more) e in
+    let two = others_plain a (b ∷ c ∷ more) e in
+    let k = first_operand b (c ∷ more) two in
+    let m = first_operand c more (others_plain b (c ∷ more) two) in
+    rw (h.dashes, h.long, h.short, k.dashes, k.long, k.short, m.dashes, m.long, m.short) refl
+
+st_line : (words : List Text) → ArePlain words → IsRead (codes "st" ∷ words)
+unfolding clap_on_literals
+st_line words e = read_behind (codes "st") words refl refl (st_rest words e)
+
 -- the words behind `switches`
 switches_rest : (words : List Text) → ArePlain words → IsReadBehind (codes "switches") words
 unfolding clap_on_literals asked_by request_in
@@ -282,12 +304,13 @@ scope_line words e = read_behind (codes "scope") words refl refl (scope_rest wor
 no_line : (word : Text) (words : List Text) → IsOperand word
     → bytes_eq (codes "bench") word ≡ false → bytes_eq (codes "run") word ≡ false
     → bytes_eq (codes "check") word ≡ false → bytes_eq (codes "gen") word ≡ false
-    → bytes_eq (codes "migrate") word ≡ false → bytes_eq (codes "switches") word ≡ false
-    → bytes_eq (codes "standby") word ≡ false → bytes_eq (codes "scope") word ≡ false
+    → bytes_eq (codes "migrate") word ≡ false → bytes_eq (codes "st") word ≡ false
+    → bytes_eq (codes "switches") word ≡ false → bytes_eq (codes "standby") word ≡ false
+    → bytes_eq (codes "scope") word ≡ false
     → IsRead (word ∷ words)
 unfolding clap_on_literals asked_by
-no_line word words h bench run check gen migrate switches standby scope =
-    rw (bench, run, check, gen, migrate, switches, standby, scope, h.dashes, h.long, h.short) refl
+no_line word words h bench run check gen migrate st switches standby scope =
+    rw (bench, run, check, gen, migrate, st, switches, standby, scope, h.dashes, h.long, h.short) refl
 
 -- a first word is this name, or another word
 named : (name word : Text) (words : List Text) → IsRead (name ∷ words)
@@ -308,8 +331,9 @@ plain_read (word ∷ words) e =
     named (codes "check") word words (check_line words plain) (λ check.
     named (codes "gen") word words (gen_line words plain) (λ gen.
     named (codes "migrate") word words (migrate_line words plain) (λ migrate.
+    named (codes "st") word words (st_line words plain) (λ st.
     named (codes "switches") word words (switches_line words plain) (λ switches.
     named (codes "standby") word words (standby_line words plain) (λ standby.
     named (codes "scope") word words (scope_line words plain)
-    (no_line word words (first_operand word words e) bench run check gen migrate switches
-    standby))))))))
+    (no_line word words (first_operand word words e) bench run check gen migrate st switches
+    standby)))))))))

@@ -9,7 +9,7 @@ use Rattle.clap.specs.declared.builder.command.Command.{Command}
 use Rattle.clap.specs.declared.builder.command.Command.TheViews.{out-Command}
 use Rattle.clap.specs.Words.{App, Row, Rule, Text, app_of, first_of, new_app, new_rule, with_rule, with_subcommand}
 use Rattle.command_words.specs.Numbers.{cut_in, seed_in, workers_in}
-use Rattle.command_words.specs.Requests.{Asked, alone, handed_over, of_file, of_load, of_report, of_run, of_scope, of_switches, shared}
+use Rattle.command_words.specs.Requests.{Asked, alone, handed_over, of_file, of_load, of_report, of_run, of_tasks, of_scope, of_switches, shared}
 use Rattle.command_words.specs.declared.request.Job.{Job}
 use Rattle.command_words.specs.declared.request.Job.TheVariants.{Bench, Check, Migrate}
 
@@ -38,7 +38,7 @@ bare_motion = record {
 }
 
 -- the commands in their order: bench FILE, run CONFIG PROGRAM, check TRACE, gen SEED, migrate TRACE,
--- switches TRACE FILE, standby FILE CUT, scope TRACE WORKERS
+-- st CONFIG FILE, switches TRACE FILE, standby FILE CUT, scope TRACE WORKERS
 abbrev pub commands : List App
 commands =
     command_of_one (codes "bench") (codes "FILE")
@@ -46,6 +46,7 @@ commands =
     ∷ command_of_one (codes "check") (codes "TRACE")
     ∷ command_of_one (codes "gen") (codes "SEED")
     ∷ command_of_one (codes "migrate") (codes "TRACE")
+    ∷ command_of_two (codes "st") (codes "CONFIG") (codes "FILE")
     ∷ command_of_two (codes "switches") (codes "TRACE") (codes "FILE")
     ∷ command_of_two (codes "standby") (codes "FILE") (codes "CUT")
     ∷ command_of_two (codes "scope") (codes "TRACE") (codes "WORKERS")
@@ -79,6 +80,11 @@ abbrev pub load_in : Option Text → Option Asked
 load_in = option_and_then (λ word.
     option_map (λ seed. record { request = of_load seed; hands = alone }) (seed_in word))
 
+-- a run of tasks in Structured Text with the files that two operands name
+abbrev pub tasks_in : Option Text → Option Text → Option Asked
+tasks_in config program = option_and_then (λ c. option_map (λ p.
+    record { request = of_tasks (record { config = c; program = p }); hands = alone }) program) config
+
 -- the switches of a trace, with the files that two operands name
 abbrev pub switches_in : Option Text → Option Text → Option Asked
 switches_in trace switches = option_and_then (λ t. option_map (λ s.
@@ -107,6 +113,8 @@ request_in name rows =
     else if bytes_eq name (codes "check") then file_in Check (first_of (codes "TRACE") rows)
     else if bytes_eq name (codes "gen") then load_in (first_of (codes "SEED") rows)
     else if bytes_eq name (codes "migrate") then file_in Migrate (first_of (codes "TRACE") rows)
+    else if bytes_eq name (codes "st")
+    then tasks_in (first_of (codes "CONFIG") rows) (first_of (codes "FILE") rows)
     else if bytes_eq name (codes "switches")
     then switches_in (first_of (codes "TRACE") rows) (first_of (codes "FILE") rows)
     else if bytes_eq name (codes "standby")

@@ -8,14 +8,14 @@ use Rattle.command_words.specs.Numbers.{cut_in, seed_in, workers_in}
 use Rattle.command_words.specs.declared.request.Job.{Job}
 use Rattle.command_words.specs.declared.request.Job.TheVariants.{Bench, Check, Migrate}
 use Rattle.command_words.specs.declared.request.Request as code
-use Rattle.command_words.specs.declared.request.Request.TheVariants.{File, Run, Load, Switches, Standby, Scope}
+use Rattle.command_words.specs.declared.request.Request.TheVariants.{File, Run, Load, StructuredText, Switches, Standby, Scope}
 
 -- what is to be done with a file
 pub record FileJob : Type 0 where
   pub job : Job
   pub name : List ℕ
 
--- the files of a run: the configuration of the machine, and its program
+-- the files of a run: the configuration of the machine, and its program or its tasks
 pub record RunFiles : Type 0 where
   pub config : List ℕ
   pub program : List ℕ
@@ -25,11 +25,13 @@ pub data Report : Type 0 where
   of_switches : (trace switches : List ℕ) → Report
   of_scope : (trace : List ℕ) → Report
 
--- what is asked: a job with a file, a run of a machine, the load of a seed, or a report
+-- what is asked: a job with a file, a run of a machine, the load of a seed, a run of tasks in
+-- Structured Text, or a report
 pub data Request : Type 0 where
   of_file : FileJob → Request
   of_run : RunFiles → Request
   of_load : ℕ → Request
+  of_tasks : RunFiles → Request
   of_report : Report → Request
 
 -- by whom it is to be done, which changes nothing of what is written: by one alone, by one kernel
@@ -53,6 +55,10 @@ told (Run config program) = record {
   hands = alone;
 }
 told (Load seed) = record { request = of_load seed; hands = alone }
+told (StructuredText config program) = record {
+  request = of_tasks (record { config = config.now; program = program.now });
+  hands = alone;
+}
 told (Switches trace switches) =
     record { request = of_report (of_switches trace.now switches.now); hands = alone }
 told (Standby name cut) = record {
@@ -98,6 +104,14 @@ with_seed (word ∷ []) =
     option_map (λ seed. record { request = of_load seed; hands = alone }) (seed_in word)
 with_seed _ = None
 
+-- CONFIG FILE: a run of a machine whose tasks the second file has in Structured Text
+abbrev pub with_config_and_tasks : List (List ℕ) → Option Asked
+with_config_and_tasks (config ∷ program ∷ []) = Some (record {
+  request = of_tasks (record { config = config; program = program });
+  hands = alone;
+})
+with_config_and_tasks _ = None
+
 -- TRACE FILE: the edges of the switches of a file in the trace that is named
 abbrev pub with_trace_and_file : List (List ℕ) → Option Asked
 with_trace_and_file (trace ∷ switches ∷ []) =
@@ -120,8 +134,8 @@ with_trace_and_workers (trace ∷ word ∷ []) = option_map (λ workers. record 
 }) (workers_in word)
 with_trace_and_workers _ = None
 
--- bench FILE, run CONFIG PROGRAM, check TRACE, gen SEED, migrate TRACE, switches TRACE FILE, standby
--- FILE CUT, scope TRACE WORKERS
+-- bench FILE, run CONFIG PROGRAM, check TRACE, gen SEED, migrate TRACE, st CONFIG FILE, switches
+-- TRACE FILE, standby FILE CUT, scope TRACE WORKERS
 abbrev pub grammar : List Line
 grammar =
     record { word = codes "bench"; asks = with_file Bench }
@@ -129,6 +143,7 @@ grammar =
     ∷ record { word = codes "check"; asks = with_file Check }
     ∷ record { word = codes "gen"; asks = with_seed }
     ∷ record { word = codes "migrate"; asks = with_file Migrate }
+    ∷ record { word = codes "st"; asks = with_config_and_tasks }
     ∷ record { word = codes "switches"; asks = with_trace_and_file }
     ∷ record { word = codes "standby"; asks = with_file_and_cut }
     ∷ record { word = codes "scope"; asks = with_trace_and_workers }
@@ -158,6 +173,11 @@ abbrev pub files_of : Request → Option RunFiles
 files_of (of_run r) = Some r
 files_of _ = None
 
+-- the files of the run of tasks in Structured Text that is asked
+abbrev pub tasks_of : Request → Option RunFiles
+tasks_of (of_tasks r) = Some r
+tasks_of _ = None
+
 -- the seed of the load that is asked
 abbrev pub load_of : Request → Option ℕ
 load_of (of_load seed) = Some seed
@@ -175,6 +195,10 @@ request_of words = option_and_then file_of (asked_of words)
 -- the files of the run that the words ask for
 abbrev pub run_of : List (List ℕ) → Option RunFiles
 run_of words = option_and_then files_of (asked_of words)
+
+-- the files of the run of tasks in Structured Text that the words ask for
+abbrev pub tasks_run_of : List (List ℕ) → Option RunFiles
+tasks_run_of words = option_and_then tasks_of (asked_of words)
 
 -- the seed of the load that the words ask for
 abbrev pub seed_of : List (List ℕ) → Option ℕ

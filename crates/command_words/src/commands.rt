@@ -13,10 +13,12 @@ pub fn motion<'a>(alloc: Global) -> Result<Command<'a>, AllocError>
     ensures { IfOk result (IsCommand spec.motion) }
 {
     let first = with_first_commands(alloc)?;
+    let tasks = command_of_two(alloc, "st", "CONFIG", "FILE")?;
     let switches = command_of_two(alloc, "switches", "TRACE", "FILE")?;
     let standby = command_of_two(alloc, "standby", "FILE", "CUT")?;
     let scope = command_of_two(alloc, "scope", "TRACE", "WORKERS")?;
     first
+        .subcommand(tasks)?
         .subcommand(switches)?
         .subcommand(standby)?
         .subcommand(scope)

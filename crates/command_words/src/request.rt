@@ -39,6 +39,9 @@ pub enum Request<'a> {
     Run { config: &'a str, program: &'a str },
     /// The load of a seed.
     Load { seed: u32 },
+    /// A run of a machine whose tasks are in Structured Text: the files of its configuration and of
+    /// its tasks.
+    StructuredText { config: &'a str, program: &'a str },
     /// The edges of the switches of a file in a trace.
     Switches { trace: &'a str, switches: &'a str },
     /// A bench whose kernel hands over to its standby behind so many events.
@@ -140,6 +143,7 @@ fn report_in<'a>(name: &str, operands: &ArgMatches<'a>) -> Option<Request<'a>>
         ≡ commands.request_in name.now (rows_of (found_of operands.now)) }
 {
     match name {
+        "st" => tasks_in(operands.get_str("CONFIG"), operands.get_str("FILE")),
         "switches" => switches_in(operands.get_str("TRACE"), operands.get_str("FILE")),
         "standby" => standby_in(operands.get_str("FILE"), operands.get_str("CUT")),
         "scope" => scope_in(operands.get_str("TRACE"), operands.get_str("WORKERS")),
@@ -174,6 +178,17 @@ fn load_in(word: Option<&str>) -> Option<Request<'static>>
 {
     let seed = seed_in(word?)?;
     Some(Request::Load { seed })
+}
+
+// A run of tasks in Structured Text with the files that two operands name.
+fn tasks_in<'a>(config: Option<&'a str>, program: Option<&'a str>) -> Option<Request<'a>>
+    ensures { option_map told result
+        ≡ commands.tasks_in (option_map (λ text. text.now) config.entry)
+        (option_map (λ text. text.now) program.entry) }
+{
+    let config = config?;
+    let program = program?;
+    Some(Request::StructuredText { config, program })
 }
 
 // The switches of a trace, with the files that two operands name.

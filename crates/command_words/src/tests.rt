@@ -29,11 +29,16 @@ fn takes_each_line(rt: HostRuntime) -> Result<(), Fail> {
         config: "cell.toml",
         program: "cell.plc",
     });
-    let cases: [(&[&str], Option<Request>); 13] = [
+    let tasks = Some(Request::StructuredText {
+        config: "cell.toml",
+        program: "cell.st",
+    });
+    let cases: [(&[&str], Option<Request>); 14] = [
         (&["bench", "a.bench"], file(Job::Bench, "a.bench")),
         (&["check", "a.csv"], file(Job::Check, "a.csv")),
         (&["migrate", "a.csv"], file(Job::Migrate, "a.csv")),
         (&["run", "cell.toml", "cell.plc"], run),
+        (&["st", "cell.toml", "cell.st"], tasks),
         (&["bench", "help"], file(Job::Bench, "help")),
         (&["check", "check"], file(Job::Check, "check")),
         (&["migrate", "a b-c"], file(Job::Migrate, "a b-c")),
@@ -115,7 +120,7 @@ fn refuses_other_words_of_a_report_or_a_standby(rt: HostRuntime) -> Result<(), F
 
 #[test]
 fn refuses_other_words(rt: HostRuntime) -> Result<(), Fail> {
-    let cases: [&[&str]; 39] = [
+    let cases: [&[&str]; 42] = [
         &[],
         &["bench"],
         &["run"],
@@ -127,6 +132,9 @@ fn refuses_other_words(rt: HostRuntime) -> Result<(), Fail> {
         &["bench", "a", "b"],
         &["run", "a"],
         &["run", "a", "b", "c"],
+        &["st"],
+        &["st", "a"],
+        &["st", "a", "b", "c"],
         &["check", "a", "b"],
         &["gen", "1", "2"],
         &["migrate", "a", "b"],

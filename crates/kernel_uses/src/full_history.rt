@@ -1,6 +1,6 @@
 // A full history: how a caller finds out that no entry or no cycle is left, and goes on.
 
-ghost use Rattle.std.specs.Prelude.{◌≡◌, ◌≢◌, ◌↔◌, ◌≤◌, ◌<◌, Err, IfOk, OnErr, OnOk, length};
+ghost use Rattle.std.specs.Prelude.{◌≡◌, ◌≢◌, ◌↔◌, ◌≤◌, ◌<◌, Err, IfErr, IfOk, OnErr, OnOk, length};
 ghost use Rattle.kernel_uses.specs.Uses.{AddsEntry, GoesOn, next_cycle, next_outputs};
 ghost use Rattle.motion_history.specs.Calls.{IsCall};
 ghost use Rattle.motion_history.specs.Entries.{call, cycles_of};
@@ -37,12 +37,8 @@ pub fn try_call(kernel: &mut Kernel, block: u16, inputs: &Inputs) -> Result<Outp
     ensures unchanged { OnErr result (kernel.new ≡ kernel.old) }
     ensures goes { GoesOn kernel.old kernel.new }
 {
-    if kernel.room_left() == 0 {
-        return Err(NotMade::HistoryFull);
-    }
-    if !kernel.config().may_be_called(block, inputs) {
-        return Err(NotMade::NoSuchCall);
-    }
+    room_for_one(kernel)?;
+    call_of_block(kernel, block, inputs)?;
     let task = kernel.config().blocks()[block as usize].task;
     Ok(kernel.call(task, block, inputs))
 }
@@ -69,12 +65,47 @@ pub fn try_cycle(
     ensures unchanged { OnErr result (kernel.new ≡ kernel.old) }
     ensures goes { GoesOn kernel.old kernel.new }
 {
-    if kernel.cycles_left() == 0 {
-        return Err(NotMade::CyclesOver);
-    }
-    if kernel.room_left() == 0 {
-        return Err(NotMade::HistoryFull);
-    }
+    cycle_left(kernel)?;
+    room_for_one(kernel)?;
     kernel.cycle(answers, outs);
     Ok(())
+}
+
+// Whether there is room for an entry.
+fn room_for_one(kernel: &Kernel) -> Result<(), NotMade>
+    ensures room { OnOk result (length kernel.now.history < room_of kernel.now) }
+    ensures full { IfErr result (λ e. (e ≡ NotMade.HistoryFull) ×
+        (room_of kernel.now ≤ length kernel.now.history)) }
+{
+    if kernel.room_left() == 0 {
+        Err(NotMade::HistoryFull)
+    } else {
+        Ok(())
+    }
+}
+
+// Whether a cycle is left.
+fn cycle_left(kernel: &Kernel) -> Result<(), NotMade>
+    ensures left { OnOk result (cycles_of kernel.now.history < kernel.now.config.cycles) }
+    ensures over { IfErr result (λ e. (e ≡ NotMade.CyclesOver) ×
+        (kernel.now.config.cycles ≤ cycles_of kernel.now.history)) }
+{
+    if kernel.cycles_left() == 0 {
+        Err(NotMade::CyclesOver)
+    } else {
+        Ok(())
+    }
+}
+
+// Whether there is such a block, and the inputs are those of its kind.
+fn call_of_block(kernel: &Kernel, block: u16, inputs: &Inputs) -> Result<(), NotMade>
+    ensures call { OnOk result (IsCall kernel.now.config block inputs.now) }
+    ensures none { IfErr result (λ e. (e ≡ NotMade.NoSuchCall) ×
+        (IsCall kernel.now.config block inputs.now → ⊥)) }
+{
+    if kernel.config().may_be_called(block, inputs) {
+        Ok(())
+    } else {
+        Err(NotMade::NoSuchCall)
+    }
 }

@@ -3,7 +3,7 @@
 -- at_most_eight_wait: limits/Waiting, by the walk
 -- refusals_change_nothing: entries/refusals/Calls
 -- replies_tell_one_result: entries/replies/Histories
--- states_follow_the_diagrams: entries/diagrams/Histories
+-- states_change_by_their_events: entries/events/Histories
 -- commands_are_where_their_instances_show: owners/Shown, over owners/Kept and owners/Holders, by
 -- the walk
 -- rows_show_the_machine: entries/rows/Histories

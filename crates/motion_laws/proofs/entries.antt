@@ -1,6 +1,6 @@
 -- What each entry of a legal history keeps.
 pub mod refusals
 pub mod replies
-pub mod diagrams
+pub mod events
 pub mod rows
 pub mod Kept

@@ -1,6 +1,8 @@
 -- What each entry of a legal history keeps.
 pub mod Refusals
 pub mod Replies
-pub mod Diagrams
+pub mod AxisEvents
+pub mod GroupEvents
+pub mod Events
 pub mod Rows
 pub mod Kept

@@ -15,11 +15,11 @@ use crate::result_laws::results_are_told;
 /// In every legal history each row keeps its axis's limits; and after every entry each axis that is
 /// driven and each path can be stopped within its limits, and at most eight commands wait for each
 /// axis and each group. Each entry keeps the laws of entries: a refused call changes nothing but
-/// its own instance, each reply tells one result, the states follow their diagrams, commands are
-/// where their instances show, and the rows of a cycle show the machine behind it. Each move, Halt
-/// and Stop of an axis, and each line, GroupHalt and GroupStop of a group, comes to its end in
-/// time, and no blended move hangs; and each end is told to the instance whose command it was, and
-/// to no other.
+/// its own instance, each reply tells one result, the states change by the entry's events,
+/// commands are where their instances show, and the rows of a cycle show the machine behind it.
+/// Each move, Halt and Stop of an axis, and each line, GroupHalt and GroupStop of a group, comes to
+/// its end in time, and no blended move hangs; and each end is told to the instance whose command
+/// it was, and to no other.
 pub fn histories_keep_their_laws()
     ensures { (s : Setup) (es : List Entry) → IsSetup s → AreWhole s → IsLegal s es →
         KeepsLaws s es }

@@ -5,8 +5,8 @@
 #![tactic(auto)]
 
 mod arrival_laws;
-mod diagram_laws;
 mod entry_laws;
+mod event_laws;
 mod history_laws;
 mod limit_laws;
 mod owner_laws;
@@ -16,8 +16,8 @@ mod result_laws;
 mod row_laws;
 
 pub use arrival_laws::{moves_arrive_in_time, paths_end_in_time};
-pub use diagram_laws::states_follow_the_diagrams;
 pub use entry_laws::entries_keep_their_laws;
+pub use event_laws::states_change_by_their_events;
 pub use history_laws::histories_keep_their_laws;
 pub use limit_laws::{at_most_eight_wait, axes_stay_stoppable, rows_keep_limits};
 pub use owner_laws::commands_are_where_their_instances_show;

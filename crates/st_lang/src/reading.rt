@@ -1,12 +1,14 @@
 // Reading tasks in Structured Text.
 
-ghost use Rattle.std.specs.Prelude.{◌≡◌, [], List, IfOk};
-ghost use Rattle.motion_history.specs.Setup.{Setup};
+ghost use Rattle.std.specs.Prelude.{◌≡◌, [], List, IfOk, IsTrue, OnOk, length};
+ghost use Rattle.motion_history.specs.Setup.{IsSetup, Setup};
 ghost use Rattle.st_check.specs.Reading.{reading_of};
 ghost use Rattle.st_lang.specs.Reading.{IsBuilt, ReadsBy, ReadsSame};
 ghost use Rattle.st_lang.specs.Spelled.{IsStText};
+ghost use Rattle.st_tree.specs.Fitting.{IsProgramOf};
 ghost use Rattle.st_tree.specs.declared.program.Task.{Task};
 
+use crate::fitting::is_program_of;
 use motion_history::{Builder, TextFault};
 use st_build::program_of;
 use st_check::{Told, check_text};
@@ -27,6 +29,10 @@ pub fn read_st(alloc: Global, text: &[u8], config: &mut Builder) -> Result<StPro
         IsStText config.old text.now tasks after → ReadsSame tasks after result config.new }
     // A text that has none is refused so.
     ensures exact { ReadsBy (reading_of config.old text.now) result config.new }
+    // The machine of what is read is whole and has its axes, and the program is one of it.
+    ensures setup { OnOk result (IsSetup config.new) }
+    ensures axes { OnOk result (length config.new.axes ≡ length config.old.axes) }
+    ensures program { IfOk result (λ p. IsProgramOf config.new p.tasks.items) }
 {
     let Ok(empty) = Builder::open(alloc, 1, 1) else {
         return Err(TextFault::OutOfMemory);
@@ -39,21 +45,49 @@ pub fn read_st(alloc: Global, text: &[u8], config: &mut Builder) -> Result<StPro
 
 // The program that a text is, and the machine with its tasks and blocks.
 fn read(alloc: Global, text: &[u8], machine: Builder) -> (Builder, Result<StProgram, TextFault>)
-    ensures { ReadsBy (reading_of machine text.now) result.1 result.0 }
+    ensures exact { ReadsBy (reading_of machine text.now) result.1 result.0 }
+    ensures setup { OnOk result.1 (IsSetup result.0) }
+    ensures axes { OnOk result.1 (length result.0.axes ≡ length machine.axes) }
+    ensures program { IfOk result.1 (λ p. IsProgramOf result.0 p.tasks.items) }
 {
+    let axes = machine.axes().len();
     let (machine, told) = check_text(alloc, text, machine);
     match told {
-        Ok(told) => (machine, built(alloc, &told)),
+        Ok(told) => {
+            let program = built(alloc, &machine, axes, &told);
+            (machine, program)
+        }
         Err(fault) => (machine, Err(fault)),
     }
 }
 
-// The trees of what was told.
-fn built(alloc: Global, told: &Told) -> Result<StProgram, TextFault>
-    ensures { IsBuilt told.now result }
+// The trees of what was told, where the machine is whole with so many axes, and they fit it.
+fn built(alloc: Global, machine: &Builder, axes: usize, told: &Told) -> Result<StProgram, TextFault>
+    ensures built { IsBuilt told.now result }
+    ensures setup { OnOk result (IsSetup machine.now) }
+    ensures axes { OnOk result (length machine.now.axes ≡ axes) }
+    ensures program { IfOk result (λ p. IsProgramOf machine.now p.tasks.items) }
 {
-    match program_of(alloc, told.names.as_slice(), told.parts.as_slice()) {
-        Ok(program) => Ok(program),
-        Err(_) => Err(TextFault::OutOfMemory),
+    let Ok(program) = program_of(alloc, told.names.as_slice(), told.parts.as_slice()) else {
+        return Err(TextFault::OutOfMemory);
+    };
+    if is_whole(machine, axes) && is_program_of(machine, &program) {
+        Ok(program)
+    } else {
+        Err(TextFault::OutOfMemory)
     }
+}
+
+// Whether a machine is whole and has so many axes.
+fn is_whole(machine: &Builder, axes: usize) -> bool
+    ensures { IsTrue result → IsSetup machine.now × (length machine.now.axes ≡ axes) }
+{
+    machine.axes().len() == axes && has_each(machine)
+}
+
+// Whether a machine has an axis, a task and a block.
+fn has_each(machine: &Builder) -> bool
+    ensures { IsTrue result → IsSetup machine.now }
+{
+    1 <= machine.axes().len() && 1 <= machine.tasks().len() && 1 <= machine.blocks().len()
 }

@@ -6,7 +6,7 @@ use Rattle.fb_outputs.specs.declared.outputs.Outputs.{Outputs}
 use Rattle.motion_history.specs.Entries.{Entry, call, cycle, end_of}
 use Rattle.motion_history.specs.Setup.{Setup, IsSetup}
 use Rattle.motion_history.specs.declared.config.BlockDef.{BlockDef}
-use Rattle.motion_laws.specs.entries.Diagrams.{FollowsDiagrams}
+use Rattle.motion_laws.specs.entries.Events.{GoByEvents}
 use Rattle.motion_laws.specs.entries.Kept.{KeepsEntries, KeepsEntry, KeepsReply}
 use Rattle.motion_kernel.specs.Histories.{IsLegal, after, machine_after}
 use Rattle.motion_kernel.specs.Machine.{machine_at_opening}
@@ -29,7 +29,7 @@ pub record EntryLaws : Type 0 where
       IsReplyOf b i reply
   pub states : (s : Setup) (made more : List Entry) (e : Entry) → IsSetup s → AreWhole s → IsLegal s
       (made ++ e ∷ more) →
-      FollowsDiagrams s (machine_after s made) e
+      GoByEvents s (machine_after s made) e
   pub commands : (s : Setup) (es : List Entry) → IsSetup s → AreWhole s → IsLegal s es →
       AreWhereShown s (machine_after s es)
   pub rows : (s : Setup) (made more : List Entry) (e : Entry) → IsSetup s → AreWhole s →

@@ -73,7 +73,7 @@ one_fate P true f g x h k = h refl
 one_fate P false f g x h k = k refl
 
 -- an owner that is taken away
-freed : (k : ℕ) (m : Machine) (n : ℕ) → n < length m.axes →
+pub freed : (k : ℕ) (m : Machine) (n : ℕ) → n < length m.axes →
     axis_at (without_owner k m) n ≡ axis_without_owner k (axis_at m n)
 unfolding without_owner
 freed k m n l = get_or-map (axis_without_owner k) m.axes n no_axis no_axis l
@@ -83,11 +83,11 @@ freed_waiting : (k : ℕ) (m : Machine) (n : ℕ) → n < length m.queues →
 unfolding without_owner
 freed_waiting k m n l = get_or-map (map (detached k)) m.queues n [] [] l
 
-freed_count : (k : ℕ) (m : Machine) → length (without_owner k m).axes ≡ length m.axes
+pub freed_count : (k : ℕ) (m : Machine) → length (without_owner k m).axes ≡ length m.axes
 unfolding without_owner
 freed_count k m = length-map m.axes (axis_without_owner k)
 
-freed_lists : (k : ℕ) (m : Machine) → length (without_owner k m).queues ≡ length m.queues
+pub freed_lists : (k : ℕ) (m : Machine) → length (without_owner k m).queues ≡ length m.queues
 unfolding without_owner
 freed_lists k m = length-map m.queues (map (detached k))
 
@@ -228,7 +228,7 @@ group_off None m n l = refl
 group_off (Some at) m n l =
     axis_beside_group m at.group n (powered_off (group_core_at m at.group)) l
 
-powered : (s : Setup) (o : ℕ) (enable : Bool) (m : Machine) (n : ℕ) → n < length m.axes →
+pub powered : (s : Setup) (o : ℕ) (enable : Bool) (m : Machine) (n : ℕ) → n < length m.axes →
     axis_core_at (after_power s o enable m) n
     ≡ axis_core_at (with_axis_core m o (core_after_power enable (axis_core_at m o))) n
 unfolding after_power

@@ -6,3 +6,9 @@ pub both : {X Y : Type 0} (P : X → Y → Type 0) (b : Bool) (f g : X) (x y : Y
     (b ≡ false → P g y) → P (if b then f else g) (if b then x else y)
 both P true f g x y h k = h refl
 both P false f g x y h k = k refl
+
+-- a test decides one alone
+pub one : {X : Type 0} (P : X → Type 0) (b : Bool) (f g : X) → (b ≡ true → P f) → (b ≡ false → P g) →
+    P (if b then f else g)
+one P true f g h k = h refl
+one P false f g h k = k refl

@@ -81,7 +81,7 @@ all_led on (n ∷ ns) m j =
     all_led on ns (record m { axes = slice_set m.axes n (axis_led on (axis_at m n)) }) j
     ∙ one_led m n on j
 
-group_led : (s : Setup) (o : ℕ) (kind : BlockKind) (answer : Result Bool Refusal) (m : Machine)
+pub group_led : (s : Setup) (o : ℕ) (kind : BlockKind) (answer : Result Bool Refusal) (m : Machine)
     (j : ℕ) →
     group_core_at (members_led s o kind answer m) j ≡ group_core_at m j
 group_led s o kind answer m j =
@@ -120,7 +120,7 @@ group_command c P laws s k o kind i m j there free may =
     (laws.detach k))
 
 -- a command that is asked of an axis leaves the groups
-axis_command : (s : Setup) (k n : ℕ) (kind : BlockKind) (i : Inputs) (m : Machine) (j : ℕ) →
+pub axis_command : (s : Setup) (k n : ℕ) (kind : BlockKind) (i : Inputs) (m : Machine) (j : ℕ) →
     n < length m.axes →
     group_core_at (after_axis_command s k n kind i m) j ≡ group_core_at m j
 unfolding after_axis_command

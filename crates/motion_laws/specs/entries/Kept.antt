@@ -6,7 +6,7 @@ use Rattle.motion_history.specs.Entries.{Entry, call, cycle, end_of}
 use Rattle.motion_history.specs.Setup.{Setup}
 use Rattle.motion_history.specs.declared.config.BlockDef.{BlockDef}
 use Rattle.motion_kernel.specs.calls.Calls.{after_call}
-use Rattle.motion_laws.specs.entries.Diagrams.{FollowsDiagrams}
+use Rattle.motion_laws.specs.entries.Events.{GoByEvents}
 use Rattle.motion_kernel.specs.Histories.{after, machine_after}
 use Rattle.motion_kernel.specs.Machine.{Machine}
 use Rattle.motion_laws.specs.owners.Shown.{AreWhereShown}
@@ -27,11 +27,11 @@ KeepsReply s m (call k i reply) = IsAnswered s m k i reply
 KeepsReply s m (cycle n rows grows) = Unit {0}
 KeepsReply s m (end_of task) = Unit {0}
 
--- a call is answered, the states follow their diagrams, commands are where their instances show,
+-- a call is answered, the states change by their events, commands are where their instances show,
 -- and the rows show the machine
 pub record KeepsEntry (s : Setup) (m : Machine) (e : Entry) : Type 0 where
   pub reply : KeepsReply s m e
-  pub states : FollowsDiagrams s m e
+  pub states : GoByEvents s m e
   pub commands : AreWhereShown s (after s m e)
   pub rows : RowsShow (after s m e) e
 

@@ -20,7 +20,8 @@ use Rattle.motion_kernel.specs.Machine.{Machine, PlacedGroup, axis_at, axis_core
 use Rattle.motion_kernel.specs.cycles.Cycles.{after_cycle, cycled, look_of_axis}
 use Rattle.motion_kernel.specs.cycles.GroupResets.{core_after_reset, groups_reset}
 use Rattle.motion_kernel.specs.kept.Machine.{IsMachineKept}
-use Rattle.motion_laws.proofs.entries.diagrams.Cycles.{groups_moved, moved_in, resets_count}
+use Rattle.motion_laws.specs.entries.GroupEvents.{moved_in}
+use Rattle.motion_laws.proofs.entries.events.Cycles.{groups_moved, resets_count}
 use Rattle.motion_laws.proofs.owners.commands.Events.{there_where}
 use Rattle.motion_laws.specs.entries.Rows.{ShowMachine, ShowsAxis, ShowsGroup}
 

@@ -7,7 +7,7 @@ use Rattle.motion_kernel.specs.Histories.{IsLegal, after, machine_after, replay}
 use Rattle.motion_kernel.specs.Machine.{Machine, machine_at_opening}
 use Rattle.motion_kernel.specs.kept.Machine.{AreWhole, IsMachineKept}
 use Rattle.motion_laws.proofs.Histories.{legal_kept, legal_so_far}
-use Rattle.motion_laws.proofs.entries.diagrams.Histories.{IsEntry, entry_in}
+use Rattle.motion_laws.proofs.entries.events.Histories.{IsEntry, entry_in}
 use Rattle.motion_laws.proofs.entries.rows.Cycles.{cycle_shows}
 use Rattle.motion_laws.specs.entries.Rows.{RowsShow}
 

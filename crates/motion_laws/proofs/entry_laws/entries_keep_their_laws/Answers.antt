@@ -6,7 +6,7 @@ pub returns : goal.returns
 returns c = entries_kept (record {
   refusals = c.refusals_change_nothing.ensures.entries;
   replies = c.replies_tell_one_result.ensures.entries;
-  states = c.states_follow_the_diagrams.ensures.entries;
+  states = c.states_change_by_their_events.ensures.entries;
   commands = c.commands_are_where_their_instances_show.ensures.entries;
   rows = c.rows_show_the_machine.ensures.entries;
 })

@@ -1,0 +1,2 @@
+mod axis
+pub mod group

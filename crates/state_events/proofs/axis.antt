@@ -1,0 +1,7 @@
+-- The events of an axis.
+pub mod Rows
+pub mod Failing
+pub mod Ends
+pub mod Calls
+pub mod Through
+pub mod Cycles

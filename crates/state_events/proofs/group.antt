@@ -1,0 +1,2 @@
+-- The events of a group.
+pub mod Events
