@@ -1,9 +1,9 @@
 -- What a kernel keeps of a bench can be held by a trace.
-use Rattle.std.proofs.Common.{◌≡◌, ℕ, ◌+◌, ◌*◌, ◌^◌, ◌<◌, ◌≤◌, ℤ, List, [], ◌∷◌, length, map, refl, ap, ◌∙◌, subst, arith, FitsSigned, w64}
+use Rattle.std.proofs.Common.{◌≡◌, ℕ, ◌+◌, ◌-◌, ◌*◌, ◌^◌, ◌<◌, ◌≤◌, ℤ, List, [], ◌∷◌, length, map, refl, ap, ◌∙◌, subst, arith, FitsSigned, w64}
 use Rattle.std.specs.Prelude.{pos, neg_ℤ, ◌-ℤ◌, ◌≤ℤ◌, unsigned_abs, All}
 use Rattle.std.specs.List.{AllByRecursion, AllZip}
 use Rattle.std.proofs.lemmas.Int.{ints}
-use Rattle.std.proofs.lemmas.List.{length-drop, length-map, length-take}
+use Rattle.std.proofs.lemmas.List.{length-drop, length-map, length-replicate, length-take}
 use Rattle.std.proofs.lemmas.List.Elements.{All-from_recursion, recursion_from_All}
 use Rattle.axis_state.specs.Counts.{HasCounts, IsCount, place_of}
 use Rattle.axis_state.specs.declared.definition.AxisDef.{AxisDef}
@@ -27,14 +27,15 @@ use Rattle.motion_kernel.proofs.cycles.Rows.{grow_count}
 use Rattle.motion_kernel.proofs.kept.Machine.{MachinesStayKept, kept_by_cycle}
 use Rattle.motion_kernel.specs.Counted.{IsCounted, RowsAreCounted}
 use Rattle.motion_kernel.specs.Histories.{Follows, IsCycleOf, IsLegal, inputs_of}
-use Rattle.motion_kernel.specs.Histories as histories
+use Rattle.motion_kernel.specs.calls.Calls.{after_call}
+use Rattle.motion_kernel.specs.cycles.Cycles.{after_cycle}
 use Rattle.motion_kernel.specs.KernelState.{KernelState}
 use Rattle.motion_kernel.specs.Machine.{Machine, machine_at_opening}
 use Rattle.motion_kernel.specs.kept.Machine.{AreWhole, IsMachineKept}
 use Rattle.trace_text.specs.ReadBack.{TracesAreReadBack}
 use Rattle.trace_text.specs.RowRanges.{IsDriveEnd, IsGroupRow, IsReported}
 use Rattle.trace_text.specs.Trace.{CanHold}
-use Rattle.trace_text.specs.Writable.{IsHeld, IsMachine, IsRowOf, IsWritable, IsWritableCycle}
+use Rattle.trace_text.specs.Writable.{IsHeld, IsMachine, IsRowOf, IsWritable, IsWritableCall, IsWritableCycle}
 use Rattle.trace_text.specs.declared.command.Command.TheVariants.{Bench}
 use Rattle.bench_job.specs.Again.{ReadsAgain}
 use Rattle.bench_job.proofs.EndLaws.{can-hold}
@@ -111,7 +112,7 @@ groups-held (r ∷ rs) h = (record { error = h.0.error }, groups-held rs h.1)
 
 -- a cycle of the machine, with numbers of their bits
 cycle-held : Laws → (s : Setup) (cycles n : ℕ) (m : Machine) (rows : List AxisRow)
-    (grows : List GroupRow) → IsSetup s → IsMachineKept s m → n ≡ cycles + 1 → n < 2 ^ 32 →
+    (grows : List GroupRow) → IsSetup s → IsMachineKept s m → n ≡ cycles + 1 → n < 4294967296 →
     IsCycleOf s m rows grows → HasBits (cycle n rows grows) → AllZip IsCounted s.axes rows →
     IsWritableCycle s n rows grows
 cycle-held g s cycles n m rows grows setup kept number few is bits counted =
@@ -131,32 +132,36 @@ later-counted s e es h =
 
 entries-held : Laws → (s : Setup) (cycles : ℕ) (m : Machine) (es : List Entry) → IsSetup s →
     AreWhole s → IsMachineKept s m → Follows s cycles m es → AllByRecursion HasBits es →
-    RowsAreCounted s es → cycles + cycles_of es < 2 ^ 32 → AllByRecursion (IsWritable s) es
+    RowsAreCounted s es → cycles + cycles_of es < 4294967296 → AllByRecursion (IsWritable s) es
 entries-held g s cycles m [] setup whole kept f bits counted few = tt
-entries-held g s cycles m (call k i reply ∷ es) setup whole kept f bits counted few = (
-  record {
-    call = f.0.0;
-    positions = bits.0.positions;
-    table = bits.0.table;
-    error = bits.0.error;
-  },
-  entries-held g s (cycles + cycle_count (call k i reply)) (histories.after s m (call k i reply)) es
-      setup whole (g.machines.call s m k i whole f.0.0 kept) f.1 bits.1
-      (later-counted s (call k i reply) es counted) (omega arith),
-)
-entries-held g s cycles m (cycle n rows grows ∷ es) setup whole kept f bits counted few = (
-  cycle-held g s cycles n m rows grows setup kept f.0.0 (omega (arith, f.0.0)) f.0.1 bits.0
-      (counted [] es n rows grows refl),
-  entries-held g s (cycles + cycle_count (cycle n rows grows))
-      (histories.after s m (cycle n rows grows)) es setup whole
-      (kept_by_cycle g.machines s m rows grows kept f.0.1) f.1 bits.1
-      (later-counted s (cycle n rows grows) es counted) (omega arith),
-)
-entries-held g s cycles m (end_of task ∷ es) setup whole kept f bits counted few = (
-  f.0,
-  entries-held g s (cycles + cycle_count (end_of task)) m es setup whole kept f.1 bits.1
-      (later-counted s (end_of task) es counted) (omega arith),
-)
+entries-held g s cycles m (call k i reply ∷ es) setup whole kept f bits counted few =
+    let total : cycles + (0 + cycles_of es) < 4294967296 = few in
+    let later : (cycles + 0) + cycles_of es < 4294967296 = omega (arith, total) in
+    let here : IsWritableCall s k i reply = record {
+      call = f.0.0;
+      positions = bits.0.positions;
+      table = bits.0.table;
+      error = bits.0.error;
+    } in
+    (here, entries-held g s (cycles + cycle_count (call k i reply)) (after_call s m k i) es setup
+    whole (g.machines.call s m k i whole f.0.0 kept) f.1 bits.1
+    (later-counted s (call k i reply) es counted) later)
+entries-held g s cycles m (cycle n rows grows ∷ es) setup whole kept f bits counted few =
+    let total : cycles + (1 + cycles_of es) < 4294967296 = few in
+    let later : (cycles + 1) + cycles_of es < 4294967296 = omega (arith, total) in
+    let number : n ≡ cycles + 1 = f.0.0 in
+    let small : n < 4294967296 = omega (arith, number, later) in
+    (cycle-held g s cycles n m rows grows setup kept number small f.0.1 bits.0
+    (counted [] es n rows grows refl),
+    entries-held g s (cycles + cycle_count (cycle n rows grows))
+    (after_cycle s m (inputs_of rows)) es setup whole
+    (kept_by_cycle g.machines s m rows grows kept f.0.1) f.1 bits.1
+    (later-counted s (cycle n rows grows) es counted) later)
+entries-held g s cycles m (end_of task ∷ es) setup whole kept f bits counted few =
+    let total : cycles + (0 + cycles_of es) < 4294967296 = few in
+    let later : (cycles + 0) + cycles_of es < 4294967296 = omega (arith, total) in
+    (f.0, entries-held g s (cycles + cycle_count (end_of task)) m es setup whole kept f.1 bits.1
+    (later-counted s (end_of task) es counted) later)
 
 -- ---- the machine
 
@@ -164,7 +169,7 @@ group-long : (axes : ℕ) (d : GroupDef) → IsGroup axes d → length (members_
     length d.axes ≡ MOST_MEMBERS
 group-long axes d is many =
     let few = is.few in
-    let behind = ap length is.behind in
+    let behind = ap length is.behind ∙ length-replicate (MOST_MEMBERS - d.count) 0 in
     let more = length-drop d.count d.axes in
     let taken = length-take d.count d.axes in
     omega (arith, more, taken, many, few, behind)
@@ -183,13 +188,16 @@ machine-held s setup whole = record {
       (groups-long (length s.axes) s.groups setup.within.groups whole);
 }
 
+below-most : (n : ℕ) → n < 4294967296 → n ≤ 4294967295
+below-most n few = omega (arith, few)
+
 -- the positions of drives have 32 bits, so what each took has its bits
-ends-held : (cycles : ℕ) (drives : List DriveSim) → cycles < 2 ^ 32 →
+ends-held : (cycles : ℕ) (drives : List DriveSim) → cycles < 4294967296 →
     AllByRecursion (λ (d : DriveSim). IsCount d.actual) drives →
     AllByRecursion IsDriveEnd (map (drive_end cycles) drives)
 ends-held cycles [] few h = tt
 ends-held cycles (d ∷ ds) few h = (
-  record { taken = omega arith; least = h.0.least; most = h.0.most },
+  record { taken = below-most cycles few; least = h.0.least; most = h.0.most },
   ends-held cycles ds few h.1,
 )
 
@@ -207,18 +215,19 @@ pub run-held : Laws → (v : TraceVersion) (s : Setup) (es : List Entry) (drives
     IsHeld v s es (map (drive_end (cycles_of es)) drives)
 run-held g v s es drives told version many bits =
     let sizes = told.setup.within.sizes in
-    let few = sizes.cycles in
-    let made = told.legal.cycles in record {
+    let few : s.cycles ≤ 200000 = sizes.cycles in
+    let made = told.legal.cycles in
+    let bounded : cycles_of es < 4294967296 = omega (arith, few, made) in record {
       machine = machine-held s told.setup told.whole;
       version = version;
       entries = All-from_recursion (IsWritable s) es
           (entries-held g s 0 (machine_at_opening s) es told.setup told.whole
           (g.machines.opened s told.setup told.whole) told.legal.follows
           (recursion_from_All HasBits es told.bits)
-          (g.counted s es told.setup told.whole told.legal) (omega (arith, few, made)));
+          (g.counted s es told.setup told.whole told.legal) (omega (arith, bounded)));
       as_many = length-map drives (drive_end (cycles_of es)) ∙ many;
       drives = All-from_recursion IsDriveEnd (map (drive_end (cycles_of es)) drives)
-          (ends-held (cycles_of es) drives (omega (arith, few, made))
+          (ends-held (cycles_of es) drives bounded
           (recursion_from_All (λ (d : DriveSim). IsCount d.actual) drives bits));
     }
 

@@ -80,8 +80,8 @@ fn trace_is_read_again(bench: &Bench, ran: &Ran)
     configurations_are_sound();
     rows_are_counted();
     machines_stay_kept();
-    let _config = bench.config();
-    let _history = ran.kernel.history();
+    let _ = bench.config();
+    let _ = ran.kernel.history();
     positions_have_32_bits(ran.drives.as_slice());
 }
 
