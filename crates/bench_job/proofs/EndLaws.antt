@@ -27,6 +27,7 @@ use Rattle.trace_text.specs.Trace.{CanHold, trace_text}
 use Rattle.trace_text.specs.writing.Writes.{Output, Writes}
 use Rattle.trace_text.specs.declared.command.Command.TheVariants as command
 use Rattle.trace_text.specs.declared.writing.write.TraceFault.{TraceFault}
+use Rattle.bench_job.specs.Again.{IsTracedRun, ReadsAgain}
 use Rattle.bench_job.specs.Ends.{EndsByBench}
 use Rattle.bench_job.specs.Headline.{RunsBy}
 use Rattle.bench_job.specs.Plans.{bench_plan, drive_ends, plan_of_bench, status_of}
@@ -63,9 +64,19 @@ bench-ends old new b k drives ending written e w = record {
   status = ap (λ (r : Run). status_by (status_of r.ending) written) e;
 }
 
+-- a run is traced by its kernel and its drives
+pub traced-run : (b : BenchState) (k : KernelState) (drives : List DriveSim)
+    (ending : Result (Unit {0}) RunFault) → run_at k drives ending ≡ run_of b → IsLegalRun b →
+    ReadsAgain b k.history (map (drive_end (cycles_of k.history)) drives) → IsTracedRun b
+traced-run b k drives ending e legal again = record {
+  legal = legal;
+  again = subst (λ (r : Run). ReadsAgain b r.history (drive_ends r)) e again;
+}
+
 -- it is the one bench
-pub runs-bench : (bench : BenchState) (s : Status) → IsLegalRun bench → RunsBy (λ b. b ≡ bench) s
-runs-bench bench s legal = λ b h t. subst IsLegalRun (sym h) legal
+pub runs-bench : (bench : BenchState) (s : Status) → IsTracedRun bench →
+    RunsBy (λ b. b ≡ bench) s
+runs-bench bench s traced = λ b h t. subst IsTracedRun (sym h) traced
 
 held : (v : TraceVersion) (s : Setup) → (v ≡ One → All BrakesAsItSpeedsUp s.axes) → CanHold v s
 held One s h = h refl

@@ -39,11 +39,12 @@ read-headline follow step name text old new s (Ok b) is e runs files file t =
       history = (run_of b).history;
       events = refl;
       answers = in-step.answers;
-      legal = legal.legal;
-      laws = legal.laws;
+      legal = legal.legal.legal;
+      laws = legal.legal.laws;
       drives = drive_ends (run_of b);
       taken = ap (map (drive_end (cycles_of (run_of b).history))) in-step.drives;
       written = (follow.traces old new _ s e t).1;
+      again = legal.again;
     }
 
 pub headline-of : FollowPlans → ((b : BenchState) → IsInStep b) → (name text : List ℕ)

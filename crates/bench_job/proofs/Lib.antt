@@ -1,3 +1,4 @@
+pub mod HeldLaws
 pub mod EndLaws
 pub mod CauseLaws
 pub mod HeadlineLaws

@@ -10,7 +10,8 @@ use Rattle.bench_job.specs.Headline.{Headline, RunsBy}
 use Rattle.bench_job.specs.Plans.{bench_plan}
 
 -- it ended by the plan of the text, for its cause; and where the status stands for a trace, the run
--- is legal, and the headline holds of what was written, in whichever files the text is
+-- is legal, its trace is read again, and the headline holds of what was written, in whichever files
+-- the text is
 pub record EndsByBench (name text : List ℕ) (old new : Output) (s : Status) : Type 0 where
   pub by : EndsFor old new (bench_plan name text) (BenchCause text) s
   pub runs : RunsBy (λ b. bench_of text ≡ Ok b) s

@@ -2,7 +2,6 @@
 use Rattle.std.specs.Prelude.{◌≡◌, ℕ, true, Option, Ok, List, map}
 use Rattle.std.specs.Io.KnownBytes.{Appends}
 use Rattle.bench_run.specs.InStep.{TakesAnswers, drives_of}
-use Rattle.bench_run.specs.LegalRun.{IsLegalRun}
 use Rattle.bench_run.specs.Run.{run_of}
 use Rattle.bench_text.specs.BenchState.{BenchState}
 use Rattle.bench_text.specs.Reading.{bench_of}
@@ -13,13 +12,17 @@ use Rattle.motion_history.specs.Entries.{Entry, cycles_of}
 use Rattle.motion_kernel.specs.Histories.{IsLegal}
 use Rattle.motion_laws.specs.Laws.{KeepsLaws}
 use Rattle.outside.specs.Told.{FileMap, HasFile}
+use Rattle.trace_text.specs.reading.Reading.{trace_of}
 use Rattle.trace_text.specs.Trace.{trace_text}
+use Rattle.trace_text.specs.Writable.{found_trace}
 use Rattle.trace_text.specs.declared.command.Command.TheVariants.{Bench}
 use Rattle.trace_text.specs.declared.drive_end.DriveEndRow.{DriveEndRow}
+use Rattle.bench_job.specs.Again.{IsTracedRun}
 
--- where the status stands for a trace, the run of the bench that was read is legal
+-- where the status stands for a trace, the run of the bench that was read is legal, and its trace
+-- is read again
 abbrev pub RunsBy : (BenchState → Type 0) → Status → Type 0
-RunsBy IsRead s = (b : BenchState) → IsRead b → is_traced s ≡ true → IsLegalRun b
+RunsBy IsRead s = (b : BenchState) → IsRead b → is_traced s ≡ true → IsTracedRun b
 
 -- the trace that was written is that of a bench: of the one history that the events of its file
 -- make, one after another, up to the first for which there is no cycle or no room left
@@ -42,3 +45,6 @@ pub record Headline (files : Option FileMap) (name : List ℕ) (old new : Option
   pub taken : drives ≡ map (drive_end (cycles_of history)) (drives_of bench history)
   -- what was written is the text of all this, in the bench's version
   pub written : Appends old new (trace_text bench.version Bench bench.config history drives)
+  -- and that text is read as the trace of all this
+  pub again : trace_of (trace_text bench.version Bench bench.config history drives) ≡
+      Ok (found_trace bench.version Bench bench.config history drives)

@@ -5,3 +5,4 @@ pub mod CauseLaws
 pub mod FaultLaws
 pub mod TraceLaws
 pub mod AskedLaws
+pub mod BenchLaws

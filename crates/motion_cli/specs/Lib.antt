@@ -2,3 +2,4 @@ pub mod Plans
 pub mod Causes
 pub mod Reports
 pub mod Ends
+pub mod Again

@@ -3,12 +3,14 @@
 //! Begin at [`top`]: its clauses are what is proved of the program, and the headline is among them.
 #![tactic(auto)]
 
+mod laws;
 mod program;
 mod serve;
 mod usage;
 
 pub use command_words::{Job, Words, words_from};
 pub use job_ends::Status;
+pub use laws::bench_traces_are_legal;
 pub use outside::{Files, Gate, Host, OutOfMemory, Sink, Spawner};
 pub use program::{top, top_of_args};
 pub use run_job::PlantJob;

@@ -1,7 +1,12 @@
--- The trace of the run was written, or there was no memory for the run.
+-- The trace of the run was written and is read again, or there was no memory for the run.
 use Rattle.std.proofs.Common.{refl}
-use Rattle.bench_job.proofs.EndLaws.{bench-ends, can-hold, runs-bench, runs-other}
+use Rattle.bench_job.proofs.EndLaws.{bench-ends, can-hold, runs-bench, runs-other, traced-run}
 use Rattle.bench_job.proofs.bench.run_bench.Goals as goal
+
+pub returns-clause-runs : goal.returns-clause-runs
+returns-clause-runs g c =
+    runs-bench _ _ (traced-run _ _ _ _ c.in-Ok.ensures.made c.in-Ok.ensures.legal
+    c.trace_is_read_again.ensures)
 
 pub returns-in_default-clause-ends : goal.returns-in_default-clause-ends
 returns-in_default-clause-ends g c =
