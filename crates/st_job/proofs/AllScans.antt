@@ -142,7 +142,7 @@ calls-from c n (u ∷ us) each =
     let here : n + 0 ≡ n = omega arith in (
       subst (λ k. MakesCalls c.setup c.cycle_us k u) here (each 0 u refl),
       calls-from c (suc n) us (λ i v e. let on : n + suc i ≡ suc n + i = omega arith in
-      subst (λ k. MakesCalls c.setup c.cycle_us k v) on (each (suc i) v e)),
+          subst (λ k. MakesCalls c.setup c.cycle_us k v) on (each (suc i) v e)),
     )
 
 opened-at : (ts : List Task) (m : ℕ) (t : Task) → slice_get ts m ≡ Some t →

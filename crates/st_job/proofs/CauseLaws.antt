@@ -156,6 +156,8 @@ planned told rose config program old new s (inl h) =
 planned told rose config program old new s (inr h) = inr (record {
   plan = plan_of (cell_of h.cell);
   ends = h.ends;
-  leads = inr (traced-run (run_of (cell_of h.cell)).ending,
-      both-there told config program h.cell h.gives);
+  leads = inr (
+    traced-run (run_of (cell_of h.cell)).ending,
+    both-there told config program h.cell h.gives,
+  );
 })

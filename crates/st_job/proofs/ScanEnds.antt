@@ -110,7 +110,7 @@ pub ends-over : (p : Controller) (n : ℕ) (k k2 k0 : KernelState) (t t2 t0 : St
 ends-over p n k k2 k0 t t2 t0 sc says end tree there drives =
     let whole = over-whole p n k k0 t t2 t0 true tree drives sc says there in (
       end drives ∙ ap (λ s. made s (an_end n) (run_at k drives (Ok tt))) sc.config
-      ∙ ap (λ (x : Turn). x.run) whole,
+          ∙ ap (λ (x : Turn). x.run) whole,
       ap (λ (x : Turn). x.stand) whole,
     )
 

@@ -273,8 +273,8 @@ waiting-is-call s us n t vars last got calls a makes waits =
 
 -- the machine takes the call that the task asks for
 pub takes-call : (p : Controller) (n : ℕ) (t asking : StTask) (instance : ℕ) (inputs : Inputs) →
-    AreReady p.config p.code.us p.program.tasks.items → t.task ≡ n → Follows p.code t → AsksBy p t instance inputs asking →
-    IsCall p.config instance inputs
+    AreReady p.config p.code.us p.program.tasks.items → t.task ≡ n → Follows p.code t →
+    AsksBy p t instance inputs asking → IsCall p.config instance inputs
 takes-call p n t asking instance inputs ready number follows says =
     let tree = one-tree p n t number follows in
     let ask = says tree.0 (ap (program_at p.code) number ∙ code-of p n tree.0 tree.1) in

@@ -60,16 +60,19 @@ other-event c n t e r d same (inl (ok, w)) = elim (goes-or-ends (made c.setup e 
   | inl on ↦
       let is = (goes c.setup e r ok on).is in
       let own = ap (λ (x : Run). own_entries c.setup n x.history) is ∙ same in
-      inl (on, record {
-        scans = w.scans;
-        are = subst (λ es. AreScans c n t w.scans es d) (sym own) w.are;
-      })
+      inl (
+        on,
+        record {
+          scans = w.scans;
+          are = subst (λ es. AreScans c n t w.scans es d) (sym own) w.are;
+        },
+      )
   | inr (f, ended) ↦ inr (record {
-      fault = f;
-      ended = ended;
-      made = subst (λ h. IsMadeBy c n t (own_entries c.setup n h))
-          (sym (ends c.setup e r f ok ended)) (whole-made c n t r d w);
-    })
+    fault = f;
+    ended = ended;
+    made = subst (λ h. IsMadeBy c n t (own_entries c.setup n h))
+        (sym (ends c.setup e r f ok ended)) (whole-made c n t r d w);
+  })
 ]
 
 -- ---- a scan
@@ -138,8 +141,8 @@ one-whole c n t d got r r2 left last is over each e own =
           entries = refl;
         },
         own ∙ ap (λ x. x ++ end_if last n) so_far
-        ∙ append_assoc is.whole es (end_if last n)
-        ∙ ap (λ b. is.whole ++ (es ++ end_if b n)) (sym e),
+            ∙ append_assoc is.whole es (end_if last n)
+            ∙ ap (λ b. is.whole ++ (es ++ end_if b n)) (sym e),
       );
     }
 
@@ -149,8 +152,11 @@ goes-on-over : (c : Cell) (n : ℕ) (t : Task) (d : TaskStand) (got : List Outpu
     scan_of c.cycle_us t.body.items d.vars d.last got ≡ Over left →
     length left.calls ≡ length got → is_last t left ≡ false → IsUp c n t r (after t left)
 goes-on-over c n t d got r left is over each e =
-    inl (is.ok, one-whole c n t d got r r left false is over each e
-    (sym (append-nil (own_entries c.setup n r.history))))
+    inl (
+      is.ok,
+      one-whole c n t d got r r left false is over each e
+          (sym (append-nil (own_entries c.setup n r.history))),
+    )
 
 -- it was the last: the task's end comes behind it, if there is room for it
 ends-over : (c : Cell) (n : ℕ) (t : Task) (d : TaskStand) (got : List Outputs) (r : Run)
@@ -162,9 +168,12 @@ ends-over c n t d got r left is over each e =
     elim (goes-or-ends (made c.setup (an_end n) r).ending) [
       | inl on ↦
           let made-is = (goes c.setup (an_end n) r is.ok on).is in
-          inl (on, one-whole c n t d got r (made c.setup (an_end n) r) left true is over each e
-          (ap (λ (x : Run). own_entries c.setup n x.history) made-is
-          ∙ own-more c.setup n r.history (end_of n) (end-own c.setup n)))
+          inl (
+            on,
+            one-whole c n t d got r (made c.setup (an_end n) r) left true is over each e
+                (ap (λ (x : Run). own_entries c.setup n x.history) made-is
+                ∙ own-more c.setup n r.history (end_of n) (end-own c.setup n)),
+          )
       | inr (f, ended) ↦
           inr (cut-off c n t d got r (made c.setup (an_end n) r) f is ended
           (ends c.setup (an_end n) r f is.ok ended))
@@ -282,17 +291,21 @@ waits-up steps c n t d got r calls order makes up is waits enough =
   where
     behind : IsBehind calls (length got)
     behind = last-of calls (length got) (order.waits d.vars d.last got calls waits)
+
     waits-last : scan_of c.cycle_us t.body.items d.vars d.last got ≡
         Waits (behind.before ++ behind.last ∷ [])
     waits-last = waits ∙ ap Waits behind.is
+
     next : Run
     next = with_call c.setup behind.last r
+
     asked : called c (scan_on steps c n t d) d got r (slice_get calls (length got)) ≡
         scan_on steps c n t d (got ++ reply_behind c.setup r behind.last ∷ []) next
     asked = ap (called c (scan_on steps c n t d) d got r)
         (ap (λ l. slice_get l (length got)) behind.is
         ∙ ap (slice_get (behind.before ++ behind.last ∷ [])) (sym behind.many)
         ∙ item-behind behind.before behind.last)
+
     by : (next.ending ≡ Ok tt) ⊎ ((f : RunFault) × (next.ending ≡ Err f)) →
         IsUp c n t
         (scan_on steps c n t d (got ++ reply_behind c.setup r behind.last ∷ []) next).run

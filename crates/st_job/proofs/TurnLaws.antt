@@ -220,7 +220,7 @@ all-turned p i k k0 now old l is drives =
     let far = is.so_far drives in (
       sym (ap (λ (x : Round). x.run) left) ∙ far.run,
       sym (ap (map stand_of) (take_all i now l)) ∙ sym (append-nil (map stand_of (take i now)))
-      ∙ sym (ap (λ (x : Round). map stand_of (take i now) ++ x.stands) left) ∙ far.stands,
+          ∙ sym (ap (λ (x : Round). map stand_of (take i now) ++ x.stands) left) ∙ far.stands,
     )
 
 -- the turns begin

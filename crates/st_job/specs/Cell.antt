@@ -1,5 +1,5 @@
--- A machine with tasks in Structured Text, and what its tasks know between two scans. This project's
--- profile.
+-- A machine with tasks in Structured Text, and what its tasks know between two scans. This
+-- project's profile.
 use Rattle.std.specs.Prelude.{ℕ, ℤ, Bool, true, List, map, replicate}
 use Rattle.fb_outputs.specs.declared.outputs.Outputs.{Outputs}
 use Rattle.motion_history.specs.Setup.{Setup}

@@ -17,8 +17,8 @@ use Rattle.st_job.specs.LegalRun.{IsLegalRun}
 use Rattle.st_job.specs.Plans.{plan_of}
 use Rattle.st_job.specs.declared.cell.Controller.{Controller}
 
--- how it ends where the files give a machine and its program: by the plan of its run, and where there
--- is a trace the run is legal
+-- how it ends where the files give a machine and its program: by the plan of its run, and where
+-- there is a trace the run is legal
 pub record EndsByBoth (told : Option FileMap) (config program : List ℕ) (old new : Output)
     (s : Status) : Type 0 where
   pub cell : Controller
@@ -47,8 +47,8 @@ pub record EndsBySt (told : Option FileMap) (rose : Type 0) (config program : Li
   pub of_text : (files : FileMap) (wanted : Status) → told ≡ Some files →
       is_of_text wanted ≡ true →
       ComesExactly s wanted (both_in files config program ≡ Err wanted)
-  -- where the files give a machine and its program and no count rose there is a trace, or memory ran
-  -- out
+  -- where the files give a machine and its program and no count rose there is a trace, or memory
+  -- ran out
   pub complete : (files : FileMap) → told ≡ Some files →
       IsOk (both_in files config program) → (rose → ⊥) →
       (Rose old.count new.count → ⊥) → (is_traced s ≡ true) ⊎ (s ≡ status.OutOfMemory)

@@ -25,7 +25,7 @@ GivesMachine told name m = GivesReading told name most_bytes machine_of Configur
 abbrev pub NoMachine : Option FileMap → Type 0 → List ℕ → Output → Output → Status → Type 0
 NoMachine told rose name old new s = NoReading told rose 1 name most_bytes machine_of old new s
 
--- a text is the program that a controller runs on a machine, and may
+-- a text is the program that a controller has for a machine, and may be run
 pub record IsTextOf (m : Machine) (text : List ℕ) (p : Controller) : Type 0 where
   pub outcome : Outcome
   pub read : reading_of m.config text ≡ Ok outcome
@@ -34,14 +34,15 @@ pub record IsTextOf (m : Machine) (text : List ℕ) (p : Controller) : Type 0 wh
   pub drives : p.drives ≡ m.drives
   pub ready : AreReady p.config p.code.us p.program.tasks.items
 
--- the second file is the program that a controller runs on a machine, or it is none
+-- the second file is that program, or it is none
 pub record GivesProgram (told : Option FileMap) (name : List ℕ) (m : Machine) (p : Controller)
     : Type 0 where
   pub text : List ℕ
   pub is_text : IsText told name most_bytes text
   pub is : IsTextOf m text p
 
-abbrev pub NoProgram : Option FileMap → Type 0 → List ℕ → Machine → Output → Output → Status → Type 0
+abbrev pub NoProgram : Option FileMap → Type 0 → List ℕ → Machine → Output → Output → Status →
+    Type 0
 NoProgram told rose name m old new s =
     NoReading told rose 2 name most_bytes (reading_of m.config) old new s
 
@@ -53,7 +54,8 @@ pub record GivesController (told : Option FileMap) (config program : List ℕ) (
   pub tasks : GivesProgram told program machine p
 
 -- they don't: the first gives no machine, or it gives one of which the second gives no program
-abbrev pub NoController : Option FileMap → Type 0 → List ℕ → List ℕ → Output → Output → Status → Type 0
+abbrev pub NoController : Option FileMap → Type 0 → List ℕ → List ℕ → Output → Output → Status →
+    Type 0
 NoController told rose config program old new s =
     NoMachine told rose config old new s ⊎
     ((m : Machine) × GivesMachine told config m × NoProgram told rose program m old new s)

@@ -30,8 +30,8 @@ pub record StHeadline (files : Option FileMap) (config program : List ℕ)
   pub machine : Machine
   pub config_file : HasFile files config config_text
   pub configures : Configures config_text machine
-  -- the text of the second is a program of it, which adds the tasks and their blocks, and which these
-  -- trees spell
+  -- the text of the second is a program of it, which adds the tasks and their blocks, and which
+  -- these trees spell
   pub program_text : List ℕ
   pub cell : Cell
   pub program_file : HasFile files program program_text
@@ -44,8 +44,8 @@ pub record StHeadline (files : Option FileMap) (config program : List ℕ)
   -- the rounds of the tasks make this history, in which the drives answer in step
   pub history : List Entry
   pub made : history ≡ (run_of cell).history
-  -- each task made the calls of its scans by its own replies, in order and each once, and its end behind
-  -- its last scan
+  -- each task made the calls of its scans by its own replies, in order and each once, and its end
+  -- behind its last scan
   pub scans : (n : ℕ) (t : Task) → slice_get cell.trees n ≡ Some t →
       IsMadeBy cell n t (own_entries cell.setup n history)
   pub answers : Takes cell.setup (drives_at_opening cell.setup.axes cell.drives) history

@@ -23,5 +23,6 @@ stand_at t lives = record { vars = t.vars.items; last = t.last.items; lives = li
 
 -- a scan was made, and the task lives on or not; or the run ended in it
 abbrev pub HasScanned : Turn → KernelState → List DriveSim → Result Bool RunFault → StTask → Type 0
-HasScanned x k drives (Ok lives) t = (run_at k drives (Ok tt) ≡ x.run) × (stand_at t lives ≡ x.stand)
+HasScanned x k drives (Ok lives) t =
+    (run_at k drives (Ok tt) ≡ x.run) × (stand_at t lives ≡ x.stand)
 HasScanned x k drives (Err fault) t = run_at k drives (Err fault) ≡ x.run

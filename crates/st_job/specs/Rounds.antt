@@ -1,6 +1,6 @@
 -- The run of a machine with tasks in Structured Text: round after round, in which every task that
--- lives makes one scan, in the order of the tasks, and then one cycle is made. Each event is made as
--- bench_run's specs/Run says, so that a run that has ended stays as it is. This project's profile.
+-- lives makes one scan, in the order of the tasks, and then one cycle is made. Each event is made
+-- as bench_run's specs/Run says, so that a run that has ended stays as it is. This project's profile.
 use Rattle.std.specs.Prelude.{ℕ, zero, suc, ◌+◌, Bool, true, false, not, if◌then◌else◌, Option, Some, None, List, [], ◌∷◌, ◌++◌, length, map, slice_get}
 use Rattle.std.specs.List.{list_any}
 use Rattle.bench_run.specs.Run.{Run, a_call, a_cycle, an_end, first_run, made}
@@ -52,8 +52,8 @@ called c on d got r None = record { run = r; stand = d }
 called c on d got r (Some a) =
     on (got ++ reply_behind c.setup r a ∷ []) (with_call c.setup a r)
 
--- what is made by the course of a scan with the replies that it got: the call behind those that were
--- answered, or what comes of its end
+-- what is made by the course of a scan with the replies that it got: the call behind those that
+-- were answered, or what comes of its end
 abbrev pub made_by : Cell → ℕ → Task → (List Outputs → Run → Turn) → TaskStand → List Outputs →
     Run → Course → Turn
 made_by c n t on d got r (Over left) = scanned c n t left r

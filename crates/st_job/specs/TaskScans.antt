@@ -1,5 +1,5 @@
--- What a task of a run has made: its entries in the history are those of its scans, each with its own
--- replies. This project's profile.
+-- What a task of a run has made: its entries in the history are those of its scans, each with its
+-- own replies. This project's profile.
 use Rattle.std.specs.Prelude.{◌≡◌, ℕ, Bool, true, false, not, if◌then◌else◌, List, [], ◌∷◌, ◌++◌, filter, length}
 use Rattle.fb_outputs.specs.declared.outputs.Outputs.{Outputs}
 use Rattle.motion_history.specs.Entries.{Entry, call, end_of}
@@ -24,8 +24,8 @@ entries_of calls replies = []
 abbrev pub end_if : Bool → ℕ → List Entry
 end_if ended n = if ended then end_of n ∷ [] else []
 
--- a whole scan of a task that lives: its calls got these replies, one each, and behind the last scan
--- comes the task's end
+-- a whole scan of a task that lives: its calls got these replies, one each, and behind the last
+-- scan comes the task's end
 pub record IsScan (c : Cell) (n : ℕ) (t : Task) (before : TaskStand) (replies : List Outputs)
     (after : TaskStand) (es : List Entry) : Type 0 where
   pub lives : before.lives ≡ true

@@ -12,9 +12,9 @@ ghost use Rattle.st_job.specs.TaskScans.{IsMadeBy, own_entries};
 use bench_run::events_keep_drives_in_step;
 use st_exec::{scans_ask_in_order, scans_have_their_operands};
 
-/// The drives of a machine that is run with its tasks are in step with its history: each is where the
-/// outputs of its axis lead it, and the rows of each cycle are the machine's with the answers that
-/// the drives give after the cycles before it. Nothing runs.
+/// The drives of a machine that is run with its tasks are in step with its history: each is where
+/// the outputs of its axis lead it, and the rows of each cycle are the machine's with the answers
+/// that the drives give after the cycles before it. Nothing runs.
 pub fn rounds_are_in_step()
     ensures { (c : Cell) → AreInStep c.setup (drives_at_opening c.setup.axes c.drives) (run_of c) }
 {
@@ -22,8 +22,8 @@ pub fn rounds_are_in_step()
 }
 
 /// The entries of each task in the history of a run are those of its scans, each with its own
-/// replies: the calls of a scan in their order and each once, from the variables and last replies that
-/// the scan before left, and the task's end behind its last. Nothing runs.
+/// replies: the calls of a scan in their order and each once, from the variables and last replies
+/// that the scan before left, and the task's end behind its last. Nothing runs.
 pub fn tasks_make_their_scans()
     ensures { (c : Cell) → AreReady c.setup c.cycle_us c.trees → (n : ℕ) (t : Task) →
         slice_get c.trees n ≡ Some t →

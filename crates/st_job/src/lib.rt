@@ -1,8 +1,8 @@
 //! The job `st`: the tasks of a program in Structured Text on a machine, by rounds on one thread,
 //! and the trace of the history that they make. What the run is stands in specs/Rounds, and what a
 //! scan is in st_exec's specs/Scan. It stands on `machine_config` and `st_lang`, which read the two
-//! files, on `st_exec`, which runs the tasks, on `bench_run` for the events and on `job_ends`. Begin
-//! at [`st_files`].
+//! files, on `st_exec`, which runs the tasks, on `bench_run` for the events and on `job_ends`.
+//! Begin at [`st_files`].
 #![tactic(auto)]
 
 mod cell;

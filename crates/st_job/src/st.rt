@@ -12,8 +12,8 @@ use outside::{Files, Sink};
 use std::alloc::Global;
 
 /// Runs the machine that the first file configures with the tasks that the second is in Structured
-/// Text: by rounds, in each of which every task that lives makes one scan, and then a cycle is made.
-/// Nothing is written before the run has ended.
+/// Text: by rounds, in each of which every task that lives makes one scan, and then a cycle is
+/// made. Nothing is written before the run has ended.
 pub fn st_files<F: Files, K: Sink>(
     alloc: Global,
     config_name: &str,

@@ -150,8 +150,8 @@ fn ends_by_its_files(rt: HostRuntime) -> Result<(), Fail> {
     Ok(())
 }
 
-// The end of the move: its last cycle, the call that is done, the end of the task behind it, and where
-// the drives are.
+// The end of the move: its last cycle, the call that is done, the end of the task behind it, and
+// where the drives are.
 const MOVED: &str = "cycle,654,,,,,,,,,,
 row,X,0037,199994,8,Standstill,0,1,200000000000,000f,200000,199994000000
 row,Y,0040,0,8,Disabled,0,0,0,0000,0,0

@@ -4,4 +4,5 @@ use Rattle.st_job.proofs.laws.rounds_are_in_step.Goals as goal
 
 pub returns : goal.returns
 returns c =
-    run-in-step c.events_keep_drives_in_step.ensures.first c.events_keep_drives_in_step.ensures.event
+    run-in-step c.events_keep_drives_in_step.ensures.first
+    c.events_keep_drives_in_step.ensures.event

@@ -3,7 +3,8 @@ use Rattle.st_job.proofs.ScanLaws.{IsScanning}
 use Rattle.st_job.proofs.scan.make_scan.Given as goal
 
 abbrev pub invariant-loop-instance : goal.invariant-loop-instance
-invariant-loop-instance l = IsScanning l.cell l.number l.kernel l.task l.initial.kernel l.initial.task
+invariant-loop-instance l =
+    IsScanning l.cell l.number l.kernel l.task l.initial.kernel l.initial.task
 
 abbrev pub decreases-loop-instance : goal.decreases-loop-instance
 decreases-loop-instance l = l.kernel.config.entries - length l.kernel.history

@@ -8,7 +8,9 @@ use Rattle.st_job.proofs.turns.make_turns.Goals as goal
 pub make_turn-requires-clause-task : goal.make_turn-requires-clause-task
 make_turn-requires-clause-task c =
     playing-at c.args.cell.now.code c.loop-number.players c.loop-number.number
-    c.index-players-number.result (within _ _ _ _ c.loop-number-test.true c.loop-number.invariant.each c.requires.each) c.loop-number.invariant.playing
+    c.index-players-number.result
+    (within _ _ _ _ c.loop-number-test.true c.loop-number.invariant.each c.requires.each)
+    c.loop-number.invariant.playing
 
 pub returns-in_err-make_turn-clause-made : goal.returns-in_err-make_turn-clause-made
 returns-in_err-make_turn-clause-made c = λ drives.
@@ -17,13 +19,16 @@ returns-in_err-make_turn-clause-made c = λ drives.
     c.make_turn.new.kernel c.args.kernel.now c.loop-number.players c.args.players.now
     (slice_set c.loop-number.players c.loop-number.number c.make_turn.new.player)
     c.index-players-number.result c.make_turn.new.player c.in_err-make_turn.field-0.0
-    (within _ _ _ _ c.loop-number-test.true c.loop-number.invariant.each c.requires.each) c.loop-number.invariant c.in_err-make_turn.ensures.made drives)
+    (within _ _ _ _ c.loop-number-test.true c.loop-number.invariant.each c.requires.each)
+    c.loop-number.invariant c.in_err-make_turn.ensures.made drives)
 
 pub loop-number-preserved : goal.loop-number-preserved
 loop-number-preserved c =
     one-turned c.args.cell.now c.loop-number.number c.loop-number.kernel c.make_turn.new.kernel
     c.args.kernel.now c.loop-number.players c.args.players.now c.index-players-number.result
-    c.make_turn.new.player (within _ _ _ _ c.loop-number-test.true c.loop-number.invariant.each c.requires.each) c.loop-number.invariant
+    c.make_turn.new.player
+    (within _ _ _ _ c.loop-number-test.true c.loop-number.invariant.each c.requires.each)
+    c.loop-number.invariant
     c.make_turn.ensures.config c.make_turn.ensures.runs c.in_ok-make_turn.ensures.task
     c.in_ok-make_turn.ensures.made
 
