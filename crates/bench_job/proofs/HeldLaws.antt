@@ -142,26 +142,31 @@ entries-held g s cycles m (call k i reply ∷ es) setup whole kept f bits counte
       positions = bits.0.positions;
       table = bits.0.table;
       error = bits.0.error;
-    } in
-    (here, entries-held g s (cycles + cycle_count (call k i reply)) (after_call s m k i) es setup
-    whole (g.machines.call s m k i whole f.0.0 kept) f.1 bits.1
-    (later-counted s (call k i reply) es counted) later)
+    } in (
+      here,
+      entries-held g s (cycles + cycle_count (call k i reply)) (after_call s m k i) es setup
+          whole (g.machines.call s m k i whole f.0.0 kept) f.1 bits.1
+          (later-counted s (call k i reply) es counted) later,
+    )
 entries-held g s cycles m (cycle n rows grows ∷ es) setup whole kept f bits counted few =
     let total : cycles + (1 + cycles_of es) < 4294967296 = few in
     let later : (cycles + 1) + cycles_of es < 4294967296 = omega (arith, total) in
     let number : n ≡ cycles + 1 = f.0.0 in
-    let small : n < 4294967296 = omega (arith, number, later) in
-    (cycle-held g s cycles n m rows grows setup kept number small f.0.1 bits.0
-    (counted [] es n rows grows refl),
-    entries-held g s (cycles + cycle_count (cycle n rows grows))
-    (after_cycle s m (inputs_of rows)) es setup whole
-    (kept_by_cycle g.machines s m rows grows kept f.0.1) f.1 bits.1
-    (later-counted s (cycle n rows grows) es counted) later)
+    let small : n < 4294967296 = omega (arith, number, later) in (
+      cycle-held g s cycles n m rows grows setup kept number small f.0.1 bits.0
+          (counted [] es n rows grows refl),
+      entries-held g s (cycles + cycle_count (cycle n rows grows))
+          (after_cycle s m (inputs_of rows)) es setup whole
+          (kept_by_cycle g.machines s m rows grows kept f.0.1) f.1 bits.1
+          (later-counted s (cycle n rows grows) es counted) later,
+    )
 entries-held g s cycles m (end_of task ∷ es) setup whole kept f bits counted few =
     let total : cycles + (0 + cycles_of es) < 4294967296 = few in
-    let later : (cycles + 0) + cycles_of es < 4294967296 = omega (arith, total) in
-    (f.0, entries-held g s (cycles + cycle_count (end_of task)) m es setup whole kept f.1 bits.1
-    (later-counted s (end_of task) es counted) later)
+    let later : (cycles + 0) + cycles_of es < 4294967296 = omega (arith, total) in (
+      f.0,
+      entries-held g s (cycles + cycle_count (end_of task)) m es setup whole kept f.1 bits.1
+          (later-counted s (end_of task) es counted) later,
+    )
 
 -- ---- the machine
 

@@ -14,8 +14,8 @@ ghost use Rattle.motion_history.specs.Entries.{cycles_of};
 ghost use Rattle.trace_text.specs.Trace.{trace_text};
 ghost use Rattle.trace_text.specs.writing.Writes.{Writes};
 
-use bench_run::{Ran, RunFault, run, runs_are_in_step};
 use axis_state::{counts_are_read_back, offsets_are_small};
+use bench_run::{Ran, RunFault, run, runs_are_in_step};
 use bench_text::{Bench, read_bench};
 use drive_sim::Drive;
 use job_ends::{Status, ends_follow_plans, say_refused, status_by};

@@ -1,21 +1,17 @@
 -- What a task makes over all rounds, beside the others.
-use Rattle.std.specs.Prelude.{◌≡◌, refl, ℕ, ℤ, zero, suc, ◌+◌, ◌<◌, Bool, true, false, if◌then◌else◌, Some, Ok, List, [], ◌∷◌, ◌++◌, map, slice_get}
-use Rattle.std.specs.List.{AllByRecursion}
-use Rattle.std.proofs.Common.{◌∙◌, inl, inr, sym, ap, subst, arith}
-use Rattle.std.proofs.lemmas.Bool.{cases_Bool}
-use Rattle.bench_run.specs.Run.{Run, a_call, a_cycle, an_end, cycled, first_run, happened, made}
-use Rattle.fb_outputs.specs.declared.outputs.Outputs.{Outputs}
+use Rattle.std.specs.Prelude.{◌≡◌, refl, ℕ, zero, suc, ◌+◌, ◌<◌, Bool, true, false, if◌then◌else◌, Some, List, [], ◌∷◌, map, slice_get}
+use Rattle.std.proofs.Common.{inl, inr, sym, ap, subst, arith}
+use Rattle.bench_run.specs.Run.{Run, a_call, a_cycle, an_end, cycled, first_run, made}
 use Rattle.machine_drives.specs.Drives.{drives_at_opening}
-use Rattle.motion_history.specs.Entries.{call, cycle, end_of}
+use Rattle.motion_history.specs.Entries.{call, end_of}
 use Rattle.st_exec.specs.Laws.{AsksInOrder, IsCallOf}
-use Rattle.st_exec.specs.Scan.{Asked}
 use Rattle.st_tree.specs.declared.program.Task.{Task}
 use Rattle.st_job.proofs.Kept.{KeptByScan, turn-keeps-by}
 use Rattle.st_job.proofs.OwnEntries.{call-other, end-other, own-other}
-use Rattle.st_job.proofs.TaskScans.{IsUp, IsWhole, MissesNone, other-event, own-turn, whole-made}
+use Rattle.st_job.proofs.TaskScans.{IsUp, MissesNone, other-event, own-turn, whole-made}
 use Rattle.st_job.specs.Cell.{Cell, TaskStand, task_at_opening}
 use Rattle.st_job.specs.Ready.{AreReady, MakesCalls}
-use Rattle.st_job.specs.Rounds.{Round, Turn, any_lives, continued, reply_behind, rounds, run_of, turn, turns}
+use Rattle.st_job.specs.Rounds.{Round, any_lives, continued, reply_behind, rounds, run_of, turn, turns}
 use Rattle.st_job.specs.TaskScans.{IsMadeBy, own_entries}
 
 -- ---- the turn of another task

@@ -9,10 +9,10 @@ use Rattle.fb_outputs.specs.declared.inputs.Inputs.{Inputs}
 use Rattle.fb_outputs.specs.declared.outputs.Outputs.{Outputs}
 use Rattle.motion_history.specs.Setup.{Setup}
 use Rattle.st_exec.specs.Laws.{asks_of}
-use Rattle.st_exec.specs.Scan.{Asked, Course, Over, Waits, Missing, Stand, scan_of}
+use Rattle.st_exec.specs.Scan.{Asked, Course, Over, Waits, Missing, scan_of}
 use Rattle.st_tree.specs.declared.program.Task.{Task}
 use Rattle.st_job.specs.Cell.{Cell, TaskStand}
-use Rattle.st_job.specs.Rounds.{Round, Turn, any_lives, called, continued, is_last, made_by, rounds, scan_on, scanned, turn, turns, with_call}
+use Rattle.st_job.specs.Rounds.{Round, Turn, any_lives, called, continued, is_last, made_by, rounds, scan_on, turn, turns, with_call}
 
 -- what the scans of a task ask is so, whatever its variables and replies
 abbrev pub AreAsked : Cell → Task → (Asked → Type 0) → Type 0

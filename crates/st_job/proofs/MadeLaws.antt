@@ -1,9 +1,9 @@
 -- An event that is made, and a run that goes on.
-use Rattle.std.specs.Prelude.{◌≡◌, refl, ℕ, ◌-◌, ◌<◌, ◌==◌, ◌&&◌, ◌⊎◌, Bool, true, false, if◌then◌else◌, Result, Ok, Err, List, length}
+use Rattle.std.specs.Prelude.{◌≡◌, refl, ℕ, ◌-◌, ◌<◌, ◌&&◌, ◌⊎◌, Bool, true, false, if◌then◌else◌, Result, Ok, Err, List, length}
 use Rattle.std.proofs.Common.{◌∙◌, inl, inr, sym, ap, subst, arith}
 use Rattle.std.proofs.lemmas.Bool.{cases_lt, eqb-false}
 use Rattle.bench_run.proofs.RunLaws.{made-by}
-use Rattle.bench_run.specs.Run.{Event, Run, a_call, a_cycle, an_end, cycled, happened, is_cycle, made, room_for, tried}
+use Rattle.bench_run.specs.Run.{Event, Run, a_call, a_cycle, an_end, cycled, happened, is_cycle, made, room_for}
 use Rattle.bench_run.specs.declared.bench.RunFault.{RunFault}
 use Rattle.bench_run.specs.declared.bench.RunFault.TheVariants.{CyclesOver, HistoryFull}
 use Rattle.motion_history.specs.Entries.{Entry, cycles_of}

@@ -15,7 +15,6 @@ use Rattle.motion_kernel.specs.KernelState.{KernelState}
 use Rattle.motion_laws.specs.Laws.{KeepsLaws}
 use Rattle.st_exec.specs.Compiled.{Compiled, TaskProgram, no_program, program_at, program_of}
 use Rattle.st_exec.specs.Following.{IsOpened}
-use Rattle.st_exec.specs.declared.task.StTask.{StTask}
 use Rattle.st_tree.specs.declared.program.Task.{Task}
 use Rattle.st_job.specs.Cell.{Cell, TaskStand, task_at_opening}
 use Rattle.st_job.specs.Controllers.{cell_of}

@@ -1,6 +1,6 @@
 -- What was read may be run.
-use Rattle.std.specs.Prelude.{◌≡◌, ◌≤◌, ℕ, ℤ, Some, List, length, map, slice_get}
-use Rattle.std.proofs.Common.{◌∙◌, sym, ap, subst, arith}
+use Rattle.std.specs.Prelude.{◌≡◌, ◌≤◌, ℕ, ℤ, Some, List, length, slice_get}
+use Rattle.std.proofs.Common.{arith}
 use Rattle.fb_outputs.specs.declared.outputs.Outputs.{Outputs}
 use Rattle.machine_words.specs.Units.{IsCycle}
 use Rattle.motion_history.specs.Setup.{IsSetup, Setup}

@@ -1,5 +1,5 @@
 -- Rounds, one after another.
-use Rattle.std.specs.Prelude.{◌≡◌, refl, ℕ, zero, suc, ◌+◌, ◌-◌, ◌<◌, Bool, true, false, ◌||◌, if◌then◌else◌, Result, Ok, Err, List, [], ◌∷◌, ◌++◌, length, map}
+use Rattle.std.specs.Prelude.{◌≡◌, refl, ℕ, zero, suc, ◌+◌, ◌-◌, ◌<◌, true, false, ◌||◌, if◌then◌else◌, Result, Ok, Err, List, [], ◌∷◌, ◌++◌, length, map}
 use Rattle.std.specs.List.{list_any}
 use Rattle.std.proofs.Common.{◌∙◌, inl, inr, sym, ap, subst, arith}
 use Rattle.std.proofs.lemmas.Bool.{cases_Bool}
@@ -12,7 +12,7 @@ use Rattle.motion_history.specs.Setup.{Setup}
 use Rattle.motion_kernel.specs.KernelState.{KernelState}
 use Rattle.st_tree.specs.declared.program.Task.{Task}
 use Rattle.st_job.proofs.Kept.{KeptByScans, event-stays, rounds-stay, turns-keeps}
-use Rattle.st_job.proofs.MadeLaws.{GoesOn, goes}
+use Rattle.st_job.proofs.MadeLaws.{goes}
 use Rattle.st_job.specs.Cell.{Cell, TaskStand}
 use Rattle.st_job.specs.Controllers.{cell_of}
 use Rattle.st_job.specs.Players.{ArePlaying, HasMade, stand_of}

@@ -1,23 +1,21 @@
 -- How a scan ends: it is over, or the run ends in it.
-use Rattle.std.specs.Prelude.{◌≡◌, refl, ℕ, zero, suc, ◌-◌, ◌<◌, Bool, true, false, not, if◌then◌else◌, None, Some, Result, Ok, Err, List, [], ◌∷◌, length, slice_get}
+use Rattle.std.specs.Prelude.{◌≡◌, ℕ, zero, suc, ◌-◌, ◌<◌, Bool, true, false, not, if◌then◌else◌, Some, Ok, Err, List, [], length, slice_get}
 use Rattle.std.proofs.Common.{◌∙◌, sym, ap, arith}
 use Rattle.bench_run.specs.Going.{run_at}
 use Rattle.bench_run.specs.Run.{Run, a_call, an_end, made}
 use Rattle.bench_run.specs.declared.bench.RunFault.{RunFault}
 use Rattle.drive_sim.specs.Sim.{DriveSim}
-use Rattle.motion_history.specs.Setup.{Setup}
 use Rattle.motion_kernel.specs.KernelState.{KernelState}
 use Rattle.st_exec.specs.Compiled.{is_ended, program_at, program_of}
 use Rattle.st_exec.specs.Following.{Follows, IsOver}
-use Rattle.st_exec.specs.Scan.{Asked, Over, Stand, scan_of}
+use Rattle.st_exec.specs.Scan.{Asked, Over, scan_of}
 use Rattle.st_exec.specs.declared.task.StTask.{StTask}
 use Rattle.st_tree.specs.declared.program.Task.{Task}
 use Rattle.st_job.proofs.Kept.{scan-stays}
 use Rattle.st_job.proofs.ScanLaws.{HasStopped, IsScanning, asks-stopped, call-made, code-of, one-tree, over-made}
-use Rattle.st_job.specs.Cell.{Cell, TaskStand}
 use Rattle.st_job.specs.Controllers.{cell_of}
 use Rattle.st_job.specs.Playing.{HasScanned, IsBetween, stand_at}
-use Rattle.st_job.specs.Rounds.{Turn, is_last, scan, scan_on, scanned}
+use Rattle.st_job.specs.Rounds.{Turn, scan, scan_on, scanned}
 use Rattle.st_job.specs.declared.cell.Controller.{Controller}
 
 -- ---- a scan that is over

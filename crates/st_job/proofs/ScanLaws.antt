@@ -1,5 +1,5 @@
 -- A scan, a step after another.
-use Rattle.std.specs.Prelude.{◌≡◌, refl, ℕ, ℤ, zero, suc, ◌+◌, ◌-◌, ◌<◌, true, false, None, Some, Result, Ok, Err, List, [], ◌∷◌, ◌++◌, length, map, slice_get, slice_index_or}
+use Rattle.std.specs.Prelude.{◌≡◌, refl, ℕ, ℤ, zero, suc, ◌+◌, ◌-◌, ◌<◌, true, false, None, Some, Ok, Err, List, [], ◌∷◌, ◌++◌, length, map, slice_get, slice_index_or}
 use Rattle.std.specs.List.{AllByRecursion}
 use Rattle.std.proofs.Common.{◌∙◌, sym, ap, subst, arith}
 use Rattle.std.proofs.lemmas.List.{length-map}
@@ -21,7 +21,7 @@ use Rattle.st_exec.specs.Laws.{AreCallsOf, IsCallOf}
 use Rattle.st_exec.specs.Scan.{Asked, Over, Waits, Stand, scan_of}
 use Rattle.st_exec.specs.declared.task.StTask.{StTask}
 use Rattle.st_tree.specs.declared.program.Task.{Task}
-use Rattle.st_job.proofs.MadeLaws.{GoesOn, goes}
+use Rattle.st_job.proofs.MadeLaws.{goes}
 use Rattle.st_job.specs.Cell.{Cell, TaskStand}
 use Rattle.st_job.specs.Controllers.{cell_of}
 use Rattle.st_job.specs.Playing.{IsBetween, stand_at}

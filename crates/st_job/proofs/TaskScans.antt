@@ -1,5 +1,5 @@
 -- What a task makes in its own turn: whole scans, or one that the end of the run cuts off.
-use Rattle.std.specs.Prelude.{◌≡◌, refl, ℕ, ℤ, zero, suc, ◌+◌, ◌-◌, ◌<◌, ◌≤◌, ◌⊎◌, Bool, true, false, not, if◌then◌else◌, Some, Ok, Err, List, [], ◌∷◌, ◌++◌, length, slice_get}
+use Rattle.std.specs.Prelude.{◌≡◌, refl, ℕ, ℤ, zero, suc, ◌+◌, ◌-◌, ◌<◌, ◌≤◌, ◌⊎◌, Bool, true, false, not, if◌then◌else◌, Ok, Err, List, [], ◌∷◌, ◌++◌, length, slice_get}
 use Rattle.std.proofs.Common.{◌∙◌, inl, inr, sym, ap, subst, arith}
 use Rattle.std.proofs.lemmas.Bool.{cases_Bool}
 use Rattle.std.proofs.lemmas.List.{append-nil, append_assoc, length-append}
@@ -8,17 +8,17 @@ use Rattle.bench_run.specs.Run.{Event, Run, a_call, an_end, happened, made}
 use Rattle.bench_run.specs.declared.bench.RunFault.{RunFault}
 use Rattle.fb_outputs.specs.declared.outputs.Outputs.{Outputs}
 use Rattle.motion_history.specs.Entries.{Entry, call, end_of}
-use Rattle.st_exec.specs.Laws.{AsksInOrder, IsCallOf, asks_of}
+use Rattle.st_exec.specs.Laws.{AsksInOrder, asks_of}
 use Rattle.st_exec.specs.Scan.{Asked, Course, HasAll, Over, Waits, Missing, Stand, scan_of}
 use Rattle.st_tree.specs.declared.program.Task.{Task}
 use Rattle.st_job.proofs.Kept.{scan-stays, turn-stays}
-use Rattle.st_job.proofs.MadeLaws.{GoesOn, ends, goes, goes-or-ends}
+use Rattle.st_job.proofs.MadeLaws.{ends, goes, goes-or-ends}
 use Rattle.st_job.proofs.OwnEntries.{call-own, end-own, entries-first, entries-more, none-replied, own-more}
 use Rattle.st_job.proofs.ScanLaws.{item-behind, length-more, waiting-is-call}
 use Rattle.st_job.specs.Cell.{Cell, TaskStand}
 use Rattle.st_job.specs.Ready.{MakesCalls}
 use Rattle.st_job.specs.Rounds.{Turn, called, is_last, made_by, reply_behind, scan_on, scanned, turn, with_call}
-use Rattle.st_job.specs.TaskScans.{AreScans, IsMadeBy, IsScan, end_if, entries_of, own_entries}
+use Rattle.st_job.specs.TaskScans.{AreScans, IsMadeBy, end_if, entries_of, own_entries}
 
 -- ---- what holds of a task
 

@@ -1,5 +1,5 @@
 -- The turns of tasks, one after another.
-use Rattle.std.specs.Prelude.{◌≡◌, refl, ℕ, zero, suc, ◌+◌, ◌<◌, ◌≤◌, false, Some, Result, Ok, Err, List, [], ◌∷◌, ◌++◌, length, map, take, drop, slice_get, slice_index_or, slice_set}
+use Rattle.std.specs.Prelude.{◌≡◌, refl, ℕ, zero, suc, ◌+◌, ◌<◌, ◌≤◌, false, Some, Ok, Err, List, [], ◌∷◌, ◌++◌, length, map, take, drop, slice_get, slice_index_or, slice_set}
 use Rattle.std.proofs.Common.{◌∙◌, sym, ap, subst, arith}
 use Rattle.std.proofs.lemmas.List.{append-nil, append_assoc, drop_all, drop_more, drop-set-lt, length-set, map-append, take_all, take_more_set}
 use Rattle.bench_run.specs.Going.{run_at}
@@ -14,7 +14,7 @@ use Rattle.st_job.specs.Cell.{Cell, TaskStand}
 use Rattle.st_job.specs.Controllers.{cell_of}
 use Rattle.st_job.specs.Playing.{IsBetween}
 use Rattle.st_job.specs.Players.{ArePlaying, HasMade, HasTurned, stand_of}
-use Rattle.st_job.specs.Rounds.{Round, Turn, turn, turns}
+use Rattle.st_job.specs.Rounds.{Round, turn, turns}
 use Rattle.st_job.specs.declared.cell.Controller.{Controller}
 use Rattle.st_job.specs.declared.player.Player.{Player}
 

@@ -1,5 +1,5 @@
 -- Tasks before their first scans.
-use Rattle.std.specs.Prelude.{◌≡◌, ℕ, true, List, map, replicate}
+use Rattle.std.specs.Prelude.{◌≡◌, true, List, map, replicate}
 use Rattle.st_exec.specs.Compiled.{Compiled, TaskProgram}
 use Rattle.st_exec.specs.Values.{silent}
 use Rattle.st_job.specs.Cell.{TaskStand}

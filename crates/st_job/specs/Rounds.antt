@@ -1,7 +1,7 @@
 -- The run of a machine with tasks in Structured Text: round after round, in which every task that
 -- lives makes one scan, in the order of the tasks, and then one cycle is made. Each event is made
 -- as bench_run's specs/Run says, so that a run that has ended stays as it is. This project's profile.
-use Rattle.std.specs.Prelude.{ℕ, zero, suc, ◌+◌, Bool, true, false, not, if◌then◌else◌, Option, Some, None, List, [], ◌∷◌, ◌++◌, length, map, slice_get}
+use Rattle.std.specs.Prelude.{ℕ, zero, suc, ◌+◌, Bool, not, if◌then◌else◌, Option, Some, None, List, [], ◌∷◌, ◌++◌, length, map, slice_get}
 use Rattle.std.specs.List.{list_any}
 use Rattle.bench_run.specs.Run.{Run, a_call, a_cycle, an_end, first_run, made}
 use Rattle.fb_outputs.specs.declared.outputs.Outputs.{Outputs}
