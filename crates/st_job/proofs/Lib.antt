@@ -7,6 +7,7 @@ pub mod RoundLaws
 pub mod OpenLaws
 pub mod ReadyLaws
 pub mod StepLaws
+pub mod EndingLaws
 pub mod OwnEntries
 pub mod TaskScans
 pub mod AllScans

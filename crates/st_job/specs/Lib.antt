@@ -12,3 +12,4 @@ pub mod Causes
 pub mod Headline
 pub mod Ends
 pub mod TaskScans
+pub mod Endings

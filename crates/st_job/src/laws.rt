@@ -5,11 +5,12 @@ ghost use Rattle.bench_run.specs.InStep.{AreInStep};
 ghost use Rattle.machine_drives.specs.Drives.{drives_at_opening};
 ghost use Rattle.st_tree.specs.declared.program.Task.{Task};
 ghost use Rattle.st_job.specs.Cell.{Cell};
+ghost use Rattle.st_job.specs.Endings.{EndsForItsCause};
 ghost use Rattle.st_job.specs.Ready.{AreReady};
 ghost use Rattle.st_job.specs.Rounds.{run_of};
 ghost use Rattle.st_job.specs.TaskScans.{IsMadeBy, own_entries};
 
-use bench_run::events_keep_drives_in_step;
+use bench_run::{events_keep_drives_in_step, runs_end_for_their_cause};
 use st_exec::{scans_ask_in_order, scans_have_their_operands};
 
 /// The drives of a machine that is run with its tasks are in step with its history: each is where
@@ -31,4 +32,13 @@ pub fn tasks_make_their_scans()
 {
     scans_ask_in_order();
     scans_have_their_operands();
+}
+
+/// The rounds of a machine end for their cause alone, before their tasks do: with CyclesOver exactly
+/// where a cycle comes and none is left, with HistoryFull exactly where an event comes with the
+/// history full, and if it is a cycle one is left. Nothing runs.
+pub fn rounds_end_for_their_cause()
+    ensures { (c : Cell) → EndsForItsCause c }
+{
+    runs_end_for_their_cause();
 }

@@ -17,7 +17,7 @@ mod turns;
 
 pub use cell::Controller;
 pub use job_ends::Status;
-pub use laws::{rounds_are_in_step, tasks_make_their_scans};
+pub use laws::{rounds_are_in_step, rounds_end_for_their_cause, tasks_make_their_scans};
 pub use outside::{Files, Sink};
 pub use run::run_rounds;
 pub use st::st_files;

@@ -10,12 +10,15 @@ pub loop-drive-preserved : goal.loop-drive-preserved
 loop-drive-preserved c =
     let i = c.loop-drive.drive-index in
     let drives = c.args.drives.now in
-    let bits = subst IsCount c.position_of.ensures.position c.position_of.ensures.bits in
+    let drive = c.drive-item.result in
+    let bits : IsCount drive.actual =
+    subst IsCount c.position_of.ensures.position c.position_of.ensures.bits in
     record {
       positions = λ k d l. elim (cases_lt k i) [
         | inl b ↦ c.loop-drive.invariant.positions k d b
         | inr b ↦ subst (λ (x : DriveSim). IsCount x.actual)
-            (get_or_default drives i _ d c.loop-drive-test.true ∙ ap (λ j. slice_index_or drives j d) (omega arith)) bits
+            (c.drive-item.is ∙ get_or_default drives i drive d c.loop-drive-test.true
+            ∙ ap (λ j. slice_index_or drives j d) (omega arith)) bits
       ];
     }
 

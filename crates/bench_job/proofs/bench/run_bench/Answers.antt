@@ -5,8 +5,9 @@ use Rattle.bench_job.proofs.bench.run_bench.Goals as goal
 
 pub returns-clause-runs : goal.returns-clause-runs
 returns-clause-runs g c =
-    runs-bench _ _ (traced-run _ _ _ _ c.in-Ok.ensures.made c.in-Ok.ensures.legal
-    c.trace_is_read_again.ensures)
+    let ran = c.in-Ok.ran in
+    runs-bench _ _ (traced-run _ ran.kernel ran.drives.items ran.ending c.in-Ok.ensures.made
+    c.in-Ok.ensures.legal c.trace_is_read_again.ensures)
 
 pub returns-in_default-clause-ends : goal.returns-in_default-clause-ends
 returns-in_default-clause-ends g c =
