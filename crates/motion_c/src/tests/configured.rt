@@ -65,7 +65,7 @@ fn tells_which_of_the_texts_is_refused(rt: HostRuntime) -> Result<(), Fail> {
     let unknown_kind = b"motion-program 1\ntask main\nblock MX Move X\n";
     assert_eq!(rt;
         open(alloc, &mut motion, CONFIG, without_blocks),
-        (4, 3, b'P')
+        (4, 2, b'P')
     );
     assert_eq!(rt;
         open(alloc, &mut motion, CONFIG, unknown_kind),
