@@ -16,7 +16,7 @@ use Rattle.st_job.specs.TaskScans.{IsMadeBy, own_entries}
 
 -- ---- the turn of another task
 
-cycle-up : (c : Cell) (m : ℕ) (t : Task) (r : Run) (d : TaskStand) → IsUp c m t r d →
+pub cycle-up : (c : Cell) (m : ℕ) (t : Task) (r : Run) (d : TaskStand) → IsUp c m t r d →
     IsUp c m t (made c.setup a_cycle r) d
 unfolding cycled
 cycle-up c m t r d up =
@@ -42,7 +42,7 @@ other-turn c n m u t e d r other makes up =
 -- ---- the turns of all
 
 -- trees of tasks, the first that of this number, make calls of theirs
-abbrev MakeCalls : Cell → ℕ → List Task → Type 0
+abbrev pub MakeCalls : Cell → ℕ → List Task → Type 0
 MakeCalls c n [] = Unit {0}
 MakeCalls c n (u ∷ us) = MakesCalls c.setup c.cycle_us n u × MakeCalls c (suc n) us
 
@@ -68,7 +68,7 @@ pub record KeepsOrder (us : ℕ) (t : Task) : Type 0 where
   pub order : AsksInOrder us t.body.items
   pub all : MissesNone us t
 
-all-turn : (c : Cell) (n m i : ℕ) (t : Task) (us : List Task) (es : List TaskStand)
+pub all-turn : (c : Cell) (n m i : ℕ) (t : Task) (us : List Task) (es : List TaskStand)
     (d : TaskStand) (r : Run) → m ≡ n + i → slice_get us i ≡ Some t → slice_get es i ≡ Some d →
     KeepsOrder c.cycle_us t → MakeCalls c n us → IsUp c m t r d →
     HasTurn c m t i (turns c n us es r)
@@ -141,11 +141,16 @@ calls-from c n (u ∷ us) each =
           subst (λ k. MakesCalls c.setup c.cycle_us k v) on (each (suc i) v e)),
     )
 
-opened-at : (ts : List Task) (m : ℕ) (t : Task) → slice_get ts m ≡ Some t →
+pub opened-at : (ts : List Task) (m : ℕ) (t : Task) → slice_get ts m ≡ Some t →
     slice_get (map task_at_opening ts) m ≡ Some (task_at_opening t)
 opened-at [] m t e = absurd (cc)
 opened-at (u ∷ ts) zero t e = ap (λ v. Some (task_at_opening v)) (let same : u ≡ t = cc in same)
 opened-at (u ∷ ts) (suc m) t e = opened-at ts m t e
+
+pub all-calls : (c : Cell) → AreReady c.setup c.cycle_us c.trees → MakeCalls c 0 c.trees
+all-calls c ready =
+    calls-from c 0 c.trees (λ i u e. let same : i ≡ 0 + i = omega arith in
+    subst (λ k. MakesCalls c.setup c.cycle_us k u) same (ready.calls i u e))
 
 -- the entries of each task are those of its scans
 pub tasks-make : ((us : ℕ) (t : Task) → KeepsOrder us t) → (c : Cell) →
@@ -154,8 +159,7 @@ pub tasks-make : ((us : ℕ) (t : Task) → KeepsOrder us t) → (c : Cell) →
 unfolding run_of
 tasks-make keeps c ready m t there =
     rounds-make (c.setup.cycles + 1) c m t there (keeps c.cycle_us t)
-    (calls-from c 0 c.trees (λ i u e. let same : i ≡ 0 + i = omega arith in
-    subst (λ k. MakesCalls c.setup c.cycle_us k u) same (ready.calls i u e)))
+    (all-calls c ready)
     (map task_at_opening c.trees) (task_at_opening t)
     (first_run (drives_at_opening c.setup.axes c.drives)) (opened-at c.trees m t there)
     (inl (refl, record { scans = []; are = (refl, refl) }))

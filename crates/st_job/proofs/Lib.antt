@@ -11,6 +11,7 @@ pub mod EndingLaws
 pub mod OwnEntries
 pub mod TaskScans
 pub mod AllScans
+pub mod EndedTasks
 pub mod TraceLaws
 pub mod GivenLaws
 pub mod CauseLaws

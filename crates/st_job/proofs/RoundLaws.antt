@@ -55,13 +55,13 @@ scans-add-none add s n = record {
   end = λ t r h. made-cycles add s (an_end t) r refl ∙ h;
 }
 
-turns-add-none : CyclesAddUp → (c : Cell) (ts : List Task) (ds : List TaskStand) (r : Run) →
+pub turns-add-none : CyclesAddUp → (c : Cell) (ts : List Task) (ds : List TaskStand) (r : Run) →
     cycles_of (turns c 0 ts ds r).run.history ≡ cycles_of r.history
 turns-add-none add c ts ds r =
     turns-keeps c (λ x. cycles_of x.history ≡ cycles_of r.history)
     (scans-add-none add c.setup (cycles_of r.history)) 0 ts ds r refl
 
-cycled-adds : CyclesAddUp → (s : Setup) (r : Run) →
+pub cycled-adds : CyclesAddUp → (s : Setup) (r : Run) →
     cycles_of (happened s a_cycle r).history ≡ cycles_of r.history + 1
 unfolding cycled
 cycled-adds add s r = add r.history _

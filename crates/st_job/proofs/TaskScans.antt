@@ -37,7 +37,7 @@ pub record HasEnded (c : Cell) (n : ℕ) (t : Task) (r : Run) : Type 0 where
 abbrev pub IsUp : Cell → ℕ → Task → Run → TaskStand → Type 0
 IsUp c n t r d = ((r.ending ≡ Ok tt) × IsWhole c n t r d) ⊎ HasEnded c n t r
 
-pub whole-made : (c : Cell) (n : ℕ) (t : Task) (r : Run) (d : TaskStand) → IsWhole c n t r d →
+abbrev pub whole-made : (c : Cell) (n : ℕ) (t : Task) (r : Run) (d : TaskStand) → IsWhole c n t r d →
     IsMadeBy c n t (own_entries c.setup n r.history)
 whole-made c n t r d w = record {
   scans = w.scans;

@@ -58,3 +58,8 @@ pub record IsMadeBy (c : Cell) (n : ℕ) (t : Task) (es : List Entry) : Type 0 w
   pub none : stand.lives ≡ false → part ≡ []
   pub entries : es ≡ whole ++
       entries_of (asks_of (scan_of c.cycle_us t.body.items stand.vars stand.last part)) part
+
+-- entries are all that a task makes: whole scans up to its last, and its end
+pub record HasEnded (c : Cell) (n : ℕ) (t : Task) (es : List Entry) : Type 0 where
+  pub made : IsMadeBy c n t es
+  pub ended : made.stand.lives ≡ false

@@ -1,6 +1,6 @@
 // Laws of rounds: each is the contract of a function that does nothing.
 
-ghost use Rattle.std.specs.Prelude.{◌≡◌, ℕ, Some, slice_get};
+ghost use Rattle.std.specs.Prelude.{◌≡◌, ℕ, Ok, Some, slice_get};
 ghost use Rattle.bench_run.specs.InStep.{AreInStep};
 ghost use Rattle.machine_drives.specs.Drives.{drives_at_opening};
 ghost use Rattle.st_tree.specs.declared.program.Task.{Task};
@@ -8,9 +8,10 @@ ghost use Rattle.st_job.specs.Cell.{Cell};
 ghost use Rattle.st_job.specs.Endings.{EndsForItsCause};
 ghost use Rattle.st_job.specs.Ready.{AreReady};
 ghost use Rattle.st_job.specs.Rounds.{run_of};
-ghost use Rattle.st_job.specs.TaskScans.{IsMadeBy, own_entries};
+ghost use Rattle.st_job.specs.TaskScans.{HasEnded, IsMadeBy, own_entries};
 
 use bench_run::{events_keep_drives_in_step, runs_end_for_their_cause};
+use motion_history::cycles_add_up;
 use st_exec::{scans_ask_in_order, scans_have_their_operands};
 
 /// The drives of a machine that is run with its tasks are in step with its history: each is where
@@ -24,12 +25,17 @@ pub fn rounds_are_in_step()
 
 /// The entries of each task in the history of a run are those of its scans, each with its own
 /// replies: the calls of a scan in their order and each once, from the variables and last replies
-/// that the scan before left, and the task's end behind its last. Nothing runs.
+/// that the scan before left, and the task's end behind its last. Where the run ends with Ok each
+/// task has made its end. Nothing runs.
 pub fn tasks_make_their_scans()
-    ensures { (c : Cell) → AreReady c.setup c.cycle_us c.trees → (n : ℕ) (t : Task) →
+    ensures made { (c : Cell) → AreReady c.setup c.cycle_us c.trees → (n : ℕ) (t : Task) →
         slice_get c.trees n ≡ Some t →
         IsMadeBy c n t (own_entries c.setup n (run_of c).history) }
+    ensures ended { (c : Cell) → AreReady c.setup c.cycle_us c.trees → (n : ℕ) (t : Task) →
+        slice_get c.trees n ≡ Some t → (run_of c).ending ≡ Ok tt →
+        HasEnded c n t (own_entries c.setup n (run_of c).history) }
 {
+    cycles_add_up();
     scans_ask_in_order();
     scans_have_their_operands();
 }
