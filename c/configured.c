@@ -94,8 +94,7 @@ int main(void)
     move = run(&c, MOVE, &in);
 
     if (power < 0 || move < 0 || motion_axis_look(&c.m, 0, &x) != MOTION_OK) return 1;
-    fprintf(stderr, "on after %d cycles, there after %d, at %lld, the drive at %ld\n", power, move,
-            (long long)x.setpoint, (long)c.x.actual);
+    fprintf(stderr, "%lld, the drive at %ld\n", (long long)x.setpoint, (long)c.x.actual);
     code = write_trace(&c);
     return code == MOTION_OK && motion_close(&c.m) == MOTION_OK ? 0 : 1;
 }
