@@ -269,7 +269,8 @@ uint64_t motion_trace_text(motion *m, uint64_t from, uint8_t *room, size_t len);
  *     motion_open_setup(&m, config, config_len, &s, &why);
  *
  * They are lines of a program in `room`, 600 bytes for ten blocks; a name or a kind that breaks a rule
- * is told when the machine is opened, by its line. Blocks and tasks count from 0 in their order. */
+ * is told when the machine is opened, by its line. A blank or a line end in one isn't looked for: it is
+ * read as the end of a word or of a line. Blocks and tasks count from 0 in their order. */
 typedef struct motion_setup {
     uint8_t *text;
     size_t room;
