@@ -80,7 +80,7 @@ int main(void)
     motion_setup_block(&setup, "MX", "MoveAbsolute", "X");
     code = motion_open_setup(&c.m, (const uint8_t *)config, sizeof config - 1, &setup, &why);
     if (code == MOTION_REFUSED)
-        fprintf(stderr, "line %lu breaks %c%u\n", (unsigned long)why.line, why.letter, why.number);
+        fprintf(stderr, "place %lu breaks %c%u\n", (unsigned long)why.line, why.letter, why.number);
     if (code != MOTION_OK) return 1;
 
     memset(&in, 0, sizeof in);

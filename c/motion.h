@@ -68,7 +68,8 @@ enum motion_code {
     MOTION_NULL = 11      /* a pointer is null: the inline functions alone */
 };
 
-/* Where a text is refused: the line, counted from 1, and the rule, as letter 'B' and number 8. The
+/* Where a text is refused: the line, counted from 1, and the rule, as letter 'B' and number 8. Of a
+ * configuration `line` is its place: 0 for the whole text or its top, else the number of an item. The
  * rules stand in docs/rules.md. */
 typedef struct motion_refusal {
     uint64_t line;
