@@ -1,5 +1,5 @@
--- What becomes of the active command of an axis or a group, and who is told of it, by the changes of
--- its commands (PLCopen Motion Control Part 1 and Part 4, buffer modes).
+-- What becomes of the active command of an axis or a group, and who is told of it, by the changes
+-- of its commands (PLCopen Motion Control Part 1 and Part 4, buffer modes).
 use Rattle.std.specs.Prelude.{◌≡◌, ℕ, ℤ, Bool, List}
 use Rattle.axis_core.specs.Calls.{axis_without_owner, core_after_command, core_after_power}
 use Rattle.axis_core.specs.Cores as axes

@@ -22,8 +22,8 @@ pub fn group_changes_are_made()
     changes_follow_one_another();
 }
 
-/// What becomes of the active command of an axis is what becomes of it by its changes, and its owner
-/// is told how it ends.
+/// What becomes of the active command of an axis is what becomes of it by its changes, and its
+/// owner is told how it ends.
 pub fn axis_fates_are_told()
     ensures { AreAxisFates }
 {
@@ -32,8 +32,8 @@ pub fn axis_fates_are_told()
     owners_are_taken_away();
 }
 
-/// What becomes of the active command of a group is what becomes of it by its changes, and its owner
-/// is told how it ends.
+/// What becomes of the active command of a group is what becomes of it by its changes, and its
+/// owner is told how it ends.
 pub fn group_fates_are_told()
     ensures { AreGroupFates }
 {
