@@ -6,3 +6,4 @@ pub mod Steps
 pub mod Cycles
 pub mod Spared
 pub mod Told
+pub mod outcomes
