@@ -7,3 +7,5 @@ pub mod Cycles
 pub mod Spared
 pub mod Told
 pub mod outcomes
+pub mod Comes
+pub mod Replied

@@ -2,3 +2,4 @@
 pub mod Effects
 pub mod Outcomes
 pub mod Results
+pub mod Comes

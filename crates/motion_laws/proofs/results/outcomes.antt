@@ -3,3 +3,8 @@ pub mod Notes
 pub mod Leaves
 pub mod Final
 pub mod Cycles
+pub mod Shown
+pub mod Others
+pub mod Own
+pub mod Entries
+pub mod Histories

@@ -14,7 +14,7 @@ use Rattle.motion_kernel.specs.Machine.{Machine, instance_at}
 use Rattle.motion_laws.specs.owners.Commands.{commands_shown}
 use Rattle.motion_laws.specs.owners.Objects.{a_group, an_axis, IsThere, Object, has_commands_on, is_same}
 use Rattle.motion_laws.proofs.owners.Events.{event_changes, untold}
-use Rattle.motion_laws.proofs.owners.commands.Events.{OwnerLaws, ShownOf, beside_none, same_object}
+use Rattle.motion_laws.proofs.owners.commands.Events.{OwnerLaws, ShownOf, beside_none, is_itself, same_object}
 use Rattle.motion_laws.proofs.results.Events.{IsSpared, event_spares, progress_in}
 use Rattle.motion_laws.proofs.results.outcomes.Notes.{progress_told, told_exact, told_more}
 use Rattle.motion_laws.proofs.walk.Keeps.{Event, charge_at}
@@ -54,6 +54,12 @@ module _ (k : ℕ) (o : Object) where
     progress = a.progress ∙ ap (λ ns. progress_told k ns (progress_in m.instances k)) (sym (untold m o));
   }
 
+  pub spares_of : (m x : Machine) → Leaves k o [] m x → Spares k o m x
+  spares_of m x a = record {
+    charge = a.charge ∙ ap (λ ns. record (charge_at m o) { notes = ns }) (sym (untold m o));
+    progress = a.progress ∙ ap (λ ns. progress_told k ns (progress_in m.instances k)) (untold m o);
+  }
+
   -- some changes, and then others
   pub leaves_more : AreInOrder → (xs ys : List Change) (m x y : Machine) → Leaves k o xs m x → Leaves k o ys x y → Leaves k o (xs ++ ys) m y
   leaves_more order xs ys m x y a b =
@@ -83,6 +89,13 @@ pub spared_beside : (s : Setup) (k : ℕ) (is : List InstanceState) (o p : Objec
     is_same o p ≡ false → IsSpared s k is p
 spared_beside s k is o p on d =
     ap (λ b. if b then commands_shown (progress_in is k) else 0) (beside_none (slice_get s.blocks k) o p on d)
+
+-- an object that is another one than this is so the other way about
+other_way : (o p : Object) → is_same p o ≡ false → is_same o p ≡ false
+other_way o p d = elim (cases_Bool (is_same o p)) [
+  | inl e ↦ absurd (let x : is_same p o ≡ true = subst (λ q. is_same q o ≡ true) (same_object o p e) (is_itself o) in cc)
+  | inr e ↦ e
+]
 
 module _ (laws : OwnerLaws) (s : Setup) (k : ℕ) (o : Object) (on : has_commands_on (slice_get s.blocks k) o ≡ true) where
   -- an event elsewhere
@@ -131,12 +144,12 @@ module _ (laws : OwnerLaws) (s : Setup) (k : ℕ) (o : Object) (on : has_command
 
   -- an event at an object, by whether that is this one
   pub event_where : (p : Object) (ys zs : List Change) (m x : Machine) → Event m x p ys → (is_same p o ≡ true → ys ≡ zs) → IsThere m o →
-      brought k ys ≡ 0 → ShownOf s k m → k < length m.instances → is_same o p ≡ is_same p o → Leaves k o (if is_same p o then zs else []) m x
-  event_where p ys zs m x e same there none shown place both = elim (cases_Bool (is_same p o)) [
+      brought k ys ≡ 0 → ShownOf s k m → k < length m.instances → Leaves k o (if is_same p o then zs else []) m x
+  event_where p ys zs m x e same there none shown place = elim (cases_Bool (is_same p o)) [
     | inl here ↦
         let event = subst (λ q. Event m x q ys) (same_object p o here) e in
         subst (λ b. Leaves k o (if b then zs else []) m x) (sym here)
         (subst (λ vs. Leaves k o vs m x) (same here) (event_leaves k o ys m x event place))
     | inr d ↦ subst (λ b. Leaves k o (if b then zs else []) m x) (sym d)
-        (leaves_none k o m x (event_beside p ys m x e d (both ∙ d) there none shown))
+        (leaves_none k o m x (event_beside p ys m x e d (other_way o p d) there none shown))
   ]
