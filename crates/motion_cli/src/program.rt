@@ -6,10 +6,10 @@ ghost use Rattle.std.specs.Result.{IsOk};
 ghost use Rattle.bench_job.specs.Headline.{Headline};
 ghost use Rattle.command_words.specs.Args.{words_of};
 ghost use Rattle.command_words.specs.Requests.{RunFiles, of_scope, of_switches, report_of, request_of, run_of, seed_of, tasks_run_of};
-ghost use Rattle.job_ends.specs.Causes.{ComesExactly, is_fault, is_traced};
+ghost use Rattle.job_ends.specs.Causes.{ComesExactly, is_fault, is_told, is_traced};
 ghost use Rattle.job_ends.specs.Ends.{EndsBy, EndsEarly};
 ghost use Rattle.load_job.specs.Ends.{LoadLine};
-ghost use Rattle.motion_cli.specs.Causes.{Asks, AsksInVain, AsksRun, AsksTasks, HasRoom, IsChecked, IsDone, IsIllegal, IsRefused, IsThere, IsTooLong, LacksNone, RunsInVain, RunsTo, TasksInVain};
+ghost use Rattle.motion_cli.specs.Causes.{Asks, AsksInVain, AsksRun, AsksTasks, HasRoom, IsChecked, IsDone, IsIllegal, IsRefused, IsThere, IsTooLong, LacksNone, LeadsTo, RunsInVain, RunsTo, TasksInVain};
 ghost use Rattle.motion_cli.specs.Ends.{EndsByWords};
 ghost use Rattle.motion_cli.specs.Plans.{usage_plan};
 ghost use Rattle.motion_cli.specs.Reports.{AsksReport, AsksWithAll, ReportsInVain};
@@ -150,6 +150,10 @@ pub fn top<F: Files, K: Sink, H: Host + Wait + Sync, G: Gate + Drop + Send + 'st
     ensures usage { ComesExactly result Status.Usage ((request_of words.now ≡ None) ×
         (seed_of words.now ≡ None) × (run_of words.now ≡ None) ×
         (tasks_run_of words.now ≡ None) × (report_of words.now ≡ None)) }
+    ensures usage_alone { (request_of words.now ≡ None) × (seed_of words.now ≡ None) ×
+        (run_of words.now ≡ None) × (tasks_run_of words.now ≡ None) ×
+        (report_of words.now ≡ None) →
+        (result ≡ Status.Usage) ⊎ ((result ≡ Status.WriteFault) ⊎ (result ≡ Status.OutOfMemory)) }
     ensures read_fault { (word : ℕ) → result ≡ Status.ReadFault word →
         Rose (F.count files.old) (F.count files.new) ⊎
         (((((word ≡ 1) × AsksInVain (F.told files.old) (request_of words.now)) ⊎
@@ -218,6 +222,20 @@ pub fn top<F: Files, K: Sink, H: Host + Wait + Sync, G: Gate + Drop + Send + 'st
         (Rose (F.count files.old) (F.count files.new) → ⊥) →
         (Rose (K.count out.old) (K.count out.new) → ⊥) →
         (is_traced result ≡ true) ⊎ (result ≡ Status.OutOfMemory) }
+    ensures complete_file { (map : FileMap) (wanted : Status) → F.told files.old ≡ Some map →
+        is_told wanted ≡ true → Asks (LeadsTo wanted) map (request_of words.now) →
+        (Rose (F.count files.old) (F.count files.new) → ⊥) →
+        (Rose (K.count out.old) (K.count out.new) → ⊥) →
+        (result ≡ wanted) ⊎ (result ≡ Status.OutOfMemory) }
+    ensures complete_load { (seed : ℕ) → seed_of words.now ≡ Some seed →
+        (Rose (K.count out.old) (K.count out.new) → ⊥) →
+        (result ≡ Status.Ok) ⊎ (result ≡ Status.OutOfMemory) }
+    ensures complete_report { (map : FileMap) (wanted : Status) → F.told files.old ≡ Some map →
+        is_fault wanted ≡ false → AsksReport wanted map (report_of words.now) →
+        AsksWithAll map (report_of words.now) →
+        (Rose (F.count files.old) (F.count files.new) → ⊥) →
+        (Rose (K.count out.old) (K.count out.new) → ⊥) →
+        (result ≡ wanted) ⊎ (result ≡ Status.OutOfMemory) }
 {
     ends_follow_plans();
     room_leads_to_ok();

@@ -1,5 +1,6 @@
 -- Which counts the rows of legal histories have.
-use Rattle.std.specs.Prelude.{◌≡◌, ℕ, pos, List, ◌∷◌, ◌++◌, FitsSigned, w64}
+use Rattle.std.specs.Prelude.{◌≡◌, ℕ, pos, List, ◌∷◌, ◌++◌, FitsSigned}
+use Rattle.std.specs.Int.{w64}
 use Rattle.std.specs.List.{AllZip}
 use Rattle.axis_state.specs.Counts.{HasCounts, IsCount, place_of}
 use Rattle.axis_state.specs.declared.definition.AxisDef.{AxisDef}

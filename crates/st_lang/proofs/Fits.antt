@@ -1,7 +1,7 @@
 -- A test of trees finds that they fit.
-use Rattle.std.proofs.Common.{◌≡◌, ℕ, ◌+◌, Bool, List, [], ◌∷◌, map, length, refl, subst, ap}
+use Rattle.std.proofs.Common.{◌≡◌, ℕ, ◌+◌, Bool, List, [], ◌∷◌, map, length, refl, sym, subst, ap, ◌∙◌}
 use Rattle.std.specs.Prelude.{◌&&◌, IsTrue}
-use Rattle.std.proofs.lemmas.Bool.{and_parts}
+use Rattle.std.proofs.lemmas.Bool.{and_from, and_parts}
 use Rattle.std.specs.List.{list_all}
 use Rattle.motion_history.specs.Setup.{Setup}
 use Rattle.st_lang.specs.Fitting.{are_fitting}
@@ -24,3 +24,12 @@ are_fit s n (t ∷ ts) h = (
 pub is_program : (s : Setup) (ts : List Task) → length ts ≡ length s.tasks → IsTrue (are_fitting s 0 ts) →
     IsProgramOf s ts
 is_program s ts each fit = record { each = each; calls = are_fit s 0 ts fit }
+
+pub fit_again : (s : Setup) (n : ℕ) (ts : List Task) → AreFitting s n ts → IsTrue (are_fitting s n ts)
+fit_again s n [] h = refl
+fit_again s n (t ∷ ts) h =
+    and_from _ _ (all_pass (fits s n) t.body.items ∙ h.0) (fit_again s (n + 1) ts h.1)
+
+-- and a program is so
+pub is_fitting : (s : Setup) (ts : List Task) → IsProgramOf s ts → IsTrue (are_fitting s 0 ts)
+is_fitting s ts p = fit_again s 0 ts p.calls

@@ -10,7 +10,8 @@ use Rattle.outside.specs.Told.{FileMap}
 use Rattle.trace_text.specs.writing.Writes.{Output}
 use Rattle.motion_cli.proofs.AskedLaws.{request-told}
 use Rattle.motion_cli.proofs.CauseLaws.{enough, file-comes, illegal-comes, long-comes, ok-comes, refused-comes}
-use Rattle.motion_cli.proofs.FaultLaws.{complete, complete-run, complete-tasks, faultless, file-no-run, refused-why, unread-why, usage-comes, write-why}
+use Rattle.motion_cli.proofs.CompleteLaws.{complete-by, complete-file, complete-load, complete-report, complete-run, complete-tasks, file-no-run}
+use Rattle.motion_cli.proofs.FaultLaws.{faultless, refused-why, unread-why, usage-alone, usage-comes, write-why}
 use Rattle.motion_cli.proofs.PlanLaws.{faulted}
 use Rattle.motion_cli.proofs.ReportLaws.{report-as}
 use Rattle.motion_cli.proofs.TraceLaws.{headline-of, line-of, migrated-of, run-of, tasks-of}
@@ -56,6 +57,7 @@ returns-in-Ok g c =
       migrated = λ name a h. migrated-of follow told rose refused Started asked name old new s by a
           h;
       usage = usage-comes follow told rose refused Started asked old new s by;
+      usage_alone = λ none. usage-alone follow told rose refused Started asked old new s by none;
       read_fault = λ word h. unread-why follow told rose refused Started asked old new s word by h;
       too_long = λ map word t. long-comes follow map rose refused Started asked old new s word
           (at map t);
@@ -77,8 +79,8 @@ returns-in-Ok g c =
       write_fault = λ h. write-why follow told rose refused Started asked old new s by h;
       faultless = λ map t h r w. faultless follow map rose refused Started asked old new s IsThere
           (at map t) h r w;
-      complete = λ map t h r w. complete follow map rose refused Started asked old new s HasRoom
-          (at map t)
+      complete = λ map t h r w. complete-by follow map rose refused Started asked old new s status.Ok
+          HasRoom (at map t)
           (ok-comes follow map rose refused Started asked old new s (at map t)
           (file-no-run map HasRoom asked h))
           (inl (inl (enough c.room_leads_to_ok.ensures map _ h))) (inl (inl (inl h))) r w;
@@ -86,6 +88,12 @@ returns-in-Ok g c =
           (at map t) h r f w;
       complete_st = λ map t h r w. complete-tasks map rose refused Started asked old new s
           (at map t) h r w;
+      complete_file = λ map wanted t is h r w. complete-file follow map rose refused Started asked
+          old new s wanted (at map t) is h r w;
+      complete_load = λ seed a w. complete-load follow told rose refused Started asked seed old new s
+          by a w;
+      complete_report = λ map wanted t f h all r w. complete-report follow map rose refused Started
+          asked old new s wanted (at map t) f h all r w;
     }
 
 pub returns-in-Err : goal.returns-in-Err
@@ -99,6 +107,7 @@ returns-in-Err g c = record {
   scoped = λ trace a h. absurd (cc);
   migrated = λ name a h. absurd (cc);
   usage = faulted _ _ _ refl refl;
+  usage_alone = λ none. inr (inr refl);
   read_fault = λ word h. absurd (cc);
   too_long = λ map word t. faulted _ _ _ refl refl;
   refused = λ map word r t. faulted _ _ _ refl refl;
@@ -115,4 +124,7 @@ returns-in-Err g c = record {
   complete = λ map t h r w. inr refl;
   complete_run = λ map t h r f w. inr refl;
   complete_st = λ map t h r w. inr refl;
+  complete_file = λ map wanted t is h r w. inr refl;
+  complete_load = λ seed a w. inr refl;
+  complete_report = λ map wanted t f h all r w. inr refl;
 }
