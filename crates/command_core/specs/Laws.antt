@@ -8,6 +8,7 @@ use Rattle.command_core.specs.Brought.{BringNone, brought}
 use Rattle.command_core.specs.Calls.{IsCall}
 use Rattle.command_core.specs.Changes.{AllFit, Change, all_changed, changed, joins}
 use Rattle.command_core.specs.Charge.{AreApart, Charge, active_of, disowned, owns, queue_of, waiting_of}
+use Rattle.command_core.specs.Ends.{end_among}
 use Rattle.command_core.specs.Fates.{fate_in}
 
 -- changes one after another
@@ -90,3 +91,7 @@ pub record AreOfChanges : Type 0 where
   -- and its owner is told how it ends
   pub told : (xs : List Change) (c : Charge) →
       TellsOwner (fate_in xs c) c.active (all_changed xs c).notes
+  -- and that alone, where it has no other command and is brought none
+  pub end : (k : ℕ) (xs : List Change) (c : Charge) → c.notes ≡ [] → owns k c ≤ 1 →
+      brought k xs ≡ 0 → active_of k c ≡ 1 →
+      end_among k (all_changed xs c).notes ≡ (fate_in xs c).ends

@@ -57,5 +57,6 @@ pub fn changes_make_fates()
     ensures { AreOfChanges }
 {
     ends_tell_their_owners();
+    owners_are_taken_away();
     fates_are_of_the_active_command();
 }
