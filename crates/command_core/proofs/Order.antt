@@ -3,6 +3,7 @@ use Rattle.std.specs.Prelude.{◌≡◌, refl, Bool, true, false, ◌||◌, ℤ,
 use Rattle.std.proofs.Common.{ap, sym, ◌∙◌}
 use Rattle.std.proofs.lemmas.List.{append-nil, append_assoc}
 use Rattle.buffer_modes.specs.Queue.{Commands, active_note, behind, is_aborting, is_active_at_once}
+use Rattle.buffer_modes.proofs.Queue.{later_active}
 use Rattle.command_pool.specs.declared.notes.Note.{Note}
 use Rattle.command_pool.specs.declared.wanted.Wanted.{Wanted}
 use Rattle.command_core.specs.Brought.{BringNone}
@@ -69,11 +70,5 @@ pub at_once : (w : Wanted) (c : Charge) → is_active_at_once (queue_of c) w ≡
 at_once w c h = now_active (is_aborting w.mode) c.active c.waiting w h
 
 -- else the active one stays
-later_active : (aborts : Bool) (active : Option Wanted) (ws : List Wanted) (w : Wanted) → (aborts || is_none active) ≡ false →
-    (let after : Commands = if aborts then record { active = Some w; waiting = [] } else behind active ws w in after).active ≡ active
-later_active true active ws w h = absurd (cc)
-later_active false None ws w h = absurd (cc)
-later_active false (Some v) ws w h = refl
-
 pub later : (w : Wanted) (c : Charge) → is_active_at_once (queue_of c) w ≡ false → (changed (joins w) c).active ≡ c.active
 later w c h = later_active (is_aborting w.mode) c.active c.waiting w h

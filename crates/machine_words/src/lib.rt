@@ -9,6 +9,7 @@ mod inputs;
 mod integer;
 mod item;
 mod key;
+mod known_blocks;
 mod laws;
 mod master;
 mod name;
@@ -21,6 +22,7 @@ pub use drive::{MOST_STEPS, drive_in, plain_drive};
 pub use inputs::{Callee, inputs_by, is_off};
 pub use integer::{number, numbers};
 pub use item::{add_task, free_name, is_whole};
+pub use known_blocks::KnownBlocks;
 pub use laws::{inputs_are_fit, sizes_of_machines};
 pub use name::{
     axes_named, axis_at, axis_named, block_at, group_at, is_same_name, kind_of, object_at,

@@ -7,7 +7,9 @@ ghost use Rattle.motion_kernel.specs.Histories.{IsLegal};
 ghost use Rattle.motion_kernel.specs.kept.Machine.{AreWhole};
 ghost use Rattle.motion_laws.specs.results.Results.{ResultsAreTold};
 
-use command_changes::{axis_changes_are_made, group_changes_are_made};
+use command_changes::{
+    axis_changes_are_made, axis_fates_are_told, group_changes_are_made, group_fates_are_told,
+};
 use command_core::{commands_come_from_calls, holders_have_commands};
 use motion_kernel::machines_stay_kept;
 
@@ -27,6 +29,6 @@ pub fn results_are_told()
     command_core::ends_are_told_once();
     commands_come_from_calls();
     holders_have_commands();
-    axis_core::ends_are_told();
-    group_core::ends_are_told();
+    axis_fates_are_told();
+    group_fates_are_told();
 }

@@ -38,7 +38,7 @@ use Rattle.motion_laws.proofs.owners.Events.{axis_changes, group_changes}
 use Rattle.motion_laws.proofs.owners.Kept.{axes_good, resets_good, steps_good}
 use Rattle.motion_laws.proofs.results.Events.{HasEnded, IsSpared, ended_spared, event_spares, event_tells, one_there, still_spared}
 
--- the laws on which it rests that results are told: axis_core's and group_core's ends_are_told
+-- the laws on which it rests that results are told: what fates tell, by command_changes
 pub record TellLaws : Type 0 where
   pub owners : OwnerLaws
   pub command : (q : axis_refusals.Asked) (c : cores.Core) →

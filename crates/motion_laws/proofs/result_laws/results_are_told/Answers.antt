@@ -5,7 +5,7 @@ use Rattle.motion_laws.proofs.results.Steps.{TellLaws}
 use Rattle.motion_laws.proofs.results.Told.{results_told}
 use Rattle.motion_laws.proofs.result_laws.results_are_told.Goals as goal
 
-owners : (c : goal.After-ends_are_told-2) → OwnerLaws
+owners : (c : goal.After-group_fates_are_told) → OwnerLaws
 owners c =
     let m = c.machines_stay_kept.ensures in
     let machines : MachinesStayKept = record { opened = m.opened; call = m.call; may_go_on = m.may_go_on; cycle = m.cycle } in
@@ -21,18 +21,18 @@ owners c =
       hold = c.holders_have_commands.ensures;
     }
 
-laws : (c : goal.After-ends_are_told-2) → TellLaws
+laws : (c : goal.After-group_fates_are_told) → TellLaws
 laws c =
-    let a = c.ends_are_told.ensures in
-    let g = c.ends_are_told-2.ensures in
+    let a = c.axis_fates_are_told.ensures in
+    let g = c.group_fates_are_told.ensures in
     record {
       owners = owners c;
-      command = a.told_command;
-      power = a.told_power;
-      cycle = a.told_cycle;
-      group_command = g.told_command;
-      group_power_off = g.told_power_off;
-      group_cycle = g.told_cycle;
+      command = λ q x. (a.command q x).told;
+      power = λ enable x. (a.power enable x).told;
+      cycle = λ look x. (a.cycle look x).told;
+      group_command = λ w jerk members x. (g.command w jerk members x).told;
+      group_power_off = λ x. (g.power_off x).told;
+      group_cycle = λ members x. (g.cycle members x).told;
     }
 
 pub returns : goal.returns
