@@ -1,8 +1,7 @@
 -- How the command of an instance ends by what it is told.
-use Rattle.std.specs.Prelude.{◌≡◌, ◌≢◌, refl, ℕ, zero, suc, ◌+◌, ◌<◌, ◌≤◌, true, false, nat_eq, if◌then◌else◌, Option, Some, None, List, [], ◌∷◌, length, slice_index_or}
-use Rattle.std.proofs.Common.{◌∙◌, ap, sym, arith, inl, inr}
+use Rattle.std.specs.Prelude.{◌≡◌, refl, ℕ, zero, suc, ◌<◌, ◌≤◌, true, false, nat_eq, if◌then◌else◌, Option, Some, None, List, [], ◌∷◌, length, slice_index_or}
+use Rattle.std.proofs.Common.{◌∙◌, ap, arith, inl, inr}
 use Rattle.std.proofs.lemmas.Bool.{cases_Bool, eq-eqb, eqb-true}
-use Rattle.buffer_modes.specs.Fates.{TellsOwner}
 use Rattle.buffer_modes.specs.Laws.{AreFates, AreOwners, AreTakenAway, AreTellings}
 use Rattle.buffer_modes.specs.Owners.{is_owner, one_of, owner_by, told}
 use Rattle.command_pool.specs.declared.ending.Finish.{Finish}
