@@ -6,3 +6,6 @@ pub mod Steps
 pub mod Cycles
 pub mod Spared
 pub mod Told
+pub mod outcomes
+pub mod Comes
+pub mod Replied
