@@ -1,4 +1,4 @@
-// Laws of outcomes: each is the contract of a function that does nothing.
+// The law of outcomes: the contract of a function that does nothing.
 
 ghost use Rattle.std.specs.Prelude.{◌≡◌, ℕ, false, Some, List, ◌∷◌, ◌++◌, slice_get};
 ghost use Rattle.fb_outputs.specs.Steps.{is_power};
@@ -7,7 +7,6 @@ ghost use Rattle.motion_history.specs.Setup.{Setup, IsSetup};
 ghost use Rattle.motion_history.specs.declared.config.BlockDef.{BlockDef};
 ghost use Rattle.motion_kernel.specs.Histories.{IsLegal, machine_after};
 ghost use Rattle.motion_kernel.specs.kept.Machine.{AreWhole};
-ghost use Rattle.motion_laws.specs.results.Comes.{ResultsCome};
 ghost use Rattle.motion_laws.specs.results.Outcomes.{IsOutcome};
 
 use command_changes::{axis_changes_are_made, group_changes_are_made};
@@ -37,14 +36,4 @@ pub fn entries_make_outcomes()
     ends_are_told_once();
     commands_come_from_calls();
     holders_have_commands();
-}
-
-/// Each result that a reply of a legal history tells comes of an entry in which the command of its
-/// instance ended so, be it the call itself or an entry before it, and behind which no call of the
-/// instance was a rising edge.
-pub fn results_come_of_ends()
-    ensures results { (s : Setup) (es : List Entry) → IsSetup s → AreWhole s → IsLegal s es →
-        ResultsCome s es }
-{
-    entries_make_outcomes();
 }

@@ -17,18 +17,14 @@ use Rattle.motion_kernel.specs.calls.Calls.{after_call, called, reply_of}
 use Rattle.motion_kernel.specs.kept.Machine.{AreWhole}
 use Rattle.motion_laws.specs.entries.Replies.{AreOfBlocks}
 use Rattle.motion_laws.specs.results.Comes.{ComesOf, ResultsCome}
-use Rattle.motion_laws.specs.results.Outcomes.{IsOutcome, progress_at}
+use Rattle.motion_laws.specs.results.Outcomes.{progress_at}
 use Rattle.motion_laws.specs.results.Results.{Tells}
 use Rattle.motion_laws.proofs.Histories.{legal_so_far}
 use Rattle.motion_laws.proofs.arrivals.Moves.{behind}
 use Rattle.motion_laws.proofs.entries.replies.Entries.{called_of_blocks, opening_of_blocks}
 use Rattle.motion_laws.proofs.entries.replies.Histories.{kind_after, replay_of_blocks}
+use Rattle.motion_laws.proofs.results.outcomes.Histories.{EntriesMakeOutcomes}
 use Rattle.motion_laws.proofs.results.Comes.{HasEndedSo, after_more, ends_come, told_end}
-
--- the law on which it rests: entries_make_outcomes
-abbrev pub EntriesMakeOutcomes : Type 0
-EntriesMakeOutcomes = (s : Setup) (made more : List Entry) (e : Entry) (k : ℕ) (b : BlockDef) → IsSetup s → AreWhole s →
-    IsLegal s (made ++ e ∷ more) → slice_get s.blocks k ≡ Some b → is_power b.kind ≡ false → IsOutcome s (machine_after s made) e k b
 
 -- an end that is shown stays
 shown_so : (f : Finish) (v : InstanceState) → HasEndedSo f v.progress → HasEndedSo f (instance.shown v).progress
@@ -41,27 +37,39 @@ replied_so f (v ∷ vs) zero h = shown_so f v h
 replied_so f (v ∷ vs) (suc k) h = replied_so f vs k h
 
 -- the instances of a history are of their blocks
-blocks_after : (s : Setup) (es : List Entry) → AreOfBlocks s (machine_after s es).instances
+pub blocks_after : (s : Setup) (es : List Entry) → AreOfBlocks s (machine_after s es).instances
 unfolding machine_after
 blocks_after s es = replay_of_blocks s (machine_at_opening s) es (opening_of_blocks s)
 
 -- the reply of the last call
-last_reply : (s : Setup) (made : List Entry) (k : ℕ) (i : Inputs) (reply : Outputs) → IsLegal s (made ++ call k i reply ∷ []) →
+pub last_reply : (s : Setup) (made : List Entry) (k : ℕ) (i : Inputs) (reply : Outputs) → IsLegal s (made ++ call k i reply ∷ []) →
     reply ≡ reply_of s (machine_after s made) k i
 unfolding machine_after
 last_reply s made k i reply legal = (behind s 0 (machine_at_opening s) made (call k i reply ∷ []) legal.follows).0.1
+
+-- a reply that tells an end is one of a block that is no Power, and its instance then shows it
+pub record EndsAt (s : Setup) (made : List Entry) (k : ℕ) (i : Inputs) (reply : Outputs) (b : BlockDef) (f : Finish) : Type 0 where
+  pub other : is_power b.kind ≡ false
+  pub after : HasEndedSo f (progress_at (machine_after s (made ++ call k i reply ∷ [])) k)
+
+pub first_ended : (s : Setup) (made : List Entry) (k : ℕ) (i : Inputs) (reply : Outputs) (b : BlockDef) (f : Finish) → slice_get s.blocks k ≡ Some b →
+    IsLegal s (made ++ call k i reply ∷ []) → Tells f reply → EndsAt s made k i reply b f
+first_ended s made k i reply b f at legal tells =
+    let m = machine_after s made in
+    let x = called s k i m in
+    let v = instance_at x.instances k in
+    let told = told_end f v (subst (Tells f) (last_reply s made k i reply legal) tells) in
+    let happened = called_of_blocks s m k i (blocks_after s made) k b at in
+    let kind_is : v.kind ≡ b.kind = ap (λ (y : InstanceState). y.kind) happened.is ∙ kind_after (opened b.kind) happened.happenings in
+    record {
+      other = ap is_power (sym kind_is) ∙ told.0;
+      after = subst (λ y. HasEndedSo f (progress_at y k)) (sym (after_more s made [] (call k i reply))) (replied_so f x.instances k told.1);
+    }
 
 pub results_come : EntriesMakeOutcomes → (s : Setup) (es : List Entry) → IsSetup s → AreWhole s → IsLegal s es → ResultsCome s es
 results_come make s es setup whole legal made more k i reply b f is at tells =
     let so_far = made ++ call k i reply ∷ [] in
     let split : es ≡ so_far ++ more = is ∙ sym (append_assoc made (call k i reply ∷ []) more) in
     let legal_here = legal_so_far s so_far more (subst (IsLegal s) split legal) in
-    let m = machine_after s made in
-    let x = called s k i m in
-    let v = instance_at x.instances k in
-    let told = told_end f v (subst (Tells f) (last_reply s made k i reply legal_here) tells) in
-    let happened = called_of_blocks s m k i (blocks_after s made) k b at in
-    let kind_is : v.kind ≡ b.kind = ap (λ (y : InstanceState). y.kind) happened.is ∙ kind_after (opened b.kind) happened.happenings in
-    let other : is_power b.kind ≡ false = ap is_power (sym kind_is) ∙ told.0 in
-    ends_come s k b so_far (λ before behind e split_so. make s before behind e k b setup whole (subst (IsLegal s) split_so legal_here) at other) f
-    (subst (λ y. HasEndedSo f (progress_at y k)) (sym (after_more s made [] (call k i reply))) (replied_so f x.instances k told.1))
+    let ended = first_ended s made k i reply b f at legal_here tells in
+    ends_come s k b so_far (λ before behind e split_so. make s before behind e k b setup whole (subst (IsLegal s) split_so legal_here) at ended.other) f ended.after

@@ -8,3 +8,4 @@ pub mod Others
 pub mod Own
 pub mod Entries
 pub mod Histories
+pub mod Fates

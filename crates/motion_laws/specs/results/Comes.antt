@@ -19,7 +19,7 @@ use Rattle.motion_kernel.specs.calls.Asking.{is_done_at_once}
 use Rattle.motion_kernel.specs.calls.Calls.{with_execute}
 use Rattle.motion_laws.specs.owners.Objects.{object_of}
 use Rattle.motion_laws.specs.results.Outcomes.{answer_in, end_of_command}
-use Rattle.motion_laws.specs.results.Results.{Tells, takes_away}
+use Rattle.motion_laws.specs.results.Results.{AreNoCalls, Tells, takes_away}
 
 -- how a command ends as it is answered: refused, or Done at once
 abbrev pub end_answered : BlockKind → Result Bool Refusal → Option Finish
@@ -64,3 +64,13 @@ abbrev pub ResultsCome : Setup → List Entry → Type 0
 ResultsCome s es = (made more : List Entry) (k : ℕ) (i : Inputs) (reply : Outputs)
     (b : BlockDef) (f : Finish) → es ≡ made ++ call k i reply ∷ more →
     slice_get s.blocks k ≡ Some b → Tells f reply → ComesOf s k b f (made ++ call k i reply ∷ [])
+
+-- and it stays while Execute is true: the next call of the instance tells it again, where it is no
+-- edge
+abbrev pub ResultsStay : Setup → List Entry → Type 0
+ResultsStay s es = (made between more : List Entry) (k : ℕ) (i next : Inputs)
+    (reply later : Outputs) (b : BlockDef) (f : Finish) →
+    es ≡ made ++ call k i reply ∷ (between ++ call k next later ∷ more) →
+    slice_get s.blocks k ≡ Some b → AreNoCalls k between →
+    edge_of (instance_at (machine_after s (made ++ call k i reply ∷ between)).instances k).execute
+    next.execute ≡ edge.High → Tells f reply → Tells f later

@@ -5,6 +5,7 @@ use Rattle.std.proofs.lemmas.Bool.{cases_Bool, cases_eq, eqb-true}
 use Rattle.buffer_modes.specs.Fates.{Fate}
 use Rattle.buffer_modes.specs.Owners.{is_owner, owner_by, told}
 use Rattle.buffer_modes.proofs.Owners.{nobody}
+use Rattle.command_core.proofs.Ends.{none_among}
 use Rattle.command_core.specs.Brought.{brought}
 use Rattle.command_core.specs.Changes.{Change, all_changed}
 use Rattle.command_core.specs.Charge.{Charge, active_of, owns, waiting_of}
@@ -20,7 +21,7 @@ use Rattle.motion_laws.specs.owners.Commands.{active_shown, commands_shown}
 use Rattle.motion_laws.specs.results.Outcomes.{progress_by}
 use Rattle.motion_laws.proofs.owners.Counts.{other_owner, owner_is}
 use Rattle.motion_laws.proofs.owners.commands.Events.{OwnerLaws, most_one}
-use Rattle.motion_laws.proofs.results.outcomes.Notes.{none_among, none_told, progress_told, some_among, told_once}
+use Rattle.motion_laws.proofs.results.outcomes.Notes.{none_told, progress_told, some_among, told_once}
 
 -- the laws on which outcomes rest
 pub record OutcomeLaws : Type 0 where

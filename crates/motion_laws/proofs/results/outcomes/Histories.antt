@@ -15,8 +15,12 @@ use Rattle.motion_laws.proofs.owners.Shown.{legal_all_shown}
 use Rattle.motion_laws.proofs.results.outcomes.Entries.{entry_outcome}
 use Rattle.motion_laws.proofs.results.outcomes.Final.{OutcomeLaws}
 
-pub outcomes_made : OutcomeLaws → ConfigurationsAreSound → (s : Setup) (made more : List Entry) (e : Entry) (k : ℕ) (b : BlockDef) → IsSetup s → AreWhole s →
+-- what each entry of a legal history makes of each instance with commands
+abbrev pub EntriesMakeOutcomes : Type 0
+EntriesMakeOutcomes = (s : Setup) (made more : List Entry) (e : Entry) (k : ℕ) (b : BlockDef) → IsSetup s → AreWhole s →
     IsLegal s (made ++ e ∷ more) → slice_get s.blocks k ≡ Some b → is_power b.kind ≡ false → IsOutcome s (machine_after s made) e k b
+
+pub outcomes_made : OutcomeLaws → ConfigurationsAreSound → EntriesMakeOutcomes
 unfolding machine_after
 outcomes_made laws sound s made more e k b setup whole legal at other =
     let so_far = legal_so_far s made (e ∷ more) legal in

@@ -3,7 +3,8 @@ use Rattle.std.specs.Prelude.{◌≡◌, refl, ℕ, ◌+◌, ◌<◌, ◌≤◌,
 use Rattle.std.proofs.Common.{arith, ap, sym, subst, ◌∙◌, inl, inr}
 use Rattle.std.proofs.lemmas.Bool.{cases_Bool, eqb-false, eqb-true}
 use Rattle.std.proofs.lemmas.List.{get_or-set_other, length-set}
-use Rattle.buffer_modes.specs.Owners.{is_owner, one_of, told}
+use Rattle.buffer_modes.specs.Owners.{told}
+use Rattle.command_core.proofs.Ends.{other_note, own_note}
 use Rattle.command_core.specs.Ends.{end_among}
 use Rattle.command_pool.specs.declared.ending.Finish.{Finish}
 use Rattle.command_pool.specs.declared.notes.Note.{Note}
@@ -49,28 +50,12 @@ told_exact k (n ∷ ns) is there =
     told_exact k ns (told_end n.owner n.finish is) (omega arith)
     ∙ ap (progress_told k ns) (one_told k n.owner n.finish is there)
 
--- whether a note is for an instance, by its count
-own_note : (k j : ℕ) → nat_eq j k ≡ true → is_owner k (Some j) ≡ 1
-unfolding is_owner
-own_note k j e = ap one_of e
-
-other_note : (k j : ℕ) → nat_eq j k ≡ false → is_owner k (Some j) ≡ 0
-unfolding is_owner
-other_note k j e = ap one_of e
-
 -- where no note is for it, it is as it was
 pub none_told : (k : ℕ) (ns : List Note) (p : Progress) → told k ns ≡ 0 → progress_told k ns p ≡ p
 none_told k [] p none = refl
 none_told k (n ∷ ns) p none = elim (cases_Bool (nat_eq n.owner k)) [
   | inl e ↦ absurd (let own = own_note k n.owner e in omega arith)
   | inr d ↦ ap (λ b. progress_told k ns (if b then Ended n.finish false else p)) d ∙ none_told k ns p (omega arith)
-]
-
-pub none_among : (k : ℕ) (ns : List Note) → told k ns ≡ 0 → end_among k ns ≡ None
-none_among k [] none = refl
-none_among k (n ∷ ns) none = elim (cases_Bool (nat_eq n.owner k)) [
-  | inl e ↦ absurd (let own = own_note k n.owner e in omega arith)
-  | inr d ↦ ap (λ b. if b then Some n.finish else end_among k ns) d ∙ none_among k ns (omega arith)
 ]
 
 -- where one is, it has ended so

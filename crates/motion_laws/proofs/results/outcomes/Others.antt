@@ -45,8 +45,7 @@ use Rattle.motion_laws.proofs.owners.Shown.{call_all_shown}
 use Rattle.motion_laws.proofs.owners.commands.Asked.{other_brings, other_brings_group}
 use Rattle.motion_laws.proofs.owners.commands.Events.{IsGood, OwnerLaws, ShownOf, event_shown, same_object}
 use Rattle.motion_laws.proofs.owners.commands.Freed.{beside_own}
-use Rattle.motion_laws.proofs.results.Commands.{beside}
-use Rattle.motion_laws.proofs.results.Events.{progress_in}
+use Rattle.motion_laws.proofs.results.Events.{beside, progress_in}
 use Rattle.motion_laws.proofs.results.outcomes.Cycles.{place_sized, there_sized}
 use Rattle.motion_laws.proofs.results.outcomes.Final.{OutcomeLaws, outcome}
 use Rattle.motion_laws.proofs.results.outcomes.Leaves.{Leaves, Spares, event_beside, event_where, leaves_before, leaves_behind, leaves_none, spares_more, spares_none, spares_of}
@@ -315,19 +314,25 @@ module _ (laws : OwnerLaws) (s : Setup) (k j : ℕ) (d : nat_eq j k ≡ false) w
       asking_affects o on b.kind (edge_of (instance_at m.instances j).execute i.execute) b i m refl h (within b refl) there
 
 -- a call of another instance
+pub call_affects : OutcomeLaws → (s : Setup) (m : Machine) (j k : ℕ) (i : Inputs) (o : Object) → AreWhole s → IsCall s j i →
+    IsMachineKept s m → AreWhereShown s m → IsThere m o → has_commands_on (slice_get s.blocks k) o ≡ true → nat_eq j k ≡ false →
+    Affects k o (effect_by_call s (slice_get s.blocks j) j i m o) m (called s j i m)
+unfolding called
+call_affects laws s m j k i o whole made kept h there on d =
+    let good : IsGood s m = record { sized = kept.sized; shown = h.commands } in
+    let within : (b : BlockDef) → slice_get s.blocks j ≡ Some b → b.object < (if acts_on_group b.kind then length s.groups else length s.axes) =
+    λ b at. (laws.owners.walk.may_call s j b i m whole at made kept).object in
+    where_affects laws.owners s k j d o on (slice_get s.blocks j) i m within good there
+
 pub call_outcome : OutcomeLaws → (s : Setup) (m : Machine) (j k : ℕ) (i : Inputs) (reply : Outputs) (o : Object) → AreWhole s → IsCall s j i →
     IsMachineKept s m → AreWhereShown s m → IsThere m o → has_commands_on (slice_get s.blocks k) o ≡ true → nat_eq j k ≡ false →
     progress_at (after_call s m j i) k ≡ progress_beside s m (call j i reply) k o
-unfolding called
 call_outcome laws s m j k i reply o whole made kept h there on d =
-    let good : IsGood s m = record { sized = kept.sized; shown = h.commands } in
     let x = called s j i m in
     let after = after_call s m j i in
-    let within : (b : BlockDef) → slice_get s.blocks j ≡ Some b → b.object < (if acts_on_group b.kind then length s.groups else length s.axes) =
-    λ b at. (laws.owners.walk.may_call s j b i m whole at made kept).object in
-    let affects = where_affects laws.owners s k j d o on (slice_get s.blocks j) i m within good there in
+    let effect = effect_by_call s (slice_get s.blocks j) j i m o in
     let last = set_spares k j o x (instance.shown (instance_at x.instances j)) d in
     let now = laws.owners.walk.machines.call s m j i whole made kept in
-    outcome laws k _ _ _ _ _
-    (shown_by s k o _ m x after on there (there_sized s m after o kept.sized now.sized there) h (call_all_shown laws.owners s m j i whole made kept h)
-    affects last.charge (λ none. last.progress))
+    outcome laws k effect.commands effect.changes _ _ _
+    (shown_by s k o effect m x after on there (there_sized s m after o kept.sized now.sized there) h (call_all_shown laws.owners s m j i whole made kept h)
+    (call_affects laws s m j k i o whole made kept h there on d) last.charge (λ none. last.progress))
