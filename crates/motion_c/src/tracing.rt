@@ -147,11 +147,7 @@ fn end_of(cycles: u32, answer: &DriveIn) -> DriveEndRow
 }
 
 // What the drives took, by their last answers.
-fn ends(
-    alloc: Global,
-    cycles: u32,
-    answers: &[DriveIn],
-) -> Result<Vec<DriveEndRow>, AllocError>
+fn ends(alloc: Global, cycles: u32, answers: &[DriveIn]) -> Result<Vec<DriveEndRow>, AllocError>
     ensures { IfOk result (λ v. v.items ≡ map (end_of_drive cycles) answers.now) }
 {
     answers
