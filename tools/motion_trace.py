@@ -21,6 +21,7 @@ from typing import Callable, NamedTuple, Optional
 
 LONGEST_LINE = 1 << 18      # characters; a cam table of 4,096 points has less
 SECONDS_OF_SILENCE = 2.0    # between two lines of progress
+MOST_CHECKED = 1 << 28      # bytes of a trace that `motion check` takes
 
 AXIS_STATES = ("Disabled", "Standstill", "Homing", "Stopping", "DiscreteMotion",
                "ContinuousMotion", "SynchronizedMotion", "ErrorStop")
@@ -412,8 +413,9 @@ def names_told(kind, item, machine):
 
 def lines_of(name, progress=sys.stderr):
     """The lines of a file, or of the standard input where the name is `-`. Where reading takes
-    longer than two seconds, what was read so far is told on `progress` every two seconds. Raises
-    ReadFault where the file can't be read, TraceError where a line is too long for any record."""
+    longer than two seconds, what was read so far is told on `progress` every two seconds; of a file
+    that is longer than `motion check` takes it is told at once. Raises ReadFault where the file can't
+    be read, TraceError where a line is too long for any record."""
     try:
         source = 0 if name == "-" else name
         with open(source, encoding="utf-8-sig", errors="surrogateescape", newline="") as file:
@@ -425,6 +427,8 @@ def lines_of(name, progress=sys.stderr):
 def bounded_lines(file, name, progress):
     """The lines of an open file, with its progress."""
     total = os.fstat(file.fileno()).st_size
+    if total > MOST_CHECKED:
+        print(f"{name}: more than 256 MiB, which motion check refuses as too long", file=progress)
     told, read, count = time.monotonic(), 0, 0
     while line := file.readline(LONGEST_LINE):
         count += 1

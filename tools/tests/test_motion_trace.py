@@ -21,6 +21,20 @@ def unseen(text):
     return text.replace("axis,A", 'axis,"A"').replace("\n", "\r\n").replace("call", "\r\ncall")
 
 
+class Lengths(unittest.TestCase):
+
+    def test_a_trace_that_is_too_long_for_the_check_says_so(self):
+        for length, told in ((motion_trace.MOST_CHECKED, ""),
+                             (motion_trace.MOST_CHECKED + 1, "more than 256 MiB")):
+            with tempfile.NamedTemporaryFile(suffix=".trace") as file:
+                file.write(FIRST_MOVE.read_bytes())
+                file.truncate(length)
+                progress = io.StringIO()
+                self.assertEqual(next(lines_of(file.name, progress))[:5], "kind,")
+                self.assertIn(told, progress.getvalue())
+                self.assertEqual(bool(told), bool(progress.getvalue()))
+
+
 class Reading(unittest.TestCase):
 
     def test_machine_of_version_1(self):

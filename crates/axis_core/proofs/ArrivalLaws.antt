@@ -53,7 +53,7 @@ use Rattle.axis_core.specs.declared.look.AxisLook.{AxisLook}
 use Rattle.axis_core.specs.declared.progress.Progress.{Progress}
 use Rattle.axis_core.specs.declared.reason.Reason.{Reason}
 use Rattle.axis_core.proofs.KeptCycles.{all-three, driven-without-error}
-use Rattle.axis_core.proofs.FateLaws.{queued-later}
+use Rattle.buffer_modes.proofs.Queue.{later_active}
 use Rattle.axis_core.proofs.KeptMoves.{eq-of, kept-of}
 use Rattle.axis_core.proofs.KeptRows.{Place, place-ended_by}
 use Rattle.axis_core.proofs.KeptRanges.{rates-of}
@@ -464,7 +464,7 @@ carried-joined : (n : ℕ) (course : Course) (b : Bool) (w : Wanted) (c : Core) 
     (if b then record (core_with_queued w c) { axis = axis_under w (core_with_queued w c).axis } else core_with_queued w c).axis
 carried-joined n course true w c h u = aborted-turn n course c.axis.active (Some w) u.command _ u.active
 carried-joined n course false w c h u =
-    still n course c.axis (core_with_queued w c).axis (record { limits = refl; previous = refl; setpoint = refl; active = queued-later (is_aborting w.mode) c.axis.active c.waiting w h }) u
+    still n course c.axis (core_with_queued w c).axis (record { limits = refl; previous = refl; setpoint = refl; active = later_active (is_aborting w.mode) c.axis.active c.waiting w h }) u
 
 carried-admitted : (n : ℕ) (course : Course) (k : BlockKind) (w : Wanted) (c : Core) → IsUnderWay n course c.axis →
     Carried n 0 course (turn_of (admitted_fate k w c)) (core_after_admission k w c).axis

@@ -42,7 +42,7 @@ use Rattle.axis_core.specs.declared.look.AxisLook.{AxisLook}
 use Rattle.axis_core.specs.declared.reason.Reason.{Reason}
 use Rattle.axis_core.proofs.ArrivalLaws.{AreAlike, active-runs, advances-by, ending-move, followed-move, move-within, progress_at, same-int}
 use Rattle.axis_core.proofs.DoneLaws.{IsTested, by-cycle, takes-step, where-applies}
-use Rattle.axis_core.proofs.FateLaws.{queued-later}
+use Rattle.buffer_modes.proofs.Queue.{later_active}
 use Rattle.axis_core.proofs.KeptMoves.{kept-of}
 use Rattle.axis_core.proofs.KeptCycles.{on-place}
 use Rattle.axis_core.proofs.KeptRanges.{rates-of}
@@ -105,7 +105,7 @@ blending-joined n false w c h u = record {
   left = n;
   sum = omega arith;
   under_way = blending-alike n c.axis (core_with_queued w c).axis c.waiting (core_with_queued w c).waiting
-      (record { limits = refl; previous = refl; setpoint = refl; active = queued-later (is_aborting w.mode) c.axis.active c.waiting w h }) u
+      (record { limits = refl; previous = refl; setpoint = refl; active = later_active (is_aborting w.mode) c.axis.active c.waiting w h }) u
       (second-queued (is_aborting w.mode) c.axis.active c.waiting w u.first u.second h u.next);
 }
 

@@ -38,9 +38,9 @@ use Rattle.buffer_modes.specs.declared.reset.PendingReset.{PendingReset}
 use Rattle.axis_core.specs.declared.look.AxisLook.{AxisLook}
 use Rattle.axis_core.specs.declared.progress.Progress.{Progress}
 use Rattle.axis_core.specs.declared.reason.Reason.{Reason}
-use Rattle.axis_core.proofs.ChangeLaws.{by-made}
-use Rattle.axis_core.proofs.FateLaws.{followed-active, queued-later}
+use Rattle.buffer_modes.proofs.Queue.{later_active}
 use Rattle.axis_core.proofs.KeptCycles.{answered-kept}
+use Rattle.axis_core.proofs.ShownKept.{active-followed, by-made}
 
 -- where a command of its own leads the axis, or nothing does
 record IsLed (a : Axis) : Type 0 where
@@ -149,7 +149,7 @@ steps w [] look c (Ok step) e f p n =
     lasts-or (lasts c.axis.state) (λ l. let q : is_plain (ending_by w.kind c.axis w None step look) ≡ false = ap is_plain (goes-on w.kind c.axis.state c.axis w step look f l) in cc)
 
 active-made : (k : BlockKind) (t : ℤ) (a : Axis) (made : Result Progress ℕ) → (advance_by_progress k t a made).axis.active ≡ a.active
-active-made k t a (Ok p) = followed-active k t p a
+active-made k t a (Ok p) = active-followed k t p a
 active-made k t a (Err n) = refl
 
 by-command : (o : Option Wanted) (look : AxisLook) (c : Core) → c.axis.active ≡ o → IsCoreKept c →
@@ -268,7 +268,7 @@ failed-led look c k loud =
 joins : (b : Bool) (w : Wanted) (c : Core) → is_active_at_once (queue_in c) w ≡ b →
     StaysLed c.axis (if b then record (core_with_queued w c) { axis = axis_under w (core_with_queued w c).axis } else core_with_queued w c).axis
 joins true w c h = from-led c.axis _ (begins w (core_with_queued w c).axis)
-joins false w c h = as-before c.axis _ refl (ap is_some (queued-later (is_aborting w.mode) c.axis.active c.waiting w h))
+joins false w c h = as-before c.axis _ refl (ap is_some (later_active (is_aborting w.mode) c.axis.active c.waiting w h))
 
 admits : (k : BlockKind) (w : Wanted) (c : Core) → StaysLed c.axis (core_after_admission k w c).axis
 unfolding axis_under_by

@@ -15,14 +15,10 @@ pub mod MayAdmit
 pub mod KeptCommands
 pub mod KeptPowers
 pub mod ShownKept
-pub mod FateLaws
-pub mod ToldLaws
 pub mod ArrivalLaws
 pub mod DoneLaws
 pub mod BlendedLaws
-pub mod ChangeLaws
 pub mod LedLaws
-pub mod WaitingLaws
 pub mod MotionLaws
 pub mod StandingLaws
 pub mod OneStep

@@ -106,6 +106,15 @@ pub state-followed : (k : BlockKind) (t : ℤ) (p : Progress) (a : Axis) → (ax
 state-followed kind.Home t p a = refl
 state-followed _ t p a = refl
 
+pub active-followed : (k : BlockKind) (t : ℤ) (p : Progress) (a : Axis) → (axis_after_progress k t p a).active ≡ a.active
+active-followed kind.Home t p a = refl
+active-followed _ t p a = refl
+
+-- an axis that advances by its command keeps its state
+pub by-made : (k : BlockKind) (t : ℤ) (a : Axis) (made : Result Progress ℕ) → (advance_by_progress k t a made).axis.state ≡ a.state
+by-made k t a (Ok p) = state-followed k t p a
+by-made k t a (Err n) = refl
+
 shown-followed : (k : BlockKind) (t : ℤ) (p : Progress) (a : Axis) → IsShown a → IsShown (axis_after_progress k t p a)
 shown-followed kind.Home t p a h = h
 shown-followed _ t p a h = h

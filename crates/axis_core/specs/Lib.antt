@@ -19,6 +19,5 @@ pub mod Fates
 pub mod Owners
 pub mod Arrivals
 pub mod Blended
-pub mod Changes
 pub mod Led
 pub mod Motions

@@ -1,21 +1,17 @@
 // Laws of an axis: each is the contract of a function that does nothing.
 
-ghost use Rattle.std.specs.Prelude.{◌≡◌, ◌↔◌, ◌+ℤ◌, ◌≤◌, ◌⊎◌, length, IsTrue, None, ℤ, [], ℕ, Bool, true, nat_eq};
-ghost use Rattle.buffer_modes.specs.Owners.{IsSame};
+ghost use Rattle.std.specs.Prelude.{◌≡◌, ◌↔◌, ◌+ℤ◌, ◌⊎◌, IsTrue, None, ℤ, [], ℕ, Bool, true, nat_eq};
 ghost use Rattle.command_pool.specs.declared.wanted.Wanted.{Wanted};
 ghost use Rattle.axis_core.specs.AxisKept.{IsAxisDef, IsCoreKept, IsLook};
-ghost use Rattle.axis_core.specs.Changes.{GoesBy};
 ghost use Rattle.axis_core.specs.Calls.{core_after_command, axis_without_owner, core_after_power};
 ghost use Rattle.axis_core.specs.Cores.{Core};
 ghost use Rattle.axis_core.specs.Cycles.{core_after_cycle, axis_at_opening, row_shown};
 ghost use Rattle.axis_core.specs.Demands.{IsMade, asked_in};
-ghost use Rattle.axis_core.specs.Fates.{command_fate, power_fate, cycle_fate};
 ghost use Rattle.axis_core.specs.Led.{HasCommand, StaysLed};
 ghost use Rattle.axis_core.specs.Drives.{answer_error_of};
 ghost use Rattle.axis_core.specs.Steps.{is_safe_step, taken_step_in};
 ghost use Rattle.axis_state.specs.declared.state.AxisState.TheVariants as state;
 ghost use Rattle.kin_core.specs.Admissible.{AreLimits, IsKept, IsSafe, IsTakenStep};
-ghost use Rattle.buffer_modes.specs.Fates.{IsFate, TellsOwner};
 ghost use Rattle.axis_core.specs.Owners.{core_without_owner};
 ghost use Rattle.axis_core.specs.Refusals.{Asked};
 ghost use Rattle.axis_core.specs.Rows.{KeepsSpell, Stays};
@@ -28,9 +24,6 @@ ghost use Rattle.axis_core.specs.declared.axis.Axis.{Axis};
 
 use axis_state::{
     counts_are_read_back, homing_keeps_counts, offsets_are_small, setpoints_have_counts,
-};
-use buffer_modes::{
-    ends_tell_their_owners, fates_are_of_the_active_command, owners_are_taken_away,
 };
 use kin_core::{braking_steps_are_only_cut, standing_is_kept, taken_steps_keep};
 
@@ -87,35 +80,6 @@ pub fn errors_stand_in_error_stop()
         IsShown (core_after_cycle look c).axis }
 {}
 
-/// A fate is what becomes of the active command of an axis: by a command that is asked, a Power, an
-/// owner that is taken away, a group's path and a cycle.
-pub fn fates_are_told()
-    ensures command { (q : Asked) (c : Core) →
-        IsFate (command_fate q c) c.axis.active (core_after_command q c).axis.active }
-    ensures power { (enable : Bool) (c : Core) →
-        IsFate (power_fate enable c) c.axis.active (core_after_power enable c).axis.active }
-    ensures detach { (owner : ℕ) (a : Axis) → IsSame a.active (axis_without_owner owner a).active }
-    ensures path { (on : Bool) (a : Axis) → (axis_on_path on a).active ≡ a.active }
-    ensures cycle { (look : AxisLook) (c : Core) →
-        IsFate (cycle_fate look c) c.axis.active (core_after_cycle look c).axis.active }
-{
-    fates_are_of_the_active_command();
-    owners_are_taken_away();
-}
-
-/// The owner of the active command is told how it ends, by a command that is asked, a Power and a
-/// cycle.
-pub fn ends_are_told()
-    ensures told_command { (q : Asked) (c : Core) →
-        TellsOwner (command_fate q c) c.axis.active (core_after_command q c).notes }
-    ensures told_power { (enable : Bool) (c : Core) →
-        TellsOwner (power_fate enable c) c.axis.active (core_after_power enable c).notes }
-    ensures told_cycle { (look : AxisLook) (c : Core) →
-        TellsOwner (cycle_fate look c) c.axis.active (core_after_cycle look c).notes }
-{
-    ends_tell_their_owners();
-}
-
 /// The taken step is the safe step nearest to the wanted one, and a step is safe exactly where it
 /// is taken as it is wanted: so is the place of a cam that is InSync.
 pub fn steps_are_safe()
@@ -136,30 +100,6 @@ pub fn standing_axes_stay()
         (core_after_cycle look c).axis.state ≡ state.Standstill }
 {}
 
-/// Every change of state is by the diagram: a call takes at most one of its rows, a cycle at most
-/// three, one after another, each from a state of its row; an owner that is taken away changes
-/// none.
-pub fn states_change_by_the_diagram()
-    ensures command { (c : Core) (number : ℕ) (w : Wanted) (jerk : ℤ) (held : Bool) (tables : ℕ) →
-        IsCoreKept c → IsMade w →
-        GoesBy 1 c.axis.state (core_after_command
-        (asked_in c number w jerk held tables) c).axis.state }
-    ensures power { (enable : Bool) (c : Core) →
-        GoesBy 1 c.axis.state (core_after_power enable c).axis.state }
-    ensures path { (on : Bool) (a : Axis) → GoesBy 1 a.state (axis_on_path on a).state }
-    ensures detach { (owner : ℕ) (a : Axis) → (axis_without_owner owner a).state ≡ a.state }
-    ensures cycle { (look : AxisLook) (c : Core) → IsCoreKept c → IsLook c.axis look →
-        GoesBy 3 c.axis.state (core_after_cycle look c).axis.state }
-{
-    taken_steps_keep();
-    braking_steps_are_only_cut();
-    standing_is_kept();
-    setpoints_have_counts();
-    homing_keeps_counts();
-    counts_are_read_back();
-    offsets_are_small();
-}
-
 /// An axis in a state of a command that moves it has an active command, and it comes on its group's
 /// path by `on_path` alone.
 pub fn moving_axes_have_commands()
@@ -170,11 +110,4 @@ pub fn moving_axes_have_commands()
     ensures path { (on : Bool) (a : Axis) → HasCommand a → HasCommand (axis_on_path on a) }
     ensures cycle { (look : AxisLook) (c : Core) → IsCoreKept c →
         StaysLed c.axis (core_after_cycle look c).axis }
-{}
-
-/// Where at most eight commands wait for an axis, at most eight do after a command that is asked.
-pub fn at_most_eight_wait()
-    ensures command { (c : Core) (number : ℕ) (w : Wanted) (jerk : ℤ) (held : Bool) (tables : ℕ) →
-        IsCoreKept c → IsMade w → length c.waiting ≤ 8 →
-        length (core_after_command (asked_in c number w jerk held tables) c).waiting ≤ 8 }
 {}

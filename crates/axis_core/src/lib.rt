@@ -39,9 +39,8 @@ pub use course_laws::{
     moves_go_on_by_their_steps,
 };
 pub use laws::{
-    at_most_eight_wait, axes_stay_kept, calls_move_no_axis, ends_are_told,
-    errors_stand_in_error_stop, fates_are_told, moving_axes_have_commands, standing_axes_stay,
-    states_change_by_the_diagram, steps_are_safe,
+    axes_stay_kept, calls_move_no_axis, errors_stand_in_error_stop, moving_axes_have_commands,
+    standing_axes_stay, steps_are_safe,
 };
 pub use look::{ActiveLook, AxisLook};
 pub use one_axis::AxisCore;

@@ -4,7 +4,7 @@ use Rattle.std.proofs.Common.{◌∙◌, sym, ap, subst}
 use Rattle.bench_run.specs.Going.{run_at}
 use Rattle.bench_run.specs.InStep.{IsInStep}
 use Rattle.bench_run.specs.LegalRun.{IsLegalRun}
-use Rattle.bench_run.specs.Run.{Run, run_of}
+use Rattle.bench_run.specs.Run.{Run, drive_ends, run_of}
 use Rattle.bench_run.specs.declared.bench.RunFault.{RunFault}
 use Rattle.bench_text.specs.BenchState.{BenchState, BrakesAsItSpeedsUp, IsBench}
 use Rattle.bench_text.specs.Reading.{ReadsBy, bench_of}
@@ -30,7 +30,7 @@ use Rattle.trace_text.specs.declared.writing.write.TraceFault.{TraceFault}
 use Rattle.bench_job.specs.Again.{IsTracedRun, ReadsAgain}
 use Rattle.bench_job.specs.Ends.{EndsByBench}
 use Rattle.bench_job.specs.Headline.{RunsBy}
-use Rattle.bench_job.specs.Plans.{bench_plan, drive_ends, plan_of_bench, status_of}
+use Rattle.bench_job.specs.Plans.{bench_plan, plan_of_bench, status_of}
 use Rattle.bench_job.proofs.CauseLaws.{ends-for}
 use Rattle.bench_job.proofs.HeadlineLaws.{headline-of}
 

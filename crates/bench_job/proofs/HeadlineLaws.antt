@@ -2,7 +2,7 @@
 use Rattle.std.specs.Prelude.{◌≡◌, refl, ℕ, true, false, Option, Result, Ok, Err, List, map}
 use Rattle.std.proofs.Common.{◌∙◌, sym, ap}
 use Rattle.bench_run.specs.InStep.{IsInStep}
-use Rattle.bench_run.specs.Run.{run_of}
+use Rattle.bench_run.specs.Run.{drive_ends, run_of}
 use Rattle.bench_text.specs.BenchState.{BenchState}
 use Rattle.bench_text.specs.Reading.{bench_of}
 use Rattle.job_ends.specs.Causes.{is_traced}
@@ -17,7 +17,7 @@ use Rattle.motion_history.specs.declared.refused.TextRefused.{TextRefused}
 use Rattle.outside.specs.Told.{FileMap, HasFile}
 use Rattle.trace_text.specs.writing.Writes.{Output}
 use Rattle.bench_job.specs.Headline.{Headline, RunsBy}
-use Rattle.bench_job.specs.Plans.{bench_plan, drive_ends, plan_of_bench}
+use Rattle.bench_job.specs.Plans.{bench_plan, plan_of_bench}
 
 -- a bench that was run
 read-headline : FollowPlans → ((b : BenchState) → IsInStep b) → (name text : List ℕ)

@@ -1,28 +1,23 @@
 -- What a kernel keeps of a bench can be held by a trace.
-use Rattle.std.proofs.Common.{◌≡◌, ℕ, ◌+◌, ◌-◌, ◌*◌, ◌^◌, ◌<◌, ◌≤◌, ℤ, List, [], ◌∷◌, length, map, refl, ap, ◌∙◌, subst, arith, FitsSigned, w64}
-use Rattle.std.specs.Prelude.{pos, neg_ℤ, ◌-ℤ◌, ◌≤ℤ◌, unsigned_abs, All}
+use Rattle.std.proofs.Common.{◌≡◌, ℕ, ◌+◌, ◌-◌, ◌<◌, ◌≤◌, List, [], ◌∷◌, length, map, refl, ap, ◌∙◌, subst, arith}
+use Rattle.std.specs.Prelude.{All}
 use Rattle.std.specs.List.{AllByRecursion, AllZip}
-use Rattle.std.proofs.lemmas.Int.{ints}
 use Rattle.std.proofs.lemmas.List.{length-drop, length-map, length-replicate, length-take}
 use Rattle.std.proofs.lemmas.List.Elements.{All-from_recursion, recursion_from_All}
-use Rattle.axis_state.specs.Counts.{HasCounts, IsCount, place_of}
+use Rattle.axis_state.specs.Counts.{IsCount}
 use Rattle.axis_state.specs.declared.definition.AxisDef.{AxisDef}
 use Rattle.axis_state.specs.declared.definition.AxisRow.{AxisRow}
 use Rattle.bench_text.specs.BenchState.{BenchState, IsBench}
 use Rattle.drive_sim.specs.Sim.{DriveSim}
 use Rattle.group_state.specs.declared.state.GroupRow.{GroupRow}
 use Rattle.machine_drives.specs.Drives.{drive_end}
-use Rattle.kin_core.specs.declared.limits.Limits.{Limits}
-use Rattle.motion_history.specs.AxisRanges.{AreAxisRanges}
 use Rattle.motion_history.specs.Bits.{HasBits, HasGroupRowBits, HasRowBits}
-use Rattle.motion_history.specs.Configurations.{IsSound}
 use Rattle.motion_history.specs.Entries.{Entry, call, cycle, cycle_count, cycles_of, end_of}
 use Rattle.motion_history.specs.Members.{IsGroup, members_of}
 use Rattle.motion_history.specs.Setup.{IsSetup, Setup}
 use Rattle.motion_history.specs.declared.config.GroupDef.{GroupDef}
 use Rattle.motion_history.specs.declared.refused.TraceVersion.{TraceVersion}
 use Rattle.motion_history.specs.declared.sizes.TheConstants.{MOST_MEMBERS}
-use Rattle.motion_numbers.specs.declared.TheConstants.{MOST_INCREMENT, MOST_PLACE}
 use Rattle.motion_kernel.proofs.cycles.Rows.{grow_count}
 use Rattle.motion_kernel.proofs.kept.Machine.{MachinesStayKept, kept_by_cycle}
 use Rattle.motion_kernel.specs.Counted.{IsCounted, RowsAreCounted}
@@ -33,52 +28,23 @@ use Rattle.motion_kernel.specs.KernelState.{KernelState}
 use Rattle.motion_kernel.specs.Machine.{Machine, machine_at_opening}
 use Rattle.motion_kernel.specs.kept.Machine.{AreWhole, IsMachineKept}
 use Rattle.trace_text.specs.ReadBack.{TracesAreReadBack}
-use Rattle.trace_text.specs.RowRanges.{IsDriveEnd, IsGroupRow, IsReported}
+use Rattle.trace_text.specs.RowRanges.{IsDriveEnd, IsGroupRow}
 use Rattle.trace_text.specs.Trace.{CanHold}
 use Rattle.trace_text.specs.Writable.{IsHeld, IsMachine, IsRowOf, IsWritable, IsWritableCall, IsWritableCycle}
 use Rattle.trace_text.specs.declared.command.Command.TheVariants.{Bench}
 use Rattle.bench_job.specs.Again.{ReadsAgain}
 use Rattle.bench_job.proofs.EndLaws.{can-hold}
 
--- the offset of an axis is small
-abbrev pub OffsetsAreSmall : Type 0
-OffsetsAreSmall = (limits : Limits) (offset inc : ℤ) → pos 1 ≤ℤ inc → inc ≤ℤ pos MOST_INCREMENT →
-    neg_ℤ (pos MOST_PLACE) ≤ℤ limits.lo → limits.lo ≤ℤ limits.hi → limits.hi ≤ℤ pos MOST_PLACE →
-    HasCounts limits offset inc → unsigned_abs offset ≤ MOST_PLACE + 2 ^ 31 * MOST_INCREMENT
-
--- the place of a count lies near the offset
-abbrev pub PlacesAreNear : Type 0
-PlacesAreNear = (lo count offset inc : ℤ) → pos 1 ≤ℤ inc → inc ≤ℤ pos MOST_INCREMENT →
-    IsCount count →
-    unsigned_abs (place_of lo count offset inc -ℤ offset) ≤ (2 ^ 31 + 1) * MOST_INCREMENT
-
 -- the laws of the layers below
 pub record Laws : Type 0 where
-  pub offsets : OffsetsAreSmall
-  pub near : PlacesAreNear
-  pub sound : (s : Setup) → IsSetup s → IsSound s
   pub counted : (s : Setup) (es : List Entry) → IsSetup s → AreWhole s → IsLegal s es →
       RowsAreCounted s es
   pub machines : MachinesStayKept
 
 -- ---- rows
 
-near-small : (place offset : ℤ) → unsigned_abs (place -ℤ offset) ≤ 2147483649000000000 →
-    unsigned_abs offset ≤ 2148483648000000000 → FitsSigned w64 place
-near-small place offset near small = omega (arith, ints, near, small)
-
--- the place that a drive reports has 64 bits
-reported : Laws → (d : AxisDef) (r : AxisRow) → AreAxisRanges d → IsCounted d r → IsReported d r
-reported g d r ranges counted =
-    near-small (place_of d.limits.lo r.input.actual r.offset d.inc) r.offset
-    (g.near d.limits.lo r.input.actual r.offset d.inc ranges.least ranges.most counted.reported)
-    (g.offsets d.limits r.offset d.inc ranges.least ranges.most
-    (let l = ranges.limits.lo_in_range in omega (arith, ints, l)) ranges.limits.ordered ranges.top
-    counted.places)
-
-row-held : Laws → (d : AxisDef) (r : AxisRow) → AreAxisRanges d → HasRowBits r → IsCounted d r →
-    IsRowOf d r
-row-held g d r ranges h counted = record {
+row-held : (d : AxisDef) (r : AxisRow) → HasRowBits r → IsCounted d r → IsRowOf d r
+row-held d r h counted = record {
   row = record {
     statusword = h.statusword;
     actual_least = h.actual_least;
@@ -92,16 +58,15 @@ row-held g d r ranges h counted = record {
     target_least = h.target_least;
     target_most = h.target_most;
   };
-  place = reported g d r ranges counted;
+  place = counted.place;
 }
 
-rows-held : Laws → (ds : List AxisDef) (rs : List AxisRow) → AllByRecursion AreAxisRanges ds →
-    AllByRecursion HasRowBits rs → AllZip IsCounted ds rs → AllZip IsRowOf ds rs
-rows-held g [] [] a h c = c
-rows-held g [] (r ∷ rs) a h c = c
-rows-held g (d ∷ ds) [] a h c = c
-rows-held g (d ∷ ds) (r ∷ rs) a h c =
-    (row-held g d r a.0 h.0 c.0, rows-held g ds rs a.1 h.1 c.1)
+rows-held : (ds : List AxisDef) (rs : List AxisRow) → AllByRecursion HasRowBits rs →
+    AllZip IsCounted ds rs → AllZip IsRowOf ds rs
+rows-held [] [] h c = c
+rows-held [] (r ∷ rs) h c = c
+rows-held (d ∷ ds) [] h c = c
+rows-held (d ∷ ds) (r ∷ rs) h c = (row-held d r h.0 c.0, rows-held ds rs h.1 c.1)
 
 groups-held : (rs : List GroupRow) → AllByRecursion HasGroupRowBits rs →
     AllByRecursion IsGroupRow rs
@@ -111,16 +76,15 @@ groups-held (r ∷ rs) h = (record { error = h.0.error }, groups-held rs h.1)
 -- ---- entries
 
 -- a cycle of the machine, with numbers of their bits
-cycle-held : Laws → (s : Setup) (cycles n : ℕ) (m : Machine) (rows : List AxisRow)
-    (grows : List GroupRow) → IsSetup s → IsMachineKept s m → n ≡ cycles + 1 → n < 4294967296 →
+cycle-held : (s : Setup) (cycles n : ℕ) (m : Machine) (rows : List AxisRow)
+    (grows : List GroupRow) → IsMachineKept s m → n ≡ cycles + 1 → n < 4294967296 →
     IsCycleOf s m rows grows → HasBits (cycle n rows grows) → AllZip IsCounted s.axes rows →
     IsWritableCycle s n rows grows
-cycle-held g s cycles n m rows grows setup kept number few is bits counted =
+cycle-held s cycles n m rows grows kept number few is bits counted =
     let sizes = kept.sized in record {
       some = omega (arith, number);
       few = few;
-      axes = rows-held g s.axes rows
-          (recursion_from_All AreAxisRanges s.axes (g.sound s setup).axes) bits.0 counted;
+      axes = rows-held s.axes rows bits.0 counted;
       as_many = ap length is.groups ∙ grow_count s m (inputs_of rows) ∙ sizes.groups;
       group_rows = All-from_recursion IsGroupRow grows (groups-held grows bits.1);
     }
@@ -130,11 +94,11 @@ later-counted : (s : Setup) (e : Entry) (es : List Entry) → RowsAreCounted s (
 later-counted s e es h =
     λ made more n rows grows is. h (e ∷ made) more n rows grows (ap (λ l. e ∷ l) is)
 
-entries-held : Laws → (s : Setup) (cycles : ℕ) (m : Machine) (es : List Entry) → IsSetup s →
+entries-held : Laws → (s : Setup) (cycles : ℕ) (m : Machine) (es : List Entry) →
     AreWhole s → IsMachineKept s m → Follows s cycles m es → AllByRecursion HasBits es →
     RowsAreCounted s es → cycles + cycles_of es < 4294967296 → AllByRecursion (IsWritable s) es
-entries-held g s cycles m [] setup whole kept f bits counted few = tt
-entries-held g s cycles m (call k i reply ∷ es) setup whole kept f bits counted few =
+entries-held g s cycles m [] whole kept f bits counted few = tt
+entries-held g s cycles m (call k i reply ∷ es) whole kept f bits counted few =
     let total : cycles + (0 + cycles_of es) < 4294967296 = few in
     let later : (cycles + 0) + cycles_of es < 4294967296 = omega (arith, total) in
     let here : IsWritableCall s k i reply = record {
@@ -144,27 +108,27 @@ entries-held g s cycles m (call k i reply ∷ es) setup whole kept f bits counte
       error = bits.0.error;
     } in (
       here,
-      entries-held g s (cycles + cycle_count (call k i reply)) (after_call s m k i) es setup
+      entries-held g s (cycles + cycle_count (call k i reply)) (after_call s m k i) es
           whole (g.machines.call s m k i whole f.0.0 kept) f.1 bits.1
           (later-counted s (call k i reply) es counted) later,
     )
-entries-held g s cycles m (cycle n rows grows ∷ es) setup whole kept f bits counted few =
+entries-held g s cycles m (cycle n rows grows ∷ es) whole kept f bits counted few =
     let total : cycles + (1 + cycles_of es) < 4294967296 = few in
     let later : (cycles + 1) + cycles_of es < 4294967296 = omega (arith, total) in
     let number : n ≡ cycles + 1 = f.0.0 in
     let small : n < 4294967296 = omega (arith, number, later) in (
-      cycle-held g s cycles n m rows grows setup kept number small f.0.1 bits.0
+      cycle-held s cycles n m rows grows kept number small f.0.1 bits.0
           (counted [] es n rows grows refl),
       entries-held g s (cycles + cycle_count (cycle n rows grows))
-          (after_cycle s m (inputs_of rows)) es setup whole
+          (after_cycle s m (inputs_of rows)) es whole
           (kept_by_cycle g.machines s m rows grows kept f.0.1) f.1 bits.1
           (later-counted s (cycle n rows grows) es counted) later,
     )
-entries-held g s cycles m (end_of task ∷ es) setup whole kept f bits counted few =
+entries-held g s cycles m (end_of task ∷ es) whole kept f bits counted few =
     let total : cycles + (0 + cycles_of es) < 4294967296 = few in
     let later : (cycles + 0) + cycles_of es < 4294967296 = omega (arith, total) in (
       f.0,
-      entries-held g s (cycles + cycle_count (end_of task)) m es setup whole kept f.1 bits.1
+      entries-held g s (cycles + cycle_count (end_of task)) m es whole kept f.1 bits.1
           (later-counted s (end_of task) es counted) later,
     )
 
@@ -226,7 +190,7 @@ run-held g v s es drives told version many bits =
       machine = machine-held s told.setup told.whole;
       version = version;
       entries = All-from_recursion (IsWritable s) es
-          (entries-held g s 0 (machine_at_opening s) es told.setup told.whole
+          (entries-held g s 0 (machine_at_opening s) es told.whole
           (g.machines.opened s told.setup told.whole) told.legal.follows
           (recursion_from_All HasBits es told.bits)
           (g.counted s es told.setup told.whole told.legal) (omega (arith, bounded)));

@@ -1,7 +1,7 @@
 -- What is read of the trace of a bench. This project's profile.
 use Rattle.std.specs.Prelude.{◌≡◌, Ok, List}
 use Rattle.bench_run.specs.LegalRun.{IsLegalRun}
-use Rattle.bench_run.specs.Run.{run_of}
+use Rattle.bench_run.specs.Run.{drive_ends, run_of}
 use Rattle.bench_text.specs.BenchState.{BenchState}
 use Rattle.motion_history.specs.Entries.{Entry}
 use Rattle.trace_text.specs.reading.Reading.{trace_of}
@@ -9,7 +9,6 @@ use Rattle.trace_text.specs.Trace.{trace_text}
 use Rattle.trace_text.specs.Writable.{found_trace}
 use Rattle.trace_text.specs.declared.command.Command.TheVariants.{Bench}
 use Rattle.trace_text.specs.declared.drive_end.DriveEndRow.{DriveEndRow}
-use Rattle.bench_job.specs.Plans.{drive_ends}
 
 -- the trace of a bench with this history and these drives is read as that of its machine, the
 -- history and the drives

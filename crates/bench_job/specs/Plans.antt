@@ -1,6 +1,6 @@
 -- What a bench leads to. This project's profile.
-use Rattle.std.specs.Prelude.{ℕ, Result, Ok, Err, List, map}
-use Rattle.bench_run.specs.Run.{Run, run_of}
+use Rattle.std.specs.Prelude.{ℕ, Result, Ok, Err, List}
+use Rattle.bench_run.specs.Run.{drive_ends, run_of}
 use Rattle.bench_run.specs.declared.bench.RunFault.{RunFault}
 use Rattle.bench_run.specs.declared.bench.RunFault.TheVariants.{CyclesOver, HistoryFull}
 use Rattle.bench_text.specs.BenchState.{BenchState}
@@ -8,21 +8,14 @@ use Rattle.bench_text.specs.Reading.{bench_of}
 use Rattle.job_ends.specs.Plans.{Plan, plan_of_reading}
 use Rattle.job_ends.specs.declared.status.Status.{Status}
 use Rattle.job_ends.specs.declared.status.Status.TheVariants as status
-use Rattle.machine_drives.specs.Drives.{drive_end}
-use Rattle.motion_history.specs.Entries.{cycles_of}
 use Rattle.trace_text.specs.Trace.{trace_text}
 use Rattle.trace_text.specs.declared.command.Command.TheVariants as command
-use Rattle.trace_text.specs.declared.drive_end.DriveEndRow.{DriveEndRow}
 
 -- the status that a run ends with
 abbrev pub status_of : Result (Unit {0}) RunFault → Status
 status_of (Ok u) = status.Ok
 status_of (Err CyclesOver) = status.CyclesOver
 status_of (Err HistoryFull) = status.HistoryFull
-
--- what the drives took by the end of a run
-abbrev pub drive_ends : Run → List DriveEndRow
-drive_ends r = map (drive_end (cycles_of r.history)) r.drives
 
 -- the trace of a bench: that of its run, in the version of the bench
 abbrev pub bench_trace : BenchState → List ℕ

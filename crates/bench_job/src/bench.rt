@@ -14,13 +14,12 @@ ghost use Rattle.motion_history.specs.Entries.{cycles_of};
 ghost use Rattle.trace_text.specs.Trace.{trace_text};
 ghost use Rattle.trace_text.specs.writing.Writes.{Writes};
 
-use axis_state::{counts_are_read_back, offsets_are_small};
 use bench_run::{Ran, RunFault, run, runs_are_in_step};
 use bench_text::{Bench, read_bench};
 use drive_sim::Drive;
 use job_ends::{Status, ends_follow_plans, say_refused, status_by};
 use machine_drives::end_rows;
-use motion_history::{TextFault, configurations_are_sound};
+use motion_history::TextFault;
 use motion_kernel::{machines_stay_kept, rows_are_counted};
 use outside::Sink;
 use std::alloc::{AllocError, Global};
@@ -75,9 +74,6 @@ fn trace_is_read_again(bench: &Bench, ran: &Ran)
 {
     // law: the text of what a trace can hold is read back
     traces_are_read_back();
-    offsets_are_small();
-    counts_are_read_back();
-    configurations_are_sound();
     rows_are_counted();
     machines_stay_kept();
     let _ = bench.config();

@@ -1,12 +1,12 @@
 -- A run ends early for its cause alone.
-use Rattle.std.specs.Prelude.{◌≡◌, refl, ◌↔◌, ◌≤◌, ◌<◌, ◌-◌, ◌==◌, ◌&&◌, ℕ, true, false, Bool, if◌then◌else◌, Result, Ok, Err, List, [], ◌∷◌, ◌++◌, length}
+use Rattle.std.specs.Prelude.{◌≡◌, refl, ◌↔◌, ◌≤◌, ◌<◌, ◌-◌, ◌==◌, ◌&&◌, ℕ, true, false, Bool, if◌then◌else◌, Result, Ok, Err, List, [], ◌∷◌, length}
 use Rattle.std.proofs.Common.{◌∙◌, inl, inr, sym, ap, subst, arith}
 use Rattle.std.proofs.lemmas.Bool.{cases_lt, eqb-false, eqb-true}
 use Rattle.motion_history.specs.Entries.{Entry, cycles_of}
 use Rattle.motion_history.specs.Setup.{Setup}
 use Rattle.bench_run.proofs.RunLaws.{ended-stays, made-by, made_all-append}
 use Rattle.bench_run.specs.Endings.{EndsAt, IsFull, IsOver}
-use Rattle.bench_run.specs.Run.{Event, Run, a_call, a_cycle, an_end, cycled, happened, is_cycle, made, made_all, next_of, room_for, tried}
+use Rattle.bench_run.specs.Run.{Event, Run, a_call, a_cycle, an_end, cycled, happened, is_cycle, made, made_all, room_for}
 use Rattle.bench_run.specs.declared.bench.RunFault.{RunFault}
 use Rattle.bench_run.specs.declared.bench.RunFault.TheVariants.{CyclesOver, HistoryFull}
 
@@ -21,7 +21,7 @@ Why s h c CyclesOver = (c ≡ true) × (s.cycles ≤ cycles_of h)
 Why s h c HistoryFull = (s.entries ≤ length h) × (c ≡ true → cycles_of h < s.cycles)
 
 -- a cycle is left where the difference isn't 0
-left : (n m : ℕ) → (n - m ≡ 0 → ⊥) → m < n
+pub left : (n m : ℕ) → (n - m ≡ 0 → ⊥) → m < n
 left n m f = elim (cases_lt m n) [
   | inl l ↦ l
   | inr l ↦ absurd (f (omega (arith, l)))
@@ -31,7 +31,7 @@ left n m f = elim (cases_lt m n) [
 
 -- whether there is room for an event that is a cycle or isn't, where no cycle is left or one is, and
 -- where the history is full or isn't
-abbrev room_by : Bool → Bool → Bool → Result (Unit {0}) RunFault
+abbrev pub room_by : Bool → Bool → Bool → Result (Unit {0}) RunFault
 room_by c over full =
     if c && over then Err CyclesOver else if full then Err HistoryFull else Ok tt
 
@@ -94,7 +94,7 @@ why-of s CyclesOver e h x = (x.cycle, x.none_left)
 why-of s HistoryFull e h x = (x.full, x.cycle_left)
 
 -- an event is made, or it ends the run
-ending-happened : (s : Setup) (e : Event) (r : Run) → (happened s e r).ending ≡ r.ending
+pub ending-happened : (s : Setup) (e : Event) (r : Run) → (happened s e r).ending ≡ r.ending
 unfolding cycled
 ending-happened s (a_call k i) r = refl
 ending-happened s a_cycle r = refl

@@ -1,7 +1,8 @@
 -- Events for which there is room are made, each in an entry.
-use Rattle.std.specs.Prelude.{◌≡◌, refl, ℕ, suc, ◌+◌, ◌-◌, ◌≤◌, ◌<◌, ◌==◌, if◌then◌else◌, Bool, true, false, Result, Ok, Err, List, [], ◌∷◌, ◌++◌, length}
+use Rattle.std.specs.Prelude.{◌≡◌, refl, ℕ, suc, ◌+◌, ◌-◌, ◌≤◌, ◌<◌, ◌==◌, if◌then◌else◌, Bool, false, Result, Ok, Err, List, [], ◌∷◌, length}
 use Rattle.std.proofs.Common.{◌∙◌, sym, ap, arith}
-use Rattle.std.proofs.lemmas.Bool.{eqb-true}
+use Rattle.std.proofs.lemmas.Bool.{eqb-true, false_from_ne_true}
+use Rattle.std.proofs.lemmas.List.{length_push}
 use Rattle.bench_text.specs.BenchState.{BenchState}
 use Rattle.motion_history.specs.Entries.{CyclesAddUp, Entry, cycles_of}
 use Rattle.motion_history.specs.Setup.{Setup}
@@ -9,18 +10,14 @@ use Rattle.bench_run.proofs.RunLaws.{ended-stays, made-by}
 use Rattle.bench_run.specs.Enough.{HasRoom}
 use Rattle.bench_run.specs.Run.{Event, Run, a_call, a_cycle, an_end, cycled, cycles_in, events_in, happened, is_cycle, made, made_all, room_for, run_at_opening, run_of, tried}
 use Rattle.bench_run.specs.declared.bench.RunFault.{RunFault}
-
--- an event for which there is room is made
-length_more : (es : List Entry) (e : Entry) → length (es ++ e ∷ []) ≡ length es + 1
-length_more [] e = refl
-length_more (d ∷ es) e = let h = length_more es e in omega arith
+use Rattle.bench_run.proofs.EndingLaws.{ending-happened}
 
 length-happened : (s : Setup) (e : Event) (r : Run) →
     length (happened s e r).history ≡ length r.history + 1
 unfolding cycled
-length-happened s (a_call k i) r = length_more r.history _
-length-happened s a_cycle r = length_more r.history _
-length-happened s (an_end t) r = length_more r.history _
+length-happened s (a_call k i) r = length_push r.history _
+length-happened s a_cycle r = length_push r.history _
+length-happened s (an_end t) r = length_push r.history _
 
 cycles-happened : CyclesAddUp → (s : Setup) (e : Event) (r : Run) →
     cycles_of (happened s e r).history ≡ cycles_of r.history + (if is_cycle e then 1 else 0)
@@ -29,18 +26,8 @@ cycles-happened add s (a_call k i) r = add r.history _
 cycles-happened add s a_cycle r = add r.history _
 cycles-happened add s (an_end t) r = add r.history _
 
-ending-happened : (s : Setup) (e : Event) (r : Run) → (happened s e r).ending ≡ r.ending
-unfolding cycled
-ending-happened s (a_call k i) r = refl
-ending-happened s a_cycle r = refl
-ending-happened s (an_end t) r = refl
-
-unless_true : (b : Bool) → (b ≡ true → ⊥) → b ≡ false
-unless_true true f = absurd (f refl)
-unless_true false f = refl
-
 not_none : (n m : ℕ) → m < n → (n - m == 0) ≡ false
-not_none n m l = unless_true (n - m == 0) (λ h. let e = eqb-true (n - m) 0 h in omega (arith, e))
+not_none n m l = false_from_ne_true (n - m == 0) (λ h. let e = eqb-true (n - m) 0 h in omega (arith, e))
 
 -- there is room for an event
 has-room : (s : Setup) (es : List Entry) (e : Event) → length es < s.entries →

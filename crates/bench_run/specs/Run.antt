@@ -13,7 +13,8 @@ use Rattle.motion_history.specs.Setup.{Setup}
 use Rattle.motion_kernel.specs.calls.Calls.{reply_of}
 use Rattle.motion_kernel.specs.cycles.Cycles as machine
 use Rattle.motion_kernel.specs.Histories.{machine_after}
-use Rattle.machine_drives.specs.Drives.{drives_at_opening, drives_stepped}
+use Rattle.machine_drives.specs.Drives.{drive_end, drives_at_opening, drives_stepped}
+use Rattle.trace_text.specs.declared.drive_end.DriveEndRow.{DriveEndRow}
 use Rattle.bench_run.specs.declared.bench.RunFault.{RunFault}
 use Rattle.bench_run.specs.declared.bench.RunFault.TheVariants.{CyclesOver, HistoryFull}
 
@@ -111,3 +112,7 @@ run_at_opening b = first_run (drives_at_opening b.config.axes b.drives)
 -- the run of a bench: the events of its file one after another. This project's profile
 unfoldable pub run_of : BenchState → Run
 run_of b = made_all b.config (events_in b) (run_at_opening b)
+
+-- what the drives took by the end of a run
+abbrev pub drive_ends : Run → List DriveEndRow
+drive_ends r = map (drive_end (cycles_of r.history)) r.drives

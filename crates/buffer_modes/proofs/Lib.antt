@@ -1,3 +1,4 @@
 pub mod Owners
+pub mod Queue
 mod TakenAway
 mod Fates

@@ -1,9 +1,10 @@
 -- A switch is on as it is said, and goes on by one setpoint more.
-use Rattle.std.proofs.Common.{◌≡◌, ◌↔◌, ◌⊎◌, ℕ, zero, suc, ◌<◌, ◌≤◌, Bool, true, false, ◌&&◌, ◌||◌, ℤ, pos, List, [], ◌∷◌, ◌++◌, length, slice_index_or, refl, ap, ◌∙◌, arith, inl, inr}
+use Rattle.std.proofs.Common.{◌≡◌, ◌↔◌, ℕ, zero, suc, ◌<◌, ◌≤◌, Bool, true, false, ◌&&◌, ◌||◌, ℤ, pos, List, [], ◌∷◌, ◌++◌, length, slice_index_or, refl, ap, ◌∙◌, arith, inl, inr}
 use Rattle.std.specs.List.{list_all}
 use Rattle.std.proofs.Math.Bool.{and-true}
 use Rattle.std.proofs.lemmas.List.Folds.{list_all-append}
 use Rattle.std.proofs.lemmas.Grind.{common_steps}
+use Rattle.std.proofs.lemmas.Bool.{and_parts, or_cases, or_left, or_right}
 use Rattle.cam_switch.specs.Switches.{IsOn, is_inside, is_on, is_on_after, is_within}
 use Rattle.cam_switch.specs.declared.switch.Switch.{Switch}
 
@@ -44,25 +45,6 @@ on-one-more s (q ∷ qs) p =
 both : {a b : Bool} → a ≡ true → b ≡ true → (a && b) ≡ true
 both {a} {b} x y = ap (λ c. c && b) x ∙ y
 
-first_of_both : (a b : Bool) → (a && b) ≡ true → a ≡ true
-first_of_both true b h = refl
-first_of_both false b h = h
-
-second_of_both : (a b : Bool) → (a && b) ≡ true → b ≡ true
-second_of_both true b h = h
-second_of_both false b h = absurd (cc)
-
-either : (a b : Bool) → (a || b) ≡ true → (a ≡ true) ⊎ (b ≡ true)
-either true b h = inl refl
-either false b h = inr h
-
-either_left : (a b : Bool) → a ≡ true → (a || b) ≡ true
-either_left a b h = ap (λ c. c || b) h
-
-either_right : (a b : Bool) → b ≡ true → (a || b) ≡ true
-either_right true b h = refl
-either_right false b h = h
-
 -- each item is as said
 every : (f : ℤ → Bool) (xs : List ℤ) → list_all f xs ≡ true → (i : ℕ) → i < length xs →
     f (slice_index_or xs i (pos 0)) ≡ true
@@ -90,13 +72,13 @@ from_rest s p ps o = record {
 from_on : (s : Switch) (column : List ℤ) → is_on s column ≡ true → IsOn s column
 from_on s [] h = absurd (cc)
 from_on s (p ∷ ps) h =
-    elim (either (is_inside s p && list_all (is_within s) (p ∷ ps)) (is_on s ps) h) [
+    elim (or_cases (is_inside s p && list_all (is_within s) (p ∷ ps)) (is_on s ps) h) [
       | inl a ↦ record {
         since = 0;
         there = omega arith;
-        inside = first_of_both (is_inside s p) _ a;
+        inside = (and_parts (is_inside s p) _ a).0;
         within = (λ i le lt. every (is_within s) (p ∷ ps)
-            (second_of_both (is_inside s p) (list_all (is_within s) (p ∷ ps)) a) i lt);
+            (and_parts (is_inside s p) (list_all (is_within s) (p ∷ ps)) a).1 i lt);
       }
       | inr r ↦ from_rest s p ps (from_on s ps r)
     ]
@@ -107,10 +89,10 @@ to_on : (s : Switch) (column : List ℤ) (k : ℕ) → k < length column →
     is_within s (slice_index_or column i (pos 0)) ≡ true) → is_on s column ≡ true
 to_on s [] k lt inside within = absurd (omega arith)
 to_on s (p ∷ ps) zero lt inside within =
-    either_left (is_inside s p && list_all (is_within s) (p ∷ ps)) (is_on s ps)
+    or_left (is_inside s p && list_all (is_within s) (p ∷ ps)) (is_on s ps)
     (both inside (every_back (is_within s) (p ∷ ps) (λ i l. within i (omega arith) l)))
 to_on s (p ∷ ps) (suc k) lt inside within =
-    either_right (is_inside s p && list_all (is_within s) (p ∷ ps)) (is_on s ps)
+    or_right (is_inside s p && list_all (is_within s) (p ∷ ps)) (is_on s ps)
     (to_on s ps k (omega arith) inside (λ i le l. within (suc i) (omega arith) (omega arith)))
 
 -- a switch is on exactly where there is a setpoint since which it is

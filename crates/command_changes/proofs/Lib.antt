@@ -1,4 +1,5 @@
 mod Choices
 mod Alike
+mod Fates
 mod axis
 pub mod group

@@ -2,3 +2,5 @@
 pub mod Calls
 pub mod Cycles
 pub mod Brought
+pub mod Fates
+pub mod Fits

@@ -1,8 +1,10 @@
 -- What the laws of the changes of axes and groups say (PLCopen Motion Control Part 1 and Part 4).
 use Rattle.std.specs.Prelude.{◌≡◌, ℕ, ℤ, Bool}
+use Rattle.axis_core.specs.AxisKept as axes_kept
 use Rattle.axis_core.specs.Calls.{core_after_command, core_after_power}
 use Rattle.axis_core.specs.Cores as axes
 use Rattle.axis_core.specs.Cycles.{core_after_cycle}
+use Rattle.axis_core.specs.Demands as axes_made
 use Rattle.axis_core.specs.Owners.{core_without_owner, owner_brought}
 use Rattle.axis_core.specs.Refusals as axes_asked
 use Rattle.axis_core.specs.Refusals.{Asked}
@@ -11,7 +13,7 @@ use Rattle.axis_core.specs.declared.look.AxisLook.{AxisLook}
 use Rattle.buffer_modes.specs.Owners.{is_owner}
 use Rattle.command_core.specs.Brought.{BringNone, brought}
 use Rattle.command_core.specs.Calls.{IsCall}
-use Rattle.command_core.specs.Changes.{all_changed}
+use Rattle.command_core.specs.Changes.{AllFit, all_changed}
 use Rattle.command_core.specs.Charge as charge
 use Rattle.command_pool.specs.declared.wanted.Wanted.{Wanted}
 use Rattle.group_core.specs.Calls.{asked_in, commanded, disowned, powered_off}
@@ -50,6 +52,11 @@ pub record AreAxisChanges : Type 0 where
   pub command_brings : (k : ℕ) (q : Asked) (c : axes.Core) →
       brought k (axis.command_changes q c)
       ≡ is_owner k (owner_brought (axes_asked.refusal_of q) q.wanted)
+  -- and finds its place
+  pub command_fits : (c : axes.Core) (number : ℕ) (w : Wanted) (jerk : ℤ) (held : Bool)
+      (tables : ℕ) → axes_kept.IsCoreKept c → axes_made.IsMade w →
+      AllFit (axis.command_changes (axes_made.asked_in c number w jerk held tables) c)
+      (axis.charge_of c)
   -- a Power and a cycle bring none
   pub power_brings : (enable : Bool) (c : axes.Core) → BringNone (axis.power_changes enable c)
   pub cycle_brings : (look : AxisLook) (c : axes.Core) → BringNone (axis.cycle_changes look c)
@@ -84,6 +91,9 @@ pub record AreGroupChanges : Type 0 where
       brought k (group.command_changes w jerk members c)
       ≡ is_owner k (group_owners.brought
       (groups_asked.refusal_of (asked_in c w jerk members)) w)
+  -- and finds its place
+  pub command_fits : (w : Wanted) (jerk : ℤ) (members : GroupLook) (c : groups.Core) →
+      AllFit (group.command_changes w jerk members c) (group.charge_of c)
   -- a Power off, a cycle and a GroupReset bring none
   pub power_brings : (c : groups.Core) → BringNone (group.power_off_changes c)
   pub cycle_brings : (members : GroupLook) (c : groups.Core) →

@@ -4,6 +4,7 @@ use Rattle.std.specs.List.{AllByRecursion, flat_map}
 use Rattle.std.proofs.Common.{◌∙◌, sym, ap, arith, add-one, inl, inr}
 use Rattle.std.proofs.lemmas.Bool.{cases_Bool}
 use Rattle.std.proofs.lemmas.List.Elements.{recursion_from_All}
+use Rattle.std.proofs.lemmas.Option.{same_Some}
 use Rattle.csv.specs.Machine.{Read, next_record, step, is_end, fields_after, field_after}
 use Rattle.csv.specs.Reading.{default_config, records_from, records_next, strip_bom}
 use Rattle.csv.specs.Writing.{default_writer, row_text}
@@ -12,21 +13,18 @@ use Rattle.csv.specs.declared.parser.State.TheVariants as st
 use Rattle.csv.proofs.RoundTrip.{read-write}
 use Rattle.csv_records.specs.Records.{records_of, rest_from, text_of}
 
-some-same : {X : Type 0} (x y : X) → Some x ≡ Some y → x ≡ y
-some-same x y e = cc e
-
 -- what the end of the text leaves
 end-leaves : (s : State) (fields : List (List ℕ)) (field : List ℕ) (p : Read) → next_record default_config s fields field [] ≡ Some p →
     (p.1 ≡ st.StartRecord) × (p.2 ≡ [])
 unfolding next_record
 end-leaves st.StartRecord fields field p e = absurd (cc e)
 end-leaves st.AfterCr fields field p e = absurd (cc e)
-end-leaves st.StartField fields field p e = let q = some-same _ p e in (ap (λ (r : Read). r.1) (sym q), ap (λ (r : Read). r.2) (sym q))
-end-leaves st.InField fields field p e = let q = some-same _ p e in (ap (λ (r : Read). r.1) (sym q), ap (λ (r : Read). r.2) (sym q))
-end-leaves st.InQuoted fields field p e = let q = some-same _ p e in (ap (λ (r : Read). r.1) (sym q), ap (λ (r : Read). r.2) (sym q))
-end-leaves st.AfterQuote fields field p e = let q = some-same _ p e in (ap (λ (r : Read). r.1) (sym q), ap (λ (r : Read). r.2) (sym q))
-end-leaves st.InEscape fields field p e = let q = some-same _ p e in (ap (λ (r : Read). r.1) (sym q), ap (λ (r : Read). r.2) (sym q))
-end-leaves st.InComment fields field p e = let q = some-same _ p e in (ap (λ (r : Read). r.1) (sym q), ap (λ (r : Read). r.2) (sym q))
+end-leaves st.StartField fields field p e = let q = same_Some _ p e in (ap (λ (r : Read). r.1) (sym q), ap (λ (r : Read). r.2) (sym q))
+end-leaves st.InField fields field p e = let q = same_Some _ p e in (ap (λ (r : Read). r.1) (sym q), ap (λ (r : Read). r.2) (sym q))
+end-leaves st.InQuoted fields field p e = let q = same_Some _ p e in (ap (λ (r : Read). r.1) (sym q), ap (λ (r : Read). r.2) (sym q))
+end-leaves st.AfterQuote fields field p e = let q = same_Some _ p e in (ap (λ (r : Read). r.1) (sym q), ap (λ (r : Read). r.2) (sym q))
+end-leaves st.InEscape fields field p e = let q = same_Some _ p e in (ap (λ (r : Read). r.1) (sym q), ap (λ (r : Read). r.2) (sym q))
+end-leaves st.InComment fields field p e = let q = same_Some _ p e in (ap (λ (r : Read). r.1) (sym q), ap (λ (r : Read). r.2) (sym q))
 
 -- a record takes no more bytes than there are
 next-within : (xs : List ℕ) (s : State) (fields : List (List ℕ)) (field : List ℕ) (p : Read) →
@@ -36,7 +34,7 @@ next-within [] s fields field p e = let q = (end-leaves s fields field p e).1 in
 next-within (c ∷ xs) s fields field p e = elim (cases_Bool (is_end (step default_config s c).1)) [
   | inl ends ↦
       let here : Some (fields_after (step default_config s c).1 fields field, (step default_config s c).0, xs) ≡ Some p = rw ends at e in
-      let q : xs ≡ p.2 = ap (λ (r : Read). r.2) (some-same _ p here) in
+      let q : xs ≡ p.2 = ap (λ (r : Read). r.2) (same_Some _ p here) in
       rw (← q) (omega arith)
   | inr goes ↦
       let here : next_record default_config (step default_config s c).0 (fields_after (step default_config s c).1 fields field) (field_after (step default_config s c).1 c field) xs ≡ Some p = rw goes at e in
@@ -51,7 +49,7 @@ unfolding next_record
 next-shorter s fields field c xs p e = elim (cases_Bool (is_end (step default_config s c).1)) [
   | inl ends ↦
       let here : Some (fields_after (step default_config s c).1 fields field, (step default_config s c).0, xs) ≡ Some p = rw ends at e in
-      let q : xs ≡ p.2 = ap (λ (r : Read). r.2) (some-same _ p here) in
+      let q : xs ≡ p.2 = ap (λ (r : Read). r.2) (same_Some _ p here) in
       rw (← q) (omega arith)
   | inr goes ↦
       let here : next_record default_config (step default_config s c).0 (fields_after (step default_config s c).1 fields field) (field_after (step default_config s c).1 c field) xs ≡ Some p = rw goes at e in

@@ -38,7 +38,8 @@ use Rattle.group_core.specs.declared.group.Group.{Group}
 use Rattle.group_core.specs.declared.group.Motion.{Motion}
 use Rattle.group_core.specs.declared.look.GroupLook.{GroupLook}
 use Rattle.group_core.specs.declared.reason.Reason.{Reason}
-use Rattle.group_core.proofs.FateLaws.{either, later-active, reset-active-same}
+use Rattle.buffer_modes.proofs.Queue.{later_active}
+use Rattle.group_core.proofs.Ends.{either, reset-active-same}
 use Rattle.group_core.proofs.KeptCalls.{IsAsked, disable-none, of_kind}
 use Rattle.group_core.proofs.KeptCycles.{int-same, same-int}
 use Rattle.group_core.proofs.KeptParts.{stepping-of}
@@ -184,7 +185,7 @@ line-carries n course members w c u =
     (line_begun members members.setpoints w (queued w c)) (queued w c)
     (λ g. carried-off n course c.group.active (Some w) u.command _ _ u.active)
     (λ g. carried-on n course (queued w c) (queued w c).path
-    (same-way n course c (queued w c) (later-active (is_aborting w.mode) c.group.active c.waiting w g) refl u)))
+    (same-way n course c (queued w c) (later_active (is_aborting w.mode) c.group.active c.waiting w g) refl u)))
 
 command-carries-by : (k : BlockKind) (n : ℕ) (course : Course) (members : GroupLook) (w : Wanted) (jerk : ℤ) (c : Core) → IsAsked members c → IsMade c.group.axes (of_kind k w) →
     NoneHolds (asked_in c (of_kind k w) jerk members) (tests_of k) → IsUnderWay n course c → Carries n course (admitted_fate k (of_kind k w) c) (admitted_by k members (of_kind k w) c)

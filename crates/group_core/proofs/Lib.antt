@@ -3,12 +3,8 @@ pub mod AxesLaws
 pub mod LiveLaws
 pub mod PathChanges
 pub mod ShownLaws
-pub mod WaitingLaws
-pub mod ChangeLaws
-pub mod ToldLaws
 pub mod CourseLaws
 pub mod StepLaws
-pub mod FateLaws
 pub mod PathBegins
 pub mod PathEnds
 pub mod MemberLaws
@@ -21,3 +17,4 @@ pub mod KeptParts
 pub mod NoneHolds
 pub mod Places
 pub mod Pools
+pub mod Ends

@@ -27,7 +27,7 @@ use Rattle.group_core.specs.declared.group.Group.{Group}
 use Rattle.buffer_modes.specs.declared.reset.PendingReset.{PendingReset}
 use Rattle.group_core.specs.declared.look.GroupLook.{GroupLook}
 use Rattle.group_core.specs.declared.reason.Reason.{Reason}
-use Rattle.group_core.proofs.ChangeLaws.{Settles, failed-cycle, moved-as, stopping-is}
+use Rattle.group_core.proofs.Ends.{Settles, failed-cycle, moved-as, stopping-is}
 use Rattle.group_core.proofs.KeptCalls.{by-if, halts-within, of_kind, stops-within, takes-within}
 use Rattle.group_core.proofs.KeptCycles.{left-idle}
 use Rattle.group_core.proofs.NoneHolds.{NoneHolds, none-holds}

@@ -27,7 +27,7 @@ use Rattle.group_core.specs.declared.group.Group.{Group}
 use Rattle.group_core.specs.declared.group.Motion.{Motion}
 use Rattle.group_core.specs.declared.look.GroupLook.{GroupLook}
 use Rattle.group_core.specs.declared.reason.Reason.{Reason}
-use Rattle.group_core.proofs.FateLaws.{none-ends}
+use Rattle.group_core.proofs.Ends.{none-ends}
 use Rattle.group_core.proofs.MemberLaws.{taken-path}
 
 -- a group that has no error from a member in a cycle

@@ -35,7 +35,7 @@ use Rattle.group_core.specs.declared.look.GroupLook.{GroupLook}
 use Rattle.group_core.specs.declared.reason.Reason.{Reason}
 use Rattle.group_core.proofs.KeptCycles.{int-same}
 use Rattle.group_core.proofs.Places.{place-of-axis}
-use Rattle.group_core.proofs.FateLaws.{released-active}
+use Rattle.group_core.proofs.Ends.{released-active}
 use Rattle.group_core.proofs.MemberLaws.{same-path}
 use Rattle.group_core.proofs.StepLaws.{not-failing}
 

@@ -1,7 +1,6 @@
 pub mod Admitting
 pub mod Asking
 pub mod Calls
-pub mod Changes
 pub mod Cores
 pub mod Courses
 pub mod Cycles

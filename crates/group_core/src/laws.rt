@@ -1,18 +1,15 @@
 // Laws of a group: each is the contract of a function that does nothing.
 
 ghost use Rattle.std.specs.Ordering.{int_eq};
-ghost use Rattle.std.specs.Prelude.{◌≡◌, ◌⊎◌, ◌<◌, ◌≤◌, length, ℕ, ℤ, pos, Bool, true, false, Some, None, List};
-ghost use Rattle.buffer_modes.specs.Owners.{IsSame};
+ghost use Rattle.std.specs.Prelude.{◌≡◌, ◌⊎◌, ◌<◌, ℕ, ℤ, pos, Bool, true, false, Some, None, List};
 ghost use Rattle.command_pool.specs.declared.wanted.Wanted.{Wanted};
 ghost use Rattle.group_core.specs.Calls.{asked_in, commanded, disowned, group_without, powered_off};
-ghost use Rattle.group_core.specs.Changes.{IsNext};
 ghost use Rattle.group_core.specs.Cores.{Core};
 ghost use Rattle.group_core.specs.Courses.{Braked, Carried, Course, IsBraking, IsUnderWay, Leads, bound_of, course_of, is_line_done, is_slowing, slowing};
 ghost use Rattle.group_core.specs.Cycles.{answered, cycled, opening, path_taken, reset_cycled, reset_where, step_of};
 ghost use Rattle.group_core.specs.Fates.{command_fate, cycle_fate, is_failing, power_off_fate};
 ghost use Rattle.group_core.specs.GroupKept.{AreGroupLimits, IsCoreKept, IsCount, IsLook, IsMade};
 ghost use Rattle.group_core.specs.Members.{StandsOn, TakesSafely};
-ghost use Rattle.buffer_modes.specs.Fates.{IsFate, TellsOwner};
 ghost use Rattle.group_core.specs.Refusals.{limits_in, refusal_of};
 ghost use Rattle.group_core.specs.Shown.{IsShown};
 ghost use Rattle.group_core.specs.States.{is_error_stop};
@@ -23,9 +20,6 @@ ghost use Rattle.group_core.specs.declared.reason.Reason.{Reason};
 ghost use Rattle.kin_core.specs.declared.limits.Limits.{Limits};
 ghost use Rattle.linear_path.specs.Line.{coordinate_of};
 
-use buffer_modes::{
-    ends_tell_their_owners, fates_are_of_the_active_command, owners_are_taken_away,
-};
 use command_pool::BlockKind;
 use kin_core::{braking_steps_are_only_cut, standing_is_kept, taken_steps_keep};
 use linear_path::{LinePath, steps_along_a_path_are_safe};
@@ -95,24 +89,6 @@ pub fn members_keep_their_limits()
     taken_steps_keep();
 }
 
-/// A fate is what becomes of the active command of a group: by a command that is asked, a Power off
-/// of a member, an owner that is taken away and a cycle; a GroupReset leaves it as it is.
-pub fn fates_are_told()
-    ensures command { (w : Wanted) (jerk : ℤ) (members : GroupLook) (c : Core) →
-        IsFate (command_fate w jerk members c) c.group.active
-        (commanded w jerk members c).group.active }
-    ensures power_off { (c : Core) →
-        IsFate (power_off_fate c) c.group.active (powered_off c).group.active }
-    ensures detach { (owner : ℕ) (g : Group) → IsSame g.active (group_without owner g).active }
-    ensures cycle { (members : GroupLook) (c : Core) →
-        IsFate (cycle_fate members c) c.group.active (cycled members c).group.active }
-    ensures reset { (members : GroupLook) (on_path : Bool) (g : Group) →
-        (reset_where members on_path g).active ≡ g.active }
-{
-    fates_are_of_the_active_command();
-    owners_are_taken_away();
-}
-
 /// While no error of a member stops the group, a line goes on by the taken move step of its path,
 /// by its rates cut to those of the path, and is Done exactly where it stands at the end with step
 /// 0; a GroupHalt and a GroupStop, and what brakes a path before an aborting line, brake it by
@@ -177,34 +153,6 @@ pub fn courses_end_in_time()
     halts_come_to_rest_in_time();
 }
 
-/// The owner of the active command is told how it ends, by a command that is asked, a Power off of
-/// a member and a cycle.
-pub fn ends_are_told()
-    ensures told_command { (w : Wanted) (jerk : ℤ) (members : GroupLook) (c : Core) →
-        TellsOwner (command_fate w jerk members c) c.group.active
-        (commanded w jerk members c).notes }
-    ensures told_power_off { (c : Core) →
-        TellsOwner (power_off_fate c) c.group.active (powered_off c).notes }
-    ensures told_cycle { (members : GroupLook) (c : Core) →
-        TellsOwner (cycle_fate members c) c.group.active (cycled members c).notes }
-{
-    ends_tell_their_owners();
-}
-
-/// A group changes its state by the diagram alone: each call, each cycle and each GroupReset takes
-/// at most one of its rows, from a state of that row; an owner that is taken away changes none.
-pub fn states_change_by_the_diagram()
-    ensures command { (w : Wanted) (jerk : ℤ) (members : GroupLook) (c : Core) →
-        IsMade c.group.axes w →
-        IsNext c.group.state (commanded w jerk members c).group.state }
-    ensures power_off { (c : Core) → IsNext c.group.state (powered_off c).group.state }
-    ensures detach { (owner : ℕ) (g : Group) → (group_without owner g).state ≡ g.state }
-    ensures cycle { (members : GroupLook) (c : Core) → IsCoreKept (limits_in members) c →
-        IsNext c.group.state (cycled members c).group.state }
-    ensures reset { (members : GroupLook) (on_path : Bool) (g : Group) →
-        IsNext g.state (reset_where members on_path g).state }
-{}
-
 /// A group shows an error exactly in GroupErrorStop, and an instance holds GroupStopping only in
 /// GroupStopping: so at opening, and after every call, every cycle and every GroupReset.
 pub fn errors_stand_in_error_stop()
@@ -218,11 +166,4 @@ pub fn errors_stand_in_error_stop()
         IsShown c.group → IsShown (cycled members c).group }
     ensures reset { (members : GroupLook) (on_path : Bool) (g : Group) → IsShown g →
         IsShown (reset_where members on_path g) }
-{}
-
-/// Where at most eight commands wait for a group, at most eight do after a command that is asked.
-pub fn at_most_eight_wait()
-    ensures command { (w : Wanted) (jerk : ℤ) (members : GroupLook) (c : Core) →
-        IsMade c.group.axes w → length c.waiting ≤ 8 →
-        length (commanded w jerk members c).waiting ≤ 8 }
 {}

@@ -34,9 +34,8 @@ pub use group::{Group, GroupOnPath, Motion, Track};
 pub use group_state::{GroupRow, GroupState};
 pub use kin_core::Limits;
 pub use laws::{
-    at_most_eight_wait, courses_end_in_time, ends_are_told, errors_stand_in_error_stop,
-    fates_are_told, groups_stay_kept, members_keep_their_limits, paths_go_on_by_their_steps,
-    states_change_by_the_diagram,
+    courses_end_in_time, errors_stand_in_error_stop, groups_stay_kept, members_keep_their_limits,
+    paths_go_on_by_their_steps,
 };
 pub use linear_path::{LinePath, Path};
 pub use look::{ActiveLook, GroupLook, GroupStep};

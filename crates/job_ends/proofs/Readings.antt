@@ -1,13 +1,16 @@
 -- What a file that was read, or wasn't, says of the status of a job.
 use Rattle.std.specs.Prelude.{◌≡◌, ◌⊎◌, ◌≤◌, ◌<◌, refl, ℕ, nat_lt, if◌then◌else◌, true, false, Bool, Option, Some, None, IfSome, IsSomeAnd, Result, Ok, Err, List, length}
-use Rattle.std.proofs.Common.{◌∙◌, inl, inr, ap, arith}
+use Rattle.std.proofs.Common.{◌∙◌, inl, inr, sym, ap, arith}
 use Rattle.std.proofs.lemmas.Bool.{cases_Bool, ltb-false, ltb-true}
 use Rattle.line_text.specs.Reading.{◌>>=◌}
 use Rattle.motion_history.specs.declared.refused.TextRefused.{TextRefused}
 use Rattle.outside.specs.Told.{FileMap, IsLonger, LacksFile}
 use Rattle.trace_text.specs.writing.Writes.{Output}
+use Rattle.job_ends.proofs.Statuses.{text-untraced, untraced}
+use Rattle.job_ends.specs.Causes.{is_traced}
 use Rattle.job_ends.specs.Ends.{EndsBy, EndsEarly}
 use Rattle.job_ends.specs.Files.{GivesReading, IsText, NoReading}
+use Rattle.job_ends.specs.Follows.{FollowPlans}
 use Rattle.job_ends.specs.Plans.{Plan, refused_plan, too_long_plan, unread_plan}
 use Rattle.job_ends.specs.Readings.{is_of_text, reading_in, text_in}
 use Rattle.job_ends.specs.declared.status.Status.{Status}
@@ -133,3 +136,31 @@ tells-on (Some files) rose f g s on (inl (word, is, inr h)) =
     inl (word, is, inr (on (status.ReadFault word) h))
 tells-on None rose f g s on (inr h) = inr (h.0, tt)
 tells-on (Some files) rose f g s on (inr h) = inr (h.0, on s h.1)
+
+-- so it was told, or memory ran out
+pub told-on : {A B : Type 0} (told : Option FileMap) (rose : Type 0) (f : FileMap → Result A Status)
+    (g : FileMap → Result B Status) (old new : Output) (s : Status) →
+    IfSome told (λ files. (x : Status) → f files ≡ Err x → g files ≡ Err x) →
+    EndsEarly old new s ⊎ TellsBy told rose f old new s →
+    EndsEarly old new s ⊎ TellsBy told rose g old new s
+told-on told rose f g old new s on (inl h) = inl h
+told-on told rose f g old new s on (inr h) = inr (record {
+  plan = h.plan;
+  ends = h.ends;
+  tells = tells-on told rose f g h.plan.status on h.tells;
+})
+
+-- ---- where there is no trace
+
+pub tells-untraced : {A : Type 0} (told : Option FileMap) (rose : Type 0)
+    (f : FileMap → Result A Status) (p : Status) → TellsOf {A = A} told rose f p → is_traced p ≡ false
+tells-untraced told rose f p (inl (word, is, h)) = ap is_traced is
+tells-untraced told rose f p (inr h) = text-untraced p h.0
+
+pub none-traced : {A : Type 0} → FollowPlans → (told : Option FileMap) (rose : Type 0)
+    (f : FileMap → Result A Status) (old new : Output) (s : Status) →
+    EndsEarly old new s ⊎ TellsBy {A = A} told rose f old new s → is_traced s ≡ true → ⊥
+none-traced follow told rose f old new s (inl e) t =
+    let bad : true ≡ false = sym t ∙ ap is_traced e.status in cc
+none-traced follow told rose f old new s (inr h) t =
+    untraced follow old new h.plan s h.ends (tells-untraced told rose f h.plan.status h.tells) t

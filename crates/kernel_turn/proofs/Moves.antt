@@ -2,7 +2,7 @@
 use Rattle.std.proofs.Common.{◌≡◌, ◌≢◌, ◌⊎◌, ℕ, zero, suc, ◌+◌, ◌%◌, ◌^◌, ◌<◌, ◌≤◌, List, [], ◌∷◌, ◌++◌, Bool, true, false, Option, Some, None, eqb, eq-eqb, ne_eqb, set, length, refl, sym, ap, ◌∙◌, subst, inl, inr, ⊎_elim, arith, length-append, append_assoc, append-nil, MatchBool}
 use Rattle.std.specs.Prelude.{slice_index, nat_le, ◌||◌, if◌then◌else◌}
 use Rattle.std.proofs.Math.Nat.{mod-add-mod}
-use Rattle.std.proofs.lemmas.Bool.{leb-true}
+use Rattle.std.proofs.lemmas.Bool.{leb-true, or_right}
 use Rattle.std.proofs.lemmas.Bool.Decides.{leb_tells}
 use mathlib.Core.Logic.{dite}
 use mathlib.Core.List.{IsPrefix}
@@ -57,12 +57,8 @@ stopped_when true fs gs ms st st' at eq is has e = let a = one_true true refl in
 stopped_when false true gs ms st st' at eq is has e = let a = has refl in let b = or_le false ms in omega arith
 stopped_when false false gs ms st st' at eq is has e = absurd (off gs e is)
 
-or_yes : (b : Bool) → (b || true) ≡ true
-or_yes true = refl
-or_yes false = refl
-
 stopped_by : (stop fs gs ms : Bool) (st st' : ℕ) → st' + one ms ≡ st + one (stop || ms) → gs ≡ (fs || stop) → (0 < st → fs ≡ true) → 0 < st' → gs ≡ true
-stopped_by true fs gs ms st st' eq is has z = is ∙ or_yes fs
+stopped_by true fs gs ms st st' eq is has z = is ∙ or_right fs true refl
 stopped_by false fs gs ms st st' eq is has z =
     let same : st' + one ms ≡ st + one ms = eq in
     is ∙ ap (λ b. b || false) (has (omega arith))

@@ -1,6 +1,7 @@
 -- What a whole turn leaves.
 use Rattle.std.proofs.Common.{◌≡◌, ℕ, suc, ◌∷◌, [], ◌++◌, List, length, ap, ◌∙◌, sym, refl, subst, true, false, Bool, Some, None, eq-eqb, ne_eqb, length-append, append-nil, arith}
 use Rattle.std.specs.Prelude.{◌||◌, ◌<◌, if◌then◌else◌}
+use Rattle.std.proofs.lemmas.Bool.{false_from_ne_true}
 use mathlib.Core.List.{IsPrefix}
 use Rattle.atomic_table.specs.Seated.{TableId}
 use Rattle.motion_history.specs.Entries.{Entry}
@@ -154,10 +155,6 @@ closed_of p table v f m is opening none h = subst (λ (q : PassState). IsClosed 
 pub makes_same : {T : Type 0} (entry : KernelState → Entry) (f f' g : KernelState) (t : Turn T) → f ≡ f' → Makes f g (entry f) t → Makes f' g (entry f') t
 makes_same entry f f' g t same makes = subst (λ (k : KernelState). Makes k g (entry k) t) same makes
 
-both_false : (b : Bool) → (b ≡ true → ⊥) → b ≡ false
-both_false true h = absurd (h refl)
-both_false false h = refl
-
 -- a stopped kernel has no room for an entry
 no_room : (k : KernelState) → k.stopped ≡ true → HasRoom k → ⊥
 no_room k stopped room =
@@ -167,6 +164,6 @@ no_room k stopped room =
 
 -- a turn that makes an entry finds the kernel not stopped
 pub made_unstopped : {T : Type 0} (old new : PassState) (f g : KernelState) (e : Entry) (t : Turn T) → TakesTurn old new f g e t → MadeUnstopped old t
-made_unstopped old new f g e (Made ticket cycles answer) taken = both_false _ (λ s. no_room f (taken.found.stopped s) taken.makes.room)
+made_unstopped old new f g e (Made ticket cycles answer) taken = false_from_ne_true _ (λ s. no_room f (taken.found.stopped s) taken.makes.room)
 made_unstopped old new f g e (Full entries cycles) taken = tt
 made_unstopped old new f g e (Early quiet cycles) taken = tt

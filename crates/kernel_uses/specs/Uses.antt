@@ -1,5 +1,5 @@
 -- What a caller does to a kernel. This project's profile.
-use Rattle.std.specs.Prelude.{◌≡◌, ℕ, ◌+◌, ◌≤◌, Bool, ◌||◌, Option, Some, None, List, [], ◌∷◌, ◌++◌, length, map, slice_get}
+use Rattle.std.specs.Prelude.{◌≡◌, ◌+◌, ◌≤◌, Bool, ◌||◌, List, [], ◌∷◌, ◌++◌, length, map}
 use Rattle.axis_state.specs.declared.definition.AxisRow.{AxisRow}
 use Rattle.cia402_machine.specs.declared.drive.DriveIn.{DriveIn}
 use Rattle.cia402_machine.specs.declared.drive.DriveOut.{DriveOut}
@@ -22,11 +22,6 @@ next_cycle k answers =
 abbrev pub next_outputs : KernelState → List DriveIn → List DriveOut
 next_outputs k answers =
     map (λ (r : AxisRow). r.output) (cycled k.config (state_of k) answers).axes
-
--- the row of an axis in a cycle, if both are there
-abbrev pub row_in : ℕ → Option Entry → Option AxisRow
-row_in n (Some (cycle k axes groups)) = slice_get axes n
-row_in n e = None
 
 -- a kernel goes on: it has its configuration, and no fewer entries
 pub record GoesOn (old new : KernelState) : Type 0 where

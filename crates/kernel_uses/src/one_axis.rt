@@ -3,9 +3,9 @@
 
 ghost use Rattle.std.specs.Prelude.{◌≡◌, ◌∷◌, [], IfOk, IsTrue, OnErr, OnOk, length};
 ghost use Rattle.drive_sim.specs.Steps.{answer_of};
-ghost use Rattle.kernel_uses.specs.Uses.{AddsEntry, GoesOn, next_cycle, row_in};
+ghost use Rattle.kernel_uses.specs.Uses.{AddsEntry, GoesOn, next_cycle};
 ghost use Rattle.kernel_uses.specs.Uses as spec;
-ghost use Rattle.motion_history.specs.LastCycles.{last_cycle_of};
+ghost use Rattle.motion_history.specs.LastCycles.{axis_row_in, last_cycle_of};
 
 use crate::full_history::{NotMade, try_call, try_cycle};
 use drive_sim::Drive;
@@ -134,7 +134,7 @@ pub fn move_axis(kernel: &mut Kernel, drive: &mut Drive, position: i64) -> Resul
 /// The row of an axis in the last cycle, if there was one: what its drive answered and was given,
 /// its state, error and setpoint.
 pub fn last_row(kernel: &Kernel, axis: u8) -> Option<AxisRow>
-    ensures { result ≡ row_in axis (last_cycle_of kernel.now.history) }
+    ensures { result ≡ axis_row_in axis (last_cycle_of kernel.now.history) }
 {
     match kernel.last_cycle() {
         Some(cycle) => cycle.axes.get(axis as usize).copied(),

@@ -1,25 +1,14 @@
 -- What a look at a machine shows. This project's profile.
-use Rattle.std.specs.Prelude.{◌≡◌, ◌≢◌, ◌↔◌, ◌≤◌, ◌<◌, ℕ, Option, Some, None, slice_get}
+use Rattle.std.specs.Prelude.{◌≡◌, ◌≢◌, ◌↔◌, ◌≤◌, ◌<◌, ℕ, Option, None}
 use Rattle.axis_state.specs.declared.definition.AxisRow.{AxisRow}
 use Rattle.axis_state.specs.declared.state.AxisState.{AxisState}
 use Rattle.axis_state.specs.declared.state.AxisState.TheVariants as axis
 use Rattle.group_state.specs.declared.state.GroupRow.{GroupRow}
 use Rattle.group_state.specs.declared.state.GroupState.{GroupState}
 use Rattle.group_state.specs.declared.state.GroupState.TheVariants as group
-use Rattle.motion_history.specs.Entries.{Entry, cycle}
 use Rattle.motion_c.specs.Calls.{bit}
 use Rattle.motion_c.specs.declared.looking.MotionAxisRow.{MotionAxisRow}
 use Rattle.motion_c.specs.declared.looking.MotionGroupRow.{MotionGroupRow}
-
--- the row of an axis in a cycle, if both are there
-abbrev pub axis_row_in : ℕ → Option Entry → Option AxisRow
-axis_row_in n (Some (cycle k axes groups)) = slice_get axes n
-axis_row_in n e = None
-
--- the row of a group in a cycle, if both are there
-abbrev pub group_row_in : ℕ → Option Entry → Option GroupRow
-group_row_in n (Some (cycle k axes groups)) = slice_get groups n
-group_row_in n e = None
 
 -- the states of an axis, by their numbers. PLCopen Motion Control Part 1, the state diagram
 abbrev pub axis_state_number : AxisState → ℕ

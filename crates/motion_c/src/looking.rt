@@ -2,11 +2,11 @@
 
 ghost use Rattle.std.specs.Prelude.{◌≡◌, ◌≢◌, ◌↔◌, ◌-◌, Some, None, IfSome, length};
 ghost use Rattle.motion_c.specs.Held.{held};
-ghost use Rattle.motion_c.specs.Looks.{TellsLook, axis_row_in, axis_shown, group_row_in, group_shown};
+ghost use Rattle.motion_c.specs.Looks.{TellsLook, axis_shown, group_shown};
 ghost use Rattle.motion_c.specs.Numbers.{count_in};
 ghost use Rattle.motion_c.specs.declared.machine.Machine.{Machine};
 ghost use Rattle.motion_history.specs.Entries.{cycles_of};
-ghost use Rattle.motion_history.specs.LastCycles.{last_cycle_of};
+ghost use Rattle.motion_history.specs.LastCycles.{axis_row_in, group_row_in, last_cycle_of};
 ghost use Rattle.motion_kernel.specs.KernelState.{room_of};
 
 use crate::code::{CLOSED, NO_CYCLE, OK, UNKNOWN};

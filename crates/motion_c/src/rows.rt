@@ -2,8 +2,8 @@
 
 ghost use Rattle.std.specs.Prelude.{◌≡◌};
 ghost use Rattle.motion_c.specs.Looks as spec;
-ghost use Rattle.motion_c.specs.Looks.{axis_row_in, axis_shown, group_row_in, group_shown};
-ghost use Rattle.motion_history.specs.LastCycles.{last_cycle_of};
+ghost use Rattle.motion_c.specs.Looks.{axis_shown, group_shown};
+ghost use Rattle.motion_history.specs.LastCycles.{axis_row_in, group_row_in, last_cycle_of};
 
 use crate::looking::{MotionAxisRow, MotionGroupRow};
 use axis_state::{AxisRow, AxisState};

@@ -1,10 +1,9 @@
 -- Usage and the faults, whatever the files tell.
 use Rattle.std.specs.Prelude.{◌≡◌, ◌≢◌, ◌⊎◌, refl, ℕ, true, false, Option, Some, None, IsSomeAnd, Err, List}
-use Rattle.std.specs.Result.{IsOk}
 use Rattle.std.specs.Option.{option_and_then}
 use Rattle.std.proofs.Common.{◌∙◌, inl, inr, sym, ap, subst}
 use Rattle.std.proofs.lemmas.Bool.{cases_Bool}
-use Rattle.job_ends.specs.Causes.{ComesExactly, is_fault, is_traced}
+use Rattle.job_ends.specs.Causes.{ComesExactly, is_fault}
 use Rattle.job_ends.specs.Ends.{Content, Found, IsFound, Longer, Unread}
 use Rattle.job_ends.specs.Follows.{FollowPlans}
 use Rattle.job_ends.specs.Plans.{too_long_plan, unread_plan}
@@ -16,7 +15,7 @@ use Rattle.outside.specs.Told.{FileMap, LacksFile}
 use Rattle.run_job.specs.Causes.{plant_in}
 use Rattle.st_job.specs.Causes.{both_in, is_of_st}
 use Rattle.trace_text.specs.writing.Writes.{Output}
-use Rattle.motion_cli.proofs.CauseLaws.{AsksNoRun, neither, no-run, no-tasks}
+use Rattle.motion_cli.proofs.CauseLaws.{neither, no-run, no-tasks}
 use Rattle.motion_cli.proofs.FileLaws.{ends-by, ends-for, plan_of}
 use Rattle.motion_cli.proofs.PlanLaws.{by-plan, not-told}
 use Rattle.motion_cli.proofs.ReportLaws.{no-report, report-unread, report-unwritten}
@@ -72,6 +71,34 @@ usage-comes follow told rose refused Started (Some (of_report r)) old new s e = 
   only = λ h. absurd (no-report told rose r old new s status.Usage e refl h);
   always = λ h. absurd (let bad : Some r ≡ None = h.4 in cc);
 }
+
+-- words that ask for nothing end with Usage, but for what became of its line
+pub usage-alone : FollowPlans → (told : Option FileMap) (rose refused : Type 0)
+    (Started : ℕ → Type 0) (asked : Option Request) (old new : Output) (s : Status) →
+    EndsByRequest told rose refused Started asked old new s →
+    (option_and_then file_of asked ≡ None) × (option_and_then load_of asked ≡ None) ×
+    (option_and_then files_of asked ≡ None) × (option_and_then tasks_of asked ≡ None) ×
+    (option_and_then told_report asked ≡ None) →
+    (s ≡ status.Usage) ⊎ ((s ≡ status.WriteFault) ⊎ (s ≡ status.OutOfMemory))
+usage-alone follow told rose refused Started None old new s e none =
+    by (follow.statuses old new usage_plan s e)
+  where
+    by : (s ≡ status.Usage) ⊎ (((s ≡ status.WriteFault) × Rose old.count new.count) ⊎
+        (s ≡ status.OutOfMemory)) →
+        (s ≡ status.Usage) ⊎ ((s ≡ status.WriteFault) ⊎ (s ≡ status.OutOfMemory))
+    by (inl h) = inl h
+    by (inr (inl h)) = inr (inl h.0)
+    by (inr (inr h)) = inr (inr h)
+usage-alone follow told rose refused Started (Some (of_file r)) old new s e none =
+    absurd (let bad : Some r ≡ None = none.0 in cc)
+usage-alone follow told rose refused Started (Some (of_load seed)) old new s e none =
+    absurd (let bad : Some seed ≡ None = none.1 in cc)
+usage-alone follow told rose refused Started (Some (of_run r)) old new s e none =
+    absurd (let bad : Some r ≡ None = none.2 in cc)
+usage-alone follow told rose refused Started (Some (of_tasks r)) old new s e none =
+    absurd (let bad : Some r ≡ None = none.3 in cc)
+usage-alone follow told rose refused Started (Some (of_report r)) old new s e none =
+    absurd (let bad : Some r ≡ None = none.4 in cc)
 
 -- ReadFault
 found-unread : FollowPlans → (told : Option FileMap) (rose : Type 0) (r : FileJob)
@@ -278,54 +305,3 @@ faultless follow files rose refused Started asked old new s P e h r w =
       | inl f ↦ inr (fault-by follow files rose refused Started asked old new s P e h r w f)
       | inr f ↦ inl f
     ]
-
--- and where Ok has a cause, it comes, or memory ran out
-pub complete : FollowPlans → (files : FileMap) (rose refused : Type 0) (Started : ℕ → Type 0)
-    (asked : Option Request) (old new : Output) (s : Status) (P : Job → List ℕ → Type 0)
-    {Cause : Type 0} → EndsByRequest (Some files) rose refused Started asked old new s →
-    ComesExactly s status.Ok Cause → Cause → IsAllThere P files asked → (rose → ⊥) →
-    (Rose old.count new.count → ⊥) → (s ≡ status.Ok) ⊎ (s ≡ status.OutOfMemory)
-complete follow files rose refused Started asked old new s P e comes cause h r w =
-    by (comes.always cause)
-  where
-    by : (s ≡ status.Ok) ⊎ (is_fault s ≡ true) → (s ≡ status.Ok) ⊎ (s ≡ status.OutOfMemory)
-    by (inl ok) = inl ok
-    by (inr f) = inr (fault-by follow files rose refused Started asked old new s P e h r w f)
-
--- words that ask for a file ask for no run
-pub file-no-run : (files : FileMap) (P : Job → List ℕ → Type 0) (asked : Option Request) →
-    Asks P files (option_and_then file_of asked) → AsksNoRun asked
-file-no-run files P None h = absurd h
-file-no-run files P (Some (of_file r)) h = (refl, refl)
-file-no-run files P (Some (of_run r)) h = absurd h
-file-no-run files P (Some (of_tasks r)) h = absurd h
-file-no-run files P (Some (of_load seed)) h = absurd h
-file-no-run files P (Some (of_report r)) h = absurd h
-
--- a run whose files give a plant has a trace
-pub complete-run : (files : FileMap) (rose refused : Type 0) (Started : ℕ → Type 0)
-    (asked : Option Request) (old new : Output) (s : Status) →
-    EndsByRequest (Some files) rose refused Started asked old new s →
-    AsksRun IsOk files (option_and_then files_of asked) → (rose → ⊥) → (refused → ⊥) →
-    (Rose old.count new.count → ⊥) → (is_traced s ≡ true) ⊎ (s ≡ status.OutOfMemory)
-complete-run files rose refused Started None old new s e h r f w = absurd h
-complete-run files rose refused Started (Some (of_file q)) old new s e h r f w = absurd h
-complete-run files rose refused Started (Some (of_run q)) old new s e h r f w =
-    e.complete files refl h r f w
-complete-run files rose refused Started (Some (of_load seed)) old new s e h r f w = absurd h
-complete-run files rose refused Started (Some (of_tasks q)) old new s e h r f w = absurd h
-complete-run files rose refused Started (Some (of_report r)) old new s e h r' f w = absurd h
-
--- and so has one of tasks in Structured Text
-pub complete-tasks : (files : FileMap) (rose refused : Type 0) (Started : ℕ → Type 0)
-    (asked : Option Request) (old new : Output) (s : Status) →
-    EndsByRequest (Some files) rose refused Started asked old new s →
-    AsksTasks IsOk files (option_and_then tasks_of asked) → (rose → ⊥) →
-    (Rose old.count new.count → ⊥) → (is_traced s ≡ true) ⊎ (s ≡ status.OutOfMemory)
-complete-tasks files rose refused Started None old new s e h r w = absurd h
-complete-tasks files rose refused Started (Some (of_file q)) old new s e h r w = absurd h
-complete-tasks files rose refused Started (Some (of_run q)) old new s e h r w = absurd h
-complete-tasks files rose refused Started (Some (of_load seed)) old new s e h r w = absurd h
-complete-tasks files rose refused Started (Some (of_tasks q)) old new s e h r w =
-    e.complete files refl h r w
-complete-tasks files rose refused Started (Some (of_report q)) old new s e h r w = absurd h

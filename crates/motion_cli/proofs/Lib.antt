@@ -3,6 +3,7 @@ pub mod FileLaws
 pub mod ReportLaws
 pub mod CauseLaws
 pub mod FaultLaws
+pub mod CompleteLaws
 pub mod TraceLaws
 pub mod AskedLaws
 pub mod BenchLaws

@@ -3,3 +3,4 @@ pub mod Causes
 pub mod Reports
 pub mod Ends
 pub mod Again
+pub mod Said

@@ -12,7 +12,6 @@ use Rattle.motion_history.specs.declared.entry.Stored.TheVariants as stored
 use Rattle.motion_history.specs.declared.history.History.TheInside.{Inside}
 use Rattle.motion_history.specs.Entries.{Entry, call, cycle, end_of, cycle_count, cycles_of, HistoryState}
 use Rattle.motion_history.specs.Stored.{call_entry, entry_of, entries_of, IsMade, IsThere}
-use Rattle.motion_history.specs.Rows.{rows_at}
 use Rattle.motion_history.specs.Kept.{store_of, state_of, IsKept}
 use Rattle.motion_history.proofs.DistinctLemmas.{each-append}
 use Rattle.motion_history.proofs.HistoryLemmas.{Extends, cycles_of-more, length-entries_of, entries_of-none, entries_of-more, entries_of-extends, slice_get-entries_of, rows_at-next, AllMade-later, AllMade-at}

@@ -6,5 +6,6 @@ pub mod TableLemmas
 pub mod HistoryLemmas
 pub mod KeptLemmas
 pub mod WholeLemmas
+pub mod TouchLemmas
 pub mod RangeLaws
 pub mod SoundLaws

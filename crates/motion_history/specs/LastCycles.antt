@@ -1,5 +1,7 @@
 -- The last cycle of a history. This project's profile.
-use Rattle.std.specs.Prelude.{Option, Some, None, List, [], ◌∷◌}
+use Rattle.std.specs.Prelude.{ℕ, Option, Some, None, List, [], ◌∷◌, slice_get}
+use Rattle.axis_state.specs.declared.definition.AxisRow.{AxisRow}
+use Rattle.group_state.specs.declared.state.GroupRow.{GroupRow}
 use Rattle.motion_history.specs.Entries.{Entry, call, cycle, end_of}
 use Rattle.motion_history.specs.declared.entry.CycleLook.{CycleLook}
 
@@ -22,3 +24,13 @@ last_cycle_of (e ∷ es) = later (cycle_in e) (last_cycle_of es)
 -- the cycle that is looked at
 abbrev pub cycle_told : CycleLook → Entry
 cycle_told l = cycle l.number l.axes.now l.groups.now
+
+-- the row of an axis in a cycle, if both are there
+abbrev pub axis_row_in : ℕ → Option Entry → Option AxisRow
+axis_row_in n (Some (cycle k axes groups)) = slice_get axes n
+axis_row_in n e = None
+
+-- the row of a group in a cycle, if both are there
+abbrev pub group_row_in : ℕ → Option Entry → Option GroupRow
+group_row_in n (Some (cycle k axes groups)) = slice_get groups n
+group_row_in n e = None

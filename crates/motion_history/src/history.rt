@@ -12,6 +12,7 @@ ghost use Rattle.motion_history.specs.Stored.{call_entry};
 use crate::bits::{call_has_bits, group_row_has_bits, row_has_bits};
 use crate::config::Config;
 use crate::entry::{CallMade, CycleLook, EntryLook, Stored, call_at, rows_at, stored_at};
+use crate::touching::{NO_AXIS_ROW, NO_CALL, NO_GROUP_ROW, touch_room};
 use axis_state::AxisRow;
 use fb_outputs::{Inputs, Outputs};
 use group_state::GroupRow;
@@ -59,6 +60,16 @@ impl History {
         }) }
     {
         reserved(alloc, config).map_err(|_| OutOfMemory)
+    }
+
+    /// Touches the memory of the whole room, so that no entry pays for its pages.
+    pub fn touch(&mut self)
+        ensures { self.new ≡ self.old }
+    {
+        touch_room(&mut self.stored, Stored::End { task: 0 });
+        touch_room(&mut self.calls, NO_CALL);
+        touch_room(&mut self.axis_rows, NO_AXIS_ROW);
+        touch_room(&mut self.group_rows, NO_GROUP_ROW);
     }
 
     /// Adds a call of a block and its reply.

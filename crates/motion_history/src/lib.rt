@@ -27,6 +27,7 @@ mod sizes;
 mod tables;
 #[cfg(test)]
 mod tests;
+mod touching;
 
 pub use axis_state::{AxisDef, AxisRow, AxisState, DriveIn, DriveOut, Limits, Name};
 pub use builder::Builder;

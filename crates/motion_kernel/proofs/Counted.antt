@@ -1,20 +1,25 @@
 -- The rows of a legal history are counted.
-use Rattle.std.specs.Prelude.{◌≡◌, refl, ℕ, pos, zero, suc, ◌+◌, ◌<◌, ℤ, List, [], ◌∷◌, ◌++◌, length, slice_index_or}
+use Rattle.std.specs.Prelude.{◌≡◌, refl, ℕ, pos, zero, suc, ◌+◌, ◌*◌, ◌^◌, ◌<◌, ◌≤◌, ℤ, neg_ℤ, ◌-ℤ◌, ◌≤ℤ◌, unsigned_abs, List, [], ◌∷◌, ◌++◌, length, slice_index_or, FitsSigned}
+use Rattle.std.specs.Int.{w64}
 use Rattle.std.specs.List.{AllZip}
 use Rattle.std.proofs.Common.{arith, ap, sym, subst, ◌∙◌}
+use Rattle.std.proofs.lemmas.Int.{ints}
 use Rattle.std.proofs.lemmas.List.{get_or-map, length-map}
 use Rattle.std.proofs.lemmas.List.Elements.{All-get_or}
 use Rattle.axis_core.specs.Along.{KeepsDefinition}
 use Rattle.axis_core.specs.Cycles.{axis_at_opening, core_after_cycle, row_shown}
 use Rattle.axis_core.specs.declared.axis.Axis.{Axis}
-use Rattle.axis_state.specs.Counts.{HasCounts, IsCount}
+use Rattle.axis_state.specs.Counts.{HasCounts, IsCount, place_of}
 use Rattle.axis_state.specs.declared.definition.AxisDef.{AxisDef}
 use Rattle.axis_state.specs.declared.definition.AxisRow.{AxisRow}
 use Rattle.cia402_machine.specs.declared.drive.DriveIn.{DriveIn}
 use Rattle.fb_outputs.specs.declared.inputs.Inputs.{Inputs}
 use Rattle.group_state.specs.declared.state.GroupRow.{GroupRow}
 use Rattle.kin_core.specs.declared.limits.Limits.{Limits}
+use Rattle.motion_numbers.specs.declared.TheConstants.{MOST_INCREMENT, MOST_PLACE}
+use Rattle.motion_history.specs.AxisRanges.{AreAxisRanges}
 use Rattle.motion_history.specs.Columns.{no_row}
+use Rattle.motion_history.specs.Configurations.{IsSound}
 use Rattle.motion_history.specs.Entries.{Entry, call, cycle, cycle_count, end_of}
 use Rattle.motion_history.specs.Setup.{Setup, IsSetup}
 use Rattle.motion_kernel.specs.cycles.Cycles.{look_of_axis, after_cycle, cycled}
@@ -29,10 +34,45 @@ use Rattle.motion_kernel.proofs.calls.AxesLeft.{call_left, calls_leave_definitio
 use Rattle.motion_kernel.proofs.cycles.OneAxis.{goes_through}
 use Rattle.motion_kernel.proofs.kept.Machine.{MachinesStayKept, kept_by_cycle}
 
+-- the offset of an axis is small
+abbrev OffsetsAreSmall : Type 0
+OffsetsAreSmall = (limits : Limits) (offset inc : ℤ) → pos 1 ≤ℤ inc → inc ≤ℤ pos MOST_INCREMENT →
+    neg_ℤ (pos MOST_PLACE) ≤ℤ limits.lo → limits.lo ≤ℤ limits.hi → limits.hi ≤ℤ pos MOST_PLACE →
+    HasCounts limits offset inc → unsigned_abs offset ≤ MOST_PLACE + 2 ^ 31 * MOST_INCREMENT
+
+-- the place of a count lies near the offset
+abbrev PlacesAreNear : Type 0
+PlacesAreNear = (lo count offset inc : ℤ) → pos 1 ≤ℤ inc → inc ≤ℤ pos MOST_INCREMENT →
+    IsCount count →
+    unsigned_abs (place_of lo count offset inc -ℤ offset) ≤ (2 ^ 31 + 1) * MOST_INCREMENT
+
 -- the laws on which it rests
 pub record CountLaws : Type 0 where
   pub machines : MachinesStayKept
   pub definitions : AxesKeepDefinitions
+  pub sound : (s : Setup) → IsSetup s → IsSound s
+  pub offsets : OffsetsAreSmall
+  pub near : PlacesAreNear
+
+-- ---- places
+
+-- near a small offset a place has 64 bits
+near_small : (place offset : ℤ) → unsigned_abs (place -ℤ offset) ≤ 2147483649000000000 →
+    unsigned_abs offset ≤ 2148483648000000000 → FitsSigned w64 place
+near_small place offset near small = omega (arith, ints, near, small)
+
+-- so has the place that a drive reports
+place_fits : CountLaws → (d : AxisDef) (r : AxisRow) → AreAxisRanges d →
+    HasCounts d.limits r.offset d.inc → IsCount r.input.actual →
+    FitsSigned w64 (place_of d.limits.lo r.input.actual r.offset d.inc)
+place_fits laws d r ranges places reported =
+    near_small (place_of d.limits.lo r.input.actual r.offset d.inc) r.offset
+    (laws.near d.limits.lo r.input.actual r.offset d.inc ranges.least ranges.most reported)
+    (laws.offsets d.limits r.offset d.inc ranges.least ranges.most
+    (let l = ranges.limits.lo_in_range in omega (arith, ints, l)) ranges.limits.ordered ranges.top
+    places)
+
+-- ---- rows
 
 -- the increment of each axis is its configured one
 abbrev inc_of : Setup → ℕ → ℤ
@@ -68,9 +108,9 @@ unfolding row_shown
 shows_mode input a = refl
 
 -- so it is counted
-row_counted : CountLaws → (s : Setup) (m : Machine) (rows : List AxisRow) (grows : List GroupRow) → IsMachineKept s m → AreConfigured s m →
+row_counted : CountLaws → (s : Setup) (m : Machine) (rows : List AxisRow) (grows : List GroupRow) → IsSetup s → IsMachineKept s m → AreConfigured s m →
     IsCycleOf s m rows grows → (n : ℕ) → n < length s.axes → IsCounted (slice_index_or s.axes n no_def) (slice_index_or rows n no_row)
-row_counted laws s m rows grows kept h is n l =
+row_counted laws s m rows grows setup kept h is n l =
     let ins = inputs_of rows in
     let sizes = kept.sized in
     let size = sizes.axes in
@@ -90,12 +130,18 @@ row_counted laws s m rows grows kept h is n l =
     let next_sizes = next.sized in
     let next_size = next_sizes.axes in
     let here = next.axes n (omega arith) in
+    let places : HasCounts (limits_of s n) (slice_index_or rows n no_row).offset (inc_of s n) =
+    subst (λ z. HasCounts (limits_of s n) z (inc_of s n)) (sym offset)
+    (subst (λ z. HasCounts (limits_of s n) a.offset z) inc
+    (subst (λ (x : Limits). HasCounts x a.offset a.inc) here.limits here.core.axis.base.counts)) in
+    let reported : IsCount (slice_index_or rows n no_row).input.actual =
+    subst (λ (d : DriveIn). IsCount d.actual) (get_or-map (λ (r : AxisRow). r.input) rows n no_row no_answer (omega arith))
+    (All-get_or (λ (d : DriveIn). IsCount d.actual) (inputs_of rows) n no_answer (let long = length-map rows (λ (r : AxisRow). r.input) in omega arith) is.counts) in
     record {
-      places = subst (λ z. HasCounts (limits_of s n) z (inc_of s n)) (sym offset)
-          (subst (λ z. HasCounts (limits_of s n) a.offset z) inc
-          (subst (λ (x : Limits). HasCounts x a.offset a.inc) here.limits here.core.axis.base.counts));
-      reported = subst (λ (d : DriveIn). IsCount d.actual) (get_or-map (λ (r : AxisRow). r.input) rows n no_row no_answer (omega arith))
-          (All-get_or (λ (d : DriveIn). IsCount d.actual) (inputs_of rows) n no_answer (let long = length-map rows (λ (r : AxisRow). r.input) in omega arith) is.counts);
+      places = places;
+      reported = reported;
+      place = place_fits laws (slice_index_or s.axes n no_def) (slice_index_or rows n no_row)
+          (All-get_or AreAxisRanges s.axes n no_def l (laws.sound s setup).axes) places reported;
       mode = mode;
     }
 
@@ -108,27 +154,27 @@ in_each_place P (d ∷ ds) [] e h = absurd (cc)
 in_each_place P (d ∷ ds) (r ∷ rs) e h = (h zero (omega arith), in_each_place P ds rs (omega arith) (λ n l. h (suc n) (omega arith)))
 
 -- the rows of a cycle
-rows_counted : CountLaws → (s : Setup) (m : Machine) (rows : List AxisRow) (grows : List GroupRow) → IsMachineKept s m → AreConfigured s m →
+rows_counted : CountLaws → (s : Setup) (m : Machine) (rows : List AxisRow) (grows : List GroupRow) → IsSetup s → IsMachineKept s m → AreConfigured s m →
     IsCycleOf s m rows grows → AllZip IsCounted s.axes rows
-rows_counted laws s m rows grows kept h is =
+rows_counted laws s m rows grows setup kept h is =
     let sizes = kept.sized in
-    in_each_place IsCounted s.axes rows (is.answers ∙ sizes.axes) (row_counted laws s m rows grows kept h is)
+    in_each_place IsCounted s.axes rows (is.answers ∙ sizes.axes) (row_counted laws s m rows grows setup kept h is)
 
 -- the machine and its increments over entries
 counted_from : CountLaws → (s : Setup) (cycles : ℕ) (m : Machine) (made more : List Entry) (n : ℕ) (rows : List AxisRow) (grows : List GroupRow) →
-    AreWhole s → IsMachineKept s m → AreConfigured s m → Follows s cycles m (made ++ cycle n rows grows ∷ more) → AllZip IsCounted s.axes rows
-counted_from laws s cycles m [] more n rows grows whole kept h f = rows_counted laws s m rows grows kept h f.0.1
-counted_from laws s cycles m (call k i reply ∷ made) more n rows grows whole kept h f =
-    counted_from laws s (cycles + cycle_count (call k i reply)) (after_call s m k i) made more n rows grows whole
+    IsSetup s → AreWhole s → IsMachineKept s m → AreConfigured s m → Follows s cycles m (made ++ cycle n rows grows ∷ more) → AllZip IsCounted s.axes rows
+counted_from laws s cycles m [] more n rows grows setup whole kept h f = rows_counted laws s m rows grows setup kept h f.0.1
+counted_from laws s cycles m (call k i reply ∷ made) more n rows grows setup whole kept h f =
+    counted_from laws s (cycles + cycle_count (call k i reply)) (after_call s m k i) made more n rows grows setup whole
     (laws.machines.call s m k i whole f.0.0 kept) (configured_by_call laws s m k i h) f.1
-counted_from laws s cycles m (cycle c rs gs ∷ made) more n rows grows whole kept h f =
-    counted_from laws s (cycles + cycle_count (cycle c rs gs)) (after_cycle s m (inputs_of rs)) made more n rows grows whole
+counted_from laws s cycles m (cycle c rs gs ∷ made) more n rows grows setup whole kept h f =
+    counted_from laws s (cycles + cycle_count (cycle c rs gs)) (after_cycle s m (inputs_of rs)) made more n rows grows setup whole
     (kept_by_cycle laws.machines s m rs gs kept f.0.1) (configured_by_cycle laws s m (inputs_of rs) kept h) f.1
-counted_from laws s cycles m (end_of task ∷ made) more n rows grows whole kept h f =
-    counted_from laws s (cycles + cycle_count (end_of task)) m made more n rows grows whole kept h f.1
+counted_from laws s cycles m (end_of task ∷ made) more n rows grows setup whole kept h f =
+    counted_from laws s (cycles + cycle_count (end_of task)) m made more n rows grows setup whole kept h f.1
 
 -- in a legal history each row is counted
 pub all_counted : CountLaws → (s : Setup) (es : List Entry) → IsSetup s → AreWhole s → IsLegal s es → RowsAreCounted s es
 all_counted laws s es setup whole legal made more n rows grows is =
-    counted_from laws s 0 (machine_at_opening s) made more n rows grows whole (laws.machines.opened s setup whole) (configured_at_opening s)
+    counted_from laws s 0 (machine_at_opening s) made more n rows grows setup whole (laws.machines.opened s setup whole) (configured_at_opening s)
     (subst (Follows s 0 (machine_at_opening s)) is legal.follows)

@@ -1,7 +1,8 @@
 -- Which counts the rows of legal histories have.
-use Rattle.std.specs.Prelude.{◌≡◌, ℕ, pos, List, ◌∷◌, ◌++◌}
+use Rattle.std.specs.Prelude.{◌≡◌, ℕ, pos, List, ◌∷◌, ◌++◌, FitsSigned}
+use Rattle.std.specs.Int.{w64}
 use Rattle.std.specs.List.{AllZip}
-use Rattle.axis_state.specs.Counts.{HasCounts, IsCount}
+use Rattle.axis_state.specs.Counts.{HasCounts, IsCount, place_of}
 use Rattle.axis_state.specs.declared.definition.AxisDef.{AxisDef}
 use Rattle.axis_state.specs.declared.definition.AxisRow.{AxisRow}
 use Rattle.group_state.specs.declared.state.GroupRow.{GroupRow}
@@ -9,10 +10,12 @@ use Rattle.motion_history.specs.Entries.{Entry, cycle}
 use Rattle.motion_history.specs.Setup.{Setup}
 
 -- with the offset of a row the places within the limits of its axis have counts of 32 bits; its
--- drive reported one, and is given mode 8. IEC 61800-7-201, objects 607Ah, 6064h and 6060h
+-- drive reported one, whose place has 64 bits, and is given mode 8. IEC 61800-7-201, objects 607Ah,
+-- 6064h and 6060h
 pub record IsCounted (d : AxisDef) (r : AxisRow) : Type 0 where
   pub places : HasCounts d.limits r.offset d.inc
   pub reported : IsCount r.input.actual
+  pub place : FitsSigned w64 (place_of d.limits.lo r.input.actual r.offset d.inc)
   pub mode : r.output.mode ≡ pos 8
 
 -- so it is with each row of each cycle

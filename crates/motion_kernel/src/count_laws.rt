@@ -9,16 +9,21 @@ ghost use Rattle.motion_kernel.specs.kept.Machine.{AreWhole};
 
 use crate::laws::machines_stay_kept;
 use axis_core::axes_keep_their_definitions;
+use axis_state::{counts_are_read_back, offsets_are_small};
+use motion_history::configurations_are_sound;
 
 /// In every cycle of a legal history, with the offset of each row every place within the limits of
 /// its axis has a count of 32 bits in the increments of its drive, and what its drive reported is
-/// one; the mode that its drive is given is 8, cyclic synchronous position (IEC 61800-7-201,
-/// objects 607Ah, 6064h and 6060h). So a Home never moves an axis out of the counts of its drive,
-/// and the place that a drive reports has 64 bits.
+/// one, whose place has 64 bits; the mode that its drive is given is 8, cyclic synchronous position
+/// (IEC 61800-7-201, objects 607Ah, 6064h and 6060h). So a Home never moves an axis out of the
+/// counts of its drive.
 pub fn rows_are_counted()
     ensures { (s : Setup) (es : List Entry) → IsSetup s → AreWhole s → IsLegal s es →
         RowsAreCounted s es }
 {
     machines_stay_kept();
     axes_keep_their_definitions();
+    configurations_are_sound();
+    offsets_are_small();
+    counts_are_read_back();
 }

@@ -10,9 +10,10 @@ ghost use Rattle.motion_kernel.specs.Histories.{IsLegal};
 ghost use Rattle.motion_kernel.specs.kept.Machine.{AreWhole};
 
 use axis_core::{
-    blended_moves_end_in_time, courses_end_in_time, fates_are_told,
-    moves_are_done_at_their_targets, paths_are_followed,
+    blended_moves_end_in_time, courses_end_in_time, moves_are_done_at_their_targets,
+    paths_are_followed,
 };
+use command_changes::{axis_fates_are_told, group_fates_are_told};
 use group_core::lines_lead_to_their_targets;
 use motion_kernel::machines_stay_kept;
 
@@ -33,7 +34,7 @@ pub fn moves_arrive_in_time()
         MovesArrive s es }
 {
     machines_stay_kept();
-    fates_are_told();
+    axis_fates_are_told();
     courses_end_in_time();
     blended_moves_end_in_time();
     moves_are_done_at_their_targets();
@@ -53,7 +54,7 @@ pub fn paths_end_in_time()
         PathsEnd s es }
 {
     machines_stay_kept();
-    group_core::fates_are_told();
+    group_fates_are_told();
     group_core::courses_end_in_time();
     lines_lead_to_their_targets();
     paths_are_followed();

@@ -67,7 +67,5 @@ pub fn at_most_eight_wait()
     groups_keep_their_axes();
     axis_changes_are_made();
     group_changes_are_made();
-    axis_core::at_most_eight_wait();
-    group_core::at_most_eight_wait();
     command_core::at_most_eight_wait();
 }

@@ -1,18 +1,13 @@
 -- The entries of joined tickets.
-use Rattle.std.proofs.Common.{◌≡◌, ℕ, suc, ◌+◌, ◌<◌, ◌≤◌, List, [], ◌++◌, length, Bool, true, false, Some, eq-eqb, eqb-true, refl, sym, ap, ◌∙◌, subst, arith, append-nil, ⊎_elim}
+use Rattle.std.proofs.Common.{◌≡◌, ℕ, suc, ◌+◌, ◌<◌, ◌≤◌, List, [], ◌++◌, length, Bool, true, Some, eq-eqb, eqb-true, refl, sym, ap, ◌∙◌, subst, arith, append-nil, ⊎_elim}
 use Rattle.std.specs.Prelude.{slice_get, ◌&&◌, ◌==◌}
 use mathlib.Core.List.{IsPrefix}
 use Rattle.motion_history.specs.Entries.{Entry}
 use Rattle.motion_history.specs.Setup.{Setup}
 use Rattle.motion_plant.specs.Makers.{IsBy, IsUpTo, Owns, entries_by, entries_where, is_in, maker_of, own_entries, own_entries_by}
-use Rattle.motion_plant.proofs.OwnEntries.{in_parts, in_left, in_right, no_true, same_true, where_more, where_same, where_none, entries_is, entries_prefix, owns_prefix}
-use Rattle.std.proofs.lemmas.Bool.{and_parts}
+use Rattle.motion_plant.proofs.OwnEntries.{in_parts, in_left, in_right, same_true, where_more, where_same, where_none, entries_is, entries_prefix, owns_prefix}
+use Rattle.std.proofs.lemmas.Bool.{and_parts, false_from_ne_true, and_from}
 use Rattle.motion_plant.proofs.Lists.{get_some}
-
-and_true : (b c : Bool) → b ≡ true → c ≡ true → (b && c) ≡ true
-and_true true true e f = refl
-and_true true false e f = absurd (cc)
-and_true false c e f = absurd (cc)
 
 entries_by_is : (s : Setup) (k : ℕ) (own : List ℕ) (h : List Entry) → own_entries_by s k own h ≡
     entries_where (λ n e. is_in n own && (maker_of s e == k)) [] h
@@ -38,7 +33,7 @@ entries_by_prefix s k own xs ys below =
     entries_by_is s k own (xs ++ ys)
     ∙ where_more t [] xs ys
     ∙ ap (λ zs. entries_where t [] xs ++ zs)
-    (where_none t xs ys (λ i e le. no_true (t i e) (λ y. let b = below i (and_parts _ _ y).0 in
+    (where_none t xs ys (λ i e le. false_from_ne_true (t i e) (λ y. let b = below i (and_parts _ _ y).0 in
     absurd (omega arith))))
     ∙ append-nil (entries_where t [] xs)
     ∙ sym (entries_by_is s k own xs)
@@ -70,10 +65,10 @@ module _ (s : Setup) (k : ℕ) (own other : List ℕ) (seen theirs all : List En
       λ i e at.
       same_true (is_in i (own ++ other) && (maker_of s e == m)) (is_in i own && (maker_of s e == m))
       (λ x. let p = and_parts _ _ x in
-      and_true _ _ (⊎_elim (λ z. z) (λ z. let w = b'.each i e z at in
+      and_from _ _ (⊎_elim (λ z. z) (λ z. let w = b'.each i e z at in
       let q = eqb-true (maker_of s e) m p.1 in absurd (omega arith)) (in_parts i own other p.0))
       p.1)
-      (λ x. let p = and_parts _ _ x in and_true _ _ (in_left i own other p.0) p.1) in
+      (λ x. let p = and_parts _ _ x in and_from _ _ (in_left i own other p.0) p.1) in
       entries_by_is s m (own ++ other) all
       ∙ where_at _ _ all same
       ∙ sym (entries_by_is s m own all)
@@ -88,7 +83,7 @@ module _ (s : Setup) (k : ℕ) (own other : List ℕ) (seen theirs all : List En
       (λ x. let p = and_parts _ _ x in ⊎_elim (λ z. let w = a'.each i e z at in
       let q = eqb-true (maker_of s e) (suc k) p.1 in absurd (omega arith)) (λ z. z)
       (in_parts i own other p.0))
-      (λ z. and_true _ _ (in_right i own other z) (eq-eqb (maker_of s e) (suc k)
+      (λ z. and_from _ _ (in_right i own other z) (eq-eqb (maker_of s e) (suc k)
       (b'.each i e z at))) in
       entries_by_is s (suc k) (own ++ other) all
       ∙ where_at _ _ all same
@@ -104,7 +99,7 @@ cycles_first s own seen o =
     ∙ where_at _ _ seen (λ i e at. same_true (is_in i own && (maker_of s e == 0)) (is_in i own)
     (λ x. (and_parts _ _ x).0)
     (λ x. let p = o.each i e x at in let z : maker_of s e ≡ 0 = omega arith in
-    and_true _ _ x (eq-eqb (maker_of s e) 0 z)))
+    and_from _ _ x (eq-eqb (maker_of s e) 0 z)))
     ∙ sym (entries_is own seen)
 
 -- at the close, all entries are own
@@ -116,7 +111,7 @@ all_own s k own seen h below pre all =
     ∙ sym (where_at _ _ h (λ i e at. same_true (is_in i own && (maker_of s e == k))
     (maker_of s e == k)
     (λ x. (and_parts _ _ x).1)
-    (λ y. and_true _ _ (all i (get_some h i e at)) y)))
+    (λ y. and_from _ _ (all i (get_some h i e at)) y)))
     ∙ sym (entries_by_is s k own h)
     ∙ ap (own_entries_by s k own) (sym pre.1)
     ∙ entries_by_prefix s k own seen pre.0 below

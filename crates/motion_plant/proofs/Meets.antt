@@ -48,9 +48,6 @@ or_right a true never = absurd (never (right a))
     right false = refl
 or_right a false never = refl
 
-off : (b : Bool) → b ≡ true → b ≡ false → ⊥
-off b t f = absurd (cc)
-
 begin_length : (xs ys : List Entry) → IsPrefix xs ys → length xs ≤ length ys
 begin_length xs ys p = let e = ap length p.1 in let l = length-append xs p.0 in omega arith
 
@@ -180,7 +177,7 @@ module _ (first k1 k2 : PassState) (m : ℕ) (lines lines1 lines2 : List LineSta
       go endings.Full x y =
           let made : k2.made_stop ≡ false = join.stops ∙ y refl ∙ none in
           let met : k2.met_stop ≡ false = or_right f.stopped k2.met_stop
-          (λ t. off k2.made_stop (closed.stop t) made) in
+          (λ t. let on = closed.stop t in cc) in
           let a = x (join.met met) in
           let l = begin_length k1.seen h pre in
           let b = legal.entries in

@@ -1,6 +1,7 @@
 -- The entries of tickets, entry by entry.
-use Rattle.std.proofs.Common.{◌≡◌, ℕ, suc, ◌+◌, ◌<◌, ◌≤◌, List, [], ◌∷◌, ◌++◌, length, Bool, true, false, Some, eq-eqb, eqb-true, refl, sym, ap, ◌∙◌, subst, arith, length-append, append_assoc, append-nil, ◌⊎◌, ⊎_elim, inl, inr}
+use Rattle.std.proofs.Common.{◌≡◌, ℕ, suc, ◌+◌, ◌<◌, ◌≤◌, List, [], ◌∷◌, ◌++◌, length, Bool, true, false, Some, eq-eqb, eqb-true, refl, sym, ap, ◌∙◌, subst, arith, length-append, append_assoc, append-nil, ◌⊎◌, ⊎_elim}
 use Rattle.std.specs.Prelude.{slice_get, ◌||◌, ◌==◌}
+use Rattle.std.proofs.lemmas.Bool.{false_from_ne_true, or_cases, or_left, or_right}
 use Rattle.motion_history.specs.Entries.{Entry}
 use Rattle.motion_plant.specs.Makers.{Logged, Owns, entries_where, is_in, own_entries, with_front}
 use Rattle.motion_plant.proofs.Lists.{get_before, get_some, snoc_length, some_is}
@@ -14,21 +15,9 @@ in_append n (x ∷ xs) ys = go (x == n) (in_append n xs ys)
     go true e = refl
     go false e = e
 
-or_parts : (b c : Bool) → (b || c) ≡ true → (b ≡ true) ⊎ (c ≡ true)
-or_parts true c e = inl refl
-or_parts false c e = inr e
-
-or_left : (b c : Bool) → b ≡ true → (b || c) ≡ true
-or_left true c e = refl
-or_left false c e = absurd (cc)
-
-or_right : (b c : Bool) → c ≡ true → (b || c) ≡ true
-or_right true c e = refl
-or_right false c e = e
-
 pub in_parts : (n : ℕ) (xs ys : List ℕ) → is_in n (xs ++ ys) ≡ true → (is_in n xs ≡ true) ⊎
     (is_in n ys ≡ true)
-in_parts n xs ys e = or_parts (is_in n xs) (is_in n ys) (sym (in_append n xs ys) ∙ e)
+in_parts n xs ys e = or_cases (is_in n xs) (is_in n ys) (sym (in_append n xs ys) ∙ e)
 
 pub in_left : (n : ℕ) (xs ys : List ℕ) → is_in n xs ≡ true → is_in n (xs ++ ys) ≡ true
 in_left n xs ys e = in_append n xs ys ∙ or_left (is_in n xs) (is_in n ys) e
@@ -40,14 +29,10 @@ in_this : (n : ℕ) → is_in n (n ∷ []) ≡ true
 in_this n = or_left (n == n) false (eq-eqb n n refl)
 
 in_only : (n m : ℕ) → is_in n (m ∷ []) ≡ true → m ≡ n
-in_only n m e = ⊎_elim (λ t. eqb-true m n t) (λ f. absurd (cc)) (or_parts (m == n) false e)
+in_only n m e = ⊎_elim (λ t. eqb-true m n t) (λ f. absurd (cc)) (or_cases (m == n) false e)
 
 pub in_snoc : (n : ℕ) (own : List ℕ) → is_in n (own ++ n ∷ []) ≡ true
 in_snoc n own = in_right n own (n ∷ []) (in_this n)
-
-pub no_true : (b : Bool) → (b ≡ true → ⊥) → b ≡ false
-no_true true never = absurd (never refl)
-no_true false never = refl
 
 pub same_true : (b c : Bool) → (b ≡ true → c ≡ true) → (c ≡ true → b ≡ true) → b ≡ c
 same_true true c f g = sym (f refl)
@@ -110,7 +95,7 @@ entries_is own h = refl
 
 not_in : (own : List ℕ) (k : ℕ) → ((n : ℕ) → is_in n own ≡ true → n < k) → (i : ℕ) → k ≤ i →
     is_in i own ≡ false
-not_in own k below i le = no_true (is_in i own) (λ e. let b = below i e in absurd (omega arith))
+not_in own k below i le = false_from_ne_true (is_in i own) (λ e. let b = below i e in absurd (omega arith))
 
 -- more entries, none of them own
 pub entries_prefix : (own : List ℕ) (xs ys : List Entry) → ((n : ℕ) → is_in n own ≡ true →

@@ -2,7 +2,7 @@
 use Rattle.std.specs.Prelude.{◌≡◌, ◌⊎◌, refl, ℕ, true, Option, Some, None, IfSome, Result, Ok, Err, List, map}
 use Rattle.std.specs.Result.{IsOk, is_ok}
 use Rattle.std.proofs.Common.{◌∙◌, inl, inr, ap}
-use Rattle.job_ends.proofs.Readings.{TellsBy, TellsOf, given, no-reading, tells-on}
+use Rattle.job_ends.proofs.Readings.{TellsBy, TellsOf, given, no-reading, told-on}
 use Rattle.job_ends.specs.Causes.{is_traced}
 use Rattle.job_ends.specs.Ends.{EndsBy, EndsEarly}
 use Rattle.job_ends.specs.Plans.{Plan}
@@ -75,18 +75,6 @@ abbrev pub Planned : Option FileMap → Type 0 → Type 0 → List ℕ → List 
 Planned told rose refuses config program old new s =
     EndsEarly old new s ⊎ PlannedBy told rose refuses config program old new s
 
-without-plant : {A : Type 0} (told : Option FileMap) (rose : Type 0) (f : FileMap → Result A Status)
-    (config program : List ℕ) (old new : Output) (s : Status) →
-    IfSome told (λ files. (x : Status) → f files ≡ Err x → plant_in files config program ≡ Err x) →
-    EndsEarly old new s ⊎ TellsBy told rose f old new s →
-    EndsEarly old new s ⊎ TellsBy told rose (λ files. plant_in files config program) old new s
-without-plant told rose f config program old new s on (inl h) = inl h
-without-plant told rose f config program old new s on (inr h) = inr (record {
-  plan = h.plan;
-  ends = h.ends;
-  tells = tells-on told rose f (λ files. plant_in files config program) h.plan.status on h.tells;
-})
-
 machine-wanting : (told : Option FileMap) (config program : List ℕ) →
     IfSome told (λ files. (x : Status) → machine_in files config ≡ Err x →
     plant_in files config program ≡ Err x)
@@ -140,11 +128,13 @@ pub no-plant : (told : Option FileMap) (rose : Type 0) (config program : List �
     (s : Status) → NoPlant told rose config program old new s →
     EndsEarly old new s ⊎ TellsBy told rose (λ files. plant_in files config program) old new s
 no-plant told rose config program old new s (inl h) =
-    without-plant told rose (λ files. machine_in files config) config program old new s
+    told-on told rose (λ files. machine_in files config) (λ files. plant_in files config program)
+    old new s
     (machine-wanting told config program)
     (no-reading told rose most_bytes 1 config machine_of old new s h)
 no-plant told rose config program old new s (inr (m, g, h)) =
-    without-plant told rose (λ files. program_in files program m) config program old new s
+    told-on told rose (λ files. program_in files program m) (λ files. plant_in files config program)
+    old new s
     (program-wanting told config program m g)
     (no-reading told rose most_bytes 2 program (program_of m.cycle_us m.config) old new s h)
 

@@ -1,8 +1,8 @@
 -- What the course of a run says of its status.
-use Rattle.std.specs.Prelude.{◌≡◌, ◌⊎◌, refl, ℕ, true, false, Option, Some, IsSomeAnd, Result, Ok, Err, List}
-use Rattle.std.specs.Result.{IsOk, is_ok}
+use Rattle.std.specs.Prelude.{◌≡◌, ◌⊎◌, refl, ℕ, true, Option, Some, IsSomeAnd, Result, Ok, Err, List}
+use Rattle.std.specs.Result.{IsOk}
 use Rattle.std.proofs.Common.{◌∙◌, inl, inr, sym, ap, subst}
-use Rattle.job_ends.proofs.Statuses.{Statuses, apart, early-not, same-told, text-always}
+use Rattle.job_ends.proofs.Statuses.{Statuses, apart, early-not, given-not-wanting, same-told, text-always, text-unfaulted, trace-stays, traced-no-text}
 use Rattle.job_ends.specs.Readings.{is_of_text}
 use Rattle.job_ends.specs.Causes.{ComesExactly, is_fault, is_traced}
 use Rattle.job_ends.specs.Follows.{FollowPlans}
@@ -16,11 +16,6 @@ use Rattle.run_job.specs.Causes.{is_of_run, plant_in}
 
 -- ---- statuses by their kinds
 
-text-unfaulted : (s : Status) → is_of_text s ≡ true → is_fault s ≡ false
-text-unfaulted (status.TooLong word) t = refl
-text-unfaulted (status.TextRefused word place rule) t = refl
-text-unfaulted s t = absurd (cc)
-
 text-of-run : (s : Status) → is_of_text s ≡ true → is_of_run s ≡ true
 text-of-run (status.TooLong word) t = refl
 text-of-run (status.TextRefused word place rule) t = refl
@@ -31,12 +26,6 @@ traced-of-run status.Ok t = refl
 traced-of-run status.CyclesOver t = refl
 traced-of-run status.HistoryFull t = refl
 traced-of-run s t = absurd (cc)
-
-traced-no-text : (s : Status) → is_traced s ≡ true → is_of_text s ≡ false
-traced-no-text status.Ok t = refl
-traced-no-text status.CyclesOver t = refl
-traced-no-text status.HistoryFull t = refl
-traced-no-text s t = absurd (cc)
 
 -- ---- what a status that a run leads to says
 
@@ -84,10 +73,6 @@ kind-of told rose refuses config program p (inl (inr h)) = text-of-run p h.0
 kind-of told rose refuses config program p (inr (inl h, given)) = ap is_of_run h.0
 kind-of told rose refuses config program p (inr (inr t, given)) = traced-of-run p t
 
--- a plant that is given is not wanting
-given-not-wanting : {A : Type 0} (r : Result A Status) (s : Status) → IsOk r → r ≡ Err s → ⊥
-given-not-wanting r s given e = let bad : true ≡ false = sym given ∙ ap is_ok e in cc
-
 -- what tells of a file's text comes of the files
 of-files : (files : FileMap) (rose refuses : Type 0) (config program : List ℕ)
     (p wanted : Status) → is_of_text wanted ≡ true →
@@ -118,12 +103,6 @@ kind-stays : (s p : Status) (R : Type 0) → Statuses s p R → is_of_run p ≡ 
 kind-stays s p R (inl e) k = ap is_of_run e ∙ k
 kind-stays s p R (inr (inl e)) k = ap is_of_run e.0
 kind-stays s p R (inr (inr e)) k = ap is_of_run e
-
-trace-stays : (s p : Status) (R : Type 0) → Statuses s p R → (R → ⊥) → is_traced p ≡ true →
-    (is_traced s ≡ true) ⊎ (s ≡ status.OutOfMemory)
-trace-stays s p R (inl e) none t = inl (ap is_traced e ∙ t)
-trace-stays s p R (inr (inl e)) none t = absurd (none e.1)
-trace-stays s p R (inr (inr e)) none t = inr e
 
 -- ---- what each field of the end says
 

@@ -1,12 +1,10 @@
 -- What the trace of a run stands for.
-use Rattle.std.specs.Prelude.{◌≡◌, ◌⊎◌, refl, ℕ, ◌+◌, true, false, Option, Some, Result, List, map, slice_get}
+use Rattle.std.specs.Prelude.{◌≡◌, refl, ℕ, ◌+◌, true, false, Option, Some, List, map, slice_get}
 use Rattle.std.proofs.Common.{◌∙◌, inl, inr, sym, ap, subst, arith}
 use Rattle.drive_sim.specs.Sim.{DriveSim}
-use Rattle.job_ends.proofs.Readings.{TellsBy, TellsOf}
+use Rattle.job_ends.proofs.Readings.{none-traced}
 use Rattle.job_ends.proofs.Statuses.{untraced}
-use Rattle.job_ends.specs.Readings.{is_of_text}
 use Rattle.job_ends.specs.Causes.{is_traced}
-use Rattle.job_ends.specs.Ends.{EndsEarly}
 use Rattle.job_ends.specs.Follows.{FollowPlans}
 use Rattle.job_ends.specs.declared.status.Status.{Status}
 use Rattle.job_ends.specs.declared.status.Status.TheVariants as status
@@ -24,24 +22,6 @@ use Rattle.run_job.specs.Headline.{HasEnded, RunHeadline}
 use Rattle.run_job.specs.Plans.{end_row, no_thread_plan, run_plan}
 
 -- ---- where there is no trace
-
-text-untraced : (s : Status) → is_of_text s ≡ true → is_traced s ≡ false
-text-untraced (status.TooLong word) t = refl
-text-untraced (status.TextRefused word place rule) t = refl
-text-untraced s t = absurd (cc)
-
-tells-untraced : {A : Type 0} (told : Option FileMap) (rose : Type 0) (f : FileMap → Result A Status)
-    (p : Status) → TellsOf {A = A} told rose f p → is_traced p ≡ false
-tells-untraced told rose f p (inl (word, is, h)) = ap is_traced is
-tells-untraced told rose f p (inr h) = text-untraced p h.0
-
-none-traced : {A : Type 0} → FollowPlans → (told : Option FileMap) (rose : Type 0) (f : FileMap → Result A Status)
-    (old new : Output) (s : Status) → EndsEarly old new s ⊎ TellsBy {A = A} told rose f old new s →
-    is_traced s ≡ true → ⊥
-none-traced follow told rose f old new s (inl e) t =
-    let bad : true ≡ false = sym t ∙ ap is_traced e.status in cc
-none-traced follow told rose f old new s (inr h) t =
-    untraced follow old new h.plan s h.ends (tells-untraced told rose f h.plan.status h.tells) t
 
 -- ---- where there is one
 

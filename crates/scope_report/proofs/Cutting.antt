@@ -37,8 +37,5 @@ item-there (x ∷ xs) zero d lt = refl
 item-there (x ∷ xs) (suc i) d lt = item-there xs i d (omega arith)
 item-there [] i d lt = absurd (omega arith)
 
-pub some-is : {X : Type 0} (a b : X) → Some a ≡ Some b → a ≡ b
-some-is a b e = cc
-
 pub none-is-not : {X : Type 0} (a : X) → None ≡ Some a → ⊥
 none-is-not a e = absurd (cc)

@@ -9,7 +9,7 @@ use Rattle.axis_state.specs.declared.definition.AxisRow.{AxisRow}
 use Rattle.motion_history.specs.Entries.{Entry}
 use Rattle.motion_history.specs.declared.config.BlockDef.{BlockDef}
 use Rattle.trace_text.specs.TraceState.{TraceState, entries_of}
-use Rattle.scope_report.proofs.Cutting.{none-is-not, some-is}
+use Rattle.scope_report.proofs.Cutting.{none-is-not}
 use Rattle.scope_report.specs.Laws.{AreNeighbours, IsGreatest, IsLeast, SaysOfAxis, SaysOfEach, SaysOfRows}
 use Rattle.scope_report.specs.Replies.{replies_of}
 use Rattle.scope_report.specs.Reports.{axis_report_of, axis_reports_from, block_report_of, block_reports_from}
@@ -17,6 +17,7 @@ use Rattle.scope_report.specs.Rows.{rows_of}
 use Rattle.scope_report.specs.Setpoints.{driven_of, greatest_of, least_of, neighbours_of, pairs_from, picked, setpoints_of}
 use Rattle.scope_report.specs.declared.report.AxisReport.{AxisReport}
 use Rattle.scope_report.specs.declared.report.BlockReport.{BlockReport}
+use Rattle.std.proofs.lemmas.Option.{same_Some}
 
 -- ---- the least and the greatest
 
@@ -115,8 +116,8 @@ axis-at : (k : ℕ) (ds : List AxisDef) (es : List Entry) (a : ℕ) (def : AxisD
     r ≡ axis_report_of def.name (rows_of (k + a) es)
 axis-at k [] es a def r e f = absurd (none-is-not def e)
 axis-at k (d ∷ ds) es zero def r e f =
-    sym (some-is _ _ f)
-    ∙ ap (λ (x : AxisDef). axis_report_of x.name (rows_of k es)) (some-is _ _ e)
+    sym (same_Some _ _ f)
+    ∙ ap (λ (x : AxisDef). axis_report_of x.name (rows_of k es)) (same_Some _ _ e)
     ∙ ap (λ n. axis_report_of def.name (rows_of n es)) (let z : k ≡ k + 0 = omega arith in z)
 axis-at k (d ∷ ds) es (suc a) def r e f =
     axis-at (suc k) ds es a def r e f
@@ -129,8 +130,8 @@ block-at : (k : ℕ) (ds : List BlockDef) (es : List Entry) (b : ℕ) (def : Blo
     r ≡ block_report_of def.name (replies_of (k + b) es)
 block-at k [] es b def r e f = absurd (none-is-not def e)
 block-at k (d ∷ ds) es zero def r e f =
-    sym (some-is _ _ f)
-    ∙ ap (λ (x : BlockDef). block_report_of x.name (replies_of k es)) (some-is _ _ e)
+    sym (same_Some _ _ f)
+    ∙ ap (λ (x : BlockDef). block_report_of x.name (replies_of k es)) (same_Some _ _ e)
     ∙ ap (λ n. block_report_of def.name (replies_of n es)) (let z : k ≡ k + 0 = omega arith in z)
 block-at k (d ∷ ds) es (suc b) def r e f =
     block-at (suc k) ds es b def r e f

@@ -4,7 +4,7 @@ use Rattle.std.specs.Result.{IsOk, is_ok}
 use Rattle.std.proofs.Common.{◌∙◌, inl, inr, ap}
 use Rattle.bench_run.specs.declared.bench.RunFault.{RunFault}
 use Rattle.bench_run.specs.declared.bench.RunFault.TheVariants.{CyclesOver, HistoryFull}
-use Rattle.job_ends.proofs.Readings.{TellsBy, TellsOf, given, no-reading, tells-on}
+use Rattle.job_ends.proofs.Readings.{TellsBy, TellsOf, given, no-reading, told-on}
 use Rattle.job_ends.specs.Causes.{is_traced}
 use Rattle.job_ends.specs.Ends.{EndsBy, EndsEarly}
 use Rattle.job_ends.specs.Files.{GivesReading}
@@ -72,18 +72,6 @@ abbrev pub Planned : Option FileMap → Type 0 → List ℕ → List ℕ → Out
 Planned told rose config program old new s =
     EndsEarly old new s ⊎ PlannedBy told rose config program old new s
 
-without-both : {A : Type 0} (told : Option FileMap) (rose : Type 0) (f : FileMap → Result A Status)
-    (config program : List ℕ) (old new : Output) (s : Status) →
-    IfSome told (λ files. (x : Status) → f files ≡ Err x → both_in files config program ≡ Err x) →
-    EndsEarly old new s ⊎ TellsBy told rose f old new s →
-    EndsEarly old new s ⊎ TellsBy told rose (λ files. both_in files config program) old new s
-without-both told rose f config program old new s on (inl h) = inl h
-without-both told rose f config program old new s on (inr h) = inr (record {
-  plan = h.plan;
-  ends = h.ends;
-  tells = tells-on told rose f (λ files. both_in files config program) h.plan.status on h.tells;
-})
-
 machine-wanting : (told : Option FileMap) (config program : List ℕ) →
     IfSome told (λ files. (x : Status) → machine_in files config ≡ Err x →
     both_in files config program ≡ Err x)
@@ -131,11 +119,13 @@ pub no-both : (told : Option FileMap) (rose : Type 0) (config program : List ℕ
     (s : Status) → NoController told rose config program old new s →
     EndsEarly old new s ⊎ TellsBy told rose (λ files. both_in files config program) old new s
 no-both told rose config program old new s (inl h) =
-    without-both told rose (λ files. machine_in files config) config program old new s
+    told-on told rose (λ files. machine_in files config) (λ files. both_in files config program)
+    old new s
     (machine-wanting told config program)
     (no-reading told rose most_bytes 1 config machine_of old new s h)
 no-both told rose config program old new s (inr (m, g, h)) =
-    without-both told rose (λ files. program_in files program m) config program old new s
+    told-on told rose (λ files. program_in files program m) (λ files. both_in files config program)
+    old new s
     (program-wanting told config program m g)
     (no-reading told rose most_bytes 2 program (reading_of m.config) old new s h)
 

@@ -1,8 +1,8 @@
 -- What the course of the job says of its status.
-use Rattle.std.specs.Prelude.{◌≡◌, ◌⊎◌, refl, ℕ, true, false, Option, Some, IsSomeAnd, Result, Ok, Err, List}
-use Rattle.std.specs.Result.{IsOk, is_ok}
+use Rattle.std.specs.Prelude.{◌≡◌, ◌⊎◌, refl, ℕ, true, Option, Some, IsSomeAnd, Result, Ok, Err, List}
+use Rattle.std.specs.Result.{IsOk}
 use Rattle.std.proofs.Common.{◌∙◌, inl, inr, sym, ap, subst}
-use Rattle.job_ends.proofs.Statuses.{Statuses, apart, early-not, same-told, text-always}
+use Rattle.job_ends.proofs.Statuses.{Statuses, apart, early-not, given-not-wanting, same-told, text-always, text-unfaulted, trace-stays, traced-no-text}
 use Rattle.job_ends.specs.Readings.{is_of_text}
 use Rattle.job_ends.specs.Causes.{ComesExactly, is_fault, is_traced}
 use Rattle.job_ends.specs.Follows.{FollowPlans}
@@ -16,11 +16,6 @@ use Rattle.st_job.specs.Causes.{both_in, is_of_st}
 
 -- ---- statuses by their kinds
 
-text-unfaulted : (s : Status) → is_of_text s ≡ true → is_fault s ≡ false
-text-unfaulted (status.TooLong word) t = refl
-text-unfaulted (status.TextRefused word place rule) t = refl
-text-unfaulted s t = absurd (cc)
-
 text-of-st : (s : Status) → is_of_text s ≡ true → is_of_st s ≡ true
 text-of-st (status.TooLong word) t = refl
 text-of-st (status.TextRefused word place rule) t = refl
@@ -31,12 +26,6 @@ traced-of-st status.Ok t = refl
 traced-of-st status.CyclesOver t = refl
 traced-of-st status.HistoryFull t = refl
 traced-of-st s t = absurd (cc)
-
-traced-no-text : (s : Status) → is_traced s ≡ true → is_of_text s ≡ false
-traced-no-text status.Ok t = refl
-traced-no-text status.CyclesOver t = refl
-traced-no-text status.HistoryFull t = refl
-traced-no-text s t = absurd (cc)
 
 -- ---- what a status that the job leads to says
 
@@ -69,10 +58,6 @@ kind-of told rose config program p (inl (inl (word, is, h))) = ap is_of_st is
 kind-of told rose config program p (inl (inr h)) = text-of-st p h.0
 kind-of told rose config program p (inr (t, given)) = traced-of-st p t
 
--- both that are given are not wanting
-given-not-wanting : {A : Type 0} (r : Result A Status) (s : Status) → IsOk r → r ≡ Err s → ⊥
-given-not-wanting r s given e = let bad : true ≡ false = sym given ∙ ap is_ok e in cc
-
 -- what tells of a file's text comes of the files
 of-files : (files : FileMap) (rose : Type 0) (config program : List ℕ)
     (p wanted : Status) → is_of_text wanted ≡ true →
@@ -101,12 +86,6 @@ kind-stays : (s p : Status) (R : Type 0) → Statuses s p R → is_of_st p ≡ t
 kind-stays s p R (inl e) k = ap is_of_st e ∙ k
 kind-stays s p R (inr (inl e)) k = ap is_of_st e.0
 kind-stays s p R (inr (inr e)) k = ap is_of_st e
-
-trace-stays : (s p : Status) (R : Type 0) → Statuses s p R → (R → ⊥) → is_traced p ≡ true →
-    (is_traced s ≡ true) ⊎ (s ≡ status.OutOfMemory)
-trace-stays s p R (inl e) none t = inl (ap is_traced e ∙ t)
-trace-stays s p R (inr (inl e)) none t = absurd (none e.1)
-trace-stays s p R (inr (inr e)) none t = inr e
 
 -- ---- what each field of the end says
 

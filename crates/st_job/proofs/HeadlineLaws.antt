@@ -1,13 +1,10 @@
 -- What the trace of the job stands for.
-use Rattle.std.specs.Prelude.{◌≡◌, ◌⊎◌, refl, ℕ, true, false, Option, Some, Result, List, map, slice_get}
-use Rattle.std.proofs.Common.{◌∙◌, inl, inr, sym, ap, subst}
+use Rattle.std.specs.Prelude.{◌≡◌, refl, ℕ, true, Option, Some, List, map, slice_get}
+use Rattle.std.proofs.Common.{inl, inr, ap, subst}
 use Rattle.bench_run.specs.InStep.{AreInStep}
-use Rattle.job_ends.proofs.Readings.{TellsBy, TellsOf}
-use Rattle.job_ends.proofs.Statuses.{untraced}
+use Rattle.job_ends.proofs.Readings.{none-traced}
 use Rattle.job_ends.specs.Causes.{is_traced}
-use Rattle.job_ends.specs.Ends.{EndsEarly}
 use Rattle.job_ends.specs.Follows.{FollowPlans}
-use Rattle.job_ends.specs.Readings.{is_of_text}
 use Rattle.job_ends.specs.declared.status.Status.{Status}
 use Rattle.job_ends.specs.declared.status.Status.TheVariants as status
 use Rattle.machine_drives.specs.Drives.{drive_end, drives_at_opening}
@@ -22,10 +19,11 @@ use Rattle.st_job.specs.Cell.{Cell}
 use Rattle.st_job.specs.Controllers.{cell_of}
 use Rattle.st_job.specs.Ends.{Course, EndsByBoth, EndsBySt}
 use Rattle.st_job.specs.Headline.{StHeadline}
-use Rattle.st_job.specs.Plans.{drive_ends, plan_of}
+use Rattle.st_job.specs.Plans.{plan_of}
 use Rattle.st_job.specs.Ready.{AreReady}
 use Rattle.st_job.specs.Rounds.{run_of}
 use Rattle.st_job.specs.TaskScans.{IsMadeBy, own_entries}
+use Rattle.bench_run.specs.Run.{drive_ends}
 
 -- the laws of all runs: the drives are in step, and the tasks make their scans
 pub record RunLaws : Type 0 where
@@ -35,24 +33,6 @@ pub record RunLaws : Type 0 where
       IsMadeBy c n t (own_entries c.setup n (run_of c).history)
 
 -- ---- where there is no trace
-
-text-untraced : (s : Status) → is_of_text s ≡ true → is_traced s ≡ false
-text-untraced (status.TooLong word) t = refl
-text-untraced (status.TextRefused word place rule) t = refl
-text-untraced s t = absurd (cc)
-
-tells-untraced : {A : Type 0} (told : Option FileMap) (rose : Type 0) (f : FileMap → Result A Status)
-    (p : Status) → TellsOf {A = A} told rose f p → is_traced p ≡ false
-tells-untraced told rose f p (inl (word, is, h)) = ap is_traced is
-tells-untraced told rose f p (inr h) = text-untraced p h.0
-
-none-traced : {A : Type 0} → FollowPlans → (told : Option FileMap) (rose : Type 0)
-    (f : FileMap → Result A Status) (old new : Output) (s : Status) →
-    EndsEarly old new s ⊎ TellsBy {A = A} told rose f old new s → is_traced s ≡ true → ⊥
-none-traced follow told rose f old new s (inl e) t =
-    let bad : true ≡ false = sym t ∙ ap is_traced e.status in cc
-none-traced follow told rose f old new s (inr h) t =
-    untraced follow old new h.plan s h.ends (tells-untraced told rose f h.plan.status h.tells) t
 
 -- ---- where there is one
 

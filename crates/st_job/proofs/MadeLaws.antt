@@ -1,29 +1,19 @@
 -- An event that is made, and a run that goes on.
-use Rattle.std.specs.Prelude.{◌≡◌, refl, ℕ, ◌-◌, ◌<◌, ◌&&◌, ◌⊎◌, Bool, true, false, if◌then◌else◌, Result, Ok, Err, List, length}
-use Rattle.std.proofs.Common.{◌∙◌, inl, inr, sym, ap, subst, arith}
-use Rattle.std.proofs.lemmas.Bool.{cases_lt, eqb-false}
+use Rattle.std.specs.Prelude.{◌≡◌, refl, ◌-◌, ◌<◌, ◌⊎◌, Bool, true, false, Result, Ok, Err, List, length}
+use Rattle.std.proofs.Common.{◌∙◌, inl, inr, sym, ap, subst}
+use Rattle.std.proofs.lemmas.Bool.{eqb-false}
 use Rattle.bench_run.proofs.RunLaws.{made-by}
-use Rattle.bench_run.specs.Run.{Event, Run, a_call, a_cycle, an_end, cycled, happened, is_cycle, made, room_for}
+use Rattle.bench_run.specs.Run.{Event, Run, happened, is_cycle, made, room_for}
 use Rattle.bench_run.specs.declared.bench.RunFault.{RunFault}
-use Rattle.bench_run.specs.declared.bench.RunFault.TheVariants.{CyclesOver, HistoryFull}
 use Rattle.motion_history.specs.Entries.{Entry, cycles_of}
 use Rattle.motion_history.specs.Setup.{Setup}
+use Rattle.bench_run.proofs.EndingLaws.{ending-happened, left, room_by}
 
 -- there was room for an event, and it was made
 pub record GoesOn (s : Setup) (e : Event) (r : Run) : Type 0 where
   pub is : made s e r ≡ happened s e r
   pub room : length r.history < s.entries
   pub cycle : is_cycle e ≡ true → cycles_of r.history < s.cycles
-
-left : (n m : ℕ) → (n - m ≡ 0 → ⊥) → m < n
-left n m f = elim (cases_lt m n) [
-  | inl l ↦ l
-  | inr l ↦ absurd (f (omega (arith, l)))
-]
-
-abbrev room_by : Bool → Bool → Bool → Result (Unit {0}) RunFault
-room_by c over full =
-    if c && over then Err CyclesOver else if full then Err HistoryFull else Ok tt
 
 not-full : (c over full : Bool) → room_by c over full ≡ Ok tt → full ≡ false
 not-full true true full h = absurd (cc)
@@ -64,17 +54,11 @@ goes s e r o k = goes-by s e r (room_for s r.history (is_cycle e)) o refl k
 
 -- ---- an event that ends the run
 
-happened-ending : (s : Setup) (e : Event) (r : Run) → (happened s e r).ending ≡ r.ending
-unfolding cycled
-happened-ending s (a_call k i) r = refl
-happened-ending s a_cycle r = refl
-happened-ending s (an_end t) r = refl
-
 ends-by : (s : Setup) (e : Event) (r : Run) (f : RunFault) (w : Result (Unit {0}) RunFault) →
     r.ending ≡ Ok tt → w ≡ room_for s r.history (is_cycle e) → (made s e r).ending ≡ Err f →
     (made s e r).history ≡ r.history
 ends-by s e r f (Ok u) o h k =
-    let bad : Ok tt ≡ Err f = sym o ∙ sym (happened-ending s e r)
+    let bad : Ok tt ≡ Err f = sym o ∙ sym (ending-happened s e r)
     ∙ ap (λ (x : Run). x.ending) (made-by s e r (Ok u) o h) ∙ k in
     absurd (cc)
 ends-by s e r f (Err g) o h k = sym (ap (λ (x : Run). x.history) (made-by s e r (Err g) o h))

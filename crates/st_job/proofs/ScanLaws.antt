@@ -2,7 +2,7 @@
 use Rattle.std.specs.Prelude.{◌≡◌, refl, ℕ, ℤ, zero, suc, ◌+◌, ◌-◌, ◌<◌, true, false, None, Some, Ok, Err, List, [], ◌∷◌, ◌++◌, length, map, slice_get, slice_index_or}
 use Rattle.std.specs.List.{AllByRecursion}
 use Rattle.std.proofs.Common.{◌∙◌, sym, ap, subst, arith}
-use Rattle.std.proofs.lemmas.List.{length-map}
+use Rattle.std.proofs.lemmas.List.{length-map, length_push}
 use Rattle.bench_run.specs.Going.{run_at}
 use Rattle.bench_run.specs.Run.{Run, a_call, made}
 use Rattle.bench_run.specs.declared.bench.RunFault.{RunFault}
@@ -10,7 +10,6 @@ use Rattle.drive_sim.specs.Sim.{DriveSim}
 use Rattle.fb_outputs.specs.declared.inputs.Inputs.{Inputs}
 use Rattle.fb_outputs.specs.declared.outputs.Outputs.{Outputs}
 use Rattle.motion_history.specs.Calls.{IsCall}
-use Rattle.motion_history.specs.Entries.{Entry}
 use Rattle.motion_history.specs.Setup.{Setup}
 use Rattle.motion_kernel.specs.Histories.{machine_after}
 use Rattle.motion_kernel.specs.KernelState.{KernelState, state_of}
@@ -104,10 +103,6 @@ pub record IsScanning (p : Controller) (n : ℕ) (k : KernelState) (t : StTask) 
       scan_on steps (cell_of p) n tree (stand_at t0 true) t.got.items (run_at k drives (Ok tt)) ≡
       scan (cell_of p) n tree (stand_at t0 true) (run_at k0 drives (Ok tt))
 
-pub length-more : (es : List Entry) (e : Entry) → length (es ++ e ∷ []) ≡ length es + 1
-length-more [] e = refl
-length-more (d ∷ es) e = let h = length-more es e in omega arith
-
 -- behind a call there is an entry more, for which there was room
 pub record IsOneMore (k k2 : KernelState) : Type 0 where
   pub config : k2.config ≡ k.config
@@ -123,7 +118,7 @@ call-is-one-more k k2 i inputs config e =
       config = config;
       room = on.room;
       more = ap (λ (x : Run). length x.history) e
-          ∙ ap (λ (x : Run). length x.history) on.is ∙ length-more k.history _;
+          ∙ ap (λ (x : Run). length x.history) on.is ∙ length_push k.history _;
     }
 
 fewer-steps : (k k2 : KernelState) (steps : ℕ) → IsOneMore k k2 →

@@ -2,7 +2,7 @@
 use Rattle.std.specs.Prelude.{◌≡◌, true, false, Result, List, map}
 use Rattle.std.proofs.Common.{◌∙◌, sym, ap, subst}
 use Rattle.bench_run.specs.Going.{run_at}
-use Rattle.bench_run.specs.Run.{Run}
+use Rattle.bench_run.specs.Run.{Run, drive_ends}
 use Rattle.bench_run.specs.declared.bench.RunFault.{RunFault}
 use Rattle.drive_sim.specs.Sim.{DriveSim}
 use Rattle.job_ends.specs.Causes.{is_traced}
@@ -18,7 +18,7 @@ use Rattle.trace_text.specs.declared.command.Command.TheVariants as command
 use Rattle.trace_text.specs.declared.writing.write.TraceFault.{TraceFault}
 use Rattle.st_job.specs.Cell.{Cell}
 use Rattle.st_job.specs.LegalRun.{IsLegalRun}
-use Rattle.st_job.specs.Plans.{drive_ends, plan_of, status_of}
+use Rattle.st_job.specs.Plans.{plan_of, status_of}
 use Rattle.st_job.specs.Rounds.{run_of}
 
 -- the trace is that of the machine's run, and the status is the run's

@@ -1,17 +1,14 @@
 -- What a machine with its tasks leads to. This project's profile.
-use Rattle.std.specs.Prelude.{Result, Ok, Err, List, map}
-use Rattle.bench_run.specs.Run.{Run}
+use Rattle.std.specs.Prelude.{Result, Ok, Err}
+use Rattle.bench_run.specs.Run.{Run, drive_ends}
 use Rattle.bench_run.specs.declared.bench.RunFault.{RunFault}
 use Rattle.bench_run.specs.declared.bench.RunFault.TheVariants.{CyclesOver, HistoryFull}
 use Rattle.job_ends.specs.Plans.{Plan}
 use Rattle.job_ends.specs.declared.status.Status.{Status}
 use Rattle.job_ends.specs.declared.status.Status.TheVariants as status
-use Rattle.machine_drives.specs.Drives.{drive_end}
-use Rattle.motion_history.specs.Entries.{cycles_of}
 use Rattle.motion_history.specs.declared.refused.TraceVersion.TheVariants.{Two}
 use Rattle.trace_text.specs.Trace.{trace_text}
 use Rattle.trace_text.specs.declared.command.Command.TheVariants as command
-use Rattle.trace_text.specs.declared.drive_end.DriveEndRow.{DriveEndRow}
 use Rattle.st_job.specs.Cell.{Cell}
 use Rattle.st_job.specs.Rounds.{run_of}
 
@@ -20,10 +17,6 @@ abbrev pub status_of : Result (Unit {0}) RunFault → Status
 status_of (Ok u) = status.Ok
 status_of (Err CyclesOver) = status.CyclesOver
 status_of (Err HistoryFull) = status.HistoryFull
-
--- what the drives took by the end of a run
-abbrev pub drive_ends : Run → List DriveEndRow
-drive_ends r = map (drive_end (cycles_of r.history)) r.drives
 
 -- the trace of its run, in version 2 and with the command `run`, as far as it went
 abbrev pub plan_of : Cell → Plan

@@ -1,6 +1,6 @@
 // Whether the calls in trees fit the blocks of a machine.
 
-ghost use Rattle.std.specs.Prelude.{◌≡◌, IsTrue, map, slice_get};
+ghost use Rattle.std.specs.Prelude.{◌≡◌, ◌↔◌, IsTrue, map, slice_get};
 ghost use Rattle.std.specs.List.{list_all};
 ghost use Rattle.st_lang.specs.Fitting.{branch_fits, are_fitting};
 ghost use Rattle.st_tree.specs.Fitting as spec;
@@ -56,13 +56,7 @@ fn is_given(machine: &Builder, block: &BlockDef, given: &Given) -> bool
 fn are_given(machine: &Builder, block: &BlockDef, given: &[Given]) -> bool
     ensures { result ≡ list_all (spec.is_given machine.now block.now) given.now }
 {
-    let mut left = given.len();
-    let mut fit = true;
-    while 0 < left {
-        left -= 1;
-        fit = is_given(machine, block, &given[left]) && fit;
-    }
-    fit
+    given.iter().all(|given| is_given(machine, block, given))
 }
 
 // Whether a call is one of a block of the task, with what its kind takes.
@@ -150,7 +144,7 @@ fn tasks_fit(machine: &Builder, tasks: &[Task]) -> bool
 
 /// Whether a program is one of this machine: it has a tree for each of its tasks, whose calls fit.
 pub fn is_program_of(machine: &Builder, program: &StProgram) -> bool
-    ensures { IsTrue result → IsProgramOf machine.now program.now.tasks.items }
+    ensures { IsTrue result ↔ IsProgramOf machine.now program.now.tasks.items }
 {
     program.tasks.len() == machine.tasks().len() && tasks_fit(machine, program.tasks.as_slice())
 }

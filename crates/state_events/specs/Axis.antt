@@ -1,7 +1,7 @@
 -- By which events of the diagram an axis changes its state, in a call and in a cycle (PLCopen
 -- Motion Control Part 1, the state diagram; their order within a cycle is this project's profile).
-use Rattle.std.specs.Prelude.{Bool, true, false, ◌&&◌, not, nat_eq, if◌then◌else◌, Option, Some, None, is_some, List, [], ◌∷◌, ◌++◌}
-use Rattle.axis_state.specs.Diagram.{next_of}
+use Rattle.std.specs.Prelude.{◌≡◌, Bool, true, false, ◌&&◌, not, nat_eq, if◌then◌else◌, Option, Some, None, is_some, List, [], ◌∷◌, ◌++◌}
+use Rattle.axis_state.specs.Diagram.{IsFrom, next_of}
 use Rattle.axis_state.specs.declared.diagram.AxisEvent.{AxisEvent}
 use Rattle.axis_state.specs.declared.diagram.AxisEvent.TheVariants as event
 use Rattle.axis_state.specs.declared.state.AxisState.{AxisState}
@@ -24,6 +24,11 @@ use Rattle.buffer_modes.specs.Owners.{is_released}
 use Rattle.axis_core.specs.blocks.Path.{place_on_path}
 use Rattle.axis_core.specs.declared.axis.Axis.{Axis}
 use Rattle.axis_core.specs.declared.look.AxisLook.{AxisLook}
+
+-- the events lead an axis from a state to another, each from a state of its row
+abbrev pub Lead : AxisState → List AxisEvent → AxisState → Type 0
+Lead s [] t = t ≡ s
+Lead s (e ∷ es) t = IsFrom s e × Lead (next_of e) es t
 
 -- the state to which events lead, one after another
 abbrev pub state_by : AxisState → List AxisEvent → AxisState

@@ -4,7 +4,6 @@ use Rattle.std.specs.Prelude.{◌≡◌, ℕ, ℤ, Bool}
 use Rattle.axis_core.specs.AxisKept as axes_kept
 use Rattle.axis_core.specs.AxisKept.{IsLook}
 use Rattle.axis_core.specs.Calls.{axis_without_owner, core_after_command, core_after_power}
-use Rattle.axis_core.specs.Changes as axis_changes
 use Rattle.axis_core.specs.Cores as axes
 use Rattle.axis_core.specs.Cycles.{core_after_cycle}
 use Rattle.axis_core.specs.Demands as axis_demands
@@ -27,21 +26,21 @@ pub record AreAxisEvents : Type 0 where
   -- by a command that is asked
   pub command : (c : axes.Core) (number : ℕ) (w : Wanted) (jerk : ℤ) (held : Bool)
       (tables : ℕ) → axes_kept.IsCoreKept c → axis_demands.IsMade w →
-      axis_changes.Lead c.axis.state
+      axis.Lead c.axis.state
       (axis.command_events (axis_demands.asked_in c number w jerk held tables) c)
       (core_after_command (axis_demands.asked_in c number w jerk held tables) c).axis.state
   -- by a Power
   pub power : (enable : Bool) (c : axes.Core) →
-      axis_changes.Lead c.axis.state (axis.power_events enable c.axis.state)
+      axis.Lead c.axis.state (axis.power_events enable c.axis.state)
       (core_after_power enable c).axis.state
   -- where it goes on its group's path or leaves it
   pub path : (on : Bool) (a : Axis) →
-      axis_changes.Lead a.state (axis.path_events on a.state) (axis_on_path on a).state
+      axis.Lead a.state (axis.path_events on a.state) (axis_on_path on a).state
   -- by none where an instance loses its commands
   pub detach : (owner : ℕ) (a : Axis) → (axis_without_owner owner a).state ≡ a.state
   -- in a cycle
   pub cycle : (look : AxisLook) (c : axes.Core) → axes_kept.IsCoreKept c → IsLook c.axis look →
-      axis_changes.Lead c.axis.state
+      axis.Lead c.axis.state
       (axis.cycle_events look c (core_after_cycle look c).axis)
       (core_after_cycle look c).axis.state
 

@@ -2,7 +2,7 @@
 use Rattle.std.specs.Prelude.{◌≡◌, ◌⊎◌, ℕ, Option, Some, None, IfSome, Result, Ok, Err, List}
 use Rattle.std.proofs.Common.{◌∙◌, inl, inr, ap}
 use Rattle.cam_switch.specs.declared.switch.Switch.{Switch}
-use Rattle.job_ends.proofs.Readings.{TellsBy, given, no-reading, tells-on}
+use Rattle.job_ends.proofs.Readings.{TellsBy, given, no-reading, told-on}
 use Rattle.job_ends.specs.Ends.{EndsEarly}
 use Rattle.job_ends.specs.declared.status.Status.{Status}
 use Rattle.line_text.specs.Reading.{◌>>=◌}
@@ -43,18 +43,6 @@ each-given files trace file t ss is e =
     ap (λ (r : Result TraceState Status). r >>= λ u. switches_in files file u >>= λ qs. Ok (u, qs)) is
     ∙ ap (λ (r : Result (List Switch) Status). r >>= λ qs. Ok (t, qs)) e
 
-without-both : {A : Type 0} (told : Option FileMap) (rose : Type 0) (f : FileMap → Result A Status)
-    (trace file : List ℕ) (old new : Output) (s : Status) →
-    IfSome told (λ files. (x : Status) → f files ≡ Err x → both_in files trace file ≡ Err x) →
-    EndsEarly old new s ⊎ TellsBy told rose f old new s →
-    EndsEarly old new s ⊎ TellsBy told rose (λ files. both_in files trace file) old new s
-without-both told rose f trace file old new s on (inl h) = inl h
-without-both told rose f trace file old new s on (inr h) = inr (record {
-  plan = h.plan;
-  ends = h.ends;
-  tells = tells-on told rose f (λ files. both_in files trace file) h.plan.status on h.tells;
-})
-
 trace-wanting : (told : Option FileMap) (trace file : List ℕ) →
     IfSome told (λ files. (x : Status) → trace_in files trace ≡ Err x →
     both_in files trace file ≡ Err x)
@@ -84,10 +72,10 @@ pub no-both : (told : Option FileMap) (rose : Type 0) (trace file : List ℕ) (o
     (s : Status) → NoBoth told rose trace file old new s →
     EndsEarly old new s ⊎ TellsBy told rose (λ files. both_in files trace file) old new s
 no-both told rose trace file old new s (inl h) =
-    without-both told rose (λ files. trace_in files trace) trace file old new s
+    told-on told rose (λ files. trace_in files trace) (λ files. both_in files trace file) old new s
     (trace-wanting told trace file)
     (no-reading told rose most_of_trace 1 trace trace_of old new s h)
 no-both told rose trace file old new s (inr (t, g, h)) =
-    without-both told rose (λ files. switches_in files file t) trace file old new s
+    told-on told rose (λ files. switches_in files file t) (λ files. both_in files trace file) old new s
     (switches-wanting told trace file t g)
     (no-reading told rose most_of_switches 2 file (switches_of t.config) old new s h)

@@ -11,6 +11,7 @@ use Rattle.trace_check.specs.declared.verdict.Verdict.TheVariants as verdict
 use Rattle.trace_text.specs.TraceState.{TraceState, entries_of}
 use Rattle.switch_job.specs.Given.{TellsLegal}
 use Rattle.switch_job.specs.Plans.{plan_of_switches, switched_plan}
+use Rattle.trace_jobs.proofs.EndLaws.{illegal-by}
 
 -- ---- the verdict by the first record that differs
 
@@ -41,16 +42,6 @@ pub plan-of-legal : (t : TraceState) (ss : List Switch) (entries : ℕ) →
 unfolding verdict_of
 plan-of-legal t ss entries e =
     ap (switched_plan t ss) (sym (legal-by (length (entries_of t)) entries (difference_in t) e))
-
-illegal-by : (n place : ℕ) (x y : List (List ℕ)) (o : Option Difference) →
-    verdict.IllegalAt place x y ≡ verdict_by n o →
-    o ≡ Some (record { place = place; expected = x; found = y })
-illegal-by n place x y None e = absurd (cc)
-illegal-by n place x y (Some d) e =
-    let p : d.place ≡ place = cc in
-    let a : d.expected ≡ x = cc in
-    let b : d.found ≡ y = cc in
-    λ i. Some (record { place = p i; expected = a i; found = b i })
 
 -- one that isn't leads to its first record that differs
 pub plan-of-illegal : (t : TraceState) (ss : List Switch) (place : ℕ) (x y : List (List ℕ)) →

@@ -16,7 +16,8 @@ use Rattle.trace_check.specs.Replays.{with_taken}
 use Rattle.trace_check.specs.Stops.{StopsAt, Tells}
 use Rattle.trace_check.specs.declared.difference.Stop.{Stop}
 use Rattle.trace_check.proofs.Firsts.{stops-at}
-use Rattle.trace_check.proofs.Numbered.{get-at, get-map, get-numbered, take-numbered}
+use Rattle.trace_check.proofs.Numbered.{get-map, get-numbered, take-numbered}
+use Rattle.std.proofs.lemmas.Option.{slice_get-get_or}
 
 -- the first so many drives took so many setpoints
 abbrev pub TookSoFar : ℕ → List DriveEndRow → ℕ → Type 0
@@ -88,10 +89,10 @@ abbrev pub no_drive : DriveEndRow
 no_drive = record { taken = 0; state = NotReady; actual = pos 0 }
 
 pub took-next : (c : ℕ) (ds xs : List DriveEndRow) (i : ℕ) → xs ≡ ds → i < length xs → (slice_index_or xs i no_drive).taken ≡ c → TookSoFar c ds i → TookSoFar c ds (i + 1)
-took-next c ds xs i same l e before = took-more c ds i (slice_index_or xs i no_drive) (ap (λ ys. slice_get ys i) (sym same) ∙ get-at xs i no_drive l) e before
+took-next c ds xs i same l e before = took-more c ds i (slice_index_or xs i no_drive) (ap (λ ys. slice_get ys i) (sym same) ∙ slice_get-get_or xs i no_drive l) e before
 
 pub stops-next : (s u : Setup) (c : ℕ) (ds xs : List DriveEndRow) (i place q : ℕ) (st : Stop) → u ≡ s → xs ≡ ds → i < length xs → TookSoFar c ds i → q ≡ place + i →
     Tells q (padded (drive_fields u i (with_taken c (slice_index_or xs i no_drive)))) (padded (drive_fields u i (slice_index_or xs i no_drive))) st → StopsAt place (drive_records s (map (with_taken c) ds)) (drive_records s ds) st
 stops-next s u c ds xs i place q st config same l before e t =
     let told : Tells q (padded (drive_fields s i (with_taken c (slice_index_or xs i no_drive)))) (padded (drive_fields s i (slice_index_or xs i no_drive))) st = rw config at t in
-    drive-stops s c ds i place q (slice_index_or xs i no_drive) st (ap (λ ys. slice_get ys i) (sym same) ∙ get-at xs i no_drive l) before e told
+    drive-stops s c ds i place q (slice_index_or xs i no_drive) st (ap (λ ys. slice_get ys i) (sym same) ∙ slice_get-get_or xs i no_drive l) before e told

@@ -1,5 +1,5 @@
 -- Entries that are replayed.
-use Rattle.std.proofs.Common.{◌≡◌, ℕ, zero, suc, ◌<◌, Bool, true, false, ◌&&◌, Some, List, [], ◌∷◌, ◌++◌, length, map, refl, sym, ◌∙◌, ap, subst, arith}
+use Rattle.std.proofs.Common.{◌≡◌, ℕ, zero, suc, ◌<◌, Bool, true, false, Some, List, [], ◌∷◌, ◌++◌, length, map, refl, sym, ◌∙◌, ap, subst, arith}
 use Rattle.std.specs.Prelude.{slice_get}
 use Rattle.std.specs.List.{AllByRecursion}
 use Rattle.std.specs.Option.{option_map}
@@ -69,12 +69,8 @@ pub no-room-stop : (v : TraceVersion) (s : Setup) (es : List Entry) (e : Entry) 
 unfolding expected_of
 no-room-stop v s es e place rs st none h = rw none h
 
-both : (a b : Bool) → (a && b) ≡ true → a ≡ true
-both true b h = refl
-both false b h = absurd (cc h)
-
 pub room-for : (s : Setup) (es : List Entry) (e : Entry) → has_room s es e ≡ true → length es < s.entries
-room-for s es e h = ltb-true (length es) s.entries (both _ _ h)
+room-for s es e h = ltb-true (length es) s.entries ((and_parts _ _ h).0)
 
 -- ---- records that are the same
 

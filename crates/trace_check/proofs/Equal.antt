@@ -1,9 +1,10 @@
 -- What a comparison of two values has told.
-use Rattle.std.proofs.Common.{rules, ◌≡◌, Bool, true, false, refl, int_eq}
+use Rattle.std.proofs.Common.{rules, ◌≡◌, Bool, true, int_eq}
 use Rattle.std.specs.Prelude.{◌==◌, ◌&&◌}
 use Rattle.std.specs.Cmp.{booleans_Decides}
 use Rattle.std.specs.Cmp.Rules.{signed_items}
 use Rattle.std.proofs.lemmas.Bool.Decides.{Decides-eqb, Decides-int_eq}
+use Rattle.std.proofs.lemmas.Bool.{and_parts}
 use denote.Enum.Bare.{same_true, sameb}
 use mathlib.Core.Bool.{beq}
 use lib.Pointwise.{pointwise}
@@ -13,18 +14,14 @@ use Rattle.command_pool.specs.contracts.kind.BufferMode as mode
 use Rattle.fb_outputs.specs.declared.inputs.Inputs.{Inputs}
 use Rattle.fb_outputs.specs.declared.outputs.Outputs.{Outputs}
 
-both : (a b : Bool) → (a && b) ≡ true → (a ≡ true) × (b ≡ true)
-both true b h = (refl, h)
-both false b h = absurd (cc)
-
 pub same-outputs : (a b : Outputs) → (beq a.busy b.busy && (beq a.active b.active && (beq a.done b.done && (beq a.aborted b.aborted && (beq a.error b.error && ((a.error_id == b.error_id) && beq a.reached b.reached)))))) ≡ true → a ≡ b
 same-outputs a b h =
-    let p = both _ _ h in
-    let q = both _ _ p.1 in
-    let r = both _ _ q.1 in
-    let s = both _ _ r.1 in
-    let t = both _ _ s.1 in
-    let u = both _ _ t.1 in
+    let p = and_parts _ _ h in
+    let q = and_parts _ _ p.1 in
+    let r = and_parts _ _ q.1 in
+    let s = and_parts _ _ r.1 in
+    let t = and_parts _ _ s.1 in
+    let u = and_parts _ _ t.1 in
     let e0 : a.busy ≡ b.busy = (booleans_Decides a.busy b.busy).0 p.0 in
     let e1 : a.active ≡ b.active = (booleans_Decides a.active b.active).0 q.0 in
     let e2 : a.done ≡ b.done = (booleans_Decides a.done b.done).0 r.0 in
@@ -36,16 +33,16 @@ same-outputs a b h =
 
 pub same-inputs : (a b : Inputs) → (beq a.execute b.execute && (pointwise int_eq a.positions b.positions && (int_eq a.velocity b.velocity && (int_eq a.acceleration b.acceleration && (int_eq a.deceleration b.deceleration && (int_eq a.jerk b.jerk && (sameb mode.the_type a.mode b.mode && ((a.master == b.master) && (int_eq a.numerator b.numerator && (int_eq a.denominator b.denominator && (a.table == b.table))))))))))) ≡ true → a ≡ b
 same-inputs a b h =
-    let p = both _ _ h in
-    let q = both _ _ p.1 in
-    let r = both _ _ q.1 in
-    let s = both _ _ r.1 in
-    let t = both _ _ s.1 in
-    let u = both _ _ t.1 in
-    let v = both _ _ u.1 in
-    let w = both _ _ v.1 in
-    let x = both _ _ w.1 in
-    let y = both _ _ x.1 in
+    let p = and_parts _ _ h in
+    let q = and_parts _ _ p.1 in
+    let r = and_parts _ _ q.1 in
+    let s = and_parts _ _ r.1 in
+    let t = and_parts _ _ s.1 in
+    let u = and_parts _ _ t.1 in
+    let v = and_parts _ _ u.1 in
+    let w = and_parts _ _ v.1 in
+    let x = and_parts _ _ w.1 in
+    let y = and_parts _ _ x.1 in
     let e0 : a.execute ≡ b.execute = (booleans_Decides a.execute b.execute).0 p.0 in
     let e1 : a.positions ≡ b.positions = (signed_items a.positions b.positions).0 q.0 in
     let e2 : a.velocity ≡ b.velocity = (Decides-int_eq a.velocity b.velocity).0 r.0 in
@@ -61,16 +58,16 @@ same-inputs a b h =
 
 pub same-row : (a b : AxisRow) → (((a.input.statusword == b.input.statusword) && (int_eq a.input.mode_display b.input.mode_display && int_eq a.input.actual b.input.actual)) && (sameb axis_state.the_type a.state b.state && ((a.error == b.error) && (beq a.driven b.driven && (int_eq a.setpoint b.setpoint && (int_eq a.offset b.offset && ((a.output.controlword == b.output.controlword) && (int_eq a.output.mode b.output.mode && int_eq a.output.target b.output.target)))))))) ≡ true → a ≡ b
 same-row a b h =
-    let p = both _ _ h in
-    let p1 = both _ _ p.0 in
-    let p2 = both _ _ p1.1 in
-    let q = both _ _ p.1 in
-    let r = both _ _ q.1 in
-    let s = both _ _ r.1 in
-    let t = both _ _ s.1 in
-    let u = both _ _ t.1 in
-    let v = both _ _ u.1 in
-    let w = both _ _ v.1 in
+    let p = and_parts _ _ h in
+    let p1 = and_parts _ _ p.0 in
+    let p2 = and_parts _ _ p1.1 in
+    let q = and_parts _ _ p.1 in
+    let r = and_parts _ _ q.1 in
+    let s = and_parts _ _ r.1 in
+    let t = and_parts _ _ s.1 in
+    let u = and_parts _ _ t.1 in
+    let v = and_parts _ _ u.1 in
+    let w = and_parts _ _ v.1 in
     let e0 : a.input.statusword ≡ b.input.statusword = (Decides-eqb a.input.statusword b.input.statusword).0 p1.0 in
     let e1 : a.input.mode_display ≡ b.input.mode_display = (Decides-int_eq a.input.mode_display b.input.mode_display).0 p2.0 in
     let e2 : a.input.actual ≡ b.input.actual = (Decides-int_eq a.input.actual b.input.actual).0 p2.1 in

@@ -18,7 +18,8 @@ use Rattle.trace_text.specs.declared.found.FoundEntry.{FoundEntry}
 use Rattle.trace_text.specs.declared.found.FoundEntry.TheVariants as found
 use Rattle.trace_check.specs.FoundRecords.{found_entry_records, found_row_fields}
 use Rattle.trace_text.specs.TraceKept.{IsEntryRead, places_with}
-use Rattle.trace_check.proofs.Numbered.{get-behind, get-numbered, get-past, length-numbered, there}
+use Rattle.trace_check.proofs.Numbered.{get-behind, get-numbered, length-numbered, there}
+use Rattle.std.proofs.lemmas.Option.{slice_get_within}
 
 -- a record that is read of an entry's text in version 1
 abbrev pub IsRead : Setup → Entry → ℕ → List (List ℕ) → Type 0
@@ -80,7 +81,7 @@ some-there v s (found.Call k i o) n a r t entry kept at some h = absurd (cc h)
 some-there v s (found.End task) n a r t entry kept at some h = absurd (cc h)
 some-there v s (found.Cycle c) n a r t entry kept at some h =
     let p : slice_get c.places n ≡ Some a = rw at at some in
-    let l : n < length c.places = get-past c.places n a p in
+    let l : n < length c.places = slice_get_within c.places n a p in
     let places = kept.places in
     let few = few-places v (length s.axes) in
     let axes = kept.axes in

@@ -1,6 +1,6 @@
 -- Records by their numbers.
 use Rattle.std.proofs.Common.{◌≡◌, ℕ, zero, suc, ◌+◌, ◌<◌, ◌≤◌, Some, None, List, [], ◌∷◌, ◌++◌, length, map, take, refl, ap, arith}
-use Rattle.std.specs.Prelude.{slice_get, slice_index_or}
+use Rattle.std.specs.Prelude.{slice_get}
 use Rattle.std.specs.Option.{option_map}
 use Rattle.trace_text.specs.Trace.{numbered}
 
@@ -27,22 +27,10 @@ take-numbered f g (suc k) n (x ∷ xs) (y ∷ ys) h e =
     take-numbered f g k (suc n) xs ys (λ j m a b l is p q. h (suc j) m a b (omega arith) (omega arith) p q) (omega (arith, e)) in
     rw (here, later) refl
 
--- what stands at a place
-pub get-at : {X : Type 0} (xs : List X) (i : ℕ) (d : X) → i < length xs → slice_get xs i ≡ Some (slice_index_or xs i d)
-get-at [] i d l = absurd (omega arith)
-get-at (x ∷ xs) zero d l = refl
-get-at (x ∷ xs) (suc i) d l = get-at xs i d (omega arith)
-
 pub take-behind : {X : Type 0} (xs ys : List X) (n k : ℕ) → n ≡ length xs + k → take n (xs ++ ys) ≡ xs ++ take k ys
 take-behind [] ys n k e = let same : n ≡ k = omega (arith, e) in ap (λ m. take m ys) same
 take-behind (x ∷ xs) ys zero k e = absurd (omega (arith, e))
 take-behind (x ∷ xs) ys (suc n) k e = ap (λ t. x ∷ t) (take-behind xs ys n k (omega (arith, e)))
-
--- what stands at a place stands within
-pub get-past : {X : Type 0} (xs : List X) (i : ℕ) (x : X) → slice_get xs i ≡ Some x → i < length xs
-get-past [] i x h = absurd (cc)
-get-past (y ∷ xs) zero x h = omega arith
-get-past (y ∷ xs) (suc i) x h = let l : i < length xs = get-past xs i x h in omega (arith, l)
 
 -- an item stands at each place within
 pub there : {X : Type 0} (xs : List X) (i : ℕ) → i < length xs → (x : X) × (slice_get xs i ≡ Some x)

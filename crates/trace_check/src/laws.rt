@@ -2,8 +2,6 @@
 
 ghost use Rattle.trace_check.specs.Laws.{MigratedTracesAreLegal, TextsTellHistories, TracesTellHistories};
 
-use axis_state::{counts_are_read_back, offsets_are_small};
-use motion_history::configurations_are_sound;
 use motion_kernel::rows_are_counted;
 use trace_text::traces_are_read_back;
 
@@ -22,8 +20,5 @@ pub fn migrated_traces_are_legal()
     ensures { MigratedTracesAreLegal }
 {
     traces_are_read_back();
-    configurations_are_sound();
-    offsets_are_small();
-    counts_are_read_back();
     rows_are_counted();
 }

@@ -68,7 +68,7 @@ pub legal-of : (t : TraceState) (entries : ℕ) → verdict.Legal entries ≡ ve
 unfolding verdict_of
 legal-of t entries e = legal-by (length (entries_of t)) entries (difference_in t) e
 
-illegal-by : (n place : ℕ) (x y : List (List ℕ)) (o : Option Difference) →
+pub illegal-by : (n place : ℕ) (x y : List (List ℕ)) (o : Option Difference) →
     verdict.IllegalAt place x y ≡ verdict_by n o →
     o ≡ Some (record { place = place; expected = x; found = y })
 illegal-by n place x y None e = absurd (cc)

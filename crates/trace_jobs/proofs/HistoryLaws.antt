@@ -17,6 +17,7 @@ use Rattle.trace_text.specs.RowRanges.{found_row}
 use Rattle.trace_text.specs.TraceState.{TraceState, entry_of}
 use Rattle.trace_text.specs.Writable.{found_entry}
 use Rattle.trace_jobs.specs.Plans.{history_from, history_of}
+use Rattle.trace_check.proofs.LegalLaws.{same-inputs}
 
 -- a machine after one entry more
 machine_more : (s : Setup) (m : Machine) (es : List Entry) (e : Entry) →
@@ -32,10 +33,6 @@ cycles_more (call k i o ∷ es) e = let more = cycles_more es e in omega (arith,
 cycles_more (cycle n rows grows ∷ es) e = let more = cycles_more es e in omega (arith, more)
 cycles_more (end_of task ∷ es) e = let more = cycles_more es e in omega (arith, more)
 
-found_inputs : (rows : List AxisRow) → inputs_of (map found_row rows) ≡ inputs_of rows
-found_inputs [] = refl
-found_inputs (r ∷ rs) = ap (λ x. r.input ∷ x) (found_inputs rs)
-
 -- an entry as it is found in a trace
 abbrev found_in : TraceVersion → Setup → Entry → Entry
 found_in v s e = entry_of (found_entry v s e)
@@ -48,7 +45,7 @@ made_again v s made (call k i o) more f = ap (call k i) (sym f.0.1)
 made_again v s made (cycle n rows grows) more f =
     let is = f.0.1 in
     let number : cycles_of made + 1 ≡ n = sym f.0.0 in
-    made_cycle s made (inputs_of (map found_row rows)) n rows grows (found_inputs rows) number
+    made_cycle s made (inputs_of (map found_row rows)) n rows grows (same-inputs rows) number
     (sym is.axes) (sym is.groups)
   where
     made_cycle : (s : Setup) (made : List Entry) (ins : List DriveIn) (n : ℕ)

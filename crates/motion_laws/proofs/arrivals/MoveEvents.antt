@@ -17,22 +17,12 @@ use Rattle.axis_core.specs.declared.axis.Axis.{Axis}
 use Rattle.axis_core.specs.declared.blocks.moves.SecondMove.{SecondMove}
 use Rattle.axis_core.specs.declared.look.AxisLook.{AxisLook}
 use Rattle.buffer_modes.specs.Owners.{IsSame}
+use Rattle.command_changes.specs.Fates.{AreAxisFates}
 use Rattle.command_pool.specs.Waiting.{detached}
 use Rattle.command_pool.specs.declared.ending.Finish.TheVariants as finish
 use Rattle.command_pool.specs.declared.wanted.Wanted.{Wanted}
 use Rattle.motion_kernel.proofs.kept.Machine.{MachinesStayKept}
 use Rattle.motion_laws.proofs.walk.AxisCalls.{AnyAsked, IsByFate, led_by}
-
--- axis_core's fates_are_told
-pub record FatesAreTold : Type 0 where
-  pub command : (q : Asked) (c : cores.Core) → IsFate (command_fate q c) c.axis.active
-      (core_after_command q c).axis.active
-  pub power : (enable : Bool) (c : cores.Core) → IsFate (power_fate enable c) c.axis.active
-      (core_after_power enable c).axis.active
-  pub detach : (owner : ℕ) (a : Axis) → IsSame a.active (axis_without_owner owner a).active
-  pub path : (on : Bool) (a : Axis) → (axis_on_path on a).active ≡ a.active
-  pub cycle : (look : AxisLook) (c : cores.Core) → IsFate (cycle_fate look c) c.axis.active
-      (core_after_cycle look c).axis.active
 
 -- axis_core's courses_end_in_time
 pub record CoursesEnd : Type 0 where
@@ -82,7 +72,7 @@ pub record BlendsEnd : Type 0 where
 -- the laws on which it rests that moves arrive
 pub record ArrivalLaws : Type 0 where
   pub machines : MachinesStayKept
-  pub fates : FatesAreTold
+  pub fates : AreAxisFates
   pub courses : CoursesEnd
   pub blends : BlendsEnd
   pub moves : MovesAreDone
@@ -131,12 +121,12 @@ fates_by laws a ws = record {
   detach = λ owner. stays a.active (axis_without_owner owner a).active (laws.fates.detach owner a);
   power = λ enable c e _. subst
       (λ (x : Axis). IsFate (power_fate enable c) x.active (core_after_power enable c).axis.active)
-      e (laws.fates.power enable c);
+      e (laws.fates.power enable c).shown;
   command = λ owner q c e _ _.
       let same = subst (λ (x : Axis). IsSame a.active x.active) (sym e)
       (laws.fates.detach owner a) in
       chained (command_fate q c) a.active c.axis.active (core_after_command q c).axis.active same
-      (laws.fates.command q c);
+      (laws.fates.command q c).shown;
 }
 
 -- a command that is under way is carried on by every event of its axis

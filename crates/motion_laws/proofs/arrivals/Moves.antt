@@ -57,7 +57,7 @@ fate_shown laws s m (call k i reply) n h l =
 fate_shown laws s m (cycle c rows grows) n h l =
     let look = look_of_axis s m (inputs_of rows) n in
     subst (λ (a : Axis). IsFate (cycle_fate look (axis_core_at m n)) (axis_at m n).active a.active)
-    (sym (through laws s m (inputs_of rows) n h l).after) (laws.fates.cycle look (axis_core_at m n))
+    (sym (through laws s m (inputs_of rows) n h l).after) (laws.fates.cycle look (axis_core_at m n)).shown
 fate_shown laws s m (end_of task) n h l = stays (axis_at m n).active (axis_at m n).active
     (as_it_is (axis_at m n).active)
 

@@ -1,8 +1,9 @@
 -- The active commands of groups come to their end in time.
-use Rattle.std.specs.Prelude.{◌≡◌, refl, ℕ, zero, suc, ◌+◌, ◌<◌, ◌≤◌, Bool, ℤ, Option, Some, None, List, [], ◌∷◌, length, is_some, slice_get}
+use Rattle.std.specs.Prelude.{◌≡◌, refl, ℕ, zero, suc, ◌+◌, ◌<◌, ◌≤◌, ℤ, Option, Some, None, List, [], ◌∷◌, length, is_some, slice_get}
 use Rattle.std.proofs.Common.{arith, sym, subst, ◌∙◌, inl, inr}
 use Rattle.std.proofs.lemmas.Bool.{cases_eq}
 use Rattle.cia402_machine.specs.declared.drive.DriveIn.{DriveIn}
+use Rattle.command_changes.specs.Fates.{AreGroupFates}
 use Rattle.buffer_modes.specs.Owners.{IsSame}
 use Rattle.command_pool.specs.declared.ending.Finish.{Finish}
 use Rattle.command_pool.specs.declared.wanted.Wanted.{Wanted}
@@ -11,13 +12,12 @@ use Rattle.group_core.specs.Calls.{commanded, disowned, group_without, powered_o
 use Rattle.group_core.specs.Cores.{Core}
 use Rattle.group_core.specs.Courses.{Carried, Course, GoesOn, IsUnderWay, along, bound_of, course_of, slowing}
 use Rattle.group_core.specs.Cycles as group
-use Rattle.group_core.specs.Cycles.{path_taken, reset_cycled, reset_where}
+use Rattle.group_core.specs.Cycles.{path_taken, reset_cycled}
 use Rattle.buffer_modes.specs.Fates.{Fate, IsFate}
 use Rattle.group_core.specs.Fates.{command_fate, cycle_fate, power_off_fate}
 use Rattle.group_core.specs.GroupKept.{IsCoreKept, IsLook, IsMade}
 use Rattle.group_core.specs.Refusals.{limits_in}
 use Rattle.group_core.specs.Tracks.{OnPath}
-use Rattle.group_core.specs.declared.group.Group.{Group}
 use Rattle.group_core.specs.declared.look.GroupLook.{GroupLook}
 use Rattle.kin_core.specs.declared.limits.Limits.{Limits}
 use Rattle.motion_history.specs.Calls.{IsCall}
@@ -44,18 +44,6 @@ use Rattle.motion_kernel.proofs.kept.Events.{IsAsLarge, axis_event_size, group_b
 use Rattle.motion_kernel.proofs.kept.GroupSteps.{IsLooking, have_stepped, larger}
 use Rattle.motion_kernel.proofs.kept.Machine.{MachinesStayKept}
 use Rattle.motion_laws.proofs.Histories.{replay_kept}
-
--- group_core's fates_are_told
-pub record FatesAreTold : Type 0 where
-  pub command : (w : Wanted) (jerk : ℤ) (members : GroupLook) (c : Core) →
-      IsFate (command_fate w jerk members c) c.group.active
-      (commanded w jerk members c).group.active
-  pub power_off : (c : Core) → IsFate (power_off_fate c) c.group.active (powered_off c).group.active
-  pub detach : (owner : ℕ) (g : Group) → IsSame g.active (group_without owner g).active
-  pub cycle : (members : GroupLook) (c : Core) → IsFate (cycle_fate members c) c.group.active
-      (group.cycled members c).group.active
-  pub reset : (members : GroupLook) (on_path : Bool) (g : Group) →
-      (reset_where members on_path g).active ≡ g.active
 
 -- group_core's courses_end_in_time
 pub record CoursesEnd : Type 0 where
@@ -87,7 +75,7 @@ MayBeCalled = (s : Setup) (k : ℕ) (b : BlockDef) (i : Inputs) (m : Machine) �
 pub record GroupLaws : Type 0 where
   pub machines : MachinesStayKept
   pub may_call : MayBeCalled
-  pub fates : FatesAreTold
+  pub fates : AreGroupFates
   pub courses : CoursesEnd
 
 -- the fate of every event of a group is what its active command shows
@@ -97,12 +85,12 @@ fates_by laws c = record {
   untold = λ f x h. h;
   detach = λ owner. stays c.group.active (group_without owner c.group).active
       (laws.fates.detach owner c.group);
-  power_off = laws.fates.power_off c;
+  power_off = (laws.fates.power_off c).shown;
   command = λ owner w jerk members x e looks made kept.
       let same = subst (λ (d : Core). IsSame c.group.active d.group.active) (sym e)
       (laws.fates.detach owner c.group) in
       chained (command_fate w jerk members x) c.group.active x.group.active
-      (commanded w jerk members x).group.active same (laws.fates.command w jerk members x);
+      (commanded w jerk members x).group.active same (laws.fates.command w jerk members x).shown;
 }
 
 -- a command that is under way is carried on by every event of its group
@@ -282,7 +270,7 @@ fate_shown laws s cycles m (cycle c rows grows) j whole h is l =
     (group_at m j).group.active x.group.active)
     (fate_lasts laws (cycle_fate look (group_core_at m j)) (group_at m j).group.active) s m
     (inputs_of rows) j h l
-    (λ looking. laws.fates.cycle look (group_core_at m j))
+    (λ looking. (laws.fates.cycle look (group_core_at m j)).shown)
 fate_shown laws s cycles m (end_of task) j whole h is l = stays (group_at m j).group.active
     (group_at m j).group.active (as_it_is (group_at m j).group.active)
 

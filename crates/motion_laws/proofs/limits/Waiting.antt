@@ -21,7 +21,7 @@ use Rattle.motion_laws.proofs.Histories.{legal_kept}
 use Rattle.motion_laws.proofs.owners.commands.Events.{same_object}
 use Rattle.motion_laws.proofs.walk.Events.{executed_alike, found_alike, freed_at, freed_there, replied_alike}
 use Rattle.motion_laws.proofs.walk.Histories.{by_history}
-use Rattle.motion_laws.proofs.walk.Keeps.{Alike, Anyone, Asks, Event, FewLaws, Keeps, WalkLaws, charge_at, freed}
+use Rattle.motion_laws.proofs.walk.Keeps.{Alike, Anyone, Asks, CoresKept, Event, Keeps, WalkLaws, charge_at, freed}
 
 -- at most eight commands wait for each axis and each group
 abbrev FewWait : Machine → Type 0
@@ -49,21 +49,24 @@ none_few law m x o xs e none h =
     event_few m x o xs e (λ few. omega arith) h
 
 -- an instance that asks
-asked_few : WalkLaws → FewLaws → (s : Setup) (k : ℕ) (m z : Machine) → Asks s k m z → FewWait m → FewWait z
-asked_few laws few s k m z a h =
+asked_few : WalkLaws → CoresKept → WaitAtMost → (s : Setup) (k : ℕ) (m z : Machine) → Asks s k m z → FewWait m → FewWait z
+asked_few laws cores law s k m z a h =
     let free : FewWait (freed k a.called m) = λ p l.
     let was = freed_there k a.called m p l in
     let waits = ap (λ (c : Charge). length c.waiting) (freed_at laws k a.called m p was) in
     let same = length-map (charge_at m p).waiting (detached k) in
     let before = h p was in
     omega arith in
-    alike_few a.asked z a.alike (event_few (freed k a.called m) a.asked a.object a.changes a.event (a.few few) free)
+    let same : length (charge_at a.asked a.object).waiting ≡ _ = ap (λ (c : Charge). length c.waiting) a.event.here in
+    let eight = law.eight a.changes (charge_at (freed k a.called m) a.object) (a.fits cores) in
+    alike_few a.asked z a.alike (event_few (freed k a.called m) a.asked a.object a.changes a.event
+    (λ few. let most = eight few in omega arith) free)
 
-few_kept : WalkLaws → FewLaws → WaitAtMost → (s : Setup) → Keeps s Anyone FewWait FewWait
-few_kept laws few law s = record {
+few_kept : WalkLaws → CoresKept → WaitAtMost → (s : Setup) → Keeps s Anyone FewWait FewWait
+few_kept laws cores law s = record {
   executed = λ k b i m may at quiet h. alike_few m (with_execute k i m) (executed_alike k i m) h;
   powered = λ m x o xs e none call h. none_few law m x o xs e none h;
-  asked = λ k m z may a h. asked_few laws few s k m z a h;
+  asked = λ k m z may a h. asked_few laws cores law s k m z a h;
   replied = λ k m may h. alike_few m (after_reply k m) (replied_alike k m) h;
   begins = λ m sized h. h;
   cycled = λ m x o xs e none h. none_few law m x o xs e none h;
@@ -102,8 +105,8 @@ all_short s m sized h list =
       ]
     ]
 
-pub legal_short : WalkLaws → FewLaws → WaitAtMost → (s : Setup) (es : List Entry) → IsSetup s → AreWhole s → IsLegal s es →
+pub legal_short : WalkLaws → CoresKept → WaitAtMost → (s : Setup) (es : List Entry) → IsSetup s → AreWhole s → IsLegal s es →
     (list : ℕ) → length (queue_of (replay s (machine_at_opening s) es).queues list) ≤ 8
-legal_short laws few law s es setup whole legal =
+legal_short laws cores law s es setup whole legal =
     all_short s (replay s (machine_at_opening s) es) (legal_kept laws.machines s es setup whole legal).sized
-    (by_history laws s Anyone FewWait FewWait (few_kept laws few law s) (λ k. tt) (opened_few s) es setup whole legal)
+    (by_history laws s Anyone FewWait FewWait (few_kept laws cores law s) (λ k. tt) (opened_few s) es setup whole legal)

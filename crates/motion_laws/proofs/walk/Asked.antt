@@ -1,6 +1,6 @@
 -- A rising edge asks a command of an axis or a group.
-use Rattle.std.specs.Prelude.{◌≡◌, refl, ℕ, ◌<◌, ◌≤◌, true, false, not, ◌&&◌, if◌then◌else◌, Some, length, slice_get, slice_set}
-use Rattle.std.proofs.Common.{arith, ap, sym, subst, ◌∙◌}
+use Rattle.std.specs.Prelude.{◌≡◌, refl, ℕ, ◌<◌, true, false, not, ◌&&◌, if◌then◌else◌, Some, length, slice_get, slice_set}
+use Rattle.std.proofs.Common.{arith, ap, sym, ◌∙◌}
 use Rattle.axis_core.specs.Calls.{answer_of, core_after_command}
 use Rattle.axis_core.specs.Cores as axes
 use Rattle.axis_core.specs.Refusals.{refusal_of}
@@ -81,11 +81,10 @@ module _ (laws : WalkLaws) where
         brings = answer_shows (refusal_of q) (instance_at x.instances k) k q.wanted c refl off ∙ sym (laws.axis.command_brings k q c);
         active = λ none. sym (own_active k q c (instance_at x.instances k) refl none)
             ∙ sym (ap (λ (e : axes.Core). active_of k (axis.charge_of e)) written);
-        few = λ few waits.
-            let all = disowned_kept few.kept_axes few.definitions few.kept_groups few.counts s k (with_execute k i m) kept in
-            subst (λ (e : axes.Core). length e.waiting ≤ 8) (sym written)
-            (few.axes c n (wanted_of k b.kind i) i.jerk (is_held_by_group (membership_of s n) free) (length s.tables)
-            (all.axes n l).core ((may.rise other).axis off).made waits);
+        fits = λ cores.
+            let all = disowned_kept cores.kept_axes cores.definitions cores.kept_groups cores.counts s k (with_execute k i m) kept in
+            laws.axis.command_fits c n (wanted_of k b.kind i) i.jerk (is_held_by_group (membership_of s n) free) (length s.tables)
+            (all.axes n l).core ((may.rise other).axis off).made;
       }
 
   pub group_asks : (s : Setup) (k : ℕ) (b : BlockDef) (i : Inputs) (m : Machine) → slice_get s.blocks k ≡ Some b → is_power b.kind ≡ false →
@@ -131,6 +130,5 @@ module _ (laws : WalkLaws) where
             ∙ sym (laws.group.command_brings k w i.jerk members c);
         active = λ none. sym (group_own_active k w i.jerk members c (instance_at led.instances k) refl none)
             ∙ sym (ap (λ (e : groups.Core). active_of k (group.charge_of e)) written);
-        few = λ few waits. subst (λ (e : groups.Core). length e.waiting ≤ 8) (sym written)
-            (few.groups w i.jerk members c ((may.rise other).group on).made waits);
+        fits = λ cores. laws.group.command_fits w i.jerk members c;
       }

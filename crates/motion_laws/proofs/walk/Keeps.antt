@@ -1,25 +1,16 @@
 -- What happens to the commands of the machine, one event after another, and what all events keep.
-use Rattle.std.specs.Prelude.{◌≡◌, ℕ, ◌<◌, ◌≤◌, ℤ, Bool, true, false, nat_eq, Some, List, [], length, slice_get, slice_set}
-use Rattle.axis_core.specs.AxisKept as axis_kept
-use Rattle.axis_core.specs.Calls.{core_after_command}
-use Rattle.axis_core.specs.Cores as axes
-use Rattle.axis_core.specs.Demands as demands
+use Rattle.std.specs.Prelude.{◌≡◌, ℕ, ◌<◌, true, false, nat_eq, Some, List, [], length, slice_get, slice_set}
 use Rattle.command_changes.specs.Axis as axis
 use Rattle.command_changes.specs.Group as group
 use Rattle.command_changes.specs.Laws.{AreAxisChanges, AreGroupChanges}
 use Rattle.command_core.specs.Brought.{BringNone, brought}
 use Rattle.command_core.specs.Calls as calls
-use Rattle.command_core.specs.Changes.{Change, all_changed}
+use Rattle.command_core.specs.Changes.{AllFit, Change, all_changed}
 use Rattle.command_core.specs.Charge.{Charge, active_of}
-use Rattle.command_pool.specs.declared.wanted.Wanted.{Wanted}
 use Rattle.fb_outputs.specs.InstanceState.{InstanceState}
 use Rattle.fb_outputs.specs.Steps.{edge_of, is_power}
 use Rattle.fb_outputs.specs.declared.inputs.Inputs.{Inputs}
 use Rattle.fb_outputs.specs.declared.instance.Edge.TheVariants.{Rising}
-use Rattle.group_core.specs.Calls.{commanded}
-use Rattle.group_core.specs.Cores as groups
-use Rattle.group_core.specs.GroupKept as group_kept
-use Rattle.group_core.specs.declared.look.GroupLook.{GroupLook}
 use Rattle.motion_history.specs.Calls.{IsCall}
 use Rattle.motion_history.specs.Setup.{Setup}
 use Rattle.motion_history.specs.declared.config.BlockDef.{BlockDef}
@@ -57,18 +48,12 @@ pub record Event (m x : Machine) (o : Object) (xs : List Change) : Type 0 where
 abbrev pub freed : ℕ → InstanceState → Machine → Machine
 freed k i m = without_owner k (with_instance m k i)
 
--- the laws by which at most eight wait after a command
-pub record FewLaws : Type 0 where
+-- the laws by which axes and groups are kept where an instance loses its commands
+pub record CoresKept : Type 0 where
   pub kept_axes : AxesStayKept
   pub definitions : AxesKeepDefinitions
   pub kept_groups : GroupsStayKept
   pub counts : GroupsKeepAxes
-  pub axes : (c : axes.Core) (number : ℕ) (w : Wanted) (jerk : ℤ) (held : Bool) (tables : ℕ) →
-      axis_kept.IsCoreKept c → demands.IsMade w → length c.waiting ≤ 8 →
-      length (core_after_command (demands.asked_in c number w jerk held tables) c).waiting ≤ 8
-  pub groups : (w : Wanted) (jerk : ℤ) (members : GroupLook) (c : groups.Core) →
-      group_kept.IsMade c.group.axes w → length c.waiting ≤ 8 →
-      length (commanded w jerk members c).waiting ≤ 8
 
 -- an instance asks a command by a rising edge: its earlier one is taken from it, its block's object
 -- changes, some axes are led, and it is answered
@@ -92,8 +77,8 @@ pub record Asks (s : Setup) (k : ℕ) (m z : Machine) : Type 0 where
   pub brings : commands_shown shown.progress ≡ brought k changes
   pub active : active_of k (charge_at (freed k called m) object) ≡ 0 →
       active_shown shown.progress ≡ active_of k (charge_at asked object)
-  pub few : FewLaws → length (charge_at (freed k called m) object).waiting ≤ 8 →
-      length (charge_at asked object).waiting ≤ 8
+  -- and it finds its place
+  pub fits : CoresKept → AllFit changes (charge_at (freed k called m) object)
 
 -- any instance may call
 abbrev pub Anyone : ℕ → Type 0

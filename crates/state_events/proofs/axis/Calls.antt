@@ -12,16 +12,15 @@ use Rattle.command_pool.specs.declared.ending.Finish.TheVariants as finish
 use Rattle.command_pool.specs.declared.kind.BlockKind.{BlockKind}
 use Rattle.command_pool.specs.declared.kind.BlockKind.TheVariants as kind
 use Rattle.command_pool.specs.declared.wanted.Wanted.{Wanted}
-use Rattle.axis_core.specs.Changes.{Lead}
 use Rattle.axis_core.specs.Cores.{Core, MayBegin, axis_under, axis_under_by, next_by}
 use Rattle.command_pool.specs.Waiting.{last_of}
 use Rattle.axis_core.specs.AxisKept.{IsCoreKept}
-use Rattle.axis_core.specs.Calls.{core_after_admission, core_after_command, core_after_verdict, core_after_disabling, core_after_power, queue_in, core_with_queued}
+use Rattle.axis_core.specs.Calls.{axis_without_owner, core_after_admission, core_after_command, core_after_verdict, core_after_disabling, core_after_power, queue_in, core_with_queued}
 use Rattle.axis_core.specs.Demands.{IsMade, asked_in}
 use Rattle.axis_core.specs.Kept.{MayAdmit}
 use Rattle.axis_core.specs.Refusals.{refusal_of}
 use Rattle.axis_core.proofs.MayAdmit.{may-admit}
-use Rattle.state_events.specs.Axis.{begin_events, command_events, event_where, events_by, path_events, power_events}
+use Rattle.state_events.specs.Axis.{Lead, begin_events, command_events, event_where, events_by, path_events, power_events}
 use Rattle.axis_core.specs.Kinds.{event_of}
 use Rattle.buffer_modes.specs.Fates.{goes_on, replaced}
 use Rattle.axis_core.specs.Fates.{admitted_fate, asked_fate, command_fate}
@@ -91,3 +90,7 @@ powers-by false c =
     let wished : Core = record c { axis = record c.axis { power = false; was_off = true } } in
     elim (is_error_stop c.axis.state) as (λ b. is_error_stop c.axis.state ≡ b → Lead c.axis.state (event_where (not b) event.PowerOff) (if b then wished else core_after_disabling wished).axis.state)
     [ true ↦ λ e. refl | false ↦ λ e. (off-from c.axis.state e, refl) ] refl
+
+pub detached-stays : (owner : ℕ) (a : Axis) → (axis_without_owner owner a).state ≡ a.state
+unfolding axis_without_owner
+detached-stays owner a = refl

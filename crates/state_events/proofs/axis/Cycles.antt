@@ -6,7 +6,6 @@ use Rattle.axis_state.specs.declared.diagram.AxisEvent.TheVariants as event
 use Rattle.axis_state.specs.declared.state.AxisState.{AxisState}
 use Rattle.axis_state.specs.declared.state.AxisState.TheVariants as state
 use Rattle.command_pool.specs.declared.ending.Finish.TheVariants as finish
-use Rattle.axis_core.specs.Changes.{Lead}
 use Rattle.axis_core.specs.Cores.{Core, MayTakeOver, core_after_error}
 use Rattle.cia402_machine.specs.declared.drive.DriveIn.{DriveIn}
 use Rattle.axis_core.specs.AxisKept.{IsCoreKept, IsLook}
@@ -17,7 +16,7 @@ use Rattle.axis_core.proofs.KeptMoves.{Laws}
 use Rattle.std.specs.Ordering.{int_eq}
 use Rattle.axis_core.proofs.ArrivalLaws.{both-true, reset-alike, stop-alike}
 use Rattle.axis_core.specs.Cycles.{core_after_answer, core_after_cycle, core_after_step, core_after_going_on, core_after_advance}
-use Rattle.state_events.specs.Axis.{cycle_events, going_events, release_events, reset_events, run_events, driven_events, event_where, reset_row, state_by, step_events}
+use Rattle.state_events.specs.Axis.{Lead, cycle_events, going_events, release_events, reset_events, run_events, driven_events, event_where, reset_row, state_by, step_events}
 use Rattle.buffer_modes.specs.Fates.{Fate, goes_on, replaced}
 use Rattle.axis_core.specs.Fates.{cycle_fate, moved_fate}
 use Rattle.axis_state.specs.States.{is_error_stop, is_stopping}

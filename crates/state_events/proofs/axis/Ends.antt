@@ -14,10 +14,9 @@ use Rattle.command_pool.specs.declared.kind.BlockKind.{BlockKind}
 use Rattle.command_pool.specs.declared.kind.BlockKind.TheVariants as kind
 use Rattle.command_pool.specs.declared.notes.Note.{Note}
 use Rattle.command_pool.specs.declared.wanted.Wanted.{Wanted}
-use Rattle.axis_core.specs.Changes.{Lead}
 use Rattle.axis_core.specs.Cores.{Core, MayBegin, MayTakeOver, axis_under, axis_under_by, core_after_end, core_after_ending, core_after_error, next_by, state_after_last, core_after_take_over, core_taken_by}
 use Rattle.axis_core.specs.Cycles.{Advance, progress_in_cycle, advance_in_cycle, advance_without_error, advance_by_command, axis_after_braking, core_after_advance}
-use Rattle.state_events.specs.Axis.{event_where, events_by, fate_events, giving_events, last_events, step_events}
+use Rattle.state_events.specs.Axis.{Lead, event_where, events_by, fate_events, giving_events, last_events, step_events}
 use Rattle.axis_core.specs.Kinds.{event_of}
 use Rattle.axis_core.specs.Fates.{ending_fate, moved_fate, is_blended, taker_by, taker_of}
 use Rattle.motion_numbers.specs.Ranges.{is_outside}
@@ -28,7 +27,7 @@ use Rattle.axis_core.specs.blocks.Path.{is_on_path, axis_after_path, place_on_pa
 use Rattle.axis_core.specs.declared.axis.Axis.{Axis}
 use Rattle.axis_core.specs.declared.look.AxisLook.{AxisLook}
 use Rattle.axis_core.proofs.Events.{error_from}
-use Rattle.axis_core.proofs.ChangeLaws.{by-made}
+use Rattle.axis_core.proofs.ShownKept.{by-made}
 use Rattle.state_events.proofs.axis.Rows.{synchronized}
 
 by-active : (o next : Option Wanted) (look : AxisLook) (a : Axis) → (advance_by_command o next look a).axis.state ≡ a.state

@@ -6,8 +6,7 @@ use Rattle.axis_state.specs.declared.diagram.AxisEvent.{AxisEvent}
 use Rattle.axis_state.specs.declared.diagram.AxisEvent.TheVariants as event
 use Rattle.axis_state.specs.declared.state.AxisState.{AxisState}
 use Rattle.axis_state.specs.declared.state.AxisState.TheVariants as state
-use Rattle.axis_core.specs.Changes.{Lead}
-use Rattle.state_events.specs.Axis.{state_by}
+use Rattle.state_events.specs.Axis.{Lead, state_by}
 use Rattle.axis_state.specs.States.{is_error_stop, is_stopping, is_synchronized}
 
 -- where events lead

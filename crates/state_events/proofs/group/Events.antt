@@ -1,5 +1,5 @@
 -- A group changes its state in a cycle by its events.
-use Rattle.std.specs.Prelude.{◌≡◌, refl, ◌⊎◌, Bool, true, false, not, ◌&&◌, nat_eq, ℤ, Option, Some, None, is_some, List, [], ◌∷◌, ◌++◌, slice_get, if◌then◌else◌}
+use Rattle.std.specs.Prelude.{◌≡◌, refl, ◌⊎◌, ℕ, Bool, true, false, not, ◌&&◌, nat_eq, ℤ, Option, Some, None, is_some, List, [], ◌∷◌, ◌++◌, slice_get, if◌then◌else◌}
 use Rattle.std.proofs.Common.{◌∙◌, sym, ap, subst, inl, inr}
 use Rattle.buffer_modes.specs.Queue.{active_note}
 use Rattle.command_pool.specs.declared.ending.Finish.{Finish}
@@ -15,7 +15,7 @@ use Rattle.axis_state.specs.declared.state.AxisState.{AxisState}
 use Rattle.command_pool.specs.declared.ending.Finish.TheVariants as finish
 use Rattle.std.proofs.lemmas.Bool.{and_parts, not-false}
 use Rattle.std.specs.List.{list_any}
-use Rattle.group_core.specs.Calls.{admitted_by, asked_in, braked_for, commanded, commanded_by, powered_off, queue_in, queued, waits_for_rest}
+use Rattle.group_core.specs.Calls.{admitted_by, asked_in, braked_for, commanded, commanded_by, group_without, powered_off, queue_in, queued, waits_for_rest}
 use Rattle.buffer_modes.specs.Queue.{is_active_at_once}
 use Rattle.command_pool.specs.declared.kind.BlockKind.{BlockKind}
 use Rattle.group_core.specs.declared.reason.Reason.{Reason}
@@ -25,7 +25,7 @@ use Rattle.group_core.specs.States.{is_moved, may_fail}
 use Rattle.group_core.specs.Refusals.{states_in}
 use Rattle.group_core.specs.blocks.Reset.{after_reset, may_reset, reset_by, reset_from}
 use Rattle.buffer_modes.specs.declared.reset.PendingReset.{PendingReset}
-use Rattle.group_core.proofs.ChangeLaws.{failed-cycle}
+use Rattle.group_core.proofs.Ends.{failed-cycle}
 use Rattle.group_core.specs.Cores.{Core, failed, line_begun, ended, ended_by, settled, taken_over}
 use Rattle.group_core.specs.Cycles.{cycled, reset_where, ending_of, moved, path_after, released}
 use Rattle.state_events.specs.Group.{admitted_events, asked_events, command_events, power_off_events, reset_events, reset_row, step_events, Lead, ending_events, event_where, giving_events, going_events, last_events, release_events, state_by}
@@ -222,3 +222,7 @@ pub commands-by : (w : Wanted) (jerk : ℤ) (members : GroupLook) (c : Core) →
     Lead c.group.state (command_events w jerk members c) (commanded w jerk members c).group.state
 unfolding commanded command_events
 commands-by w jerk members c m = next-asked (refusal_of (asked_in c w jerk members)) members w jerk c m refl
+
+pub detached-stays : (owner : ℕ) (g : Group) → (group_without owner g).state ≡ g.state
+unfolding group_without
+detached-stays owner g = refl

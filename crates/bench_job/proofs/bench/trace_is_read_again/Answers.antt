@@ -12,9 +12,6 @@ returns c =
     let bits = subst (λ (ds : List DriveSim). All (λ (d : DriveSim). IsCount d.actual) ds)
     c.as_slice.ensures.value c.positions_have_32_bits.ensures in
     let laws : Laws = record {
-      offsets = c.offsets_are_small.ensures;
-      near = c.counts_are_read_back.ensures.distance;
-      sound = c.configurations_are_sound.ensures;
       counted = c.rows_are_counted.ensures;
       machines = record {
         opened = c.machines_stay_kept.ensures.opened;

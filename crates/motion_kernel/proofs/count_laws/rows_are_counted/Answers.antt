@@ -17,4 +17,7 @@ returns c = all_counted (record {
     path = c.axes_keep_their_definitions.ensures.path;
     cycle = c.axes_keep_their_definitions.ensures.cycle;
   };
+  sound = c.configurations_are_sound.ensures;
+  offsets = c.offsets_are_small.ensures;
+  near = c.counts_are_read_back.ensures.distance;
 })

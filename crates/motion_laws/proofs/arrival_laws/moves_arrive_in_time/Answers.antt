@@ -15,13 +15,7 @@ machines c = record {
 laws : (c : goal.After-moves_are_done_at_their_targets) → ArrivalLaws
 laws c = record {
   machines = machines c;
-  fates = record {
-    command = c.fates_are_told.ensures.command;
-    power = c.fates_are_told.ensures.power;
-    detach = c.fates_are_told.ensures.detach;
-    path = c.fates_are_told.ensures.path;
-    cycle = c.fates_are_told.ensures.cycle;
-  };
+  fates = c.axis_fates_are_told.ensures;
   courses = record {
     begins = c.courses_end_in_time.ensures.begins;
     command = c.courses_end_in_time.ensures.command;

@@ -13,13 +13,7 @@ groups c = record {
     cycle = c.machines_stay_kept.ensures.cycle;
   };
   may_call = c.machines_stay_kept.ensures.may_call;
-  fates = record {
-    command = c.fates_are_told.ensures.command;
-    power_off = c.fates_are_told.ensures.power_off;
-    detach = c.fates_are_told.ensures.detach;
-    cycle = c.fates_are_told.ensures.cycle;
-    reset = c.fates_are_told.ensures.reset;
-  };
+  fates = c.group_fates_are_told.ensures;
   courses = record {
     begins = c.courses_end_in_time.ensures.begins;
     command = c.courses_end_in_time.ensures.command;

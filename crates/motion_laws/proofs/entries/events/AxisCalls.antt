@@ -6,7 +6,6 @@ use Rattle.std.proofs.lemmas.Bool.{cases_Bool, eqb-false, eqb-true}
 use Rattle.std.proofs.lemmas.List.{get_or-set_other, get_or-set_same, length-set}
 use Rattle.axis_core.specs.AxisKept as axis
 use Rattle.axis_core.specs.Calls.{axis_without_owner, core_after_command, core_after_power}
-use Rattle.axis_core.specs.Changes.{Lead}
 use Rattle.axis_core.specs.Cores as cores
 use Rattle.axis_core.specs.Demands as demands
 use Rattle.axis_core.specs.blocks.Path.{axis_on_path, is_on_path}
@@ -38,7 +37,7 @@ use Rattle.motion_laws.specs.entries.AxisEvents.{events_among, events_by_call, e
 use Rattle.motion_laws.proofs.entries.events.Laws.{EventLaws}
 use Rattle.motion_laws.proofs.walk.ByTest.{both, one}
 use Rattle.motion_laws.proofs.walk.AxisCalls.{IsThere, freed, freed_count, freed_lists, powered}
-use Rattle.state_events.specs.Axis.{command_events, power_events}
+use Rattle.state_events.specs.Axis.{Lead, command_events, power_events}
 use Rattle.state_events.specs.Laws.{AreAxisEvents}
 
 -- an axis of the machine after a call went by these events

@@ -3,7 +3,6 @@ use Rattle.std.specs.Prelude.{◌≡◌, refl, ℕ, zero, suc, ◌<◌, ◌≤�
 use Rattle.std.proofs.Common.{arith, ap, sym, subst, ◌∙◌, inl, inr}
 use Rattle.std.proofs.lemmas.Bool.{cases_eq}
 use Rattle.std.proofs.lemmas.List.{get_or-set_other, get_or-set_same, length-set}
-use Rattle.axis_core.specs.Changes as axis
 use Rattle.axis_core.specs.declared.axis.Axis.{Axis}
 use Rattle.axis_state.specs.declared.definition.AxisRow.{AxisRow}
 use Rattle.cia402_machine.specs.declared.drive.DriveIn.{DriveIn}
@@ -28,6 +27,7 @@ use Rattle.motion_kernel.proofs.kept.GroupSteps.{have_stepped}
 use Rattle.motion_laws.specs.entries.Events.{GoByEvents}
 use Rattle.motion_laws.specs.entries.GroupEvents.{moved_in, events_in_cycle, look_of_reset, stepped_group}
 use Rattle.motion_laws.proofs.entries.events.Laws.{EventLaws}
+use Rattle.state_events.specs.Axis as axis
 use Rattle.state_events.specs.Axis.{cycle_events}
 use Rattle.state_events.specs.Group.{Lead, reset_events, step_events}
 use Rattle.state_events.specs.Laws.{AreGroupEvents}

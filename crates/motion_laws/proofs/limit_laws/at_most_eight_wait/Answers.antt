@@ -1,9 +1,9 @@
 -- At most eight commands wait in each list, by the laws of the machine, its axes and its groups.
 use Rattle.motion_laws.proofs.limits.Waiting.{legal_short}
-use Rattle.motion_laws.proofs.walk.Keeps.{FewLaws, WalkLaws}
+use Rattle.motion_laws.proofs.walk.Keeps.{CoresKept, WalkLaws}
 use Rattle.motion_laws.proofs.limit_laws.at_most_eight_wait.Goals as goal
 
-walk : (c : goal.After-at_most_eight_wait-3) → WalkLaws
+walk : (c : goal.After-at_most_eight_wait) → WalkLaws
 walk c =
     let m = c.machines_stay_kept.ensures in
     record {
@@ -13,8 +13,8 @@ walk c =
       group = c.group_changes_are_made.ensures;
     }
 
-few : (c : goal.After-at_most_eight_wait-3) → FewLaws
-few c =
+cores : (c : goal.After-at_most_eight_wait) → CoresKept
+cores c =
     let a = c.axes_stay_kept.ensures in
     let d = c.axes_keep_their_definitions.ensures in
     let g = c.groups_stay_kept.ensures in
@@ -24,9 +24,7 @@ few c =
       definitions = record { command = d.command; power = d.power; detach = d.detach; path = d.path; cycle = d.cycle };
       kept_groups = record { opened = g.opened; command = g.command; power_off = g.power_off; detach = g.detach; cycle = g.cycle; reset = g.reset };
       counts = record { command = n.command; power_off = n.power_off; detach = n.detach; cycle = n.cycle; reset = n.reset };
-      axes = c.at_most_eight_wait.ensures.command;
-      groups = c.at_most_eight_wait-2.ensures.command;
     }
 
 pub returns : goal.returns
-returns c = record { lists = legal_short (walk c) (few c) c.at_most_eight_wait-3.ensures }
+returns c = record { lists = legal_short (walk c) (cores c) c.at_most_eight_wait.ensures }

@@ -7,9 +7,10 @@ use Rattle.motion_history.specs.Looks.{told}
 use Rattle.trace_text.specs.TraceState.{entries_of}
 use Rattle.scope_report.specs.Cuts.{between_cuts}
 use Rattle.scope_report.specs.Pieces.{IsPiece}
-use Rattle.scope_report.proofs.Cutting.{cut-more, item-there, none-is-not, some-is}
+use Rattle.scope_report.proofs.Cutting.{cut-more, item-there, none-is-not}
 use Rattle.scope_report.proofs.Counted.{goes-on, has-room}
 use Rattle.scope_report.proofs.piece.told_between.Goals as goal
+use Rattle.std.proofs.lemmas.Option.{same_Some}
 
 pub add-requires : goal.add-requires
 add-requires c = record {
@@ -29,7 +30,7 @@ loop-place-preserved c =
     let from = c.args.from in
     let i = c.loop-place.place in
     let is : told c.in-Some.entry ≡ get_or es i (end_of 0) =
-    some-is _ _ (ap (option_map told) (sym c.in-Some.is) ∙ c.look.ensures
+    same_Some _ _ (ap (option_map told) (sym c.in-Some.is) ∙ c.look.ensures
     ∙ item-there es i (end_of 0) (omega arith)) in
     let more = ap (λ e. between_cuts from i es ++ e ∷ []) is
     ∙ sym (cut-more from i es (end_of 0) (omega arith) (omega arith)) in

@@ -2,9 +2,9 @@
 use Rattle.std.proofs.Common.{◌≡◌, ◌<◌, ◌∙◌, length, sym, ap, arith}
 use Rattle.std.specs.Prelude.{Some, slice_get}
 use Rattle.trace_text.specs.TraceState.{place_at}
-use Rattle.trace_check.proofs.Numbered.{get-at, get-past}
 use Rattle.trace_check.proofs.RowLaws.{row-more}
 use Rattle.trace_check.proofs.rows.wrong_row.Goals as goal
+use Rattle.std.proofs.lemmas.Option.{slice_get-get_or, slice_get_within}
 
 pub loop-i-preserved : goal.loop-i-preserved
 loop-i-preserved c =
@@ -15,11 +15,11 @@ loop-i-preserved c =
     let each = c.requires.each in
     let long-axes : i < length c.axes-axes.result.now = rw axes (omega (arith, each)) in
     let d-at : slice_get c.args.trace.now.config.axes i ≡ Some c.index-axes-i.result =
-    rw (← axes) (get-at c.axes-axes.result.now i c.index-axes-i.result long-axes ∙ ap Some (sym c.index-axes-i.is)) in
+    rw (← axes) (slice_get-get_or c.axes-axes.result.now i c.index-axes-i.result long-axes ∙ ap Some (sym c.index-axes-i.is)) in
     record {
       same = row-more _ _ _ _ _ (place_at c.args.trace.now c.args.entry) i _ _ _ _
           (c.is_found_as.ensures c.if-not-is_found_as.false) c.version.ensures c.actual_of-place.ensures
-          d-at (get-at c.args.expected.now i _ (omega (arith, many))) (get-at c.args.found.now i _ long)
+          d-at (slice_get-get_or c.args.expected.now i _ (omega (arith, many))) (slice_get-get_or c.args.found.now i _ long)
           c.loop-i.invariant.same;
       many = many;
       axes = axes;
@@ -27,4 +27,4 @@ loop-i-preserved c =
 
 pub returns-clause-all : goal.returns-clause-all
 returns-clause-all c = λ n d r row p q s.
-    c.loop-i.invariant.same n (let l : n < length c.args.found.now = get-past c.args.found.now n row s in omega (arith, l, c.loop-i-test.false)) d r row p q s
+    c.loop-i.invariant.same n (let l : n < length c.args.found.now = slice_get_within c.args.found.now n row s in omega (arith, l, c.loop-i-test.false)) d r row p q s
