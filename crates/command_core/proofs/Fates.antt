@@ -180,6 +180,14 @@ all_make (x ∷ xs) c =
     followed_makes (fate_of x c).ends (fate_of x c).begins (fate_in xs (changed x c))
     c.active (changed x c).active (all_changed xs (changed x c)).active (makes_by x c) (all_make xs (changed x c))
 
+-- the active command that goes on is the same
+pub goes_on_same : (xs : List Change) (c : Charge) → (fate_in xs c).ends ≡ None → (fate_in xs c).begins ≡ None → (all_changed xs c).active ≡ c.active
+goes_on_same xs c over next = (all_make xs c).still over next
+
+-- where one begins and none ends, none was active
+pub begun_none : (xs : List Change) (c : Charge) (w : Wanted) → (fate_in xs c).ends ≡ None → (fate_in xs c).begins ≡ Some w → c.active ≡ None
+begun_none xs c w over next = (all_make xs c).fresh over (λ z. let e : Some w ≡ None = sym next ∙ z in cc)
+
 module _ (laws : AreFates) (tellings : AreTellings) where
   pub fates : (xs : List Change) (c : Charge) → IsFate (fate_in xs c) c.active (all_changed xs c).active
   fates xs c =

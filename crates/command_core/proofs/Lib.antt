@@ -5,3 +5,4 @@ pub mod Apart
 pub mod Holders
 pub mod Waiting
 pub mod Fates
+pub mod Ends

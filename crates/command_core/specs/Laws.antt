@@ -1,5 +1,5 @@
 -- What the laws of changes say (PLCopen Motion Control Part 1, general rules).
-use Rattle.std.specs.Prelude.{◌≡◌, ◌⊎◌, ◌<◌, ◌≤◌, ℕ, ◌+◌, true, false, nat_eq, Some, List, [], ◌++◌, length}
+use Rattle.std.specs.Prelude.{◌≡◌, ◌⊎◌, ◌<◌, ◌≤◌, ℕ, ◌+◌, true, false, nat_eq, Some, None, List, [], ◌++◌, length}
 use Rattle.buffer_modes.specs.Fates.{IsFate, TellsOwner}
 use Rattle.buffer_modes.specs.Owners.{told}
 use Rattle.buffer_modes.specs.Queue.{is_active_at_once}
@@ -8,6 +8,7 @@ use Rattle.command_core.specs.Brought.{BringNone, brought}
 use Rattle.command_core.specs.Calls.{IsCall}
 use Rattle.command_core.specs.Changes.{AllFit, Change, all_changed, changed, joins}
 use Rattle.command_core.specs.Charge.{AreApart, Charge, active_of, disowned, owns, queue_of, waiting_of}
+use Rattle.command_core.specs.Ends.{end_among}
 use Rattle.command_core.specs.Fates.{fate_in}
 
 -- changes one after another
@@ -15,6 +16,11 @@ pub record AreInOrder : Type 0 where
   -- some changes, and then others
   pub more : (xs ys : List Change) (c : Charge) →
       all_changed (xs ++ ys) c ≡ all_changed ys (all_changed xs c)
+  -- what is told is what was told before, and what the changes tell
+  pub notes : (xs : List Change) (c : Charge) →
+      all_changed xs c
+      ≡ (let d : Charge = all_changed xs (record c { notes = [] }) in
+      record d { notes = c.notes ++ d.notes })
   -- where neither bring a command, both together bring none
   pub none : (xs ys : List Change) → BringNone xs → BringNone ys → BringNone (xs ++ ys)
   -- a command that joins at once is active then
@@ -79,6 +85,13 @@ pub record AreOfChanges : Type 0 where
   -- changes make of it what their fate says
   pub fates : (xs : List Change) (c : Charge) →
       IsFate (fate_in xs c) c.active (all_changed xs c).active
+  -- where it neither ends nor another begins, it is the same, its owner too
+  pub goes_on : (xs : List Change) (c : Charge) → (fate_in xs c).ends ≡ None →
+      (fate_in xs c).begins ≡ None → (all_changed xs c).active ≡ c.active
   -- and its owner is told how it ends
   pub told : (xs : List Change) (c : Charge) →
       TellsOwner (fate_in xs c) c.active (all_changed xs c).notes
+  -- and that alone, where it has no other command and is brought none
+  pub end : (k : ℕ) (xs : List Change) (c : Charge) → c.notes ≡ [] → owns k c ≤ 1 →
+      brought k xs ≡ 0 → active_of k c ≡ 1 →
+      end_among k (all_changed xs c).notes ≡ (fate_in xs c).ends

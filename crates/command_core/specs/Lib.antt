@@ -3,4 +3,5 @@ pub mod Changes
 pub mod Brought
 pub mod Calls
 pub mod Fates
+pub mod Ends
 pub mod Laws

@@ -6,7 +6,8 @@ use buffer_modes::{
     ends_tell_their_owners, fates_are_of_the_active_command, owners_are_taken_away,
 };
 
-/// Some changes and then others are the changes of both lists in a row.
+/// Some changes and then others are the changes of both lists in a row, and what they tell stands
+/// behind what was told before.
 pub fn changes_follow_one_another()
     ensures { AreInOrder }
 {}
@@ -50,10 +51,12 @@ pub fn at_most_eight_wait()
     ensures { WaitAtMost }
 {}
 
-/// Changes make of the active command what their fate says, and its owner is told how it ends.
+/// Changes make of the active command what their fate says, and its owner is told how it ends. One
+/// that goes on is the same, with its owner.
 pub fn changes_make_fates()
     ensures { AreOfChanges }
 {
     ends_tell_their_owners();
+    owners_are_taken_away();
     fates_are_of_the_active_command();
 }

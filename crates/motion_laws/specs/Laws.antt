@@ -7,12 +7,14 @@ use Rattle.motion_kernel.specs.Histories.{machine_after}
 use Rattle.motion_laws.specs.arrivals.Moves.{MovesArrive}
 use Rattle.motion_laws.specs.entries.Kept.{KeepsEntries}
 use Rattle.motion_laws.specs.arrivals.Paths.{PathsEnd}
+use Rattle.motion_laws.specs.results.Comes.{ResultsCome, ResultsStay}
 use Rattle.motion_laws.specs.results.Results.{ResultsAreTold}
 use Rattle.motion_laws.specs.limits.Safe.{IsSafe}
 
 -- each row keeps its axis's limits; the machine is safe after every entry; every entry keeps the
--- laws of entries; the commands that lead an axis or a group to an end come there in time; and each
--- end is told to the instance whose command it was
+-- laws of entries; the commands that lead an axis or a group to an end come there in time; each
+-- entry makes of each instance what its commands tell; and each result comes of such an end, and
+-- stays while Execute is true
 pub record KeepsLaws (s : Setup) (es : List Entry) : Type 0 where
   pub limits : KeepTheirLimits s es
   pub safe : (made more : List Entry) → es ≡ made ++ more → IsSafe s (machine_after s made)
@@ -20,3 +22,5 @@ pub record KeepsLaws (s : Setup) (es : List Entry) : Type 0 where
   pub moves : MovesArrive s es
   pub paths : PathsEnd s es
   pub results : ResultsAreTold s es
+  pub origins : ResultsCome s es
+  pub stay : ResultsStay s es

@@ -1,2 +1,5 @@
 -- Which ends the instances are told.
+pub mod Effects
+pub mod Outcomes
 pub mod Results
+pub mod Comes

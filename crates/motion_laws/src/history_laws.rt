@@ -10,7 +10,7 @@ ghost use Rattle.motion_kernel.specs.kept.Machine.{AreWhole};
 use crate::arrival_laws::{moves_arrive_in_time, paths_end_in_time};
 use crate::entry_laws::entries_keep_their_laws;
 use crate::limit_laws::{at_most_eight_wait, axes_stay_stoppable, rows_keep_limits};
-use crate::result_laws::results_are_told;
+use crate::result_laws::{results_are_told, results_come_of_ends, results_stay_shown};
 
 /// In every legal history each row keeps its axis's limits; and after every entry each axis that is
 /// driven and each path can be stopped within its limits, and at most eight commands wait for each
@@ -18,8 +18,9 @@ use crate::result_laws::results_are_told;
 /// its own instance, each reply tells one result, the states change by the entry's events,
 /// commands are where their instances show, and the rows of a cycle show the machine behind it.
 /// Each move, Halt and Stop of an axis, and each line, GroupHalt and GroupStop of a group, comes to
-/// its end in time, and no blended move hangs; and each end is told to the instance whose command
-/// it was, and to no other.
+/// its end in time, and no blended move hangs; each end is told to the instance whose command it
+/// was, and to no other; and each result that a reply tells comes of such an end, and stays while
+/// Execute is true.
 pub fn histories_keep_their_laws()
     ensures { (s : Setup) (es : List Entry) → IsSetup s → AreWhole s → IsLegal s es →
         KeepsLaws s es }
@@ -31,4 +32,6 @@ pub fn histories_keep_their_laws()
     moves_arrive_in_time();
     paths_end_in_time();
     results_are_told();
+    results_come_of_ends();
+    results_stay_shown();
 }

@@ -1,16 +1,21 @@
-// The law of results: the contract of a function that does nothing.
+// Laws of results: each is the contract of a function that does nothing.
 
 ghost use Rattle.std.specs.Prelude.{List};
 ghost use Rattle.motion_history.specs.Entries.{Entry};
 ghost use Rattle.motion_history.specs.Setup.{Setup, IsSetup};
 ghost use Rattle.motion_kernel.specs.Histories.{IsLegal};
 ghost use Rattle.motion_kernel.specs.kept.Machine.{AreWhole};
+ghost use Rattle.motion_laws.specs.results.Comes.{ResultsCome, ResultsStay};
 ghost use Rattle.motion_laws.specs.results.Results.{ResultsAreTold};
 
+use crate::outcome_laws::entries_make_outcomes;
 use command_changes::{
     axis_changes_are_made, axis_fates_are_told, group_changes_are_made, group_fates_are_told,
 };
-use command_core::{commands_come_from_calls, holders_have_commands};
+use command_core::{
+    changes_follow_one_another, changes_make_fates, commands_come_from_calls, ends_are_told_once,
+    holders_have_commands,
+};
 use motion_kernel::machines_stay_kept;
 
 /// In every legal history the end of a command is told to its instance, and to no other. Wherever
@@ -23,12 +28,35 @@ pub fn results_are_told()
     ensures results { (s : Setup) (es : List Entry) → IsSetup s → AreWhole s → IsLegal s es →
         ResultsAreTold s es }
 {
+    entries_make_outcomes();
     machines_stay_kept();
     axis_changes_are_made();
     group_changes_are_made();
-    command_core::ends_are_told_once();
+    changes_follow_one_another();
+    changes_make_fates();
+    ends_are_told_once();
     commands_come_from_calls();
     holders_have_commands();
     axis_fates_are_told();
     group_fates_are_told();
+}
+
+/// Each result that a reply of a legal history tells comes of an entry in which the command of its
+/// instance ended so, be it the call itself or an entry before it, and behind which no call of the
+/// instance was a rising edge.
+pub fn results_come_of_ends()
+    ensures results { (s : Setup) (es : List Entry) → IsSetup s → AreWhole s → IsLegal s es →
+        ResultsCome s es }
+{
+    entries_make_outcomes();
+}
+
+/// A result that a reply of a legal history tells stays while Execute is true: the next call of the
+/// instance with Execute still true tells it again.
+pub fn results_stay_shown()
+    ensures results { (s : Setup) (es : List Entry) → IsSetup s → AreWhole s → IsLegal s es →
+        ResultsStay s es }
+{
+    results_are_told();
+    machines_stay_kept();
 }

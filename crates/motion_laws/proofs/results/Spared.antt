@@ -19,9 +19,8 @@ use Rattle.motion_laws.specs.owners.Objects.{Object}
 use Rattle.motion_laws.proofs.owners.Events.{event_changes, free_same, free_shown}
 use Rattle.motion_laws.proofs.owners.Kept.{answered_other, commands_kept}
 use Rattle.motion_laws.proofs.owners.commands.Events.{OwnerLaws, ShownOf}
-use Rattle.motion_laws.proofs.results.Commands.{beside}
 use Rattle.motion_laws.proofs.results.Cycles.{found_spares}
-use Rattle.motion_laws.proofs.results.Events.{event_spares, none_spared, progress_in}
+use Rattle.motion_laws.proofs.results.Events.{beside, event_spares, none_spared, progress_in}
 use Rattle.motion_laws.proofs.walk.Calls.{by_call}
 use Rattle.motion_laws.proofs.walk.Cycles.{by_cycle}
 use Rattle.motion_laws.proofs.walk.Keeps.{Asks, Event, Keeps, freed}

@@ -2,7 +2,7 @@
 use Rattle.std.specs.Prelude.{◌≡◌, refl, ℕ, ◌+◌, ◌<◌, Bool, true, false, not, ◌&&◌, nat_eq, if◌then◌else◌, Option, Some, None, List, [], ◌∷◌, ◌++◌, length, slice_get}
 use Rattle.std.proofs.Common.{arith, ap, sym, subst, ◌∙◌, inl, inr}
 use Rattle.std.proofs.lemmas.Bool.{and_parts, cases_Bool, eqb-true, not-true}
-use Rattle.buffer_modes.specs.Owners.{owner_by}
+use Rattle.command_changes.specs.Fates.{AreAxisFates, AreGroupFates}
 use Rattle.command_pool.specs.declared.ending.Finish.{Finish}
 use Rattle.command_pool.specs.declared.ending.Finish.TheVariants as finish
 use Rattle.command_pool.specs.declared.kind.BlockKind.{BlockKind}
@@ -26,21 +26,29 @@ use Rattle.motion_laws.specs.owners.Shown.{AreWhereShown}
 use Rattle.motion_laws.specs.owners.Objects.{IsThere, Object, has_commands_on, a_group, an_axis}
 use Rattle.motion_laws.specs.owners.Commands.{active_at, active_shown, commands_shown}
 use Rattle.motion_laws.specs.entries.Replies.{AreOfBlocks}
+use Rattle.motion_laws.specs.results.Outcomes.{IsOutcome, begins_command, end_of_command, progress_at, progress_beside, progress_by}
 use Rattle.motion_laws.specs.results.Results.{AreNoCalls, KeepsResults, ResultsAreTold, Tells, TellsNext, end_in, is_call_of, is_rising, takes_away}
-use Rattle.motion_laws.proofs.owners.active.Cycles.{found_in}
 use Rattle.motion_laws.proofs.arrivals.Moves.{behind}
 use Rattle.motion_laws.proofs.owners.Shown.{call_all_shown, cycle_all_shown, legal_all_shown}
 use Rattle.motion_kernel.proofs.kept.Machine.{kept_by_cycle}
-use Rattle.motion_laws.proofs.owners.commands.Events.{IsGood, block_there, shown_where, there_where}
+use Rattle.motion_laws.proofs.owners.commands.Events.{shown_where, there_where}
 use Rattle.motion_laws.proofs.owners.commands.Asked.{set_at}
 use Rattle.motion_laws.proofs.entries.replies.Entries.{call_of_blocks, cycle_of_blocks, opening_of_blocks}
 use Rattle.motion_laws.proofs.entries.replies.Histories.{kind_after, replay_of_blocks}
 use Rattle.motion_laws.proofs.Histories.{legal_kept, legal_so_far}
 use Rattle.motion_laws.proofs.results.Spared.{call_spares, cycle_spares}
-use Rattle.motion_laws.proofs.results.Calls.{call_tells_axis, call_tells_group}
-use Rattle.motion_laws.proofs.results.Steps.{TellLaws}
-use Rattle.motion_laws.proofs.results.Cycles.{cycle_tells_axis, cycle_tells_group}
 use Rattle.motion_laws.proofs.results.Events.{HasEnded, progress_in}
+use Rattle.motion_laws.proofs.results.outcomes.Fates.{same_ends}
+use Rattle.motion_laws.proofs.results.outcomes.Final.{OutcomeLaws}
+use Rattle.motion_laws.proofs.results.outcomes.Histories.{EntriesMakeOutcomes}
+use Rattle.motion_laws.proofs.results.outcomes.Others.{call_affects, call_outcome}
+use Rattle.motion_laws.proofs.results.outcomes.Shown.{cycle_affects, cycle_outcome, ends_as_told}
+
+-- the laws on which it rests that results are told
+pub record TellLaws : Type 0 where
+  pub outcomes : OutcomeLaws
+  pub axes : AreAxisFates
+  pub groups : AreGroupFates
 
 -- a machine of a legal history
 record IsRunning (s : Setup) (m : Machine) : Type 0 where
@@ -54,140 +62,51 @@ good_of s m h = record { sized = h.kept.sized; shown = h.shown.commands }
 runs_on : TellLaws → (s : Setup) (cycles : ℕ) (m : Machine) (e : Entry) → AreWhole s →
     IsRunning s m → IsOf s cycles m e → IsRunning s (after s m e)
 runs_on laws s cycles m (call k i reply) whole h is = record {
-  kept = laws.owners.walk.machines.call s m k i whole is.0 h.kept;
-  shown = call_all_shown laws.owners s m k i whole is.0 h.kept h.shown;
+  kept = laws.outcomes.owners.walk.machines.call s m k i whole is.0 h.kept;
+  shown = call_all_shown laws.outcomes.owners s m k i whole is.0 h.kept h.shown;
   blocks = call_of_blocks s m k i h.blocks;
 }
 runs_on laws s cycles m (cycle c rows grows) whole h is = record {
-  kept = kept_by_cycle laws.owners.walk.machines s m rows grows h.kept is.1;
-  shown = cycle_all_shown laws.owners s m (inputs_of rows) h.kept h.shown;
+  kept = kept_by_cycle laws.outcomes.owners.walk.machines s m rows grows h.kept is.1;
+  shown = cycle_all_shown laws.outcomes.owners s m (inputs_of rows) h.kept h.shown;
   blocks = cycle_of_blocks s m (inputs_of rows) h.blocks;
 }
 runs_on laws s cycles m (end_of task) whole h is = h
 
 -- an entry tells nothing to an instance without a command
-untold_by : TellLaws → (s : Setup) (cycles : ℕ) (m : Machine) (e : Entry) (k : ℕ) → AreWhole s →
-    IsRunning s m → IsOf s cycles m e → commands_shown (progress_in m.instances k) ≡ 0 →
-    is_call_of k e ≡ false → progress_in (after s m e).instances k ≡ progress_in m.instances k
-untold_by laws s cycles m (call j i reply) k whole h is none other =
-    call_spares laws.owners s m k j i whole is.0 h.kept h.shown.commands other none
-untold_by laws s cycles m (cycle c rows grows) k whole h is none other =
-    cycle_spares laws.owners s m (inputs_of rows) k h.kept h.shown.commands none
-untold_by laws s cycles m (end_of task) k whole h is none other = refl
-
--- an instance's own call that is no rising edge ends none of its commands
-axis_edge_ends_none : (s : Setup) (a c : Bool) (k : ℕ) (b : BlockDef) (i : Inputs) (m : Machine)
-    (n : ℕ) (f : Finish) → not a && c ≡ false →
-    (axis_entry.fate_by_edge s (edge_of a c) k b i m n).ends ≡ Some f → ⊥
-axis_edge_ends_none s true true k b i m n f r e = absurd (cc)
-axis_edge_ends_none s true false k b i m n f r e = absurd (cc)
-axis_edge_ends_none s false true k b i m n f r e = absurd (cc)
-axis_edge_ends_none s false false k b i m n f r e = absurd (cc)
-
-axis_kind_ends_none : (s : Setup) (x : BlockKind) (a c : Bool) (k : ℕ) (b : BlockDef) (i : Inputs)
-    (m : Machine) (n : ℕ) (f : Finish) → is_power x ≡ false → not a && c ≡ false →
-    (axis_entry.fate_by_kind s x (edge_of a c) k b i m n).ends ≡ Some f → ⊥
-axis_kind_ends_none s kind.Power a c k b i m n f p r e = absurd (cc)
-axis_kind_ends_none s _ a c k b i m n f p r e = axis_edge_ends_none s a c k b i m n f r e
-
-group_edge_ends_none : (s : Setup) (a c : Bool) (k : ℕ) (b : BlockDef) (i : Inputs) (m : Machine)
-    (j : ℕ) (f : Finish) → not a && c ≡ false →
-    (group_entry.fate_by_edge s (edge_of a c) k b i m j).ends ≡ Some f → ⊥
-group_edge_ends_none s true true k b i m j f r e = absurd (cc)
-group_edge_ends_none s true false k b i m j f r e = absurd (cc)
-group_edge_ends_none s false true k b i m j f r e = absurd (cc)
-group_edge_ends_none s false false k b i m j f r e = absurd (cc)
-
-group_kind_ends_none : (s : Setup) (x : BlockKind) (a c : Bool) (k : ℕ) (b : BlockDef) (i : Inputs)
-    (m : Machine) (j : ℕ) (f : Finish) → is_power x ≡ false → not a && c ≡ false →
-    (group_entry.fate_by_kind s x (edge_of a c) k b i m j).ends ≡ Some f → ⊥
-group_kind_ends_none s kind.Power a c k b i m j f p r e = absurd (cc)
-group_kind_ends_none s _ a c k b i m j f p r e = group_edge_ends_none s a c k b i m j f r e
-
--- whoever has commands has a block that is no Power
-record HasBlock (s : Setup) (k : ℕ) : Type 0 where
-  block : BlockDef
-  is : slice_get s.blocks k ≡ Some block
-  other : is_power block.kind ≡ false
-
-block_of : (s : Setup) (k : ℕ) (o : Object) → has_commands_on (slice_get s.blocks k) o ≡ true →
-    HasBlock s k
-block_of s k o on = block_by (slice_get s.blocks k) refl on
-  where
-    block_by : (x : Option BlockDef) → slice_get s.blocks k ≡ x → has_commands_on x o ≡ true →
-        HasBlock s k
-    block_by None at e = absurd (cc)
-    block_by (Some b) at e =
-        record { block = b; is = at; other = not-true (is_power b.kind) (and_parts _ _ e).0 }
-
-own_ends_none : (s : Setup) (m : Machine) (k : ℕ) (i : Inputs) (reply : Outputs) (o : Object)
-    (f : Finish) → HasBlock s k → is_rising m k i ≡ false →
-    end_in s m (call k i reply) o ≡ Some f → ⊥
-own_ends_none s m k i reply (an_axis n) f has r e =
-    axis_kind_ends_none s has.block.kind (instance_at m.instances k).execute i.execute k has.block i
-    (with_execute k i m) n f has.other r
-    (subst (λ x. (axis_entry.fate_by_call s x k i m n).ends ≡ Some f) has.is e)
-own_ends_none s m k i reply (a_group j) f has r e =
-    group_kind_ends_none s has.block.kind (instance_at m.instances k).execute i.execute k has.block
-    i (with_execute k i m) j f has.other r
-    (subst (λ x. (group_entry.fate_by_call s x k i m j).ends ≡ Some f) has.is e)
-
--- whoever has the active command of an axis or a group has its block there
-on_it : (s : Setup) (m : Machine) (k : ℕ) (o : Object) → IsRunning s m → IsThere m o →
-    active_at m k o ≡ 1 → has_commands_on (slice_get s.blocks k) o ≡ true
-on_it s m k o h there owns =
-    let all = h.shown.active k o there in
-    shown_where (has_commands_on (slice_get s.blocks k) o) (active_shown
-    (progress_in m.instances k)) (omega arith)
-
--- it is an instance of the machine
-instance_there : (s : Setup) (m : Machine) (k : ℕ) (o : Object) → IsRunning s m →
-    has_commands_on (slice_get s.blocks k) o ≡ true → k < length m.instances
-instance_there s m k o h on =
-    let block = block_there s.blocks k o on in
-    let size = (h.kept.sized).instances in
-    omega arith
-
--- and its command's end is told to it
-call_tells : TellLaws → (s : Setup) (m : Machine) (j k : ℕ) (i : Inputs) (reply : Outputs)
-    (o : Object) (f : Finish) → AreWhole s → IsRunning s m → IsOf s 0 m (call k i reply) →
-    IsThere m o → active_at m j o ≡ 1 → nat_eq k j ≡ false →
-    end_in s m (call k i reply) o ≡ Some f → HasEnded f j (after s m (call k i reply))
-call_tells laws s m j k i reply (an_axis n) f whole h is there owns d ends =
-    let on = on_it s m j (an_axis n) h there owns in
-    call_tells_axis laws s m j k i n f whole is.0 h.kept (good_of s m h) d there
-    (instance_there s m j (an_axis n) h on) owns ends
-call_tells laws s m j k i reply (a_group g) f whole h is there owns d ends =
-    let on = on_it s m j (a_group g) h there owns in
-    call_tells_group laws s m j k i g f whole is.0 h.kept (good_of s m h) d there
-    (instance_there s m j (a_group g) h on) on owns ends
-
-own_taken : (same rises : Bool) → same ≡ true → same && rises ≡ false → rises ≡ false
-own_taken true rises e f = f
-own_taken false rises e f = absurd (cc)
+un-- what an end leaves of an instance
+ended_by : (s : Setup) (m : Machine) (e : Entry) (k : ℕ) (o : Object) (f : Finish) →
+    progress_at (after s m e) k ≡ progress_beside s m e k o → end_of_command s m e k o ≡ Some f →
+    HasEnded f k (after s m e)
+ended_by s m e k o f outcome ends =
+    outcome ∙ ap (λ x. progress_by x (begins_command s m e k o) (progress_at m k)) ends
 
 told_by : TellLaws → (s : Setup) (cycles : ℕ) (m : Machine) (e : Entry) (k : ℕ) (o : Object)
     (f : Finish) → AreWhole s → IsRunning s m → IsOf s cycles m e → IsThere m o →
     active_at m k o ≡ 1 → end_in s m e o ≡ Some f → takes_away m k e ≡ false →
     HasEnded f k (after s m e)
 told_by laws s cycles m (call j i reply) k o f whole h is there owns ends keeps =
+    let on = on_it s m k o h there owns in
     elim (cases_Bool (nat_eq j k)) [
       | inl e ↦
           let same : j ≡ k = eqb-true j k e in
-          let on = on_it s m k o h there owns in
           let rises = own_taken (nat_eq j k) (is_rising m j i) e keeps in
           let has = subst (HasBlock s) (sym same) (block_of s k o on) in
           absurd (own_ends_none s m j i reply o f has rises ends)
-      | inr d ↦ call_tells laws s m k j i reply o f whole h is there owns d ends
+      | inr d ↦
+          let affects = call_affects laws.outcomes s m j k i o whole is.0 h.kept h.shown there on d in
+          ended_by s m (call j i reply) k o f
+          (call_outcome laws.outcomes s m j k i reply o whole is.0 h.kept h.shown there on d)
+          (ends_as_told laws.outcomes s m _ k o _ h.shown there owns affects
+          ∙ same_ends laws.axes laws.groups s m (call j i reply) o ∙ ends)
     ]
-told_by laws s cycles m (cycle c rows grows) k (an_axis n) f whole h is there owns ends keeps =
-    let on = on_it s m k (an_axis n) h there owns in
-    cycle_tells_axis laws s m (inputs_of rows) k n f h.kept (good_of s m h) there on
-    (found_in k (owner_by (axis_at m n).active) (omega arith)) ends
-told_by laws s cycles m (cycle c rows grows) k (a_group j) f whole h is there owns ends keeps =
-    let on = on_it s m k (a_group j) h there owns in
-    cycle_tells_group laws s m (inputs_of rows) k j f h.kept (good_of s m h) there on
-    (found_in k (owner_by (group_at m j).group.active) (omega arith)) ends
+told_by laws s cycles m (cycle c rows grows) k o f whole h is there owns ends keeps =
+    let on = on_it s m k o h there owns in
+    let affects = cycle_affects laws.outcomes s m (inputs_of rows) k o h.kept h.shown there on in
+    ended_by s m (cycle c rows grows) k o f
+    (cycle_outcome laws.outcomes s m c rows grows k o h.kept h.shown there on)
+    (ends_as_told laws.outcomes s m _ k o _ h.shown there owns affects
+    ∙ same_ends laws.axes laws.groups s m (cycle c rows grows) o ∙ ends)
 told_by laws s cycles m (end_of task) k (an_axis n) f whole h is there owns ends keeps =
     absurd (cc)
 told_by laws s cycles m (end_of task) k (a_group j) f whole h is there owns ends keeps =
@@ -233,7 +152,7 @@ still_ended true false f r = refl
 still_ended false true f r = absurd (cc)
 still_ended false false f r = refl
 
-result_tells : (f : Finish) (holds : Bool) → Tells f (result_of holds f)
+pub result_tells : (f : Finish) (holds : Bool) → Tells f (result_of holds f)
 result_tells finish.Done holds = refl
 result_tells finish.Aborted holds = refl
 result_tells (finish.Error n) holds = (refl, refl)
@@ -289,8 +208,10 @@ tells_next laws s cycles m es k f whole has h follows before later i reply is no
 
 results_kept : TellLaws → (s : Setup) (cycles : ℕ) (m : Machine) (e : Entry) (more : List Entry)
     (k : ℕ) → AreWhole s → IsRunning s m → Follows s cycles m (e ∷ more) →
-    KeepsResults s m e more k
-results_kept laws s cycles m e more k whole h follows = record {
+    ((b : BlockDef) → slice_get s.blocks k ≡ Some b → is_power b.kind ≡ false →
+    IsOutcome s m e k b) → KeepsResults s m e more k
+results_kept laws s cycles m e more k whole h follows outcome = record {
+  outcome = outcome;
   told = λ o f there owns ends keeps.
       tells_next laws s (cycles + cycle_count e) (after s m e) more k f whole
       (block_of s k o (on_it s m k o h there owns))
@@ -302,15 +223,16 @@ results_kept laws s cycles m e more k whole h follows = record {
 }
 
 -- and so in every legal history
-pub results_told : TellLaws → (s : Setup) (es : List Entry) → IsSetup s → AreWhole s →
-    IsLegal s es → ResultsAreTold s es
+pub results_told : TellLaws → EntriesMakeOutcomes → (s : Setup) (es : List Entry) → IsSetup s →
+    AreWhole s → IsLegal s es → ResultsAreTold s es
 unfolding machine_after
-results_told laws s es setup whole legal made more e k is =
+results_told laws make s es setup whole legal made more e k is =
     let all = subst (IsLegal s) is legal in
     let so_far = legal_so_far s made (e ∷ more) all in
     results_kept laws s (0 + cycles_of made) (machine_after s made) e more k whole
     (record {
-      kept = legal_kept laws.owners.walk.machines s made setup whole so_far;
-      shown = legal_all_shown laws.owners s made setup whole so_far;
+      kept = legal_kept laws.outcomes.owners.walk.machines s made setup whole so_far;
+      shown = legal_all_shown laws.outcomes.owners s made setup whole so_far;
       blocks = replay_of_blocks s (machine_at_opening s) made (opening_of_blocks s);
     }) (behind s 0 (machine_at_opening s) made (e ∷ more) all.follows)
+    (λ b at other. make s made more e k b setup whole all at other)

@@ -1,19 +1,22 @@
 -- Which end of a command its instance is told, and when it shows it (PLCopen Motion Control Part 1,
 -- general rules).
-use Rattle.std.specs.Prelude.{◌≡◌, ℕ, Bool, true, false, not, ◌&&◌, nat_eq, Option, Some, List, ◌∷◌, ◌++◌}
+use Rattle.std.specs.Prelude.{◌≡◌, ℕ, Bool, true, false, not, ◌&&◌, nat_eq, Option, Some, List, ◌∷◌, ◌++◌, slice_get}
 use Rattle.std.specs.List.{AllByRecursion}
 use Rattle.command_pool.specs.declared.ending.Finish.{Finish}
 use Rattle.command_pool.specs.declared.ending.Finish.TheVariants as finish
+use Rattle.fb_outputs.specs.Steps.{is_power}
 use Rattle.fb_outputs.specs.declared.inputs.Inputs.{Inputs}
 use Rattle.fb_outputs.specs.declared.outputs.Outputs.{Outputs}
 use Rattle.motion_history.specs.Entries.{Entry, call, cycle, end_of}
 use Rattle.motion_history.specs.Setup.{Setup}
+use Rattle.motion_history.specs.declared.config.BlockDef.{BlockDef}
 use Rattle.motion_laws.specs.arrivals.AxisFates.{axis_fate}
 use Rattle.motion_laws.specs.arrivals.GroupFates.{group_fate}
 use Rattle.motion_kernel.specs.Histories.{after, machine_after, replay}
 use Rattle.motion_kernel.specs.Machine.{Machine, instance_at}
 use Rattle.motion_laws.specs.owners.Objects.{IsThere, Object, a_group, an_axis}
 use Rattle.motion_laws.specs.owners.Commands.{active_at, commands_shown}
+use Rattle.motion_laws.specs.results.Outcomes.{IsOutcome}
 
 -- how the active command of an axis or a group ends in an entry, if it does
 abbrev pub end_in : Setup → Machine → Entry → Object → Option Finish
@@ -55,6 +58,9 @@ TellsNext s k f m es = (before later : List Entry) (i : Inputs) (reply : Outputs
 -- what an entry tells an instance, with the entries behind it
 pub record KeepsResults (s : Setup) (m : Machine) (e : Entry) (more : List Entry) (k : ℕ)
     : Type 0 where
+  -- each entry makes of the instance what its own call or the changes of commands say
+  pub outcome : (b : BlockDef) → slice_get s.blocks k ≡ Some b → is_power b.kind ≡ false →
+      IsOutcome s m e k b
   -- the instance whose active command ends tells so at its next call, unless a rising edge takes
   -- the command from it
   pub told : (o : Object) (f : Finish) → IsThere m o → active_at m k o ≡ 1 →

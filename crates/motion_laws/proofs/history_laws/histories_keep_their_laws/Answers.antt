@@ -18,4 +18,6 @@ returns c s es setup whole legal = record {
   moves = c.moves_arrive_in_time.ensures.moves s es setup whole legal;
   paths = c.paths_end_in_time.ensures.paths s es setup whole legal;
   results = c.results_are_told.ensures.results s es setup whole legal;
+  origins = c.results_come_of_ends.ensures.results s es setup whole legal;
+  stay = c.results_stay_shown.ensures.results s es setup whole legal;
 }

@@ -1,0 +1,75 @@
+-- Each reply that tells a result comes of an end.
+use Rattle.std.specs.Prelude.{◌≡◌, refl, ℕ, zero, suc, true, false, Some, List, [], ◌∷◌, ◌++◌, slice_get, slice_set}
+use Rattle.std.proofs.Common.{ap, sym, subst, ◌∙◌}
+use Rattle.std.proofs.lemmas.List.{append_assoc}
+use Rattle.command_pool.specs.declared.ending.Finish.{Finish}
+use Rattle.fb_outputs.specs.InstanceState.{InstanceState}
+use Rattle.fb_outputs.specs.Steps as instance
+use Rattle.fb_outputs.specs.Steps.{is_power, opened, outputs_of, shown_progress}
+use Rattle.fb_outputs.specs.declared.inputs.Inputs.{Inputs}
+use Rattle.fb_outputs.specs.declared.outputs.Outputs.{Outputs}
+use Rattle.motion_history.specs.Entries.{Entry, call}
+use Rattle.motion_history.specs.Setup.{Setup, IsSetup}
+use Rattle.motion_history.specs.declared.config.BlockDef.{BlockDef}
+use Rattle.motion_kernel.specs.Histories.{IsLegal, machine_after}
+use Rattle.motion_kernel.specs.Machine.{Machine, instance_at, machine_at_opening}
+use Rattle.motion_kernel.specs.calls.Calls.{after_call, called, reply_of}
+use Rattle.motion_kernel.specs.kept.Machine.{AreWhole}
+use Rattle.motion_laws.specs.entries.Replies.{AreOfBlocks}
+use Rattle.motion_laws.specs.results.Comes.{ComesOf, ResultsCome}
+use Rattle.motion_laws.specs.results.Outcomes.{progress_at}
+use Rattle.motion_laws.specs.results.Results.{Tells}
+use Rattle.motion_laws.proofs.Histories.{legal_so_far}
+use Rattle.motion_laws.proofs.arrivals.Moves.{behind}
+use Rattle.motion_laws.proofs.entries.replies.Entries.{called_of_blocks, opening_of_blocks}
+use Rattle.motion_laws.proofs.entries.replies.Histories.{kind_after, replay_of_blocks}
+use Rattle.motion_laws.proofs.results.outcomes.Histories.{EntriesMakeOutcomes}
+use Rattle.motion_laws.proofs.results.Comes.{HasEndedSo, after_more, ends_come, told_end}
+
+-- an end that is shown stays
+shown_so : (f : Finish) (v : InstanceState) → HasEndedSo f v.progress → HasEndedSo f (instance.shown v).progress
+shown_so f v h = record { shown = true; is = ap shown_progress h.is }
+
+replied_so : (f : Finish) (is : List InstanceState) (k : ℕ) → HasEndedSo f (instance_at is k).progress →
+    HasEndedSo f (instance_at (slice_set is k (instance.shown (instance_at is k))) k).progress
+replied_so f [] k h = h
+replied_so f (v ∷ vs) zero h = shown_so f v h
+replied_so f (v ∷ vs) (suc k) h = replied_so f vs k h
+
+-- the instances of a history are of their blocks
+pub blocks_after : (s : Setup) (es : List Entry) → AreOfBlocks s (machine_after s es).instances
+unfolding machine_after
+blocks_after s es = replay_of_blocks s (machine_at_opening s) es (opening_of_blocks s)
+
+-- the reply of the last call
+pub last_reply : (s : Setup) (made : List Entry) (k : ℕ) (i : Inputs) (reply : Outputs) → IsLegal s (made ++ call k i reply ∷ []) →
+    reply ≡ reply_of s (machine_after s made) k i
+unfolding machine_after
+last_reply s made k i reply legal = (behind s 0 (machine_at_opening s) made (call k i reply ∷ []) legal.follows).0.1
+
+-- a reply that tells an end is one of a block that is no Power, and its instance then shows it
+pub record EndsAt (s : Setup) (made : List Entry) (k : ℕ) (i : Inputs) (reply : Outputs) (b : BlockDef) (f : Finish) : Type 0 where
+  pub other : is_power b.kind ≡ false
+  pub after : HasEndedSo f (progress_at (machine_after s (made ++ call k i reply ∷ [])) k)
+
+pub first_ended : (s : Setup) (made : List Entry) (k : ℕ) (i : Inputs) (reply : Outputs) (b : BlockDef) (f : Finish) → slice_get s.blocks k ≡ Some b →
+    IsLegal s (made ++ call k i reply ∷ []) → Tells f reply → EndsAt s made k i reply b f
+first_ended s made k i reply b f at legal tells =
+    let m = machine_after s made in
+    let x = called s k i m in
+    let v = instance_at x.instances k in
+    let told = told_end f v (subst (Tells f) (last_reply s made k i reply legal) tells) in
+    let happened = called_of_blocks s m k i (blocks_after s made) k b at in
+    let kind_is : v.kind ≡ b.kind = ap (λ (y : InstanceState). y.kind) happened.is ∙ kind_after (opened b.kind) happened.happenings in
+    record {
+      other = ap is_power (sym kind_is) ∙ told.0;
+      after = subst (λ y. HasEndedSo f (progress_at y k)) (sym (after_more s made [] (call k i reply))) (replied_so f x.instances k told.1);
+    }
+
+pub results_come : EntriesMakeOutcomes → (s : Setup) (es : List Entry) → IsSetup s → AreWhole s → IsLegal s es → ResultsCome s es
+results_come make s es setup whole legal made more k i reply b f is at tells =
+    let so_far = made ++ call k i reply ∷ [] in
+    let split : es ≡ so_far ++ more = is ∙ sym (append_assoc made (call k i reply ∷ []) more) in
+    let legal_here = legal_so_far s so_far more (subst (IsLegal s) split legal) in
+    let ended = first_ended s made k i reply b f at legal_here tells in
+    ends_come s k b so_far (λ before behind e split_so. make s before behind e k b setup whole (subst (IsLegal s) split_so legal_here) at ended.other) f ended.after
