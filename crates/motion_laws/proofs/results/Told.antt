@@ -81,6 +81,24 @@ ended_by : (s : Setup) (m : Machine) (e : Entry) (k : ℕ) (o : Object) (f : Fin
 ended_by s m e k o f outcome ends =
     outcome ∙ ap (λ x. progress_by x (begins_command s m e k o) (progress_at m k)) ends
 
+-- the instance that has the active command is told the end of its fate
+end_by : TellLaws → (s : Setup) (cycles : ℕ) (m : Machine) (e : Entry) (k : ℕ) (o : Object) →
+    AreWhole s → IsRunning s m → IsOf s cycles m e → IsThere m o → active_at m k o ≡ 1 →
+    is_call_of k e ≡ false → end_of_command s m e k o ≡ end_in s m e o
+end_by laws s cycles m (call j i reply) k o whole h is there owns other =
+    let on = on_it s m k o h there owns in
+    let affects = call_affects laws.outcomes s m j k i o whole is.0 h.kept h.shown there on other in
+    ends_as_told laws.outcomes s m _ k o _ h.shown there owns affects
+    ∙ same_ends laws.axes laws.groups s m (call j i reply) o
+end_by laws s cycles m (cycle c rows grows) k o whole h is there owns other =
+    let on = on_it s m k o h there owns in
+    let affects = cycle_affects laws.outcomes s m (inputs_of rows) k o h.kept h.shown there on in
+    ends_as_told laws.outcomes s m _ k o _ h.shown there owns affects
+    ∙ same_ends laws.axes laws.groups s m (cycle c rows grows) o
+end_by laws s cycles m (end_of task) k (an_axis n) whole h is there owns other = refl
+end_by laws s cycles m (end_of task) k (a_group j) whole h is there owns other = refl
+
+-- and shows it
 told_by : TellLaws → (s : Setup) (cycles : ℕ) (m : Machine) (e : Entry) (k : ℕ) (o : Object)
     (f : Finish) → AreWhole s → IsRunning s m → IsOf s cycles m e → IsThere m o →
     active_at m k o ≡ 1 → end_in s m e o ≡ Some f → takes_away m k e ≡ false →
@@ -93,20 +111,14 @@ told_by laws s cycles m (call j i reply) k o f whole h is there owns ends keeps 
           let rises = own_taken (nat_eq j k) (is_rising m j i) e keeps in
           let has = subst (HasBlock s) (sym same) (block_of s k o on) in
           absurd (own_ends_none s m j i reply o f has rises ends)
-      | inr d ↦
-          let affects = call_affects laws.outcomes s m j k i o whole is.0 h.kept h.shown there on d in
-          ended_by s m (call j i reply) k o f
+      | inr d ↦ ended_by s m (call j i reply) k o f
           (call_outcome laws.outcomes s m j k i reply o whole is.0 h.kept h.shown there on d)
-          (ends_as_told laws.outcomes s m _ k o _ h.shown there owns affects
-          ∙ same_ends laws.axes laws.groups s m (call j i reply) o ∙ ends)
+          (end_by laws s cycles m (call j i reply) k o whole h is there owns d ∙ ends)
     ]
 told_by laws s cycles m (cycle c rows grows) k o f whole h is there owns ends keeps =
-    let on = on_it s m k o h there owns in
-    let affects = cycle_affects laws.outcomes s m (inputs_of rows) k o h.kept h.shown there on in
     ended_by s m (cycle c rows grows) k o f
-    (cycle_outcome laws.outcomes s m c rows grows k o h.kept h.shown there on)
-    (ends_as_told laws.outcomes s m _ k o _ h.shown there owns affects
-    ∙ same_ends laws.axes laws.groups s m (cycle c rows grows) o ∙ ends)
+    (cycle_outcome laws.outcomes s m c rows grows k o h.kept h.shown there (on_it s m k o h there owns))
+    (end_by laws s cycles m (cycle c rows grows) k o whole h is there owns refl ∙ ends)
 told_by laws s cycles m (end_of task) k (an_axis n) f whole h is there owns ends keeps =
     absurd (cc)
 told_by laws s cycles m (end_of task) k (a_group j) f whole h is there owns ends keeps =
@@ -212,6 +224,7 @@ results_kept : TellLaws → (s : Setup) (cycles : ℕ) (m : Machine) (e : Entry)
     IsOutcome s m e k b) → KeepsResults s m e more k
 results_kept laws s cycles m e more k whole h follows outcome = record {
   outcome = outcome;
+  end = λ o there owns other. end_by laws s cycles m e k o whole h follows.0 there owns other;
   told = λ o f there owns ends keeps.
       tells_next laws s (cycles + cycle_count e) (after s m e) more k f whole
       (block_of s k o (on_it s m k o h there owns))

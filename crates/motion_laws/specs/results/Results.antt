@@ -16,7 +16,7 @@ use Rattle.motion_kernel.specs.Histories.{after, machine_after, replay}
 use Rattle.motion_kernel.specs.Machine.{Machine, instance_at}
 use Rattle.motion_laws.specs.owners.Objects.{IsThere, Object, a_group, an_axis}
 use Rattle.motion_laws.specs.owners.Commands.{active_at, commands_shown}
-use Rattle.motion_laws.specs.results.Outcomes.{IsOutcome}
+use Rattle.motion_laws.specs.results.Outcomes.{IsOutcome, end_of_command}
 
 -- how the active command of an axis or a group ends in an entry, if it does
 abbrev pub end_in : Setup → Machine → Entry → Object → Option Finish
@@ -61,6 +61,9 @@ pub record KeepsResults (s : Setup) (m : Machine) (e : Entry) (more : List Entry
   -- each entry makes of the instance what its own call or the changes of commands say
   pub outcome : (b : BlockDef) → slice_get s.blocks k ≡ Some b → is_power b.kind ≡ false →
       IsOutcome s m e k b
+  -- where its command is the active one, it ends as the fate of that says
+  pub end : (o : Object) → IsThere m o → active_at m k o ≡ 1 → is_call_of k e ≡ false →
+      end_of_command s m e k o ≡ end_in s m e o
   -- the instance whose active command ends tells so at its next call, unless a rising edge takes
   -- the command from it
   pub told : (o : Object) (f : Finish) → IsThere m o → active_at m k o ≡ 1 →
