@@ -67,7 +67,7 @@ static void prepare(void)
 {
     struct sched_param high = { 80 };
     if (sched_setscheduler(0, SCHED_FIFO, &high) != 0) perror("no SCHED_FIFO");
-    /* behind motion_open: this also touches all of the history's memory, so that no cycle has to */
+    /* behind motion_open, which has touched all of the history's memory: it stays there */
     if (mlockall(MCL_CURRENT | MCL_FUTURE) != 0) perror("no locked memory");
 }
 

@@ -167,7 +167,8 @@ enum motion_group_state {
 
 /* Opens a closed handle by a text: the machine part of a bench (docs/formats.md), with neither `go`
  * nor anything behind it. `len` counts its bytes; a 0 byte at its end isn't one of them. The whole
- * memory that the machine will ever need is taken here, but for a trace's.
+ * memory that the machine will ever need is taken here, but for a trace's, and the history's is
+ * touched, so that no call and no cycle pays for the first touch of a page.
  *   MOTION_OK        the machine is open, at rest, and its history empty
  *   MOTION_OPEN      exactly where the handle is open; it stays so
  *   MOTION_REFUSED   the text is no machine: `why` tells where. What is missing at its end is told

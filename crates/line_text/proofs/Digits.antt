@@ -1,26 +1,12 @@
--- Decimal digits as text, and the size of their number.
-use Rattle.std.proofs.Common.{◌≡◌, ℕ, ℤ, true, Option, Some, None, refl, subst, ◌≤◌, List, length, arith, inl, inr, lit<}
-use Rattle.std.specs.List.{list_all}
+-- The size of a number.
+use Rattle.std.proofs.Common.{◌≡◌, ℕ, ℤ, Option, Some, None, refl, subst, ◌≤◌, List, length, inl, inr}
 use Rattle.std.specs.Prelude.{nat_le, ◌&&◌, unsigned_abs}
-use Rattle.std.specs.Str.{IsUtf8}
 use Rattle.std.specs.Str.Parse.{digits_value}
-use Rattle.std.proofs.lemmas.Bool.{and_parts, cases_Bool, cases_lt, leb-true}
-use Rattle.std.proofs.lemmas.List.{get_or_past}
-use Rattle.std.proofs.lemmas.Str.{IsUtf8-from_ascii}
-use Rattle.std.proofs.lemmas.Str.Parse.{digit_at}
+use Rattle.std.proofs.lemmas.Bool.{and_parts, cases_Bool, leb-true}
 use Rattle.fixed_units.specs.Numbers.{is_digits, is_negative, with_sign, without_minus}
-use Rattle.fixed_units.proofs.Digits.{numerals}
-use Rattle.fixed_units.proofs.Parts.{digits_parts}
 use Rattle.fixed_units.proofs.Shortest.{unsigned_abs-with_sign}
 use Rattle.motion_numbers.specs.declared.TheConstants.{MOST_NUMBER}
 use Rattle.line_text.specs.Numbers.{◌>>=◌, number_of, size_of}
-
--- digits are ASCII, and so are UTF-8
-pub digits-utf8 : (ds : List ℕ) → is_digits ds ≡ true → IsUtf8 ds
-digits-utf8 ds h = IsUtf8-from_ascii ds (λ i. elim (cases_lt i (length ds)) [
-  | inl within ↦ let range = digit_at ds i (numerals.to ds (digits_parts ds h).1) within in omega (arith, range.0, range.1)
-  | inr beyond ↦ rw (get_or_past ds i 0 beyond) (lit< tt)
-])
 
 -- a size is at most 10^18
 size-small : (size : Option ℕ) (f : ℕ → ℤ) (z : ℤ) → ((n : ℕ) → size ≡ Some n → n ≤ MOST_NUMBER) → ((n : ℕ) → unsigned_abs (f n) ≡ n) →

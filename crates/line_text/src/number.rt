@@ -1,6 +1,6 @@
 // Numbers and points in words.
 
-ghost use Rattle.std.specs.Prelude.{◌≡◌, ◌≤◌, ◌^◌, IfSome, IsTrue, MatchOption, unsigned_abs};
+ghost use Rattle.std.specs.Prelude.{◌≡◌, ◌≤◌, IfSome, IsTrue, length, unsigned_abs};
 ghost use Rattle.std.specs.Char.{is_ascii_digit};
 ghost use Rattle.std.specs.List.{list_all};
 ghost use Rattle.std.specs.Str.Parse.{digits_value};
@@ -9,7 +9,6 @@ ghost use Rattle.line_text.specs.Numbers as spec;
 
 use crate::word::place_of;
 use motion_numbers::MOST_NUMBER;
-use std::str;
 
 /// The most digits of a number.
 const MOST_DIGITS: usize = 19;
@@ -35,7 +34,7 @@ fn size_of(digits: &[u8]) -> Option<u64>
     if !is_digits(digits) || digits.len() > MOST_DIGITS {
         return None;
     }
-    let size = value_of(digits)?;
+    let size = value_of(digits);
     if size <= MOST_NUMBER {
         Some(size)
     } else {
@@ -43,19 +42,17 @@ fn size_of(digits: &[u8]) -> Option<u64>
     }
 }
 
-// The number that digits write, where it has 64 bits.
-fn value_of(digits: &[u8]) -> Option<u64>
-    requires { IsTrue (fixed.is_digits digits.now) }
-    ensures { MatchOption result (2 ^ 64 ≤ digits_value 10 digits.now)
-        (λ n. n ≡ digits_value 10 digits.now) }
+// The number that at most 19 digits write.
+fn value_of(digits: &[u8]) -> u64
+    requires digits { IsTrue (fixed.is_digits digits.now) }
+    requires few { length digits.now ≤ MOST_DIGITS }
+    ensures { result ≡ digits_value 10 digits.now }
 {
-    let Ok(text) = str::from_utf8(digits) else {
-        return None;
-    };
-    let Ok(value) = text.parse() else {
-        return None;
-    };
-    Some(value)
+    let mut number = 0u64;
+    for digit in digits {
+        number = number * 10 + u64::from(*digit - b'0');
+    }
+    number
 }
 
 // Whether the bytes are one decimal digit or more.

@@ -6,7 +6,7 @@ ghost use Rattle.line_text.specs.Reading.{Meaning, Takes, TakesText, line_meanin
 ghost use Rattle.line_text.specs.Texts.{texts};
 
 use crate::line::first_line;
-use crate::word::{is_clean, words_of};
+use crate::word::{is_clean, read_words};
 use std::alloc::Global;
 
 /// Why a line is not taken.
@@ -55,12 +55,13 @@ pub fn read_lines<R: LineReader>(
     ensures { TakesText (text_meaning R.meaning reader.old text.now) (last_line_of text.now)
         reader.new result }
 {
+    let mut words = Vec::new(alloc);
     let mut rest = text;
     let mut line = 0;
     while !rest.is_empty() {
         let (first, behind) = first_line(rest);
         line += 1;
-        match take_line(alloc, first, reader) {
+        match take_line(first, &mut words, reader) {
             Ok(()) => {}
             Err(LineFault::Rule(rule)) => {
                 return Err(LinesFault::Refused(LineRefused { line, rule }));
@@ -74,13 +75,17 @@ pub fn read_lines<R: LineReader>(
 
 // Takes a line.
 #[tactic(auto, unfolding(crate::specs::Reading::line_meaning))]
-fn take_line<R: LineReader>(alloc: Global, line: &[u8], reader: &mut R) -> Result<(), LineFault>
+fn take_line<'a, R: LineReader>(
+    line: &'a [u8],
+    words: &mut Vec<&'a [u8]>,
+    reader: &mut R,
+) -> Result<(), LineFault>
     ensures { Takes (line_meaning R.meaning reader.old line.now) reader.new result }
 {
     if !is_clean(line) {
         return Err(LineFault::Rule(1));
     }
-    let Ok(words) = words_of(alloc, line) else {
+    let Ok(()) = read_words(line, words) else {
         return Err(LineFault::OutOfMemory);
     };
     if words.is_empty() {

@@ -1,7 +1,7 @@
 // The bytes and the words of a line.
 
-ghost use Rattle.std.specs.Prelude.{◌≡◌, ◌==◌, ◌<◌, IfOk, IfSome, length};
-ghost use Rattle.std.specs.List.{before_first, position};
+ghost use Rattle.std.specs.Prelude.{◌≡◌, ◌==◌, ◌<◌, ◌∷◌, ◌++◌, [], IfNone, IfOk, IfSome, OnOk, length};
+ghost use Rattle.std.specs.List.{before_first, filter, position, slice_split};
 ghost use Rattle.line_text.specs.Texts as shown;
 ghost use Rattle.line_text.specs.Texts.{texts};
 ghost use Rattle.line_text.specs.Words as spec;
@@ -25,21 +25,70 @@ pub(crate) fn place_of(byte: u8, bytes: &[u8]) -> Option<usize>
 }
 
 /// Whether a line has no bytes but tab, CR and those from space to `~`.
-#[tactic(auto, unfolding(crate::specs::Words::is_clean))]
+#[tactic(auto, unfolding(crate::specs::Words::is_clean), using(std::proofs::lemmas::List::Folds::list_all_more))]
 pub fn is_clean(line: &[u8]) -> bool
     ensures { result ≡ spec.is_clean line.now }
 {
-    line.iter().all(|b| is_line_byte(*b))
+    let mut clean = true;
+    for byte in line {
+        clean = clean & is_line_byte(*byte);
+    }
+    clean
 }
 
 /// The words of a line: what stands between blanks, up to a `#`.
 pub fn words_of(alloc: Global, line: &[u8]) -> Result<Vec<&[u8]>, AllocError>
     ensures { IfOk result (λ v. texts v.items ≡ spec.words_of line.now) }
 {
-    without_comment(line)
-        .split(|b| is_blank(*b))
-        .filter(|part| !part.is_empty())
-        .collect(alloc)
+    let mut words = Vec::new(alloc);
+    read_words(line, &mut words)?;
+    Ok(words)
+}
+
+/// Puts the words of a line in place of those before.
+pub(crate) fn read_words<'a>(line: &'a [u8], words: &mut Vec<&'a [u8]>) -> Result<(), AllocError>
+    ensures { OnOk result (texts words.new.items ≡ spec.words_of line.now) }
+{
+    words.clear();
+    let mut rest = without_comment(line);
+    while let Some((part, behind)) = first_part(rest) {
+        push_part(part, words)?;
+        rest = behind;
+    }
+    push_part(rest, words)
+}
+
+// Puts a part of a line behind the words, where it has a byte.
+fn push_part<'a>(part: &'a [u8], words: &mut Vec<&'a [u8]>) -> Result<(), AllocError>
+    ensures { OnOk result (texts words.new.items ≡
+        texts words.old.items ++ filter spec.is_word (part.now ∷ [])) }
+{
+    if !part.is_empty() {
+        words.push(part)?;
+    }
+    Ok(())
+}
+
+// What stands before the first blank, and what stands behind it, where there is a blank.
+fn first_part(line: &[u8]) -> Option<(&[u8], &[u8])>
+    ensures words { IfSome result (λ p. filter spec.is_word (slice_split spec.is_blank line.now) ≡
+        filter spec.is_word (p.0.now ∷ []) ++
+        filter spec.is_word (slice_split spec.is_blank p.1.now)) }
+    ensures shorter { IfSome result (λ p. length p.1.now < length line.now) }
+    ensures last { IfNone result (slice_split spec.is_blank line.now ≡ line.now ∷ []) }
+{
+    match blank_in(line) {
+        Some(blank) => Some((&line[..blank], &line[blank + 1..])),
+        None => None,
+    }
+}
+
+// Where the first blank stands.
+fn blank_in(bytes: &[u8]) -> Option<usize>
+    ensures place { result ≡ position spec.is_blank bytes.now }
+    ensures within { IfSome result (λ place. place < length bytes.now) }
+{
+    bytes.iter().position(|b| is_blank(*b))
 }
 
 // Whether a line may have the byte.

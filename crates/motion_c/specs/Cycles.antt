@@ -1,13 +1,12 @@
 -- What a cycle from C makes of a machine, and what it gives the drives. This project's profile.
 use Rattle.std.specs.Prelude.{◌≡◌, ◌↔◌, ◌≤◌, ◌<◌, ◌+◌, ℕ, List, length, map}
 use Rattle.axis_state.specs.declared.definition.AxisRow.{AxisRow}
+use Rattle.cia402_machine.specs.declared.drive.DriveIn.{DriveIn}
+use Rattle.cia402_machine.specs.declared.drive.DriveOut.{DriveOut}
 use Rattle.motion_history.specs.Entries.{cycle, cycles_of}
 use Rattle.motion_kernel.specs.cycles.Cycles.{Cycled, cycled}
 use Rattle.motion_kernel.specs.KernelState.{KernelState, state_of}
-use Rattle.motion_c.specs.Drives.{answer_of, output_of}
 use Rattle.motion_kernel.specs.KernelState.{HasRoom, with_entry}
-use Rattle.motion_c.specs.declared.drives.MotionDriveIn.{MotionDriveIn}
-use Rattle.motion_c.specs.declared.drives.MotionDriveOut.{MotionDriveOut}
 
 -- there is an answer and an output for each axis
 pub record AreEach (k : KernelState) (ins outs : ℕ) : Type 0 where
@@ -27,16 +26,16 @@ pub record TellsCycle (k : KernelState) (ins outs : ℕ) (code : ℕ) : Type 0 w
   pub full : (code ≡ 8) ↔ (AreEach k ins outs × (HasCycle k × (HasRoom k → ⊥)))
 
 -- what the machine makes of a cycle in which the drives answer so
-abbrev pub cycled_by : KernelState → List MotionDriveIn → Cycled
-cycled_by k answers = cycled k.config (state_of k) (map answer_of answers)
+abbrev pub cycled_by : KernelState → List DriveIn → Cycled
+cycled_by k answers = cycled k.config (state_of k) answers
 
 -- the kernel after that cycle
-abbrev pub after_cycle : KernelState → List MotionDriveIn → KernelState
+abbrev pub after_cycle : KernelState → List DriveIn → KernelState
 after_cycle k answers =
     with_entry k (cycle (cycles_of k.history + 1) (cycled_by k answers).axes
     (cycled_by k answers).groups)
 
 -- what that cycle gives the drives
-abbrev pub outputs_after : KernelState → List MotionDriveIn → List MotionDriveOut
+abbrev pub outputs_after : KernelState → List DriveIn → List DriveOut
 outputs_after k answers =
-    map output_of (map (λ (r : AxisRow). r.output) (cycled_by k answers).axes)
+    map (λ (r : AxisRow). r.output) (cycled_by k answers).axes

@@ -1,7 +1,6 @@
 pub mod Owned
 pub mod Held
 pub mod Calls
-pub mod Drives
 pub mod Cycles
 pub mod Ends
 pub mod Numbers

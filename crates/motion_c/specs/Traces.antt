@@ -1,5 +1,6 @@
 -- The trace of a machine, as C asks for it. This project's profile.
 use Rattle.std.specs.Prelude.{◌≡◌, ◌↔◌, ℕ, Option, Some, None, List, [], map, take, drop}
+use Rattle.cia402_machine.specs.declared.drive.DriveIn.{DriveIn}
 use Rattle.cia402_machine.specs.Statusword.{state_of_word}
 use Rattle.cia402_machine.specs.declared.drive.DriveState.{DriveState}
 use Rattle.cia402_machine.specs.declared.drive.DriveState.TheVariants.{NotReady}
@@ -12,7 +13,6 @@ use Rattle.outside.specs.declared.memory_sink.MemorySink.{MemorySink}
 use Rattle.trace_text.specs.Trace.{CanHold, trace_text}
 use Rattle.trace_text.specs.declared.command.Command.TheVariants.{Bench}
 use Rattle.trace_text.specs.declared.drive_end.DriveEndRow.{DriveEndRow}
-use Rattle.motion_c.specs.declared.drives.MotionDriveIn.{MotionDriveIn}
 use Rattle.motion_c.specs.declared.machine.Machine.{Machine}
 
 -- a state, or NotReady where a statusword is none's
@@ -21,7 +21,7 @@ state_or_not_ready (Some state) = state
 state_or_not_ready None = NotReady
 
 -- what a drive took that took the setpoint of each cycle, and answers so
-abbrev pub end_of_drive : ℕ → MotionDriveIn → DriveEndRow
+abbrev pub end_of_drive : ℕ → DriveIn → DriveEndRow
 end_of_drive cycles answer = record {
   taken = cycles;
   state = state_or_not_ready (state_of_word answer.statusword);
@@ -34,14 +34,14 @@ abbrev pub IsTraceVersion : TraceVersion → Setup → TraceVersion → Type 0
 IsTraceVersion opened s v = (v ≡ One) ↔ ((opened ≡ One) × CanHold One s)
 
 -- a text is the trace of a machine whose drives took the setpoint of each cycle and answer so
-pub record IsTraceOf (m : Machine) (answers : List MotionDriveIn) (text : List ℕ) : Type 0 where
+pub record IsTraceOf (m : Machine) (answers : List DriveIn) (text : List ℕ) : Type 0 where
   pub version : TraceVersion
   pub fits : IsTraceVersion m.version m.kernel.config version
   pub tells : text ≡ trace_text version Bench m.kernel.config m.kernel.history
       (map (end_of_drive (cycles_of m.kernel.history)) answers)
 
 -- a trace was made of a machine, and is kept with it
-pub record MakesTrace (m : Machine) (answers : List MotionDriveIn) (after : Option Machine)
+pub record MakesTrace (m : Machine) (answers : List DriveIn) (after : Option Machine)
     : Type 0 where
   pub trace : MemorySink
   pub held : after ≡ Some (record m { trace = Some trace })

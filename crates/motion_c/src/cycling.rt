@@ -7,34 +7,18 @@ ghost use Rattle.motion_c.specs.Held.{held};
 ghost use Rattle.motion_c.specs.declared.machine.Machine.{Machine};
 
 use crate::code::{CLOSED, FULL, LENGTH, OK, OVER};
-use crate::drives::{MotionDriveIn, MotionDriveOut, give_outputs, take_answers};
 use crate::motion::{Motion, put, take};
 use cia402_machine::{DriveIn, DriveOut};
-use motion_history::MOST_AXES;
 use motion_kernel::Kernel;
 use std::alloc::Global;
-
-/// An answer before it is taken.
-const NO_ANSWER: DriveIn = DriveIn {
-    statusword: 0,
-    mode_display: 0,
-    actual: 0,
-};
-
-/// An output before it is made.
-const NO_OUTPUT: DriveOut = DriveOut {
-    controlword: 0,
-    mode: 0,
-    target: 0,
-};
 
 /// Goes through a cycle with the drives' answers, and gives each drive its output.
 #[unsafe(no_mangle)]
 pub extern "C" fn motion_cycle(
     alloc: Global,
     motion: &mut Motion,
-    answers: &[MotionDriveIn],
-    outputs: &mut [MotionDriveOut],
+    answers: &[DriveIn],
+    outputs: &mut [DriveOut],
 ) -> u32
     ensures closed { (result ≡ 1) ↔ (held motion.old ≡ None) }
     ensures code { (m : Machine) → held motion.old ≡ Some m →
@@ -55,7 +39,7 @@ pub extern "C" fn motion_cycle(
 }
 
 // Goes through a cycle where it may.
-fn cycle(kernel: &mut Kernel, answers: &[MotionDriveIn], outputs: &mut [MotionDriveOut]) -> u32
+fn cycle(kernel: &mut Kernel, answers: &[DriveIn], outputs: &mut [DriveOut]) -> u32
     ensures code { TellsCycle kernel.old (length answers.now) (length outputs.old) result }
     ensures open { result ≢ 1 }
     ensures made { result ≡ 0 → kernel.new ≡ after_cycle kernel.old answers.now }
@@ -73,24 +57,6 @@ fn cycle(kernel: &mut Kernel, answers: &[MotionDriveIn], outputs: &mut [MotionDr
     if kernel.room_left() == 0 {
         return FULL;
     }
-    make_cycle(kernel, answers, outputs);
+    kernel.cycle(answers, outputs);
     OK
-}
-
-// Goes through a cycle that may be made.
-fn make_cycle(kernel: &mut Kernel, answers: &[MotionDriveIn], outputs: &mut [MotionDriveOut])
-    requires each { AreEach kernel.old (length answers.now) (length outputs.old) }
-    requires cycle { HasCycle kernel.old }
-    requires room { HasRoom kernel.old }
-    ensures made { kernel.new ≡ after_cycle kernel.old answers.now }
-    ensures outputs { outputs.new ≡ outputs_after kernel.old answers.now }
-{
-    let axes = kernel.config().axes().len();
-    let mut taken = [NO_ANSWER; MOST_AXES];
-    let taken = &mut taken[..axes];
-    let mut made = [NO_OUTPUT; MOST_AXES];
-    let made = &mut made[..axes];
-    take_answers(answers, taken);
-    kernel.cycle(taken, made);
-    give_outputs(made, outputs);
 }

@@ -9,7 +9,6 @@ mod calling;
 mod code;
 mod configuring;
 mod cycling;
-mod drives;
 mod ending;
 mod laws;
 mod looking;
@@ -27,9 +26,9 @@ mod tracing;
 
 pub use c_inputs::MotionInputs;
 pub use calling::{MotionOutputs, motion_call};
+pub use cia402_machine::{DriveIn, DriveOut};
 pub use configuring::motion_open_config;
 pub use cycling::motion_cycle;
-pub use drives::{MotionDriveIn, MotionDriveOut};
 pub use ending::motion_end;
 pub use laws::held_histories_keep_their_laws;
 pub use looking::{

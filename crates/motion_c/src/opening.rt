@@ -27,7 +27,8 @@ pub struct MotionRefusal {
     pub number: u8,
 }
 
-/// Opens a machine by the machine part of a bench, without `go`.
+/// Opens a machine by the machine part of a bench, without `go`. It touches the memory of the
+/// history's whole room, so that no call and no cycle pays for its pages.
 #[unsafe(no_mangle)]
 pub extern "C" fn motion_open(
     alloc: Global,
@@ -128,7 +129,7 @@ fn copied(alloc: Global, config: &Config) -> Option<Config>
     config.copy(alloc).ok()
 }
 
-/// The machine of a configuration, at rest.
+/// The machine of a configuration, at rest, with the memory of its history's room touched.
 pub fn machine_of(
     alloc: Global,
     config: Config,
@@ -147,7 +148,8 @@ pub fn machine_of(
 fn boxed(alloc: Global, config: Config, version: TraceVersion) -> Option<Box<Machine>>
     ensures { IfSome result (λ b. b.value ≡ at_rest config version) }
 {
-    let kernel = Kernel::open(alloc, config).ok()?;
+    let mut kernel = Kernel::open(alloc, config).ok()?;
+    kernel.touch();
     let machine = Machine {
         kernel,
         version,

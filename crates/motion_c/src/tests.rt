@@ -7,8 +7,7 @@ mod runs;
 use crate::motion::Motion;
 use crate::seat::Seat;
 use crate::{
-    MotionAxisRow, MotionDriveIn, MotionDriveOut, MotionInputs, MotionOutputs, MotionRefusal,
-    motion_open,
+    DriveIn, DriveOut, MotionAxisRow, MotionInputs, MotionOutputs, MotionRefusal, motion_open,
 };
 use std::alloc::Global;
 
@@ -53,14 +52,14 @@ const NOT_SHOWN: MotionOutputs = MotionOutputs {
 };
 
 /// The answer of a drive that is enabled, at 0.
-const ENABLED: MotionDriveIn = MotionDriveIn {
+const ENABLED: DriveIn = DriveIn {
     actual: 0,
     statusword: 0x37,
     mode_display: 8,
 };
 
 /// An output that no cycle has given.
-const NOT_GIVEN: MotionDriveOut = MotionDriveOut {
+const NOT_GIVEN: DriveOut = DriveOut {
     target: -1,
     controlword: 0xFFFF,
     mode: -1,

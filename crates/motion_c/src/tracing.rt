@@ -10,10 +10,9 @@ ghost use Rattle.outside.specs.MemorySink.{bytes_of};
 ghost use Rattle.trace_text.specs.Trace.{CanHold};
 
 use crate::code::{CLOSED, LENGTH, NO_MEMORY, OK};
-use crate::drives::MotionDriveIn;
 use crate::machine::Machine;
 use crate::motion::{Motion, put, take};
-use cia402_machine::{DriveState, state_of};
+use cia402_machine::{DriveIn, DriveState, state_of};
 use motion_history::{AxisDef, Config, TraceVersion};
 use outside::MemorySink;
 use std::alloc::{AllocError, Global};
@@ -22,7 +21,7 @@ use trace_text::{Command, DriveEndRow, write_trace};
 /// Makes the trace of all that was called, cycled and ended so far. Each drive took the setpoint of
 /// every cycle, and ends with this answer. It takes memory, which closing gives back.
 #[unsafe(no_mangle)]
-pub extern "C" fn motion_trace(alloc: Global, motion: &mut Motion, answers: &[MotionDriveIn]) -> u32
+pub extern "C" fn motion_trace(alloc: Global, motion: &mut Motion, answers: &[DriveIn]) -> u32
     ensures closed { (result ≡ 1) ↔ (held motion.old ≡ None) }
     ensures length { (m : Machine) → held motion.old ≡ Some m →
         ((result ≡ 6) ↔ (length answers.now ≢ length m.kernel.config.axes)) }
@@ -65,7 +64,7 @@ pub extern "C" fn motion_trace_text(
 }
 
 // Makes the trace of a machine, and keeps it.
-fn make(alloc: Global, machine: &mut Machine, answers: &[MotionDriveIn]) -> u32
+fn make(alloc: Global, machine: &mut Machine, answers: &[DriveIn]) -> u32
     ensures length { (result ≡ 6) ↔ (length answers.now ≢ length machine.old.kernel.config.axes) }
     ensures made { result ≡ 0 → MakesTrace machine.old answers.now (Some machine.new) }
     ensures codes { result ≢ 0 → result ≢ 6 → result ≡ 3 }
@@ -84,7 +83,7 @@ fn make(alloc: Global, machine: &mut Machine, answers: &[MotionDriveIn]) -> u32
 }
 
 // The trace of a machine, if there is memory for it.
-fn written(alloc: Global, machine: &Machine, answers: &[MotionDriveIn]) -> Option<MemorySink>
+fn written(alloc: Global, machine: &Machine, answers: &[DriveIn]) -> Option<MemorySink>
     requires { length answers.now ≡ length machine.now.kernel.config.axes }
     ensures { IfSome result (λ t. IsTraceOf machine.now answers.now (bytes_of t)) }
 {
@@ -137,7 +136,7 @@ fn brake_as_they_speed_up(axes: &[AxisDef]) -> bool
 }
 
 // What a drive took, by its last answer.
-fn end_of(cycles: u32, answer: &MotionDriveIn) -> DriveEndRow
+fn end_of(cycles: u32, answer: &DriveIn) -> DriveEndRow
     ensures { result ≡ end_of_drive cycles answer.now }
 {
     DriveEndRow {
@@ -148,11 +147,7 @@ fn end_of(cycles: u32, answer: &MotionDriveIn) -> DriveEndRow
 }
 
 // What the drives took, by their last answers.
-fn ends(
-    alloc: Global,
-    cycles: u32,
-    answers: &[MotionDriveIn],
-) -> Result<Vec<DriveEndRow>, AllocError>
+fn ends(alloc: Global, cycles: u32, answers: &[DriveIn]) -> Result<Vec<DriveEndRow>, AllocError>
     ensures { IfOk result (λ v. v.items ≡ map (end_of_drive cycles) answers.now) }
 {
     answers

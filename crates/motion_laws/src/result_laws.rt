@@ -8,6 +8,7 @@ ghost use Rattle.motion_kernel.specs.kept.Machine.{AreWhole};
 ghost use Rattle.motion_laws.specs.results.Comes.{ResultsCome, ResultsStay};
 ghost use Rattle.motion_laws.specs.results.Results.{ResultsAreTold};
 
+use crate::outcome_laws::entries_make_outcomes;
 use command_changes::{
     axis_changes_are_made, axis_fates_are_told, group_changes_are_made, group_fates_are_told,
 };
@@ -16,8 +17,6 @@ use command_core::{
     holders_have_commands,
 };
 use motion_kernel::machines_stay_kept;
-
-use crate::outcome_laws::entries_make_outcomes;
 
 /// In every legal history the end of a command is told to its instance, and to no other. Wherever
 /// the active command of an axis or a group ends, be it Done, aborted or by an error, the instance

@@ -5,3 +5,4 @@ pub mod Ends
 pub mod Calls
 pub mod Through
 pub mod Cycles
+pub mod Few

@@ -1,2 +1,3 @@
 -- The events of a group.
 pub mod Events
+pub mod Few

@@ -1,3 +1,4 @@
 pub mod Axis
 pub mod Group
 pub mod Laws
+pub mod Few

@@ -1,5 +1,6 @@
 // Laws of states by their events: each is the contract of a function that does nothing.
 
+ghost use Rattle.state_events.specs.Few.{AreFewAxisEvents, AreFewGroupEvents};
 ghost use Rattle.state_events.specs.Laws.{AreAxisEvents, AreGroupEvents};
 
 use axis_state::{
@@ -27,4 +28,11 @@ pub fn axes_change_by_their_events()
 /// away changes none.
 pub fn groups_change_by_their_events()
     ensures { AreGroupEvents }
+{}
+
+/// An axis has at most one event in a call, and at most three in a cycle; a group has at most one
+/// in a call, by its step and by a GroupReset.
+pub fn events_are_few()
+    ensures axes { AreFewAxisEvents }
+    ensures groups { AreFewGroupEvents }
 {}

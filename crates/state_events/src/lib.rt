@@ -6,4 +6,4 @@
 
 mod laws;
 
-pub use laws::{axes_change_by_their_events, groups_change_by_their_events};
+pub use laws::{axes_change_by_their_events, events_are_few, groups_change_by_their_events};

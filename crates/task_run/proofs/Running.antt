@@ -10,7 +10,7 @@ use Rattle.task_run.specs.Runs.{IsRun, lines_of}
 use Rattle.task_run.specs.TaskCalls.{AreNextCalls, IsEndedBy, IsNextCall, TaskCalls, state_behind}
 use Rattle.task_run.specs.Tasks.{TaskState, call_by, first_state, last_call, next_in, next_of, state_after}
 use Rattle.task_run.specs.declared.caller.LoggedCall.{LoggedCall}
-use Rattle.task_run.specs.declared.run.Next.TheVariants.{Call, Rest}
+use Rattle.task_run.specs.declared.run.Next.TheVariants.{Call, End, Rest}
 use Rattle.task_run.specs.declared.run.TaskRun.{TaskRun}
 
 -- where a task stands behind these calls
@@ -77,6 +77,15 @@ call-next s k i h = go s.rests h
     go : (b : Bool) → Call k i ≡ cond b Rest (next_in s.passed s.to_come) → (b ≡ false) × (next_in s.passed s.to_come ≡ Call k i)
     go true e = absurd (cc)
     go false e = (refl, sym e)
+
+-- so does the end
+pub end-next : (s : TaskState) → End ≡ next_of s → s.rests ≡ false
+unfolding next_of
+end-next s h = go s.rests h
+  where
+    go : (b : Bool) → End ≡ cond b Rest (next_in s.passed s.to_come) → b ≡ false
+    go true e = absurd (cc)
+    go false e = refl
 
 call-to-come : (p t : List Instruction) (k : ℕ) (i : Inputs) → next_in p t ≡ Call k i → t ≡ [] → {A : Type 0} → A
 call-to-come p [] k i h none {A} = absurd (cc)
@@ -162,3 +171,18 @@ way-refused program first run before caller refused k i w next is =
     let call = call-next (record s { rests = run.resting }) k i next in
     let P : CallerState → Type 0 = λ d. TaskCalls (lines_of program first) d.calls × (IsEndedBy (lines_of program first) d.calls → ⊥) × IsSameTask before d in
     subst P (sym is) (w.calls, λ none. call-to-come s.passed s.to_come k i call.1 none, record { config = w.same.config; task = w.same.task })
+
+-- a run that doesn't rest stands behind the calls that were made
+pub way-stands : (program : List (List Instruction)) (first run : TaskRun) (before caller : CallerState) →
+    IsUnderWay program first run before caller → run.resting ≡ false →
+    IsRun program run (record (told_state program first caller) { rests = false })
+way-stands program first run before caller w off =
+    subst (λ b. IsRun program run (record (told_state program first caller) { rests = b })) off w.run_is
+
+pub refused-stands : (program : List (List Instruction)) (first run : TaskRun) (before caller refused : CallerState) (k : ℕ) (i : Inputs) →
+    IsUnderWay program first run before caller → Call k i ≡ next_of (record (told_state program first caller) { rests = run.resting }) → refused ≡ record caller { refused = true } →
+    IsRun program run (record (told_state program first refused) { rests = false })
+refused-stands program first run before caller refused k i w next is =
+    let call = call-next (record (told_state program first caller) { rests = run.resting }) k i next in
+    subst (λ (d : CallerState). IsRun program run (record (told_state program first d) { rests = false })) (sym is)
+    (way-stands program first run before caller w call.0)

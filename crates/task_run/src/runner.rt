@@ -1,13 +1,13 @@
 // Runs the program of a task by a caller.
 
-ghost use Rattle.std.specs.Prelude.{◌≡◌, ◌<◌, ◌↔◌, [], ℕ, List, IsTrue, length, not, slice_index_or};
+ghost use Rattle.std.specs.Prelude.{◌≡◌, ◌<◌, ◌↔◌, [], false, ℕ, List, IsTrue, length, not, slice_index_or};
 ghost use Rattle.std.specs.List.{AllByRecursion};
 ghost use Rattle.motion_history.specs.Setup.{Setup};
 ghost use Rattle.plc_program.specs.Programs.{IsLineOf, IsProgramOf};
 ghost use Rattle.plc_program.specs.declared.program.Instruction.{Instruction};
 ghost use Rattle.task_run.specs.Callers.{IsSameTask, IsUnused};
 ghost use Rattle.task_run.specs.Runs.{IsRun, lines_of};
-ghost use Rattle.task_run.specs.TaskCalls.{IsEndedBy, TaskCalls};
+ghost use Rattle.task_run.specs.TaskCalls.{IsEndedBy, TaskCalls, state_behind};
 ghost use Rattle.task_run.specs.Tasks.{first_state};
 
 use crate::caller::Caller;
@@ -16,7 +16,8 @@ use plc_program::Program;
 use std::sync::Wait;
 
 /// Makes the calls of a task's program, from the first on, until it ends or one is refused, and
-/// says whether it came to its end. The run was opened on this program, and was not used since.
+/// says whether it came to its end. The run was opened on this program, and was not used since; it
+/// then stands behind the calls that were made.
 pub fn run_task<R: Wait, C: Caller>(
     rt: &R,
     program: &Program,
@@ -33,6 +34,10 @@ pub fn run_task<R: Wait, C: Caller>(
         IsEndedBy (lines_of program.now run.old) (C.told caller.new).calls }
     // It answers false exactly where a call was refused.
     ensures refused { (C.told caller.new).refused ≡ not result }
+    // The run stands behind the calls that were made, and rests no more.
+    ensures stands { IsRun program.now run.new (record (state_behind
+        (first_state (lines_of program.now run.old)) (C.told caller.new).calls) { rests = false }) }
+    ensures task { run.new.task ≡ run.old.task }
     ensures same { IsSameTask (C.told caller.old) (C.told caller.new) }
     ensures fixed { C.fixed caller.new ≡ C.fixed caller.old }
 {

@@ -1,14 +1,27 @@
--- Digits are ASCII, and parsing them fails only beyond 64 bits.
-use Rattle.std.proofs.Common.{◌≡◌, true, sym, subst, ◌≤◌, ◌^◌}
-use Rattle.std.specs.Str.Parse.{digits_value}
-use Rattle.fixed_units.specs.Numbers.{is_digits}
-use Rattle.fixed_units.proofs.Parts.{units_beyond}
-use Rattle.line_text.proofs.Digits.{digits-utf8}
+-- Digit by digit.
+use Rattle.std.proofs.Common.{◌≤◌, ◌^◌, arith}
+use Rattle.std.proofs.Math.Nat.{pow-le-pow_right}
+use Rattle.fixed_units.proofs.Digits.{digits_value-next, pow-more}
+use Rattle.fixed_units.proofs.Parts.{digits_parts}
 use Rattle.line_text.proofs.number.value_of.Goals as goal
 
-pub returns-in_default : goal.returns-in_default
-returns-in_default c = absurd (c.in_default.ensures.cases.0 (digits-utf8 c.args.digits.now c.requires))
+pub overflow_mul-number : goal.overflow_mul-number
+overflow_mul-number c =
+    let few : c.loop-digit.digit-index ≤ 18 = omega (arith, c.requires.few, c.loop-digit-test.true) in
+    let top : 10 ^ c.loop-digit.digit-index ≤ 10 ^ 18 = pow-le-pow_right {n = 10} (omega arith) few in
+    omega (arith, c.loop-digit.invariant.small, top)
 
-pub returns-in_default-parse : goal.returns-in_default-parse
-returns-in_default-parse c =
-    subst (λ ds. 2 ^ 64 ≤ digits_value 10 ds) c.in-Ok.ensures.cases.0 (units_beyond c.in-Ok.text.now c.parse.result _ (subst (λ ds. is_digits ds ≡ true) (sym c.in-Ok.ensures.cases.0) c.requires) c.parse.ensures.value.0 c.in_default-parse.is)
+pub overflow_add-number : goal.overflow_add-number
+overflow_add-number c =
+    let few : c.loop-digit.digit-index ≤ 18 = omega (arith, c.requires.few, c.loop-digit-test.true) in
+    let top : 10 ^ c.loop-digit.digit-index ≤ 10 ^ 18 = pow-le-pow_right {n = 10} (omega arith) few in
+    let next = digits_value-next c.args.digits.now c.loop-digit.digit-index (digits_parts c.args.digits.now c.requires.digits).1 c.loop-digit-test.true in
+    omega (arith, c.loop-digit.invariant.small, top, next.1, c.from.ensures)
+
+pub loop-digit-preserved : goal.loop-digit-preserved
+loop-digit-preserved c =
+    let next = digits_value-next c.args.digits.now c.loop-digit.digit-index (digits_parts c.args.digits.now c.requires.digits).1 c.loop-digit-test.true in
+    record {
+      value = omega (arith, next.0, next.1, c.from.ensures, c.loop-digit.invariant.value);
+      small = omega (arith, next.1, c.from.ensures, c.loop-digit.invariant.small, pow-more c.loop-digit.digit-index);
+    }

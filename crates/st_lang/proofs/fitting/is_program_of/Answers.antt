@@ -9,8 +9,7 @@ returns-then-len-tasks c =
     let each : length c.args.program.now.tasks.items ≡ length c.args.machine.now.tasks =
     search rules in
     let fit : c.tasks_fit.result ≡ are_fitting c.args.machine.now 0 c.args.program.now.tasks.items =
-    search rules in
-    (
+    search rules in (
       λ h. is_program c.args.machine.now c.args.program.now.tasks.items each (sym fit ∙ h),
       λ p. fit ∙ is_fitting c.args.machine.now c.args.program.now.tasks.items p,
     )

@@ -1,6 +1,6 @@
 -- Call by call the run stays under way.
 use Rattle.std.proofs.Common.{refl, ◌∙◌}
-use Rattle.task_run.proofs.Running.{way-called, way-first, way-made, way-refused, way-rested}
+use Rattle.task_run.proofs.Running.{end-next, refused-stands, way-called, way-first, way-made, way-refused, way-rested, way-stands}
 use Rattle.task_run.proofs.runner.run_task.Goals as goal
 
 pub loop-init : goal.loop-init
@@ -12,6 +12,12 @@ returns-in_default-clause-ended g c =
     let r = way-refused c.args.program.now c.args.run.now c.loop.run (g.C.Caller.told c.args.caller.now) (g.C.Caller.told c.loop.caller) (g.C.Caller.told c.call.new.self) c.in-Call.instance c.in-Call.inputs
     way (c.in-Call.ensures.next _ way.run_is) c.in_default.ensures.refused in
     (λ h. absurd (cc), λ none. absurd (r.1 none))
+
+pub returns-in_default-clause-stands : goal.returns-in_default-clause-stands
+returns-in_default-clause-stands g c =
+    let way = c.loop.invariant.way in
+    refused-stands c.args.program.now c.args.run.now c.loop.run (g.C.Caller.told c.args.caller.now) (g.C.Caller.told c.loop.caller) (g.C.Caller.told c.call.new.self) c.in-Call.instance c.in-Call.inputs
+    way (c.in-Call.ensures.next _ way.run_is) c.in_default.ensures.refused
 
 pub loop-preserved-in-Call : goal.loop-preserved-in-Call
 loop-preserved-in-Call g c =
@@ -38,3 +44,9 @@ loop-preserved g c =
 
 pub returns-in-End-clause-ended : goal.returns-in-End-clause-ended
 returns-in-End-clause-ended g c = (λ h. c.in-End.ensures.ended refl _ c.loop.invariant.way.run_is, λ none. refl)
+
+pub returns-in-End-clause-stands : goal.returns-in-End-clause-stands
+returns-in-End-clause-stands g c =
+    let way = c.loop.invariant.way in
+    way-stands c.args.program.now c.args.run.now c.loop.run (g.C.Caller.told c.args.caller.now) (g.C.Caller.told c.loop.caller)
+    way (end-next _ (c.in-End.ensures.next _ way.run_is))

@@ -1,0 +1,10 @@
+-- The number so far is that of the digits so far, and has room for one more.
+use Rattle.std.proofs.Common.{◌≡◌, ◌<◌, ◌^◌, take}
+use Rattle.std.specs.Str.Parse.{digits_value}
+use Rattle.line_text.proofs.number.value_of.Given as goal
+
+abbrev pub invariant-loop-digit : goal.invariant-loop-digit
+invariant-loop-digit l = record {
+  value : l.number ≡ digits_value 10 (take l.digit-index l.digits);
+  small : l.number < 10 ^ l.digit-index;
+}
