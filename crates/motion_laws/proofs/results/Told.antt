@@ -38,6 +38,7 @@ use Rattle.motion_laws.proofs.entries.replies.Histories.{kind_after, replay_of_b
 use Rattle.motion_laws.proofs.Histories.{legal_kept, legal_so_far}
 use Rattle.motion_laws.proofs.results.Spared.{call_spares, cycle_spares}
 use Rattle.motion_laws.proofs.results.Events.{HasEnded, progress_in}
+use Rattle.motion_laws.proofs.results.outcomes.DoneBy.{done_by}
 use Rattle.motion_laws.proofs.results.outcomes.Fates.{same_ends}
 use Rattle.motion_laws.proofs.results.outcomes.Final.{OutcomeLaws}
 use Rattle.motion_laws.proofs.results.outcomes.Histories.{EntriesMakeOutcomes}
@@ -225,6 +226,7 @@ results_kept : TellLaws → (s : Setup) (cycles : ℕ) (m : Machine) (e : Entry)
 results_kept laws s cycles m e more k whole h follows outcome = record {
   outcome = outcome;
   end = λ o there owns other. end_by laws s cycles m e k o whole h follows.0 there owns other;
+  done = λ o there ends. done_by s m e k o h.shown there ends;
   told = λ o f there owns ends keeps.
       tells_next laws s (cycles + cycle_count e) (after s m e) more k f whole
       (block_of s k o (on_it s m k o h there owns))

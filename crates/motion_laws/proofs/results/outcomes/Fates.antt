@@ -76,12 +76,6 @@ module _ (axes : AreAxisFates) (groups : AreGroupFates) (s : Setup) where
       ≡ (axis_entry.fate_by_rising s k b i m n).ends
   axis_rising k b i m n = by (acts_on_group b.kind)
     where
-      free : Machine
-      free = without_owner k m
-
-      fate : Fate
-      fate = axis_fates.command_fate (asked_of_axis s k n b.kind i (without_owner k m)) (axis_core_at (without_owner k m) n)
-
       by : (x : Bool) →
           (fate_in (if is_same (if x then a_group b.object else an_axis b.object) (an_axis n)
           then changes_by_command s k b.kind i (without_owner k m) (an_axis n) else []) (charge_at (without_owner k m) (an_axis n))).ends
