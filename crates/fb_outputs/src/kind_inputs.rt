@@ -1,8 +1,9 @@
 // Whether inputs are those of a kind of block.
 
-ghost use Rattle.std.specs.Prelude.{◌≡◌, ◌↔◌, IsTrue};
+ghost use Rattle.std.specs.Prelude.{◌≡◌, ◌≤◌, ◌↔◌, IsTrue, pos, unsigned_abs};
 ghost use Rattle.fb_outputs.specs.InputParts.{AreBrakes, AreOthers, ArePositions, AreRates};
 ghost use Rattle.fb_outputs.specs.Inputs.{AreInputs, IsTaken};
+ghost use Rattle.fb_outputs.specs.Inputs as spec;
 
 use crate::inputs::{Input, Inputs, takes};
 use command_pool::{BlockKind, BufferMode};
@@ -19,11 +20,20 @@ pub fn are_inputs(kind: BlockKind, axes: u8, inputs: &Inputs) -> bool
         && are_positions(takes(kind, Input::Position), axes, &inputs.positions)
 }
 
-// Whether an input has its default unless it is taken, and is at most 10^18 in size.
-fn is_taken(takes: bool, default: i64, value: i64) -> bool
-    ensures { IsTrue result ↔ IsTaken takes default value }
+// Whether an input has its default, which is small, or the kind takes it and it is at most 10^18 in
+// size.
+fn is_taken(kind: BlockKind, input: Input, default: i64, value: i64) -> bool
+    requires { unsigned_abs default ≤ 1 }
+    ensures { IsTrue result ↔ IsTaken (spec.takes kind input) default value }
 {
-    (takes || value == default) && value.unsigned_abs() <= MOST_NUMBER
+    value == default || (takes(kind, input) && value.unsigned_abs() <= MOST_NUMBER)
+}
+
+// Whether a position is 0, or is taken and at most 10^18 in size.
+fn is_position(takes: bool, value: i64) -> bool
+    ensures { IsTrue result ↔ IsTaken takes (pos 0) value }
+{
+    value == 0 || (takes && value.unsigned_abs() <= MOST_NUMBER)
 }
 
 // Whether each position is taken or 0, and those behind the count are 0.
@@ -33,7 +43,7 @@ fn are_positions(takes: bool, count: u8, positions: &[i64]) -> bool
 {
     for place in 0..positions.len() {
         let value = positions[place];
-        if !is_taken(takes, 0, value) || (place >= count as usize && value != 0) {
+        if !is_position(takes && place < count as usize, value) {
             return false;
         }
     }
@@ -45,8 +55,8 @@ fn are_rates(kind: BlockKind, inputs: &Inputs) -> bool
     ensures yes { IsTrue result → AreRates kind inputs.now }
     ensures no { AreRates kind inputs.now → IsTrue result }
 {
-    is_taken(takes(kind, Input::Velocity), 0, inputs.velocity)
-        && is_taken(takes(kind, Input::Acceleration), 0, inputs.acceleration)
+    is_taken(kind, Input::Velocity, 0, inputs.velocity)
+        && is_taken(kind, Input::Acceleration, 0, inputs.acceleration)
 }
 
 // Whether deceleration and jerk are so.
@@ -54,8 +64,8 @@ fn are_brakes(kind: BlockKind, inputs: &Inputs) -> bool
     ensures yes { IsTrue result → AreBrakes kind inputs.now }
     ensures no { AreBrakes kind inputs.now → IsTrue result }
 {
-    is_taken(takes(kind, Input::Deceleration), 0, inputs.deceleration)
-        && is_taken(takes(kind, Input::Jerk), 0, inputs.jerk)
+    is_taken(kind, Input::Deceleration, 0, inputs.deceleration)
+        && is_taken(kind, Input::Jerk, 0, inputs.jerk)
 }
 
 // Whether the mode, and the master with its gear and its table, are so.
@@ -63,11 +73,11 @@ fn are_others(kind: BlockKind, inputs: &Inputs) -> bool
     ensures yes { IsTrue result → AreOthers kind inputs.now }
     ensures no { AreOthers kind inputs.now → IsTrue result }
 {
-    (takes(kind, Input::Mode) || is_aborting(inputs.mode))
-        && (takes(kind, Input::Master) || inputs.master == 0)
-        && is_taken(takes(kind, Input::Numerator), 1, inputs.numerator)
-        && is_taken(takes(kind, Input::Denominator), 1, inputs.denominator)
-        && (takes(kind, Input::Table) || inputs.table == 0)
+    (is_aborting(inputs.mode) || takes(kind, Input::Mode))
+        && (inputs.master == 0 || takes(kind, Input::Master))
+        && is_taken(kind, Input::Numerator, 1, inputs.numerator)
+        && is_taken(kind, Input::Denominator, 1, inputs.denominator)
+        && (inputs.table == 0 || takes(kind, Input::Table))
 }
 
 // Whether a mode is Aborting.

@@ -1,7 +1,7 @@
 // The positions of a call, one for each axis on which its block acts.
 
-ghost use Rattle.std.specs.Prelude.{◌≡◌, ◌≤◌, ◌++◌, ◌-◌, IfOk, length, pos, replicate};
-ghost use Rattle.std.specs.List.{slice_split};
+ghost use Rattle.std.specs.Prelude.{◌≡◌, ◌≤◌, ◌++◌, ◌-◌, ◌∷◌, [], IfOk, length, not, pos, replicate};
+ghost use Rattle.std.specs.List.{list_all, slice_split};
 ghost use Rattle.line_text.specs.Reading.{Gives};
 ghost use Rattle.line_text.specs.Texts.{texts};
 ghost use Rattle.motion_history.specs.Calls as calls;
@@ -10,7 +10,7 @@ ghost use Rattle.machine_words.specs.Inputs as spec;
 ghost use Rattle.machine_words.specs.Positions.{is_semicolon, positions_from};
 
 use crate::rule::NO_VALUE;
-use crate::units::{Units, places_of};
+use crate::units::{Units, place_of, places_of};
 use line_text::{LineFault, broken_unless};
 use motion_history::{BlockDef, Builder, MOST_MEMBERS};
 use std::alloc::{AllocError, Global};
@@ -47,6 +47,24 @@ pub fn positions_from(places: &[i64]) -> [i64; MOST_MEMBERS]
     positions
 }
 
+// Whether a text has no semicolon.
+fn is_one_part(text: &[u8]) -> bool
+    ensures { result ≡ list_all (λ b. not (is_semicolon b)) text.now }
+{
+    text.iter().all(|b| *b != b';')
+}
+
+// The position that a text is, where there is one axis.
+#[tactic(auto, unfolding(crate::specs::Inputs::positions_of))]
+fn position_of(units: Units, axes: usize, text: &[u8]) -> Result<[i64; MOST_MEMBERS], LineFault>
+    requires { slice_split is_semicolon text.now ≡ text.now ∷ [] }
+    ensures { Gives (λ p. p) (spec.positions_of units axes text.now) result }
+{
+    let place = place_of(units, text)?;
+    broken_unless(1 == axes, NO_VALUE)?;
+    Ok(positions_from(&[place]))
+}
+
 // The positions of a text, one for each axis.
 #[tactic(auto, unfolding(crate::specs::Inputs::positions_of))]
 fn positions_of(
@@ -58,6 +76,9 @@ fn positions_of(
     requires { axes ≤ MOST_MEMBERS }
     ensures { Gives (λ p. p) (spec.positions_of units axes text.now) result }
 {
+    if is_one_part(text) {
+        return position_of(units, axes, text);
+    }
     let Ok(parts) = parts_of(alloc, text) else {
         return Err(LineFault::OutOfMemory);
     };
