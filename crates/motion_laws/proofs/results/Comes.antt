@@ -82,9 +82,9 @@ beside_end (Some g) begins p f h = own (ap Some (same_end g f false h.shown h.is
 beside_end None true p f h = absurd (let e = h.is in cc)
 beside_end None false p f h = earlier h
 
-map_origin : (now before then : Type 0) → (before → then) → Origin now before → Origin now then
-map_origin now before then g (own x) = own x
-map_origin now before then g (earlier x) = earlier (g x)
+map_origin : (now before after : Type 0) → (before → after) → Origin now before → Origin now after
+map_origin now before after g (own x) = own x
+map_origin now before after g (earlier x) = earlier (g x)
 
 -- an entry ends a command so, or takes no edge of an instance whose command had ended
 call_end : (s : Setup) (m : Machine) (j : ℕ) (i : Inputs) (reply : Outputs) (k : ℕ) (b : BlockDef) (f : Finish) (x : Bool) → nat_eq j k ≡ x →

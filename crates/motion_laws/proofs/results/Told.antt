@@ -57,9 +57,6 @@ record IsRunning (s : Setup) (m : Machine) : Type 0 where
   shown : AreWhereShown s m
   blocks : AreOfBlocks s m.instances
 
-good_of : (s : Setup) (m : Machine) → IsRunning s m → IsGood s m
-good_of s m h = record { sized = h.kept.sized; shown = h.shown.commands }
-
 runs_on : TellLaws → (s : Setup) (cycles : ℕ) (m : Machine) (e : Entry) → AreWhole s →
     IsRunning s m → IsOf s cycles m e → IsRunning s (after s m e)
 runs_on laws s cycles m (call k i reply) whole h is = record {
@@ -75,7 +72,85 @@ runs_on laws s cycles m (cycle c rows grows) whole h is = record {
 runs_on laws s cycles m (end_of task) whole h is = h
 
 -- an entry tells nothing to an instance without a command
-un-- what an end leaves of an instance
+untold_by : TellLaws → (s : Setup) (cycles : ℕ) (m : Machine) (e : Entry) (k : ℕ) → AreWhole s →
+    IsRunning s m → IsOf s cycles m e → commands_shown (progress_in m.instances k) ≡ 0 →
+    is_call_of k e ≡ false → progress_in (after s m e).instances k ≡ progress_in m.instances k
+untold_by laws s cycles m (call j i reply) k whole h is none other =
+    call_spares laws.outcomes.owners s m k j i whole is.0 h.kept h.shown.commands other none
+untold_by laws s cycles m (cycle c rows grows) k whole h is none other =
+    cycle_spares laws.outcomes.owners s m (inputs_of rows) k h.kept h.shown.commands none
+untold_by laws s cycles m (end_of task) k whole h is none other = refl
+
+-- an instance's own call that is no rising edge ends none of its commands
+axis_edge_ends_none : (s : Setup) (a c : Bool) (k : ℕ) (b : BlockDef) (i : Inputs) (m : Machine)
+    (n : ℕ) (f : Finish) → not a && c ≡ false →
+    (axis_entry.fate_by_edge s (edge_of a c) k b i m n).ends ≡ Some f → ⊥
+axis_edge_ends_none s true true k b i m n f r e = absurd (cc)
+axis_edge_ends_none s true false k b i m n f r e = absurd (cc)
+axis_edge_ends_none s false true k b i m n f r e = absurd (cc)
+axis_edge_ends_none s false false k b i m n f r e = absurd (cc)
+
+axis_kind_ends_none : (s : Setup) (x : BlockKind) (a c : Bool) (k : ℕ) (b : BlockDef) (i : Inputs)
+    (m : Machine) (n : ℕ) (f : Finish) → is_power x ≡ false → not a && c ≡ false →
+    (axis_entry.fate_by_kind s x (edge_of a c) k b i m n).ends ≡ Some f → ⊥
+axis_kind_ends_none s kind.Power a c k b i m n f p r e = absurd (cc)
+axis_kind_ends_none s _ a c k b i m n f p r e = axis_edge_ends_none s a c k b i m n f r e
+
+group_edge_ends_none : (s : Setup) (a c : Bool) (k : ℕ) (b : BlockDef) (i : Inputs) (m : Machine)
+    (j : ℕ) (f : Finish) → not a && c ≡ false →
+    (group_entry.fate_by_edge s (edge_of a c) k b i m j).ends ≡ Some f → ⊥
+group_edge_ends_none s true true k b i m j f r e = absurd (cc)
+group_edge_ends_none s true false k b i m j f r e = absurd (cc)
+group_edge_ends_none s false true k b i m j f r e = absurd (cc)
+group_edge_ends_none s false false k b i m j f r e = absurd (cc)
+
+group_kind_ends_none : (s : Setup) (x : BlockKind) (a c : Bool) (k : ℕ) (b : BlockDef) (i : Inputs)
+    (m : Machine) (j : ℕ) (f : Finish) → is_power x ≡ false → not a && c ≡ false →
+    (group_entry.fate_by_kind s x (edge_of a c) k b i m j).ends ≡ Some f → ⊥
+group_kind_ends_none s kind.Power a c k b i m j f p r e = absurd (cc)
+group_kind_ends_none s _ a c k b i m j f p r e = group_edge_ends_none s a c k b i m j f r e
+
+-- whoever has commands has a block that is no Power
+record HasBlock (s : Setup) (k : ℕ) : Type 0 where
+  block : BlockDef
+  is : slice_get s.blocks k ≡ Some block
+  other : is_power block.kind ≡ false
+
+block_of : (s : Setup) (k : ℕ) (o : Object) → has_commands_on (slice_get s.blocks k) o ≡ true →
+    HasBlock s k
+block_of s k o on = block_by (slice_get s.blocks k) refl on
+  where
+    block_by : (x : Option BlockDef) → slice_get s.blocks k ≡ x → has_commands_on x o ≡ true →
+        HasBlock s k
+    block_by None at e = absurd (cc)
+    block_by (Some b) at e =
+        record { block = b; is = at; other = not-true (is_power b.kind) (and_parts _ _ e).0 }
+
+own_ends_none : (s : Setup) (m : Machine) (k : ℕ) (i : Inputs) (reply : Outputs) (o : Object)
+    (f : Finish) → HasBlock s k → is_rising m k i ≡ false →
+    end_in s m (call k i reply) o ≡ Some f → ⊥
+own_ends_none s m k i reply (an_axis n) f has r e =
+    axis_kind_ends_none s has.block.kind (instance_at m.instances k).execute i.execute k has.block i
+    (with_execute k i m) n f has.other r
+    (subst (λ x. (axis_entry.fate_by_call s x k i m n).ends ≡ Some f) has.is e)
+own_ends_none s m k i reply (a_group j) f has r e =
+    group_kind_ends_none s has.block.kind (instance_at m.instances k).execute i.execute k has.block
+    i (with_execute k i m) j f has.other r
+    (subst (λ x. (group_entry.fate_by_call s x k i m j).ends ≡ Some f) has.is e)
+
+-- whoever has the active command of an axis or a group has its block there
+on_it : (s : Setup) (m : Machine) (k : ℕ) (o : Object) → IsRunning s m → IsThere m o →
+    active_at m k o ≡ 1 → has_commands_on (slice_get s.blocks k) o ≡ true
+on_it s m k o h there owns =
+    let all = h.shown.active k o there in
+    shown_where (has_commands_on (slice_get s.blocks k) o) (active_shown
+    (progress_in m.instances k)) (omega arith)
+
+own_taken : (same rises : Bool) → same ≡ true → same && rises ≡ false → rises ≡ false
+own_taken true rises e f = f
+own_taken false rises e f = absurd (cc)
+
+-- what an end leaves of an instance
 ended_by : (s : Setup) (m : Machine) (e : Entry) (k : ℕ) (o : Object) (f : Finish) →
     progress_at (after s m e) k ≡ progress_beside s m e k o → end_of_command s m e k o ≡ Some f →
     HasEnded f k (after s m e)
