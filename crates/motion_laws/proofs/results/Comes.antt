@@ -1,6 +1,6 @@
 -- A result that a reply tells comes of the entry in which its command ended so.
 use Rattle.std.specs.Prelude.{◌≡◌, refl, ℕ, zero, suc, Bool, true, false, ◌&&◌, not, nat_eq, if◌then◌else◌, Option, Some, None, Result, Ok, Err, List, [], ◌∷◌, ◌++◌, map}
-use Rattle.std.proofs.Common.{arith, ap, sym, subst, ◌∙◌, inl, inr}
+use Rattle.std.proofs.Common.{ap, sym, subst, ◌∙◌}
 use Rattle.std.proofs.lemmas.Bool.{eqb-true}
 use Rattle.std.proofs.lemmas.List.{append-nil, append_assoc}
 use Rattle.axis_state.specs.declared.definition.AxisDef.{AxisDef}
@@ -12,8 +12,6 @@ use Rattle.fb_outputs.specs.InstanceState.{InstanceState}
 use Rattle.fb_outputs.specs.Steps as instance
 use Rattle.fb_outputs.specs.Steps.{edge_of, is_power, is_stop, nothing, outputs_by, outputs_of, result_of, shown_progress}
 use Rattle.fb_outputs.specs.declared.inputs.Inputs.{Inputs}
-use Rattle.fb_outputs.specs.declared.instance.Edge.{Edge}
-use Rattle.fb_outputs.specs.declared.instance.Edge.TheVariants as edge
 use Rattle.fb_outputs.specs.declared.instance.Progress.{Progress}
 use Rattle.fb_outputs.specs.declared.instance.Progress.TheVariants.{Active, Ended, Idle, Waiting}
 use Rattle.fb_outputs.specs.declared.outputs.Outputs.{Outputs}

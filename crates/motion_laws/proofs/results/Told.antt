@@ -20,7 +20,7 @@ use Rattle.motion_laws.specs.arrivals.AxisFates as axis_entry
 use Rattle.motion_kernel.specs.calls.Calls.{after_asking, after_edge, called, called_where, reply_of, with_execute}
 use Rattle.motion_laws.specs.arrivals.GroupFates as group_entry
 use Rattle.motion_kernel.specs.Histories.{Follows, IsLegal, IsOf, after, inputs_of, machine_after, replay}
-use Rattle.motion_kernel.specs.Machine.{Machine, axis_at, group_at, instance_at, machine_at_opening}
+use Rattle.motion_kernel.specs.Machine.{Machine, instance_at, machine_at_opening}
 use Rattle.motion_kernel.specs.kept.Machine.{AreWhole, IsMachineKept}
 use Rattle.motion_laws.specs.owners.Shown.{AreWhereShown}
 use Rattle.motion_laws.specs.owners.Objects.{IsThere, Object, has_commands_on, a_group, an_axis}

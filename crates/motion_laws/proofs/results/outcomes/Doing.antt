@@ -1,7 +1,5 @@
 -- A command is Done in a cycle alone, and where it is the active one or a reset.
-use Rattle.std.specs.Prelude.{◌≡◌, ◌⊎◌, refl, ℕ, Bool, true, false, not, ◌&&◌, nat_eq, ℤ, ◌+ℤ◌, if◌then◌else◌, Option, Some, None, is_some, List, [], ◌∷◌, ◌++◌, slice_get}
-use Rattle.std.proofs.Common.{arith, ap, sym, ◌∙◌, inl, inr}
-use Rattle.std.proofs.lemmas.Bool.{cases_eq}
+use Rattle.std.specs.Prelude.{ℕ, Bool, true, false, not, ◌&&◌, nat_eq, ℤ, ◌+ℤ◌, if◌then◌else◌, Option, Some, None, is_some, List, [], ◌∷◌, ◌++◌, slice_get}
 use Rattle.axis_core.specs.Calls as axis_calls
 use Rattle.axis_core.specs.Cores as axes
 use Rattle.axis_core.specs.Cycles.{advance_in_cycle, core_after_advance, core_after_answer, core_after_step}
@@ -40,7 +38,7 @@ use Rattle.group_core.specs.declared.look.GroupLook.{GroupLook}
 use Rattle.group_core.specs.declared.reason.Reason as group_reason
 use Rattle.motion_kernel.proofs.Sizes.{by_if}
 use Rattle.motion_numbers.specs.Ranges.{is_outside}
-use Rattle.motion_laws.proofs.results.outcomes.Done.{EndsNoneDone, HasOneEnd, IsLate, end_more, late_more}
+use Rattle.motion_laws.proofs.results.outcomes.Done.{EndsNoneDone, HasOneEnd, IsLate, end_more}
 
 -- an axis: a command
 axis_admitted : (x : BlockKind) (w : Wanted) (c : axes.Core) → EndsNoneDone (axis.admitted_changes x w c)

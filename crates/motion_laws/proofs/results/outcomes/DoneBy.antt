@@ -1,6 +1,6 @@
 -- In which entries an instance is told that its command is Done.
-use Rattle.std.specs.Prelude.{◌≡◌, ◌⊎◌, refl, ℕ, ◌<◌, Bool, true, false, nat_eq, if◌then◌else◌, Option, Some, None, List, [], ◌++◌, slice_get}
-use Rattle.std.proofs.Common.{arith, subst, ap, sym, ◌∙◌, inl, inr}
+use Rattle.std.specs.Prelude.{◌≡◌, ◌⊎◌, ℕ, Bool, nat_eq, Option, Some, None, List, [], slice_get}
+use Rattle.std.proofs.Common.{arith, subst, sym, inl, inr}
 use Rattle.std.proofs.lemmas.Bool.{cases_eq}
 use Rattle.buffer_modes.specs.Owners.{is_owner}
 use Rattle.command_changes.specs.Group as group

@@ -1,9 +1,8 @@
 -- How the active command of an axis or a group ends by its effect is how it ends by its fate.
 use Rattle.std.specs.Prelude.{◌≡◌, refl, ℕ, Bool, true, false, nat_eq, if◌then◌else◌, Option, Some, None, List, [], ◌∷◌, ◌++◌, is_some, slice_get}
-use Rattle.std.proofs.Common.{◌∙◌, ap, sym}
+use Rattle.std.proofs.Common.{◌∙◌, sym}
 use Rattle.axis_core.specs.Fates as axis_fates
 use Rattle.buffer_modes.specs.Fates.{Fate, goes_on}
-use Rattle.buffer_modes.specs.Resets.{reset_owner}
 use Rattle.buffer_modes.specs.declared.reset.PendingReset.{PendingReset}
 use Rattle.command_changes.specs.Fates.{AreAxisFates, AreGroupFates}
 use Rattle.command_changes.specs.Group as group
@@ -38,7 +37,7 @@ use Rattle.motion_laws.specs.arrivals.AxisFates as axis_entry
 use Rattle.motion_laws.specs.arrivals.GroupFates as group_entry
 use Rattle.motion_laws.specs.entries.GroupEvents.{moved_in}
 use Rattle.motion_laws.specs.owners.Objects.{a_group, an_axis, is_same, Object}
-use Rattle.motion_laws.specs.results.Effects.{Effect, changes_by_command, changes_by_power, changes_by_power_off, charge_at, effect_by_call, effect_by_edge, effect_by_kind, effect_in, fate_by}
+use Rattle.motion_laws.specs.results.Effects.{changes_by_command, changes_by_power, changes_by_power_off, charge_at, effect_by_call, effect_by_edge, effect_by_kind, effect_in, fate_by}
 use Rattle.motion_laws.specs.results.Results.{end_in}
 
 -- a test decides changes and a fate alike
