@@ -1,6 +1,6 @@
 -- A result that a reply tells comes of the entry in which its command ended so.
 use Rattle.std.specs.Prelude.{◌≡◌, refl, ℕ, zero, suc, Bool, true, false, ◌&&◌, not, nat_eq, if◌then◌else◌, Option, Some, None, Result, Ok, Err, List, [], ◌∷◌, ◌++◌, map}
-use Rattle.std.proofs.Common.{arith, ap, sym, subst, ◌∙◌, inl, inr}
+use Rattle.std.proofs.Common.{ap, sym, subst, ◌∙◌}
 use Rattle.std.proofs.lemmas.Bool.{eqb-true}
 use Rattle.std.proofs.lemmas.List.{append-nil, append_assoc}
 use Rattle.axis_state.specs.declared.definition.AxisDef.{AxisDef}
@@ -12,8 +12,6 @@ use Rattle.fb_outputs.specs.InstanceState.{InstanceState}
 use Rattle.fb_outputs.specs.Steps as instance
 use Rattle.fb_outputs.specs.Steps.{edge_of, is_power, is_stop, nothing, outputs_by, outputs_of, result_of, shown_progress}
 use Rattle.fb_outputs.specs.declared.inputs.Inputs.{Inputs}
-use Rattle.fb_outputs.specs.declared.instance.Edge.{Edge}
-use Rattle.fb_outputs.specs.declared.instance.Edge.TheVariants as edge
 use Rattle.fb_outputs.specs.declared.instance.Progress.{Progress}
 use Rattle.fb_outputs.specs.declared.instance.Progress.TheVariants.{Active, Ended, Idle, Waiting}
 use Rattle.fb_outputs.specs.declared.outputs.Outputs.{Outputs}
@@ -82,9 +80,9 @@ beside_end (Some g) begins p f h = own (ap Some (same_end g f false h.shown h.is
 beside_end None true p f h = absurd (let e = h.is in cc)
 beside_end None false p f h = earlier h
 
-map_origin : (now before then : Type 0) → (before → then) → Origin now before → Origin now then
-map_origin now before then g (own x) = own x
-map_origin now before then g (earlier x) = earlier (g x)
+map_origin : (now before after : Type 0) → (before → after) → Origin now before → Origin now after
+map_origin now before after g (own x) = own x
+map_origin now before after g (earlier x) = earlier (g x)
 
 -- an entry ends a command so, or takes no edge of an instance whose command had ended
 call_end : (s : Setup) (m : Machine) (j : ℕ) (i : Inputs) (reply : Outputs) (k : ℕ) (b : BlockDef) (f : Finish) (x : Bool) → nat_eq j k ≡ x →

@@ -1,5 +1,5 @@
 -- Each reply that tells a result comes of an end.
-use Rattle.std.specs.Prelude.{◌≡◌, refl, ℕ, zero, suc, true, false, Some, List, [], ◌∷◌, ◌++◌, slice_get, slice_set}
+use Rattle.std.specs.Prelude.{◌≡◌, ℕ, zero, suc, true, false, Some, List, [], ◌∷◌, ◌++◌, slice_get, slice_set}
 use Rattle.std.proofs.Common.{ap, sym, subst, ◌∙◌}
 use Rattle.std.proofs.lemmas.List.{append_assoc}
 use Rattle.command_pool.specs.declared.ending.Finish.{Finish}
@@ -12,11 +12,11 @@ use Rattle.motion_history.specs.Entries.{Entry, call}
 use Rattle.motion_history.specs.Setup.{Setup, IsSetup}
 use Rattle.motion_history.specs.declared.config.BlockDef.{BlockDef}
 use Rattle.motion_kernel.specs.Histories.{IsLegal, machine_after}
-use Rattle.motion_kernel.specs.Machine.{Machine, instance_at, machine_at_opening}
-use Rattle.motion_kernel.specs.calls.Calls.{after_call, called, reply_of}
+use Rattle.motion_kernel.specs.Machine.{instance_at, machine_at_opening}
+use Rattle.motion_kernel.specs.calls.Calls.{called, reply_of}
 use Rattle.motion_kernel.specs.kept.Machine.{AreWhole}
 use Rattle.motion_laws.specs.entries.Replies.{AreOfBlocks}
-use Rattle.motion_laws.specs.results.Comes.{ComesOf, ResultsCome}
+use Rattle.motion_laws.specs.results.Comes.{ResultsCome}
 use Rattle.motion_laws.specs.results.Outcomes.{progress_at}
 use Rattle.motion_laws.specs.results.Results.{Tells}
 use Rattle.motion_laws.proofs.Histories.{legal_so_far}

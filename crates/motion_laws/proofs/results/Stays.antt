@@ -7,14 +7,13 @@ use Rattle.fb_outputs.specs.InstanceState.{InstanceState}
 use Rattle.fb_outputs.specs.Steps.{edge_of, is_power, is_stop, nothing, opened, outputs_by, outputs_of}
 use Rattle.fb_outputs.specs.declared.inputs.Inputs.{Inputs}
 use Rattle.fb_outputs.specs.declared.instance.Edge.TheVariants as edge
-use Rattle.fb_outputs.specs.declared.outputs.Outputs.{Outputs}
 use Rattle.motion_history.specs.Entries.{Entry, call}
 use Rattle.motion_history.specs.Setup.{Setup, IsSetup}
 use Rattle.motion_history.specs.declared.config.BlockDef.{BlockDef}
 use Rattle.motion_kernel.proofs.kept.Machine.{MachinesStayKept}
 use Rattle.motion_kernel.specs.Histories.{IsLegal, machine_after}
 use Rattle.motion_kernel.specs.Machine.{Machine, instance_at}
-use Rattle.motion_kernel.specs.calls.Calls.{called, reply_of, with_execute}
+use Rattle.motion_kernel.specs.calls.Calls.{called, with_execute}
 use Rattle.motion_kernel.specs.kept.Machine.{AreWhole, IsMachineKept}
 use Rattle.motion_laws.specs.owners.Commands.{commands_shown}
 use Rattle.motion_laws.specs.results.Comes.{ResultsStay}

@@ -20,7 +20,7 @@ use Rattle.motion_laws.specs.arrivals.AxisFates as axis_entry
 use Rattle.motion_kernel.specs.calls.Calls.{after_asking, after_edge, called, called_where, reply_of, with_execute}
 use Rattle.motion_laws.specs.arrivals.GroupFates as group_entry
 use Rattle.motion_kernel.specs.Histories.{Follows, IsLegal, IsOf, after, inputs_of, machine_after, replay}
-use Rattle.motion_kernel.specs.Machine.{Machine, axis_at, group_at, instance_at, machine_at_opening}
+use Rattle.motion_kernel.specs.Machine.{Machine, instance_at, machine_at_opening}
 use Rattle.motion_kernel.specs.kept.Machine.{AreWhole, IsMachineKept}
 use Rattle.motion_laws.specs.owners.Shown.{AreWhereShown}
 use Rattle.motion_laws.specs.owners.Objects.{IsThere, Object, has_commands_on, a_group, an_axis}
@@ -38,6 +38,7 @@ use Rattle.motion_laws.proofs.entries.replies.Histories.{kind_after, replay_of_b
 use Rattle.motion_laws.proofs.Histories.{legal_kept, legal_so_far}
 use Rattle.motion_laws.proofs.results.Spared.{call_spares, cycle_spares}
 use Rattle.motion_laws.proofs.results.Events.{HasEnded, progress_in}
+use Rattle.motion_laws.proofs.results.outcomes.DoneBy.{done_by}
 use Rattle.motion_laws.proofs.results.outcomes.Fates.{same_ends}
 use Rattle.motion_laws.proofs.results.outcomes.Final.{OutcomeLaws}
 use Rattle.motion_laws.proofs.results.outcomes.Histories.{EntriesMakeOutcomes}
@@ -56,9 +57,6 @@ record IsRunning (s : Setup) (m : Machine) : Type 0 where
   shown : AreWhereShown s m
   blocks : AreOfBlocks s m.instances
 
-good_of : (s : Setup) (m : Machine) → IsRunning s m → IsGood s m
-good_of s m h = record { sized = h.kept.sized; shown = h.shown.commands }
-
 runs_on : TellLaws → (s : Setup) (cycles : ℕ) (m : Machine) (e : Entry) → AreWhole s →
     IsRunning s m → IsOf s cycles m e → IsRunning s (after s m e)
 runs_on laws s cycles m (call k i reply) whole h is = record {
@@ -74,13 +72,109 @@ runs_on laws s cycles m (cycle c rows grows) whole h is = record {
 runs_on laws s cycles m (end_of task) whole h is = h
 
 -- an entry tells nothing to an instance without a command
-un-- what an end leaves of an instance
+untold_by : TellLaws → (s : Setup) (cycles : ℕ) (m : Machine) (e : Entry) (k : ℕ) → AreWhole s →
+    IsRunning s m → IsOf s cycles m e → commands_shown (progress_in m.instances k) ≡ 0 →
+    is_call_of k e ≡ false → progress_in (after s m e).instances k ≡ progress_in m.instances k
+untold_by laws s cycles m (call j i reply) k whole h is none other =
+    call_spares laws.outcomes.owners s m k j i whole is.0 h.kept h.shown.commands other none
+untold_by laws s cycles m (cycle c rows grows) k whole h is none other =
+    cycle_spares laws.outcomes.owners s m (inputs_of rows) k h.kept h.shown.commands none
+untold_by laws s cycles m (end_of task) k whole h is none other = refl
+
+-- an instance's own call that is no rising edge ends none of its commands
+axis_edge_ends_none : (s : Setup) (a c : Bool) (k : ℕ) (b : BlockDef) (i : Inputs) (m : Machine)
+    (n : ℕ) (f : Finish) → not a && c ≡ false →
+    (axis_entry.fate_by_edge s (edge_of a c) k b i m n).ends ≡ Some f → ⊥
+axis_edge_ends_none s true true k b i m n f r e = absurd (cc)
+axis_edge_ends_none s true false k b i m n f r e = absurd (cc)
+axis_edge_ends_none s false true k b i m n f r e = absurd (cc)
+axis_edge_ends_none s false false k b i m n f r e = absurd (cc)
+
+axis_kind_ends_none : (s : Setup) (x : BlockKind) (a c : Bool) (k : ℕ) (b : BlockDef) (i : Inputs)
+    (m : Machine) (n : ℕ) (f : Finish) → is_power x ≡ false → not a && c ≡ false →
+    (axis_entry.fate_by_kind s x (edge_of a c) k b i m n).ends ≡ Some f → ⊥
+axis_kind_ends_none s kind.Power a c k b i m n f p r e = absurd (cc)
+axis_kind_ends_none s _ a c k b i m n f p r e = axis_edge_ends_none s a c k b i m n f r e
+
+group_edge_ends_none : (s : Setup) (a c : Bool) (k : ℕ) (b : BlockDef) (i : Inputs) (m : Machine)
+    (j : ℕ) (f : Finish) → not a && c ≡ false →
+    (group_entry.fate_by_edge s (edge_of a c) k b i m j).ends ≡ Some f → ⊥
+group_edge_ends_none s true true k b i m j f r e = absurd (cc)
+group_edge_ends_none s true false k b i m j f r e = absurd (cc)
+group_edge_ends_none s false true k b i m j f r e = absurd (cc)
+group_edge_ends_none s false false k b i m j f r e = absurd (cc)
+
+group_kind_ends_none : (s : Setup) (x : BlockKind) (a c : Bool) (k : ℕ) (b : BlockDef) (i : Inputs)
+    (m : Machine) (j : ℕ) (f : Finish) → is_power x ≡ false → not a && c ≡ false →
+    (group_entry.fate_by_kind s x (edge_of a c) k b i m j).ends ≡ Some f → ⊥
+group_kind_ends_none s kind.Power a c k b i m j f p r e = absurd (cc)
+group_kind_ends_none s _ a c k b i m j f p r e = group_edge_ends_none s a c k b i m j f r e
+
+-- whoever has commands has a block that is no Power
+record HasBlock (s : Setup) (k : ℕ) : Type 0 where
+  block : BlockDef
+  is : slice_get s.blocks k ≡ Some block
+  other : is_power block.kind ≡ false
+
+block_of : (s : Setup) (k : ℕ) (o : Object) → has_commands_on (slice_get s.blocks k) o ≡ true →
+    HasBlock s k
+block_of s k o on = block_by (slice_get s.blocks k) refl on
+  where
+    block_by : (x : Option BlockDef) → slice_get s.blocks k ≡ x → has_commands_on x o ≡ true →
+        HasBlock s k
+    block_by None at e = absurd (cc)
+    block_by (Some b) at e =
+        record { block = b; is = at; other = not-true (is_power b.kind) (and_parts _ _ e).0 }
+
+own_ends_none : (s : Setup) (m : Machine) (k : ℕ) (i : Inputs) (reply : Outputs) (o : Object)
+    (f : Finish) → HasBlock s k → is_rising m k i ≡ false →
+    end_in s m (call k i reply) o ≡ Some f → ⊥
+own_ends_none s m k i reply (an_axis n) f has r e =
+    axis_kind_ends_none s has.block.kind (instance_at m.instances k).execute i.execute k has.block i
+    (with_execute k i m) n f has.other r
+    (subst (λ x. (axis_entry.fate_by_call s x k i m n).ends ≡ Some f) has.is e)
+own_ends_none s m k i reply (a_group j) f has r e =
+    group_kind_ends_none s has.block.kind (instance_at m.instances k).execute i.execute k has.block
+    i (with_execute k i m) j f has.other r
+    (subst (λ x. (group_entry.fate_by_call s x k i m j).ends ≡ Some f) has.is e)
+
+-- whoever has the active command of an axis or a group has its block there
+on_it : (s : Setup) (m : Machine) (k : ℕ) (o : Object) → IsRunning s m → IsThere m o →
+    active_at m k o ≡ 1 → has_commands_on (slice_get s.blocks k) o ≡ true
+on_it s m k o h there owns =
+    let all = h.shown.active k o there in
+    shown_where (has_commands_on (slice_get s.blocks k) o) (active_shown
+    (progress_in m.instances k)) (omega arith)
+
+own_taken : (same rises : Bool) → same ≡ true → same && rises ≡ false → rises ≡ false
+own_taken true rises e f = f
+own_taken false rises e f = absurd (cc)
+
+-- what an end leaves of an instance
 ended_by : (s : Setup) (m : Machine) (e : Entry) (k : ℕ) (o : Object) (f : Finish) →
     progress_at (after s m e) k ≡ progress_beside s m e k o → end_of_command s m e k o ≡ Some f →
     HasEnded f k (after s m e)
 ended_by s m e k o f outcome ends =
     outcome ∙ ap (λ x. progress_by x (begins_command s m e k o) (progress_at m k)) ends
 
+-- the instance that has the active command is told the end of its fate
+end_by : TellLaws → (s : Setup) (cycles : ℕ) (m : Machine) (e : Entry) (k : ℕ) (o : Object) →
+    AreWhole s → IsRunning s m → IsOf s cycles m e → IsThere m o → active_at m k o ≡ 1 →
+    is_call_of k e ≡ false → end_of_command s m e k o ≡ end_in s m e o
+end_by laws s cycles m (call j i reply) k o whole h is there owns other =
+    let on = on_it s m k o h there owns in
+    let affects = call_affects laws.outcomes s m j k i o whole is.0 h.kept h.shown there on other in
+    ends_as_told laws.outcomes s m _ k o _ h.shown there owns affects
+    ∙ same_ends laws.axes laws.groups s m (call j i reply) o
+end_by laws s cycles m (cycle c rows grows) k o whole h is there owns other =
+    let on = on_it s m k o h there owns in
+    let affects = cycle_affects laws.outcomes s m (inputs_of rows) k o h.kept h.shown there on in
+    ends_as_told laws.outcomes s m _ k o _ h.shown there owns affects
+    ∙ same_ends laws.axes laws.groups s m (cycle c rows grows) o
+end_by laws s cycles m (end_of task) k (an_axis n) whole h is there owns other = refl
+end_by laws s cycles m (end_of task) k (a_group j) whole h is there owns other = refl
+
+-- and shows it
 told_by : TellLaws → (s : Setup) (cycles : ℕ) (m : Machine) (e : Entry) (k : ℕ) (o : Object)
     (f : Finish) → AreWhole s → IsRunning s m → IsOf s cycles m e → IsThere m o →
     active_at m k o ≡ 1 → end_in s m e o ≡ Some f → takes_away m k e ≡ false →
@@ -93,20 +187,14 @@ told_by laws s cycles m (call j i reply) k o f whole h is there owns ends keeps 
           let rises = own_taken (nat_eq j k) (is_rising m j i) e keeps in
           let has = subst (HasBlock s) (sym same) (block_of s k o on) in
           absurd (own_ends_none s m j i reply o f has rises ends)
-      | inr d ↦
-          let affects = call_affects laws.outcomes s m j k i o whole is.0 h.kept h.shown there on d in
-          ended_by s m (call j i reply) k o f
+      | inr d ↦ ended_by s m (call j i reply) k o f
           (call_outcome laws.outcomes s m j k i reply o whole is.0 h.kept h.shown there on d)
-          (ends_as_told laws.outcomes s m _ k o _ h.shown there owns affects
-          ∙ same_ends laws.axes laws.groups s m (call j i reply) o ∙ ends)
+          (end_by laws s cycles m (call j i reply) k o whole h is there owns d ∙ ends)
     ]
 told_by laws s cycles m (cycle c rows grows) k o f whole h is there owns ends keeps =
-    let on = on_it s m k o h there owns in
-    let affects = cycle_affects laws.outcomes s m (inputs_of rows) k o h.kept h.shown there on in
     ended_by s m (cycle c rows grows) k o f
-    (cycle_outcome laws.outcomes s m c rows grows k o h.kept h.shown there on)
-    (ends_as_told laws.outcomes s m _ k o _ h.shown there owns affects
-    ∙ same_ends laws.axes laws.groups s m (cycle c rows grows) o ∙ ends)
+    (cycle_outcome laws.outcomes s m c rows grows k o h.kept h.shown there (on_it s m k o h there owns))
+    (end_by laws s cycles m (cycle c rows grows) k o whole h is there owns refl ∙ ends)
 told_by laws s cycles m (end_of task) k (an_axis n) f whole h is there owns ends keeps =
     absurd (cc)
 told_by laws s cycles m (end_of task) k (a_group j) f whole h is there owns ends keeps =
@@ -212,6 +300,8 @@ results_kept : TellLaws → (s : Setup) (cycles : ℕ) (m : Machine) (e : Entry)
     IsOutcome s m e k b) → KeepsResults s m e more k
 results_kept laws s cycles m e more k whole h follows outcome = record {
   outcome = outcome;
+  end = λ o there owns other. end_by laws s cycles m e k o whole h follows.0 there owns other;
+  done = λ o there ends. done_by s m e k o h.shown there ends;
   told = λ o f there owns ends keeps.
       tells_next laws s (cycles + cycle_count e) (after s m e) more k f whole
       (block_of s k o (on_it s m k o h there owns))

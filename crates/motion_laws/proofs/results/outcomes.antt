@@ -9,3 +9,6 @@ pub mod Own
 pub mod Entries
 pub mod Histories
 pub mod Fates
+pub mod Done
+pub mod Doing
+pub mod DoneBy

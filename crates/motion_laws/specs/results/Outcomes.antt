@@ -57,7 +57,8 @@ answer_in s k b i m =
     let free = without_owner k m in
     let n = b.object in
     if acts_on_group b.kind
-    then group.answer_of (wanted_of k b.kind i) i.jerk (group_look s free n 0) (group_core_at free n)
+    then group.answer_of (wanted_of k b.kind i) i.jerk (group_look s free n 0)
+    (group_core_at free n)
     else axis.answer_of (asked_of_axis s k n b.kind i free) (axis_core_at free n)
 
 -- how far a command is that is answered so: refused, active or waiting; some are Done at once

@@ -1,6 +1,6 @@
 -- Which end of a command its instance is told, and when it shows it (PLCopen Motion Control Part 1,
 -- general rules).
-use Rattle.std.specs.Prelude.{◌≡◌, ℕ, Bool, true, false, not, ◌&&◌, nat_eq, Option, Some, List, ◌∷◌, ◌++◌, slice_get}
+use Rattle.std.specs.Prelude.{◌≡◌, ◌⊎◌, ℕ, Bool, true, false, not, ◌&&◌, nat_eq, Option, Some, List, ◌∷◌, ◌++◌, slice_get}
 use Rattle.std.specs.List.{AllByRecursion}
 use Rattle.command_pool.specs.declared.ending.Finish.{Finish}
 use Rattle.command_pool.specs.declared.ending.Finish.TheVariants as finish
@@ -16,7 +16,8 @@ use Rattle.motion_kernel.specs.Histories.{after, machine_after, replay}
 use Rattle.motion_kernel.specs.Machine.{Machine, instance_at}
 use Rattle.motion_laws.specs.owners.Objects.{IsThere, Object, a_group, an_axis}
 use Rattle.motion_laws.specs.owners.Commands.{active_at, commands_shown}
-use Rattle.motion_laws.specs.results.Outcomes.{IsOutcome}
+use Rattle.motion_laws.specs.results.Effects.{charge_at}
+use Rattle.motion_laws.specs.results.Outcomes.{IsOutcome, end_of_command}
 
 -- how the active command of an axis or a group ends in an entry, if it does
 abbrev pub end_in : Setup → Machine → Entry → Object → Option Finish
@@ -61,6 +62,12 @@ pub record KeepsResults (s : Setup) (m : Machine) (e : Entry) (more : List Entry
   -- each entry makes of the instance what its own call or the changes of commands say
   pub outcome : (b : BlockDef) → slice_get s.blocks k ≡ Some b → is_power b.kind ≡ false →
       IsOutcome s m e k b
+  -- where its command is the active one, it ends as the fate of that says
+  pub end : (o : Object) → IsThere m o → active_at m k o ≡ 1 → is_call_of k e ≡ false →
+      end_of_command s m e k o ≡ end_in s m e o
+  -- where it is Done it is the active one, or a reset
+  pub done : (o : Object) → IsThere m o → end_of_command s m e k o ≡ Some finish.Done →
+      (active_at m k o ≡ 1) ⊎ ((charge_at m o).reset ≡ Some k)
   -- the instance whose active command ends tells so at its next call, unless a rising edge takes
   -- the command from it
   pub told : (o : Object) (f : Finish) → IsThere m o → active_at m k o ≡ 1 →

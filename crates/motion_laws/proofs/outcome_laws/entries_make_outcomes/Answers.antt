@@ -1,6 +1,5 @@
 -- Entries make outcomes, by the laws of the machine and of the changes of commands.
 use Rattle.motion_kernel.proofs.kept.Machine.{MachinesStayKept}
-use Rattle.motion_laws.proofs.owners.commands.Events.{OwnerLaws}
 use Rattle.motion_laws.proofs.results.outcomes.Final.{OutcomeLaws}
 use Rattle.motion_laws.proofs.results.outcomes.Histories.{outcomes_made}
 use Rattle.motion_laws.proofs.outcome_laws.entries_make_outcomes.Goals as goal

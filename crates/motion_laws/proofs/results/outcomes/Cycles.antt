@@ -1,24 +1,19 @@
 -- What a cycle makes of the command of an instance.
-use Rattle.std.specs.Prelude.{◌≡◌, ◌≢◌, refl, ℕ, zero, suc, ◌+◌, ◌<◌, ◌≤◌, Bool, true, false, nat_eq, List, [], ◌++◌, length, slice_get}
-use Rattle.std.proofs.Common.{arith, ap, sym, subst, ◌∙◌, inl, inr}
+use Rattle.std.specs.Prelude.{◌≡◌, ◌≢◌, refl, ℕ, zero, suc, ◌<◌, ◌≤◌, true, false, nat_eq, List, [], length, slice_get}
+use Rattle.std.proofs.Common.{arith, sym, subst, ◌∙◌, inl, inr}
 use Rattle.std.proofs.lemmas.Bool.{cases_Bool, eqb-true}
-use Rattle.axis_core.specs.Cores as cores
 use Rattle.axis_core.specs.Cycles.{core_after_cycle}
 use Rattle.cia402_machine.specs.declared.drive.DriveIn.{DriveIn}
 use Rattle.command_changes.specs.Axis as axis
 use Rattle.command_changes.specs.Group as group
 use Rattle.command_core.specs.Brought.{brought}
-use Rattle.command_core.specs.Changes.{Change, all_changed}
-use Rattle.command_core.specs.Charge.{Charge}
-use Rattle.group_core.specs.Cores as groups
 use Rattle.group_core.specs.Cycles as group_cycles
 use Rattle.motion_history.specs.Setup.{Setup}
 use Rattle.motion_kernel.specs.Machine.{Machine, axis_among, axis_core_at, group_core_at}
 use Rattle.motion_kernel.specs.cycles.AxisCycles.{axes_cycled}
-use Rattle.motion_kernel.specs.cycles.Cycles.{after_cycle, around_in, cycled, look_of_axis, look_of_group, stepped_in}
+use Rattle.motion_kernel.specs.cycles.Cycles.{around_in, cycled, look_of_axis, look_of_group, stepped_in}
 use Rattle.motion_kernel.specs.cycles.GroupResets.{core_after_reset, groups_reset}
 use Rattle.motion_kernel.specs.cycles.GroupSteps.{groups_stepped, look_in_cycle}
-use Rattle.motion_kernel.specs.cycles.Showing.{with_found}
 use Rattle.motion_kernel.specs.kept.Machine.{IsMachineKept, IsSized}
 use Rattle.motion_kernel.specs.looks.AxisLooks.{Surroundings, axis_look}
 use Rattle.motion_kernel.specs.looks.GroupLooks.{group_look}
@@ -26,11 +21,11 @@ use Rattle.motion_kernel.proofs.cycles.OneAxis.{not_yet}
 use Rattle.motion_kernel.proofs.kept.Events.{group_beside_group}
 use Rattle.motion_kernel.proofs.kept.GroupSteps.{have_stepped}
 use Rattle.motion_laws.specs.entries.GroupEvents.{moved_in}
-use Rattle.motion_laws.specs.owners.Objects.{a_group, an_axis, IsThere, Object, has_commands_on, is_same}
+use Rattle.motion_laws.specs.owners.Objects.{a_group, an_axis, IsThere, Object, has_commands_on}
 use Rattle.motion_laws.specs.results.Effects.{changes_in_cycle}
 use Rattle.motion_laws.proofs.owners.Kept.{axes_good, resets_good, steps_good}
 use Rattle.motion_laws.proofs.owners.commands.Events.{IsGood, OwnerLaws, block_there}
-use Rattle.motion_laws.proofs.results.outcomes.Leaves.{Folds, Leaves, Spares, fold_at, fold_beside, leaves_before, leaves_behind, leaves_more, spares_more}
+use Rattle.motion_laws.proofs.results.outcomes.Leaves.{Folds, Leaves, fold_at, fold_beside, leaves_before, leaves_behind, leaves_more}
 use Rattle.command_core.specs.Laws.{AreInOrder}
 use Rattle.motion_laws.proofs.walk.Events.{axis_event, group_event}
 

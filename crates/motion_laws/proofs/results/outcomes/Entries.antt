@@ -1,5 +1,5 @@
 -- What an entry of a legal history makes of the command of an instance.
-use Rattle.std.specs.Prelude.{◌≡◌, refl, ℕ, ◌<◌, Bool, true, false, ◌&&◌, not, nat_eq, if◌then◌else◌, Option, Some, None, length, slice_get}
+use Rattle.std.specs.Prelude.{◌≡◌, refl, ℕ, ◌<◌, Bool, true, false, ◌&&◌, not, nat_eq, if◌then◌else◌, Some, length, slice_get}
 use Rattle.std.proofs.Common.{arith, ap, sym, subst, ◌∙◌, inl, inr}
 use Rattle.std.proofs.lemmas.Bool.{cases_Bool, eqb-true}
 use Rattle.command_pool.specs.Kinds.{acts_on_group}
@@ -7,13 +7,13 @@ use Rattle.fb_outputs.specs.Steps.{is_power}
 use Rattle.motion_history.specs.Entries.{Entry, call, cycle, end_of}
 use Rattle.motion_history.specs.Setup.{Setup}
 use Rattle.motion_history.specs.declared.config.BlockDef.{BlockDef}
-use Rattle.motion_kernel.specs.Histories.{IsOf, after, inputs_of}
+use Rattle.motion_kernel.specs.Histories.{IsOf}
 use Rattle.motion_kernel.specs.Machine.{Machine}
 use Rattle.motion_kernel.specs.calls.Calls.{after_call}
 use Rattle.motion_kernel.specs.kept.Machine.{AreWhole, IsMachineKept, IsSized}
 use Rattle.motion_kernel.proofs.kept.Calls as calls
 use Rattle.motion_kernel.proofs.kept.Laws.{ConfigurationsAreSound}
-use Rattle.motion_laws.specs.owners.Objects.{a_group, an_axis, IsThere, Object, has_commands_on, is_same, object_of}
+use Rattle.motion_laws.specs.owners.Objects.{a_group, an_axis, IsThere, has_commands_on, is_same, object_of}
 use Rattle.motion_laws.specs.owners.Shown.{AreWhereShown}
 use Rattle.motion_laws.specs.results.Outcomes.{IsOutcome, progress_at, progress_beside, progress_by_call}
 use Rattle.motion_laws.proofs.owners.commands.Events.{is_itself, there_where}

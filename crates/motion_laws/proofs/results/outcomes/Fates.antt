@@ -1,9 +1,8 @@
 -- How the active command of an axis or a group ends by its effect is how it ends by its fate.
 use Rattle.std.specs.Prelude.{◌≡◌, refl, ℕ, Bool, true, false, nat_eq, if◌then◌else◌, Option, Some, None, List, [], ◌∷◌, ◌++◌, is_some, slice_get}
-use Rattle.std.proofs.Common.{◌∙◌, ap, sym}
+use Rattle.std.proofs.Common.{◌∙◌, sym}
 use Rattle.axis_core.specs.Fates as axis_fates
 use Rattle.buffer_modes.specs.Fates.{Fate, goes_on}
-use Rattle.buffer_modes.specs.Resets.{reset_owner}
 use Rattle.buffer_modes.specs.declared.reset.PendingReset.{PendingReset}
 use Rattle.command_changes.specs.Fates.{AreAxisFates, AreGroupFates}
 use Rattle.command_changes.specs.Group as group
@@ -38,7 +37,7 @@ use Rattle.motion_laws.specs.arrivals.AxisFates as axis_entry
 use Rattle.motion_laws.specs.arrivals.GroupFates as group_entry
 use Rattle.motion_laws.specs.entries.GroupEvents.{moved_in}
 use Rattle.motion_laws.specs.owners.Objects.{a_group, an_axis, is_same, Object}
-use Rattle.motion_laws.specs.results.Effects.{Effect, changes_by_command, changes_by_power, changes_by_power_off, charge_at, effect_by_call, effect_by_edge, effect_by_kind, effect_in, fate_by}
+use Rattle.motion_laws.specs.results.Effects.{changes_by_command, changes_by_power, changes_by_power_off, charge_at, effect_by_call, effect_by_edge, effect_by_kind, effect_in, fate_by}
 use Rattle.motion_laws.specs.results.Results.{end_in}
 
 -- a test decides changes and a fate alike
@@ -76,12 +75,6 @@ module _ (axes : AreAxisFates) (groups : AreGroupFates) (s : Setup) where
       ≡ (axis_entry.fate_by_rising s k b i m n).ends
   axis_rising k b i m n = by (acts_on_group b.kind)
     where
-      free : Machine
-      free = without_owner k m
-
-      fate : Fate
-      fate = axis_fates.command_fate (asked_of_axis s k n b.kind i (without_owner k m)) (axis_core_at (without_owner k m) n)
-
       by : (x : Bool) →
           (fate_in (if is_same (if x then a_group b.object else an_axis b.object) (an_axis n)
           then changes_by_command s k b.kind i (without_owner k m) (an_axis n) else []) (charge_at (without_owner k m) (an_axis n))).ends

@@ -1,14 +1,13 @@
 -- What an instance shows after an entry, by the commands that it has before and behind it.
-use Rattle.std.specs.Prelude.{◌≡◌, refl, ℕ, ◌+◌, ◌<◌, ◌≤◌, Bool, true, false, nat_eq, Option, Some, None, List, []}
+use Rattle.std.specs.Prelude.{◌≡◌, refl, ℕ, ◌<◌, Bool, true, false, Option, Some, None, List, []}
 use Rattle.std.proofs.Common.{arith, ap, sym, ◌∙◌, inl, inr}
-use Rattle.std.proofs.lemmas.Bool.{cases_Bool, cases_eq, eqb-true}
-use Rattle.buffer_modes.specs.Fates.{Fate}
+use Rattle.std.proofs.lemmas.Bool.{cases_eq, eqb-true}
 use Rattle.buffer_modes.specs.Owners.{is_owner, owner_by, told}
 use Rattle.buffer_modes.proofs.Owners.{nobody}
 use Rattle.command_core.proofs.Ends.{none_among}
 use Rattle.command_core.specs.Brought.{brought}
 use Rattle.command_core.specs.Changes.{Change, all_changed}
-use Rattle.command_core.specs.Charge.{Charge, active_of, owns, waiting_of}
+use Rattle.command_core.specs.Charge.{Charge, active_of, owns}
 use Rattle.command_core.specs.Ends.{end_among}
 use Rattle.command_core.specs.Fates.{fate_in}
 use Rattle.command_core.specs.Laws.{AreInOrder, AreOfChanges}

@@ -1,5 +1,5 @@
 -- What each entry of a legal history makes of the command of an instance.
-use Rattle.std.specs.Prelude.{◌≡◌, ℕ, ◌+◌, false, Some, List, [], ◌∷◌, ◌++◌, slice_get}
+use Rattle.std.specs.Prelude.{◌≡◌, ℕ, ◌+◌, false, Some, List, ◌∷◌, ◌++◌, slice_get}
 use Rattle.fb_outputs.specs.Steps.{is_power}
 use Rattle.motion_history.specs.Entries.{Entry, cycles_of}
 use Rattle.motion_history.specs.Setup.{Setup, IsSetup}

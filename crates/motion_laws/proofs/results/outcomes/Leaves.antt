@@ -1,18 +1,17 @@
 -- What events leave of the commands of an axis or a group, and of an instance that has its commands
 -- there.
-use Rattle.std.specs.Prelude.{◌≡◌, ◌≢◌, refl, ℕ, zero, suc, ◌<◌, ◌≤◌, Bool, true, false, if◌then◌else◌, List, [], ◌++◌, length, slice_get}
+use Rattle.std.specs.Prelude.{◌≡◌, ◌≢◌, refl, ℕ, zero, suc, ◌<◌, ◌≤◌, true, false, if◌then◌else◌, List, [], ◌++◌, length, slice_get}
 use Rattle.std.proofs.Common.{arith, ap, sym, subst, ◌∙◌, inl, inr}
 use Rattle.std.proofs.lemmas.Bool.{cases_Bool, cases_eq}
 use Rattle.command_core.specs.Brought.{brought}
 use Rattle.command_core.specs.Changes.{Change, all_changed}
 use Rattle.command_core.specs.Charge.{Charge}
 use Rattle.command_core.specs.Laws.{AreInOrder}
-use Rattle.command_pool.specs.declared.notes.Note.{Note}
 use Rattle.fb_outputs.specs.InstanceState.{InstanceState}
 use Rattle.motion_history.specs.Setup.{Setup}
-use Rattle.motion_kernel.specs.Machine.{Machine, instance_at}
+use Rattle.motion_kernel.specs.Machine.{Machine}
 use Rattle.motion_laws.specs.owners.Commands.{commands_shown}
-use Rattle.motion_laws.specs.owners.Objects.{a_group, an_axis, IsThere, Object, has_commands_on, is_same}
+use Rattle.motion_laws.specs.owners.Objects.{IsThere, Object, has_commands_on, is_same}
 use Rattle.motion_laws.proofs.owners.Events.{event_changes, untold}
 use Rattle.motion_laws.proofs.owners.commands.Events.{OwnerLaws, ShownOf, beside_none, is_itself, same_object}
 use Rattle.motion_laws.proofs.results.Events.{IsSpared, event_spares, progress_in}

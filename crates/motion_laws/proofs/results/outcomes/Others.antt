@@ -1,8 +1,8 @@
 -- What a call makes of the command of another instance.
-use Rattle.std.specs.Prelude.{◌≡◌, refl, ℕ, ◌<◌, Bool, true, false, nat_eq, if◌then◌else◌, Option, Some, None, Ok, Err, Result, List, [], length, slice_get, slice_set}
+use Rattle.std.specs.Prelude.{◌≡◌, refl, ℕ, ◌<◌, Bool, true, false, nat_eq, if◌then◌else◌, Option, Some, None, List, [], length, slice_get, slice_set}
 use Rattle.std.proofs.Common.{arith, ap, sym, subst, ◌∙◌, inl, inr}
 use Rattle.std.proofs.lemmas.Bool.{cases_Bool, eqb-true}
-use Rattle.axis_core.specs.Calls.{answer_of, core_after_command, core_after_power}
+use Rattle.axis_core.specs.Calls.{core_after_command, core_after_power}
 use Rattle.axis_core.specs.Refusals.{refusal_of}
 use Rattle.command_changes.specs.Axis as axis
 use Rattle.command_changes.specs.Group as group
@@ -28,7 +28,7 @@ use Rattle.motion_history.specs.Setup.{Setup}
 use Rattle.motion_history.specs.declared.config.BlockDef.{BlockDef}
 use Rattle.motion_kernel.specs.Machine.{Machine, axis_core_at, group_core_at, instance_at}
 use Rattle.motion_kernel.specs.calls.Asking.{wanted_of}
-use Rattle.motion_kernel.specs.calls.Calls.{after_asking, after_axis_command, after_call, after_edge, after_group_command, after_power, after_rising, answered_instance, asked_of_axis, called, called_where, group_without_power, members_led, with_axis_core, with_execute, with_group_core, with_instance, without_owner}
+use Rattle.motion_kernel.specs.calls.Calls.{after_asking, after_axis_command, after_call, after_edge, after_group_command, after_power, after_rising, asked_of_axis, called, called_where, group_without_power, members_led, with_axis_core, with_execute, with_group_core, with_instance, without_owner}
 use Rattle.motion_kernel.specs.declared.memberships.Membership.{Membership}
 use Rattle.motion_kernel.specs.kept.Machine.{AreWhole, IsMachineKept, IsSized}
 use Rattle.motion_kernel.specs.looks.GroupLooks.{group_look}

@@ -1,6 +1,6 @@
 -- What a call makes of the command of its own instance.
-use Rattle.std.specs.Prelude.{◌≡◌, refl, ℕ, ◌<◌, Bool, true, false, if◌then◌else◌, Option, Some, None, Ok, Err, Result, List, length, slice_get, slice_set}
-use Rattle.std.proofs.Common.{arith, ap, sym, subst, ◌∙◌, inl, inr}
+use Rattle.std.specs.Prelude.{◌≡◌, refl, ℕ, ◌<◌, Bool, true, false, if◌then◌else◌, Some, Ok, Err, Result, List, length, slice_get, slice_set}
+use Rattle.std.proofs.Common.{arith, ap, ◌∙◌}
 use Rattle.std.proofs.lemmas.List.{length-set}
 use Rattle.axis_core.specs.Calls.{core_after_command}
 use Rattle.axis_core.specs.Calls as axis
@@ -15,7 +15,6 @@ use Rattle.fb_outputs.specs.Steps.{edge_of, is_power, progress_after, shown_prog
 use Rattle.fb_outputs.specs.declared.inputs.Inputs.{Inputs}
 use Rattle.fb_outputs.specs.declared.instance.Edge.{Edge}
 use Rattle.fb_outputs.specs.declared.instance.Edge.TheVariants as edge
-use Rattle.fb_outputs.specs.declared.instance.Progress.{Progress}
 use Rattle.fb_outputs.specs.declared.instance.Progress.TheVariants.{Ended, Waiting}
 use Rattle.group_core.specs.Calls as group
 use Rattle.group_core.specs.Calls.{commanded}
@@ -29,7 +28,6 @@ use Rattle.motion_kernel.specs.looks.GroupLooks.{group_look}
 use Rattle.motion_kernel.proofs.Sizes.{sized_axis, sized_group, sized_instance, sized_members, sized_without}
 use Rattle.motion_laws.specs.results.Outcomes.{answer_in, progress_answered, progress_at, progress_by_call, progress_by_edge}
 use Rattle.motion_laws.proofs.owners.commands.Asked.{set_at}
-use Rattle.motion_laws.proofs.owners.commands.Events.{there_where}
 use Rattle.motion_laws.proofs.results.Events.{progress_in}
 
 -- an instance that is answered

@@ -1,5 +1,5 @@
 -- An entry's outcome, by what it makes of the commands of an axis or a group.
-use Rattle.std.specs.Prelude.{◌≡◌, ℕ, Bool, true, false, if◌then◌else◌, List, [], slice_get}
+use Rattle.std.specs.Prelude.{◌≡◌, ℕ, true, List, [], slice_get}
 use Rattle.std.proofs.Common.{arith, ap, sym, ◌∙◌}
 use Rattle.cia402_machine.specs.declared.drive.DriveIn.{DriveIn}
 use Rattle.axis_state.specs.declared.definition.AxisRow.{AxisRow}
@@ -7,7 +7,6 @@ use Rattle.command_core.specs.Brought.{brought}
 use Rattle.command_core.specs.Changes.{all_changed}
 use Rattle.command_core.specs.Charge.{active_of, owns}
 use Rattle.command_core.specs.Ends.{end_among}
-use Rattle.fb_outputs.specs.declared.instance.Progress.{Progress}
 use Rattle.group_state.specs.declared.state.GroupRow.{GroupRow}
 use Rattle.motion_history.specs.Entries.{cycle}
 use Rattle.motion_history.specs.Setup.{Setup}
@@ -15,8 +14,8 @@ use Rattle.motion_kernel.specs.Histories.{inputs_of}
 use Rattle.motion_kernel.specs.Machine.{Machine}
 use Rattle.motion_kernel.specs.cycles.Cycles.{after_cycle, cycled}
 use Rattle.motion_kernel.specs.kept.Machine.{IsMachineKept}
-use Rattle.motion_laws.specs.owners.Commands.{active_at, active_shown, commands_at, commands_shown}
-use Rattle.motion_laws.specs.owners.Objects.{a_group, an_axis, IsThere, Object, has_commands_on}
+use Rattle.motion_laws.specs.owners.Commands.{active_at, commands_at, commands_shown}
+use Rattle.motion_laws.specs.owners.Objects.{IsThere, Object, has_commands_on}
 use Rattle.motion_laws.specs.owners.Shown.{AreWhereShown}
 use Rattle.motion_laws.specs.results.Effects.{Effect, changes_in_cycle, fate_by, notes_by}
 use Rattle.motion_laws.specs.results.Outcomes.{progress_at, progress_beside}
