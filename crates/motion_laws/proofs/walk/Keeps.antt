@@ -23,6 +23,7 @@ use Rattle.motion_kernel.specs.kept.Ready.{MayCall}
 use Rattle.motion_kernel.proofs.kept.Laws.{AxesKeepDefinitions, AxesStayKept, GroupsKeepAxes, GroupsStayKept}
 use Rattle.motion_kernel.proofs.kept.Machine.{MachinesStayKept}
 use Rattle.motion_laws.specs.owners.Commands.{active_shown, commands_shown}
+use Rattle.motion_laws.proofs.owners.kinds.Changes.{BringOwn}
 use Rattle.motion_laws.specs.owners.Objects.{a_group, an_axis, IsThere, Object, has_commands_on, is_same}
 
 -- the commands of an axis or a group
@@ -74,6 +75,7 @@ pub record Asks (s : Setup) (k : ℕ) (m z : Machine) : Type 0 where
   -- the changes are a call's, and bring no command but the one that the instance shows then
   pub call : calls.IsCall changes
   pub others : (j : ℕ) → nat_eq k j ≡ false → brought j changes ≡ 0
+  pub kinds : BringOwn s changes
   pub brings : commands_shown shown.progress ≡ brought k changes
   pub active : active_of k (charge_at (freed k called m) object) ≡ 0 →
       active_shown shown.progress ≡ active_of k (charge_at asked object)
