@@ -1,10 +1,9 @@
 -- A move of an instance is Done at its target.
-use Rattle.std.specs.Prelude.{◌≡◌, ◌⊎◌, refl, ℕ, ◌<◌, Bool, true, false, nat_eq, if◌then◌else◌, Option, Some, None, Result, Ok, Err, List, ◌∷◌, ◌++◌, length, slice_get}
+use Rattle.std.specs.Prelude.{◌≡◌, refl, ℕ, ◌<◌, Bool, true, false, nat_eq, if◌then◌else◌, Option, Some, None, Result, Ok, Err, List, ◌∷◌, length, slice_get}
 use Rattle.std.proofs.Common.{arith, ap, sym, subst, ◌∙◌, inl, inr}
 use Rattle.axis_core.specs.blocks.Moves.{is_move}
 use Rattle.buffer_modes.specs.Owners.{owner_by}
 use Rattle.command_pool.specs.Kinds.{acts_on_group}
-use Rattle.command_pool.specs.declared.ending.Finish.{Finish}
 use Rattle.command_pool.specs.declared.ending.Finish.TheVariants as finish
 use Rattle.command_pool.specs.declared.ending.Refusal.{Refusal}
 use Rattle.command_pool.specs.declared.kind.BlockKind.{BlockKind}
@@ -28,7 +27,7 @@ use Rattle.motion_kernel.proofs.kept.Laws.{ConfigurationsAreSound}
 use Rattle.motion_laws.specs.arrivals.Moves.{KeepsMotion, MovesArrive}
 use Rattle.motion_laws.specs.owners.Commands.{active_at}
 use Rattle.motion_laws.specs.owners.Kinds.{AreOfTheirBlocks, is_reset}
-use Rattle.motion_laws.specs.owners.Objects.{a_group, an_axis, Object, object_of}
+use Rattle.motion_laws.specs.owners.Objects.{a_group, an_axis, object_of}
 use Rattle.motion_laws.specs.results.Comes.{end_answered, end_by_edge, finish_in}
 use Rattle.motion_laws.specs.results.Effects.{charge_at}
 use Rattle.motion_laws.specs.results.Outcomes.{answer_in, end_of_command}
