@@ -1,4 +1,4 @@
-// The law of rows: the contract of a function that does nothing.
+// Laws of rows: each is the contract of a function that does nothing.
 
 ghost use Rattle.std.specs.Prelude.{ℕ, List, ◌∷◌, ◌++◌};
 ghost use Rattle.axis_state.specs.declared.definition.AxisRow.{AxisRow};

@@ -1,8 +1,8 @@
 -- A move that is Done in time has a row that shows so.
-use Rattle.std.specs.Prelude.{◌≡◌, ◌≢◌, refl, ℕ, ◌+◌, ◌<◌, ◌≤◌, ℤ, Bool, true, false, if◌then◌else◌, Option, Some, None, option_map, List, [], ◌∷◌, ◌++◌, length, slice_get, slice_index_or}
+use Rattle.std.specs.Prelude.{◌≡◌, ◌≢◌, refl, ℕ, ◌+◌, ◌<◌, ◌≤◌, ℤ, Bool, true, false, if◌then◌else◌, Option, Some, None, List, [], ◌∷◌, ◌++◌, length, slice_get, slice_index_or}
 use Rattle.std.proofs.Common.{arith, ap, sym, subst, ◌∙◌}
 use Rattle.std.proofs.lemmas.List.{append_assoc}
-use Rattle.axis_core.specs.Arrivals.{IsAtEnd, IsTurn, Turn, blended, bound_of, course_of, ended, toward, turn_by, turn_of}
+use Rattle.axis_core.specs.Arrivals.{IsAtEnd, IsTurn, Turn, blended, bound_of, ended, toward, turn_by, turn_of}
 use Rattle.axis_state.specs.declared.definition.AxisRow.{AxisRow}
 use Rattle.buffer_modes.specs.Fates as fate
 use Rattle.buffer_modes.specs.Fates.{Fate, goes_on}
@@ -31,7 +31,7 @@ use Rattle.motion_laws.specs.arrivals.Moves.{IsTurnedWithin, MovesArrive, Turned
 use Rattle.motion_laws.specs.arrivals.Rows.{RowStands, RowsStand, StandsBy, StandsWithin}
 use Rattle.motion_laws.specs.entries.Rows.{RowsShow}
 use Rattle.motion_laws.specs.owners.Objects.{an_axis}
-use Rattle.motion_laws.specs.results.Effects.{effect_by_call, effect_in, fate_by}
+use Rattle.motion_laws.specs.results.Effects.{effect_by_call}
 use Rattle.motion_laws.proofs.Histories.{legal_kept, legal_so_far, replay_append}
 use Rattle.motion_laws.proofs.arrivals.Moves.{behind}
 use Rattle.motion_laws.proofs.results.outcomes.Done.{EndsNoneDone}

@@ -26,7 +26,8 @@ pub record RowStands (s : Setup) (m : Machine) (n : ℕ) (target : ℤ) (most : 
   pub row : AxisRow
   pub of_axis : slice_get rows n ≡ Some row
   pub there : row.setpoint ≡ target
-  pub at_rest : (axis_at (after s (replay s m before) (cycle number rows grows)) n).previous ≡ target
+  pub at_rest :
+      (axis_at (after s (replay s m before) (cycle number rows grows)) n).previous ≡ target
 
 -- where a move is Done there is such a row; what is aborted, faulted or blended has none
 abbrev pub StandsBy : Setup → Machine → ℕ → ℤ → ℕ → List Entry → Turn → Type 0
