@@ -25,15 +25,17 @@ use Rattle.motion_kernel.proofs.Lists.{get_is}
 use Rattle.motion_kernel.proofs.kept.Machine.{MachinesStayKept}
 use Rattle.motion_kernel.specs.Histories.{IsLegal, IsOf, after, machine_after, replay}
 use Rattle.motion_kernel.specs.Machine.{Machine, axis_at, machine_at_opening}
-use Rattle.motion_kernel.specs.kept.Machine.{AreWhole, IsMachineKept}
+use Rattle.motion_kernel.specs.kept.Machine.{AreWhole}
 use Rattle.motion_laws.specs.arrivals.AxisFates.{axis_fate}
 use Rattle.motion_laws.specs.arrivals.Moves.{IsTurnedWithin, MovesArrive, Turned, turned_by, turned_in}
 use Rattle.motion_laws.specs.arrivals.Rows.{RowStands, RowsStand, StandsBy, StandsWithin}
 use Rattle.motion_laws.specs.entries.Rows.{RowsShow}
 use Rattle.motion_laws.specs.owners.Objects.{an_axis}
 use Rattle.motion_laws.specs.results.Effects.{effect_by_call}
-use Rattle.motion_laws.proofs.Histories.{legal_kept, legal_so_far, replay_append}
+use Rattle.motion_laws.proofs.Histories.{legal_so_far}
 use Rattle.motion_laws.proofs.arrivals.Moves.{behind}
+use Rattle.motion_laws.proofs.results.Comes.{after_more}
+use Rattle.motion_laws.proofs.results.Stays.{machine_kept}
 use Rattle.motion_laws.proofs.results.outcomes.Done.{EndsNoneDone}
 use Rattle.motion_laws.proofs.results.outcomes.DoneBy.{call_none}
 use Rattle.motion_laws.proofs.results.outcomes.Fates.{same_ends}
@@ -147,17 +149,9 @@ pub record StandLaws : Type 0 where
       RowsShow (after s (machine_after s made) e) e
   pub moves : (s : Setup) (es : List Entry) → IsSetup s → AreWhole s → IsLegal s es → MovesArrive s es
 
-machine_kept : MachinesStayKept → (s : Setup) (es : List Entry) → IsSetup s → AreWhole s → IsLegal s es → IsMachineKept s (machine_after s es)
-unfolding machine_after
-machine_kept laws s es setup whole legal = legal_kept laws s es setup whole legal
-
 entry_of : (s : Setup) (made more : List Entry) (e : Entry) → IsLegal s (made ++ e ∷ more) → IsOf s (0 + cycles_of made) (machine_after s made) e
 unfolding machine_after
 entry_of s made more e legal = (behind s 0 (machine_at_opening s) made (e ∷ more) legal.follows).0
-
-machine_before : (s : Setup) (made before : List Entry) (e : Entry) → machine_after s (made ++ e ∷ before) ≡ replay s (after s (machine_after s made) e) before
-unfolding machine_after
-machine_before s made before e = replay_append s (machine_at_opening s) made (e ∷ before)
 
 -- its row
 cycle_stands : StandLaws → (s : Setup) (so_far rest : List Entry) (c : ℕ) (rows : List AxisRow) (grows : List GroupRow) (n : ℕ) (target : ℤ) → IsSetup s → AreWhole s →
@@ -188,7 +182,7 @@ stands_in laws s made more e n target rates most t setup whole legal l f done fe
     let so_far = made ++ e ∷ before in
     let all : made ++ e ∷ more ≡ so_far ++ cycle c rows grows ∷ rest =
     ap (λ xs. made ++ e ∷ xs) split ∙ sym (append_assoc made (e ∷ before) (cycle c rows grows ∷ rest)) in
-    let same : machine_after s so_far ≡ replay s m before = machine_before s made before e in
+    let same : machine_after s so_far ≡ replay s m before = after_more s made before e in
     let setpoint : (axis_at (after s (machine_after s so_far) (cycle c rows grows)) n).setpoint ≡ target =
     ap (λ y. (axis_at (after s y (cycle c rows grows)) n).setpoint) same ∙ ap (λ y. (axis_at y n).setpoint) (sym machine) ∙ at.0 in
     let shown = cycle_stands laws s so_far rest c rows grows n target setup whole (subst (IsLegal s) all legal) l setpoint in
