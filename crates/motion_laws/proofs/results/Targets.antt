@@ -1,10 +1,9 @@
 -- A move of an instance is Done at its target.
-use Rattle.std.specs.Prelude.{◌≡◌, ◌⊎◌, refl, ℕ, ◌<◌, Bool, true, false, nat_eq, if◌then◌else◌, Option, Some, None, Result, Ok, Err, List, ◌∷◌, ◌++◌, length, slice_get}
+use Rattle.std.specs.Prelude.{◌≡◌, refl, ℕ, ◌<◌, Bool, true, false, nat_eq, if◌then◌else◌, Option, Some, None, Result, Ok, Err, List, ◌∷◌, length, slice_get}
 use Rattle.std.proofs.Common.{arith, ap, sym, subst, ◌∙◌, inl, inr}
 use Rattle.axis_core.specs.blocks.Moves.{is_move}
 use Rattle.buffer_modes.specs.Owners.{owner_by}
 use Rattle.command_pool.specs.Kinds.{acts_on_group}
-use Rattle.command_pool.specs.declared.ending.Finish.{Finish}
 use Rattle.command_pool.specs.declared.ending.Finish.TheVariants as finish
 use Rattle.command_pool.specs.declared.ending.Refusal.{Refusal}
 use Rattle.command_pool.specs.declared.kind.BlockKind.{BlockKind}
@@ -22,22 +21,23 @@ use Rattle.motion_kernel.specs.Histories.{IsLegal, machine_after}
 use Rattle.motion_kernel.specs.Machine.{Machine, axis_at, instance_at}
 use Rattle.motion_kernel.specs.calls.Asking.{is_done_at_once}
 use Rattle.motion_kernel.specs.calls.Calls.{with_execute}
-use Rattle.motion_kernel.specs.kept.Machine.{AreWhole, IsMachineKept}
+use Rattle.motion_kernel.specs.kept.Machine.{AreWhole}
 use Rattle.motion_kernel.proofs.kept.Calls.{axis_object}
 use Rattle.motion_kernel.proofs.kept.Laws.{ConfigurationsAreSound}
 use Rattle.motion_laws.specs.arrivals.Moves.{KeepsMotion, MovesArrive}
 use Rattle.motion_laws.specs.owners.Commands.{active_at}
 use Rattle.motion_laws.specs.owners.Kinds.{AreOfTheirBlocks, is_reset}
-use Rattle.motion_laws.specs.owners.Objects.{a_group, an_axis, Object, object_of}
+use Rattle.motion_laws.specs.owners.Objects.{a_group, an_axis, object_of}
 use Rattle.motion_laws.specs.results.Comes.{end_answered, end_by_edge, finish_in}
 use Rattle.motion_laws.specs.results.Effects.{charge_at}
 use Rattle.motion_laws.specs.results.Outcomes.{answer_in, end_of_command}
 use Rattle.motion_laws.specs.results.Results.{KeepsResults, ResultsAreTold, end_in}
 use Rattle.motion_laws.specs.results.Targets.{IsDoneThere, MovesEndThere}
-use Rattle.motion_laws.proofs.Histories.{legal_kept, legal_so_far}
+use Rattle.motion_laws.proofs.Histories.{legal_so_far}
 use Rattle.motion_laws.proofs.owners.active.Cycles.{found_in}
 use Rattle.motion_laws.proofs.owners.commands.Events.{there_where}
 use Rattle.motion_laws.proofs.owners.kinds.Kept.{kinds_match}
+use Rattle.motion_laws.proofs.results.Stays.{machine_kept}
 use Rattle.motion_laws.proofs.results.outcomes.DoneBy.{call_not_done}
 use Rattle.motion_laws.proofs.walk.Keeps.{WalkLaws}
 
@@ -120,17 +120,13 @@ entry_there s m (cycle c rows grows) more k b l told moves kinds at move ends =
 entry_there s m (end_of task) more k b l told moves kinds at move ends = absurd (cc)
 
 -- in every legal history
-machine_kept : WalkLaws → (s : Setup) (es : List Entry) → IsSetup s → AreWhole s → IsLegal s es → IsMachineKept s (machine_after s es)
-unfolding machine_after
-machine_kept laws s es setup whole legal = legal_kept laws.machines s es setup whole legal
-
 pub moves_end_there : WalkLaws → ConfigurationsAreSound →
     ((s : Setup) (es : List Entry) → IsSetup s → AreWhole s → IsLegal s es → ResultsAreTold s es) →
     ((s : Setup) (es : List Entry) → IsSetup s → AreWhole s → IsLegal s es → MovesArrive s es) →
     (s : Setup) (es : List Entry) → IsSetup s → AreWhole s → IsLegal s es → MovesEndThere s es
 moves_end_there laws sound told moves s es setup whole legal made more e k b is at move ends =
     let so_far = legal_so_far s made (e ∷ more) (subst (IsLegal s) is legal) in
-    let kept = machine_kept laws s made setup whole so_far in
+    let kept = machine_kept laws.machines s made setup whole so_far in
     let sizes = kept.sized in
     let size = sizes.axes in
     let l = axis_object sound s k b setup (there_where s.blocks k b at) at (on_axis b.kind move) in

@@ -1,16 +1,13 @@
 -- Commands are of the kinds of their instances' blocks, after every legal history.
-use Rattle.std.specs.Prelude.{◌≡◌, refl, ℕ, zero, suc, ◌+◌, true, false, Option, Some, None, List, [], ◌∷◌, length, map}
+use Rattle.std.specs.Prelude.{◌≡◌, refl, ℕ, zero, suc, ◌+◌, Some, None, List, [], ◌∷◌, length, map}
 use Rattle.std.specs.List.{AllByRecursion}
-use Rattle.std.proofs.Common.{ap, sym, subst, ◌∙◌, inl, inr}
+use Rattle.std.proofs.Common.{sym, subst, ◌∙◌, inl, inr}
 use Rattle.std.proofs.lemmas.Bool.{cases_Bool}
 use Rattle.axis_core.specs.Cycles.{axis_at_opening}
-use Rattle.axis_core.specs.declared.axis.Axis.{Axis}
 use Rattle.axis_state.specs.declared.definition.AxisDef.{AxisDef}
 use Rattle.buffer_modes.specs.Resets.{reset_owner}
 use Rattle.command_core.specs.Changes.{Change, all_changed}
 use Rattle.command_core.specs.Charge.{Charge}
-use Rattle.command_pool.specs.declared.wanted.Wanted.{Wanted}
-use Rattle.group_core.specs.declared.group.Group.{Group}
 use Rattle.motion_history.specs.Entries.{Entry}
 use Rattle.motion_history.specs.Setup.{Setup, IsSetup}
 use Rattle.motion_history.specs.declared.config.GroupDef.{GroupDef}
@@ -18,7 +15,7 @@ use Rattle.motion_kernel.specs.Histories.{IsLegal, machine_after}
 use Rattle.motion_kernel.specs.Machine.{Machine, axis_among, group_among, group_at_opening, list_of, machine_at_opening}
 use Rattle.motion_kernel.specs.kept.Machine.{AreWhole}
 use Rattle.motion_kernel.proofs.kept.Opening.{none_waits}
-use Rattle.motion_laws.specs.owners.Kinds.{AreOfTheirBlocks, IsOfAReset, IsOfItsBlock}
+use Rattle.motion_laws.specs.owners.Kinds.{AreOfTheirBlocks, IsOfItsBlock}
 use Rattle.motion_laws.specs.owners.Objects.{a_group, an_axis, IsThere, Object, is_same}
 use Rattle.motion_laws.proofs.owners.commands.Events.{same_object}
 use Rattle.motion_laws.proofs.owners.kinds.Changes.{BringOwn, all_none_own, all_own, disowned_own}

@@ -1,5 +1,5 @@
 -- The command that a call brings is of its block's kind.
-use Rattle.std.specs.Prelude.{◌≡◌, refl, ℤ, true, false, Option, Some, None, List, [], ◌∷◌}
+use Rattle.std.specs.Prelude.{◌≡◌, refl, ℤ, true, Option, Some, None, [], ◌∷◌}
 use Rattle.std.proofs.Common.{ap, sym, ◌∙◌}
 use Rattle.axis_core.specs.Calls as axis_calls
 use Rattle.axis_core.specs.Cores as axes

@@ -69,7 +69,7 @@ kind_none : (s : Setup) (x : BlockKind) (e : Edge) (k : ℕ) (b : BlockDef) (i :
 kind_none s kind.Power e k b i m o = (power_none s b.object i.execute m o, untold m o)
 kind_none s _ e k b i m o = edge_none s e k b i m o
 
-call_none : (s : Setup) (at : Option BlockDef) (k : ℕ) (i : Inputs) (m : Machine) (o : Object) →
+pub call_none : (s : Setup) (at : Option BlockDef) (k : ℕ) (i : Inputs) (m : Machine) (o : Object) →
     Quiet (effect_by_call s at k i m o).commands (effect_by_call s at k i m o).changes
 call_none s None k i m o = (tt, untold m o)
 call_none s (Some b) k i m o = kind_none s b.kind (edge_of (instance_at m.instances k).execute i.execute) k b i (with_execute k i m) o
