@@ -5,7 +5,7 @@ ghost use Rattle.line_text.specs.Reading.{Gives};
 ghost use Rattle.bench_text.specs.Named as spec;
 
 use line_text::LineFault;
-use machine_words::{WRONG_NAME, block_at, task_at};
+use machine_words::{KnownBlocks, WRONG_NAME, task_at};
 use motion_history::Builder;
 
 /// The number of the task of this name.
@@ -20,11 +20,15 @@ pub fn task_named(machine: &Builder, name: &[u8]) -> Result<u8, LineFault>
 }
 
 /// The number of the block of this name.
-pub fn block_named(machine: &Builder, name: &[u8]) -> Result<u16, LineFault>
+pub fn block_named(
+    known: &mut KnownBlocks,
+    machine: &Builder,
+    name: &[u8],
+) -> Result<u16, LineFault>
     ensures value { Gives (λ n. n) (spec.block_named machine.now name.now) result }
     ensures within { IfOk result (λ n. n < length machine.now.blocks) }
 {
-    match block_at(machine, name) {
+    match known.block_at(machine, name) {
         Some(block) => Ok(block),
         None => Err(LineFault::Rule(WRONG_NAME)),
     }

@@ -17,7 +17,9 @@ use crate::form::{Form, Part, form_of, is_counted, is_part, part_of};
 use crate::item::{add_block, add_group, add_table, set_room};
 use crate::version::version_of;
 use line_text::{LineFault, LineReader, broken_unless};
-use machine_words::{NOT_WHOLE, OUT_OF_PLACE, WRONG_COUNT, add_task, is_whole, plain_drive};
+use machine_words::{
+    KnownBlocks, NOT_WHOLE, OUT_OF_PLACE, WRONG_COUNT, add_task, is_whole, plain_drive,
+};
 use motion_history::{Builder, DriveDef, TraceVersion};
 use std::alloc::Global;
 use std::marker::Model;
@@ -30,6 +32,7 @@ pub struct BenchReader {
     pub(crate) version: TraceVersion,
     pub(crate) limited: bool,
     pub(crate) machine: Builder,
+    pub(crate) known: KnownBlocks,
     pub(crate) drives: Vec<DriveDef>,
     pub(crate) stated: Vec<u8>,
     pub(crate) lines: Vec<BenchLine>,
@@ -208,7 +211,7 @@ impl BenchReader {
             (spec.with_line self.old (calls.call_meaning self.old.setup (texts words.now)))
             self.new result }
     {
-        let line = call_of(self.alloc, &self.machine, words);
+        let line = call_of(self.alloc, &mut self.known, &self.machine, words);
         self.push(line)
     }
 

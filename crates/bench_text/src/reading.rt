@@ -13,7 +13,7 @@ use crate::bench::Bench;
 use crate::form::{Part, is_part};
 use crate::reader::BenchReader;
 use line_text::{LineRefused, LinesFault, lines_are_spelled, read_lines};
-use machine_words::{NOT_WHOLE, inputs_are_fit, refused_by};
+use machine_words::{KnownBlocks, NOT_WHOLE, inputs_are_fit, refused_by};
 use motion_history::{Builder, DriveDefs, TextFault, TraceVersion};
 use std::alloc::Global;
 
@@ -68,6 +68,7 @@ fn opened(alloc: Global) -> Result<BenchReader, TextFault>
         version: TraceVersion::One,
         limited: false,
         machine,
+        known: KnownBlocks::new(alloc),
         drives: Vec::new(alloc),
         stated: Vec::new(alloc),
         lines: Vec::new(alloc),

@@ -4,3 +4,4 @@ pub mod Moves
 pub mod Paths
 pub mod PathsDone
 pub mod PathsEnd
+pub mod Standing

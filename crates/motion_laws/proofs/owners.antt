@@ -6,3 +6,4 @@ pub mod Events
 pub mod Kept
 pub mod Holders
 pub mod Shown
+pub mod kinds

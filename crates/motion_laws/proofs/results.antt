@@ -7,3 +7,4 @@ pub mod Told
 pub mod Comes
 pub mod Replied
 pub mod Stays
+pub mod Targets

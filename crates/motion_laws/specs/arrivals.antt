@@ -3,3 +3,4 @@ pub mod AxisFates
 pub mod GroupFates
 pub mod Moves
 pub mod Paths
+pub mod Rows

@@ -3,3 +3,4 @@ pub mod Objects
 pub mod Commands
 pub mod Holders
 pub mod Shown
+pub mod Kinds

@@ -3,3 +3,4 @@ pub mod Effects
 pub mod Outcomes
 pub mod Results
 pub mod Comes
+pub mod Targets

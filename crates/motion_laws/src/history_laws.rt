@@ -10,7 +10,10 @@ ghost use Rattle.motion_kernel.specs.kept.Machine.{AreWhole};
 use crate::arrival_laws::{moves_arrive_in_time, paths_end_in_time};
 use crate::entry_laws::entries_keep_their_laws;
 use crate::limit_laws::{at_most_eight_wait, axes_stay_stoppable, rows_keep_limits};
-use crate::result_laws::{results_are_told, results_come_of_ends, results_stay_shown};
+use crate::result_laws::{
+    done_moves_are_at_their_targets, results_are_told, results_come_of_ends, results_stay_shown,
+};
+use crate::row_laws::rows_show_that_moves_arrive;
 
 /// In every legal history each row keeps its axis's limits; and after every entry each axis that is
 /// driven and each path can be stopped within its limits, and at most eight commands wait for each
@@ -19,8 +22,8 @@ use crate::result_laws::{results_are_told, results_come_of_ends, results_stay_sh
 /// commands are where their instances show, and the rows of a cycle show the machine behind it.
 /// Each move, Halt and Stop of an axis, and each line, GroupHalt and GroupStop of a group, comes to
 /// its end in time, and no blended move hangs; each end is told to the instance whose command it
-/// was, and to no other; and each result that a reply tells comes of such an end, and stays while
-/// Execute is true.
+/// was, and to no other; each result that a reply tells comes of such an end, and stays while
+/// Execute is true; a move is Done at its target; and rows show that moves arrive in time.
 pub fn histories_keep_their_laws()
     ensures { (s : Setup) (es : List Entry) → IsSetup s → AreWhole s → IsLegal s es →
         KeepsLaws s es }
@@ -34,4 +37,6 @@ pub fn histories_keep_their_laws()
     results_are_told();
     results_come_of_ends();
     results_stay_shown();
+    done_moves_are_at_their_targets();
+    rows_show_that_moves_arrive();
 }

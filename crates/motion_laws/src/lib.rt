@@ -25,5 +25,7 @@ pub use outcome_laws::entries_make_outcomes;
 pub use owner_laws::commands_are_where_their_instances_show;
 pub use refusal_laws::refusals_change_nothing;
 pub use reply_laws::replies_tell_one_result;
-pub use result_laws::{results_are_told, results_come_of_ends, results_stay_shown};
-pub use row_laws::rows_show_the_machine;
+pub use result_laws::{
+    done_moves_are_at_their_targets, results_are_told, results_come_of_ends, results_stay_shown,
+};
+pub use row_laws::{rows_show_that_moves_arrive, rows_show_the_machine};

@@ -7,7 +7,9 @@ ghost use Rattle.motion_kernel.specs.Histories.{IsLegal};
 ghost use Rattle.motion_kernel.specs.kept.Machine.{AreWhole};
 ghost use Rattle.motion_laws.specs.results.Comes.{ResultsCome, ResultsStay};
 ghost use Rattle.motion_laws.specs.results.Results.{ResultsAreTold};
+ghost use Rattle.motion_laws.specs.results.Targets.{MovesEndThere};
 
+use crate::arrival_laws::moves_arrive_in_time;
 use crate::outcome_laws::entries_make_outcomes;
 use command_changes::{
     axis_changes_are_made, axis_fates_are_told, group_changes_are_made, group_fates_are_told,
@@ -16,6 +18,7 @@ use command_core::{
     changes_follow_one_another, changes_make_fates, commands_come_from_calls, ends_are_told_once,
     holders_have_commands,
 };
+use motion_history::configurations_are_sound;
 use motion_kernel::machines_stay_kept;
 
 /// In every legal history the end of a command is told to its instance, and to no other. Wherever
@@ -59,4 +62,20 @@ pub fn results_stay_shown()
 {
     results_are_told();
     machines_stay_kept();
+}
+
+/// A move of an instance is Done at its target. By the entry that ends the command of a
+/// MoveAbsolute or a MoveRelative Done, in every legal history, the axis stands at its target, at
+/// rest, or, where the move is blended, comes there by a step of at most the blend velocity that
+/// crosses it; and the command was the active one of that axis.
+pub fn done_moves_are_at_their_targets()
+    ensures targets { (s : Setup) (es : List Entry) → IsSetup s → AreWhole s → IsLegal s es →
+        MovesEndThere s es }
+{
+    results_are_told();
+    moves_arrive_in_time();
+    configurations_are_sound();
+    machines_stay_kept();
+    axis_changes_are_made();
+    group_changes_are_made();
 }

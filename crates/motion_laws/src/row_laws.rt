@@ -1,4 +1,4 @@
-// The law of rows: the contract of a function that does nothing.
+// Laws of rows: each is the contract of a function that does nothing.
 
 ghost use Rattle.std.specs.Prelude.{ℕ, List, ◌∷◌, ◌++◌};
 ghost use Rattle.axis_state.specs.declared.definition.AxisRow.{AxisRow};
@@ -9,8 +9,11 @@ ghost use Rattle.motion_kernel.specs.Histories.{IsCycleOf, IsLegal, after, input
 ghost use Rattle.motion_kernel.specs.Machine.{Machine};
 ghost use Rattle.motion_kernel.specs.cycles.Cycles.{after_cycle};
 ghost use Rattle.motion_kernel.specs.kept.Machine.{AreWhole, IsMachineKept};
+ghost use Rattle.motion_laws.specs.arrivals.Rows.{RowsStand};
 ghost use Rattle.motion_laws.specs.entries.Rows.{RowsShow, ShowMachine};
 
+use crate::arrival_laws::moves_arrive_in_time;
+use command_changes::{axis_fates_are_told, group_fates_are_told};
 use motion_kernel::machines_stay_kept;
 
 /// The rows of a cycle show the machine behind it: the row of an axis its state, its error, whether
@@ -25,4 +28,19 @@ pub fn rows_show_the_machine()
         RowsShow (after s (machine_after s made) e) e }
 {
     machines_stay_kept();
+}
+
+/// Rows show that moves arrive in time: in every legal history, from the entry in which a move
+/// becomes active, and where the history has as many cycles behind it as the move's bound, a row of
+/// its axis within these stands at the target, where the setpoint before it was, or the move was
+/// aborted, faulted or blended before.
+pub fn rows_show_that_moves_arrive()
+    ensures rows { (s : Setup) (es : List Entry) → IsSetup s → AreWhole s → IsLegal s es →
+        RowsStand s es }
+{
+    rows_show_the_machine();
+    moves_arrive_in_time();
+    machines_stay_kept();
+    axis_fates_are_told();
+    group_fates_are_told();
 }

@@ -2,7 +2,7 @@
 use Rattle.std.specs.Prelude.{◌≡◌, refl, ℕ, ℤ, zero, suc, ◌+◌, ◌-◌, ◌<◌, ◌≤◌, ◌⊎◌, Bool, true, false, not, if◌then◌else◌, Ok, Err, List, [], ◌∷◌, ◌++◌, length, slice_get}
 use Rattle.std.proofs.Common.{◌∙◌, inl, inr, sym, ap, subst, arith}
 use Rattle.std.proofs.lemmas.Bool.{cases_Bool}
-use Rattle.std.proofs.lemmas.List.{append-nil, append_assoc, length-append}
+use Rattle.std.proofs.lemmas.List.{append-nil, append_assoc, length-append, length_push}
 use Rattle.bench_run.proofs.RunLaws.{made-ended}
 use Rattle.bench_run.specs.Run.{Event, Run, a_call, an_end, happened, made}
 use Rattle.bench_run.specs.declared.bench.RunFault.{RunFault}
@@ -14,7 +14,7 @@ use Rattle.st_tree.specs.declared.program.Task.{Task}
 use Rattle.st_job.proofs.Kept.{scan-stays, turn-stays}
 use Rattle.st_job.proofs.MadeLaws.{ends, goes, goes-or-ends}
 use Rattle.st_job.proofs.OwnEntries.{call-own, end-own, entries-first, entries-more, none-replied, own-more}
-use Rattle.st_job.proofs.ScanLaws.{item-behind, length-more, waiting-is-call}
+use Rattle.st_job.proofs.ScanLaws.{item-behind, waiting-is-call}
 use Rattle.st_job.specs.Cell.{Cell, TaskStand}
 use Rattle.st_job.specs.Ready.{MakesCalls}
 use Rattle.st_job.specs.Rounds.{Turn, called, is_last, made_by, reply_behind, scan_on, scanned, turn, with_call}
@@ -268,7 +268,7 @@ fewer-left : (c : Cell) (a : Asked) (r : Run) (steps : ℕ) → r.ending ≡ Ok 
 fewer-left c a r steps ok on enough =
     let went = goes c.setup (a_call a.instance a.inputs) r ok on in
     let room = went.room in
-    let more = ap (λ (x : Run). length x.history) went.is ∙ length-more r.history _ in
+    let more = ap (λ (x : Run). length x.history) went.is ∙ length_push r.history _ in
     omega (arith, room, more, enough)
 
 -- ---- the whole turn

@@ -42,8 +42,35 @@ const DRIVE_STATES: [DriveState; 8] = [
     DriveState::Fault,
 ];
 
-/// The state of an axis of this name.
+/// The state of an axis of this name. Those that come most often are told by their bytes.
+#[tactic(auto, unfolding(crate::specs::Columns::axis_state_of, crate::specs::Fields::axis_state_text))]
 pub fn axis_state_of(name: &[u8]) -> Option<AxisState>
+    ensures { result ≡ spec.axis_state_of name.now }
+{
+    match name {
+        [
+            b'D',
+            b'i',
+            b's',
+            b'c',
+            b'r',
+            b'e',
+            b't',
+            b'e',
+            b'M',
+            b'o',
+            b't',
+            b'i',
+            b'o',
+            b'n',
+        ] => Some(AxisState::DiscreteMotion),
+        [b'S', b't', b'a', b'n', b'd', b's', b't', b'i', b'l', b'l'] => Some(AxisState::Standstill),
+        _ => axis_state_among(name),
+    }
+}
+
+// The state of an axis of this name, looked for among all.
+fn axis_state_among(name: &[u8]) -> Option<AxisState>
     ensures { result ≡ spec.axis_state_of name.now }
 {
     AXIS_STATES

@@ -9,6 +9,7 @@ use Rattle.axis_core.specs.Owners.{owner_brought, owner_brought_by}
 use Rattle.axis_core.specs.declared.reason.Reason as axis_reason
 use Rattle.buffer_modes.proofs.Owners.{nobody}
 use Rattle.buffer_modes.specs.Owners.{is_owner, one_of, told}
+pub use Rattle.command_core.proofs.Ends.{other_note as other_owner}
 use Rattle.command_core.proofs.Holders.{owner_counts}
 use Rattle.command_pool.specs.Kinds.{acts_on_group}
 use Rattle.command_pool.specs.declared.ending.Finish.{Finish}
@@ -44,10 +45,6 @@ one_zero false e = refl
 pub owner_not : (k j : ℕ) → is_owner k (Some j) ≡ 0 → nat_eq j k ≡ false
 unfolding is_owner
 owner_not k j e = one_zero (nat_eq j k) e
-
-pub other_owner : (k j : ℕ) → nat_eq j k ≡ false → is_owner k (Some j) ≡ 0
-unfolding is_owner
-other_owner k j e = ap one_of e
 
 -- an instance that is told nothing is as it was
 pub untold_stays : (k : ℕ) (ns : List Note) (is : List InstanceState) → told k ns ≡ 0 →

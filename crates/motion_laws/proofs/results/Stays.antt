@@ -59,7 +59,7 @@ high_ended s k b i m f at other kept high h =
     subst (HasEndedSo f) (sym now) h
 
 -- the machine of a legal history is kept
-machine_kept : MachinesStayKept → (s : Setup) (es : List Entry) → IsSetup s → AreWhole s → IsLegal s es → IsMachineKept s (machine_after s es)
+pub machine_kept : MachinesStayKept → (s : Setup) (es : List Entry) → IsSetup s → AreWhole s → IsLegal s es → IsMachineKept s (machine_after s es)
 unfolding machine_after
 machine_kept laws s es setup whole legal = legal_kept laws s es setup whole legal
 

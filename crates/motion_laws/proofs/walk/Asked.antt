@@ -32,6 +32,7 @@ use Rattle.motion_laws.proofs.owners.Counts.{answer_shows, group_answer_shows}
 use Rattle.motion_laws.proofs.owners.active.AxisCounts.{own_active}
 use Rattle.motion_laws.proofs.owners.active.GroupCounts.{group_own_active}
 use Rattle.motion_laws.proofs.owners.commands.Asked.{other_brings, other_brings_group}
+use Rattle.motion_laws.proofs.owners.kinds.Tables.{axis_own, group_own}
 use Rattle.motion_laws.proofs.owners.commands.Events.{group_list, is_itself, lists_there}
 use Rattle.motion_laws.proofs.walk.Events.{axis_event, group_event, instances_alike, members_alike, members_instances, then_alike}
 use Rattle.motion_laws.proofs.walk.Keeps.{Asks, WalkLaws}
@@ -41,6 +42,14 @@ own_block : (s : Setup) (k : ℕ) (b : BlockDef) (o : Object) → slice_get s.bl
     has_commands_on (slice_get s.blocks k) o ≡ true
 own_block s k b o at other is =
     ap (λ x. has_commands_on x o) at ∙ ap (λ x. not x && is_same (object_of b) o) other ∙ ap (λ x. is_same x o) is ∙ is_itself o
+
+-- and is of its kind
+asked_kind : (s : Setup) (k j : ℕ) (b d : BlockDef) → slice_get s.blocks k ≡ Some b → slice_get s.blocks j ≡ Some d → Some k ≡ Some j → b.kind ≡ d.kind
+asked_kind s k j b d at at_j owned =
+    let same : k ≡ j = cc in
+    let is : Some b ≡ Some d = sym at ∙ ap (slice_get s.blocks) same ∙ at_j in
+    let block : b ≡ d = cc in
+    ap (λ (x : BlockDef). x.kind) block
 
 module _ (laws : WalkLaws) where
   pub axis_asks : (s : Setup) (k : ℕ) (b : BlockDef) (i : Inputs) (m : Machine) → slice_get s.blocks k ≡ Some b → is_power b.kind ≡ false →
@@ -77,6 +86,7 @@ module _ (laws : WalkLaws) where
         shown = shown;
         answered = refl;
         call = laws.axis.command_call q c;
+        kinds = axis_own s q c (λ j d owned at_j. asked_kind s k j b d at at_j owned);
         others = λ j e. laws.axis.command_brings j q c ∙ other_brings j k (refusal_of q) q.wanted e refl;
         brings = answer_shows (refusal_of q) (instance_at x.instances k) k q.wanted c refl off ∙ sym (laws.axis.command_brings k q c);
         active = λ none. sym (own_active k q c (instance_at x.instances k) refl none)
@@ -125,6 +135,7 @@ module _ (laws : WalkLaws) where
         shown = shown;
         answered = ap (λ is. slice_set is k shown) (members_instances s n b.kind answer x);
         call = laws.group.command_call w i.jerk members c;
+        kinds = group_own s w i.jerk members c (λ j d owned at_j. asked_kind s k j b d at at_j owned);
         others = λ j e. laws.group.command_brings j w i.jerk members c ∙ other_brings_group j k (group_refusals.refusal_of q) w e refl;
         brings = group_answer_shows q (group_refusals.refusal_of q) refl (instance_at led.instances k) k c refl on
             ∙ sym (laws.group.command_brings k w i.jerk members c);

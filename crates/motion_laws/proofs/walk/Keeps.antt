@@ -1,12 +1,10 @@
 -- What happens to the commands of the machine, one event after another, and what all events keep.
 use Rattle.std.specs.Prelude.{◌≡◌, ℕ, ◌<◌, true, false, nat_eq, Some, List, [], length, slice_get, slice_set}
-use Rattle.command_changes.specs.Axis as axis
-use Rattle.command_changes.specs.Group as group
 use Rattle.command_changes.specs.Laws.{AreAxisChanges, AreGroupChanges}
 use Rattle.command_core.specs.Brought.{BringNone, brought}
 use Rattle.command_core.specs.Calls as calls
 use Rattle.command_core.specs.Changes.{AllFit, Change, all_changed}
-use Rattle.command_core.specs.Charge.{Charge, active_of}
+use Rattle.command_core.specs.Charge.{active_of}
 use Rattle.fb_outputs.specs.InstanceState.{InstanceState}
 use Rattle.fb_outputs.specs.Steps.{edge_of, is_power}
 use Rattle.fb_outputs.specs.declared.inputs.Inputs.{Inputs}
@@ -14,7 +12,7 @@ use Rattle.fb_outputs.specs.declared.instance.Edge.TheVariants.{Rising}
 use Rattle.motion_history.specs.Calls.{IsCall}
 use Rattle.motion_history.specs.Setup.{Setup}
 use Rattle.motion_history.specs.declared.config.BlockDef.{BlockDef}
-use Rattle.motion_kernel.specs.Machine.{Machine, axis_core_at, group_core_at, instance_at}
+use Rattle.motion_kernel.specs.Machine.{Machine, instance_at}
 use Rattle.motion_kernel.specs.calls.Calls.{after_reply, with_execute, with_instance, without_owner}
 use Rattle.motion_kernel.specs.calls.Telling.{told_notes}
 use Rattle.motion_kernel.specs.cycles.Showing.{with_found}
@@ -23,12 +21,9 @@ use Rattle.motion_kernel.specs.kept.Ready.{MayCall}
 use Rattle.motion_kernel.proofs.kept.Laws.{AxesKeepDefinitions, AxesStayKept, GroupsKeepAxes, GroupsStayKept}
 use Rattle.motion_kernel.proofs.kept.Machine.{MachinesStayKept}
 use Rattle.motion_laws.specs.owners.Commands.{active_shown, commands_shown}
-use Rattle.motion_laws.specs.owners.Objects.{a_group, an_axis, IsThere, Object, has_commands_on, is_same}
-
--- the commands of an axis or a group
-abbrev pub charge_at : Machine → Object → Charge
-charge_at m (an_axis n) = axis.charge_of (axis_core_at m n)
-charge_at m (a_group j) = group.charge_of (group_core_at m j)
+use Rattle.motion_laws.proofs.owners.kinds.Changes.{BringOwn}
+pub use Rattle.motion_laws.specs.results.Effects.{charge_at}
+use Rattle.motion_laws.specs.owners.Objects.{IsThere, Object, has_commands_on, is_same}
 
 -- the commands are the same
 pub record Alike (m x : Machine) : Type 0 where
@@ -74,6 +69,7 @@ pub record Asks (s : Setup) (k : ℕ) (m z : Machine) : Type 0 where
   -- the changes are a call's, and bring no command but the one that the instance shows then
   pub call : calls.IsCall changes
   pub others : (j : ℕ) → nat_eq k j ≡ false → brought j changes ≡ 0
+  pub kinds : BringOwn s changes
   pub brings : commands_shown shown.progress ≡ brought k changes
   pub active : active_of k (charge_at (freed k called m) object) ≡ 0 →
       active_shown shown.progress ≡ active_of k (charge_at asked object)

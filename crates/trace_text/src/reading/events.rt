@@ -11,14 +11,19 @@ use crate::reading::inputs::{InputFields, inputs_of};
 use crate::reading::rule::{NO_VALUE, are_empty, value};
 use fb_outputs::Outputs;
 use line_text::{LineFault, broken_unless};
-use machine_words::{block_at, task_at};
+use machine_words::{KnownBlocks, task_at};
 use motion_history::Builder;
 use std::alloc::Global;
 use trace_columns::{outputs_of, unsigned_of, word_of};
 
 /// The call of a record.
 #[tactic(auto, unfolding(crate::specs::reading::Events::call_meaning))]
-pub fn call_of(alloc: Global, machine: &Builder, fields: &[&[u8]]) -> Result<FoundEntry, LineFault>
+pub fn call_of(
+    alloc: Global,
+    known: &mut KnownBlocks,
+    machine: &Builder,
+    fields: &[&[u8]],
+) -> Result<FoundEntry, LineFault>
     ensures { Gives (λ e. e) (spec.call_meaning machine.now (texts fields.now)) result }
 {
     let [
@@ -43,13 +48,14 @@ pub fn call_of(alloc: Global, machine: &Builder, fields: &[&[u8]]) -> Result<Fou
         rates: &[velocity, acceleration, deceleration, jerk],
         last: &[mode, follow],
     };
-    call_by(alloc, machine, name, &inputs, &[outputs, error_id])
+    call_by(alloc, known, machine, name, &inputs, &[outputs, error_id])
 }
 
 // The call of a block of this name.
 #[tactic(auto, unfolding(crate::specs::reading::Events::call_by))]
 fn call_by(
     alloc: Global,
+    known: &mut KnownBlocks,
     machine: &Builder,
     name: &[u8],
     inputs: &InputFields<'_>,
@@ -58,7 +64,7 @@ fn call_by(
     ensures { Gives (λ e. e)
         (spec.call_by machine.now name.now (fields_of inputs.now) (texts reply.now)) result }
 {
-    let instance = value(block_at(machine, name))?;
+    let instance = value(known.block_at(machine, name))?;
     let Some(block) = machine.blocks().get(instance as usize) else {
         return Err(LineFault::Rule(NO_VALUE));
     };

@@ -71,8 +71,19 @@ fn kind_text(kind: Kind) -> &'static str
     }
 }
 
-/// The kind of a record by its first field.
+/// The kind of a record by its first field. The most frequent is told by its bytes.
+#[tactic(auto, unfolding(crate::specs::reading::Kinds::kind_of, crate::specs::reading::Kinds::kind_text))]
 pub fn kind_of(first: &[u8]) -> Option<Kind>
+    ensures { result ≡ spec.kind_of first.now }
+{
+    match first {
+        [b'r', b'o', b'w'] => Some(Kind::Row),
+        _ => kind_among(first),
+    }
+}
+
+// The kind of a record by its first field, looked for among all.
+fn kind_among(first: &[u8]) -> Option<Kind>
     ensures { result ≡ spec.kind_of first.now }
 {
     KINDS

@@ -22,7 +22,7 @@ use crate::trace::Trace;
 use csv::ByteRecord;
 use csv_records::{field, next_record, open_records};
 use line_text::{LineFault, LineRefused, LinesFault};
-use machine_words::refused_by;
+use machine_words::{KnownBlocks, refused_by};
 use motion_history::{Builder, TextFault, TraceVersion};
 use std::alloc::Global;
 
@@ -65,6 +65,7 @@ fn opened(alloc: Global) -> Result<TraceReader, TextFault>
         version: TraceVersion::One,
         command: Command::Bench,
         machine,
+        known: KnownBlocks::new(alloc),
         cycle: FoundCycle::new(alloc, 0),
         found: Vec::new(alloc),
         drives: Vec::new(alloc),

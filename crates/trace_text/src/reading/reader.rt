@@ -18,6 +18,7 @@ use crate::reading::kind::{Kind, Stage, is_stage, kind_of};
 use crate::reading::row::{drive_of, grow_of, row_of};
 use crate::reading::rule::{NO_HEADER, NOT_TWELVE, OUT_OF_PLACE, value};
 use line_text::{LineFault, broken_unless, says};
+use machine_words::KnownBlocks;
 use motion_history::{Builder, TraceVersion};
 use std::alloc::Global;
 use std::marker::Model;
@@ -32,6 +33,7 @@ pub struct TraceReader {
     pub(crate) version: TraceVersion,
     pub(crate) command: Command,
     pub(crate) machine: Builder,
+    pub(crate) known: KnownBlocks,
     pub(crate) cycle: FoundCycle,
     pub(crate) found: Vec<FoundEntry>,
     pub(crate) drives: Vec<DriveEndRow>,
@@ -140,7 +142,7 @@ impl TraceReader {
         ensures { Takes (spec.with_entry self.old
             (events.call_meaning self.old.setup (texts fields.now))) self.new result }
     {
-        let entry = call_of(self.alloc, &self.machine, fields);
+        let entry = call_of(self.alloc, &mut self.known, &self.machine, fields);
         self.push(entry)
     }
 

@@ -13,6 +13,7 @@ use Rattle.fb_outputs.specs.Steps.{edge_of}
 use Rattle.fb_outputs.specs.declared.inputs.Inputs.{Inputs}
 use Rattle.fb_outputs.specs.declared.instance.Edge.{Edge}
 use Rattle.fb_outputs.specs.declared.instance.Edge.TheVariants as edge
+use Rattle.fb_outputs.specs.declared.outputs.Outputs.{Outputs}
 use Rattle.motion_history.specs.Entries.{Entry, call, cycle, end_of}
 use Rattle.motion_history.specs.Setup.{Setup}
 use Rattle.motion_history.specs.declared.config.BlockDef.{BlockDef}
@@ -68,7 +69,7 @@ kind_none : (s : Setup) (x : BlockKind) (e : Edge) (k : ℕ) (b : BlockDef) (i :
 kind_none s kind.Power e k b i m o = (power_none s b.object i.execute m o, untold m o)
 kind_none s _ e k b i m o = edge_none s e k b i m o
 
-call_none : (s : Setup) (at : Option BlockDef) (k : ℕ) (i : Inputs) (m : Machine) (o : Object) →
+pub call_none : (s : Setup) (at : Option BlockDef) (k : ℕ) (i : Inputs) (m : Machine) (o : Object) →
     Quiet (effect_by_call s at k i m o).commands (effect_by_call s at k i m o).changes
 call_none s None k i m o = (tt, untold m o)
 call_none s (Some b) k i m o = kind_none s b.kind (edge_of (instance_at m.instances k).execute i.execute) k b i (with_execute k i m) o
@@ -76,13 +77,17 @@ call_none s (Some b) k i m o = kind_none s b.kind (edge_of (instance_at m.instan
 quiet_done : (k : ℕ) (c : Charge) → c.notes ≡ [] → NoDone k c.notes
 quiet_done k c e = subst (NoDone k) (sym e) tt
 
+pub call_not_done : (s : Setup) (m : Machine) (j : ℕ) (i : Inputs) (reply : Outputs) (k : ℕ) (o : Object) →
+    end_of_command s m (call j i reply) k o ≡ Some finish.Done → ⊥
+call_not_done s m j i reply k o e =
+    let quiet = call_none s (slice_get s.blocks j) j i m o in
+    let x = effect_by_call s (slice_get s.blocks j) j i m o in
+    none_done k _ (all_none k x.changes x.commands quiet.0 (quiet_done k x.commands quiet.1)) e
+
 -- an instance whose command is Done had the active one, or a reset
 pub done_by : (s : Setup) (m : Machine) (e : Entry) (k : ℕ) (o : Object) → AreWhereShown s m → IsThere m o →
     end_of_command s m e k o ≡ Some finish.Done → (active_at m k o ≡ 1) ⊎ ((charge_at m o).reset ≡ Some k)
-done_by s m (call j i reply) k o h l e =
-    let quiet = call_none s (slice_get s.blocks j) j i m o in
-    let x = effect_by_call s (slice_get s.blocks j) j i m o in
-    absurd (none_done k _ (all_none k x.changes x.commands quiet.0 (quiet_done k x.commands quiet.1)) e)
+done_by s m (call j i reply) k o h l e = absurd (call_not_done s m j i reply k o e)
 done_by s m (cycle c rows grows) k o h l e =
     let charge = charge_at m o in
     let xs = changes_in_cycle s m (inputs_of rows) o in

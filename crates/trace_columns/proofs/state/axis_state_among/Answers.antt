@@ -6,7 +6,7 @@ use Rattle.std.proofs.lemmas.Iterator.Search.{find_from_yields_List}
 use Rattle.trace_columns.specs.Columns.{axis_state_of}
 use Rattle.trace_columns.specs.Fields.{axis_state_text}
 use Rattle.trace_columns.specs.declared.state.TheConstants.{AXIS_STATES}
-use Rattle.trace_columns.proofs.state.axis_state_of.Goals as goal
+use Rattle.trace_columns.proofs.state.axis_state_among.Goals as goal
 
 pub returns : goal.returns
 unfolding axis_state_of

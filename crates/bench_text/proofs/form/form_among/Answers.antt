@@ -4,7 +4,7 @@ use Rattle.std.specs.Str.{bytes_eq}
 use Rattle.std.proofs.lemmas.Iterator.{YieldsList-from_slice}
 use Rattle.std.proofs.lemmas.Iterator.Search.{find_from_yields_List}
 use Rattle.bench_text.specs.Forms.{form_of, forms, word_of}
-use Rattle.bench_text.proofs.form.form_of.Goals as goal
+use Rattle.bench_text.proofs.form.form_among.Goals as goal
 
 pub returns : goal.returns
 unfolding form_of

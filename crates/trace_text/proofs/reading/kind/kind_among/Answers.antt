@@ -4,7 +4,7 @@ use Rattle.std.specs.Str.{bytes_eq}
 use Rattle.std.proofs.lemmas.Iterator.{YieldsList-from_slice}
 use Rattle.std.proofs.lemmas.Iterator.Search.{find_from_yields_List}
 use Rattle.trace_text.specs.reading.Kinds.{kind_of, kind_text, kinds}
-use Rattle.trace_text.proofs.reading.kind.kind_of.Goals as goal
+use Rattle.trace_text.proofs.reading.kind.kind_among.Goals as goal
 
 pub returns : goal.returns
 unfolding kind_of

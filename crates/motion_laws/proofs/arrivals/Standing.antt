@@ -1,0 +1,224 @@
+-- A move that is Done in time has a row that shows so.
+use Rattle.std.specs.Prelude.{◌≡◌, ◌≢◌, refl, ℕ, ◌+◌, ◌<◌, ◌≤◌, ℤ, Bool, true, false, if◌then◌else◌, Option, Some, None, List, [], ◌∷◌, ◌++◌, length, slice_get, slice_index_or}
+use Rattle.std.proofs.Common.{arith, ap, sym, subst, ◌∙◌}
+use Rattle.std.proofs.lemmas.List.{append_assoc}
+use Rattle.axis_core.specs.Arrivals.{IsAtEnd, IsTurn, Turn, blended, bound_of, ended, toward, turn_by, turn_of}
+use Rattle.axis_state.specs.declared.definition.AxisRow.{AxisRow}
+use Rattle.buffer_modes.specs.Fates as fate
+use Rattle.buffer_modes.specs.Fates.{Fate, goes_on}
+use Rattle.buffer_modes.specs.Queue.{is_active_at_once}
+use Rattle.command_changes.specs.Fates.{AreAxisFates, AreGroupFates}
+use Rattle.command_core.specs.Changes.{Change, joins, replaced, ends, awaits, resets, holds, changed}
+use Rattle.command_core.specs.Charge.{Charge, queue_of}
+use Rattle.command_core.specs.Fates.{fate_in, fate_of, followed_by}
+use Rattle.command_pool.specs.declared.ending.Finish.{Finish}
+use Rattle.command_pool.specs.declared.ending.Finish.TheVariants as finish
+use Rattle.command_pool.specs.declared.rates.Rates.{Rates}
+use Rattle.command_pool.specs.declared.wanted.Wanted.{Wanted}
+use Rattle.fb_outputs.specs.declared.inputs.Inputs.{Inputs}
+use Rattle.fb_outputs.specs.declared.outputs.Outputs.{Outputs}
+use Rattle.group_state.specs.declared.state.GroupRow.{GroupRow}
+use Rattle.motion_history.specs.Columns.{no_row}
+use Rattle.motion_history.specs.Entries.{Entry, call, cycle, cycle_count, cycles_of, end_of}
+use Rattle.motion_history.specs.Setup.{Setup, IsSetup}
+use Rattle.motion_kernel.proofs.Lists.{get_is}
+use Rattle.motion_kernel.proofs.kept.Machine.{MachinesStayKept}
+use Rattle.motion_kernel.specs.Histories.{IsLegal, IsOf, after, machine_after, replay}
+use Rattle.motion_kernel.specs.Machine.{Machine, axis_at, machine_at_opening}
+use Rattle.motion_kernel.specs.kept.Machine.{AreWhole}
+use Rattle.motion_laws.specs.arrivals.AxisFates.{axis_fate}
+use Rattle.motion_laws.specs.arrivals.Moves.{IsTurnedWithin, MovesArrive, Turned, turned_by, turned_in}
+use Rattle.motion_laws.specs.arrivals.Rows.{RowStands, RowsStand, StandsBy, StandsWithin}
+use Rattle.motion_laws.specs.entries.Rows.{RowsShow}
+use Rattle.motion_laws.specs.owners.Objects.{an_axis}
+use Rattle.motion_laws.specs.results.Effects.{effect_by_call}
+use Rattle.motion_laws.proofs.Histories.{legal_so_far}
+use Rattle.motion_laws.proofs.arrivals.Moves.{behind}
+use Rattle.motion_laws.proofs.results.Comes.{after_more}
+use Rattle.motion_laws.proofs.results.Stays.{machine_kept}
+use Rattle.motion_laws.proofs.results.outcomes.Done.{EndsNoneDone}
+use Rattle.motion_laws.proofs.results.outcomes.DoneBy.{call_none}
+use Rattle.motion_laws.proofs.results.outcomes.Fates.{same_ends}
+
+-- changes that make nothing Done end no command so
+abbrev NotDone : Option Finish → Type 0
+NotDone o = o ≢ Some finish.Done
+
+followed_not : (e : Option Finish) (b : Option Wanted) (g : Fate) → NotDone e → NotDone g.ends → NotDone (followed_by e b g).ends
+followed_not None None g h k = k
+followed_not None (Some w) g h k = h
+followed_not (Some f) b g h k = h
+
+replaced_not : (f : Finish) (before next : Option Wanted) → f ≢ finish.Done → NotDone (fate.replaced f before next).ends
+replaced_not f None next h = λ e. cc
+replaced_not f (Some w) next h = λ e. h (cc)
+
+joined_not : (b : Bool) (before : Option Wanted) (w : Wanted) →
+    NotDone (let f : Fate = if b then fate.replaced finish.Aborted before (Some w) else goes_on in f).ends
+joined_not true before w = replaced_not finish.Aborted before (Some w) (λ e. cc)
+joined_not false before w = λ e. cc
+
+fate_not : (xs : List Change) (c : Charge) → EndsNoneDone xs → NotDone (fate_in xs c).ends
+fate_not [] c h = λ e. cc
+fate_not (holds stops ∷ xs) c h = followed_not None None (fate_in xs (changed (holds stops) c)) (λ e. cc) (fate_not xs (changed (holds stops) c) h)
+fate_not (joins w ∷ xs) c h =
+    followed_not (fate_of (joins w) c).ends (fate_of (joins w) c).begins (fate_in xs (changed (joins w) c))
+    (joined_not (is_active_at_once (queue_of c) w) c.active w) (fate_not xs (changed (joins w) c) h)
+fate_not (awaits owner ∷ xs) c h = followed_not None None (fate_in xs (changed (awaits owner) c)) (λ e. cc) (fate_not xs (changed (awaits owner) c) h)
+fate_not (replaced (finish.Error n) next ws ∷ xs) c h =
+    let x : Change = replaced (finish.Error n) next ws in
+    followed_not (fate_of x c).ends (fate_of x c).begins (fate_in xs (changed x c)) (replaced_not (finish.Error n) c.active next (λ e. cc)) (fate_not xs (changed x c) h)
+fate_not (replaced finish.Aborted next ws ∷ xs) c h =
+    let x : Change = replaced finish.Aborted next ws in
+    followed_not (fate_of x c).ends (fate_of x c).begins (fate_in xs (changed x c)) (replaced_not finish.Aborted c.active next (λ e. cc)) (fate_not xs (changed x c) h)
+fate_not (replaced finish.Done next ws ∷ xs) c h = absurd h
+fate_not (ends f t ∷ xs) c h = absurd h
+fate_not (resets ∷ xs) c h = absurd h
+
+-- where the turn of an axis is
+record Found (s : Setup) (n : ℕ) (m : Machine) (es : List Entry) (t : Turned) : Type 0 where
+  before : List Entry
+  entry : Entry
+  rest : List Entry
+  split : es ≡ before ++ entry ∷ rest
+  cycles : cycles_of before + cycle_count entry ≡ t.cycles
+  machine : t.machine ≡ after s (replay s m before) entry
+  turn : turn_of (axis_fate s (replay s m before) entry n) ≡ Some t.turn
+
+some_same : {X : Type 0} (x y : X) → Some x ≡ Some y → x ≡ y
+some_same x y e = cc
+
+found_later : (s : Setup) (n : ℕ) (m : Machine) (e : Entry) (es : List Entry) (t u : Turned) → Found s n (after s m e) es u →
+    (let x : Turned = record u { cycles = cycle_count e + u.cycles } in x) ≡ t → Found s n m (e ∷ es) t
+found_later s n m e es t u f same = record {
+  before = e ∷ f.before;
+  entry = f.entry;
+  rest = f.rest;
+  split = ap (λ xs. e ∷ xs) f.split;
+  cycles = let c = f.cycles in let d = ap (λ (x : Turned). x.cycles) same in omega arith;
+  machine = sym (ap (λ (x : Turned). x.machine) same) ∙ f.machine;
+  turn = f.turn ∙ ap (λ (x : Turned). Some x.turn) same;
+}
+
+found_here : (s : Setup) (n : ℕ) (m : Machine) (e : Entry) (es : List Entry) (t : Turned) (turn : Turn) → turn_of (axis_fate s m e n) ≡ Some turn →
+    (let x : Turned = record { cycles = cycle_count e; turn = turn; machine = after s m e } in x) ≡ t → Found s n m (e ∷ es) t
+found_here s n m e es t turn at same = record {
+  before = [];
+  entry = e;
+  rest = es;
+  split = refl;
+  cycles = let d = ap (λ (x : Turned). x.cycles) same in omega arith;
+  machine = sym (ap (λ (x : Turned). x.machine) same);
+  turn = at ∙ ap (λ (x : Turned). Some x.turn) same;
+}
+
+found_by : (s : Setup) (n : ℕ) (m : Machine) (e : Entry) (es : List Entry) (t : Turned) (o : Option Turn) → turn_of (axis_fate s m e n) ≡ o →
+    (r : Option Turned) → ((u : Turned) → r ≡ Some u → Found s n (after s m e) es u) → turned_by o (cycle_count e) (after s m e) r ≡ Some t →
+    Found s n m (e ∷ es) t
+found_by s n m e es t (Some u) at r rec is = found_here s n m e es t u at (some_same _ t is)
+found_by s n m e es t None at None rec is = absurd (cc)
+found_by s n m e es t None at (Some u) rec is = found_later s n m e es t u (rec u refl) (some_same _ t is)
+
+found : (s : Setup) (n : ℕ) (m : Machine) (es : List Entry) (t : Turned) → turned_in s n m es ≡ Some t → Found s n m es t
+found s n m [] t is = absurd (cc)
+found s n m (e ∷ es) t is =
+    found_by s n m e es t (turn_of (axis_fate s m e n)) refl (turned_in s n (after s m e) es) (λ u at. found s n (after s m e) es u at) is
+
+-- a turn that is Done is one of a cycle
+turn_done : (f : Fate) → turn_of f ≡ Some (ended finish.Done) → f.ends ≡ Some finish.Done
+turn_done f e = by f.blends f.ends e
+  where
+    by : (b : Bool) (o : Option Finish) → turn_by b o ≡ Some (ended finish.Done) → o ≡ Some finish.Done
+    by true o h = absurd (cc)
+    by false None h = absurd (cc)
+    by false (Some g) h = cc
+
+call_not : AreAxisFates → AreGroupFates → (s : Setup) (m : Machine) (k : ℕ) (i : Inputs) (reply : Outputs) (n : ℕ) →
+    (axis_fate s m (call k i reply) n).ends ≡ Some finish.Done → ⊥
+call_not axes groups s m k i reply n e =
+    let x = effect_by_call s (slice_get s.blocks k) k i m (an_axis n) in
+    let quiet = call_none s (slice_get s.blocks k) k i m (an_axis n) in
+    fate_not x.changes x.commands quiet.0 (same_ends axes groups s m (call k i reply) (an_axis n) ∙ e)
+
+-- the laws on which it rests
+pub record StandLaws : Type 0 where
+  pub machines : MachinesStayKept
+  pub axes : AreAxisFates
+  pub groups : AreGroupFates
+  pub rows : (s : Setup) (made more : List Entry) (e : Entry) → IsSetup s → AreWhole s → IsLegal s (made ++ e ∷ more) →
+      RowsShow (after s (machine_after s made) e) e
+  pub moves : (s : Setup) (es : List Entry) → IsSetup s → AreWhole s → IsLegal s es → MovesArrive s es
+
+entry_of : (s : Setup) (made more : List Entry) (e : Entry) → IsLegal s (made ++ e ∷ more) → IsOf s (0 + cycles_of made) (machine_after s made) e
+unfolding machine_after
+entry_of s made more e legal = (behind s 0 (machine_at_opening s) made (e ∷ more) legal.follows).0
+
+-- its row
+cycle_stands : StandLaws → (s : Setup) (so_far rest : List Entry) (c : ℕ) (rows : List AxisRow) (grows : List GroupRow) (n : ℕ) (target : ℤ) → IsSetup s → AreWhole s →
+    IsLegal s (so_far ++ cycle c rows grows ∷ rest) → n < length s.axes → (axis_at (after s (machine_after s so_far) (cycle c rows grows)) n).setpoint ≡ target →
+    (slice_get rows n ≡ Some (slice_index_or rows n no_row)) × ((slice_index_or rows n no_row).setpoint ≡ target)
+cycle_stands laws s so_far rest c rows grows n target setup whole legal l at =
+    let is = (entry_of s so_far rest (cycle c rows grows) legal).1 in
+    let kept = machine_kept laws.machines s so_far setup whole (legal_so_far s so_far (cycle c rows grows ∷ rest) legal) in
+    let sizes = kept.sized in
+    let axes = sizes.axes in
+    let answers = is.answers in
+    let has = get_is rows n no_row (omega arith) in
+    let shows = (laws.rows s so_far rest (cycle c rows grows) setup whole legal).axes n (slice_index_or rows n no_row) has in
+    (has, shows.setpoint ∙ at)
+
+stands_in : StandLaws → (s : Setup) (made more : List Entry) (e : Entry) (n : ℕ) (target : ℤ) (rates : Rates) (most : ℕ) (t : Turned) → IsSetup s → AreWhole s →
+    IsLegal s (made ++ e ∷ more) → n < length s.axes → Found s n (after s (machine_after s made) e) more t → t.turn ≡ ended finish.Done → t.cycles ≤ most →
+    IsAtEnd (toward target rates) (axis_at t.machine n) → (x : Entry) → (before rest : List Entry) → more ≡ before ++ x ∷ rest →
+    cycles_of before + cycle_count x ≡ t.cycles → t.machine ≡ after s (replay s (after s (machine_after s made) e) before) x →
+    turn_of (axis_fate s (replay s (after s (machine_after s made) e) before) x n) ≡ Some (ended finish.Done) →
+    RowStands s (after s (machine_after s made) e) n target most more
+stands_in laws s made more e n target rates most t setup whole legal l f done few at (call k i reply) before rest split cycles machine turn =
+    absurd (call_not laws.axes laws.groups s (replay s (after s (machine_after s made) e) before) k i reply n
+    (turn_done (axis_fate s (replay s (after s (machine_after s made) e) before) (call k i reply) n) turn))
+stands_in laws s made more e n target rates most t setup whole legal l f done few at (end_of task) before rest split cycles machine turn = absurd (cc)
+stands_in laws s made more e n target rates most t setup whole legal l f done few at (cycle c rows grows) before rest split cycles machine turn =
+    let m = after s (machine_after s made) e in
+    let so_far = made ++ e ∷ before in
+    let all : made ++ e ∷ more ≡ so_far ++ cycle c rows grows ∷ rest =
+    ap (λ xs. made ++ e ∷ xs) split ∙ sym (append_assoc made (e ∷ before) (cycle c rows grows ∷ rest)) in
+    let same : machine_after s so_far ≡ replay s m before = after_more s made before e in
+    let setpoint : (axis_at (after s (machine_after s so_far) (cycle c rows grows)) n).setpoint ≡ target =
+    ap (λ y. (axis_at (after s y (cycle c rows grows)) n).setpoint) same ∙ ap (λ y. (axis_at y n).setpoint) (sym machine) ∙ at.0 in
+    let shown = cycle_stands laws s so_far rest c rows grows n target setup whole (subst (IsLegal s) all legal) l setpoint in
+    record {
+      before = before;
+      number = c;
+      rows = rows;
+      grows = grows;
+      behind = rest;
+      split = split;
+      in_time = omega arith;
+      row = slice_index_or rows n no_row;
+      of_axis = shown.0;
+      there = shown.1;
+      at_rest = ap (λ y. (axis_at y n).previous) (sym machine) ∙ at.1;
+    }
+
+turned_stands : StandLaws → (s : Setup) (made more : List Entry) (e : Entry) (n : ℕ) (target : ℤ) (rates : Rates) (most : ℕ) → IsSetup s → AreWhole s →
+    IsLegal s (made ++ e ∷ more) → n < length s.axes → (o : Option Turned) → turned_in s n (after s (machine_after s made) e) more ≡ o →
+    IsTurnedWithin most (toward target rates) n o → StandsWithin s (after s (machine_after s made) e) n target most more o
+turned_stands laws s made more e n target rates most setup whole legal l None at h = h
+turned_stands laws s made more e n target rates most setup whole legal l (Some t) at h = by t.turn refl h.1
+  where
+    by : (u : Turn) → t.turn ≡ u → IsTurn u (toward target rates) (axis_at t.machine n) → StandsBy s (after s (machine_after s made) e) n target most more u
+    by (ended finish.Done) is end =
+        let f = found s n (after s (machine_after s made) e) more t at in
+        stands_in laws s made more e n target rates most t setup whole legal l f is h.0 end f.entry f.before f.rest f.split f.cycles f.machine
+        (f.turn ∙ ap Some is)
+    by (ended finish.Aborted) is end = tt
+    by (ended (finish.Error error)) is end = tt
+    by blended is end = tt
+
+pub rows_stand : StandLaws → (s : Setup) (es : List Entry) → IsSetup s → AreWhole s → IsLegal s es → RowsStand s es
+rows_stand laws s es setup whole legal made more e n w target rates is l begins course few =
+    let m = after s (machine_after s made) e in
+    let most = bound_of (toward target rates) (axis_at m n) in
+    let moves = laws.moves s es setup whole legal made more e n is l in
+    turned_stands laws s made more e n target rates most setup whole (subst (IsLegal s) is legal) l (turned_in s n m more) refl
+    (moves.in_time w (toward target rates) begins course few)

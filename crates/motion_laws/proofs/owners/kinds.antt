@@ -1,0 +1,4 @@
+-- Commands are of the kinds of their instances' blocks.
+pub mod Changes
+pub mod Tables
+pub mod Kept
