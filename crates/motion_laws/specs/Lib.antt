@@ -1,4 +1,5 @@
 pub mod owners
+pub mod calls
 pub mod limits
 pub mod entries
 pub mod arrivals

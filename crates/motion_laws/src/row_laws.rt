@@ -1,6 +1,6 @@
 // Laws of rows: each is the contract of a function that does nothing.
 
-ghost use Rattle.std.specs.Prelude.{ℕ, List, ◌∷◌, ◌++◌};
+ghost use Rattle.std.specs.Prelude.{List, ◌∷◌, ◌++◌};
 ghost use Rattle.axis_state.specs.declared.definition.AxisRow.{AxisRow};
 ghost use Rattle.group_state.specs.declared.state.GroupRow.{GroupRow};
 ghost use Rattle.motion_history.specs.Entries.{Entry};

@@ -247,7 +247,7 @@ power_not_done false c = by_if IsNotDone (is_error_stop c.axis.state) _ _ goes_o
 not_done_by : (a : Axis) (ws : List Wanted) → IsByFate AnyAsked a ws (λ f x us. IsNotDone f)
 not_done_by a ws = record {
   rests = goes_on_not_done;
-  led = λ owner on x h. goes_on_not_done;
+  beside = λ owner s j k answer m n l free. goes_on_not_done;
   detach = λ owner. goes_on_not_done;
   power = λ enable c e _. power_not_done enable c;
   command = λ owner q c e _ _. command_not_done q c;

@@ -1,12 +1,12 @@
--- What a call makes of an axis, and of what waits for it, goes with the fate of its active command.
+-- What a call makes of an axis, and of what waits for it, goes with what it says of the axis: with
+-- the fate of its active command, and with its events.
 use Rattle.std.specs.Prelude.{◌≡◌, ◌⊎◌, refl, ℕ, zero, suc, ◌<◌, Bool, true, false, if◌then◌else◌, is_some, nat_eq, Option, Some, None, Result, List, [], ◌∷◌, length, map, slice_get, slice_set}
 use Rattle.std.proofs.Common.{arith, ap, sym, subst, ◌∙◌, inl, inr}
 use Rattle.std.proofs.lemmas.Bool.{eqb-false, eqb-true}
 use Rattle.std.proofs.lemmas.List.{get_or-map, length-map, length-set}
 use Rattle.axis_core.specs.Calls.{axis_without_owner, core_after_command, core_after_power}
 use Rattle.axis_core.specs.Cores as cores
-use Rattle.buffer_modes.specs.Fates.{Fate, goes_on}
-use Rattle.axis_core.specs.Fates.{command_fate, power_fate}
+use Rattle.buffer_modes.specs.Fates.{Fate}
 use Rattle.axis_core.specs.Refusals.{Asked}
 use Rattle.axis_core.specs.blocks.Path.{axis_on_path, is_on_path}
 use Rattle.axis_core.specs.declared.axis.Axis.{Axis}
@@ -24,7 +24,9 @@ use Rattle.group_core.specs.Calls.{answer_of, commanded, powered_off}
 use Rattle.motion_history.specs.Setup.{Setup}
 use Rattle.motion_history.specs.declared.config.BlockDef.{BlockDef}
 use Rattle.motion_kernel.specs.calls.Asking.{wanted_of}
-use Rattle.motion_laws.specs.arrivals.AxisFates.{fate_by_call, fate_by_edge, fate_by_kind, fate_by_rising}
+use Rattle.motion_laws.specs.arrivals.AxisFates.{fate_words}
+use Rattle.motion_laws.specs.calls.Axis as words
+use Rattle.motion_laws.specs.calls.Axis.{Words, by_edge, by_kind, by_rising}
 use Rattle.motion_kernel.specs.calls.Calls.{after_asking, after_axis_command, after_call, after_edge, after_group_command, after_power, after_rising, asked_of_axis, axes_led, axis_led, called, called_where, enters_path, group_without_power, leaves_path, members_led, with_axis_core, with_execute, with_group_core, without_owner}
 use Rattle.motion_kernel.specs.looks.GroupLooks.{group_look}
 use Rattle.motion_kernel.specs.Machine.{Machine, axis_among, axis_at, axis_core_at, group_core_at, instance_at, no_axis}
@@ -32,7 +34,7 @@ use Rattle.motion_kernel.specs.members.Members.{members_at, membership_of}
 use Rattle.motion_kernel.specs.declared.memberships.Membership.{Membership}
 use Rattle.motion_kernel.proofs.kept.Events.{axis_beside_axis, axis_beside_group, axis_written}
 use Rattle.motion_kernel.proofs.Sizes.{by_if}
-use Rattle.motion_laws.proofs.walk.ByTest.{both}
+use Rattle.motion_laws.proofs.walk.ByTest.{both, one}
 use Rattle.motion_kernel.proofs.kept.LedAxes.{led_twice}
 
 -- an axis as it was, or led on a path, or from it
@@ -43,34 +45,25 @@ Led on a b = (b ≡ a) ⊎ (b ≡ axis_led on a)
 abbrev pub AnyAsked : Asked → cores.Core → Type 0
 AnyAsked q c = Unit {0}
 
--- a property of an axis and of what waits for it after a call, by the fate of its active command,
--- that every event of the axis gives it, where a command is asked so
-pub record IsByFate (Well : Asked → cores.Core → Type 0) (a : Axis) (ws : List Wanted)
-    (P : Fate → Axis → List Wanted → Type 0) : Type 0 where
-  pub rests : P goes_on a ws
-  pub led : (owner : ℕ) (on : Bool) (x : Axis) → Led on (axis_without_owner owner a) x →
-      P goes_on x (map (detached owner) ws)
-  pub detach : (owner : ℕ) → P goes_on (axis_without_owner owner a) (map (detached owner) ws)
+-- a property of an axis and of what waits for it after a call, by what the call says of it, that
+-- every event of the axis gives it, where a command is asked so
+pub record IsSaid {A : Type 0} (v : Words A) (Well : Asked → cores.Core → Type 0) (a : Axis) (ws : List Wanted)
+    (P : A → Axis → List Wanted → Type 0) : Type 0 where
+  pub rests : P v.rests a ws
+  pub beside : (owner : ℕ) (s : Setup) (j : ℕ) (kind : BlockKind) (answer : Result Bool Refusal) (m : Machine) (n : ℕ) →
+      n < length m.axes → axis_at m n ≡ axis_without_owner owner a →
+      P (v.beside s j kind answer (axis_at m n) n) (axis_at (members_led s j kind answer m) n) (map (detached owner) ws)
+  pub detach : (owner : ℕ) → P v.rests (axis_without_owner owner a) (map (detached owner) ws)
   pub power : (enable : Bool) (c : cores.Core) → c.axis ≡ a → c.waiting ≡ ws →
-      P (power_fate enable c) (core_after_power enable c).axis (core_after_power enable c).waiting
+      P (v.power enable c) (core_after_power enable c).axis (core_after_power enable c).waiting
   pub command : (owner : ℕ) (q : Asked) (c : cores.Core) → c.axis ≡ axis_without_owner owner a →
       c.waiting ≡ map (detached owner) ws → Well q c →
-      P (command_fate q c) (core_after_command q c).axis (core_after_command q c).waiting
-
--- so it is of an axis of the machine
-abbrev pub At : (Fate → Axis → List Wanted → Type 0) → Fate → Machine → ℕ → Type 0
-At P f m n = P f (axis_at m n) (queue_of m.queues n)
+      P (v.asked q c) (core_after_command q c).axis (core_after_command q c).waiting
 
 -- an axis of the machine has its list
 pub record IsThere (m : Machine) (n : ℕ) : Type 0 where
   pub axis : n < length m.axes
   pub list : n < length m.queues
-
--- a test decides the fate alone
-one_fate : (P : Fate → Machine → Type 0) (b : Bool) (f g : Fate) (x : Machine) →
-    (b ≡ true → P f x) → (b ≡ false → P g x) → P (if b then f else g) x
-one_fate P true f g x h k = h refl
-one_fate P false f g x h k = k refl
 
 -- an owner that is taken away
 pub freed : (k : ℕ) (m : Machine) (n : ℕ) → n < length m.axes →
@@ -146,80 +139,21 @@ led_by a P path h on x led = elim led [
   | inr e ↦ subst P (sym e) (path_led P path on a h)
 ]
 
--- a command that is asked of a group moves no axis's command
-group_command : {W : Asked → cores.Core → Type 0} (a : Axis) (ws : List Wanted) (P : Fate → Axis → List Wanted → Type 0) →
-    IsByFate W a ws P → (s : Setup) (k j : ℕ) (kind : BlockKind) (i : Inputs) (m : Machine) (n : ℕ) →
-    n < length m.axes → axis_at m n ≡ axis_without_owner k a → queue_of m.queues n ≡ map (detached k) ws →
-    At P goes_on (after_group_command s k j kind i m) n
-unfolding after_group_command
-group_command a ws P laws s k j kind i m n l free waits =
-    let w = wanted_of k kind i in
-    let look = group_look s m j 0 in
-    let c = commanded w i.jerk look (group_core_at m j) in
-    let y = with_group_core m j c in
-    let answer = answer_of w i.jerk look (group_core_at m j) in
-    let z = members_led s j kind answer y in
-    let same = axis_beside_group m j n c l in
-    let led = members_are_led s j kind answer y n in
-    let is = ap (λ (d : cores.Core). d.axis) same ∙ free in
-    let queue = ap (λ qs. queue_of qs n) led.queues ∙ ap (λ (d : cores.Core). d.waiting) same ∙ waits in
-    subst (P goes_on (axis_at z n)) (sym queue)
-    (laws.led k led.on (axis_at z n) (subst (λ x. Led led.on x (axis_at z n)) is led.axis))
-
--- a command that is asked of this axis, or of another one
-axis_command : {W : Asked → cores.Core → Type 0} (a : Axis) (ws : List Wanted) (P : Fate → Axis → List Wanted → Type 0) →
-    IsByFate W a ws P → (s : Setup) (k o : ℕ) (kind : BlockKind) (i : Inputs) (m : Machine) (n : ℕ) →
-    n < length m.axes → n < length m.queues → axis_at m n ≡ axis_without_owner k a →
-    queue_of m.queues n ≡ map (detached k) ws →
-    (nat_eq o n ≡ true → W (asked_of_axis s k n kind i m) (axis_core_at m n)) →
-    At P (if nat_eq o n then command_fate (asked_of_axis s k n kind i m) (axis_core_at m n)
-    else goes_on) (after_axis_command s k o kind i m) n
-unfolding after_axis_command
-axis_command a ws P laws s k o kind i m n l b free waits well =
-    let q = asked_of_axis s k o kind i m in
-    one_fate (λ f x. At P f x n) (nat_eq o n) _ _ (after_axis_command s k o kind i m)
-    (λ e. let same = eqb-true o n e in
-    let f = command_fate (asked_of_axis s k n kind i m) (axis_core_at m n) in
-    let c = core_after_command (asked_of_axis s k n kind i m) (axis_core_at m n) in
-    let here : P f c.axis c.waiting =
-    laws.command k (asked_of_axis s k n kind i m) (axis_core_at m n) free waits (well e) in
-    rw same (subst (λ (d : cores.Core). P f d.axis d.waiting) (sym (axis_written m n c l b)) here))
-    (λ e. subst (λ (d : cores.Core). P goes_on d.axis d.waiting)
-    (sym (axis_beside_axis m o n (core_after_command q (axis_core_at m o))
-    (λ same. eqb-false o n e (sym same))))
-    (subst (P goes_on (axis_at m n)) (sym waits)
-    (subst (λ (x : Axis). P goes_on x (map (detached k) ws)) (sym free) (laws.detach k))))
+-- what every axis keeps that is led goes with a command that is asked of a group
+pub beside_by : (a : Axis) (ws : List Wanted) (P : Axis → List Wanted → Type 0) →
+    ((owner : ℕ) (on : Bool) (x : Axis) → Led on (axis_without_owner owner a) x → P x (map (detached owner) ws)) →
+    (owner : ℕ) (s : Setup) (j : ℕ) (kind : BlockKind) (answer : Result Bool Refusal) (m : Machine) (n : ℕ) →
+    n < length m.axes → axis_at m n ≡ axis_without_owner owner a →
+    P (axis_at (members_led s j kind answer m) n) (map (detached owner) ws)
+beside_by a ws P h owner s j kind answer m n l free =
+    let led = members_are_led s j kind answer m n in
+    let x = axis_at (members_led s j kind answer m) n in
+    h owner led.on x (subst (λ y. Led led.on y x) free led.axis)
 
 -- what a rising edge asks of the axis is asked so
 abbrev pub AsksWell : (Asked → cores.Core → Type 0) → Setup → ℕ → BlockDef → Inputs → Machine → ℕ → Type 0
 AsksWell W s k b i m n = acts_on_group b.kind ≡ false → nat_eq b.object n ≡ true →
     W (asked_of_axis s k n b.kind i (without_owner k m)) (axis_core_at (without_owner k m) n)
-
--- a rising edge
-rising : {W : Asked → cores.Core → Type 0} (P : Fate → Axis → List Wanted → Type 0) (s : Setup) (k : ℕ) (b : BlockDef) (i : Inputs)
-    (m : Machine) (n : ℕ) → IsByFate W (axis_at m n) (queue_of m.queues n) P → IsThere m n →
-    AsksWell W s k b i m n → At P (fate_by_rising s k b i m n) (after_rising s k b i m) n
-rising P s k b i m n laws l well =
-    let a = axis_at m n in
-    let ws = queue_of m.queues n in
-    let free = without_owner k m in
-    let is = freed k m n l.axis in
-    let waits = freed_waiting k m n l.list in
-    let count = freed_count k m in
-    let lists = freed_lists k m in
-    let here = l.axis in
-    let there = l.list in
-    both (λ f x. At P f x n) (acts_on_group b.kind) _ _ _ _
-    (λ e. group_command a ws P laws s k b.object b.kind i free n (omega arith) is waits)
-    (λ e. axis_command a ws P laws s k b.object b.kind i free n (omega arith) (omega arith) is waits (well e))
-
-edges : {W : Asked → cores.Core → Type 0} (P : Fate → Axis → List Wanted → Type 0) (s : Setup) (e : Edge) (k : ℕ) (b : BlockDef) (i : Inputs)
-    (m : Machine) (n : ℕ) → IsByFate W (axis_at m n) (queue_of m.queues n) P → IsThere m n →
-    AsksWell W s k b i m n → At P (fate_by_edge s e k b i m n) (after_edge s e k b i m) n
-edges P s edge.Rising k b i m n laws l well = rising P s k b i m n laws l well
-edges P s edge.High k b i m n laws l well = laws.rests
-edges P s edge.Falling k b i m n laws l well = laws.rests
-edges P s edge.Low k b i m n laws l well = laws.rests
 
 -- a Power of this axis, or of another one
 group_off : (o : Option Membership) (m : Machine) (n : ℕ) → n < length m.axes →
@@ -228,7 +162,7 @@ group_off None m n l = refl
 group_off (Some at) m n l =
     axis_beside_group m at.group n (powered_off (group_core_at m at.group)) l
 
-pub powered : (s : Setup) (o : ℕ) (enable : Bool) (m : Machine) (n : ℕ) → n < length m.axes →
+powered : (s : Setup) (o : ℕ) (enable : Bool) (m : Machine) (n : ℕ) → n < length m.axes →
     axis_core_at (after_power s o enable m) n
     ≡ axis_core_at (with_axis_core m o (core_after_power enable (axis_core_at m o))) n
 unfolding after_power
@@ -238,44 +172,116 @@ powered s o false m n l =
     let size = length-set m.axes o c.axis in
     group_off (membership_of s o) (with_axis_core m o c) n (omega arith)
 
-powers : {W : Asked → cores.Core → Type 0} (P : Fate → Axis → List Wanted → Type 0) (s : Setup) (o : ℕ) (enable : Bool) (m : Machine)
-    (n : ℕ) → IsByFate W (axis_at m n) (queue_of m.queues n) P → IsThere m n →
-    At P (if nat_eq o n then power_fate enable (axis_core_at m n) else goes_on)
-    (after_power s o enable m) n
-powers P s o enable m n laws l =
-    let now = powered s o enable m n l.axis in
-    one_fate (λ f x. At P f x n) (nat_eq o n) _ _ (after_power s o enable m)
-    (λ e. let same = eqb-true o n e in
-    let c = core_after_power enable (axis_core_at m n) in
-    let all : axis_core_at (after_power s o enable m) n ≡ record c { notes = [] } =
-    now ∙ ap (λ x. axis_core_at (with_axis_core m x (core_after_power enable (axis_core_at m x))) n)
-    same ∙ axis_written m n c l.axis l.list in
-    subst (λ (d : cores.Core). P (power_fate enable (axis_core_at m n)) d.axis d.waiting) (sym all)
-    (laws.power enable (axis_core_at m n) refl refl))
-    (λ e. subst (λ (d : cores.Core). P goes_on d.axis d.waiting)
-    (sym (now ∙ axis_beside_axis m o n (core_after_power enable (axis_core_at m o))
-    (λ same. eqb-false o n e (sym same)))) laws.rests)
+module _ {A : Type 0} (v : Words A) (P : A → Axis → List Wanted → Type 0) (W : Asked → cores.Core → Type 0) where
+  -- so it is of an axis of the machine
+  abbrev At : A → Machine → ℕ → Type 0
+  At f m n = P f (axis_at m n) (queue_of m.queues n)
 
-kinds : {W : Asked → cores.Core → Type 0} (P : Fate → Axis → List Wanted → Type 0) (s : Setup) (kind : BlockKind) (e : Edge) (k : ℕ)
-    (b : BlockDef) (i : Inputs) (m : Machine) (n : ℕ) → b.kind ≡ kind → IsByFate W (axis_at m n) (queue_of m.queues n) P → IsThere m n →
-    (is_power b.kind ≡ false → AsksWell W s k b i m n) →
-    At P (fate_by_kind s kind e k b i m n) (after_asking s kind e k b i m) n
-kinds P s kind.Power e k b i m n is laws l well = powers P s b.object i.execute m n laws l
-kinds P s _ e k b i m n is laws l well = edges P s e k b i m n laws l (well (ap is_power is))
+  -- a command that is asked of a group
+  group_command : (a : Axis) (ws : List Wanted) → IsSaid v W a ws P → (s : Setup) (k j : ℕ) (kind : BlockKind) (i : Inputs) (m : Machine) (n : ℕ) →
+      n < length m.axes → axis_at m n ≡ axis_without_owner k a → queue_of m.queues n ≡ map (detached k) ws →
+      At (v.beside s j kind (answer_of (wanted_of k kind i) i.jerk (group_look s m j 0) (group_core_at m j)) (axis_at m n) n)
+      (after_group_command s k j kind i m) n
+  unfolding after_group_command
+  group_command a ws laws s k j kind i m n l free waits =
+      let w = wanted_of k kind i in
+      let look = group_look s m j 0 in
+      let c = commanded w i.jerk look (group_core_at m j) in
+      let y = with_group_core m j c in
+      let answer = answer_of w i.jerk look (group_core_at m j) in
+      let z = members_led s j kind answer y in
+      let led = members_are_led s j kind answer y n in
+      let queue = ap (λ qs. queue_of qs n) led.queues ∙ ap (λ (d : cores.Core). d.waiting) (axis_beside_group m j n c l) ∙ waits in
+      subst (P (v.beside s j kind answer (axis_at m n) n) (axis_at z n)) (sym queue) (laws.beside k s j kind answer y n l free)
 
-calls : {W : Asked → cores.Core → Type 0} (P : Fate → Axis → List Wanted → Type 0) (s : Setup) (o : Option BlockDef) (k : ℕ) (i : Inputs)
-    (m : Machine) (n : ℕ) → IsByFate W (axis_at m n) (queue_of m.queues n) P → IsThere m n →
-    ((b : BlockDef) → o ≡ Some b → is_power b.kind ≡ false → AsksWell W s k b i (with_execute k i m) n) →
-    At P (fate_by_call s o k i m n) (called_where s o k i m) n
-calls P s None k i m n laws l well = laws.rests
-calls P s (Some b) k i m n laws l well =
-    kinds P s b.kind (edge_of (instance_at m.instances k).execute i.execute) k b i
-    (with_execute k i m) n refl laws (record { axis = l.axis; list = l.list }) (well b refl)
+  -- a command that is asked of this axis, or of another one
+  axis_command : (a : Axis) (ws : List Wanted) → IsSaid v W a ws P → (s : Setup) (k o : ℕ) (kind : BlockKind) (i : Inputs) (m : Machine) (n : ℕ) →
+      IsThere m n → axis_at m n ≡ axis_without_owner k a → queue_of m.queues n ≡ map (detached k) ws →
+      (nat_eq o n ≡ true → W (asked_of_axis s k n kind i m) (axis_core_at m n)) →
+      At (if nat_eq o n then v.asked (asked_of_axis s k n kind i m) (axis_core_at m n) else v.rests) (after_axis_command s k o kind i m) n
+  unfolding after_axis_command
+  axis_command a ws laws s k o kind i m n there free waits well =
+      let q = asked_of_axis s k o kind i m in
+      one (λ f. At f (after_axis_command s k o kind i m) n) (nat_eq o n) _ _
+      (λ e. let same = eqb-true o n e in
+      let f = v.asked (asked_of_axis s k n kind i m) (axis_core_at m n) in
+      let c = core_after_command (asked_of_axis s k n kind i m) (axis_core_at m n) in
+      let here : P f c.axis c.waiting =
+      laws.command k (asked_of_axis s k n kind i m) (axis_core_at m n) free waits (well e) in
+      rw same (subst (λ (d : cores.Core). P f d.axis d.waiting) (sym (axis_written m n c there.axis there.list)) here))
+      (λ e. subst (λ (d : cores.Core). P v.rests d.axis d.waiting)
+      (sym (axis_beside_axis m o n (core_after_command q (axis_core_at m o))
+      (λ same. eqb-false o n e (sym same))))
+      (subst (P v.rests (axis_at m n)) (sym waits)
+      (subst (λ (x : Axis). P v.rests x (map (detached k) ws)) (sym free) (laws.detach k))))
 
--- what a call makes of an axis
+  -- a rising edge
+  rising : (s : Setup) (k : ℕ) (b : BlockDef) (i : Inputs) (m : Machine) (n : ℕ) → IsSaid v W (axis_at m n) (queue_of m.queues n) P → IsThere m n →
+      AsksWell W s k b i m n → At (by_rising v s k b i m n) (after_rising s k b i m) n
+  rising s k b i m n laws l well =
+      let a = axis_at m n in
+      let ws = queue_of m.queues n in
+      let free = without_owner k m in
+      let is = freed k m n l.axis in
+      let waits = freed_waiting k m n l.list in
+      let count = freed_count k m in
+      let lists = freed_lists k m in
+      let here = l.axis in
+      let there = l.list in
+      both (λ f x. At f x n) (acts_on_group b.kind) _ _ _ _
+      (λ e. group_command a ws laws s k b.object b.kind i free n (omega arith) is waits)
+      (λ e. axis_command a ws laws s k b.object b.kind i free n (record { axis = omega arith; list = omega arith }) is waits (well e))
+
+  edges : (s : Setup) (e : Edge) (k : ℕ) (b : BlockDef) (i : Inputs) (m : Machine) (n : ℕ) → IsSaid v W (axis_at m n) (queue_of m.queues n) P → IsThere m n →
+      AsksWell W s k b i m n → At (by_edge v s e k b i m n) (after_edge s e k b i m) n
+  edges s edge.Rising k b i m n laws l well = rising s k b i m n laws l well
+  edges s edge.High k b i m n laws l well = laws.rests
+  edges s edge.Falling k b i m n laws l well = laws.rests
+  edges s edge.Low k b i m n laws l well = laws.rests
+
+  powers : (s : Setup) (o : ℕ) (enable : Bool) (m : Machine) (n : ℕ) → IsSaid v W (axis_at m n) (queue_of m.queues n) P → IsThere m n →
+      At (if nat_eq o n then v.power enable (axis_core_at m n) else v.rests) (after_power s o enable m) n
+  powers s o enable m n laws l =
+      let now = powered s o enable m n l.axis in
+      one (λ f. At f (after_power s o enable m) n) (nat_eq o n) _ _
+      (λ e. let same = eqb-true o n e in
+      let c = core_after_power enable (axis_core_at m n) in
+      let all : axis_core_at (after_power s o enable m) n ≡ record c { notes = [] } =
+      now ∙ ap (λ x. axis_core_at (with_axis_core m x (core_after_power enable (axis_core_at m x))) n)
+      same ∙ axis_written m n c l.axis l.list in
+      subst (λ (d : cores.Core). P (v.power enable (axis_core_at m n)) d.axis d.waiting) (sym all)
+      (laws.power enable (axis_core_at m n) refl refl))
+      (λ e. subst (λ (d : cores.Core). P v.rests d.axis d.waiting)
+      (sym (now ∙ axis_beside_axis m o n (core_after_power enable (axis_core_at m o))
+      (λ same. eqb-false o n e (sym same)))) laws.rests)
+
+  kinds : (s : Setup) (x : BlockKind) (e : Edge) (k : ℕ) (b : BlockDef) (i : Inputs) (m : Machine) (n : ℕ) → b.kind ≡ x →
+      IsSaid v W (axis_at m n) (queue_of m.queues n) P → IsThere m n → (is_power b.kind ≡ false → AsksWell W s k b i m n) →
+      At (by_kind v s x e k b i m n) (after_asking s x e k b i m) n
+  kinds s kind.Power e k b i m n is laws l well = powers s b.object i.execute m n laws l
+  kinds s _ e k b i m n is laws l well = edges s e k b i m n laws l (well (ap is_power is))
+
+  calls : (s : Setup) (o : Option BlockDef) (k : ℕ) (i : Inputs) (m : Machine) (n : ℕ) → IsSaid v W (axis_at m n) (queue_of m.queues n) P → IsThere m n →
+      ((b : BlockDef) → o ≡ Some b → is_power b.kind ≡ false → AsksWell W s k b i (with_execute k i m) n) →
+      At (words.by_call v s o k i m n) (called_where s o k i m) n
+  calls s None k i m n laws l well = laws.rests
+  calls s (Some b) k i m n laws l well =
+      kinds s b.kind (edge_of (instance_at m.instances k).execute i.execute) k b i
+      (with_execute k i m) n refl laws (record { axis = l.axis; list = l.list }) (well b refl)
+
+  -- what a call makes of an axis
+  pub said_by_call : (s : Setup) (m : Machine) (k : ℕ) (i : Inputs) (n : ℕ) → IsSaid v W (axis_at m n) (queue_of m.queues n) P → IsThere m n →
+      ((b : BlockDef) → slice_get s.blocks k ≡ Some b → is_power b.kind ≡ false → AsksWell W s k b i (with_execute k i m) n) →
+      P (words.by_call v s (slice_get s.blocks k) k i m n) (axis_at (after_call s m k i) n) (queue_of (after_call s m k i).queues n)
+  unfolding called
+  said_by_call s m k i n laws l well = calls s (slice_get s.blocks k) k i m n laws l well
+
+-- it goes with the fate of its active command
+abbrev pub IsByFate : (Asked → cores.Core → Type 0) → Axis → List Wanted → (Fate → Axis → List Wanted → Type 0) → Type 0
+IsByFate W a ws P = IsSaid fate_words W a ws P
+
 pub by_call : {W : Asked → cores.Core → Type 0} (P : Fate → Axis → List Wanted → Type 0) (s : Setup) (m : Machine) (k : ℕ) (i : Inputs) (n : ℕ) →
     IsByFate W (axis_at m n) (queue_of m.queues n) P → IsThere m n →
     ((b : BlockDef) → slice_get s.blocks k ≡ Some b → is_power b.kind ≡ false → AsksWell W s k b i (with_execute k i m) n) →
-    At P (fate_by_call s (slice_get s.blocks k) k i m n) (after_call s m k i) n
-unfolding called
-by_call P s m k i n laws l well = calls P s (slice_get s.blocks k) k i m n laws l well
+    P (words.by_call fate_words s (slice_get s.blocks k) k i m n) (axis_at (after_call s m k i) n) (queue_of (after_call s m k i).queues n)
+by_call P s m k i n laws l well = said_by_call fate_words P _ s m k i n laws l well

@@ -1,4 +1,5 @@
--- What a call makes of a group goes with the fate of its active command.
+-- What a call makes of a group goes with what it says of the group: with the fate of its active
+-- command, and with its events.
 use Rattle.std.specs.Prelude.{◌≡◌, refl, ℕ, ◌<◌, ◌+◌, Bool, true, false, ℤ, if◌then◌else◌, nat_eq, Option, Some, None, Result, List, [], ◌∷◌, length, slice_get, slice_set}
 use Rattle.std.proofs.Common.{arith, ap, sym, subst, ◌∙◌}
 use Rattle.std.proofs.lemmas.Bool.{eqb-false, eqb-true}
@@ -16,8 +17,7 @@ use Rattle.fb_outputs.specs.declared.instance.Edge.{Edge}
 use Rattle.fb_outputs.specs.declared.instance.Edge.TheVariants as edge
 use Rattle.group_core.specs.Calls.{commanded, disowned, powered_off}
 use Rattle.group_core.specs.Cores.{Core}
-use Rattle.buffer_modes.specs.Fates.{Fate, goes_on}
-use Rattle.group_core.specs.Fates.{command_fate, power_off_fate}
+use Rattle.buffer_modes.specs.Fates.{Fate}
 use Rattle.group_core.specs.GroupKept.{IsCoreKept, IsLook, IsMade}
 use Rattle.group_core.specs.Refusals.{limits_in}
 use Rattle.group_core.specs.declared.look.GroupLook.{GroupLook}
@@ -25,7 +25,9 @@ use Rattle.motion_history.specs.Setup.{Setup}
 use Rattle.motion_history.specs.declared.config.BlockDef.{BlockDef}
 use Rattle.motion_kernel.specs.calls.Asking.{wanted_of}
 use Rattle.motion_kernel.specs.calls.Calls.{after_asking, after_axis_command, after_call, after_edge, after_group_command, after_power, after_rising, asked_of_axis, axes_led, axis_led, called, called_where, enters_path, group_without_power, leaves_path, members_led, with_axis_core, with_execute, with_group_core, without_owner}
-use Rattle.motion_laws.specs.arrivals.GroupFates.{fate_by_call, fate_by_edge, fate_by_kind, fate_by_power_off, fate_by_rising}
+use Rattle.motion_laws.specs.arrivals.GroupFates.{fate_words}
+use Rattle.motion_laws.specs.calls.Group as words
+use Rattle.motion_laws.specs.calls.Group.{Words, by_edge, by_kind, by_power_off, by_rising}
 use Rattle.motion_kernel.specs.looks.GroupLooks.{group_look}
 use Rattle.motion_kernel.specs.Machine.{Machine, axis_at, axis_core_at, group_at, group_core_at, instance_at, list_of}
 use Rattle.motion_kernel.specs.kept.Machine.{IsMachineKept}
@@ -35,30 +37,24 @@ use Rattle.motion_kernel.specs.declared.memberships.Membership.{Membership}
 use Rattle.motion_kernel.proofs.kept.Events.{group_beside_axis, group_beside_group, group_written}
 use Rattle.motion_kernel.proofs.kept.Detached.{disowned_size, group_disowned}
 use Rattle.motion_kernel.proofs.Sizes.{by_if}
-use Rattle.motion_laws.proofs.walk.ByTest.{both}
+use Rattle.motion_laws.proofs.walk.ByTest.{both, one}
 
--- a property of a group after a call, by the fate of its active command, that every event of the
--- group gives it
-pub record IsByFate (c : Core) (P : Fate → Core → Type 0) : Type 0 where
-  pub rests : P goes_on c
-  pub untold : (f : Fate) (x : Core) → P f x → P f (record x { notes = [] })
-  pub detach : (owner : ℕ) → P goes_on (disowned owner c)
-  pub power_off : P (power_off_fate c) (powered_off c)
+-- a property of a group after a call, by what the call says of it, that every event of the group
+-- gives it
+pub record IsSaid {A : Type 0} (v : Words A) (c : Core) (P : A → Core → Type 0) : Type 0 where
+  pub rests : P v.rests c
+  pub untold : (f : A) (x : Core) → P f x → P f (record x { notes = [] })
+  pub detach : (owner : ℕ) → P v.rests (disowned owner c)
+  pub power_off : P (v.power_off c) (powered_off c)
   pub command : (owner : ℕ) (w : Wanted) (jerk : ℤ) (members : GroupLook) (x : Core) →
       x ≡ disowned owner c → IsLook x.group members →
-      IsMade x.group.axes w → IsCoreKept (limits_in members) x → P (command_fate w jerk members x)
+      IsMade x.group.axes w → IsCoreKept (limits_in members) x → P (v.asked w jerk members x)
       (commanded w jerk members x)
 
 -- the group and its list are there
 pub record IsThere (m : Machine) (j : ℕ) : Type 0 where
   pub group : j < length m.groups
   pub list : list_of m j < length m.queues
-
--- a test decides the fate alone
-one_fate : (P : Fate → Type 0) (b : Bool) (f g : Fate) → (b ≡ true → P f) →
-    (b ≡ false → P g) → P (if b then f else g)
-one_fate P true f g h k = h refl
-one_fate P false f g h k = k refl
 
 -- axes that are led leave the groups
 one_led : (m : Machine) (n : ℕ) (on : Bool) (j : ℕ) →
@@ -89,66 +85,13 @@ group_led s o kind answer m j =
     by_if Q (enters_path answer) _ _ (all_led true (members_at s o) m j)
     (by_if Q (leaves_path kind answer) _ _ (all_led false (members_at s o) m j) refl)
 
--- a command that is asked of this group, or of another one
-group_command : (c : Core) (P : Fate → Core → Type 0) → IsByFate c P →
-    (s : Setup) (k o : ℕ) (kind : BlockKind) (i : Inputs) (m : Machine) (j : ℕ) →
-    IsThere m j → group_core_at m j ≡ disowned k c → MayAskGroup s k o kind i m →
-    P (if nat_eq o j then command_fate (wanted_of k kind i) i.jerk (group_look s m j 0)
-    (group_core_at m j) else goes_on)
-    (group_core_at (after_group_command s k o kind i m) j)
-unfolding after_group_command
-group_command c P laws s k o kind i m j there free may =
-    let w = wanted_of k kind i in
-    let d : ℕ → Core = λ x. commanded w i.jerk (group_look s m x 0) (group_core_at m x) in
-    let after : group_core_at (after_group_command s k o kind i m) j ≡ group_core_at
-    (with_group_core m o (d o)) j =
-    group_led s o kind _ (with_group_core m o (d o)) j in
-    one_fate (λ f. P f (group_core_at (after_group_command s k o kind i m) j)) (nat_eq o j) _ _
-    (λ e.
-    let same : o ≡ j = eqb-true o j e in
-    let may_here = subst (λ x. MayAskGroup s k x kind i m) same may in
-    let looks = may_here.may in
-    let made = laws.command k w i.jerk (group_look s m j 0) (group_core_at m j) free looks.look
-    may_here.made looks.kept in
-    let is : group_core_at (after_group_command s k o kind i m) j ≡ record (d j) { notes = [] } =
-    after ∙ ap (λ x. group_core_at (with_group_core m x (d x)) j) same ∙ group_written m j
-    (d j) there.group there.list in
-    subst (P (command_fate w i.jerk (group_look s m j 0) (group_core_at m j))) (sym is)
-    (laws.untold _ (d j) made))
-    (λ e. subst (P goes_on)
-    (sym (after ∙ group_beside_group m o j (d o) (λ x. eqb-false o j e (sym x)) ∙ free))
-    (laws.detach k))
-
 -- a command that is asked of an axis leaves the groups
-pub axis_command : (s : Setup) (k n : ℕ) (kind : BlockKind) (i : Inputs) (m : Machine) (j : ℕ) →
+axis_command : (s : Setup) (k n : ℕ) (kind : BlockKind) (i : Inputs) (m : Machine) (j : ℕ) →
     n < length m.axes →
     group_core_at (after_axis_command s k n kind i m) j ≡ group_core_at m j
 unfolding after_axis_command
 axis_command s k n kind i m j l =
     group_beside_axis m n j (core_after_command (asked_of_axis s k n kind i m) (axis_core_at m n)) l
-
--- a rising edge
-rising : (P : Fate → Core → Type 0) (s : Setup) (k : ℕ) (b : BlockDef) (i : Inputs) (m : Machine)
-    (j : ℕ) → IsByFate (group_core_at m j) P → IsThere m j →
-    (acts_on_group b.kind ≡ true → MayAskGroup s k b.object b.kind i (without_owner k m)) →
-    (acts_on_group b.kind ≡ false → b.object < length m.axes) →
-    P (fate_by_rising s k b i m j) (group_core_at (after_rising s k b i m) j)
-rising P s k b i m j laws there may axis =
-    let free = without_owner k m in
-    let is = group_disowned k j m there.group there.list in
-    let size = disowned_size k m in
-    let s1 = size.axes in
-    let s2 = size.groups in
-    let s3 = size.queues in
-    let l1 = there.group in
-    let l2 = there.list in
-    let there_free : IsThere free j = record { group = omega arith; list = omega arith } in
-    both (λ f x. P f (group_core_at x j)) (acts_on_group b.kind) _ _ _ _
-    (λ e. group_command (group_core_at m j) P laws s k b.object b.kind i free j there_free is
-    (may e))
-    (λ e. let l =
-    axis e in subst (P goes_on)
-    (sym (axis_command s k b.object b.kind i free j (omega arith) ∙ is)) (laws.detach k))
 
 -- what a call of a block asks is there
 pub record IsAsked (s : Setup) (k : ℕ) (b : BlockDef) (i : Inputs) (m : Machine) : Type 0 where
@@ -156,95 +99,154 @@ pub record IsAsked (s : Setup) (k : ℕ) (b : BlockDef) (i : Inputs) (m : Machin
       MayAskGroup s k b.object b.kind i (without_owner k m)
   pub axis : acts_on_group b.kind ≡ false → b.object < length m.axes
 
-edges : (P : Fate → Core → Type 0) (s : Setup) (e : Edge) (k : ℕ) (b : BlockDef) (i : Inputs)
-    (m : Machine) (j : ℕ) → IsByFate (group_core_at m j) P →
-    IsThere m j → IsAsked s k b i m → is_power b.kind ≡ false → P (fate_by_edge s e k b i m j)
-    (group_core_at (after_edge s e k b i m) j)
-edges P s edge.Rising k b i m j laws there asked other = rising P s k b i m j laws there
-    (asked.group other) asked.axis
-edges P s edge.High k b i m j laws there asked other = laws.rests
-edges P s edge.Falling k b i m j laws there asked other = laws.rests
-edges P s edge.Low k b i m j laws there asked other = laws.rests
+module _ {A : Type 0} (v : Words A) (P : A → Core → Type 0) where
+  -- a command that is asked of this group, or of another one
+  group_command : (c : Core) → IsSaid v c P →
+      (s : Setup) (k o : ℕ) (kind : BlockKind) (i : Inputs) (m : Machine) (j : ℕ) →
+      IsThere m j → group_core_at m j ≡ disowned k c → MayAskGroup s k o kind i m →
+      P (if nat_eq o j then v.asked (wanted_of k kind i) i.jerk (group_look s m j 0)
+      (group_core_at m j) else v.rests)
+      (group_core_at (after_group_command s k o kind i m) j)
+  unfolding after_group_command
+  group_command c laws s k o kind i m j there free may =
+      let w = wanted_of k kind i in
+      let d : ℕ → Core = λ x. commanded w i.jerk (group_look s m x 0) (group_core_at m x) in
+      let after : group_core_at (after_group_command s k o kind i m) j ≡ group_core_at
+      (with_group_core m o (d o)) j =
+      group_led s o kind _ (with_group_core m o (d o)) j in
+      one (λ f. P f (group_core_at (after_group_command s k o kind i m) j)) (nat_eq o j) _ _
+      (λ e.
+      let same : o ≡ j = eqb-true o j e in
+      let may_here = subst (λ x. MayAskGroup s k x kind i m) same may in
+      let looks = may_here.may in
+      let made = laws.command k w i.jerk (group_look s m j 0) (group_core_at m j) free looks.look
+      may_here.made looks.kept in
+      let is : group_core_at (after_group_command s k o kind i m) j ≡ record (d j) { notes = [] } =
+      after ∙ ap (λ x. group_core_at (with_group_core m x (d x)) j) same ∙ group_written m j
+      (d j) there.group there.list in
+      subst (P (v.asked w i.jerk (group_look s m j 0) (group_core_at m j))) (sym is)
+      (laws.untold _ (d j) made))
+      (λ e. subst (P v.rests)
+      (sym (after ∙ group_beside_group m o j (d o) (λ x. eqb-false o j e (sym x)) ∙ free))
+      (laws.detach k))
 
--- a Power off of a member, or of another axis
-group_off : (P : Fate → Core → Type 0) (o : Option Membership) (m powered : Machine) (j : ℕ) →
-    IsByFate (group_core_at m j) P → IsThere powered j →
-    ((x : ℕ) → group_core_at powered x ≡ group_core_at m x) →
-    P (fate_by_power_off o m j) (group_core_at (group_without_power o powered) j)
-group_off P None m powered j laws there same = subst (P goes_on) (sym (same j)) laws.rests
-group_off P (Some at) m powered j laws there same =
-    let off : ℕ → Core = λ x. powered_off (group_core_at powered x) in
-    one_fate (λ f. P f (group_core_at (with_group_core powered at.group (off at.group)) j))
-    (nat_eq at.group j) _ _
-    (λ e.
-    let it : at.group ≡ j = eqb-true at.group j e in
-    let is : group_core_at (with_group_core powered at.group (off at.group)) j ≡ record
-    (powered_off (group_core_at m j)) { notes = [] } =
-    ap (λ x. group_core_at (with_group_core powered x (off x)) j) it ∙ group_written powered j
-    (off j) there.group there.list
-    ∙ ap (λ x. record (powered_off x) { notes = [] }) (same j) in
-    subst (P (power_off_fate (group_core_at m j))) (sym is)
-    (laws.untold _ (powered_off (group_core_at m j)) laws.power_off))
-    (λ e. subst (P goes_on)
-    (sym (group_beside_group powered at.group j (off at.group)
-    (λ x. eqb-false at.group j e (sym x)) ∙ same j)) laws.rests)
+  -- a rising edge
+  rising : (s : Setup) (k : ℕ) (b : BlockDef) (i : Inputs) (m : Machine)
+      (j : ℕ) → IsSaid v (group_core_at m j) P → IsThere m j →
+      (acts_on_group b.kind ≡ true → MayAskGroup s k b.object b.kind i (without_owner k m)) →
+      (acts_on_group b.kind ≡ false → b.object < length m.axes) →
+      P (by_rising v s k b i m j) (group_core_at (after_rising s k b i m) j)
+  rising s k b i m j laws there may axis =
+      let free = without_owner k m in
+      let is = group_disowned k j m there.group there.list in
+      let size = disowned_size k m in
+      let s1 = size.axes in
+      let s2 = size.groups in
+      let s3 = size.queues in
+      let l1 = there.group in
+      let l2 = there.list in
+      let there_free : IsThere free j = record { group = omega arith; list = omega arith } in
+      both (λ f x. P f (group_core_at x j)) (acts_on_group b.kind) _ _ _ _
+      (λ e. group_command (group_core_at m j) laws s k b.object b.kind i free j there_free is
+      (may e))
+      (λ e. let l =
+      axis e in subst (P v.rests)
+      (sym (axis_command s k b.object b.kind i free j (omega arith) ∙ is)) (laws.detach k))
 
-powers : (P : Fate → Core → Type 0) (s : Setup) (n : ℕ) (enable : Bool) (m : Machine) (j : ℕ) →
-    IsByFate (group_core_at m j) P → IsThere m j → n < length m.axes →
-    P (if enable then goes_on else fate_by_power_off (membership_of s n) m j)
-    (group_core_at (after_power s n enable m) j)
-unfolding after_power
-powers P s n enable m j laws there l =
-    let c = core_after_power enable (axis_core_at m n) in
-    let powered = with_axis_core m n c in
-    let same : (x : ℕ) → group_core_at powered x ≡ group_core_at m x =
-    λ x. group_beside_axis m n x c l in
-    let a = length-set m.axes n c.axis in
-    let q = length-set m.queues n c.waiting in
-    let list = there.list in
-    let there_powered : IsThere powered j = record { group = there.group; list = omega arith } in
-    both (λ f x. P f (group_core_at x j)) enable _ _ _ _
-    (λ e. subst (P goes_on) (sym (same j)) laws.rests)
-    (λ e. group_off P (membership_of s n) m powered j laws there_powered same)
+  edges : (s : Setup) (e : Edge) (k : ℕ) (b : BlockDef) (i : Inputs)
+      (m : Machine) (j : ℕ) → IsSaid v (group_core_at m j) P →
+      IsThere m j → IsAsked s k b i m → is_power b.kind ≡ false → P (by_edge v s e k b i m j)
+      (group_core_at (after_edge s e k b i m) j)
+  edges s edge.Rising k b i m j laws there asked other = rising s k b i m j laws there
+      (asked.group other) asked.axis
+  edges s edge.High k b i m j laws there asked other = laws.rests
+  edges s edge.Falling k b i m j laws there asked other = laws.rests
+  edges s edge.Low k b i m j laws there asked other = laws.rests
 
-acts_alone : (k : BlockKind) → k ≡ kind.Power → acts_on_group k ≡ false
-acts_alone k e = ap acts_on_group e
+  -- a Power off of a member, or of another axis
+  group_off : (o : Option Membership) (m powered : Machine) (j : ℕ) →
+      IsSaid v (group_core_at m j) P → IsThere powered j →
+      ((x : ℕ) → group_core_at powered x ≡ group_core_at m x) →
+      P (by_power_off v o m j) (group_core_at (group_without_power o powered) j)
+  group_off None m powered j laws there same = subst (P v.rests) (sym (same j)) laws.rests
+  group_off (Some at) m powered j laws there same =
+      let off : ℕ → Core = λ x. powered_off (group_core_at powered x) in
+      one (λ f. P f (group_core_at (with_group_core powered at.group (off at.group)) j))
+      (nat_eq at.group j) _ _
+      (λ e.
+      let it : at.group ≡ j = eqb-true at.group j e in
+      let is : group_core_at (with_group_core powered at.group (off at.group)) j ≡ record
+      (powered_off (group_core_at m j)) { notes = [] } =
+      ap (λ x. group_core_at (with_group_core powered x (off x)) j) it ∙ group_written powered j
+      (off j) there.group there.list
+      ∙ ap (λ x. record (powered_off x) { notes = [] }) (same j) in
+      subst (P (v.power_off (group_core_at m j))) (sym is)
+      (laws.untold _ (powered_off (group_core_at m j)) laws.power_off))
+      (λ e. subst (P v.rests)
+      (sym (group_beside_group powered at.group j (off at.group)
+      (λ x. eqb-false at.group j e (sym x)) ∙ same j)) laws.rests)
 
-kinds : (P : Fate → Core → Type 0) (s : Setup) (kind : BlockKind) (e : Edge) (k : ℕ) (b : BlockDef)
-    (i : Inputs) (m : Machine) (j : ℕ) → b.kind ≡ kind →
-    IsByFate (group_core_at m j) P → IsThere m j → IsAsked s k b i m →
-    P (fate_by_kind s kind e k b i m j) (group_core_at (after_asking s kind e k b i m) j)
-kinds P s kind.Power e k b i m j is laws there asked = powers P s b.object i.execute m j laws there
-    (asked.axis (acts_alone b.kind is))
-kinds P s kind.MoveLinearAbsolute e k b i m j is laws there asked =
-    edges P s e k b i m j laws there asked (ap is_power is)
-kinds P s kind.MoveCircularAbsolute e k b i m j is laws there asked =
-    edges P s e k b i m j laws there asked (ap is_power is)
-kinds P s _ e k b i m j is laws there asked = edges P s e k b i m j laws there asked
-    (ap is_power is)
+  powers : (s : Setup) (n : ℕ) (enable : Bool) (m : Machine) (j : ℕ) →
+      IsSaid v (group_core_at m j) P → IsThere m j → n < length m.axes →
+      P (if enable then v.rests else by_power_off v (membership_of s n) m j)
+      (group_core_at (after_power s n enable m) j)
+  unfolding after_power
+  powers s n enable m j laws there l =
+      let c = core_after_power enable (axis_core_at m n) in
+      let powered = with_axis_core m n c in
+      let same : (x : ℕ) → group_core_at powered x ≡ group_core_at m x =
+      λ x. group_beside_axis m n x c l in
+      let a = length-set m.axes n c.axis in
+      let q = length-set m.queues n c.waiting in
+      let list = there.list in
+      let there_powered : IsThere powered j = record { group = there.group; list = omega arith } in
+      both (λ f x. P f (group_core_at x j)) enable _ _ _ _
+      (λ e. subst (P v.rests) (sym (same j)) laws.rests)
+      (λ e. group_off (membership_of s n) m powered j laws there_powered same)
 
-calls : (P : Fate → Core → Type 0) (s : Setup) (o : Option BlockDef) (k : ℕ) (i : Inputs)
-    (m : Machine) (j : ℕ) → IsByFate (group_core_at m j) P → IsThere m j →
-    ((b : BlockDef) → o ≡ Some b → MayCall s k b i (with_execute k i m)) → IsMachineKept s m →
-    P (fate_by_call s o k i m j) (group_core_at (called_where s o k i m) j)
-calls P s None k i m j laws there may h = laws.rests
-calls P s (Some b) k i m j laws there may h =
-    let can = may b refl in
-    let sizes = h.sized in
-    let size = sizes.axes in
-    let asked : IsAsked s k b i (with_execute k i m) = record {
-      group = λ other e. (can.rise other).group e;
-      axis = λ e. let l = subst (λ x. b.object < (if x then length s.groups else length s.axes)) e
-          can.object in omega arith;
-    } in
-    kinds P s b.kind (edge_of (instance_at m.instances k).execute i.execute) k b i
-    (with_execute k i m) j refl laws (record { group = there.group; list = there.list }) asked
+  kinds : (s : Setup) (kind : BlockKind) (e : Edge) (k : ℕ) (b : BlockDef)
+      (i : Inputs) (m : Machine) (j : ℕ) → b.kind ≡ kind →
+      IsSaid v (group_core_at m j) P → IsThere m j → IsAsked s k b i m →
+      P (by_kind v s kind e k b i m j) (group_core_at (after_asking s kind e k b i m) j)
+  kinds s kind.Power e k b i m j is laws there asked = powers s b.object i.execute m j laws there
+      (asked.axis (ap acts_on_group is))
+  kinds s _ e k b i m j is laws there asked = edges s e k b i m j laws there asked
+      (ap is_power is)
 
--- what a call makes of a group
+  calls : (s : Setup) (o : Option BlockDef) (k : ℕ) (i : Inputs)
+      (m : Machine) (j : ℕ) → IsSaid v (group_core_at m j) P → IsThere m j →
+      ((b : BlockDef) → o ≡ Some b → MayCall s k b i (with_execute k i m)) → IsMachineKept s m →
+      P (words.by_call v s o k i m j) (group_core_at (called_where s o k i m) j)
+  calls s None k i m j laws there may h = laws.rests
+  calls s (Some b) k i m j laws there may h =
+      let can = may b refl in
+      let sizes = h.sized in
+      let size = sizes.axes in
+      let asked : IsAsked s k b i (with_execute k i m) = record {
+        group = λ other e. (can.rise other).group e;
+        axis = λ e. let l = subst (λ x. b.object < (if x then length s.groups else length s.axes)) e
+            can.object in omega arith;
+      } in
+      kinds s b.kind (edge_of (instance_at m.instances k).execute i.execute) k b i
+      (with_execute k i m) j refl laws (record { group = there.group; list = there.list }) asked
+
+  -- what a call makes of a group
+  pub said_by_call : (s : Setup) (m : Machine) (k : ℕ) (i : Inputs) (j : ℕ) →
+      IsSaid v (group_core_at m j) P → IsThere m j →
+      ((b : BlockDef) → slice_get s.blocks k ≡ Some b → MayCall s k b i (with_execute k i m)) →
+      IsMachineKept s m →
+      P (words.by_call v s (slice_get s.blocks k) k i m j) (group_core_at (after_call s m k i) j)
+  unfolding called
+  said_by_call s m k i j laws there may h = calls s (slice_get s.blocks k) k i m j laws there may h
+
+-- a property of a group by the fate of its active command
+abbrev pub IsByFate : Core → (Fate → Core → Type 0) → Type 0
+IsByFate c P = IsSaid fate_words c P
+
+-- what a call makes of a group goes with that
 pub by_call : (P : Fate → Core → Type 0) (s : Setup) (m : Machine) (k : ℕ) (i : Inputs) (j : ℕ) →
     IsByFate (group_core_at m j) P → IsThere m j →
     ((b : BlockDef) → slice_get s.blocks k ≡ Some b → MayCall s k b i (with_execute k i m)) →
     IsMachineKept s m →
-    P (fate_by_call s (slice_get s.blocks k) k i m j) (group_core_at (after_call s m k i) j)
-unfolding called
-by_call P s m k i j laws there may h = calls P s (slice_get s.blocks k) k i m j laws there may h
+    P (words.by_call fate_words s (slice_get s.blocks k) k i m j) (group_core_at (after_call s m k i) j)
+by_call P s m k i j laws there may h = said_by_call fate_words P s m k i j laws there may h

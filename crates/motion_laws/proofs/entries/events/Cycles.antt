@@ -1,5 +1,5 @@
 -- Each axis and each group changes its state by its events in a cycle.
-use Rattle.std.specs.Prelude.{◌≡◌, refl, ℕ, zero, suc, ◌<◌, ◌≤◌, is_some, List, ◌++◌, length, slice_set}
+use Rattle.std.specs.Prelude.{◌≡◌, refl, ℕ, zero, suc, ◌<◌, ◌≤◌, is_some, List, length, slice_set}
 use Rattle.std.proofs.Common.{arith, ap, sym, subst, ◌∙◌, inl, inr}
 use Rattle.std.proofs.lemmas.Bool.{cases_eq}
 use Rattle.std.proofs.lemmas.List.{get_or-set_other, get_or-set_same, length-set}
@@ -9,9 +9,7 @@ use Rattle.cia402_machine.specs.declared.drive.DriveIn.{DriveIn}
 use Rattle.group_core.specs.Cores.{Core}
 use Rattle.group_core.specs.declared.group.Group.{Group}
 use Rattle.group_core.specs.declared.look.GroupLook.{GroupLook}
-use Rattle.group_state.specs.declared.diagram.GroupEvent.{GroupEvent}
 use Rattle.group_state.specs.declared.state.GroupRow.{GroupRow}
-use Rattle.group_state.specs.declared.state.GroupState.{GroupState}
 use Rattle.motion_history.specs.Entries.{cycle}
 use Rattle.motion_history.specs.Setup.{Setup}
 use Rattle.motion_kernel.specs.Histories.{inputs_of}

@@ -1,5 +1,5 @@
 -- The rows of a cycle show the machine behind it.
-use Rattle.std.specs.Prelude.{◌≡◌, refl, ℕ, zero, suc, ◌<◌, ◌≤◌, Some, List, [], ◌∷◌, ◌++◌, length, slice_get, slice_index_or, slice_set}
+use Rattle.std.specs.Prelude.{◌≡◌, refl, ℕ, zero, suc, ◌<◌, ◌≤◌, Some, List, length, slice_get, slice_index_or, slice_set}
 use Rattle.std.proofs.Common.{arith, ap, sym, subst, ◌∙◌, inl, inr}
 use Rattle.std.proofs.lemmas.Bool.{cases_eq}
 use Rattle.std.proofs.lemmas.List.{get_or-set_other, get_or-set_same, length_push}
@@ -13,7 +13,6 @@ use Rattle.motion_history.specs.Columns.{no_row}
 use Rattle.motion_history.specs.Setup.{Setup}
 use Rattle.motion_kernel.proofs.Lists.{get_is, index_before, index_last}
 use Rattle.motion_kernel.proofs.cycles.OneAxis.{goes_through}
-use Rattle.motion_kernel.proofs.cycles.Rows.{axes_count, axes_groups}
 use Rattle.motion_kernel.proofs.kept.Machine.{MachinesStayKept}
 use Rattle.motion_kernel.specs.Histories.{IsCycleOf, inputs_of}
 use Rattle.motion_kernel.specs.Machine.{Machine, PlacedGroup, axis_at, axis_core_at, group_among, group_at, no_group}
