@@ -17,8 +17,10 @@ use Rattle.motion_history.specs.Entries.{Entry, call, cycle, cycle_count, cycles
 use Rattle.motion_history.specs.Setup.{Setup, IsSetup}
 use Rattle.motion_history.specs.declared.config.BlockDef.{BlockDef}
 use Rattle.motion_laws.specs.arrivals.AxisFates as axis_entry
+use Rattle.motion_laws.specs.calls.Axis as axis_words
 use Rattle.motion_kernel.specs.calls.Calls.{after_asking, after_edge, called, called_where, reply_of, with_execute}
 use Rattle.motion_laws.specs.arrivals.GroupFates as group_entry
+use Rattle.motion_laws.specs.calls.Group as group_words
 use Rattle.motion_kernel.specs.Histories.{Follows, IsLegal, IsOf, after, inputs_of, machine_after, replay}
 use Rattle.motion_kernel.specs.Machine.{Machine, instance_at, machine_at_opening}
 use Rattle.motion_kernel.specs.kept.Machine.{AreWhole, IsMachineKept}
@@ -84,7 +86,7 @@ untold_by laws s cycles m (end_of task) k whole h is none other = refl
 -- an instance's own call that is no rising edge ends none of its commands
 axis_edge_ends_none : (s : Setup) (a c : Bool) (k : ℕ) (b : BlockDef) (i : Inputs) (m : Machine)
     (n : ℕ) (f : Finish) → not a && c ≡ false →
-    (axis_entry.fate_by_edge s (edge_of a c) k b i m n).ends ≡ Some f → ⊥
+    (axis_words.by_edge axis_entry.fate_words s (edge_of a c) k b i m n).ends ≡ Some f → ⊥
 axis_edge_ends_none s true true k b i m n f r e = absurd (cc)
 axis_edge_ends_none s true false k b i m n f r e = absurd (cc)
 axis_edge_ends_none s false true k b i m n f r e = absurd (cc)
@@ -92,13 +94,13 @@ axis_edge_ends_none s false false k b i m n f r e = absurd (cc)
 
 axis_kind_ends_none : (s : Setup) (x : BlockKind) (a c : Bool) (k : ℕ) (b : BlockDef) (i : Inputs)
     (m : Machine) (n : ℕ) (f : Finish) → is_power x ≡ false → not a && c ≡ false →
-    (axis_entry.fate_by_kind s x (edge_of a c) k b i m n).ends ≡ Some f → ⊥
+    (axis_words.by_kind axis_entry.fate_words s x (edge_of a c) k b i m n).ends ≡ Some f → ⊥
 axis_kind_ends_none s kind.Power a c k b i m n f p r e = absurd (cc)
 axis_kind_ends_none s _ a c k b i m n f p r e = axis_edge_ends_none s a c k b i m n f r e
 
 group_edge_ends_none : (s : Setup) (a c : Bool) (k : ℕ) (b : BlockDef) (i : Inputs) (m : Machine)
     (j : ℕ) (f : Finish) → not a && c ≡ false →
-    (group_entry.fate_by_edge s (edge_of a c) k b i m j).ends ≡ Some f → ⊥
+    (group_words.by_edge group_entry.fate_words s (edge_of a c) k b i m j).ends ≡ Some f → ⊥
 group_edge_ends_none s true true k b i m j f r e = absurd (cc)
 group_edge_ends_none s true false k b i m j f r e = absurd (cc)
 group_edge_ends_none s false true k b i m j f r e = absurd (cc)
@@ -106,7 +108,7 @@ group_edge_ends_none s false false k b i m j f r e = absurd (cc)
 
 group_kind_ends_none : (s : Setup) (x : BlockKind) (a c : Bool) (k : ℕ) (b : BlockDef) (i : Inputs)
     (m : Machine) (j : ℕ) (f : Finish) → is_power x ≡ false → not a && c ≡ false →
-    (group_entry.fate_by_kind s x (edge_of a c) k b i m j).ends ≡ Some f → ⊥
+    (group_words.by_kind group_entry.fate_words s x (edge_of a c) k b i m j).ends ≡ Some f → ⊥
 group_kind_ends_none s kind.Power a c k b i m j f p r e = absurd (cc)
 group_kind_ends_none s _ a c k b i m j f p r e = group_edge_ends_none s a c k b i m j f r e
 
@@ -132,11 +134,11 @@ own_ends_none : (s : Setup) (m : Machine) (k : ℕ) (i : Inputs) (reply : Output
 own_ends_none s m k i reply (an_axis n) f has r e =
     axis_kind_ends_none s has.block.kind (instance_at m.instances k).execute i.execute k has.block i
     (with_execute k i m) n f has.other r
-    (subst (λ x. (axis_entry.fate_by_call s x k i m n).ends ≡ Some f) has.is e)
+    (subst (λ x. (axis_words.by_call axis_entry.fate_words s x k i m n).ends ≡ Some f) has.is e)
 own_ends_none s m k i reply (a_group j) f has r e =
     group_kind_ends_none s has.block.kind (instance_at m.instances k).execute i.execute k has.block
     i (with_execute k i m) j f has.other r
-    (subst (λ x. (group_entry.fate_by_call s x k i m j).ends ≡ Some f) has.is e)
+    (subst (λ x. (group_words.by_call group_entry.fate_words s x k i m j).ends ≡ Some f) has.is e)
 
 -- whoever has the active command of an axis or a group has its block there
 on_it : (s : Setup) (m : Machine) (k : ℕ) (o : Object) → IsRunning s m → IsThere m o →

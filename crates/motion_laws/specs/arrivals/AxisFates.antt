@@ -1,16 +1,12 @@
 -- What becomes of the active command of an axis in each entry of a history (PLCopen Motion Control
 -- Part 1, BufferMode).
-use Rattle.std.specs.Prelude.{ℕ, Option, slice_get}
+use Rattle.std.specs.Prelude.{ℕ, slice_get}
 use Rattle.buffer_modes.specs.Fates.{Fate, goes_on}
 use Rattle.axis_core.specs.Fates.{command_fate, cycle_fate, power_fate}
-use Rattle.command_pool.specs.declared.kind.BlockKind.{BlockKind}
-use Rattle.fb_outputs.specs.declared.inputs.Inputs.{Inputs}
-use Rattle.fb_outputs.specs.declared.instance.Edge.{Edge}
 use Rattle.motion_history.specs.Entries.{Entry, call, cycle, end_of}
 use Rattle.motion_history.specs.Setup.{Setup}
-use Rattle.motion_history.specs.declared.config.BlockDef.{BlockDef}
 use Rattle.motion_kernel.specs.Histories.{inputs_of}
-use Rattle.motion_laws.specs.calls.Axis.{Words, by_call, by_edge, by_kind, by_rising}
+use Rattle.motion_laws.specs.calls.Axis.{Words, by_call}
 use Rattle.motion_kernel.specs.Machine.{Machine, axis_core_at}
 use Rattle.motion_kernel.specs.cycles.Cycles.{look_of_axis}
 
@@ -22,19 +18,6 @@ fate_words = record {
   asked = command_fate;
   power = power_fate;
 }
-
--- by a rising edge, by an edge, by the block's kind, and by a call
-abbrev pub fate_by_rising : Setup → ℕ → BlockDef → Inputs → Machine → ℕ → Fate
-fate_by_rising = by_rising fate_words
-
-abbrev pub fate_by_edge : Setup → Edge → ℕ → BlockDef → Inputs → Machine → ℕ → Fate
-fate_by_edge = by_edge fate_words
-
-abbrev pub fate_by_kind : Setup → BlockKind → Edge → ℕ → BlockDef → Inputs → Machine → ℕ → Fate
-fate_by_kind = by_kind fate_words
-
-abbrev pub fate_by_call : Setup → Option BlockDef → ℕ → Inputs → Machine → ℕ → Fate
-fate_by_call = by_call fate_words
 
 -- what becomes of the active command of an axis in an entry
 abbrev pub axis_fate : Setup → Machine → Entry → ℕ → Fate

@@ -7,35 +7,14 @@ use Rattle.group_core.specs.Fates.{command_fate, cycle_fate, power_off_fate}
 use Rattle.group_core.specs.Tracks.{OnPath}
 use Rattle.motion_history.specs.Entries.{Entry, call, cycle, end_of}
 use Rattle.motion_history.specs.Setup.{Setup}
-use Rattle.motion_history.specs.declared.config.BlockDef.{BlockDef}
-use Rattle.command_pool.specs.declared.kind.BlockKind.{BlockKind}
-use Rattle.fb_outputs.specs.declared.inputs.Inputs.{Inputs}
-use Rattle.fb_outputs.specs.declared.instance.Edge.{Edge}
-use Rattle.motion_kernel.specs.declared.memberships.Membership.{Membership}
 use Rattle.motion_kernel.specs.Histories.{after, inputs_of}
-use Rattle.motion_laws.specs.calls.Group.{Words, by_call, by_edge, by_kind, by_power_off, by_rising}
+use Rattle.motion_laws.specs.calls.Group.{Words, by_call}
 use Rattle.motion_kernel.specs.Machine.{Machine, group_at, group_core_at}
 use Rattle.motion_kernel.specs.cycles.Cycles.{look_of_group}
 
 -- what a call makes of it, in words
 abbrev pub fate_words : Words Fate
 fate_words = record { rests = goes_on; asked = command_fate; power_off = power_off_fate }
-
--- by a rising edge, by an edge, by a Power off, by the block's kind, and by a call
-abbrev pub fate_by_rising : Setup → ℕ → BlockDef → Inputs → Machine → ℕ → Fate
-fate_by_rising = by_rising fate_words
-
-abbrev pub fate_by_edge : Setup → Edge → ℕ → BlockDef → Inputs → Machine → ℕ → Fate
-fate_by_edge = by_edge fate_words
-
-abbrev pub fate_by_power_off : Option Membership → Machine → ℕ → Fate
-fate_by_power_off = by_power_off fate_words
-
-abbrev pub fate_by_kind : Setup → BlockKind → Edge → ℕ → BlockDef → Inputs → Machine → ℕ → Fate
-fate_by_kind = by_kind fate_words
-
-abbrev pub fate_by_call : Setup → Option BlockDef → ℕ → Inputs → Machine → ℕ → Fate
-fate_by_call = by_call fate_words
 
 -- what becomes of the active command of a group in an entry
 abbrev pub group_fate : Setup → Machine → Entry → ℕ → Fate

@@ -34,7 +34,9 @@ use Rattle.motion_kernel.specs.declared.memberships.Membership.{Membership}
 use Rattle.motion_kernel.specs.looks.GroupLooks.{group_look}
 use Rattle.motion_kernel.specs.members.Members.{membership_of}
 use Rattle.motion_laws.specs.arrivals.AxisFates as axis_entry
+use Rattle.motion_laws.specs.calls.Axis as axis_words
 use Rattle.motion_laws.specs.arrivals.GroupFates as group_entry
+use Rattle.motion_laws.specs.calls.Group as group_words
 use Rattle.motion_laws.specs.entries.GroupEvents.{moved_in}
 use Rattle.motion_laws.specs.owners.Objects.{a_group, an_axis, is_same, Object}
 use Rattle.motion_laws.specs.results.Effects.{changes_by_command, changes_by_power, changes_by_power_off, charge_at, effect_by_call, effect_by_edge, effect_by_kind, effect_in, fate_by}
@@ -72,7 +74,7 @@ resets_end_none core d = reset_ends_none core.group.reset (is_some core.path) co
 module _ (axes : AreAxisFates) (groups : AreGroupFates) (s : Setup) where
   -- at a rising edge
   axis_rising : (k : ℕ) (b : BlockDef) (i : Inputs) (m : Machine) (n : ℕ) → (fate_by (effect_by_edge s edge.Rising k b i m (an_axis n))).ends
-      ≡ (axis_entry.fate_by_rising s k b i m n).ends
+      ≡ (axis_words.by_rising axis_entry.fate_words s k b i m n).ends
   axis_rising k b i m n = by (acts_on_group b.kind)
     where
       by : (x : Bool) →
@@ -85,7 +87,7 @@ module _ (axes : AreAxisFates) (groups : AreGroupFates) (s : Setup) where
           (sym (axes.command (asked_of_axis s k n b.kind i (without_owner k m)) (axis_core_at (without_owner k m) n)).ends)
 
   group_rising : (k : ℕ) (b : BlockDef) (i : Inputs) (m : Machine) (j : ℕ) → (fate_by (effect_by_edge s edge.Rising k b i m (a_group j))).ends
-      ≡ (group_entry.fate_by_rising s k b i m j).ends
+      ≡ (group_words.by_rising group_entry.fate_words s k b i m j).ends
   group_rising k b i m j = by (acts_on_group b.kind)
     where
       by : (x : Bool) →
@@ -100,46 +102,46 @@ module _ (axes : AreAxisFates) (groups : AreGroupFates) (s : Setup) where
 
   -- in other calls
   axis_edge : (e : Edge) (k : ℕ) (b : BlockDef) (i : Inputs) (m : Machine) (n : ℕ) → (fate_by (effect_by_edge s e k b i m (an_axis n))).ends
-      ≡ (axis_entry.fate_by_edge s e k b i m n).ends
+      ≡ (axis_words.by_edge axis_entry.fate_words s e k b i m n).ends
   axis_edge edge.Rising k b i m n = axis_rising k b i m n
   axis_edge edge.High k b i m n = refl
   axis_edge edge.Falling k b i m n = refl
   axis_edge edge.Low k b i m n = refl
 
   group_edge : (e : Edge) (k : ℕ) (b : BlockDef) (i : Inputs) (m : Machine) (j : ℕ) → (fate_by (effect_by_edge s e k b i m (a_group j))).ends
-      ≡ (group_entry.fate_by_edge s e k b i m j).ends
+      ≡ (group_words.by_edge group_entry.fate_words s e k b i m j).ends
   group_edge edge.Rising k b i m j = group_rising k b i m j
   group_edge edge.High k b i m j = refl
   group_edge edge.Falling k b i m j = refl
   group_edge edge.Low k b i m j = refl
 
   group_off : (o : Option Membership) (m : Machine) (j : ℕ) → (fate_in (changes_by_power_off o m j) (charge_at m (a_group j))).ends
-      ≡ (group_entry.fate_by_power_off o m j).ends
+      ≡ (group_words.by_power_off group_entry.fate_words o m j).ends
   group_off None m j = refl
   group_off (Some at) m j = ends_if (nat_eq at.group j) _ _ _ (sym (groups.power_off (group_core_at m j)).ends)
 
   power_off : (enable : Bool) (n : ℕ) (m : Machine) (j : ℕ) → (fate_in (changes_by_power s n enable m (a_group j)) (charge_at m (a_group j))).ends
-      ≡ (let f : Fate = if enable then goes_on else group_entry.fate_by_power_off (membership_of s n) m j in f).ends
+      ≡ (let f : Fate = if enable then goes_on else group_words.by_power_off group_entry.fate_words (membership_of s n) m j in f).ends
   power_off true n m j = refl
   power_off false n m j = group_off (membership_of s n) m j
 
   axis_kind : (x : BlockKind) (e : Edge) (k : ℕ) (b : BlockDef) (i : Inputs) (m : Machine) (n : ℕ) → (fate_by (effect_by_kind s x e k b i m (an_axis n))).ends
-      ≡ (axis_entry.fate_by_kind s x e k b i m n).ends
+      ≡ (axis_words.by_kind axis_entry.fate_words s x e k b i m n).ends
   axis_kind kind.Power e k b i m n = ends_if (nat_eq b.object n) _ _ _ (sym (axes.power i.execute (axis_core_at m n)).ends)
   axis_kind _ e k b i m n = axis_edge e k b i m n
 
   group_kind : (x : BlockKind) (e : Edge) (k : ℕ) (b : BlockDef) (i : Inputs) (m : Machine) (j : ℕ) → (fate_by (effect_by_kind s x e k b i m (a_group j))).ends
-      ≡ (group_entry.fate_by_kind s x e k b i m j).ends
+      ≡ (group_words.by_kind group_entry.fate_words s x e k b i m j).ends
   group_kind kind.Power e k b i m j = power_off i.execute b.object m j
   group_kind _ e k b i m j = group_edge e k b i m j
 
   axis_call : (o : Option BlockDef) (k : ℕ) (i : Inputs) (m : Machine) (n : ℕ) → (fate_by (effect_by_call s o k i m (an_axis n))).ends
-      ≡ (axis_entry.fate_by_call s o k i m n).ends
+      ≡ (axis_words.by_call axis_entry.fate_words s o k i m n).ends
   axis_call None k i m n = refl
   axis_call (Some b) k i m n = axis_kind b.kind (edge_of (instance_at m.instances k).execute i.execute) k b i (with_execute k i m) n
 
   group_call : (o : Option BlockDef) (k : ℕ) (i : Inputs) (m : Machine) (j : ℕ) → (fate_by (effect_by_call s o k i m (a_group j))).ends
-      ≡ (group_entry.fate_by_call s o k i m j).ends
+      ≡ (group_words.by_call group_entry.fate_words s o k i m j).ends
   group_call None k i m j = refl
   group_call (Some b) k i m j = group_kind b.kind (edge_of (instance_at m.instances k).execute i.execute) k b i (with_execute k i m) j
 
