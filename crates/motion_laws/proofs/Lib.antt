@@ -7,6 +7,7 @@
 -- commands_are_where_their_instances_show: owners/Shown, over owners/Kept and owners/Holders, by
 -- the walk
 -- rows_show_the_machine: entries/rows/Histories
+-- rows_show_errors: entries/errors/Histories
 -- entries_keep_their_laws: entries/Kept
 -- moves_arrive_in_time: arrivals/Moves
 -- paths_end_in_time: arrivals/PathsEnd

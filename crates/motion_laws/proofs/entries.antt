@@ -3,4 +3,5 @@ pub mod refusals
 pub mod replies
 pub mod events
 pub mod rows
+pub mod errors
 pub mod Kept

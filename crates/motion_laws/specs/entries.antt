@@ -5,4 +5,5 @@ pub mod AxisEvents
 pub mod GroupEvents
 pub mod Events
 pub mod Rows
+pub mod Errors
 pub mod Kept

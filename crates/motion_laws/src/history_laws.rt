@@ -19,7 +19,8 @@ use crate::row_laws::rows_show_that_moves_arrive;
 /// driven and each path can be stopped within its limits, and at most eight commands wait for each
 /// axis and each group. Each entry keeps the laws of entries: a refused call changes nothing but
 /// its own instance, each reply tells one result, the states change by the entry's events,
-/// commands are where their instances show, and the rows of a cycle show the machine behind it.
+/// commands are where their instances show, and the rows of a cycle show the machine behind it, and
+/// errors exactly in the states of errors.
 /// Each move, Halt and Stop of an axis, and each line, GroupHalt and GroupStop of a group, comes to
 /// its end in time, and no blended move hangs; each end is told to the instance whose command it
 /// was, and to no other; each result that a reply tells comes of such an end, and stays while

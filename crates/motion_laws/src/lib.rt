@@ -28,4 +28,4 @@ pub use reply_laws::replies_tell_one_result;
 pub use result_laws::{
     done_moves_are_at_their_targets, results_are_told, results_come_of_ends, results_stay_shown,
 };
-pub use row_laws::{rows_show_that_moves_arrive, rows_show_the_machine};
+pub use row_laws::{rows_show_errors, rows_show_that_moves_arrive, rows_show_the_machine};

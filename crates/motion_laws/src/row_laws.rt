@@ -10,10 +10,13 @@ ghost use Rattle.motion_kernel.specs.Machine.{Machine};
 ghost use Rattle.motion_kernel.specs.cycles.Cycles.{after_cycle};
 ghost use Rattle.motion_kernel.specs.kept.Machine.{AreWhole, IsMachineKept};
 ghost use Rattle.motion_laws.specs.arrivals.Rows.{RowsStand};
+ghost use Rattle.motion_laws.specs.entries.Errors.{ErrorsShow};
 ghost use Rattle.motion_laws.specs.entries.Rows.{RowsShow, ShowMachine};
 
 use crate::arrival_laws::moves_arrive_in_time;
+use axis_core::errors_stand_in_error_stop as axis_errors_stand;
 use command_changes::{axis_fates_are_told, group_fates_are_told};
+use group_core::errors_stand_in_error_stop as group_errors_stand;
 use motion_kernel::machines_stay_kept;
 
 /// The rows of a cycle show the machine behind it: the row of an axis its state, its error, whether
@@ -28,6 +31,18 @@ pub fn rows_show_the_machine()
         RowsShow (after s (machine_after s made) e) e }
 {
     machines_stay_kept();
+}
+
+/// Rows show errors: in every entry of a legal history the row of an axis has the number of an axis
+/// error, 101 to 106, exactly in ErrorStop, and else 0; and the row of a group has an error exactly
+/// in GroupErrorStop.
+pub fn rows_show_errors()
+    ensures errors { (s : Setup) (made more : List Entry) (e : Entry) → IsSetup s → AreWhole s →
+        IsLegal s (made ++ e ∷ more) → ErrorsShow e }
+{
+    machines_stay_kept();
+    axis_errors_stand();
+    group_errors_stand();
 }
 
 /// Rows show that moves arrive in time: in every legal history, from the entry in which a move

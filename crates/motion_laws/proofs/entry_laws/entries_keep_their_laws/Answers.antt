@@ -9,4 +9,5 @@ returns c = entries_kept (record {
   states = c.states_change_by_their_events.ensures.entries;
   commands = c.commands_are_where_their_instances_show.ensures.entries;
   rows = c.rows_show_the_machine.ensures.entries;
+  errors = c.rows_show_errors.ensures.errors;
 })

@@ -1,0 +1,71 @@
+-- The laws on which it rests that rows show errors in the states of errors.
+use Rattle.std.specs.Prelude.{◌≡◌, ℕ, ◌<◌, Bool, ℤ, Some, length, slice_get}
+use Rattle.axis_core.specs.Calls.{axis_without_owner, core_after_command, core_after_power}
+use Rattle.axis_core.specs.Cores as axis
+use Rattle.axis_core.specs.Cycles.{axis_at_opening, core_after_cycle}
+use Rattle.axis_core.specs.Demands as demands
+use Rattle.axis_core.specs.Refusals.{Asked}
+use Rattle.axis_core.specs.Shown as axis_shown
+use Rattle.axis_core.specs.blocks.Path.{axis_on_path}
+use Rattle.axis_core.specs.declared.axis.Axis.{Axis}
+use Rattle.axis_core.specs.declared.look.AxisLook.{AxisLook}
+use Rattle.axis_state.specs.declared.definition.AxisDef.{AxisDef}
+use Rattle.command_pool.specs.declared.wanted.Wanted.{Wanted}
+use Rattle.fb_outputs.specs.declared.inputs.Inputs.{Inputs}
+use Rattle.group_core.specs.Calls.{commanded, group_without, powered_off}
+use Rattle.group_core.specs.Cores as group
+use Rattle.group_core.specs.Cycles.{cycled, opened, reset_where}
+use Rattle.group_core.specs.GroupKept.{IsCoreKept, IsMade}
+use Rattle.group_core.specs.Refusals.{limits_in}
+use Rattle.group_core.specs.Shown as group_shown
+use Rattle.group_core.specs.declared.group.Group.{Group}
+use Rattle.group_core.specs.declared.look.GroupLook.{GroupLook}
+use Rattle.motion_history.specs.Calls.{IsCall}
+use Rattle.motion_history.specs.Setup.{Setup}
+use Rattle.motion_history.specs.declared.config.BlockDef.{BlockDef}
+use Rattle.motion_kernel.specs.Machine.{Machine, axis_at, group_at}
+use Rattle.motion_kernel.specs.calls.Calls.{with_execute}
+use Rattle.motion_kernel.specs.kept.Machine.{AreWhole, IsMachineKept}
+use Rattle.motion_kernel.specs.kept.Ready.{MayCall}
+use Rattle.motion_kernel.proofs.kept.Machine.{MachinesStayKept}
+
+-- axis_core's errors_stand_in_error_stop
+pub record AxisErrors : Type 0 where
+  pub opened : (d : AxisDef) → axis_shown.IsShown (axis_at_opening d)
+  pub command : (q : Asked) (c : axis.Core) → q.axis ≡ c.axis → demands.IsMade q.wanted →
+      axis_shown.IsShown c.axis → axis_shown.IsShown (core_after_command q c).axis
+  pub power : (enable : Bool) (c : axis.Core) → axis_shown.IsShown c.axis →
+      axis_shown.IsShown (core_after_power enable c).axis
+  pub detach : (owner : ℕ) (a : Axis) → axis_shown.IsShown a →
+      axis_shown.IsShown (axis_without_owner owner a)
+  pub path : (on : Bool) (a : Axis) → axis_shown.IsShown a → axis_shown.IsShown (axis_on_path on a)
+  pub cycle : (look : AxisLook) (c : axis.Core) → axis_shown.IsShown c.axis →
+      axis_shown.IsShown (core_after_cycle look c).axis
+
+-- group_core's errors_stand_in_error_stop
+pub record GroupErrors : Type 0 where
+  pub opened : (axes : ℕ) → group_shown.IsShown (opened axes)
+  pub command : (w : Wanted) (jerk : ℤ) (members : GroupLook) (c : group.Core) →
+      IsMade c.group.axes w → group_shown.IsShown c.group →
+      group_shown.IsShown (commanded w jerk members c).group
+  pub power_off : (c : group.Core) → group_shown.IsShown c.group →
+      group_shown.IsShown (powered_off c).group
+  pub detach : (owner : ℕ) (g : Group) → group_shown.IsShown g →
+      group_shown.IsShown (group_without owner g)
+  pub cycle : (members : GroupLook) (c : group.Core) → IsCoreKept (limits_in members) c →
+      group_shown.IsShown c.group → group_shown.IsShown (cycled members c).group
+  pub reset : (members : GroupLook) (on_path : Bool) (g : Group) → group_shown.IsShown g →
+      group_shown.IsShown (reset_where members on_path g)
+
+pub record ErrorLaws : Type 0 where
+  pub machines : MachinesStayKept
+  pub may_call : (s : Setup) (k : ℕ) (b : BlockDef) (i : Inputs) (m : Machine) → AreWhole s →
+      slice_get s.blocks k ≡ Some b → IsCall s k i →
+      IsMachineKept s m → MayCall s k b i (with_execute k i m)
+  pub axes : AxisErrors
+  pub groups : GroupErrors
+
+-- each axis and each group of a machine has an error exactly in its state of errors
+pub record AreAllShown (s : Setup) (m : Machine) : Type 0 where
+  pub axes : (n : ℕ) → n < length s.axes → axis_shown.IsShown (axis_at m n)
+  pub groups : (j : ℕ) → j < length s.groups → group_shown.IsShown (group_at m j).group
