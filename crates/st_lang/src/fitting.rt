@@ -106,8 +106,13 @@ fn statement_fits(machine: &Builder, task: usize, statement: &Stmt) -> bool
 fn body_fits(machine: &Builder, task: usize, body: &[Stmt]) -> bool
     ensures { result ≡ all_true (map (fits machine.now task) body.now) }
 {
-    body.iter()
-        .all(|statement| statement_fits(machine, task, statement))
+    let mut left = body.len();
+    let mut fit = true;
+    while 0 < left {
+        left -= 1;
+        fit = statement_fits(machine, task, &body[left]) && fit;
+    }
+    fit
 }
 
 // Whether the calls inside branches fit.
@@ -115,9 +120,13 @@ fn body_fits(machine: &Builder, task: usize, body: &[Stmt]) -> bool
 fn branches_fit(machine: &Builder, task: usize, branches: &[Branch]) -> bool
     ensures { result ≡ all_true (map (branch_fits machine.now task) branches.now) }
 {
-    branches
-        .iter()
-        .all(|branch| body_fits(machine, task, branch.body.as_slice()))
+    let mut left = branches.len();
+    let mut fit = true;
+    while 0 < left {
+        left -= 1;
+        fit = body_fits(machine, task, branches[left].body.as_slice()) && fit;
+    }
+    fit
 }
 
 // Whether the tasks, the first of number 0, make calls that fit.
