@@ -56,7 +56,7 @@ same-inputs a b h =
     let e10 : a.table ≡ b.table = (Decides-eqb a.table b.table).0 y.1 in
     λ i. record { execute = e0 i; positions = e1 i; velocity = e2 i; acceleration = e3 i; deceleration = e4 i; jerk = e5 i; mode = e6 i; master = e7 i; numerator = e8 i; denominator = e9 i; table = e10 i }
 
-pub same-row : (a b : AxisRow) → (((a.input.statusword == b.input.statusword) && (int_eq a.input.mode_display b.input.mode_display && int_eq a.input.actual b.input.actual)) && (sameb axis_state.the_type a.state b.state && ((a.error == b.error) && (beq a.driven b.driven && (int_eq a.setpoint b.setpoint && (int_eq a.offset b.offset && ((a.output.controlword == b.output.controlword) && (int_eq a.output.mode b.output.mode && int_eq a.output.target b.output.target)))))))) ≡ true → a ≡ b
+pub same-row : (a b : AxisRow) → ((int_eq a.input.actual b.input.actual && ((a.input.statusword == b.input.statusword) && int_eq a.input.mode_display b.input.mode_display)) && (sameb axis_state.the_type a.state b.state && ((a.error == b.error) && (beq a.driven b.driven && (int_eq a.setpoint b.setpoint && (int_eq a.offset b.offset && (int_eq a.output.target b.output.target && ((a.output.controlword == b.output.controlword) && int_eq a.output.mode b.output.mode)))))))) ≡ true → a ≡ b
 same-row a b h =
     let p = and_parts _ _ h in
     let p1 = and_parts _ _ p.0 in
@@ -68,17 +68,17 @@ same-row a b h =
     let u = and_parts _ _ t.1 in
     let v = and_parts _ _ u.1 in
     let w = and_parts _ _ v.1 in
-    let e0 : a.input.statusword ≡ b.input.statusword = (Decides-eqb a.input.statusword b.input.statusword).0 p1.0 in
-    let e1 : a.input.mode_display ≡ b.input.mode_display = (Decides-int_eq a.input.mode_display b.input.mode_display).0 p2.0 in
-    let e2 : a.input.actual ≡ b.input.actual = (Decides-int_eq a.input.actual b.input.actual).0 p2.1 in
+    let e0 : a.input.statusword ≡ b.input.statusword = (Decides-eqb a.input.statusword b.input.statusword).0 p2.0 in
+    let e1 : a.input.mode_display ≡ b.input.mode_display = (Decides-int_eq a.input.mode_display b.input.mode_display).0 p2.1 in
+    let e2 : a.input.actual ≡ b.input.actual = (Decides-int_eq a.input.actual b.input.actual).0 p1.0 in
     let e3 : a.state ≡ b.state = same_true axis_state.the_type (search rules) _ _ q.0 in
     let e4 : a.error ≡ b.error = (Decides-eqb a.error b.error).0 r.0 in
     let e5 : a.driven ≡ b.driven = (booleans_Decides a.driven b.driven).0 s.0 in
     let e6 : a.setpoint ≡ b.setpoint = (Decides-int_eq a.setpoint b.setpoint).0 t.0 in
     let e7 : a.offset ≡ b.offset = (Decides-int_eq a.offset b.offset).0 u.0 in
-    let e8 : a.output.controlword ≡ b.output.controlword = (Decides-eqb a.output.controlword b.output.controlword).0 v.0 in
-    let e9 : a.output.mode ≡ b.output.mode = (Decides-int_eq a.output.mode b.output.mode).0 w.0 in
-    let e10 : a.output.target ≡ b.output.target = (Decides-int_eq a.output.target b.output.target).0 w.1 in
+    let e8 : a.output.controlword ≡ b.output.controlword = (Decides-eqb a.output.controlword b.output.controlword).0 w.0 in
+    let e9 : a.output.mode ≡ b.output.mode = (Decides-int_eq a.output.mode b.output.mode).0 w.1 in
+    let e10 : a.output.target ≡ b.output.target = (Decides-int_eq a.output.target b.output.target).0 v.0 in
     λ i. record {
       input = record { statusword = e0 i; mode_display = e1 i; actual = e2 i };
       state = e3 i;
