@@ -1,7 +1,7 @@
 -- How the program ends by what was asked, as the code has it.
-use Rattle.std.specs.Prelude.{◌≡◌, ℕ, Option, Some, None}
+use Rattle.std.specs.Prelude.{◌≡◌, ◌⊎◌, ℕ, Option, Some, None, Result, Ok, Err, List, IfOk, OnErr}
 use Rattle.std.specs.Option.{option_map}
-use Rattle.std.proofs.Common.{ap, subst, sym}
+use Rattle.std.proofs.Common.{ap, inl, inr, subst, sym}
 use Rattle.command_words.specs.Requests as spec
 use Rattle.command_words.specs.declared.request.Request as code
 use Rattle.job_ends.specs.declared.status.Status.{Status}
@@ -21,3 +21,10 @@ pub request-told : (x : Option code.Request) (a : Option spec.Asked) → option_
     option_map spec.request_told x ≡ option_map (λ (b : spec.Asked). b.request) a
 request-told None a is = ap (option_map (λ (b : spec.Asked). b.request)) is
 request-told (Some r) a is = ap (option_map (λ (b : spec.Asked). b.request)) is
+
+-- what is said of words that were read, if there was memory for them
+pub said-by : {E : Type 0} (r : Result (List (List ℕ)) E) (words : List (List ℕ))
+    (Said : List (List ℕ) → Type 0) (early : Type 0) → IfOk r (λ all. all ≡ words) →
+    IfOk r Said → OnErr r early → Said words ⊎ early
+said-by (Ok all) words Said early same said e = inl (subst Said same said)
+said-by (Err error) words Said early same said e = inr e
