@@ -5,12 +5,14 @@
  * drives; docs/c.md leads from nothing to a turning axis. The library is proved; what a C program
  * owes it isn't seen by any proof, and stands here:
  *
- *  - A handle begins as MOTION_NONE. From then on the library alone changes it. It is never copied;
- *    a copy that is used is a fault that nothing finds.
+ *  - A handle begins as MOTION_NONE, or as zeros where it can't be initialised (of malloc, say).
+ *    From then on the library alone changes it. It is never copied; a copy that is used is a fault
+ *    that nothing finds. Its bytes may move to another place where the old one isn't used again.
  *  - One thread at a time uses a handle. It may go from one thread to another, where a lock, a
  *    start or a join puts their calls in an order. Two handles are independent of each other.
  *  - No pointer is null or dangling, also where a length beside it is 0, and what a call writes
- *    overlaps nothing else that it is given. (The inline functions at the end test for null.)
+ *    overlaps nothing else that it is given. (The inline functions at the end test for null.) No
+ *    pointer is kept behind a call: texts and arrays are the caller's own again.
  *  - MOTION_STACK bytes of stack are left, MOTION_TRACE_STACK for motion_trace.
  *  - The three functions motion_heap.c has are there, and all memory comes from them.
  *
@@ -48,7 +50,7 @@ typedef struct motion {
     void *at;
 } motion;
 
-/* How a handle begins: `motion m = MOTION_NONE;`. */
+/* How a handle begins: `motion m = MOTION_NONE;`. An initialiser alone, no value to assign. */
 #define MOTION_NONE { 0, NULL }
 
 /* What a call answers. In a loop every code but MOTION_OK leaves the drives' outputs as they were:
@@ -68,9 +70,10 @@ enum motion_code {
     MOTION_NULL = 11      /* a pointer is null: the inline functions alone */
 };
 
-/* Where a text is refused: the line, counted from 1, and the rule, as letter 'B' and number 8. Of a
- * configuration `line` is its place: 0 for the whole text or its top, else the number of an item. The
- * rules stand in docs/rules.md. */
+/* Where a text is refused; written where MOTION_REFUSED is answered, and else left as it was. The
+ * line, counted from 1, and the rule, as letter 'B' and number 8. Of a configuration `line` is its
+ * place: 0 for the whole text or its top, else the number of an item. The rules stand in
+ * docs/rules.md. */
 typedef struct motion_refusal {
     uint64_t line;
     uint8_t letter;
@@ -172,7 +175,9 @@ enum motion_group_state {
  *   MOTION_OK        the machine is open, at rest, and its history empty
  *   MOTION_OPEN      exactly where the handle is open; it stays so
  *   MOTION_REFUSED   the text is no machine: `why` tells where. What is missing at its end is told
- *                    at the line of the `go` behind it
+ *                    at the line of the `go` that the library puts behind it: one line behind the
+ *                    last, two where that ends with a line end. A `go` in the text is told there as
+ *                    well, by B3
  *   MOTION_NO_MEMORY */
 uint32_t motion_open(motion *m, const uint8_t *text, size_t len, motion_refusal *why);
 
@@ -247,9 +252,10 @@ uint32_t motion_end(motion *m, uint8_t task);
 uint32_t motion_axis_look(motion *m, uint8_t axis, motion_axis_row *row);
 uint32_t motion_group_look(motion *m, uint8_t group, motion_group_row *row);
 
-/* Makes the trace of all that was called, cycled and ended, which `motion check` judges. `last` has each
- * drive's last answer: the trace says that it took the output of every cycle and ends so, which the
- * caller knows. It takes memory and time in proportion to the history: not for a loop.
+/* Makes the trace of all that was called, cycled and ended, which `motion check` judges. `last` has
+ * what each drive answers behind the last cycle's output, so read the drives once more: the trace ends
+ * with it, and says that each drive took the output of every cycle, which the caller alone knows. It
+ * takes memory and time in proportion to the history: not for a loop.
  *   MOTION_OK        the trace was made, and is kept until the next one or the close
  *   MOTION_CLOSED    exactly where the handle is closed
  *   MOTION_LENGTH    exactly where there isn't an answer of each axis
@@ -260,6 +266,29 @@ uint32_t motion_trace(motion *m, const motion_drive_in *last, size_t len);
  * copied: `len`, or what is left. 0 behind its end, where none was made, and where the handle is
  * closed. */
 uint64_t motion_trace_text(motion *m, uint64_t from, uint8_t *room, size_t len);
+
+/* motion_open, motion_block and motion_axis with strings of C, up to the 0 byte at their end. */
+static inline size_t motion_text_len(const char *text)
+{
+    size_t len = 0;
+    while (text[len]) len++;
+    return len;
+}
+
+static inline uint32_t motion_open_text(motion *m, const char *text, motion_refusal *why)
+{
+    return motion_open(m, (const uint8_t *)text, motion_text_len(text), why);
+}
+
+static inline uint32_t motion_block_named(motion *m, const char *name)
+{
+    return motion_block(m, (const uint8_t *)name, motion_text_len(name));
+}
+
+static inline uint32_t motion_axis_named(motion *m, const char *name)
+{
+    return motion_axis(m, (const uint8_t *)name, motion_text_len(name));
+}
 
 /* The tasks and blocks of a machine, added one by one before it is opened by a configuration:
  *

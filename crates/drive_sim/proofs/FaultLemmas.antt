@@ -2,10 +2,9 @@
 use Rattle.std.specs.Prelude.{ℕ, zero, suc, ◌≡◌, ◌≤◌, ◌<◌, Bool, true, false, ◌==◌, ◌||◌, List, [], ◌∷◌, length}
 use Rattle.std.proofs.Common.{arith, refl, get_or, eq-eqb, sym, inl, inr}
 use Rattle.std.proofs.lemmas.Bool.{cases_lt, cases_Bool, eqb-true}
-use Rattle.std.specs.Prelude.{ℤ, Result, Ok, Err}
+use Rattle.std.specs.Prelude.{Result, Ok, Err}
 use Rattle.std.specs.Result.{MatchResult, is_ok}
 use Rattle.drive_sim.specs.Faults.{RisesAbove, has_step}
-use Rattle.drive_sim.specs.Steps.{followed}
 
 -- a step among those that rise lies above
 above : (n i : ℕ) (steps : List ℕ) → RisesAbove n steps → i < length steps → n < get_or steps i 0
@@ -64,8 +63,3 @@ search-is steps step (Err i) missed = sym (has_step-none step steps (λ k below 
       | inl less ↦ (let h : get_or steps k 0 < step = missed.1 k less in omega arith)
       | inr le ↦ (let h : step < get_or steps k 0 = missed.2 k le below in omega arith)
     ]))
-
--- without kept targets the count stays
-pub nothing_followed : (room : ℕ) (actual : ℤ) → 1 ≤ room → followed room [] actual ≡ actual
-unfolding followed
-nothing_followed room actual some = let e : (0 == room) ≡ false = unequal 0 room (λ e. omega arith) in rw e refl

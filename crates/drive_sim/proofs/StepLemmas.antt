@@ -8,15 +8,15 @@ use Rattle.cia402_machine.specs.declared.drive.DriveOut.{DriveOut}
 use Rattle.cia402_machine.specs.declared.drive.DriveState.{DriveState}
 use Rattle.drive_sim.specs.Faults.{has_step}
 use Rattle.drive_sim.specs.Sim.{DriveSim}
-use Rattle.drive_sim.specs.Steps.{is_enabled, kept_after, followed, drive_stepped}
+use Rattle.drive_sim.specs.Steps.{is_enabled, actual_after, kept_after, followed, drive_stepped}
 
 -- what a step computes one after the other is what its definition says
-pub stepped : (sim : DriveSim) (out : DriveOut) (room lag steps : ℕ) (fault : Bool) (state : DriveState) (keeps : Bool) (kept : List ℤ) (actual : ℤ) →
-    lag ≡ sim.lag → room ≡ sim.lag + 1 → steps ≡ min (sim.steps + 1) (2 ^ 64 - 1) → fault ≡ has_step steps sim.faults →
+pub stepped : (sim : DriveSim) (out : DriveOut) (lag steps : ℕ) (fault : Bool) (state : DriveState) (keeps : Bool) (kept : List ℤ) (actual : ℤ) →
+    lag ≡ sim.lag → steps ≡ min (sim.steps + 1) (2 ^ 64 - 1) → fault ≡ has_step steps sim.faults →
     state ≡ drive_step_of sim.state sim.last out.controlword fault →
     keeps ≡ (is_enabled sim.state && is_enabled state && int_eq out.mode (pos 8)) →
-    kept ≡ (if keeps then keep_last room (sim.kept ++ out.target ∷ []) else []) →
-    actual ≡ followed room kept sim.actual →
+    kept ≡ (if keeps then keep_last sim.lag (sim.kept ++ out.target ∷ []) else []) →
+    actual ≡ (if keeps then followed sim.lag sim.kept out.target sim.actual else sim.actual) →
     ◌≡◌ {A = DriveSim} (record {
       lag = lag;
       faults = sim.faults;
@@ -27,6 +27,6 @@ pub stepped : (sim : DriveSim) (out : DriveOut) (room lag steps : ℕ) (fault : 
       actual = actual;
       kept = kept;
     }) (drive_stepped sim out)
-unfolding drive_stepped kept_after
-stepped sim out room lag steps fault state keeps kept actual e_lag e_room e_steps e_fault e_state e_keeps e_kept e_actual =
-    rw (e_actual, e_kept, e_keeps, e_state, e_fault, e_steps, e_room, e_lag) refl
+unfolding drive_stepped kept_after actual_after
+stepped sim out lag steps fault state keeps kept actual e_lag e_steps e_fault e_state e_keeps e_kept e_actual =
+    rw (e_actual, e_kept, e_keeps, e_state, e_fault, e_steps, e_lag) refl

@@ -1,14 +1,13 @@
 -- How a simulated drive is kept.
-use Rattle.std.specs.Prelude.{◌-◌, ◌≤◌}
 use Rattle.drive_sim.specs.Faults.{RisesAbove}
 use Rattle.drive_sim.specs.Sim.{DriveSim}
 use Rattle.drive_sim.specs.declared.drive.Drive.TheInside.{Inside}
 
--- the state that a drive's fields say: its ring has room for one target more than its lag. This
+-- the state that a drive's fields say: its ring has room for as many targets as its lag. This
 -- project's profile
 abbrev pub sim_of : Inside → DriveSim
 sim_of d = record {
-  lag = d.kept.capacity - 1;
+  lag = d.kept.capacity;
   faults = d.faults.items;
   steps = d.steps;
   state = d.state;
@@ -18,7 +17,6 @@ sim_of d = record {
   kept = d.kept.items;
 }
 
--- a drive's ring has room, and its fault steps rise. This project's profile
+-- a drive's fault steps rise. This project's profile
 pub record IsSim (d : Inside) : Type 0 where
-  pub room : 1 ≤ d.kept.capacity
   pub rising : RisesAbove 0 d.faults.items

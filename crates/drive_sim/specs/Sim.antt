@@ -4,7 +4,7 @@ use Rattle.cia402_machine.specs.declared.drive.DriveState.{DriveState}
 
 -- a simulated drive: its lag and its fault steps; how many steps it made; its state, last
 -- controlword, mode display and actual count; and the last of the targets kept since it is in
--- Operation enabled, as many as the lag and one, the oldest first. This project's profile
+-- Operation enabled, at most as many as the lag, the oldest first. This project's profile
 pub record DriveSim : Type 0 where
   pub lag : ℕ
   pub faults : List ℕ

@@ -1,5 +1,5 @@
 -- The steps of a simulated drive.
-use Rattle.std.specs.Prelude.{ℕ, ◌+◌, ◌-◌, ◌^◌, min, ℤ, pos, Bool, true, false, ◌&&◌, ◌==◌, List, [], ◌∷◌, ◌++◌, length, slice_index_or, if◌then◌else◌}
+use Rattle.std.specs.Prelude.{ℕ, ◌+◌, ◌-◌, ◌^◌, nat_lt, min, ℤ, pos, Bool, true, false, ◌&&◌, List, [], ◌∷◌, ◌++◌, length, slice_index_or, if◌then◌else◌}
 use Rattle.std.specs.Ordering.{int_eq}
 use Rattle.circular_buffer.specs.Buffer.{keep_last}
 use Rattle.cia402_machine.specs.Statusword.{status_of_state}
@@ -69,12 +69,19 @@ keeps_target sim out =
 -- the kept targets after a step: with the one just kept, or none. This project's profile
 unfoldable pub kept_after : DriveSim → DriveOut → List ℤ
 kept_after sim out =
-    if keeps_target sim out then keep_last (sim.lag + 1) (sim.kept ++ out.target ∷ []) else []
+    if keeps_target sim out then keep_last sim.lag (sim.kept ++ out.target ∷ []) else []
 
--- the actual count by the kept targets: the oldest where they fill the room for them, or the
--- earlier count where there are fewer. This project's profile
-unfoldable pub followed : ℕ → List ℤ → ℤ → ℤ
-followed room kept actual = if length kept == room then slice_index_or kept 0 actual else actual
+-- the actual count by the kept targets and one more: the oldest of all where as many were kept as
+-- the lag, or the earlier count where there were fewer. This project's profile
+abbrev pub followed : ℕ → List ℤ → ℤ → ℤ → ℤ
+followed lag kept target actual =
+    if nat_lt (length kept) lag then actual else slice_index_or (kept ++ target ∷ []) 0 actual
+
+-- the actual count after a step: one that keeps its target follows the oldest. This project's
+-- profile
+unfoldable pub actual_after : DriveSim → DriveOut → ℤ
+actual_after sim out =
+    if keeps_target sim out then followed sim.lag sim.kept out.target sim.actual else sim.actual
 
 -- a drive after a step with an output. This project's profile
 unfoldable pub drive_stepped : DriveSim → DriveOut → DriveSim
@@ -85,6 +92,6 @@ drive_stepped sim out = record {
   state = state_after sim out;
   last = out.controlword;
   mode_display = out.mode;
-  actual = followed (sim.lag + 1) (kept_after sim out) sim.actual;
+  actual = actual_after sim out;
   kept = kept_after sim out;
 }

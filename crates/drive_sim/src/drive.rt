@@ -1,6 +1,6 @@
 // The simulated drive.
 
-ghost use Rattle.std.specs.Prelude.{◌≡◌, ◌≤◌, ◌-◌, [], IfOk, length};
+ghost use Rattle.std.specs.Prelude.{◌≡◌, ◌≤◌, [], IfOk, length};
 ghost use Rattle.drive_sim.specs.Faults.{RisesAbove};
 ghost use Rattle.drive_sim.specs.Steps as spec;
 
@@ -40,10 +40,9 @@ impl Model for Drive {
 
 /// A drive with these fault steps and this room for kept targets, as it opens.
 fn opened(faults: Vec<u32>, kept: HeapCircularBuffer<i32>, count: i32, ready: bool) -> Drive
-    requires room { 1 ≤ kept.capacity }
     requires empty { kept.items ≡ [] }
     requires rising { RisesAbove 0 faults.items }
-    ensures { result ≡ spec.opened (kept.capacity - 1) faults.items count ready }
+    ensures { result ≡ spec.opened kept.capacity faults.items count ready }
 {
     if ready {
         Drive {
@@ -85,7 +84,7 @@ impl Drive {
         ensures { IfOk result (λ drive. drive ≡ spec.opened lag faults.now count ready) }
     {
         let faults = faults.to_vec(alloc)?;
-        let kept = HeapCircularBuffer::with_capacity(alloc, lag as usize + 1)?;
+        let kept = HeapCircularBuffer::with_capacity(alloc, lag as usize)?;
         Ok(opened(faults, kept, count, ready))
     }
 

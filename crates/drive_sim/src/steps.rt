@@ -1,6 +1,6 @@
 // What a step of a simulated drive does to its parts.
 
-ghost use Rattle.std.specs.Prelude.{◌≡◌, ◌≤◌, ◌&&◌, [], ◌∷◌, ◌++◌, pos, slice_index_or, if◌then◌else◌};
+ghost use Rattle.std.specs.Prelude.{◌≡◌, ◌&&◌, [], ◌∷◌, ◌++◌, pos, if◌then◌else◌};
 ghost use Rattle.std.specs.Ordering.{int_eq};
 ghost use Rattle.circular_buffer.specs.Buffer.{buffer, keep_last};
 ghost use Rattle.drive_sim.specs.Faults.{RisesAbove, has_step};
@@ -34,44 +34,19 @@ pub fn keeps_target(before: DriveState, after: DriveState, mode: i8) -> bool
     is_enabled(before) && is_enabled(after) && mode == CYCLIC_SYNCHRONOUS_POSITION
 }
 
-/// Keeps a target and answers the actual count: the target kept as many steps before as the lag
-/// says, or the earlier count where fewer were kept.
-#[tactic(auto, unfolding(crate::specs::Steps::followed))]
-fn keep(kept: &mut HeapCircularBuffer<i32>, target: i32, actual: i32) -> i32
-    requires { 1 ≤ kept.old.capacity }
-    ensures kept { kept.new ≡ buffer (keep_last kept.old.capacity (kept.old.items ++ target ∷ []))
-        kept.old.capacity }
-    ensures followed { result ≡ spec.followed kept.old.capacity kept.new.items actual }
-{
-    kept.push_back(target);
-    if kept.is_full() {
-        oldest(kept, actual)
-    } else {
-        actual
-    }
-}
-
-/// The oldest target kept, or another count where there is none.
-fn oldest(kept: &HeapCircularBuffer<i32>, count: i32) -> i32
-    ensures { result ≡ slice_index_or kept.now.items 0 count }
-{
-    match kept.front() {
-        Some(target) => *target,
-        None => count,
-    }
-}
-
-/// The actual count after a step that keeps its target, or forgets those kept.
-#[tactic(auto, using(crate::proofs::FaultLemmas::nothing_followed))]
+/// The actual count after a step that keeps its target, which is the one kept as many steps before
+/// as the ring has room or the earlier count where fewer were kept; or that forgets those kept. A
+/// ring without room gives the target back at once.
 pub fn followed(kept: &mut HeapCircularBuffer<i32>, keeps: bool, target: i32, actual: i32) -> i32
-    requires { 1 ≤ kept.old.capacity }
     ensures kept { kept.new ≡ buffer (if keeps
         then keep_last kept.old.capacity (kept.old.items ++ target ∷ [])
         else []) kept.old.capacity }
-    ensures followed { result ≡ spec.followed kept.old.capacity kept.new.items actual }
+    ensures followed { result ≡ (if keeps
+        then spec.followed kept.old.capacity kept.old.items target actual
+        else actual) }
 {
     if keeps {
-        keep(kept, target, actual)
+        kept.push_back(target).unwrap_or(actual)
     } else {
         kept.clear();
         actual

@@ -18,3 +18,4 @@ pub mod NoneHolds
 pub mod Places
 pub mod Pools
 pub mod Ends
+pub mod ErrorNumbers

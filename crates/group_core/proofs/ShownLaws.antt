@@ -146,7 +146,7 @@ unfolding group_without
 detach-shown owner g k = record { stopped = k.stopped; clear = k.clear; held = λ t. without-none owner g.hold (k.held t) }
 
 -- a cycle
-error-some : (n : ℕ) → not (nat_eq n 0) ≡ true → n ≢ 0
+pub error-some : (n : ℕ) → not (nat_eq n 0) ≡ true → n ≢ 0
 error-some n h = λ e. absurd (let f : not (nat_eq 0 0) ≡ true = subst (λ m. not (nat_eq m 0) ≡ true) e h in cc)
 
 answered-shown : (error : ℕ) (c : Core) → IsShown c.group → IsShown (answered error c).group

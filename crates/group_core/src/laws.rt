@@ -11,7 +11,7 @@ ghost use Rattle.group_core.specs.Fates.{command_fate, cycle_fate, is_failing, p
 ghost use Rattle.group_core.specs.GroupKept.{AreGroupLimits, IsCoreKept, IsCount, IsLook, IsMade};
 ghost use Rattle.group_core.specs.Members.{StandsOn, TakesSafely};
 ghost use Rattle.group_core.specs.Refusals.{limits_in, refusal_of};
-ghost use Rattle.group_core.specs.Shown.{IsShown};
+ghost use Rattle.group_core.specs.Shown.{IsErrorOrNone, IsShown};
 ghost use Rattle.group_core.specs.States.{is_error_stop};
 ghost use Rattle.group_core.specs.Tracks.{OnPath, braking_step_of, is_moving, line_step_of, moved_by};
 ghost use Rattle.group_core.specs.declared.group.Group.{Group};
@@ -166,4 +166,20 @@ pub fn errors_stand_in_error_stop()
         IsShown c.group → IsShown (cycled members c).group }
     ensures reset { (members : GroupLook) (on_path : Bool) (g : Group) → IsShown g →
         IsShown (reset_where members on_path g) }
+{}
+
+/// A group's error is 101 to 106 where the errors are that its axes bring it in cycles: so at
+/// opening, and after every call, every cycle and every GroupReset.
+pub fn errors_are_those_of_axes()
+    ensures opened { (axes : ℕ) → IsErrorOrNone (opening axes).group.error }
+    ensures command { (w : Wanted) (jerk : ℤ) (members : GroupLook) (c : Core) →
+        IsErrorOrNone c.group.error → IsErrorOrNone (commanded w jerk members c).group.error }
+    ensures power_off { (c : Core) → IsErrorOrNone c.group.error →
+        IsErrorOrNone (powered_off c).group.error }
+    ensures detach { (owner : ℕ) (g : Group) → IsErrorOrNone g.error →
+        IsErrorOrNone (group_without owner g).error }
+    ensures cycle { (members : GroupLook) (c : Core) → IsErrorOrNone members.error →
+        IsErrorOrNone c.group.error → IsErrorOrNone (cycled members c).group.error }
+    ensures reset { (members : GroupLook) (on_path : Bool) (g : Group) → IsErrorOrNone g.error →
+        IsErrorOrNone (reset_where members on_path g).error }
 {}

@@ -34,8 +34,8 @@ pub use group::{Group, GroupOnPath, Motion, Track};
 pub use group_state::{GroupRow, GroupState};
 pub use kin_core::Limits;
 pub use laws::{
-    courses_end_in_time, errors_stand_in_error_stop, groups_stay_kept, members_keep_their_limits,
-    paths_go_on_by_their_steps,
+    courses_end_in_time, errors_are_those_of_axes, errors_stand_in_error_stop, groups_stay_kept,
+    members_keep_their_limits, paths_go_on_by_their_steps,
 };
 pub use linear_path::{LinePath, Path};
 pub use look::{ActiveLook, GroupLook, GroupStep};

@@ -10,11 +10,12 @@ ghost use Rattle.motion_kernel.specs.kept.Machine.{AreWhole};
 use crate::event_laws::states_change_by_their_events;
 use crate::owner_laws::commands_are_where_their_instances_show;
 use crate::refusal_laws::refusals_change_nothing;
-use crate::reply_laws::replies_tell_one_result;
+use crate::reply_laws::{replies_show_commands, replies_tell_one_result};
 use crate::row_laws::{rows_show_errors, rows_show_the_machine};
 
-/// In every entry of a legal history a call's reply tells one result, with the number of its error;
-/// a call that is refused changes nothing but its instance; the states of axes and groups change by
+/// In every entry of a legal history a call's reply tells one result, with the number of its error,
+/// and shows what command its block has behind it; a call that is refused, by the number of a
+/// refusal, changes nothing but its instance; the states of axes and groups change by
 /// the entry's events in their order, as their diagrams lead; after it each instance shows Waiting
 /// or Active exactly where its command is; and the rows of a cycle show the machine behind it, and
 /// errors exactly in the states of errors.
@@ -24,6 +25,7 @@ pub fn entries_keep_their_laws()
 {
     refusals_change_nothing();
     replies_tell_one_result();
+    replies_show_commands();
     states_change_by_their_events();
     commands_are_where_their_instances_show();
     rows_show_the_machine();

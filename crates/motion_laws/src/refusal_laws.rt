@@ -24,4 +24,7 @@ pub fn refusals_change_nothing()
         IsRefused (machine_after s made) k i reply →
         machine_after s (made ++ call k i reply ∷ [])
         ≡ machine_refused k reply.error_id (machine_after s made) }
+    ensures numbers { (s : Setup) (made more : List Entry) (k : ℕ) (i : Inputs)
+        (reply : Outputs) → IsLegal s (made ++ call k i reply ∷ more) →
+        IsRefused (machine_after s made) k i reply → IsRefusalNumber reply.error_id }
 {}

@@ -1,7 +1,8 @@
 // The law of replies: the contract of a function that does nothing.
 
-ghost use Rattle.std.specs.Prelude.{◌≡◌, ◌<◌, ℕ, Some, List, ◌∷◌, ◌++◌, length, slice_get};
+ghost use Rattle.std.specs.Prelude.{◌≡◌, ◌<◌, ℕ, false, Some, List, ◌∷◌, ◌++◌, length, slice_get};
 ghost use Rattle.cia402_machine.specs.declared.drive.DriveIn.{DriveIn};
+ghost use Rattle.fb_outputs.specs.Steps.{is_power};
 ghost use Rattle.fb_outputs.specs.declared.inputs.Inputs.{Inputs};
 ghost use Rattle.fb_outputs.specs.declared.outputs.Outputs.{Outputs};
 ghost use Rattle.motion_history.specs.Entries.{Entry, call};
@@ -9,12 +10,15 @@ ghost use Rattle.motion_history.specs.Setup.{Setup, IsSetup};
 ghost use Rattle.motion_history.specs.declared.config.BlockDef.{BlockDef};
 ghost use Rattle.motion_kernel.specs.calls.Calls.{after_call, reply_of};
 ghost use Rattle.motion_kernel.specs.cycles.Cycles.{after_cycle};
-ghost use Rattle.motion_kernel.specs.Histories.{IsLegal};
+ghost use Rattle.motion_kernel.specs.Histories.{IsLegal, machine_after};
 ghost use Rattle.motion_kernel.specs.Machine.{Machine, machine_at_opening};
 ghost use Rattle.motion_kernel.specs.kept.Machine.{AreWhole};
 ghost use Rattle.motion_laws.specs.entries.Replies.{AreOfBlocks, IsReplyOf};
+ghost use Rattle.motion_laws.specs.owners.Shown.{ShowsCommand};
 
+use crate::owner_laws::commands_are_where_their_instances_show;
 use fb_outputs::replies_tell_one_result as instances_tell_one_result;
+use motion_history::configurations_are_sound;
 use motion_kernel::machines_stay_kept;
 
 /// Each reply of a legal history tells at most one of Busy, Done, CommandAborted and Error, and at
@@ -39,4 +43,20 @@ pub fn replies_tell_one_result()
 {
     machines_stay_kept();
     instances_tell_one_result();
+}
+
+/// The reply of a call shows what command its block has: in every legal history a block that is no
+/// Power is Busy exactly where it has a command behind the call, which is active, waits or is a
+/// pending reset, and Active exactly where that is the active one; but a Stop or GroupStop may be
+/// Active with its Done.
+pub fn replies_show_commands()
+    ensures entries { (s : Setup) (made more : List Entry) (k : ℕ) (i : Inputs)
+        (reply : Outputs) (b : BlockDef) → IsSetup s → AreWhole s →
+        IsLegal s (made ++ call k i reply ∷ more) → slice_get s.blocks k ≡ Some b →
+        is_power b.kind ≡ false →
+        ShowsCommand (after_call s (machine_after s made) k i) k b reply }
+{
+    machines_stay_kept();
+    configurations_are_sound();
+    commands_are_where_their_instances_show();
 }

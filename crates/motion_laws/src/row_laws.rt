@@ -16,7 +16,7 @@ ghost use Rattle.motion_laws.specs.entries.Rows.{RowsShow, ShowMachine};
 use crate::arrival_laws::moves_arrive_in_time;
 use axis_core::errors_stand_in_error_stop as axis_errors_stand;
 use command_changes::{axis_fates_are_told, group_fates_are_told};
-use group_core::errors_stand_in_error_stop as group_errors_stand;
+use group_core::{errors_are_those_of_axes, errors_stand_in_error_stop as group_errors_stand};
 use motion_kernel::machines_stay_kept;
 
 /// The rows of a cycle show the machine behind it: the row of an axis its state, its error, whether
@@ -34,8 +34,8 @@ pub fn rows_show_the_machine()
 }
 
 /// Rows show errors: in every entry of a legal history the row of an axis has the number of an axis
-/// error, 101 to 106, exactly in ErrorStop, and else 0; and the row of a group has an error exactly
-/// in GroupErrorStop.
+/// error, 101 to 106, exactly in ErrorStop, and else 0; and so has the row of a group in
+/// GroupErrorStop.
 pub fn rows_show_errors()
     ensures errors { (s : Setup) (made more : List Entry) (e : Entry) → IsSetup s → AreWhole s →
         IsLegal s (made ++ e ∷ more) → ErrorsShow e }
@@ -43,6 +43,7 @@ pub fn rows_show_errors()
     machines_stay_kept();
     axis_errors_stand();
     group_errors_stand();
+    errors_are_those_of_axes();
 }
 
 /// Rows show that moves arrive in time: in every legal history, from the entry in which a move

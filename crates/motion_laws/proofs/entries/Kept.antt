@@ -1,6 +1,7 @@
 -- What each entry of a legal history keeps.
-use Rattle.std.specs.Prelude.{◌≡◌, refl, ℕ, Some, List, [], ◌∷◌, ◌++◌, slice_get}
+use Rattle.std.specs.Prelude.{◌≡◌, refl, ℕ, false, Some, List, [], ◌∷◌, ◌++◌, slice_get}
 use Rattle.std.proofs.Common.{ap, sym, subst, ◌∙◌}
+use Rattle.fb_outputs.specs.Steps.{is_power}
 use Rattle.fb_outputs.specs.declared.inputs.Inputs.{Inputs}
 use Rattle.fb_outputs.specs.declared.outputs.Outputs.{Outputs}
 use Rattle.motion_history.specs.Entries.{Entry, call, cycle, end_of}
@@ -11,9 +12,10 @@ use Rattle.motion_laws.specs.entries.Events.{GoByEvents}
 use Rattle.motion_laws.specs.entries.Kept.{KeepsEntries, KeepsEntry, KeepsReply}
 use Rattle.motion_kernel.specs.Histories.{IsLegal, after, machine_after}
 use Rattle.motion_kernel.specs.Machine.{machine_at_opening}
+use Rattle.motion_kernel.specs.calls.Calls.{after_call}
 use Rattle.motion_kernel.specs.kept.Machine.{AreWhole}
-use Rattle.motion_laws.specs.owners.Shown.{AreWhereShown}
-use Rattle.motion_laws.specs.entries.Refusals.{IsRefused, machine_refused}
+use Rattle.motion_laws.specs.owners.Shown.{AreWhereShown, ShowsCommand}
+use Rattle.motion_laws.specs.entries.Refusals.{IsRefusalNumber, IsRefused, machine_refused}
 use Rattle.motion_laws.specs.entries.Replies.{IsReplyOf}
 use Rattle.motion_laws.specs.entries.Rows.{RowsShow}
 use Rattle.motion_laws.proofs.Histories.{replay_append, legal_so_far}
@@ -24,6 +26,13 @@ pub record EntryLaws : Type 0 where
       IsLegal s (made ++ call k i reply ∷ more) →
       IsRefused (machine_after s made) k i reply → machine_after s (made ++ call k i reply ∷ [])
       ≡ machine_refused k reply.error_id (machine_after s made)
+  pub numbers : (s : Setup) (made more : List Entry) (k : ℕ) (i : Inputs) (reply : Outputs) →
+      IsLegal s (made ++ call k i reply ∷ more) →
+      IsRefused (machine_after s made) k i reply → IsRefusalNumber reply.error_id
+  pub shows : (s : Setup) (made more : List Entry) (k : ℕ) (i : Inputs) (reply : Outputs)
+      (b : BlockDef) → IsSetup s → AreWhole s → IsLegal s (made ++ call k i reply ∷ more) →
+      slice_get s.blocks k ≡ Some b → is_power b.kind ≡ false →
+      ShowsCommand (after_call s (machine_after s made) k i) k b reply
   pub replies : (s : Setup) (made more : List Entry) (k : ℕ) (i : Inputs) (reply : Outputs)
       (b : BlockDef) → IsSetup s → AreWhole s →
       IsLegal s (made ++ call k i reply ∷ more) → slice_get s.blocks k ≡ Some b →
@@ -55,6 +64,8 @@ reply_kept laws s made more (call k i reply) setup whole legal = record {
   reply_of = λ b at. laws.replies s made more k i reply b setup whole legal at;
   refused = λ h. sym (one_more s made (call k i reply))
       ∙ laws.refusals s made more k i reply legal h;
+  shows = λ b at other. laws.shows s made more k i reply b setup whole legal at other;
+  number = λ h. laws.numbers s made more k i reply legal h;
 }
 reply_kept laws s made more (cycle n rows grows) setup whole legal = tt
 reply_kept laws s made more (end_of task) setup whole legal = tt

@@ -4,3 +4,4 @@ pub mod GroupNumbers
 pub mod Commands
 pub mod Entries
 pub mod Histories
+pub mod Shows

@@ -1,9 +1,10 @@
 -- What the rows of a cycle show of errors (PLCopen Motion Control Part 1 and Part 4, the state
 -- diagrams).
-use Rattle.std.specs.Prelude.{◌≡◌, ◌≢◌, ℕ, true, false, Some, List, slice_get}
+use Rattle.std.specs.Prelude.{◌≡◌, ℕ, true, false, Some, List, slice_get}
 use Rattle.axis_core.specs.Shown.{IsAxisError}
 use Rattle.axis_state.specs.States as axis
 use Rattle.axis_state.specs.declared.definition.AxisRow.{AxisRow}
+use Rattle.group_core.specs.Shown.{IsGroupError}
 use Rattle.group_core.specs.States as group
 use Rattle.group_state.specs.declared.state.GroupRow.{GroupRow}
 use Rattle.motion_history.specs.Entries.{Entry, call, cycle, end_of}
@@ -13,9 +14,9 @@ pub record ShowsAxisError (r : AxisRow) : Type 0 where
   pub stopped : axis.is_error_stop r.state ≡ true → IsAxisError r.error
   pub clear : axis.is_error_stop r.state ≡ false → r.error ≡ 0
 
--- the row of a group shows an error exactly in GroupErrorStop
+-- the row of a group shows the number of a group error exactly in GroupErrorStop, and else 0
 pub record ShowsGroupError (r : GroupRow) : Type 0 where
-  pub stopped : group.is_error_stop r.state ≡ true → r.error ≢ 0
+  pub stopped : group.is_error_stop r.state ≡ true → IsGroupError r.error
   pub clear : group.is_error_stop r.state ≡ false → r.error ≡ 0
 
 -- so does each row

@@ -1,5 +1,6 @@
 -- What each entry of a legal history keeps (PLCopen Motion Control Part 1 and Part 4).
-use Rattle.std.specs.Prelude.{◌≡◌, ℕ, Some, List, ◌∷◌, ◌++◌, slice_get}
+use Rattle.std.specs.Prelude.{◌≡◌, ℕ, false, Some, List, ◌∷◌, ◌++◌, slice_get}
+use Rattle.fb_outputs.specs.Steps.{is_power}
 use Rattle.fb_outputs.specs.declared.inputs.Inputs.{Inputs}
 use Rattle.fb_outputs.specs.declared.outputs.Outputs.{Outputs}
 use Rattle.motion_history.specs.Entries.{Entry, call, cycle, end_of}
@@ -10,17 +11,20 @@ use Rattle.motion_laws.specs.entries.Errors.{ErrorsShow}
 use Rattle.motion_laws.specs.entries.Events.{GoByEvents}
 use Rattle.motion_kernel.specs.Histories.{after, machine_after}
 use Rattle.motion_kernel.specs.Machine.{Machine}
-use Rattle.motion_laws.specs.owners.Shown.{AreWhereShown}
-use Rattle.motion_laws.specs.entries.Refusals.{IsRefused, machine_refused}
+use Rattle.motion_laws.specs.owners.Shown.{AreWhereShown, ShowsCommand}
+use Rattle.motion_laws.specs.entries.Refusals.{IsRefusalNumber, IsRefused, machine_refused}
 use Rattle.motion_laws.specs.entries.Replies.{IsReplyOf}
 use Rattle.motion_laws.specs.entries.Rows.{RowsShow}
 
--- a call is answered: its reply is one of its block, and where it is refused nothing has changed
--- but its instance
+-- a call is answered: its reply is one of its block, and shows what command the block has then; and
+-- where it is refused, by the number of a refusal, nothing has changed but its instance
 pub record IsAnswered (s : Setup) (m : Machine) (k : ℕ) (i : Inputs) (reply : Outputs)
     : Type 0 where
   pub reply_of : (b : BlockDef) → slice_get s.blocks k ≡ Some b → IsReplyOf b i reply
+  pub shows : (b : BlockDef) → slice_get s.blocks k ≡ Some b → is_power b.kind ≡ false →
+      ShowsCommand (after_call s m k i) k b reply
   pub refused : IsRefused m k i reply → after_call s m k i ≡ machine_refused k reply.error_id m
+  pub number : IsRefused m k i reply → IsRefusalNumber reply.error_id
 
 -- other entries have no reply
 abbrev pub KeepsReply : Setup → Machine → Entry → Type 0

@@ -12,7 +12,6 @@ use Rattle.command_pool.specs.declared.wanted.Wanted.{Wanted}
 use Rattle.fb_outputs.specs.Steps.{is_power}
 use Rattle.fb_outputs.specs.declared.inputs.Inputs.{Inputs}
 use Rattle.group_core.specs.Cores.{Core}
-use Rattle.group_core.specs.Shown as group_shown
 use Rattle.motion_history.specs.Calls.{IsCall}
 use Rattle.motion_history.specs.Setup.{Setup}
 use Rattle.motion_history.specs.declared.config.BlockDef.{BlockDef}
@@ -21,7 +20,7 @@ use Rattle.motion_kernel.specs.calls.Calls.{after_call, with_execute}
 use Rattle.motion_kernel.specs.kept.Machine.{AreWhole, IsMachineKept}
 use Rattle.motion_laws.specs.entries.AxisEvents as axis_words
 use Rattle.motion_laws.specs.entries.GroupEvents as group_words
-use Rattle.motion_laws.proofs.entries.errors.Laws.{AreAllShown, AxisErrors, ErrorLaws, GroupErrors}
+use Rattle.motion_laws.proofs.entries.errors.Laws.{AreAllShown, AxisErrors, ErrorLaws, GroupErrors, ShowsTruly}
 use Rattle.motion_laws.proofs.walk.AxisCalls as axes
 use Rattle.motion_laws.proofs.walk.GroupCalls as groups
 
@@ -44,15 +43,15 @@ axis_said laws a ws h = record {
       (subst (λ (y : Axis). axis_shown.IsShown y) (sym e) (laws.detach owner a h));
 }
 
-group_said : GroupErrors → (c : Core) → group_shown.IsShown c.group →
-    groups.IsSaid group_words.event_words c (λ es x. group_shown.IsShown x.group)
+group_said : GroupErrors → (c : Core) → ShowsTruly c.group →
+    groups.IsSaid group_words.event_words c (λ es x. ShowsTruly x.group)
 group_said laws c h = record {
   rests = h;
   untold = λ es x shown. shown;
   detach = λ owner. laws.detach owner c.group h;
   power_off = laws.power_off c h;
   command = λ owner w jerk members x e looks made kept. laws.command w jerk members x made
-      (subst (λ (y : Core). group_shown.IsShown y.group) (sym e) (laws.detach owner c.group h));
+      (subst (λ (y : Core). ShowsTruly y.group) (sym e) (laws.detach owner c.group h));
 }
 
 asks_well : ErrorLaws → (s : Setup) (k : ℕ) (b : BlockDef) (i : Inputs) (m : Machine) (n : ℕ) →
@@ -77,7 +76,7 @@ call_shown laws s m k i whole made h shown =
           (record { axis = omega arith; list = omega arith })
           (λ b at other. asks_well laws s k b i m n h whole made at other);
       groups = λ j l. groups.said_by_call group_words.event_words
-          (λ es x. group_shown.IsShown x.group) s m k i j
+          (λ es x. ShowsTruly x.group) s m k i j
           (group_said laws.groups (group_core_at m j) (shown.groups j l))
           (record { group = omega arith; list = omega arith })
           (λ b at. laws.may_call s k b i m whole at made h) h;

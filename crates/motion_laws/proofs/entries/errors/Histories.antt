@@ -23,7 +23,7 @@ use Rattle.motion_kernel.specs.kept.Machine.{AreWhole, IsMachineKept}
 use Rattle.motion_laws.proofs.Histories.{legal_kept, legal_so_far}
 use Rattle.motion_laws.proofs.entries.errors.Calls.{call_shown}
 use Rattle.motion_laws.proofs.entries.errors.Cycles.{cycle_shown}
-use Rattle.motion_laws.proofs.entries.errors.Laws.{AreAllShown, AxisErrors, ErrorLaws, GroupErrors}
+use Rattle.motion_laws.proofs.entries.errors.Laws.{AreAllShown, AxisErrors, ErrorLaws, GroupErrors, ShowsTruly}
 use Rattle.motion_laws.proofs.entries.events.Histories.{IsEntry, entry_in}
 use Rattle.motion_laws.proofs.entries.rows.Cycles.{cycle_shows}
 use Rattle.motion_laws.proofs.owners.commands.Events.{there_where}
@@ -38,7 +38,7 @@ axes_opened laws (d ∷ ds) zero l = laws.opened d
 axes_opened laws (d ∷ ds) (suc n) l = axes_opened laws ds n (omega arith)
 
 groups_opened : GroupErrors → (ds : List GroupDef) (j : ℕ) → j < length ds →
-    group_shown.IsShown (group_among (map group_at_opening ds) j).group
+    ShowsTruly (group_among (map group_at_opening ds) j).group
 groups_opened laws [] j l = absurd (omega arith)
 groups_opened laws (d ∷ ds) zero l = laws.opened d.count
 groups_opened laws (d ∷ ds) (suc j) l = groups_opened laws ds j (omega arith)
@@ -72,18 +72,19 @@ axis_row r a row shown = record {
   clear = λ e. row.error ∙ shown.clear (ap axis.is_error_stop (sym row.state) ∙ e);
 }
 
-group_row : (r : GroupRow) (g : Group) → ShowsGroup r g → group_shown.IsShown g →
-    ShowsGroupError r
-group_row r g row shown = record {
-  stopped = λ e none.
-      shown.stopped (ap group.is_error_stop (sym row.state) ∙ e) (sym row.error ∙ none);
-  clear = λ e. row.error ∙ shown.clear (ap group.is_error_stop (sym row.state) ∙ e);
-}
+group_row : (r : GroupRow) (g : Group) → ShowsGroup r g → ShowsTruly g → ShowsGroupError r
+group_row r g row truly =
+    let shown = truly.shown in
+    record {
+      stopped = λ e. subst group_shown.IsGroupError (sym row.error)
+          (truly.number (shown.stopped (ap group.is_error_stop (sym row.state) ∙ e)));
+      clear = λ e. row.error ∙ shown.clear (ap group.is_error_stop (sym row.state) ∙ e);
+    }
 
 -- a group that is not there shows none
 group_anywhere : GroupErrors → (gs : List PlacedGroup) →
-    ((j : ℕ) → j < length gs → group_shown.IsShown (group_among gs j).group) → (j : ℕ) →
-    group_shown.IsShown (group_among gs j).group
+    ((j : ℕ) → j < length gs → ShowsTruly (group_among gs j).group) → (j : ℕ) →
+    ShowsTruly (group_among gs j).group
 group_anywhere laws [] h j = laws.opened 0
 group_anywhere laws (g ∷ gs) h zero = h zero (omega arith)
 group_anywhere laws (g ∷ gs) h (suc j) = group_anywhere laws gs (λ k b. h (suc k) (omega arith)) j

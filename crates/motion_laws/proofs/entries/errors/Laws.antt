@@ -42,20 +42,25 @@ pub record AxisErrors : Type 0 where
   pub cycle : (look : AxisLook) (c : axis.Core) → axis_shown.IsShown c.axis →
       axis_shown.IsShown (core_after_cycle look c).axis
 
--- group_core's errors_stand_in_error_stop
+-- a group shows its error and its GroupStop truly, and an error is 101 to 106
+pub record ShowsTruly (g : Group) : Type 0 where
+  pub shown : group_shown.IsShown g
+  pub number : group_shown.IsErrorOrNone g.error
+
+-- group_core's errors_stand_in_error_stop and errors_are_those_of_axes
 pub record GroupErrors : Type 0 where
-  pub opened : (axes : ℕ) → group_shown.IsShown (opened axes)
+  pub opened : (axes : ℕ) → ShowsTruly (opened axes)
   pub command : (w : Wanted) (jerk : ℤ) (members : GroupLook) (c : group.Core) →
-      IsMade c.group.axes w → group_shown.IsShown c.group →
-      group_shown.IsShown (commanded w jerk members c).group
-  pub power_off : (c : group.Core) → group_shown.IsShown c.group →
-      group_shown.IsShown (powered_off c).group
-  pub detach : (owner : ℕ) (g : Group) → group_shown.IsShown g →
-      group_shown.IsShown (group_without owner g)
+      IsMade c.group.axes w → ShowsTruly c.group →
+      ShowsTruly (commanded w jerk members c).group
+  pub power_off : (c : group.Core) → ShowsTruly c.group →
+      ShowsTruly (powered_off c).group
+  pub detach : (owner : ℕ) (g : Group) → ShowsTruly g →
+      ShowsTruly (group_without owner g)
   pub cycle : (members : GroupLook) (c : group.Core) → IsCoreKept (limits_in members) c →
-      group_shown.IsShown c.group → group_shown.IsShown (cycled members c).group
-  pub reset : (members : GroupLook) (on_path : Bool) (g : Group) → group_shown.IsShown g →
-      group_shown.IsShown (reset_where members on_path g)
+      group_shown.IsErrorOrNone members.error → ShowsTruly c.group → ShowsTruly (cycled members c).group
+  pub reset : (members : GroupLook) (on_path : Bool) (g : Group) → ShowsTruly g →
+      ShowsTruly (reset_where members on_path g)
 
 pub record ErrorLaws : Type 0 where
   pub machines : MachinesStayKept
@@ -68,4 +73,4 @@ pub record ErrorLaws : Type 0 where
 -- each axis and each group of a machine has an error exactly in its state of errors
 pub record AreAllShown (s : Setup) (m : Machine) : Type 0 where
   pub axes : (n : ℕ) → n < length s.axes → axis_shown.IsShown (axis_at m n)
-  pub groups : (j : ℕ) → j < length s.groups → group_shown.IsShown (group_at m j).group
+  pub groups : (j : ℕ) → j < length s.groups → ShowsTruly (group_at m j).group

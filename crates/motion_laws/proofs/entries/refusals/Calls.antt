@@ -241,3 +241,15 @@ refused_entry s made more k i reply legal h =
     replay_append s (machine_at_opening s) made (call k i reply ∷ [])
     ∙ refused_call s m k i is.there refused
     ∙ ap (λ (o : Outputs). machine_refused k o.error_id m) (sym one.answered)
+
+pub numbered_entry : (s : Setup) (made more : List Entry) (k : ℕ) (i : Inputs) (reply : Outputs) →
+    IsLegal s (made ++ call k i reply ∷ more) → IsRefused (machine_after s made) k i reply →
+    IsRefusalNumber reply.error_id
+unfolding machine_after
+numbered_entry s made more k i reply legal h =
+    let m = replay s (machine_at_opening s) made in
+    let one = call_in s 0 (machine_at_opening s) made more k i reply legal.follows in
+    let is = one.made in
+    let refused : IsRefused m k i (reply_of s m k i) = subst (IsRefused m k i) one.answered h in
+    subst (λ (o : Outputs). IsRefusalNumber o.error_id) (sym one.answered)
+    (refused_number s m k i is.there refused)

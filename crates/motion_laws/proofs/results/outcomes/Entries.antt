@@ -23,7 +23,7 @@ use Rattle.motion_laws.proofs.results.outcomes.Own.{own_outcome}
 use Rattle.motion_laws.proofs.results.outcomes.Shown.{cycle_outcome}
 
 -- the axis or group of a block is there
-object_there : ConfigurationsAreSound → (s : Setup) (m : Machine) (k : ℕ) (b : BlockDef) → IsMachineKept s m → slice_get s.blocks k ≡ Some b →
+pub object_there : ConfigurationsAreSound → (s : Setup) (m : Machine) (k : ℕ) (b : BlockDef) → IsMachineKept s m → slice_get s.blocks k ≡ Some b →
     IsThere m (object_of b)
 object_there sound s m k b kept at =
     by (acts_on_group b.kind) (calls.object_of sound s k b kept.sized.setup (there_where s.blocks k b at) at).object
@@ -33,7 +33,7 @@ object_there sound s m k b kept at =
     by false l = let sizes = kept.sized in let a = sizes.axes in omega arith
 
 -- and has its commands
-commands_there : (s : Setup) (k : ℕ) (b : BlockDef) → slice_get s.blocks k ≡ Some b → is_power b.kind ≡ false →
+pub commands_there : (s : Setup) (k : ℕ) (b : BlockDef) → slice_get s.blocks k ≡ Some b → is_power b.kind ≡ false →
     has_commands_on (slice_get s.blocks k) (object_of b) ≡ true
 commands_there s k b at other =
     ap (λ x. has_commands_on x (object_of b)) at ∙ ap (λ x. not x && is_same (object_of b) (object_of b)) other ∙ is_itself (object_of b)

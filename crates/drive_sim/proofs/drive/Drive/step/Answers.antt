@@ -1,7 +1,7 @@
 -- The fields after a step are those of its definition.
-use Rattle.std.specs.Prelude.{◌≡◌, ℤ, [], ◌∷◌, ◌++◌, ◌+◌, ◌-◌, ◌&&◌, pos, if◌then◌else◌}
+use Rattle.std.specs.Prelude.{◌≡◌, ℤ, [], ◌∷◌, ◌++◌, ◌&&◌, pos, if◌then◌else◌}
 use Rattle.std.specs.Ordering.{int_eq}
-use Rattle.std.proofs.Common.{rules, arith, ap, ◌∙◌, w8, w32, FitsSigned, to_z-of_z}
+use Rattle.std.proofs.Common.{rules, ap, ◌∙◌, w8, w32, FitsSigned, to_z-of_z}
 use Rattle.circular_buffer.specs.Buffer.{Buffer, buffer, keep_last}
 use Rattle.drive_sim.specs.Faults.{has_step}
 use Rattle.drive_sim.specs.Steps.{is_enabled, followed}
@@ -21,13 +21,13 @@ returns-clause-after c =
     simp to_z-of_z at c.keeps_target-keeps.ensures in
     let ring : c.followed-self-inside.new.kept ≡ buffer (if c.keeps_target-keeps.result then keep_last c.self.inside.kept.capacity (c.self.inside.kept.items ++ c.args.out.now.target ∷ []) else []) c.self.inside.kept.capacity =
     simp to_z-of_z at c.followed-self-inside.ensures.kept in
-    let follows : c.followed-self-inside.result ≡ followed c.self.inside.kept.capacity c.followed-self-inside.new.kept.items c.self.inside.actual =
+    let follows : c.followed-self-inside.result ≡ (if c.keeps_target-keeps.result
+    then followed c.self.inside.kept.capacity c.self.inside.kept.items c.args.out.now.target c.self.inside.actual else c.self.inside.actual) =
     simp to_z-of_z at c.followed-self-inside.ensures.followed in
-    let lag : c.followed-self-inside.new.kept.capacity - 1 ≡ c.self.inside.kept.capacity - 1 = ap (λ (b : Buffer ℤ). b.capacity - 1) ring in
-    let room : c.self.inside.kept.capacity ≡ (c.self.inside.kept.capacity - 1) + 1 = let some = c.self.invariant.room in omega arith in
+    let lag : c.followed-self-inside.new.kept.capacity ≡ c.self.inside.kept.capacity = ap (λ (b : Buffer ℤ). b.capacity) ring in
     let items = ap (λ (b : Buffer ℤ). b.items) ring in
-    let all = stepped (sim_of c.self.inside) c.args.out.now c.self.inside.kept.capacity (c.followed-self-inside.new.kept.capacity - 1)
+    let all = stepped (sim_of c.self.inside) c.args.out.now c.followed-self-inside.new.kept.capacity
     c.saturating_add-self-inside.result c.has_fault-fault.result c.drive_step-self-inside.result c.keeps_target-keeps.result
     c.followed-self-inside.new.kept.items c.followed-self-inside.result
-    lag room c.saturating_add-self-inside.ensures fault c.drive_step-self-inside.ensures keeps items follows in
+    lag c.saturating_add-self-inside.ensures fault c.drive_step-self-inside.ensures keeps items follows in
     rw (← c.self.view_is) (simp to_z-of_z all)
