@@ -43,12 +43,6 @@ ends-for Bench name text old new s e = e.by
 ends-for Check name text old new s e = e.by
 ends-for Migrate name text old new s e = e.by
 
--- the same text
-pub same-content : (job : Job) (name xs ys : List ℕ) (old new : Output) (s : Status) → xs ≡ ys →
-    EndsByText job name xs old new s → EndsByText job name ys old new s
-same-content job name xs ys old new s e by =
-    let P : List ℕ → Type 0 = λ t. EndsByText job name t old new s in subst P e by
-
 -- what a file leads to by what a read of it found
 abbrev pub plan_of : FileJob → Found → Plan
 plan_of r Unread = unread_plan 1 r.name

@@ -147,19 +147,19 @@ fn serve_file<F: Files, K: Sink>(
 {
     let mut text = Vec::new(alloc);
     match files.read_all(name, &mut text, most_bytes(work.job)) {
-        Ok(()) => do_job(alloc, work, name, text.as_slice(), out),
+        Ok(()) => do_job(alloc, work, name, text, out),
         Err(fault) => say_unread(alloc, 1, name, fault, out),
     }
 }
 
 // Does what is asked with a text.
-fn do_job<K: Sink>(alloc: Global, work: Work, name: &str, text: &[u8], out: &mut K) -> Status
-    ensures { EndsByText work.job name.now text.now
+fn do_job<K: Sink>(alloc: Global, work: Work, name: &str, text: Vec<u8>, out: &mut K) -> Status
+    ensures { EndsByText work.job name.now text.items
         (record { count = K.count out.old; told = K.told out.old })
         (record { count = K.count out.new; told = K.told out.new }) result }
 {
     match work.job {
-        Job::Bench => run_text(alloc, name, text, work.cut, out),
+        Job::Bench => run_text(alloc, name, text.as_slice(), work.cut, out),
         Job::Check => check_text(alloc, name, text, out),
         Job::Migrate => migrate_text(alloc, name, text, out),
     }

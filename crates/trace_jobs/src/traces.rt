@@ -1,11 +1,13 @@
 // A trace is replayed and judged, or written in version 2.
 
-ghost use Rattle.std.specs.Prelude.{◌≡◌, None, false};
+ghost use Rattle.std.specs.Prelude.{◌≡◌, None, false, IfOk};
 ghost use Rattle.job_ends.specs.Ends.{EndsBy};
 ghost use Rattle.trace_jobs.specs.Ends.{EndsByCheck, EndsByMigrate};
 ghost use Rattle.trace_jobs.specs.Judged.{JudgesBy, tells_illegal, tells_legal};
 ghost use Rattle.trace_jobs.specs.Plans.{illegal_plan, judged_plan, plan_of_check, plan_of_migrate};
 ghost use Rattle.trace_text.specs.TraceKept.{IsTraceKept};
+ghost use Rattle.trace_text.specs.reading.Reading as read;
+ghost use Rattle.trace_text.specs.reading.Reading.{ReadsBy};
 
 use crate::lines::{illegal_lines, legal_line};
 use job_ends::{Status, ends_follow_plans, say, say_refused, status_by};
@@ -15,18 +17,26 @@ use std::alloc::Global;
 use trace_check::{Difference, Replayed, Trace, Verdict, check, migrated_traces_are_legal, replay};
 use trace_text::{read_trace, write_trace};
 
-/// Tells whether the trace that a text is is legal.
-pub fn check_text<K: Sink>(alloc: Global, name: &str, text: &[u8], out: &mut K) -> Status
-    ensures { EndsByCheck name.now text.now
+/// Tells whether the trace that a text is is legal. The text is given up before it is judged.
+pub fn check_text<K: Sink>(alloc: Global, name: &str, text: Vec<u8>, out: &mut K) -> Status
+    ensures { EndsByCheck name.now text.items
         (record { count = K.count out.old; told = K.told out.old })
         (record { count = K.count out.new; told = K.told out.new }) result }
 {
     ends_follow_plans();
-    match read_trace(alloc, text) {
+    match trace_of(alloc, text) {
         Ok(trace) => check_trace(alloc, &trace, out),
         Err(TextFault::Refused(refused)) => say_refused(alloc, 1, name, &refused, out),
         Err(TextFault::OutOfMemory) => Status::OutOfMemory,
     }
+}
+
+// The trace that a text is; only the trace stays in memory.
+fn trace_of(alloc: Global, text: Vec<u8>) -> Result<Trace, TextFault>
+    ensures reading { ReadsBy (read.trace_of text.items) result }
+    ensures kept { IfOk result (λ t. IsTraceKept t) }
+{
+    read_trace(alloc, text.as_slice())
 }
 
 // Tells whether a trace is legal.
@@ -59,14 +69,15 @@ fn check_trace<K: Sink>(alloc: Global, trace: &Trace, out: &mut K) -> Status
     }
 }
 
-/// Writes the trace that a text is in version 2, if it is legal.
-pub fn migrate_text<K: Sink>(alloc: Global, name: &str, text: &[u8], out: &mut K) -> Status
-    ensures { EndsByMigrate name.now text.now
+/// Writes the trace that a text is in version 2, if it is legal. The text is given up before it is
+/// judged.
+pub fn migrate_text<K: Sink>(alloc: Global, name: &str, text: Vec<u8>, out: &mut K) -> Status
+    ensures { EndsByMigrate name.now text.items
         (record { count = K.count out.old; told = K.told out.old })
         (record { count = K.count out.new; told = K.told out.new }) result }
 {
     ends_follow_plans();
-    match read_trace(alloc, text) {
+    match trace_of(alloc, text) {
         Ok(trace) => migrate_trace(alloc, &trace, out),
         Err(TextFault::Refused(refused)) => say_refused(alloc, 1, name, &refused, out),
         Err(TextFault::OutOfMemory) => Status::OutOfMemory,

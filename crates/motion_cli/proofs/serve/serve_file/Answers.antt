@@ -2,7 +2,7 @@
 use Rattle.std.proofs.Common.{inl, ap, arith}
 use Rattle.std.specs.Prelude.{Err}
 use Rattle.job_ends.specs.Ends.{Content}
-use Rattle.motion_cli.proofs.FileLaws.{same-content, unread-ends}
+use Rattle.motion_cli.proofs.FileLaws.{unread-ends}
 use Rattle.motion_cli.proofs.serve.serve_file.Goals as goal
 
 pub returns-in-Ok : goal.returns-in-Ok
@@ -12,7 +12,7 @@ returns-in-Ok g c = inl (record {
     c.in-Ok.ensures.whole,
     let w = c.in-Ok.ensures.within in omega (arith, w, c.read_all.new.into.ok),
   );
-  ends = same-content _ _ _ _ _ _ _ c.as_slice.ensures.value c.do_job.ensures;
+  ends = c.do_job.ensures;
 })
 
 pub returns : goal.returns
