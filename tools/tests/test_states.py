@@ -62,6 +62,7 @@ class Axis:
         self.state = "Standstill" if definition.ready else "Disabled"
         self.driven, self.setpoint = definition.ready, definition.start
         self.ways, self.resets, self.holder, self.events = {()}, False, None, set()
+        self.error = 0
 
     def lead(self, event):
         """The diagram leads on by an event, where it may come."""
@@ -116,8 +117,8 @@ class Axis:
 
     def row(self, row):
         """The row of a cycle: its state comes by the events of the cycle, in their order."""
-        if (row.error != 0) != (row.state == "ErrorStop"):
-            raise Broken(f"{row.state} with {row.error}")
+        judge_error(row.error, row.state == "ErrorStop", self.error)
+        self.error = row.error
         resets = [[]] + [["ResetDriven" if row.driven else "ResetNotDriven"]] * self.resets
         ways = [(events + reset, left) for way in self.ways
                 for events, left in self.steps(row, way)
@@ -128,6 +129,14 @@ class Axis:
         self.ways = {left for _, left in ways}
         self.events.update(*(events for events, _ in ways[:1]))
         self.state, self.driven, self.setpoint = row.state, row.driven, row.setpoint
+
+
+def judge_error(error, stopped, before):
+    """Whether a number stands exactly in the state of errors, is one of an axis, and stays."""
+    if (101 <= error <= 106) != stopped or (error != 0) != stopped:
+        raise Broken(f"the error {error} in another state")
+    if stopped and before not in (0, error):
+        raise Broken(f"the error {error} behind {before}")
 
 
 def leads(state, events, wanted):
@@ -151,6 +160,7 @@ class Instance:
         self.block, self.members = block, members
         self.execute, self.result, self.errors, self.aborts = False, None, set(), False
         self.target, self.is_there, self.is_reset, self.replies = None, False, False, 0
+        self.outputs = ""
 
     def rise(self, call):
         """A rising edge: nothing has ended yet."""
@@ -181,8 +191,21 @@ class Instance:
                 and self.block.kind != "Power" and shown != self.result:
             raise Broken(f"{self.block.name} shows {shown} behind {self.result}")
         self.result = shown if shown[0] and call.execute else None
+        if self.block.kind != "Power":
+            self.goes_on(call, rises)
         self.judge(shown, rises)
-        self.execute = call.execute
+        self.execute, self.outputs = call.execute, call.outputs
+
+    def goes_on(self, call, rises):
+        """A command goes on or tells its end, and a shown result goes with Execute false."""
+        results = set(call.outputs) & set("DCE")
+        if "B" in self.outputs and not rises and not results and "B" not in call.outputs:
+            raise Broken(f"{self.block.name} lost its command")
+        if set(self.outputs) & set("DCE") and not call.execute and results:
+            raise Broken(f"{self.block.name} shows {call.outputs} with Execute false")
+        holds = "D" in call.outputs and self.block.kind in ("Stop", "GroupStop")
+        if "A" in call.outputs and "B" not in call.outputs and not holds:
+            raise Broken(f"{self.block.name} is active without a command")
 
     def judge(self, shown, rises):
         """Whether what is shown has its end behind the edge, or is the call's own."""
@@ -210,6 +233,7 @@ class Reader:
         self.instances = {name: Instance(block, self.members.get(block.on, [block.on]))
                           for name, block in self.blocks.items()}
         self.executes = dict.fromkeys(self.blocks, False)
+        self.errors = dict.fromkeys(self.members, 0)
         for cycle in trace.cycles():
             for call in cycle.calls:
                 self.call(call)
@@ -248,6 +272,9 @@ class Reader:
         before = {name: axis.setpoint for name, axis in self.axes.items()}
         for instance in self.instances.values():
             instance.cycle(cycle.rows, cycle.groups, before)
+        for name, row in cycle.groups.items():
+            judge_error(row.error, row.state == "GroupErrorStop", self.errors[name])
+            self.errors[name] = row.error
         for name, row in cycle.rows.items():
             axis = self.axes[name]
             on_path = any(name in members and cycle.groups[group].state == "GroupMoving"
@@ -288,6 +315,14 @@ class States(unittest.TestCase):
         self.planted("examples/power-fault-reset/power-fault-reset.trace",
                      ("call,RESET,1,,,,,,,,B,0", "call,RESET,1,,,,,,,,D,0"),
                      ("call,RESET,1,,,,,,,,D,0", "call,RESET,1,,,,,,,,C,0"))
+        self.planted("docs/timing/group_reset.trace",
+                     ("grow,G,GroupErrorStop,101", "grow,G,GroupErrorStop,7"),
+                     ("grow,G,GroupErrorStop,101", "grow,G,GroupErrorStop,102"))
+        self.planted("docs/timing/halt.trace", (",aborting,,BA,0", ",aborting,,A,0"))
+        self.planted("docs/timing/gear_out.trace",
+                     ("call,BLOCK,0,,,,,,,,,0", "call,BLOCK,0,,,,,,,,D,0"))
+        self.planted("docs/timing/group_reset.trace",
+                     ("call,BLOCK,1,,,,,,,,D,0", "call,BLOCK,1,,,,,,,,,0"))
         self.planted("examples/first-move/first-move.trace",
                      ("DiscreteMotion,0,1,12", "Standstill,0,1,12"))
 
