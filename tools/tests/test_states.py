@@ -99,7 +99,7 @@ class Axis:
     def steps(self, row, way):
         """What a cycle may bring before the Reset, and which commands then wait."""
         rests = row.setpoint == self.setpoint
-        if row.state == "ErrorStop" or self.resets and not row.driven:
+        if row.state == "ErrorStop" or self.resets:
             yield ["Error"], ()
         if not row.driven or not self.driven:
             yield (["DrivenFirst"] if row.driven and self.state == "Disabled" else []), way
@@ -160,16 +160,17 @@ class Instance:
         self.block, self.members = block, members
         self.execute, self.result, self.errors, self.aborts = False, None, set(), False
         self.target, self.is_there, self.is_reset, self.replies = None, False, False, 0
-        self.outputs = ""
+        self.outputs, self.hides = "", False
 
     def rise(self, call):
         """A rising edge: nothing has ended yet."""
         self.result, self.errors, self.aborts = None, set(), False
-        self.is_there, self.is_reset = False, False
+        self.is_there, self.is_reset, self.hides = False, False, False
         self.target = call.positions[0] if self.block.kind == "MoveAbsolute" else None
 
-    def cycle(self, rows, groups, before):
-        """The rows of a cycle behind the edge."""
+    def cycle(self, rows, groups, before, resets):
+        """The rows of a cycle behind the edge; a pending Reset may be done in that of an error."""
+        self.hides |= bool(resets & {self.block.on, *self.members})
         own = groups.get(self.block.on) or rows[self.block.on]
         errors = {own.error} | {rows[name].error for name in self.members}
         self.errors |= errors - {0}
@@ -211,7 +212,8 @@ class Instance:
         """Whether what is shown has its end behind the edge, or is the call's own."""
         letters, error = shown
         self.replies += bool(letters)
-        if "E" in letters and not rises and error >= 100 and error not in self.errors:
+        is_shown = self.hides or error in self.errors
+        if "E" in letters and not rises and error >= 100 and not is_shown:
             raise Broken(f"{self.block.name} shows {error}, which no row has")
         if "C" in letters and not self.aborts:
             raise Broken(f"{self.block.name} is aborted by nothing")
@@ -270,8 +272,10 @@ class Reader:
     def cycle(self, cycle):
         """A cycle leads each axis by its own events."""
         before = {name: axis.setpoint for name, axis in self.axes.items()}
+        resets = {instance.block.on for instance in self.instances.values()
+                  if is_reset(instance.block) and "B" in instance.outputs}
         for instance in self.instances.values():
-            instance.cycle(cycle.rows, cycle.groups, before)
+            instance.cycle(cycle.rows, cycle.groups, before, resets)
         for name, row in cycle.groups.items():
             judge_error(row.error, row.state == "GroupErrorStop", self.errors[name])
             self.errors[name] = row.error
