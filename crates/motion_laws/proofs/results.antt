@@ -3,6 +3,8 @@ pub mod Events
 pub mod Cycles
 pub mod Spared
 pub mod outcomes
+pub mod Outputs
+pub mod Answered
 pub mod Told
 pub mod Comes
 pub mod Replied

@@ -7,5 +7,6 @@ pub mod Calls
 pub mod Cycles
 pub mod Histories
 pub mod ByTest
+pub mod Requests
 pub mod AxisCalls
 pub mod GroupCalls

@@ -1,3 +1,4 @@
--- What a call says of an axis and of a group, in any words.
+-- What a call asks for, and what that asks of an axis and of a group.
+pub mod Requests
 pub mod Axis
 pub mod Group

@@ -22,9 +22,10 @@ use crate::row_laws::rows_show_that_moves_arrive;
 /// commands are where their instances show, and the rows of a cycle show the machine behind it, and
 /// errors exactly in the states of errors.
 /// Each move, Halt and Stop of an axis, and each line, GroupHalt and GroupStop of a group, comes to
-/// its end in time, and no blended move hangs; each end is told to the instance whose command it
-/// was, and to no other; each result that a reply tells comes of such an end, and stays while
-/// Execute is true; a move is Done at its target; and rows show that moves arrive in time.
+/// its end in time, and no blended move hangs; each end, be it a refusal, is told to the instance
+/// whose command it was, and to no other; each result that a reply tells comes of such an end,
+/// stays while Execute is true, and goes with it; a move is Done at its target; and rows show that
+/// moves arrive in time.
 pub fn histories_keep_their_laws()
     ensures { (s : Setup) (es : List Entry) → IsSetup s → AreWhole s → IsLegal s es →
         KeepsLaws s es }

@@ -5,7 +5,7 @@ ghost use Rattle.motion_history.specs.Entries.{Entry};
 ghost use Rattle.motion_history.specs.Setup.{Setup, IsSetup};
 ghost use Rattle.motion_kernel.specs.Histories.{IsLegal};
 ghost use Rattle.motion_kernel.specs.kept.Machine.{AreWhole};
-ghost use Rattle.motion_laws.specs.results.Comes.{ResultsCome, ResultsStay};
+ghost use Rattle.motion_laws.specs.results.Comes.{ResultsCome, ResultsGo, ResultsStay};
 ghost use Rattle.motion_laws.specs.results.Results.{ResultsAreTold};
 ghost use Rattle.motion_laws.specs.results.Targets.{MovesEndThere};
 
@@ -21,12 +21,13 @@ use command_core::{
 use motion_history::configurations_are_sound;
 use motion_kernel::machines_stay_kept;
 
-/// In every legal history the end of a command is told to its instance, and to no other. Wherever
-/// the active command of an axis or a group ends, be it Done, aborted or by an error, the instance
-/// that has it shows so at its next call: Done, CommandAborted, or Error with that error's number.
-/// Two calls take this from it: a rising edge of its own that ends the command, and one that comes
-/// as its next call, which asks for a new command. An instance that has no command shows after an
-/// entry what it showed before, but for its own calls.
+/// In every legal history each end of a command is told to its instance, and to no other. Where the
+/// command of an instance ends in an entry that is no call of it, be it the active one, one that
+/// waits or a Reset's, the instance shows so at its next call: Done, CommandAborted, or Error with
+/// that error's number. One call takes this from it: a rising edge, which asks for a new command.
+/// Where a call is refused, or Done at once, its own reply shows so. The active command ends as its
+/// fate says; and none is Done but in a cycle, the active one or a Reset's, or by its own call. An
+/// instance that has no command shows after an entry what it showed before, but for its own calls.
 pub fn results_are_told()
     ensures results { (s : Setup) (es : List Entry) → IsSetup s → AreWhole s → IsLegal s es →
         ResultsAreTold s es }
@@ -55,10 +56,13 @@ pub fn results_come_of_ends()
 }
 
 /// A result that a reply of a legal history tells stays while Execute is true: the next call of the
-/// instance with Execute still true tells it again.
+/// instance with Execute still true tells it again. And it goes with it: where the next call has
+/// Execute false, its reply shows nothing.
 pub fn results_stay_shown()
     ensures results { (s : Setup) (es : List Entry) → IsSetup s → AreWhole s → IsLegal s es →
         ResultsStay s es }
+    ensures goes { (s : Setup) (es : List Entry) → IsSetup s → AreWhole s → IsLegal s es →
+        ResultsGo s es }
 {
     results_are_told();
     machines_stay_kept();

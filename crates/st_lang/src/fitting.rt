@@ -106,11 +106,9 @@ fn statement_fits(machine: &Builder, task: usize, statement: &Stmt) -> bool
 fn body_fits(machine: &Builder, task: usize, body: &[Stmt]) -> bool
     ensures { result ≡ all_true (map (fits machine.now task) body.now) }
 {
-    let mut left = body.len();
     let mut fit = true;
-    while 0 < left {
-        left -= 1;
-        fit = statement_fits(machine, task, &body[left]) && fit;
+    for statement in body {
+        fit = fit && statement_fits(machine, task, statement);
     }
     fit
 }
@@ -120,11 +118,9 @@ fn body_fits(machine: &Builder, task: usize, body: &[Stmt]) -> bool
 fn branches_fit(machine: &Builder, task: usize, branches: &[Branch]) -> bool
     ensures { result ≡ all_true (map (branch_fits machine.now task) branches.now) }
 {
-    let mut left = branches.len();
     let mut fit = true;
-    while 0 < left {
-        left -= 1;
-        fit = body_fits(machine, task, branches[left].body.as_slice()) && fit;
+    for branch in branches {
+        fit = fit && body_fits(machine, task, branch.body.as_slice());
     }
     fit
 }
@@ -133,13 +129,7 @@ fn branches_fit(machine: &Builder, task: usize, branches: &[Branch]) -> bool
 fn tasks_fit(machine: &Builder, tasks: &[Task]) -> bool
     ensures { result ≡ are_fitting machine.now 0 tasks.now }
 {
-    let mut left = tasks.len();
-    let mut fit = true;
-    while 0 < left {
-        left -= 1;
-        fit = body_fits(machine, left, tasks[left].body.as_slice()) && fit;
-    }
-    fit
+    tasks.iter().enumerate().all(|(number, task)| body_fits(machine, number, task.body.as_slice()))
 }
 
 /// Whether a program is one of this machine: it has a tree for each of its tasks, whose calls fit.

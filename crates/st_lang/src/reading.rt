@@ -34,11 +34,8 @@ pub fn read_st(alloc: Global, text: &[u8], config: &mut Builder) -> Result<StPro
     ensures axes { OnOk result (length config.new.axes ≡ length config.old.axes) }
     ensures program { IfOk result (λ p. IsProgramOf config.new p.tasks.items) }
 {
-    let Ok(empty) = Builder::open(alloc, 1, 1) else {
-        return Err(TextFault::OutOfMemory);
-    };
-    let machine = mem::replace(config, empty);
-    let (machine, program) = read(alloc, text, machine);
+    let empty = Builder::open(alloc, 1, 1).map_err(|_| TextFault::OutOfMemory)?;
+    let (machine, program) = read(alloc, text, mem::replace(config, empty));
     *config = machine;
     program
 }

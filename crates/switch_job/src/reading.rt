@@ -63,8 +63,7 @@ fn read_traced<F: Files, K: Sink>(
     ensures told { F.told files.new ≡ F.told files.old }
     ensures kept { OnOk result (F.count files.new ≡ F.count files.old) }
 {
-    let text = read_text(alloc, 1, name, MOST_TRACE, files, out)?;
-    match read_trace(alloc, text.as_slice()) {
+    match read_trace(alloc, read_text(alloc, 1, name, MOST_TRACE, files, out)?.as_slice()) {
         Ok(trace) => Ok(trace),
         Err(TextFault::Refused(refused)) => Err(say_refused(alloc, 1, name, &refused, out)),
         Err(TextFault::OutOfMemory) => Err(Status::OutOfMemory),

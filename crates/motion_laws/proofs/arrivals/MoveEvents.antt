@@ -22,7 +22,7 @@ use Rattle.command_pool.specs.Waiting.{detached}
 use Rattle.command_pool.specs.declared.ending.Finish.TheVariants as finish
 use Rattle.command_pool.specs.declared.wanted.Wanted.{Wanted}
 use Rattle.motion_kernel.proofs.kept.Machine.{MachinesStayKept}
-use Rattle.motion_laws.proofs.walk.AxisCalls.{AnyAsked, IsByFate, beside_by, led_by}
+use Rattle.motion_laws.proofs.walk.AxisCalls.{AnyAsked, IsByFate, path_led}
 
 -- axis_core's courses_end_in_time
 pub record CoursesEnd : Type 0 where
@@ -115,10 +115,10 @@ pub fates_by : ArrivalLaws → (a : Axis) (ws : List Wanted) →
     IsByFate AnyAsked a ws (λ f x us. IsFate f a.active x.active)
 fates_by laws a ws = record {
   rests = stays a.active a.active (as_it_is a.active);
-  beside = beside_by a ws (λ x us. IsFate goes_on a.active x.active)
-      (λ owner. led_by (axis_without_owner owner a) (λ x. IsFate goes_on a.active x.active)
-      (λ on x h. subst (IsFate goes_on a.active) (sym (laws.fates.path on x)) h)
-      (stays a.active (axis_without_owner owner a).active (laws.fates.detach owner a)));
+  led = λ owner on. path_led (λ x. IsFate goes_on a.active x.active)
+      (λ on x h. subst (IsFate goes_on a.active) (sym (laws.fates.path on x)) h) on
+      (axis_without_owner owner a)
+      (stays a.active (axis_without_owner owner a).active (laws.fates.detach owner a));
   detach = λ owner. stays a.active (axis_without_owner owner a).active (laws.fates.detach owner a);
   power = λ enable c e _. subst
       (λ (x : Axis). IsFate (power_fate enable c) x.active (core_after_power enable c).axis.active)
@@ -149,13 +149,13 @@ pub carried_by : ArrivalLaws → (n : ℕ) (course : Course) (a : Axis) (ws : Li
     IsUnderWay n course a → IsByFate AnyAsked a ws (λ f x us. Carried n 0 course (turn_of f) x)
 carried_by laws n course a ws h = record {
   rests = on_it n course a h;
-  beside = beside_by a ws (λ x us. GoesOn n 0 course x)
-      (λ owner. led_by (axis_without_owner owner a) (GoesOn n 0 course)
+  led = λ owner on. path_led (GoesOn n 0 course)
       (λ on x g. record {
         left = g.left;
         sum = g.sum;
         under_way = led_on g.left course on x g.under_way;
-      }) (on_it n course (axis_without_owner owner a) (laws.courses.detach n course owner a h)));
+      }) on (axis_without_owner owner a)
+      (on_it n course (axis_without_owner owner a) (laws.courses.detach n course owner a h));
   detach = λ owner. on_it n course (axis_without_owner owner a)
       (laws.courses.detach n course owner a h);
   power = λ enable c e _. laws.courses.power n course enable c
@@ -187,13 +187,13 @@ blended_by laws n a ws h =
     λ owner. laws.blends.detach n owner (record { axis = a; waiting = ws; notes = [] }) h in
     record {
       rests = blend_on_it n a ws h;
-      beside = beside_by a ws (λ x us. BlendingGoesOn n 0 x us)
-          (λ owner. led_by (axis_without_owner owner a) (λ x. BlendingGoesOn n 0 x (map (detached owner) ws))
+      led = λ owner on. path_led (λ x. BlendingGoesOn n 0 x (map (detached owner) ws))
           (λ on x g. record {
             left = g.left;
             sum = g.sum;
             under_way = blend_led_on g.left on x (map (detached owner) ws) g.under_way;
-          }) (blend_on_it n (axis_without_owner owner a) (map (detached owner) ws) (freed owner)));
+          }) on (axis_without_owner owner a)
+          (blend_on_it n (axis_without_owner owner a) (map (detached owner) ws) (freed owner));
       detach = λ owner. blend_on_it n (axis_without_owner owner a) (map (detached owner) ws)
           (freed owner);
       power = λ enable c e w. laws.blends.power n enable c

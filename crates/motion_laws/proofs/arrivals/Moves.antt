@@ -1,24 +1,17 @@
 -- The active commands of axes come to their end in time.
-use Rattle.std.specs.Prelude.{◌≡◌, ◌≢◌, ℕ, zero, suc, ◌+◌, ◌<◌, ◌≤◌, Bool, true, false, Option, Some, None, option_map, List, [], ◌∷◌, ◌++◌, length, slice_get}
+use Rattle.std.specs.Prelude.{◌≡◌, ℕ, zero, suc, ◌+◌, ◌<◌, ◌≤◌, true, Option, Some, None, option_map, List, [], ◌∷◌, ◌++◌, length, slice_get}
 use Rattle.std.proofs.Common.{arith, sym, subst}
 use Rattle.axis_core.specs.Arrivals.{Carried, Course, toward, slowing, IsMoveDone, IsTurn, IsUnderWay, Turn, bound_of, end_turn_of, ended, turn_of}
 use Rattle.axis_core.specs.Blended.{BlendingCarried, IsBlending, cycles_of_blend, cycles_to_cross}
-use Rattle.axis_core.specs.Cores as cores
 use Rattle.axis_core.specs.Cycles.{core_after_cycle}
-use Rattle.buffer_modes.specs.Fates.{Fate, IsFate, goes_on, replaced}
-use Rattle.axis_core.specs.Fates.{admitted_fate, asked_fate, command_fate, cycle_fate, joined_fate, power_fate}
-use Rattle.axis_core.specs.Refusals.{Asked, refusal_of}
-use Rattle.axis_state.specs.States.{is_error_stop}
-use Rattle.axis_core.specs.blocks.Gear.{velocity_command}
-use Rattle.axis_core.specs.declared.reason.Reason.{Reason}
-use Rattle.axis_core.specs.blocks.Moves.{blended_with, is_move, known_target_of, target_of, with_target}
+use Rattle.buffer_modes.specs.Fates.{Fate, IsFate}
+use Rattle.axis_core.specs.Fates.{cycle_fate}
+use Rattle.axis_core.specs.blocks.Moves.{blended_with, is_move, target_of}
 use Rattle.axis_core.specs.declared.axis.Axis.{Axis}
 use Rattle.cia402_machine.specs.declared.drive.DriveIn.{DriveIn}
-use Rattle.command_pool.specs.Waiting.{last_of, queue_of}
+use Rattle.command_pool.specs.Waiting.{queue_of}
 use Rattle.command_pool.specs.declared.ending.Finish.{Finish}
 use Rattle.command_pool.specs.declared.ending.Finish.TheVariants as finish
-use Rattle.command_pool.specs.declared.kind.BlockKind.{BlockKind}
-use Rattle.command_pool.specs.declared.kind.BlockKind.TheVariants as kind
 use Rattle.command_pool.specs.declared.wanted.Wanted.{Wanted}
 use Rattle.motion_history.specs.Entries.{Entry, call, cycle, cycle_count, cycles_of, end_of}
 use Rattle.motion_history.specs.Setup.{Setup, IsSetup}
@@ -27,11 +20,11 @@ use Rattle.motion_kernel.specs.Histories.{Follows, IsLegal, IsOf, after, inputs_
 use Rattle.motion_kernel.specs.Machine.{Machine, axis_at, axis_core_at, machine_at_opening}
 use Rattle.motion_kernel.specs.kept.Machine.{AreWhole, IsMachineKept}
 use Rattle.motion_kernel.proofs.cycles.OneAxis.{GoesThrough, goes_through}
-use Rattle.motion_kernel.proofs.Sizes.{by_if}
 use Rattle.motion_laws.specs.arrivals.Moves.{IsMoveEndedWithin, IsTurnedWithin, IsWithin, KeepsMotion, MovesArrive, Turned, move_end_in, turned_by, turned_by_fates, turned_in}
 use Rattle.motion_laws.specs.arrivals.AxisFates.{axis_fate}
-use Rattle.motion_laws.proofs.walk.AxisCalls.{AnyAsked, IsByFate, IsThere, by_call}
+use Rattle.motion_laws.proofs.walk.AxisCalls.{IsThere, by_call}
 use Rattle.motion_laws.proofs.Histories.{legal_kept, legal_so_far, replay_kept}
+use Rattle.motion_laws.proofs.results.outcomes.NotDone.{axis_not_done}
 use Rattle.motion_laws.proofs.arrivals.MoveEvents.{ArrivalLaws, as_it_is, stays, fates_by, on_it, carried_by, blend_on_it, blended_by}
 
 -- how an axis of a kept machine goes through a cycle of its history
@@ -205,54 +198,6 @@ behind s cycles m (e ∷ es) fs f =
     subst (λ c. Follows s c (replay s (after s m e) es) fs) (omega arith)
     (behind s (cycles + cycle_count e) (after s m e) es fs f.1)
 
--- a call ends no command Done
-replaced_not_done : (o next : Option Wanted) →
-    (replaced finish.Aborted o next).ends ≢ Some finish.Done
-replaced_not_done None next e = absurd (cc)
-replaced_not_done (Some w) next e = absurd (cc)
-
-goes_on_not_done : goes_on.ends ≢ Some finish.Done
-goes_on_not_done e = absurd (cc)
-
-abbrev IsNotDone : Fate → Type 0
-IsNotDone f = f.ends ≢ Some finish.Done
-
-joined_not_done : (w : Wanted) (c : cores.Core) → IsNotDone (joined_fate w c)
-joined_not_done w c = by_if IsNotDone _ _ _ (replaced_not_done c.axis.active (Some w))
-    goes_on_not_done
-
-admitted_not_done : (k : BlockKind) (w : Wanted) (c : cores.Core) → IsNotDone (admitted_fate k w c)
-admitted_not_done kind.Reset w c = goes_on_not_done
-admitted_not_done kind.GearOut w c = replaced_not_done c.axis.active
-    (Some (velocity_command w c.axis))
-admitted_not_done kind.CamOut w c = replaced_not_done c.axis.active
-    (Some (velocity_command w c.axis))
-admitted_not_done _ w c = joined_not_done w c
-
-asked_not_done : (o : Option Reason) (w : Wanted) (c : cores.Core) → IsNotDone (asked_fate o w c)
-asked_not_done None w c =
-    admitted_not_done w.kind (with_target (known_target_of c.axis (last_of c.waiting) w) w) c
-asked_not_done (Some r) w c = goes_on_not_done
-
-command_not_done : (q : Asked) (c : cores.Core) → IsNotDone (command_fate q c)
-unfolding command_fate
-command_not_done q c = asked_not_done (refusal_of q) q.wanted c
-
-power_not_done : (enable : Bool) (c : cores.Core) → IsNotDone (power_fate enable c)
-unfolding power_fate
-power_not_done true c = goes_on_not_done
-power_not_done false c = by_if IsNotDone (is_error_stop c.axis.state) _ _ goes_on_not_done
-    (replaced_not_done c.axis.active None)
-
-not_done_by : (a : Axis) (ws : List Wanted) → IsByFate AnyAsked a ws (λ f x us. IsNotDone f)
-not_done_by a ws = record {
-  rests = goes_on_not_done;
-  beside = λ owner s j k answer m n l free. goes_on_not_done;
-  detach = λ owner. goes_on_not_done;
-  power = λ enable c e _. power_not_done enable c;
-  command = λ owner q c e _ _. command_not_done q c;
-}
-
 -- a move is Done at its target
 done_there : ArrivalLaws → (s : Setup) (m : Machine) (e : Entry) (n : ℕ) (w : Wanted) →
     IsMachineKept s m → n < length m.axes → (axis_at m n).active ≡ Some w →
@@ -260,8 +205,7 @@ done_there : ArrivalLaws → (s : Setup) (m : Machine) (e : Entry) (n : ℕ) (w 
     IsMoveDone (blended_with (axis_at m n) w (slice_get (axis_core_at m n).waiting 0)) (target_of w)
     (axis_at m n).setpoint (axis_at (after s m e) n)
 done_there laws s m (call k i reply) n w h l active move done =
-    absurd (by_call (λ f x us. IsNotDone f) s m k i n
-    (not_done_by (axis_at m n) (queue_of m.queues n)) (is_there s m n h l) (λ b at other off same. tt) done)
+    absurd (axis_not_done laws.fates s m k i n done)
 done_there laws s m (cycle c rows grows) n w h l active move done =
     let look = look_of_axis s m (inputs_of rows) n in
     let goes = through laws s m (inputs_of rows) n h l in
@@ -269,7 +213,7 @@ done_there laws s m (cycle c rows grows) n w h l active move done =
     subst (λ (a : Axis). IsMoveDone (blended_with c.axis w (slice_get c.waiting 0))
     (target_of w) c.axis.setpoint a) (sym goes.after)
     (laws.moves look c w goes.kept active move done)
-done_there laws s m (end_of task) n w h l active move done = absurd (goes_on_not_done done)
+done_there laws s m (end_of task) n w h l active move done = absurd (cc)
 
 -- each entry of a history that follows a kept machine
 motion_kept : ArrivalLaws → (s : Setup) (cycles : ℕ) (m : Machine) (e : Entry) (more : List Entry)

@@ -1,5 +1,5 @@
 -- The axes of a group rest where its command is Done, those of a line at its targets.
-use Rattle.std.specs.Prelude.{◌≡◌, ◌≢◌, refl, ℕ, ◌+◌, ◌<◌, ◌≤◌, true, ℤ, nat_eq, Option, Some, None, List, [], ◌∷◌, length, map}
+use Rattle.std.specs.Prelude.{◌≡◌, refl, ℕ, ◌+◌, ◌<◌, ◌≤◌, true, ℤ, nat_eq, Option, Some, None, List, [], ◌∷◌, length, map}
 use Rattle.std.proofs.Common.{arith, ap, sym, subst, ◌∙◌}
 use Rattle.std.proofs.lemmas.List.{get_or-map}
 use Rattle.axis_core.specs.Along.{GoesAlong}
@@ -12,24 +12,19 @@ use Rattle.axis_core.specs.declared.axis.Axis.{Axis}
 use Rattle.axis_core.specs.declared.look.AxisLook.{AxisLook}
 use Rattle.cia402_machine.specs.declared.drive.DriveIn.{DriveIn}
 use Rattle.command_pool.specs.declared.ending.Finish.TheVariants as finish
-use Rattle.command_pool.specs.declared.kind.BlockKind.{BlockKind}
 use Rattle.command_pool.specs.declared.kind.BlockKind.TheVariants as kind
 use Rattle.command_pool.specs.declared.wanted.Wanted.{Wanted}
-use Rattle.group_core.specs.Calls.{asked_in, commanded, group_without, powered_off}
+use Rattle.group_core.specs.Calls.{commanded, group_without, powered_off}
 use Rattle.group_core.specs.Cores.{Core}
 use Rattle.group_core.specs.Cycles as group
 use Rattle.group_core.specs.Cycles.{path_taken, step_of}
-use Rattle.buffer_modes.specs.Fates.{Fate, goes_on, replaced}
-use Rattle.group_core.specs.Fates.{admitted_fate, asked_fate, command_fate, cycle_fate, line_fate, power_off_fate}
+use Rattle.group_core.specs.Fates.{cycle_fate}
 use Rattle.group_core.specs.GroupKept.{IsCoreKept, IsPathOf}
-use Rattle.group_core.specs.Refusals.{limits_in, refusal_of}
-use Rattle.group_core.specs.States.{may_fail}
+use Rattle.group_core.specs.Refusals.{limits_in}
 use Rattle.group_core.specs.Targets.{EndsAtTargets, IsDoneOn, IsToward}
 use Rattle.group_core.specs.Tracks.{OnPath, place_on}
-use Rattle.group_core.specs.blocks.Line.{braking_for}
 use Rattle.group_core.specs.declared.group.Group.{Group}
 use Rattle.group_core.specs.declared.look.GroupLook.{GroupLook}
-use Rattle.group_core.specs.declared.reason.Reason.{Reason}
 use Rattle.kin_core.specs.declared.limits.Limits.{Limits}
 use Rattle.linear_path.specs.Line.{coordinate_of}
 use Rattle.motion_history.specs.Entries.{Entry, call, cycle, cycle_count, end_of}
@@ -47,11 +42,11 @@ use Rattle.motion_kernel.proofs.kept.AxesEnter.{led_on_path}
 use Rattle.motion_kernel.proofs.kept.Ready.{member_kept}
 use Rattle.motion_kernel.proofs.kept.GroupSteps.{have_stepped}
 use Rattle.motion_kernel.proofs.cycles.OneAxis.{goes_through}
-use Rattle.motion_kernel.proofs.Sizes.{by_if}
 use Rattle.motion_kernel.proofs.cycles.Rows.{look_input}
 use Rattle.motion_laws.specs.arrivals.Paths.{AreAtEnd}
 use Rattle.motion_laws.specs.arrivals.GroupFates.{group_fate}
 use Rattle.motion_laws.proofs.walk.GroupCalls.{IsByFate, by_call}
+use Rattle.motion_laws.proofs.results.outcomes.NotDone.{group_not_done}
 use Rattle.motion_laws.proofs.arrivals.Paths.{GroupLaws, IsLasting, by_cycle, kept_after, there}
 
 -- group_core's lines_lead_to_their_targets
@@ -86,55 +81,6 @@ pub record DoneLaws : Type 0 where
   pub groups : GroupLaws
   pub lines : LinesLead
   pub follows : PathsAreFollowed
-
--- a call ends no command Done
-abbrev IsNotDone : Fate → Type 0
-IsNotDone f = f.ends ≢ Some finish.Done
-
-going_not_done : IsNotDone goes_on
-going_not_done e = absurd (cc)
-
-aborted_not_done : (o next : Option Wanted) → IsNotDone (replaced finish.Aborted o next)
-aborted_not_done None next e = absurd (cc)
-aborted_not_done (Some w) next e = absurd (cc)
-
-failed_not_done : (n : ℕ) (o next : Option Wanted) → IsNotDone (replaced (finish.Error n) o next)
-failed_not_done n None next e = absurd (cc)
-failed_not_done n (Some w) next e = absurd (cc)
-
-line_not_done : (w : Wanted) (c : Core) → IsNotDone (line_fate w c)
-line_not_done w c =
-    by_if IsNotDone _ _ _ (aborted_not_done c.group.active (braking_for c.group.active))
-    (by_if IsNotDone _ _ _ (aborted_not_done c.group.active (Some w)) going_not_done)
-
-admitted_not_done : (k : BlockKind) (w : Wanted) (c : Core) → IsNotDone (admitted_fate k w c)
-admitted_not_done kind.GroupStop w c = aborted_not_done c.group.active (Some w)
-admitted_not_done kind.GroupHalt w c = aborted_not_done c.group.active (Some w)
-admitted_not_done kind.MoveLinearAbsolute w c = line_not_done w c
-admitted_not_done _ w c = going_not_done
-
-asked_not_done : (o : Option Reason) (w : Wanted) (c : Core) → IsNotDone (asked_fate o w c)
-asked_not_done None w c = admitted_not_done w.kind w c
-asked_not_done (Some r) w c = going_not_done
-
-command_not_done : (w : Wanted) (jerk : ℤ) (members : GroupLook) (c : Core) →
-    IsNotDone (command_fate w jerk members c)
-unfolding command_fate
-command_not_done w jerk members c = asked_not_done (refusal_of (asked_in c w jerk members)) w c
-
-off_not_done : (c : Core) → IsNotDone (power_off_fate c)
-unfolding power_off_fate
-off_not_done c = by_if IsNotDone (may_fail c.group.state) _ _
-    (failed_not_done 102 c.group.active None) going_not_done
-
-not_done_by : (c : Core) → IsByFate c (λ f x. IsNotDone f)
-not_done_by c = record {
-  rests = going_not_done;
-  untold = λ f x h. h;
-  detach = λ owner. going_not_done;
-  power_off = off_not_done c;
-  command = λ owner w jerk members x e looks made kept. command_not_done w jerk members x;
-}
 
 -- a group goes toward the targets of its line, after every entry
 abbrev pub IsGoing : Core → Type 0
@@ -282,8 +228,7 @@ pub done_there : DoneLaws →
     IsGoing (group_core_at m j) → (group_at m j).group.active ≡ Some w →
     (group_fate s m e j).ends ≡ Some finish.Done → AreAtEnd s (after s m e) j w
 done_there laws s cycles m (call k i reply) j w whole h is l goes active done =
-    absurd (by_call (λ f x. IsNotDone f) s m k i j (not_done_by (group_core_at m j))
-    (there s m j h l) (λ b e. laws.groups.may_call s k b i m whole e is.0 h) h done)
+    absurd (group_not_done laws.groups.fates s m k i j done)
 done_there laws s cycles m (cycle c rows grows) j w whole h is l goes active done =
     let ins = inputs_of rows in
     let stepped = have_stepped s m ins (length m.groups) h (omega arith) in
@@ -292,4 +237,4 @@ done_there laws s cycles m (cycle c rows grows) j w whole h is l goes active don
     λ place b. at_end laws s m ins j place w h l b goes active
     (laws.lines.done (look_of_group s m ins j) (group_core_at m j) w kept active done)
 done_there laws s cycles m (end_of task) j w whole h is l goes active done =
-    absurd (going_not_done done)
+    absurd (cc)

@@ -1,22 +1,14 @@
 -- A move that is Done in time has a row that shows so.
-use Rattle.std.specs.Prelude.{◌≡◌, ◌≢◌, refl, ℕ, ◌+◌, ◌<◌, ◌≤◌, ℤ, Bool, true, false, if◌then◌else◌, Option, Some, None, List, [], ◌∷◌, ◌++◌, length, slice_get, slice_index_or}
+use Rattle.std.specs.Prelude.{◌≡◌, refl, ℕ, ◌+◌, ◌<◌, ◌≤◌, ℤ, Bool, true, false, Option, Some, None, List, [], ◌∷◌, ◌++◌, length, slice_get, slice_index_or}
 use Rattle.std.proofs.Common.{arith, ap, sym, subst, ◌∙◌}
 use Rattle.std.proofs.lemmas.List.{append_assoc}
 use Rattle.axis_core.specs.Arrivals.{IsAtEnd, IsTurn, Turn, blended, bound_of, ended, toward, turn_by, turn_of}
 use Rattle.axis_state.specs.declared.definition.AxisRow.{AxisRow}
-use Rattle.buffer_modes.specs.Fates as fate
-use Rattle.buffer_modes.specs.Fates.{Fate, goes_on}
-use Rattle.buffer_modes.specs.Queue.{is_active_at_once}
-use Rattle.command_changes.specs.Fates.{AreAxisFates, AreGroupFates}
-use Rattle.command_core.specs.Changes.{Change, joins, replaced, ends, awaits, resets, holds, changed}
-use Rattle.command_core.specs.Charge.{Charge, queue_of}
-use Rattle.command_core.specs.Fates.{fate_in, fate_of, followed_by}
+use Rattle.buffer_modes.specs.Fates.{Fate}
+use Rattle.command_changes.specs.Fates.{AreAxisFates}
 use Rattle.command_pool.specs.declared.ending.Finish.{Finish}
 use Rattle.command_pool.specs.declared.ending.Finish.TheVariants as finish
 use Rattle.command_pool.specs.declared.rates.Rates.{Rates}
-use Rattle.command_pool.specs.declared.wanted.Wanted.{Wanted}
-use Rattle.fb_outputs.specs.declared.inputs.Inputs.{Inputs}
-use Rattle.fb_outputs.specs.declared.outputs.Outputs.{Outputs}
 use Rattle.group_state.specs.declared.state.GroupRow.{GroupRow}
 use Rattle.motion_history.specs.Columns.{no_row}
 use Rattle.motion_history.specs.Entries.{Entry, call, cycle, cycle_count, cycles_of, end_of}
@@ -30,50 +22,11 @@ use Rattle.motion_laws.specs.arrivals.AxisFates.{axis_fate}
 use Rattle.motion_laws.specs.arrivals.Moves.{IsTurnedWithin, MovesArrive, Turned, turned_by, turned_in}
 use Rattle.motion_laws.specs.arrivals.Rows.{RowStands, RowsStand, StandsBy, StandsWithin}
 use Rattle.motion_laws.specs.entries.Rows.{RowsShow}
-use Rattle.motion_laws.specs.owners.Objects.{an_axis}
-use Rattle.motion_laws.specs.results.Effects.{effect_by_call}
 use Rattle.motion_laws.proofs.Histories.{legal_so_far}
 use Rattle.motion_laws.proofs.arrivals.Moves.{behind}
 use Rattle.motion_laws.proofs.results.Comes.{after_more}
 use Rattle.motion_laws.proofs.results.Stays.{machine_kept}
-use Rattle.motion_laws.proofs.results.outcomes.Done.{EndsNoneDone}
-use Rattle.motion_laws.proofs.results.outcomes.DoneBy.{call_none}
-use Rattle.motion_laws.proofs.results.outcomes.Fates.{same_ends}
-
--- changes that make nothing Done end no command so
-abbrev NotDone : Option Finish → Type 0
-NotDone o = o ≢ Some finish.Done
-
-followed_not : (e : Option Finish) (b : Option Wanted) (g : Fate) → NotDone e → NotDone g.ends → NotDone (followed_by e b g).ends
-followed_not None None g h k = k
-followed_not None (Some w) g h k = h
-followed_not (Some f) b g h k = h
-
-replaced_not : (f : Finish) (before next : Option Wanted) → f ≢ finish.Done → NotDone (fate.replaced f before next).ends
-replaced_not f None next h = λ e. cc
-replaced_not f (Some w) next h = λ e. h (cc)
-
-joined_not : (b : Bool) (before : Option Wanted) (w : Wanted) →
-    NotDone (let f : Fate = if b then fate.replaced finish.Aborted before (Some w) else goes_on in f).ends
-joined_not true before w = replaced_not finish.Aborted before (Some w) (λ e. cc)
-joined_not false before w = λ e. cc
-
-fate_not : (xs : List Change) (c : Charge) → EndsNoneDone xs → NotDone (fate_in xs c).ends
-fate_not [] c h = λ e. cc
-fate_not (holds stops ∷ xs) c h = followed_not None None (fate_in xs (changed (holds stops) c)) (λ e. cc) (fate_not xs (changed (holds stops) c) h)
-fate_not (joins w ∷ xs) c h =
-    followed_not (fate_of (joins w) c).ends (fate_of (joins w) c).begins (fate_in xs (changed (joins w) c))
-    (joined_not (is_active_at_once (queue_of c) w) c.active w) (fate_not xs (changed (joins w) c) h)
-fate_not (awaits owner ∷ xs) c h = followed_not None None (fate_in xs (changed (awaits owner) c)) (λ e. cc) (fate_not xs (changed (awaits owner) c) h)
-fate_not (replaced (finish.Error n) next ws ∷ xs) c h =
-    let x : Change = replaced (finish.Error n) next ws in
-    followed_not (fate_of x c).ends (fate_of x c).begins (fate_in xs (changed x c)) (replaced_not (finish.Error n) c.active next (λ e. cc)) (fate_not xs (changed x c) h)
-fate_not (replaced finish.Aborted next ws ∷ xs) c h =
-    let x : Change = replaced finish.Aborted next ws in
-    followed_not (fate_of x c).ends (fate_of x c).begins (fate_in xs (changed x c)) (replaced_not finish.Aborted c.active next (λ e. cc)) (fate_not xs (changed x c) h)
-fate_not (replaced finish.Done next ws ∷ xs) c h = absurd h
-fate_not (ends f t ∷ xs) c h = absurd h
-fate_not (resets ∷ xs) c h = absurd h
+use Rattle.motion_laws.proofs.results.outcomes.NotDone.{axis_not_done}
 
 -- where the turn of an axis is
 record Found (s : Setup) (n : ℕ) (m : Machine) (es : List Entry) (t : Turned) : Type 0 where
@@ -133,18 +86,10 @@ turn_done f e = by f.blends f.ends e
     by false None h = absurd (cc)
     by false (Some g) h = cc
 
-call_not : AreAxisFates → AreGroupFates → (s : Setup) (m : Machine) (k : ℕ) (i : Inputs) (reply : Outputs) (n : ℕ) →
-    (axis_fate s m (call k i reply) n).ends ≡ Some finish.Done → ⊥
-call_not axes groups s m k i reply n e =
-    let x = effect_by_call s (slice_get s.blocks k) k i m (an_axis n) in
-    let quiet = call_none s (slice_get s.blocks k) k i m (an_axis n) in
-    fate_not x.changes x.commands quiet.0 (same_ends axes groups s m (call k i reply) (an_axis n) ∙ e)
-
 -- the laws on which it rests
 pub record StandLaws : Type 0 where
   pub machines : MachinesStayKept
   pub axes : AreAxisFates
-  pub groups : AreGroupFates
   pub rows : (s : Setup) (made more : List Entry) (e : Entry) → IsSetup s → AreWhole s → IsLegal s (made ++ e ∷ more) →
       RowsShow (after s (machine_after s made) e) e
   pub moves : (s : Setup) (es : List Entry) → IsSetup s → AreWhole s → IsLegal s es → MovesArrive s es
@@ -174,7 +119,7 @@ stands_in : StandLaws → (s : Setup) (made more : List Entry) (e : Entry) (n : 
     turn_of (axis_fate s (replay s (after s (machine_after s made) e) before) x n) ≡ Some (ended finish.Done) →
     RowStands s (after s (machine_after s made) e) n target most more
 stands_in laws s made more e n target rates most t setup whole legal l f done few at (call k i reply) before rest split cycles machine turn =
-    absurd (call_not laws.axes laws.groups s (replay s (after s (machine_after s made) e) before) k i reply n
+    absurd (axis_not_done laws.axes s (replay s (after s (machine_after s made) e) before) k i n
     (turn_done (axis_fate s (replay s (after s (machine_after s made) e) before) (call k i reply) n) turn))
 stands_in laws s made more e n target rates most t setup whole legal l f done few at (end_of task) before rest split cycles machine turn = absurd (cc)
 stands_in laws s made more e n target rates most t setup whole legal l f done few at (cycle c rows grows) before rest split cycles machine turn =

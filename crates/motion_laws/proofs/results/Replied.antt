@@ -5,8 +5,9 @@ use Rattle.std.proofs.lemmas.List.{append_assoc}
 use Rattle.command_pool.specs.declared.ending.Finish.{Finish}
 use Rattle.fb_outputs.specs.InstanceState.{InstanceState}
 use Rattle.fb_outputs.specs.Steps as instance
-use Rattle.fb_outputs.specs.Steps.{is_power, opened, outputs_of, shown_progress}
+use Rattle.fb_outputs.specs.Steps.{is_power, shown_progress}
 use Rattle.fb_outputs.specs.declared.inputs.Inputs.{Inputs}
+use Rattle.fb_outputs.specs.declared.instance.Progress.TheVariants.{Ended, Idle}
 use Rattle.fb_outputs.specs.declared.outputs.Outputs.{Outputs}
 use Rattle.motion_history.specs.Entries.{Entry, call}
 use Rattle.motion_history.specs.Setup.{Setup, IsSetup}
@@ -21,18 +22,19 @@ use Rattle.motion_laws.specs.results.Outcomes.{progress_at}
 use Rattle.motion_laws.specs.results.Results.{Tells}
 use Rattle.motion_laws.proofs.Histories.{legal_so_far}
 use Rattle.motion_laws.proofs.arrivals.Moves.{behind}
-use Rattle.motion_laws.proofs.entries.replies.Entries.{called_of_blocks, opening_of_blocks}
-use Rattle.motion_laws.proofs.entries.replies.Histories.{kind_after, replay_of_blocks}
+use Rattle.motion_laws.proofs.entries.replies.Entries.{opening_of_blocks}
+use Rattle.motion_laws.proofs.entries.replies.Histories.{replay_of_blocks}
 use Rattle.motion_laws.proofs.results.outcomes.Histories.{EntriesMakeOutcomes}
 use Rattle.motion_laws.proofs.results.Comes.{HasEndedSo, after_more, ends_come, told_end}
+use Rattle.motion_laws.proofs.results.Outputs.{called_kind}
 
 -- an end that is shown stays
-shown_so : (f : Finish) (v : InstanceState) → HasEndedSo f v.progress → HasEndedSo f (instance.shown v).progress
-shown_so f v h = record { shown = true; is = ap shown_progress h.is }
+shown_so : (f : Finish) (v : InstanceState) → HasEndedSo f v.progress → (instance.shown v).progress ≡ Ended f true
+shown_so f v h = ap shown_progress h.is
 
 replied_so : (f : Finish) (is : List InstanceState) (k : ℕ) → HasEndedSo f (instance_at is k).progress →
-    HasEndedSo f (instance_at (slice_set is k (instance.shown (instance_at is k))) k).progress
-replied_so f [] k h = h
+    (instance_at (slice_set is k (instance.shown (instance_at is k))) k).progress ≡ Ended f true
+replied_so f [] k h = absurd (let e : Idle ≡ Ended f h.shown = h.is in cc)
 replied_so f (v ∷ vs) zero h = shown_so f v h
 replied_so f (v ∷ vs) (suc k) h = replied_so f vs k h
 
@@ -50,7 +52,7 @@ last_reply s made k i reply legal = (behind s 0 (machine_at_opening s) made (cal
 -- a reply that tells an end is one of a block that is no Power, and its instance then shows it
 pub record EndsAt (s : Setup) (made : List Entry) (k : ℕ) (i : Inputs) (reply : Outputs) (b : BlockDef) (f : Finish) : Type 0 where
   pub other : is_power b.kind ≡ false
-  pub after : HasEndedSo f (progress_at (machine_after s (made ++ call k i reply ∷ [])) k)
+  pub after : progress_at (machine_after s (made ++ call k i reply ∷ [])) k ≡ Ended f true
 
 pub first_ended : (s : Setup) (made : List Entry) (k : ℕ) (i : Inputs) (reply : Outputs) (b : BlockDef) (f : Finish) → slice_get s.blocks k ≡ Some b →
     IsLegal s (made ++ call k i reply ∷ []) → Tells f reply → EndsAt s made k i reply b f
@@ -59,11 +61,9 @@ first_ended s made k i reply b f at legal tells =
     let x = called s k i m in
     let v = instance_at x.instances k in
     let told = told_end f v (subst (Tells f) (last_reply s made k i reply legal) tells) in
-    let happened = called_of_blocks s m k i (blocks_after s made) k b at in
-    let kind_is : v.kind ≡ b.kind = ap (λ (y : InstanceState). y.kind) happened.is ∙ kind_after (opened b.kind) happened.happenings in
     record {
-      other = ap is_power (sym kind_is) ∙ told.0;
-      after = subst (λ y. HasEndedSo f (progress_at y k)) (sym (after_more s made [] (call k i reply))) (replied_so f x.instances k told.1);
+      other = ap is_power (sym (called_kind s m k i b (blocks_after s made) at)) ∙ told.0;
+      after = ap (λ y. progress_at y k) (after_more s made [] (call k i reply)) ∙ replied_so f x.instances k told.1;
     }
 
 pub results_come : EntriesMakeOutcomes → (s : Setup) (es : List Entry) → IsSetup s → AreWhole s → IsLegal s es → ResultsCome s es
@@ -72,4 +72,5 @@ results_come make s es setup whole legal made more k i reply b f is at tells =
     let split : es ≡ so_far ++ more = is ∙ sym (append_assoc made (call k i reply ∷ []) more) in
     let legal_here = legal_so_far s so_far more (subst (IsLegal s) split legal) in
     let ended = first_ended s made k i reply b f at legal_here tells in
-    ends_come s k b so_far (λ before behind e split_so. make s before behind e k b setup whole (subst (IsLegal s) split_so legal_here) at ended.other) f ended.after
+    ends_come s k b so_far (λ before behind e split_so. make s before behind e k b setup whole (subst (IsLegal s) split_so legal_here) at ended.other) f
+    (record { shown = true; is = ended.after })

@@ -28,9 +28,8 @@ use Rattle.motion_laws.specs.arrivals.Moves.{KeepsMotion, MovesArrive}
 use Rattle.motion_laws.specs.owners.Commands.{active_at}
 use Rattle.motion_laws.specs.owners.Kinds.{AreOfTheirBlocks, is_reset}
 use Rattle.motion_laws.specs.owners.Objects.{a_group, an_axis, object_of}
-use Rattle.motion_laws.specs.results.Comes.{end_answered, end_by_edge, finish_in}
 use Rattle.motion_laws.specs.results.Effects.{charge_at}
-use Rattle.motion_laws.specs.results.Outcomes.{answer_in, end_of_command}
+use Rattle.motion_laws.specs.results.Outcomes.{answer_in, end_answered, end_by_edge, end_of_command, finish_in}
 use Rattle.motion_laws.specs.results.Results.{KeepsResults, ResultsAreTold, end_in}
 use Rattle.motion_laws.specs.results.Targets.{IsDoneThere, MovesEndThere}
 use Rattle.motion_laws.proofs.Histories.{legal_so_far}

@@ -11,4 +11,5 @@ pub mod Histories
 pub mod Fates
 pub mod Done
 pub mod Doing
+pub mod NotDone
 pub mod DoneBy

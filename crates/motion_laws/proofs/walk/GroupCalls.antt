@@ -9,12 +9,8 @@ use Rattle.command_pool.specs.Kinds.{acts_on_group}
 use Rattle.command_pool.specs.Waiting.{queue_of}
 use Rattle.command_pool.specs.declared.ending.Refusal.{Refusal}
 use Rattle.command_pool.specs.declared.kind.BlockKind.{BlockKind}
-use Rattle.command_pool.specs.declared.kind.BlockKind.TheVariants as kind
 use Rattle.command_pool.specs.declared.wanted.Wanted.{Wanted}
-use Rattle.fb_outputs.specs.Steps.{edge_of, is_power}
 use Rattle.fb_outputs.specs.declared.inputs.Inputs.{Inputs}
-use Rattle.fb_outputs.specs.declared.instance.Edge.{Edge}
-use Rattle.fb_outputs.specs.declared.instance.Edge.TheVariants as edge
 use Rattle.group_core.specs.Calls.{commanded, disowned, powered_off}
 use Rattle.group_core.specs.Cores.{Core}
 use Rattle.buffer_modes.specs.Fates.{Fate}
@@ -24,12 +20,13 @@ use Rattle.group_core.specs.declared.look.GroupLook.{GroupLook}
 use Rattle.motion_history.specs.Setup.{Setup}
 use Rattle.motion_history.specs.declared.config.BlockDef.{BlockDef}
 use Rattle.motion_kernel.specs.calls.Asking.{wanted_of}
-use Rattle.motion_kernel.specs.calls.Calls.{after_asking, after_axis_command, after_call, after_edge, after_group_command, after_power, after_rising, asked_of_axis, axes_led, axis_led, called, called_where, enters_path, group_without_power, leaves_path, members_led, with_axis_core, with_execute, with_group_core, without_owner}
-use Rattle.motion_laws.specs.arrivals.GroupFates.{fate_words}
-use Rattle.motion_laws.specs.calls.Group as words
-use Rattle.motion_laws.specs.calls.Group.{Words, by_edge, by_kind, by_power_off, by_rising}
+use Rattle.motion_kernel.specs.calls.Calls.{after_axis_command, after_call, after_group_command, after_power, asked_of_axis, axes_led, axis_led, enters_path, group_without_power, leaves_path, members_led, with_axis_core, with_execute, with_group_core, without_owner}
+use Rattle.motion_laws.specs.arrivals.GroupFates.{call_fate}
+use Rattle.motion_laws.specs.calls.Group as on_group
+use Rattle.motion_laws.specs.calls.Group.{GroupCall, by_power_off}
+use Rattle.motion_laws.specs.calls.Requests.{Request, machine_asked}
 use Rattle.motion_kernel.specs.looks.GroupLooks.{group_look}
-use Rattle.motion_kernel.specs.Machine.{Machine, axis_at, axis_core_at, group_at, group_core_at, instance_at, list_of}
+use Rattle.motion_kernel.specs.Machine.{Machine, axis_at, axis_core_at, group_at, group_core_at, list_of}
 use Rattle.motion_kernel.specs.kept.Machine.{IsMachineKept}
 use Rattle.motion_kernel.specs.members.Members.{members_at, membership_of}
 use Rattle.motion_kernel.specs.kept.Ready.{MayAskGroup, MayCall}
@@ -38,18 +35,20 @@ use Rattle.motion_kernel.proofs.kept.Events.{group_beside_axis, group_beside_gro
 use Rattle.motion_kernel.proofs.kept.Detached.{disowned_size, group_disowned}
 use Rattle.motion_kernel.proofs.Sizes.{by_if}
 use Rattle.motion_laws.proofs.walk.ByTest.{both, one}
+use Rattle.motion_laws.proofs.walk.Requests.{by_request}
 
 -- a property of a group after a call, by what the call says of it, that every event of the group
 -- gives it
-pub record IsSaid {A : Type 0} (v : Words A) (c : Core) (P : A → Core → Type 0) : Type 0 where
-  pub rests : P v.rests c
+pub record IsSaid {A : Type 0} (v : GroupCall → Core → A) (c : Core) (P : A → Core → Type 0)
+    : Type 0 where
+  pub rests : P (v on_group.rests c) c
   pub untold : (f : A) (x : Core) → P f x → P f (record x { notes = [] })
-  pub detach : (owner : ℕ) → P v.rests (disowned owner c)
-  pub power_off : P (v.power_off c) (powered_off c)
+  pub detach : (owner : ℕ) → P (v on_group.rests (disowned owner c)) (disowned owner c)
+  pub power_off : P (v on_group.power_off c) (powered_off c)
   pub command : (owner : ℕ) (w : Wanted) (jerk : ℤ) (members : GroupLook) (x : Core) →
       x ≡ disowned owner c → IsLook x.group members →
-      IsMade x.group.axes w → IsCoreKept (limits_in members) x → P (v.asked w jerk members x)
-      (commanded w jerk members x)
+      IsMade x.group.axes w → IsCoreKept (limits_in members) x →
+      P (v (on_group.asked w jerk members) x) (commanded w jerk members x)
 
 -- the group and its list are there
 pub record IsThere (m : Machine) (j : ℕ) : Type 0 where
@@ -93,19 +92,18 @@ unfolding after_axis_command
 axis_command s k n kind i m j l =
     group_beside_axis m n j (core_after_command (asked_of_axis s k n kind i m) (axis_core_at m n)) l
 
--- what a call of a block asks is there
-pub record IsAsked (s : Setup) (k : ℕ) (b : BlockDef) (i : Inputs) (m : Machine) : Type 0 where
-  pub group : is_power b.kind ≡ false → acts_on_group b.kind ≡ true →
-      MayAskGroup s k b.object b.kind i (without_owner k m)
-  pub axis : acts_on_group b.kind ≡ false → b.object < length m.axes
+module _ {A : Type 0} (v : GroupCall → Core → A) (P : A → Core → Type 0) where
+  -- where nothing is asked of a group but its owner is taken away
+  freed : (c : Core) → IsSaid v c P → (k : ℕ) (x : Core) → x ≡ disowned k c →
+      P (v on_group.rests x) x
+  freed c laws k x is = subst (λ d. P (v on_group.rests d) d) (sym is) (laws.detach k)
 
-module _ {A : Type 0} (v : Words A) (P : A → Core → Type 0) where
   -- a command that is asked of this group, or of another one
   group_command : (c : Core) → IsSaid v c P →
       (s : Setup) (k o : ℕ) (kind : BlockKind) (i : Inputs) (m : Machine) (j : ℕ) →
       IsThere m j → group_core_at m j ≡ disowned k c → MayAskGroup s k o kind i m →
-      P (if nat_eq o j then v.asked (wanted_of k kind i) i.jerk (group_look s m j 0)
-      (group_core_at m j) else v.rests)
+      P (v (if nat_eq o j then on_group.asked (wanted_of k kind i) i.jerk (group_look s m j 0)
+      else on_group.rests) (group_core_at m j))
       (group_core_at (after_group_command s k o kind i m) j)
   unfolding after_group_command
   group_command c laws s k o kind i m j there free may =
@@ -114,7 +112,8 @@ module _ {A : Type 0} (v : Words A) (P : A → Core → Type 0) where
       let after : group_core_at (after_group_command s k o kind i m) j ≡ group_core_at
       (with_group_core m o (d o)) j =
       group_led s o kind _ (with_group_core m o (d o)) j in
-      one (λ f. P f (group_core_at (after_group_command s k o kind i m) j)) (nat_eq o j) _ _
+      one (λ x. P (v x (group_core_at m j)) (group_core_at (after_group_command s k o kind i m) j))
+      (nat_eq o j) _ _
       (λ e.
       let same : o ≡ j = eqb-true o j e in
       let may_here = subst (λ x. MayAskGroup s k x kind i m) same may in
@@ -124,54 +123,23 @@ module _ {A : Type 0} (v : Words A) (P : A → Core → Type 0) where
       let is : group_core_at (after_group_command s k o kind i m) j ≡ record (d j) { notes = [] } =
       after ∙ ap (λ x. group_core_at (with_group_core m x (d x)) j) same ∙ group_written m j
       (d j) there.group there.list in
-      subst (P (v.asked w i.jerk (group_look s m j 0) (group_core_at m j))) (sym is)
+      subst (P (v (on_group.asked w i.jerk (group_look s m j 0)) (group_core_at m j))) (sym is)
       (laws.untold _ (d j) made))
-      (λ e. subst (P v.rests)
-      (sym (after ∙ group_beside_group m o j (d o) (λ x. eqb-false o j e (sym x)) ∙ free))
-      (laws.detach k))
-
-  -- a rising edge
-  rising : (s : Setup) (k : ℕ) (b : BlockDef) (i : Inputs) (m : Machine)
-      (j : ℕ) → IsSaid v (group_core_at m j) P → IsThere m j →
-      (acts_on_group b.kind ≡ true → MayAskGroup s k b.object b.kind i (without_owner k m)) →
-      (acts_on_group b.kind ≡ false → b.object < length m.axes) →
-      P (by_rising v s k b i m j) (group_core_at (after_rising s k b i m) j)
-  rising s k b i m j laws there may axis =
-      let free = without_owner k m in
-      let is = group_disowned k j m there.group there.list in
-      let size = disowned_size k m in
-      let s1 = size.axes in
-      let s2 = size.groups in
-      let s3 = size.queues in
-      let l1 = there.group in
-      let l2 = there.list in
-      let there_free : IsThere free j = record { group = omega arith; list = omega arith } in
-      both (λ f x. P f (group_core_at x j)) (acts_on_group b.kind) _ _ _ _
-      (λ e. group_command (group_core_at m j) laws s k b.object b.kind i free j there_free is
-      (may e))
-      (λ e. let l =
-      axis e in subst (P v.rests)
-      (sym (axis_command s k b.object b.kind i free j (omega arith) ∙ is)) (laws.detach k))
-
-  edges : (s : Setup) (e : Edge) (k : ℕ) (b : BlockDef) (i : Inputs)
-      (m : Machine) (j : ℕ) → IsSaid v (group_core_at m j) P →
-      IsThere m j → IsAsked s k b i m → is_power b.kind ≡ false → P (by_edge v s e k b i m j)
-      (group_core_at (after_edge s e k b i m) j)
-  edges s edge.Rising k b i m j laws there asked other = rising s k b i m j laws there
-      (asked.group other) asked.axis
-  edges s edge.High k b i m j laws there asked other = laws.rests
-  edges s edge.Falling k b i m j laws there asked other = laws.rests
-  edges s edge.Low k b i m j laws there asked other = laws.rests
+      (λ e. subst (P (v on_group.rests (group_core_at m j)))
+      (sym (after ∙ group_beside_group m o j (d o) (λ x. eqb-false o j e (sym x))))
+      (freed c laws k (group_core_at m j) free))
 
   -- a Power off of a member, or of another axis
   group_off : (o : Option Membership) (m powered : Machine) (j : ℕ) →
       IsSaid v (group_core_at m j) P → IsThere powered j →
       ((x : ℕ) → group_core_at powered x ≡ group_core_at m x) →
-      P (by_power_off v o m j) (group_core_at (group_without_power o powered) j)
-  group_off None m powered j laws there same = subst (P v.rests) (sym (same j)) laws.rests
+      P (v (by_power_off o j) (group_core_at m j)) (group_core_at (group_without_power o powered) j)
+  group_off None m powered j laws there same =
+      subst (P (v on_group.rests (group_core_at m j))) (sym (same j)) laws.rests
   group_off (Some at) m powered j laws there same =
       let off : ℕ → Core = λ x. powered_off (group_core_at powered x) in
-      one (λ f. P f (group_core_at (with_group_core powered at.group (off at.group)) j))
+      one (λ x. P (v x (group_core_at m j))
+      (group_core_at (with_group_core powered at.group (off at.group)) j))
       (nat_eq at.group j) _ _
       (λ e.
       let it : at.group ≡ j = eqb-true at.group j e in
@@ -180,15 +148,16 @@ module _ {A : Type 0} (v : Words A) (P : A → Core → Type 0) where
       ap (λ x. group_core_at (with_group_core powered x (off x)) j) it ∙ group_written powered j
       (off j) there.group there.list
       ∙ ap (λ x. record (powered_off x) { notes = [] }) (same j) in
-      subst (P (v.power_off (group_core_at m j))) (sym is)
+      subst (P (v on_group.power_off (group_core_at m j))) (sym is)
       (laws.untold _ (powered_off (group_core_at m j)) laws.power_off))
-      (λ e. subst (P v.rests)
+      (λ e. subst (P (v on_group.rests (group_core_at m j)))
       (sym (group_beside_group powered at.group j (off at.group)
       (λ x. eqb-false at.group j e (sym x)) ∙ same j)) laws.rests)
 
   powers : (s : Setup) (n : ℕ) (enable : Bool) (m : Machine) (j : ℕ) →
       IsSaid v (group_core_at m j) P → IsThere m j → n < length m.axes →
-      P (if enable then v.rests else by_power_off v (membership_of s n) m j)
+      P (v (if enable then on_group.rests else by_power_off (membership_of s n) j)
+      (group_core_at m j))
       (group_core_at (after_power s n enable m) j)
   unfolding after_power
   powers s n enable m j laws there l =
@@ -200,53 +169,62 @@ module _ {A : Type 0} (v : Words A) (P : A → Core → Type 0) where
       let q = length-set m.queues n c.waiting in
       let list = there.list in
       let there_powered : IsThere powered j = record { group = there.group; list = omega arith } in
-      both (λ f x. P f (group_core_at x j)) enable _ _ _ _
-      (λ e. subst (P v.rests) (sym (same j)) laws.rests)
+      both (λ x y. P (v x (group_core_at m j)) (group_core_at y j)) enable _ _ _ _
+      (λ e. subst (P (v on_group.rests (group_core_at m j))) (sym (same j)) laws.rests)
       (λ e. group_off (membership_of s n) m powered j laws there_powered same)
-
-  kinds : (s : Setup) (kind : BlockKind) (e : Edge) (k : ℕ) (b : BlockDef)
-      (i : Inputs) (m : Machine) (j : ℕ) → b.kind ≡ kind →
-      IsSaid v (group_core_at m j) P → IsThere m j → IsAsked s k b i m →
-      P (by_kind v s kind e k b i m j) (group_core_at (after_asking s kind e k b i m) j)
-  kinds s kind.Power e k b i m j is laws there asked = powers s b.object i.execute m j laws there
-      (asked.axis (ap acts_on_group is))
-  kinds s _ e k b i m j is laws there asked = edges s e k b i m j laws there asked
-      (ap is_power is)
-
-  calls : (s : Setup) (o : Option BlockDef) (k : ℕ) (i : Inputs)
-      (m : Machine) (j : ℕ) → IsSaid v (group_core_at m j) P → IsThere m j →
-      ((b : BlockDef) → o ≡ Some b → MayCall s k b i (with_execute k i m)) → IsMachineKept s m →
-      P (words.by_call v s o k i m j) (group_core_at (called_where s o k i m) j)
-  calls s None k i m j laws there may h = laws.rests
-  calls s (Some b) k i m j laws there may h =
-      let can = may b refl in
-      let sizes = h.sized in
-      let size = sizes.axes in
-      let asked : IsAsked s k b i (with_execute k i m) = record {
-        group = λ other e. (can.rise other).group e;
-        axis = λ e. let l = subst (λ x. b.object < (if x then length s.groups else length s.axes)) e
-            can.object in omega arith;
-      } in
-      kinds s b.kind (edge_of (instance_at m.instances k).execute i.execute) k b i
-      (with_execute k i m) j refl laws (record { group = there.group; list = there.list }) asked
 
   -- what a call makes of a group
   pub said_by_call : (s : Setup) (m : Machine) (k : ℕ) (i : Inputs) (j : ℕ) →
       IsSaid v (group_core_at m j) P → IsThere m j →
       ((b : BlockDef) → slice_get s.blocks k ≡ Some b → MayCall s k b i (with_execute k i m)) →
       IsMachineKept s m →
-      P (words.by_call v s (slice_get s.blocks k) k i m j) (group_core_at (after_call s m k i) j)
-  unfolding called
-  said_by_call s m k i j laws there may h = calls s (slice_get s.blocks k) k i m j laws there may h
+      P (on_group.by_call v s (slice_get s.blocks k) k i m j) (group_core_at (after_call s m k i) j)
+  said_by_call s m k i j laws l may h =
+      let x = with_execute k i m in
+      let free = without_owner k x in
+      let there : IsThere x j = record { group = l.group; list = l.list } in
+      let is = group_disowned k j x l.group l.list in
+      let small = disowned_size k x in
+      let free_axes = small.axes in
+      let free_groups = small.groups in
+      let free_lists = small.queues in
+      let l1 = l.group in
+      let l2 = l.list in
+      let still : IsThere free j = record { group = omega arith; list = omega arith } in
+      let sizes = h.sized in
+      let size = sizes.axes in
+      let There : BlockDef → Bool → Type 0 =
+      λ b y. b.object < (if y then length s.groups else length s.axes) in
+      let on_axis : (b : BlockDef) → slice_get s.blocks k ≡ Some b →
+      acts_on_group b.kind ≡ false → b.object < length m.axes =
+      λ b at off. let within : b.object < length s.axes = subst (There b) off (may b at).object in
+      omega arith in
+      let Said : Request → Machine → Type 0 = λ r y.
+      P (v (on_group.by_request s r k i (machine_asked r k i m) j)
+      (group_core_at (machine_asked r k i m) j)) (group_core_at y j) in
+      by_request s k i m Said (record {
+        absent = λ none. laws.rests;
+        quiet = λ b at other e. laws.rests;
+        power = λ b at is.
+            powers s b.object i.execute x j laws there (on_axis b at (ap acts_on_group is));
+        axis_command = λ b at other e off.
+            let within = on_axis b at off in
+            let same = axis_command s k b.object b.kind i free j (omega arith) in
+            subst (P (v on_group.rests (group_core_at free j))) (sym same)
+            (freed (group_core_at m j) laws k (group_core_at free j) is);
+        group_command = λ b at other e on.
+            group_command (group_core_at m j) laws s k b.object b.kind i free j still is
+            (((may b at).rise other).group on);
+      })
 
 -- a property of a group by the fate of its active command
 abbrev pub IsByFate : Core → (Fate → Core → Type 0) → Type 0
-IsByFate c P = IsSaid fate_words c P
+IsByFate c P = IsSaid call_fate c P
 
 -- what a call makes of a group goes with that
 pub by_call : (P : Fate → Core → Type 0) (s : Setup) (m : Machine) (k : ℕ) (i : Inputs) (j : ℕ) →
     IsByFate (group_core_at m j) P → IsThere m j →
     ((b : BlockDef) → slice_get s.blocks k ≡ Some b → MayCall s k b i (with_execute k i m)) →
     IsMachineKept s m →
-    P (words.by_call fate_words s (slice_get s.blocks k) k i m j) (group_core_at (after_call s m k i) j)
-by_call P s m k i j laws there may h = said_by_call fate_words P s m k i j laws there may h
+    P (on_group.by_call call_fate s (slice_get s.blocks k) k i m j) (group_core_at (after_call s m k i) j)
+by_call P s m k i j laws there may h = said_by_call call_fate P s m k i j laws there may h

@@ -1,6 +1,7 @@
 -- What becomes of the active command of a group in each entry of a history (PLCopen Motion Control
 -- Part 4; BufferMode of Part 1).
 use Rattle.std.specs.Prelude.{ℕ, Option, slice_get}
+use Rattle.group_core.specs.Cores.{Core}
 use Rattle.group_core.specs.Cycles.{path_taken}
 use Rattle.buffer_modes.specs.Fates.{Fate, goes_on}
 use Rattle.group_core.specs.Fates.{command_fate, cycle_fate, power_off_fate}
@@ -8,17 +9,20 @@ use Rattle.group_core.specs.Tracks.{OnPath}
 use Rattle.motion_history.specs.Entries.{Entry, call, cycle, end_of}
 use Rattle.motion_history.specs.Setup.{Setup}
 use Rattle.motion_kernel.specs.Histories.{after, inputs_of}
-use Rattle.motion_laws.specs.calls.Group.{Words, by_call}
 use Rattle.motion_kernel.specs.Machine.{Machine, group_at, group_core_at}
 use Rattle.motion_kernel.specs.cycles.Cycles.{look_of_group}
+use Rattle.motion_laws.specs.calls.Group as on_group
+use Rattle.motion_laws.specs.calls.Group.{GroupCall, by_call}
 
--- what a call makes of it, in words
-abbrev pub fate_words : Words Fate
-fate_words = record { rests = goes_on; asked = command_fate; power_off = power_off_fate }
+-- in a call, by what that asks of the group
+abbrev pub call_fate : GroupCall → Core → Fate
+call_fate (on_group.asked w jerk members) c = command_fate w jerk members c
+call_fate on_group.power_off c = power_off_fate c
+call_fate on_group.rests c = goes_on
 
 -- what becomes of the active command of a group in an entry
 abbrev pub group_fate : Setup → Machine → Entry → ℕ → Fate
-group_fate s m (call k i reply) j = by_call fate_words s (slice_get s.blocks k) k i m j
+group_fate s m (call k i reply) j = by_call call_fate s (slice_get s.blocks k) k i m j
 group_fate s m (cycle c rows grows) j =
     cycle_fate (look_of_group s m (inputs_of rows) j) (group_core_at m j)
 group_fate s m (end_of task) j = goes_on

@@ -1,64 +1,60 @@
--- What a call says of an axis, in any words: what becomes of its active command, its events, or
--- others (PLCopen Motion Control Part 1, general rules).
-use Rattle.std.specs.Prelude.{ℕ, Bool, nat_eq, if◌then◌else◌, Option, Some, None, Result}
+-- What a call asks of an axis (PLCopen Motion Control Part 1, general rules).
+use Rattle.std.specs.Prelude.{ℕ, Bool, true, false, nat_eq, if◌then◌else◌, Option, Result}
+use Rattle.std.specs.List.{list_any}
 use Rattle.axis_core.specs.Cores.{Core}
 use Rattle.axis_core.specs.Refusals.{Asked}
-use Rattle.axis_core.specs.declared.axis.Axis.{Axis}
-use Rattle.command_pool.specs.Kinds.{acts_on_group}
 use Rattle.command_pool.specs.declared.ending.Refusal.{Refusal}
 use Rattle.command_pool.specs.declared.kind.BlockKind.{BlockKind}
-use Rattle.command_pool.specs.declared.kind.BlockKind.TheVariants as kind
-use Rattle.fb_outputs.specs.Steps.{edge_of}
 use Rattle.fb_outputs.specs.declared.inputs.Inputs.{Inputs}
-use Rattle.fb_outputs.specs.declared.instance.Edge.{Edge}
-use Rattle.fb_outputs.specs.declared.instance.Edge.TheVariants as edge
 use Rattle.group_core.specs.Calls as group
 use Rattle.motion_history.specs.Setup.{Setup}
 use Rattle.motion_history.specs.declared.config.BlockDef.{BlockDef}
-use Rattle.motion_kernel.specs.Machine.{Machine, axis_at, axis_core_at, group_core_at, instance_at}
+use Rattle.motion_kernel.specs.Machine.{Machine, axis_core_at, group_core_at}
 use Rattle.motion_kernel.specs.calls.Asking.{wanted_of}
-use Rattle.motion_kernel.specs.calls.Calls.{asked_of_axis, with_execute, without_owner}
+use Rattle.motion_kernel.specs.calls.Calls.{asked_of_axis, enters_path, leaves_path}
 use Rattle.motion_kernel.specs.looks.GroupLooks.{group_look}
+use Rattle.motion_kernel.specs.members.Members.{members_at}
+use Rattle.motion_laws.specs.calls.Requests.{Request, for_axis_command, for_group_command, for_nothing, for_power, machine_asked, request_of}
 
--- the words for an axis
-pub record Words (A : Type 0) : Type 0 where
-  -- where nothing happens to it
-  pub rests : A
-  -- where a command of this kind is asked of a group, and answered so
-  pub beside : Setup → ℕ → BlockKind → Result Bool Refusal → Axis → ℕ → A
-  -- where one is asked of the axis
-  pub asked : Asked → Core → A
-  -- where its power is switched
-  pub power : Bool → Core → A
+-- what is asked of an axis
+pub data AxisCall : Type 0 where
+  -- nothing
+  rests : AxisCall
+  -- to be led on its group's path, or from it
+  led : Bool → AxisCall
+  -- a command
+  asked : Asked → AxisCall
+  -- power, on or off
+  power : Bool → AxisCall
 
--- a rising edge asks a command of the block's axis or group, which the instance's earlier command
--- has left
-abbrev pub by_rising : {A : Type 0} → Words A → Setup → ℕ → BlockDef → Inputs → Machine → ℕ → A
-by_rising v s k b i m n =
-    let free = without_owner k m in
-    if acts_on_group b.kind
-    then v.beside s b.object b.kind
-    (group.answer_of (wanted_of k b.kind i) i.jerk (group_look s free b.object 0)
-    (group_core_at free b.object)) (axis_at free n) n
-    else if nat_eq b.object n
-    then v.asked (asked_of_axis s k n b.kind i free) (axis_core_at free n)
-    else v.rests
+-- a group leads its axes on its path where its command becomes active in the call, and from it
+-- where a GroupDisable is admitted
+abbrev pub led_by : BlockKind → Result Bool Refusal → AxisCall
+led_by kind answer =
+    if enters_path answer then led true else if leaves_path kind answer then led false else rests
 
--- other calls ask for nothing
-abbrev pub by_edge : {A : Type 0} → Words A → Setup → Edge → ℕ → BlockDef → Inputs → Machine → ℕ → A
-by_edge v s edge.Rising k b i m n = by_rising v s k b i m n
-by_edge v s e k b i m n = v.rests
+-- so where a command is asked of the group, by what that answers
+abbrev pub by_group_command : Setup → ℕ → BlockDef → Inputs → Machine → ℕ → AxisCall
+by_group_command s k b i m n =
+    if list_any (nat_eq n) (members_at s b.object)
+    then led_by b.kind
+    (group.answer_of (wanted_of k b.kind i) i.jerk (group_look s m b.object 0)
+    (group_core_at m b.object))
+    else rests
 
--- a Power switches its axis at every call, others ask at a rising edge
-abbrev pub by_kind : {A : Type 0} → Words A → Setup → BlockKind → Edge → ℕ → BlockDef → Inputs →
+-- what a call asks for asks this of an axis of the machine
+abbrev pub by_request : Setup → Request → ℕ → Inputs → Machine → ℕ → AxisCall
+by_request s for_nothing k i m n = rests
+by_request s (for_power o enable) k i m n = if nat_eq o n then power enable else rests
+by_request s (for_axis_command b) k i m n =
+    if nat_eq b.object n then asked (asked_of_axis s k n b.kind i m) else rests
+by_request s (for_group_command b) k i m n = by_group_command s k b i m n
+
+-- what a call says of an axis, in any words: what becomes of its active command, its events, or
+-- others
+abbrev pub by_call : {A : Type 0} → (AxisCall → Core → A) → Setup → Option BlockDef → ℕ → Inputs →
     Machine → ℕ → A
-by_kind v s kind.Power e k b i m n =
-    if nat_eq b.object n then v.power i.execute (axis_core_at m n) else v.rests
-by_kind v s kind e k b i m n = by_edge v s e k b i m n
-
--- a block that is not there makes nothing
-abbrev pub by_call : {A : Type 0} → Words A → Setup → Option BlockDef → ℕ → Inputs → Machine → ℕ → A
-by_call v s None k i m n = v.rests
-by_call v s (Some b) k i m n =
-    let e = edge_of (instance_at m.instances k).execute i.execute in
-    by_kind v s b.kind e k b i (with_execute k i m) n
+by_call word s o k i m n =
+    let r = request_of o k i m in
+    let x = machine_asked r k i m in
+    word (by_request s r k i x n) (axis_core_at x n)

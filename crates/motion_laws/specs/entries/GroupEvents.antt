@@ -2,6 +2,7 @@
 -- Motion Control Part 4).
 use Rattle.std.specs.Prelude.{ℕ, List, [], ◌++◌, length, slice_get}
 use Rattle.cia402_machine.specs.declared.drive.DriveIn.{DriveIn}
+use Rattle.group_core.specs.Cores.{Core}
 use Rattle.group_core.specs.declared.group.Group.{Group}
 use Rattle.group_core.specs.declared.look.GroupLook.{GroupLook}
 use Rattle.group_state.specs.declared.diagram.GroupEvent.{GroupEvent}
@@ -13,16 +14,15 @@ use Rattle.motion_kernel.specs.cycles.AxisCycles.{axes_cycled}
 use Rattle.motion_kernel.specs.cycles.Cycles.{around_in, look_of_group, stepped_in}
 use Rattle.motion_kernel.specs.cycles.GroupResets.{groups_reset}
 use Rattle.motion_kernel.specs.looks.GroupLooks.{group_look}
-use Rattle.motion_laws.specs.calls.Group.{Words, by_call}
+use Rattle.motion_laws.specs.calls.Group as on_group
+use Rattle.motion_laws.specs.calls.Group.{GroupCall, by_call}
 use Rattle.state_events.specs.Group.{command_events, power_off_events, reset_events, step_events}
 
--- the events of a call, in words
-abbrev pub event_words : Words (List GroupEvent)
-event_words = record {
-  rests = [];
-  asked = command_events;
-  power_off = λ c. power_off_events c.group.state;
-}
+-- the events of a call, by what that asks of the group
+abbrev pub call_events : GroupCall → Core → List GroupEvent
+call_events (on_group.asked w jerk members) c = command_events w jerk members c
+call_events on_group.power_off c = power_off_events c.group.state
+call_events on_group.rests c = []
 
 -- a group after its step in a cycle, and after the cycles of the axes
 abbrev pub stepped_group : Setup → Machine → List DriveIn → ℕ → Group
@@ -45,7 +45,7 @@ events_in_cycle s m ins after j =
 
 -- the events of a group in an entry
 abbrev pub group_events : Setup → Machine → Entry → ℕ → List GroupEvent
-group_events s m (call k i reply) j = by_call event_words s (slice_get s.blocks k) k i m j
+group_events s m (call k i reply) j = by_call call_events s (slice_get s.blocks k) k i m j
 group_events s m (cycle c rows grows) j =
     events_in_cycle s m (inputs_of rows) (group_at (after s m (cycle c rows grows)) j).group j
 group_events s m (end_of task) j = []

@@ -92,3 +92,25 @@ progress_in s m (end_of task) k b = progress_at m k
 -- an entry makes this of an instance
 abbrev pub IsOutcome : Setup → Machine → Entry → ℕ → BlockDef → Type 0
 IsOutcome s m e k b = progress_at (after s m e) k ≡ progress_in s m e k b
+
+-- how a command ends as it is answered: refused, or Done at once
+abbrev pub end_answered : BlockKind → Result Bool Refusal → Option Finish
+end_answered kind (Err r) = Some (finish.Error r.number)
+end_answered kind (Ok true) = None
+end_answered kind (Ok false) = if is_done_at_once kind then Some finish.Done else None
+
+-- so in a call of its instance that is a rising edge
+abbrev pub end_by_edge : Setup → Edge → ℕ → BlockDef → Inputs → Machine → Option Finish
+end_by_edge s edge.Rising k b i m = end_answered b.kind (answer_in s k b i m)
+end_by_edge s e k b i m = None
+
+-- how the command of an instance ends in an entry, if it does
+abbrev pub finish_in : Setup → Machine → Entry → ℕ → BlockDef → Option Finish
+finish_in s m (call j i reply) k b =
+    if nat_eq j k
+    then end_by_edge s (edge_of (instance_at m.instances k).execute i.execute) k b i
+    (with_execute k i m)
+    else end_of_command s m (call j i reply) k (object_of b)
+finish_in s m (cycle c rows grows) k b =
+    end_of_command s m (cycle c rows grows) k (object_of b)
+finish_in s m (end_of task) k b = None

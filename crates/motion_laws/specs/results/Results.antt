@@ -7,17 +7,17 @@ use Rattle.command_pool.specs.declared.ending.Finish.TheVariants as finish
 use Rattle.fb_outputs.specs.Steps.{is_power}
 use Rattle.fb_outputs.specs.declared.inputs.Inputs.{Inputs}
 use Rattle.fb_outputs.specs.declared.outputs.Outputs.{Outputs}
-use Rattle.motion_history.specs.Entries.{Entry, call, cycle, end_of}
+use Rattle.motion_history.specs.Entries.{Entry, call, cycle, cycle_count, end_of}
 use Rattle.motion_history.specs.Setup.{Setup}
 use Rattle.motion_history.specs.declared.config.BlockDef.{BlockDef}
 use Rattle.motion_laws.specs.arrivals.AxisFates.{axis_fate}
 use Rattle.motion_laws.specs.arrivals.GroupFates.{group_fate}
 use Rattle.motion_kernel.specs.Histories.{after, machine_after, replay}
 use Rattle.motion_kernel.specs.Machine.{Machine, instance_at}
-use Rattle.motion_laws.specs.owners.Objects.{IsThere, Object, a_group, an_axis}
+use Rattle.motion_laws.specs.owners.Objects.{IsThere, Object, a_group, an_axis, object_of}
 use Rattle.motion_laws.specs.owners.Commands.{active_at, commands_shown}
 use Rattle.motion_laws.specs.results.Effects.{charge_at}
-use Rattle.motion_laws.specs.results.Outcomes.{IsOutcome, end_of_command}
+use Rattle.motion_laws.specs.results.Outcomes.{IsOutcome, end_of_command, finish_in}
 
 -- how the active command of an axis or a group ends in an entry, if it does
 abbrev pub end_in : Setup → Machine → Entry → Object → Option Finish
@@ -68,10 +68,17 @@ pub record KeepsResults (s : Setup) (m : Machine) (e : Entry) (more : List Entry
   -- where it is Done it is the active one, or a reset
   pub done : (o : Object) → IsThere m o → end_of_command s m e k o ≡ Some finish.Done →
       (active_at m k o ≡ 1) ⊎ ((charge_at m o).reset ≡ Some k)
-  -- the instance whose active command ends tells so at its next call, unless a rising edge takes
-  -- the command from it
-  pub told : (o : Object) (f : Finish) → IsThere m o → active_at m k o ≡ 1 →
-      end_in s m e o ≡ Some f → takes_away m k e ≡ false → TellsNext s k f (after s m e) more
+  -- and then the entry is a cycle: no call makes a command Done but its own
+  pub by_cycle : (o : Object) → end_of_command s m e k o ≡ Some finish.Done → cycle_count e ≡ 1
+  -- each end, be it of the active command, of one that waits or of a reset, is told at the
+  -- instance's next call, unless that is a rising edge
+  pub told : (b : BlockDef) (f : Finish) → slice_get s.blocks k ≡ Some b →
+      is_power b.kind ≡ false → is_call_of k e ≡ false →
+      end_of_command s m e k (object_of b) ≡ Some f → TellsNext s k f (after s m e) more
+  -- and how its own call is answered, refused or Done at once, in that call's reply
+  pub answered : (b : BlockDef) (i : Inputs) (reply : Outputs) (f : Finish) →
+      e ≡ call k i reply → slice_get s.blocks k ≡ Some b → is_power b.kind ≡ false →
+      finish_in s m e k b ≡ Some f → Tells f reply
   -- and one without a command is told nothing
   pub untold : commands_shown (instance_at m.instances k).progress ≡ 0 → is_call_of k e ≡ false →
       (instance_at (after s m e).instances k).progress ≡ (instance_at m.instances k).progress

@@ -9,7 +9,7 @@ use Rattle.motion_history.specs.Setup.{Setup}
 use Rattle.motion_history.specs.declared.config.BlockDef.{BlockDef}
 use Rattle.motion_kernel.specs.Histories.{after, machine_after}
 use Rattle.motion_kernel.specs.Machine.{Machine, axis_at, axis_core_at}
-use Rattle.motion_laws.specs.results.Comes.{finish_in}
+use Rattle.motion_laws.specs.results.Outcomes.{finish_in}
 
 -- the active command of an axis is one of the instance and of its block's kind, and the axis comes
 -- to its target by an entry, at rest, or, where it is blended, by a step that crosses it

@@ -18,8 +18,6 @@ use Rattle.motion_history.specs.declared.config.BlockDef.{BlockDef}
 use Rattle.motion_kernel.specs.Machine.{Machine, axis_at, group_core_at}
 use Rattle.motion_kernel.specs.calls.Calls.{after_call, with_execute}
 use Rattle.motion_kernel.specs.kept.Machine.{AreWhole, IsMachineKept}
-use Rattle.motion_laws.specs.entries.AxisEvents as axis_words
-use Rattle.motion_laws.specs.entries.GroupEvents as group_words
 use Rattle.motion_laws.proofs.entries.errors.Laws.{AreAllShown, AxisErrors, ErrorLaws, GroupErrors, ShowsTruly}
 use Rattle.motion_laws.proofs.walk.AxisCalls as axes
 use Rattle.motion_laws.proofs.walk.GroupCalls as groups
@@ -30,12 +28,11 @@ record IsWell (q : Asked) (c : axis.Core) : Type 0 where
   made : demands.IsMade q.wanted
 
 axis_said : AxisErrors → (a : Axis) (ws : List Wanted) → axis_shown.IsShown a →
-    axes.IsSaid axis_words.event_words IsWell a ws (λ es x us. axis_shown.IsShown x)
+    axes.IsByFate IsWell a ws (λ f x us. axis_shown.IsShown x)
 axis_said laws a ws h = record {
   rests = h;
-  beside = axes.beside_by a ws (λ x us. axis_shown.IsShown x)
-      (λ owner on x led. axes.led_by (axis_without_owner owner a)
-      (λ (y : Axis). axis_shown.IsShown y) laws.path (laws.detach owner a h) on x led);
+  led = λ owner on. axes.path_led (λ (y : Axis). axis_shown.IsShown y) laws.path on
+      (axis_without_owner owner a) (laws.detach owner a h);
   detach = λ owner. laws.detach owner a h;
   power = λ enable c e us.
       laws.power enable c (subst (λ (y : Axis). axis_shown.IsShown y) (sym e) h);
@@ -44,10 +41,10 @@ axis_said laws a ws h = record {
 }
 
 group_said : GroupErrors → (c : Core) → ShowsTruly c.group →
-    groups.IsSaid group_words.event_words c (λ es x. ShowsTruly x.group)
+    groups.IsByFate c (λ f x. ShowsTruly x.group)
 group_said laws c h = record {
   rests = h;
-  untold = λ es x shown. shown;
+  untold = λ f x shown. shown;
   detach = λ owner. laws.detach owner c.group h;
   power_off = laws.power_off c h;
   command = λ owner w jerk members x e looks made kept. laws.command w jerk members x made
@@ -70,13 +67,11 @@ call_shown laws s m k i whole made h shown =
     let g = sizes.groups in
     let q = sizes.queues in
     record {
-      axes = λ n l. axes.said_by_call axis_words.event_words
-          (λ es x us. axis_shown.IsShown x) IsWell s m k i n
+      axes = λ n l. axes.by_call (λ f x us. axis_shown.IsShown x) s m k i n
           (axis_said laws.axes (axis_at m n) (queue_of m.queues n) (shown.axes n l))
           (record { axis = omega arith; list = omega arith })
           (λ b at other. asks_well laws s k b i m n h whole made at other);
-      groups = λ j l. groups.said_by_call group_words.event_words
-          (λ es x. ShowsTruly x.group) s m k i j
+      groups = λ j l. groups.by_call (λ f x. ShowsTruly x.group) s m k i j
           (group_said laws.groups (group_core_at m j) (shown.groups j l))
           (record { group = omega arith; list = omega arith })
           (λ b at. laws.may_call s k b i m whole at made h) h;

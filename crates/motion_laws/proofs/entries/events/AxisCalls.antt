@@ -1,74 +1,35 @@
 -- Each axis changes its state by its events in a call.
-use Rattle.std.specs.Prelude.{◌≡◌, refl, ℕ, ◌<◌, Bool, true, false, if◌then◌else◌, is_some, nat_eq, ℤ, Some, Result, List, [], ◌∷◌, ◌||◌, length, slice_get, slice_set}
-use Rattle.std.specs.List.{list_any}
-use Rattle.std.proofs.Common.{arith, ap, sym, subst, ◌∙◌, inl, inr}
-use Rattle.std.proofs.lemmas.Bool.{cases_Bool, eqb-false, eqb-true}
-use Rattle.std.proofs.lemmas.List.{get_or-set_other, get_or-set_same, length-set}
+use Rattle.std.specs.Prelude.{◌≡◌, refl, ℕ, ◌<◌, Bool, true, false, if◌then◌else◌, is_some, ℤ, Some, List, length, slice_get}
+use Rattle.std.proofs.Common.{arith, ap, sym, subst, ◌∙◌}
+use Rattle.std.proofs.lemmas.Bool.{eqb-true}
 use Rattle.axis_core.specs.AxisKept as axis
-use Rattle.axis_core.specs.Calls.{core_after_command, core_after_power}
+use Rattle.axis_core.specs.Calls.{axis_without_owner, core_after_command, core_after_power}
 use Rattle.axis_core.specs.Cores as cores
 use Rattle.axis_core.specs.Demands as demands
 use Rattle.axis_core.specs.Refusals.{Asked}
 use Rattle.axis_core.specs.blocks.Path.{axis_on_path, is_on_path}
 use Rattle.axis_core.specs.declared.axis.Axis.{Axis}
-use Rattle.axis_state.specs.declared.diagram.AxisEvent.{AxisEvent}
-use Rattle.axis_state.specs.declared.state.AxisState.{AxisState}
 use Rattle.command_pool.specs.Waiting.{queue_of}
-use Rattle.command_pool.specs.declared.ending.Refusal.{Refusal}
-use Rattle.command_pool.specs.declared.kind.BlockKind.{BlockKind}
 use Rattle.command_pool.specs.declared.wanted.Wanted.{Wanted}
 use Rattle.fb_outputs.specs.Steps.{is_power}
 use Rattle.fb_outputs.specs.declared.inputs.Inputs.{Inputs}
 use Rattle.motion_history.specs.Calls.{IsCall}
 use Rattle.motion_history.specs.Setup.{Setup}
 use Rattle.motion_history.specs.declared.config.BlockDef.{BlockDef}
-use Rattle.motion_kernel.specs.Machine.{Machine, axis_among, axis_at, no_axis}
+use Rattle.motion_kernel.specs.Machine.{Machine, axis_at}
 use Rattle.motion_kernel.specs.calls.Asking.{wanted_of}
-use Rattle.motion_kernel.specs.calls.Calls.{after_call, axes_led, axis_led, enters_path, is_held_by_group, leaves_path, members_led, with_execute, without_owner}
+use Rattle.motion_kernel.specs.calls.Calls.{after_call, axis_led, is_held_by_group, with_execute, without_owner}
 use Rattle.motion_kernel.specs.kept.Machine.{AreWhole, IsMachineKept}
-use Rattle.motion_kernel.specs.members.Members.{members_at, membership_of}
+use Rattle.motion_kernel.specs.members.Members.{membership_of}
 use Rattle.motion_kernel.proofs.kept.Detached.{disowned_kept}
 use Rattle.motion_kernel.proofs.kept.Events.{instance_kept}
-use Rattle.motion_kernel.proofs.kept.LedAxes.{led_twice}
 use Rattle.motion_laws.specs.calls.Axis.{by_call}
-use Rattle.motion_laws.specs.entries.AxisEvents.{event_words, events_among, led_events, member_events}
+use Rattle.motion_laws.specs.entries.AxisEvents.{call_events, led_events}
 use Rattle.motion_laws.proofs.entries.events.Laws.{EventLaws}
 use Rattle.motion_laws.proofs.walk.ByTest.{both}
 use Rattle.motion_laws.proofs.walk.AxisCalls.{AsksWell, IsSaid, said_by_call}
 use Rattle.state_events.specs.Axis.{Lead, command_events, power_events}
 use Rattle.state_events.specs.Laws.{AreAxisEvents}
-
--- an axis of the machine after a call went by these events
-abbrev Goes : ℕ → AxisState → List AxisEvent → Machine → Type 0
-Goes n s es x = Lead s es (axis_at x n).state
-
--- an axis among those that are led is led once
-led_among : (on : Bool) (ns : List ℕ) (m : Machine) (n : ℕ) → n < length m.axes →
-    axis_at (axes_led on ns m) n ≡ (if list_any (nat_eq n) ns then axis_led on (axis_at m n) else axis_at m n)
-led_among on [] m n l = refl
-led_among on (i ∷ is) m n l =
-    let one : Machine = record m { axes = slice_set m.axes i (axis_led on (axis_at m i)) } in
-    let size : length one.axes ≡ length m.axes = length-set m.axes i (axis_led on (axis_at m i)) in
-    let later = led_among on is one n (omega arith) in
-    let a = axis_at m n in
-    let Q : Axis → Type 0 = λ y. axis_at (axes_led on is one) n ≡ (if list_any (nat_eq n) is then axis_led on y else y) in
-    elim (cases_Bool (nat_eq n i)) [
-      | inl e ↦
-          let same : n ≡ i = eqb-true n i e in
-          let here : axis_at one n ≡ axis_led on a =
-          subst (λ j. axis_among (slice_set m.axes j (axis_led on (axis_at m j))) n ≡ axis_led on a) same
-          (get_or-set_same m.axes n (axis_led on a) no_axis l) in
-          let R : Bool → Type 0 = λ b. axis_at (axes_led on is one) n ≡ (if b || list_any (nat_eq n) is then axis_led on a else a) in
-          subst R (sym e) (subst Q here later ∙ always (list_any (nat_eq n) is) on a)
-      | inr d ↦
-          let here : axis_at one n ≡ a = get_or-set_other m.axes i n (axis_led on (axis_at m i)) no_axis (eqb-false n i d) in
-          let R : Bool → Type 0 = λ b. axis_at (axes_led on is one) n ≡ (if b || list_any (nat_eq n) is then axis_led on a else a) in
-          subst R (sym d) (subst Q here later)
-    ]
-  where
-    always : (b : Bool) (on : Bool) (a : Axis) → (if b then axis_led on (axis_led on a) else axis_led on a) ≡ axis_led on a
-    always true on a = led_twice on a
-    always false on a = refl
 
 -- a command is asked of an axis that is kept, and made as it should
 record IsWell (q : Asked) (c : cores.Core) : Type 0 where
@@ -88,29 +49,12 @@ module _ (laws : AreAxisEvents) where
   led_goes false a = both (λ es (x : Axis). Lead a.state es x.state) (is_on_path a) _ _ (axis_on_path false a) a
       (λ e. laws.path false a) (λ e. refl)
 
-  among_goes : (on : Bool) (ns : List ℕ) (m : Machine) (n : ℕ) → n < length m.axes →
-      Goes n (axis_at m n).state (events_among ns on (axis_at m n) n) (axes_led on ns m)
-  among_goes on ns m n l =
-      let a = axis_at m n in
-      subst (λ (x : Axis). Lead a.state (events_among ns on a n) x.state) (sym (led_among on ns m n l))
-      (both (λ es (x : Axis). Lead a.state es x.state) (list_any (nat_eq n) ns) _ _ (axis_led on a) a
-      (λ e. led_goes on a) (λ e. refl))
-
-  members_go : (s : Setup) (j : ℕ) (x : BlockKind) (answer : Result Bool Refusal) (m : Machine) (n : ℕ) → n < length m.axes →
-      Goes n (axis_at m n).state (member_events s j x answer (axis_at m n) n) (members_led s j x answer m)
-  members_go s j x answer m n l =
-      let P : List AxisEvent → Machine → Type 0 = Goes n (axis_at m n).state in
-      both P (enters_path answer) _ _ _ _ (λ e. among_goes true (members_at s j) m n l)
-      (λ e. both P (leaves_path x answer) _ _ _ _ (λ f. among_goes false (members_at s j) m n l) (λ f. refl))
-
   -- every event of the axis is told
-  events_said : (a : Axis) (ws : List Wanted) → IsSaid event_words IsWell a ws (λ es x us. Lead a.state es x.state)
+  events_said : (a : Axis) (ws : List Wanted) → IsSaid call_events IsWell a ws (λ es x us. Lead a.state es x.state)
   events_said a ws = record {
     rests = refl;
-    beside = λ owner s j kind answer m n l free.
-        let same : (axis_at m n).state ≡ a.state = ap (λ (x : Axis). x.state) free ∙ laws.detach owner a in
-        subst (λ t. Goes n t (member_events s j kind answer (axis_at m n) n) (members_led s j kind answer m)) same
-        (members_go s j kind answer m n l);
+    led = λ owner on. subst (λ t. Lead t (led_events on (axis_without_owner owner a)) (axis_led on (axis_without_owner owner a)).state)
+        (laws.detach owner a) (led_goes on (axis_without_owner owner a));
     detach = λ owner. laws.detach owner a;
     power = λ enable c e us.
         let same : c.axis.state ≡ a.state = ap (λ (x : Axis). x.state) e in
@@ -146,11 +90,11 @@ asks_well laws s k b i m n h whole made at other off same =
 
 -- what a call makes of the state of an axis
 pub axis_goes : EventLaws → (s : Setup) (m : Machine) (k : ℕ) (i : Inputs) (n : ℕ) → IsMachineKept s m → AreWhole s → IsCall s k i →
-    n < length s.axes → Lead (axis_at m n).state (by_call event_words s (slice_get s.blocks k) k i m n) (axis_at (after_call s m k i) n).state
+    n < length s.axes → Lead (axis_at m n).state (by_call call_events s (slice_get s.blocks k) k i m n) (axis_at (after_call s m k i) n).state
 axis_goes laws s m k i n h whole made l =
     let sizes = h.sized in
     let a = sizes.axes in
     let q = sizes.queues in
-    said_by_call event_words (λ es x us. Lead (axis_at m n).state es x.state) IsWell s m k i n
+    said_by_call call_events (λ es x us. Lead (axis_at m n).state es x.state) IsWell s m k i n
     (events_said laws.axes (axis_at m n) (queue_of m.queues n)) (record { axis = omega arith; list = omega arith })
     (λ b at other. asks_well laws s k b i m n h whole made at other)

@@ -5,7 +5,6 @@ use Rattle.axis_core.specs.Calls.{answer_by, answer_of, core_after_command, core
 use Rattle.axis_core.specs.Refusals as axis_refusals
 use Rattle.axis_core.specs.declared.reason.Reason as axis_reason
 use Rattle.axis_core.specs.declared.reason.Reason.TheVariants as axis_reasons
-use Rattle.command_pool.specs.Kinds.{acts_on_group}
 use Rattle.command_pool.specs.declared.ending.Refusal.{Refusal}
 use Rattle.command_pool.specs.declared.kind.BlockKind.{BlockKind}
 use Rattle.command_pool.specs.declared.kind.BlockKind.TheVariants as kind
@@ -14,7 +13,6 @@ use Rattle.fb_outputs.specs.InstanceState.{InstanceState}
 use Rattle.fb_outputs.specs.Steps as instance
 use Rattle.fb_outputs.specs.Steps.{edge_of, is_power, is_stop, outputs_by, outputs_of, reached_after}
 use Rattle.fb_outputs.specs.declared.inputs.Inputs.{Inputs}
-use Rattle.fb_outputs.specs.declared.instance.Edge.{Edge}
 use Rattle.fb_outputs.specs.declared.instance.Edge.TheVariants as edge
 use Rattle.fb_outputs.specs.declared.instance.Progress.TheVariants.{Idle}
 use Rattle.fb_outputs.specs.declared.outputs.Outputs.{Outputs}
@@ -27,15 +25,14 @@ use Rattle.group_core.specs.declared.reason.Reason.TheVariants as group_reasons
 use Rattle.motion_history.specs.Calls.{IsCall}
 use Rattle.motion_history.specs.Entries.{Entry, call, cycle_count}
 use Rattle.motion_history.specs.Setup.{Setup}
-use Rattle.motion_history.specs.declared.config.BlockDef.{BlockDef}
 use Rattle.motion_kernel.specs.calls.Asking.{wanted_of}
-use Rattle.motion_kernel.specs.calls.Calls.{after_asking, after_axis_command, after_call, after_edge, after_group_command, after_power, after_rising, asked_of_axis, called, called_where, leaves_path, members_led, reply_of, with_answer, with_axis_core, with_execute, with_group_core}
+use Rattle.motion_kernel.specs.calls.Calls.{after_axis_command, after_call, after_group_command, after_power, asked_of_axis, called, leaves_path, members_led, reply_of, with_answer, with_axis_core, with_execute, with_group_core}
 use Rattle.motion_kernel.specs.Histories.{Follows, IsLegal, after, machine_after, replay}
 use Rattle.motion_kernel.specs.looks.GroupLooks.{group_look}
 use Rattle.motion_kernel.specs.Machine.{Machine, axis_core_at, group_core_at, instance_at, machine_at_opening}
-use Rattle.motion_kernel.proofs.Sizes.{by_if}
 use Rattle.motion_laws.specs.entries.Refusals.{IsRefusalNumber, IsRefused, machine_refused}
 use Rattle.motion_laws.proofs.Histories.{replay_append}
+use Rattle.motion_laws.proofs.walk.Requests.{by_request}
 use Rattle.motion_laws.proofs.entries.refusals.Instances.{axis_as_it_is, group_as_it_is, shows_no_error, written_shows, rise_of, ChangesNothing, RefusesWell, admitted_well, asking_machine, refused_well}
 
 -- the numbers of refusals
@@ -133,22 +130,6 @@ group_well s k j kind i m e =
     group_verdict s k j kind i m members w
     (group_refusals.refusal_of (group_calls.asked_in c w i.jerk members)) e
 
--- a rising edge
-rising_well : (s : Setup) (k : ℕ) (b : BlockDef) (i : Inputs) (m : Machine) → edge_of
-    (instance_at m.instances k).execute i.execute ≡ edge.Rising →
-    RefusesWell k m (after_rising s k b i (with_execute k i m))
-rising_well s k b i m e =
-    by_if (RefusesWell k m) (acts_on_group b.kind) _ _ (group_well s k b.object b.kind i m e)
-    (axis_well s k b.object b.kind i m e)
-
-edge_well : (s : Setup) (e : Edge) (k : ℕ) (b : BlockDef) (i : Inputs) (m : Machine) → edge_of
-    (instance_at m.instances k).execute i.execute ≡ edge.Rising →
-    e ≡ edge.Rising → RefusesWell k m (after_edge s e k b i (with_execute k i m))
-edge_well s edge.Rising k b i m h is = rising_well s k b i m h
-edge_well s edge.High k b i m h is = absurd (cc)
-edge_well s edge.Falling k b i m h is = absurd (cc)
-edge_well s edge.Low k b i m h is = absurd (cc)
-
 -- a Power that is called anew shows no error
 power_shows : (i : InstanceState) (execute : Bool) → edge_of i.execute execute ≡ edge.Rising →
     (outputs_of (instance.called i execute)).error ≡ false
@@ -179,31 +160,24 @@ power_well s k n i m e shows =
     let error = subst P same shows in
     absurd (cc)
 
-asking_well : (s : Setup) (kind : BlockKind) (k : ℕ) (b : BlockDef) (i : Inputs) (m : Machine) →
-    edge_of (instance_at m.instances k).execute i.execute ≡ edge.Rising →
-    RefusesWell k m
-    (after_asking s kind (edge_of (instance_at m.instances k).execute i.execute) k b i
-    (with_execute k i m))
-asking_well s kind.Power k b i m e = power_well s k b.object i m e
-asking_well s _ k b i m e = edge_well s _ k b i m e e
-
 -- a block that is there
 pub there_is : {X : Type 0} (xs : List X) (k : ℕ) → k < length xs → slice_get xs k ≡ None → ⊥
 there_is [] k l e = omega arith
 there_is (x ∷ xs) zero l e = cc
 there_is (x ∷ xs) (suc k) l e = there_is xs k (omega arith) e
 
-called_well : (s : Setup) (o : Option BlockDef) (k : ℕ) (i : Inputs) (m : Machine) →
-    k < length s.blocks → slice_get s.blocks k ≡ o →
-    edge_of (instance_at m.instances k).execute i.execute ≡ edge.Rising → RefusesWell k m
-    (called_where s o k i m)
-called_well s None k i m l is e = absurd (there_is s.blocks k l is)
-called_well s (Some b) k i m l is e = asking_well s b.kind k b i m e
-
 call_well : (s : Setup) (m : Machine) (k : ℕ) (i : Inputs) → k < length s.blocks → IsRefused m k i
     (reply_of s m k i) → ChangesNothing k m (called s k i m)
-unfolding called
-call_well s m k i l h = called_well s (slice_get s.blocks k) k i m l refl h.edge h.error
+call_well s m k i l h =
+    let well : RefusesWell k m (called s k i m) =
+    by_request s k i m (λ r y. RefusesWell k m y) (record {
+      absent = λ none. absurd (there_is s.blocks k l none);
+      quiet = λ b at other e. absurd (e h.edge);
+      power = λ b at is. power_well s k b.object i m h.edge;
+      axis_command = λ b at other e off. axis_well s k b.object b.kind i m e;
+      group_command = λ b at other e on. group_well s k b.object b.kind i m e;
+    }) in
+    well h.error
 
 pub refused_call : (s : Setup) (m : Machine) (k : ℕ) (i : Inputs) → k < length s.blocks →
     IsRefused m k i (reply_of s m k i) →

@@ -1,34 +1,29 @@
 -- What a call leaves of the instances, before its reply.
-use Rattle.std.specs.Prelude.{◌≡◌, ℕ, Bool, true, false, Option, Some, None, Result, Ok, Err, List, [], ◌∷◌, slice_set}
+use Rattle.std.specs.Prelude.{◌≡◌, ℕ, Bool, true, false, Option, Some, None, Result, Ok, Err, List, [], ◌∷◌, slice_get, slice_set}
 use Rattle.std.specs.List.{AllByRecursion}
 use Rattle.std.proofs.Common.{sym, subst}
 use Rattle.axis_core.specs.Calls.{answer_by, answer_of, core_after_command, core_after_power}
 use Rattle.axis_core.specs.Cores as cores
 use Rattle.axis_core.specs.Refusals as axis_refusals
 use Rattle.axis_core.specs.declared.reason.Reason as axis_reason
-use Rattle.command_pool.specs.Kinds.{acts_on_group}
 use Rattle.command_pool.specs.declared.ending.Finish.{Finish}
 use Rattle.command_pool.specs.declared.ending.Finish.TheVariants as finish
 use Rattle.command_pool.specs.declared.ending.Refusal.{Refusal}
 use Rattle.command_pool.specs.declared.kind.BlockKind.{BlockKind}
-use Rattle.command_pool.specs.declared.kind.BlockKind.TheVariants as kind
 use Rattle.command_pool.specs.declared.notes.Note.{Note}
 use Rattle.command_pool.specs.declared.wanted.Wanted.{Wanted}
 use Rattle.fb_outputs.specs.InstanceState.{InstanceState}
 use Rattle.fb_outputs.specs.Replies.{Happening, HasNumber, IsNumbered, IsReply, after_all, is_error_number, may_hold}
-use Rattle.fb_outputs.specs.Steps.{edge_of, finished, opened, outputs_of, started}
+use Rattle.fb_outputs.specs.Steps.{finished, opened, outputs_of, started}
 use Rattle.fb_outputs.specs.declared.inputs.Inputs.{Inputs}
-use Rattle.fb_outputs.specs.declared.instance.Edge.{Edge}
-use Rattle.fb_outputs.specs.declared.instance.Edge.TheVariants as edge
 use Rattle.group_core.specs.Calls as group_calls
 use Rattle.group_core.specs.Calls.{commanded, powered_off}
 use Rattle.group_core.specs.Cores as group_cores
 use Rattle.group_core.specs.Refusals as group_refusals
 use Rattle.group_core.specs.declared.reason.Reason as group_reason
 use Rattle.motion_history.specs.Setup.{Setup}
-use Rattle.motion_history.specs.declared.config.BlockDef.{BlockDef}
 use Rattle.motion_kernel.specs.calls.Asking.{is_done_at_once, wanted_of}
-use Rattle.motion_kernel.specs.calls.Calls.{after_asking, after_axis_command, after_edge, after_group_command, after_power, after_rising, asked_of_axis, called_block, group_without_power, members_led, with_answer, with_axis_core, with_execute, with_group_core, without_owner}
+use Rattle.motion_kernel.specs.calls.Calls.{after_axis_command, after_group_command, after_power, asked_of_axis, called, group_without_power, members_led, with_answer, with_axis_core, with_execute, with_group_core, without_owner}
 use Rattle.motion_kernel.specs.looks.GroupLooks.{group_look}
 use Rattle.motion_kernel.specs.Machine.{Machine, axis_core_at, group_core_at, instance_at}
 use Rattle.motion_kernel.specs.members.Members.{membership_of}
@@ -37,6 +32,7 @@ use Rattle.motion_kernel.specs.declared.memberships.Membership.{Membership}
 use Rattle.motion_kernel.proofs.kept.Machine.{MachinesStayKept}
 use Rattle.motion_kernel.proofs.Sizes.{by_if}
 use Rattle.motion_laws.proofs.walk.Events.{members_instances}
+use Rattle.motion_laws.proofs.walk.Requests.{by_request}
 use Rattle.motion_laws.proofs.entries.replies.AxisNumbers.{AreNumbered, axis_numbered, command_told, group_numbered, power_told}
 use Rattle.motion_laws.proofs.entries.replies.GroupNumbers.{group_command_told, group_power_told}
 
@@ -121,23 +117,6 @@ group_command_stays P c s k j kind i m h =
     (notes_stay P c (commanded w i.jerk members core).notes m.instances
     (group_command_told w i.jerk members core tt) h))
 
-rising_stays : (P : List InstanceState → Type 0) → Stays P → (s : Setup) (k : ℕ) (b : BlockDef)
-    (i : Inputs) (m : Machine) →
-    P m.instances → P (after_rising s k b i m).instances
-unfolding without_owner
-rising_stays P c s k b i m h =
-    by_if (λ (x : Machine). P x.instances) (acts_on_group b.kind) _ _
-    (group_command_stays P c s k b.object b.kind i (without_owner k m) h)
-    (axis_command_stays P c s k b.object b.kind i (without_owner k m) h)
-
-edge_stays : (P : List InstanceState → Type 0) → Stays P → (s : Setup) (e : Edge) (k : ℕ)
-    (b : BlockDef) (i : Inputs) (m : Machine) →
-    P m.instances → P (after_edge s e k b i m).instances
-edge_stays P c s edge.Rising k b i m h = rising_stays P c s k b i m h
-edge_stays P c s edge.High k b i m h = h
-edge_stays P c s edge.Falling k b i m h = h
-edge_stays P c s edge.Low k b i m h = h
-
 -- a Power
 group_off_stays : (P : List InstanceState → Type 0) → Stays P → (o : Option Membership)
     (m : Machine) → P m.instances → P (group_without_power o m).instances
@@ -158,15 +137,19 @@ power_stays P c s n enable m h =
     (group_without_power (membership_of s n) powered) one
     (group_off_stays P c (membership_of s n) powered one)
 
-asking_stays : (P : List InstanceState → Type 0) → Stays P → (s : Setup) (kind : BlockKind)
-    (e : Edge) (k : ℕ) (b : BlockDef) (i : Inputs) (m : Machine) →
-    P m.instances → P (after_asking s kind e k b i m).instances
-asking_stays P c s kind.Power e k b i m h = power_stays P c s b.object i.execute m h
-asking_stays P c s _ e k b i m h = edge_stays P c s e k b i m h
-
--- a call, from where its instance took Execute
-pub block_stays : (P : List InstanceState → Type 0) → Stays P → (s : Setup) (k : ℕ) (b : BlockDef)
-    (i : Inputs) (m : Machine) →
-    P (with_execute k i m).instances → P (called_block s k b i m).instances
-block_stays P c s k b i m h = asking_stays P c s b.kind
-    (edge_of (instance_at m.instances k).execute i.execute) k b i (with_execute k i m) h
+-- a call: from where its instance took Execute, if its block is there
+pub call_stays : (P : List InstanceState → Type 0) → Stays P → (s : Setup) (k : ℕ) (i : Inputs)
+    (m : Machine) → (slice_get s.blocks k ≡ None → P m.instances) →
+    P (with_execute k i m).instances → P (called s k i m).instances
+unfolding without_owner
+call_stays P c s k i m absent h =
+    let x = with_execute k i m in
+    by_request s k i m (λ r y. P y.instances) (record {
+      absent = absent;
+      quiet = λ b at other e. h;
+      power = λ b at is. power_stays P c s b.object i.execute x h;
+      axis_command = λ b at other e off.
+          axis_command_stays P c s k b.object b.kind i (without_owner k x) h;
+      group_command = λ b at other e on.
+          group_command_stays P c s k b.object b.kind i (without_owner k x) h;
+    })

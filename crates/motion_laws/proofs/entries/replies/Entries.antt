@@ -15,7 +15,7 @@ use Rattle.fb_outputs.specs.declared.inputs.Inputs.{Inputs}
 use Rattle.group_core.specs.Cycles as group_cycles
 use Rattle.motion_history.specs.Setup.{Setup}
 use Rattle.motion_history.specs.declared.config.BlockDef.{BlockDef}
-use Rattle.motion_kernel.specs.calls.Calls.{after_call, called, called_where}
+use Rattle.motion_kernel.specs.calls.Calls.{after_call, called}
 use Rattle.motion_kernel.specs.looks.AxisLooks.{Surroundings, axis_look}
 use Rattle.motion_kernel.specs.cycles.Cycles.{after_cycle, around_in, cycled, stepped_in}
 use Rattle.motion_kernel.specs.cycles.AxisCycles.{axes_cycled}
@@ -31,7 +31,7 @@ use Rattle.motion_kernel.proofs.looks.Shown.{told_error}
 use Rattle.motion_laws.specs.entries.Replies.{AreOfBlocks, HasHappened}
 use Rattle.motion_laws.proofs.entries.replies.AxisNumbers.{IsNumberOrNone, cycle_told}
 use Rattle.motion_laws.proofs.entries.replies.GroupNumbers.{first_numbered, group_cycle_told, group_reset_told}
-use Rattle.motion_laws.proofs.entries.replies.Commands.{Stays, notes_stay, block_stays}
+use Rattle.motion_laws.proofs.entries.replies.Commands.{Stays, call_stays, notes_stay}
 
 -- one happening more
 after_more : (i : InstanceState) (hs : List Happening) (h : Happening) → after_all i
@@ -91,17 +91,11 @@ opening_of_blocks s k b at =
     (opens_so s.axes b)
 
 -- after a call
-where_of_blocks : (s : Setup) (o : Option BlockDef) (k : ℕ) (i : Inputs) (m : Machine) →
-    AreOfBlocks s m.instances → AreOfBlocks s (called_where s o k i m).instances
-where_of_blocks s None k i m h = h
-where_of_blocks s (Some b) k i m h =
-    block_stays (AreOfBlocks s) (blocks_stay s) s k b i m
-    (one_happened s m.instances k (replies.call i.execute) tt h)
-
 pub called_of_blocks : (s : Setup) (m : Machine) (k : ℕ) (i : Inputs) → AreOfBlocks s m.instances →
     AreOfBlocks s (called s k i m).instances
-unfolding called
-called_of_blocks s m k i h = where_of_blocks s (slice_get s.blocks k) k i m h
+called_of_blocks s m k i h =
+    call_stays (AreOfBlocks s) (blocks_stay s) s k i m (λ none. h)
+    (one_happened s m.instances k (replies.call i.execute) tt h)
 
 pub call_of_blocks : (s : Setup) (m : Machine) (k : ℕ) (i : Inputs) → AreOfBlocks s m.instances →
     AreOfBlocks s (after_call s m k i).instances

@@ -1,5 +1,5 @@
 -- Each reply of a legal history tells one result.
-use Rattle.std.specs.Prelude.{◌≡◌, refl, ℕ, zero, suc, ◌<◌, Bool, true, ◌&&◌, Option, Some, None, List, [], ◌∷◌, ◌++◌, length, slice_get, slice_set}
+use Rattle.std.specs.Prelude.{◌≡◌, refl, ℕ, zero, suc, ◌<◌, Bool, true, ◌&&◌, Some, List, [], ◌∷◌, ◌++◌, length, slice_get, slice_set}
 use Rattle.std.proofs.Common.{arith, ap, sym, subst, ◌∙◌}
 use Rattle.std.proofs.lemmas.List.{get_or-set_same}
 use Rattle.fb_outputs.specs.InstanceState.{InstanceState}
@@ -12,7 +12,7 @@ use Rattle.fb_outputs.specs.declared.outputs.Outputs.{Outputs}
 use Rattle.motion_history.specs.Entries.{Entry, call, cycle, end_of}
 use Rattle.motion_history.specs.Setup.{Setup, IsSetup}
 use Rattle.motion_history.specs.declared.config.BlockDef.{BlockDef}
-use Rattle.motion_kernel.specs.calls.Calls.{after_call, called, called_where, reply_of, with_execute}
+use Rattle.motion_kernel.specs.calls.Calls.{after_call, called, reply_of}
 use Rattle.motion_kernel.specs.cycles.Cycles.{after_cycle}
 use Rattle.motion_kernel.specs.Histories.{IsLegal, inputs_of, replay}
 use Rattle.motion_kernel.specs.Machine.{Machine, instance_at, machine_at_opening, no_instance}
@@ -20,7 +20,7 @@ use Rattle.motion_kernel.specs.kept.Machine.{AreWhole}
 use Rattle.motion_laws.specs.entries.Replies.{AreOfBlocks, HasHappened, IsReplyOf}
 use Rattle.motion_laws.proofs.entries.refusals.Calls.{call_in}
 use Rattle.motion_laws.proofs.Histories.{legal_kept, legal_so_far}
-use Rattle.motion_laws.proofs.entries.replies.Commands.{InstancesTellOne, ReplyLaws, Stays, block_stays}
+use Rattle.motion_laws.proofs.entries.replies.Commands.{InstancesTellOne, ReplyLaws, Stays, call_stays}
 use Rattle.motion_laws.proofs.entries.replies.Entries.{opening_of_blocks, called_of_blocks, call_of_blocks, cycle_of_blocks}
 
 -- the instance that is called has the call's Execute up to its reply
@@ -42,22 +42,14 @@ execute_stays k execute = record {
   starts = λ is j active h. one_written is j k (started (instance_at is j) active) execute refl h;
 }
 
-executed_where : (s : Setup) (o : Option BlockDef) (k : ℕ) (i : Inputs) (m : Machine)
-    (b : BlockDef) → o ≡ Some b → k < length m.instances →
-    HasExecute k i.execute (called_where s o k i m).instances
-executed_where s None k i m b e l = absurd (cc)
-executed_where s (Some d) k i m b e l =
-    let taken : HasExecute k i.execute (with_execute k i m).instances =
-    ap (λ (x : InstanceState). x.execute)
-    (get_or-set_same m.instances k
-    (instance.called (instance_at m.instances k) i.execute) no_instance l) in
-    block_stays (HasExecute k i.execute) (execute_stays k i.execute) s k d i m taken
-
 executed : (s : Setup) (m : Machine) (k : ℕ) (i : Inputs) (b : BlockDef) →
     slice_get s.blocks k ≡ Some b → k < length m.instances →
     HasExecute k i.execute (called s k i m).instances
-unfolding called
-executed s m k i b at l = executed_where s (slice_get s.blocks k) k i m b at l
+executed s m k i b at l =
+    call_stays (HasExecute k i.execute) (execute_stays k i.execute) s k i m (λ none. absurd (cc))
+    (ap (λ (x : InstanceState). x.execute)
+    (get_or-set_same m.instances k
+    (instance.called (instance_at m.instances k) i.execute) no_instance l))
 
 -- what happens to an instance leaves its kind
 pub kind_after : (i : InstanceState) (hs : List Happening) → (after_all i hs).kind ≡ i.kind

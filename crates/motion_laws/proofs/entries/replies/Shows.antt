@@ -6,7 +6,7 @@ use Rattle.command_pool.specs.declared.ending.Finish.{Finish}
 use Rattle.command_pool.specs.declared.ending.Finish.TheVariants as finish
 use Rattle.fb_outputs.specs.InstanceState.{InstanceState}
 use Rattle.fb_outputs.specs.Steps as instance
-use Rattle.fb_outputs.specs.Steps.{is_power, is_stop, opened, outputs_by, outputs_of, result_of, shown_progress}
+use Rattle.fb_outputs.specs.Steps.{is_power, is_stop, outputs_by, outputs_of, result_of, shown_progress}
 use Rattle.fb_outputs.specs.declared.inputs.Inputs.{Inputs}
 use Rattle.fb_outputs.specs.declared.instance.Progress.{Progress}
 use Rattle.fb_outputs.specs.declared.instance.Progress.TheVariants.{Active, Ended, Idle, Waiting}
@@ -25,9 +25,8 @@ use Rattle.motion_laws.specs.owners.Commands.{active_at, active_shown, commands_
 use Rattle.motion_laws.specs.owners.Objects.{IsThere, object_of}
 use Rattle.motion_laws.specs.owners.Shown.{AreWhereShown, ShowsCommand}
 use Rattle.motion_laws.proofs.Histories.{legal_kept, legal_so_far}
-use Rattle.motion_laws.proofs.entries.replies.Entries.{called_of_blocks}
-use Rattle.motion_laws.proofs.entries.replies.Histories.{kind_after}
 use Rattle.motion_laws.proofs.results.Comes.{after_more}
+use Rattle.motion_laws.proofs.results.Outputs.{by_progress, called_kind}
 use Rattle.motion_laws.proofs.results.Replied.{blocks_after, last_reply}
 use Rattle.motion_laws.proofs.results.outcomes.Entries.{commands_there, object_there}
 
@@ -113,9 +112,7 @@ active_replied (v ∷ vs) (suc k) = active_replied vs k
 no_power : (v : InstanceState) → is_power v.kind ≡ false → ShowsProgress (is_stop v.kind) (outputs_of v) v.progress
 no_power v other =
     subst (λ (o : Outputs). ShowsProgress (is_stop v.kind) o v.progress)
-    (sym (ap (λ x. if x then record instance.nothing { busy = v.execute; reached = v.execute && v.reached }
-    else outputs_by (is_stop v.kind) v.execute v.reached v.progress) other))
-    (outputs_show (is_stop v.kind) v.execute v.reached v.progress)
+    (sym (by_progress v other)) (outputs_show (is_stop v.kind) v.execute v.reached v.progress)
 
 -- a reply and the machine behind it
 reply_shows : (s : Setup) (m : Machine) (k : ℕ) (i : Inputs) (b : BlockDef) → slice_get s.blocks k ≡ Some b → is_power b.kind ≡ false →
@@ -127,8 +124,7 @@ reply_shows s m k i b at other blocks there shown =
     let y = after_call s m k i in
     let o = object_of b in
     let on = commands_there s k b at other in
-    let happened = called_of_blocks s m k i blocks k b at in
-    let kind_is : v.kind ≡ b.kind = ap (λ (z : InstanceState). z.kind) happened.is ∙ kind_after (opened b.kind) happened.happenings in
+    let kind_is = called_kind s m k i b blocks at in
     let by = no_power v (ap is_power kind_is ∙ other) in
     let count : commands_at y k o ≡ commands_shown v.progress =
     shown.commands k o there ∙ ap (λ t. if t then commands_shown (instance_at y.instances k).progress else 0) on ∙ commands_replied x.instances k in

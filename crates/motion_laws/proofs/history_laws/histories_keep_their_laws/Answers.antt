@@ -20,6 +20,7 @@ returns c s es setup whole legal = record {
   results = c.results_are_told.ensures.results s es setup whole legal;
   origins = c.results_come_of_ends.ensures.results s es setup whole legal;
   stay = c.results_stay_shown.ensures.results s es setup whole legal;
+  go = c.results_stay_shown.ensures.goes s es setup whole legal;
   targets = c.done_moves_are_at_their_targets.ensures.targets s es setup whole legal;
   rows = c.rows_show_that_moves_arrive.ensures.rows s es setup whole legal;
 }

@@ -1,8 +1,8 @@
 -- What events leave of the commands of an axis or a group, and of an instance that has its commands
 -- there.
-use Rattle.std.specs.Prelude.{◌≡◌, ◌≢◌, refl, ℕ, zero, suc, ◌<◌, ◌≤◌, true, false, if◌then◌else◌, List, [], ◌++◌, length, slice_get}
+use Rattle.std.specs.Prelude.{◌≡◌, ◌≢◌, refl, ℕ, zero, suc, ◌<◌, ◌≤◌, Bool, true, false, nat_eq, if◌then◌else◌, List, [], ◌++◌, length, slice_get}
 use Rattle.std.proofs.Common.{arith, ap, sym, subst, ◌∙◌, inl, inr}
-use Rattle.std.proofs.lemmas.Bool.{cases_Bool, cases_eq}
+use Rattle.std.proofs.lemmas.Bool.{cases_Bool, cases_eq, eqb-true}
 use Rattle.command_core.specs.Brought.{brought}
 use Rattle.command_core.specs.Changes.{Change, all_changed}
 use Rattle.command_core.specs.Charge.{Charge}
@@ -11,7 +11,7 @@ use Rattle.fb_outputs.specs.InstanceState.{InstanceState}
 use Rattle.motion_history.specs.Setup.{Setup}
 use Rattle.motion_kernel.specs.Machine.{Machine}
 use Rattle.motion_laws.specs.owners.Commands.{commands_shown}
-use Rattle.motion_laws.specs.owners.Objects.{IsThere, Object, has_commands_on, is_same}
+use Rattle.motion_laws.specs.owners.Objects.{a_group, an_axis, IsThere, Object, has_commands_on, is_same}
 use Rattle.motion_laws.proofs.owners.Events.{event_changes, untold}
 use Rattle.motion_laws.proofs.owners.commands.Events.{OwnerLaws, ShownOf, beside_none, is_itself, same_object}
 use Rattle.motion_laws.proofs.results.Events.{IsSpared, event_spares, progress_in}
@@ -83,6 +83,35 @@ module _ (k : ℕ) (o : Object) where
     progress = ap (λ is. progress_in is k) e.told ∙ told_exact k (all_changed xs (charge_at m o)).notes m.instances place;
   }
 
+-- changes of one object are these of another, where they are the same, and else none
+pub record IsWhere (p o : Object) (ys zs : List Change) : Type 0 where
+  pub here : is_same p o ≡ true → ys ≡ zs
+  pub beside : is_same p o ≡ false → zs ≡ []
+
+pub axis_where : (n p : ℕ) (ys : ℕ → List Change) (zs : Bool → List Change) → zs true ≡ ys p → zs false ≡ [] →
+    IsWhere (an_axis n) (an_axis p) (ys n) (zs (nat_eq n p))
+axis_where n p ys zs same none = record {
+  here = λ e. ap ys (eqb-true n p e) ∙ sym same ∙ ap zs (sym e);
+  beside = λ d. ap zs d ∙ none;
+}
+
+pub group_where : (n p : ℕ) (ys : ℕ → List Change) (zs : Bool → List Change) → zs true ≡ ys p → zs false ≡ [] →
+    IsWhere (a_group n) (a_group p) (ys n) (zs (nat_eq n p))
+group_where n p ys zs same none = record {
+  here = λ e. ap ys (eqb-true n p e) ∙ sym same ∙ ap zs (sym e);
+  beside = λ d. ap zs d ∙ none;
+}
+
+pub elsewhere : (p o : Object) (ys zs : List Change) → is_same p o ≡ false → zs ≡ [] → IsWhere p o ys zs
+elsewhere p o ys zs other none = record { here = λ e. absurd (cc); beside = λ d. none }
+
+-- they bring an instance as little
+pub where_brings : (k : ℕ) (p o : Object) (ys zs : List Change) → IsWhere p o ys zs → brought k ys ≡ 0 → brought k zs ≡ 0
+where_brings k p o ys zs places none = elim (cases_Bool (is_same p o)) [
+  | inl e ↦ ap (brought k) (sym (places.here e)) ∙ none
+  | inr d ↦ ap (brought k) (places.beside d)
+]
+
 -- an instance that has its commands elsewhere is spared
 pub spared_beside : (s : Setup) (k : ℕ) (is : List InstanceState) (o p : Object) → has_commands_on (slice_get s.blocks k) o ≡ true →
     is_same o p ≡ false → IsSpared s k is p
@@ -142,13 +171,12 @@ module _ (laws : OwnerLaws) (s : Setup) (k : ℕ) (o : Object) (on : has_command
   ]
 
   -- an event at an object, by whether that is this one
-  pub event_where : (p : Object) (ys zs : List Change) (m x : Machine) → Event m x p ys → (is_same p o ≡ true → ys ≡ zs) → IsThere m o →
-      brought k ys ≡ 0 → ShownOf s k m → k < length m.instances → Leaves k o (if is_same p o then zs else []) m x
-  event_where p ys zs m x e same there none shown place = elim (cases_Bool (is_same p o)) [
+  pub event_where : (p : Object) (ys zs : List Change) (m x : Machine) → Event m x p ys → IsWhere p o ys zs → IsThere m o →
+      brought k ys ≡ 0 → ShownOf s k m → k < length m.instances → Leaves k o zs m x
+  event_where p ys zs m x e places there none shown place = elim (cases_Bool (is_same p o)) [
     | inl here ↦
         let event = subst (λ q. Event m x q ys) (same_object p o here) e in
-        subst (λ b. Leaves k o (if b then zs else []) m x) (sym here)
-        (subst (λ vs. Leaves k o vs m x) (same here) (event_leaves k o ys m x event place))
-    | inr d ↦ subst (λ b. Leaves k o (if b then zs else []) m x) (sym d)
+        subst (λ vs. Leaves k o vs m x) (places.here here) (event_leaves k o ys m x event place)
+    | inr d ↦ subst (λ vs. Leaves k o vs m x) (sym (places.beside d))
         (leaves_none k o m x (event_beside p ys m x e d (other_way o p d) there none shown))
   ]

@@ -1,6 +1,6 @@
 -- What a call makes of the command of its own instance.
 use Rattle.std.specs.Prelude.{◌≡◌, refl, ℕ, ◌<◌, Bool, true, false, if◌then◌else◌, Some, Ok, Err, Result, List, length, slice_get, slice_set}
-use Rattle.std.proofs.Common.{arith, ap, ◌∙◌}
+use Rattle.std.proofs.Common.{arith, ap, sym, subst, ◌∙◌}
 use Rattle.std.proofs.lemmas.List.{length-set}
 use Rattle.axis_core.specs.Calls.{core_after_command}
 use Rattle.axis_core.specs.Calls as axis
@@ -8,13 +8,13 @@ use Rattle.command_pool.specs.Kinds.{acts_on_group}
 use Rattle.command_pool.specs.declared.ending.Finish.TheVariants as finish
 use Rattle.command_pool.specs.declared.ending.Refusal.{Refusal}
 use Rattle.command_pool.specs.declared.kind.BlockKind.{BlockKind}
-use Rattle.command_pool.specs.declared.kind.BlockKind.TheVariants as kind
 use Rattle.fb_outputs.specs.InstanceState.{InstanceState}
 use Rattle.fb_outputs.specs.Steps as instance
-use Rattle.fb_outputs.specs.Steps.{edge_of, is_power, progress_after, shown_progress}
+use Rattle.fb_outputs.specs.Steps.{is_power, progress_after, shown_progress}
 use Rattle.fb_outputs.specs.declared.inputs.Inputs.{Inputs}
 use Rattle.fb_outputs.specs.declared.instance.Edge.{Edge}
 use Rattle.fb_outputs.specs.declared.instance.Edge.TheVariants as edge
+use Rattle.fb_outputs.specs.declared.instance.Progress.{Progress}
 use Rattle.fb_outputs.specs.declared.instance.Progress.TheVariants.{Ended, Waiting}
 use Rattle.group_core.specs.Calls as group
 use Rattle.group_core.specs.Calls.{commanded}
@@ -22,13 +22,14 @@ use Rattle.motion_history.specs.Setup.{Setup}
 use Rattle.motion_history.specs.declared.config.BlockDef.{BlockDef}
 use Rattle.motion_kernel.specs.Machine.{Machine, axis_core_at, group_core_at, instance_at}
 use Rattle.motion_kernel.specs.calls.Asking.{is_done_at_once, wanted_of}
-use Rattle.motion_kernel.specs.calls.Calls.{after_asking, after_axis_command, after_call, after_edge, after_group_command, after_rising, answered_instance, asked_of_axis, called, called_where, members_led, with_axis_core, with_execute, with_group_core, without_owner}
+use Rattle.motion_kernel.specs.calls.Calls.{after_axis_command, after_call, after_group_command, answered_instance, asked_of_axis, called, members_led, with_axis_core, with_execute, with_group_core, without_owner}
 use Rattle.motion_kernel.specs.kept.Machine.{IsSized}
 use Rattle.motion_kernel.specs.looks.GroupLooks.{group_look}
 use Rattle.motion_kernel.proofs.Sizes.{sized_axis, sized_group, sized_instance, sized_members, sized_without}
-use Rattle.motion_laws.specs.results.Outcomes.{answer_in, progress_answered, progress_at, progress_by_call, progress_by_edge}
+use Rattle.motion_laws.specs.results.Outcomes.{progress_answered, progress_at, progress_by_call, progress_by_edge}
 use Rattle.motion_laws.proofs.owners.commands.Asked.{set_at}
 use Rattle.motion_laws.proofs.results.Events.{progress_in}
+use Rattle.motion_laws.proofs.walk.Requests.{by_request, edge_in}
 
 -- an instance that is answered
 answered : (x : BlockKind) (answer : Result Bool Refusal) (i : InstanceState) → (answered_instance x answer i).progress ≡ progress_answered x answer
@@ -73,52 +74,47 @@ module _ (s : Setup) (k : ℕ) (place : k < length s.blocks) where
       (sized_members s n x answer made (sized_group s free n (commanded w i.jerk members c) sized))
       ∙ answered x answer (instance_at led.instances k)
 
-  -- at a rising edge
-  rising_asked : (b : BlockDef) (i : Inputs) (m : Machine) → IsSized s m →
-      progress_at (after_rising s k b i m) k ≡ progress_answered b.kind (answer_in s k b i m)
-  rising_asked b i m sized =
-      let free = without_owner k m in
-      let n = b.object in
-      let size = sized_without s k m sized in
-      by (acts_on_group b.kind) (group_asked n b.kind i free size) (axis_asked n b.kind i free size)
-    where
-      by : (x : Bool) →
-          progress_at (after_group_command s k b.object b.kind i (without_owner k m)) k
-          ≡ progress_answered b.kind (group.answer_of (wanted_of k b.kind i) i.jerk (group_look s (without_owner k m) b.object 0)
-          (group_core_at (without_owner k m) b.object)) →
-          progress_at (after_axis_command s k b.object b.kind i (without_owner k m)) k
-          ≡ progress_answered b.kind (axis.answer_of (asked_of_axis s k b.object b.kind i (without_owner k m)) (axis_core_at (without_owner k m) b.object)) →
-          progress_at (if x then after_group_command s k b.object b.kind i (without_owner k m)
-          else after_axis_command s k b.object b.kind i (without_owner k m)) k
-          ≡ progress_answered b.kind (if x
-          then group.answer_of (wanted_of k b.kind i) i.jerk (group_look s (without_owner k m) b.object 0) (group_core_at (without_owner k m) b.object)
-          else axis.answer_of (asked_of_axis s k b.object b.kind i (without_owner k m)) (axis_core_at (without_owner k m) b.object))
-      by true g a = g
-      by false g a = a
+  -- in a call that is no rising edge
+  no_edge : (e : Edge) (b : BlockDef) (i : Inputs) (m : Machine) (p : Progress) → (e ≡ edge.Rising → ⊥) →
+      progress_after e p ≡ progress_by_edge s e k b i m p
+  no_edge edge.Rising b i m p quiet = absurd (quiet refl)
+  no_edge edge.High b i m p quiet = refl
+  no_edge edge.Falling b i m p quiet = refl
+  no_edge edge.Low b i m p quiet = refl
 
   -- in any call
-  edge_asked : (e : Edge) (b : BlockDef) (i : Inputs) (m : Machine) → edge_of (instance_at m.instances k).execute i.execute ≡ e → IsSized s m →
-      progress_at (after_edge s e k b i (with_execute k i m)) k ≡ progress_by_edge s e k b i (with_execute k i m) (progress_at m k)
-  edge_asked edge.Rising b i m is sized =
-      rising_asked b i (with_execute k i m) (sized_instance s m k (instance.called (instance_at m.instances k) i.execute) sized)
-  edge_asked edge.High b i m is sized =
-      set_here m (instance.called (instance_at m.instances k) i.execute) sized ∙ ap (λ x. progress_after x (progress_at m k)) is
-  edge_asked edge.Falling b i m is sized =
-      set_here m (instance.called (instance_at m.instances k) i.execute) sized ∙ ap (λ x. progress_after x (progress_at m k)) is
-  edge_asked edge.Low b i m is sized =
-      set_here m (instance.called (instance_at m.instances k) i.execute) sized ∙ ap (λ x. progress_after x (progress_at m k)) is
-
-  kind_asked : (x : BlockKind) → is_power x ≡ false → (b : BlockDef) (i : Inputs) (m : Machine) → IsSized s m →
-      progress_at (after_asking s x (edge_of (instance_at m.instances k).execute i.execute) k b i (with_execute k i m)) k
-      ≡ progress_by_edge s (edge_of (instance_at m.instances k).execute i.execute) k b i (with_execute k i m) (progress_at m k)
-  kind_asked kind.Power other b i m sized = absurd (cc)
-  kind_asked _ other b i m sized = edge_asked (edge_of (instance_at m.instances k).execute i.execute) b i m refl sized
-
   pub called_progress : (b : BlockDef) (i : Inputs) (m : Machine) → slice_get s.blocks k ≡ Some b → is_power b.kind ≡ false → IsSized s m →
-      progress_at (called s k i m) k
-      ≡ progress_by_edge s (edge_of (instance_at m.instances k).execute i.execute) k b i (with_execute k i m) (progress_at m k)
-  unfolding called
-  called_progress b i m at other sized = ap (λ o. progress_at (called_where s o k i m) k) at ∙ kind_asked b.kind other b i m sized
+      progress_at (called s k i m) k ≡ progress_by_edge s (edge_in k i m) k b i (with_execute k i m) (progress_at m k)
+  called_progress b i m at other sized =
+      let v = instance.called (instance_at m.instances k) i.execute in
+      let x = with_execute k i m in
+      let free = without_owner k x in
+      let size = sized_without s k x (sized_instance s m k v sized) in
+      let n = b.object in
+      let now = edge_in k i m in
+      let p = progress_at m k in
+      let after = progress_by_edge s now k b i x p in
+      let same : (c : BlockDef) → slice_get s.blocks k ≡ Some c → b ≡ c = λ c is. cc in
+      let answers : Bool → Progress = λ on. progress_answered b.kind (if on
+      then group.answer_of (wanted_of k b.kind i) i.jerk (group_look s free n 0) (group_core_at free n)
+      else axis.answer_of (asked_of_axis s k n b.kind i free) (axis_core_at free n)) in
+      let rises : now ≡ edge.Rising → answers (acts_on_group b.kind) ≡ after =
+      λ e. ap (λ z. progress_by_edge s z k b i x p) (sym e) in
+      by_request s k i m (λ r y. progress_at y k ≡ after) (record {
+        absent = λ none. absurd (cc);
+        quiet = λ c is power e. set_here m v sized ∙ no_edge now b i x p e;
+        power = λ c is power.
+            let known = ap (λ (d : BlockDef). is_power d.kind) (same c is) ∙ ap is_power power in
+            absurd (cc);
+        axis_command = λ c is power e off.
+            let mine = ap (λ (d : BlockDef). acts_on_group d.kind) (same c is) ∙ off in
+            subst (λ (d : BlockDef). progress_at (after_axis_command s k d.object d.kind i free) k ≡ after) (same c is)
+            (axis_asked n b.kind i free size ∙ ap answers (sym mine) ∙ rises e);
+        group_command = λ c is power e on.
+            let mine = ap (λ (d : BlockDef). acts_on_group d.kind) (same c is) ∙ on in
+            subst (λ (d : BlockDef). progress_at (after_group_command s k d.object d.kind i free) k ≡ after) (same c is)
+            (group_asked n b.kind i free size ∙ ap answers (sym mine) ∙ rises e);
+      })
 
   pub own_outcome : (b : BlockDef) (i : Inputs) (m : Machine) → slice_get s.blocks k ≡ Some b → is_power b.kind ≡ false → IsSized s m →
       IsSized s (after_call s m k i) → progress_at (after_call s m k i) k ≡ progress_by_call s k b i m

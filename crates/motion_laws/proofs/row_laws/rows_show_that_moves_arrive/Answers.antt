@@ -10,7 +10,6 @@ laws c =
     record {
       machines = machines;
       axes = c.axis_fates_are_told.ensures;
-      groups = c.group_fates_are_told.ensures;
       rows = c.rows_show_the_machine.ensures.entries;
       moves = c.moves_arrive_in_time.ensures.moves;
     }

@@ -11,7 +11,7 @@ returns-clause-found c =
     let R : Setup → Type 0 =
     λ m. ReadsBy (reading_of m c.args.text.now) c.read-machine.result.1 c.read-machine.result.0 in
     found_by c.args.config.now c.args.text.now c.read-machine.result.1 c.read-machine.result.0
-    (subst R c.replace-machine.ensures.value c.read-machine.ensures.exact)
+    (subst R c.replace.ensures.value c.read-machine.ensures.exact)
 
 pub returns-clause-only : goal.returns-clause-only
 returns-clause-only c =
@@ -19,4 +19,4 @@ returns-clause-only c =
     λ m. ReadsBy (reading_of m c.args.text.now) c.read-machine.result.1 c.read-machine.result.0 in
     λ tasks after is. text_is_read c.args.config.now c.args.text.now tasks after
     c.read-machine.result.1 c.read-machine.result.0 is
-    (subst R c.replace-machine.ensures.value c.read-machine.ensures.exact)
+    (subst R c.replace.ensures.value c.read-machine.ensures.exact)
