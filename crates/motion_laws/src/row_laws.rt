@@ -15,7 +15,7 @@ ghost use Rattle.motion_laws.specs.entries.Rows.{RowsShow, ShowMachine};
 
 use crate::arrival_laws::moves_arrive_in_time;
 use axis_core::errors_stand_in_error_stop as axis_errors_stand;
-use command_changes::{axis_fates_are_told, group_fates_are_told};
+use command_changes::axis_fates_are_told;
 use group_core::{errors_are_those_of_axes, errors_stand_in_error_stop as group_errors_stand};
 use motion_kernel::machines_stay_kept;
 
@@ -58,5 +58,4 @@ pub fn rows_show_that_moves_arrive()
     moves_arrive_in_time();
     machines_stay_kept();
     axis_fates_are_told();
-    group_fates_are_told();
 }
