@@ -4,4 +4,5 @@ pub mod replies
 pub mod events
 pub mod rows
 pub mod errors
+pub mod numbers
 pub mod Kept

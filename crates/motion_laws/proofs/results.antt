@@ -10,3 +10,4 @@ pub mod Comes
 pub mod Replied
 pub mod Stays
 pub mod Targets
+pub mod KindEnds

@@ -6,4 +6,5 @@ pub mod GroupEvents
 pub mod Events
 pub mod Rows
 pub mod Errors
+pub mod Numbers
 pub mod Kept

@@ -4,3 +4,4 @@ pub mod Outcomes
 pub mod Results
 pub mod Comes
 pub mod Targets
+pub mod KindEnds

@@ -7,6 +7,7 @@ ghost use Rattle.motion_laws.specs.entries.Kept.{KeepsEntries};
 ghost use Rattle.motion_kernel.specs.Histories.{IsLegal};
 ghost use Rattle.motion_kernel.specs.kept.Machine.{AreWhole};
 
+use crate::error_laws::errors_are_told_as_shown;
 use crate::event_laws::states_change_by_their_events;
 use crate::owner_laws::commands_are_where_their_instances_show;
 use crate::refusal_laws::refusals_change_nothing;
@@ -17,8 +18,8 @@ use crate::row_laws::{rows_show_errors, rows_show_the_machine};
 /// and shows what command its block has behind it; a call that is refused, by the number of a
 /// refusal, changes nothing but its instance; the states of axes and groups change by
 /// the entry's events in their order, as their diagrams lead; after it each instance shows Waiting
-/// or Active exactly where its command is; and the rows of a cycle show the machine behind it, and
-/// errors exactly in the states of errors.
+/// or Active exactly where its command is; the rows of a cycle show the machine behind it, and
+/// errors exactly in the states of errors; and an error is told with the number that is shown.
 pub fn entries_keep_their_laws()
     ensures { (s : Setup) (es : List Entry) → IsSetup s → AreWhole s → IsLegal s es →
         KeepsEntries s es }
@@ -30,4 +31,5 @@ pub fn entries_keep_their_laws()
     commands_are_where_their_instances_show();
     rows_show_the_machine();
     rows_show_errors();
+    errors_are_told_as_shown();
 }

@@ -9,6 +9,7 @@ ghost use Rattle.motion_kernel.specs.kept.Machine.{AreWhole};
 
 use crate::arrival_laws::{moves_arrive_in_time, paths_end_in_time};
 use crate::entry_laws::entries_keep_their_laws;
+use crate::kind_laws::commands_end_by_their_kinds;
 use crate::limit_laws::{at_most_eight_wait, axes_stay_stoppable, rows_keep_limits};
 use crate::result_laws::{
     done_moves_are_at_their_targets, results_are_told, results_come_of_ends, results_stay_shown,
@@ -19,13 +20,13 @@ use crate::row_laws::rows_show_that_moves_arrive;
 /// driven and each path can be stopped within its limits, and at most eight commands wait for each
 /// axis and each group. Each entry keeps the laws of entries: a refused call changes nothing but
 /// its own instance, each reply tells one result, the states change by the entry's events,
-/// commands are where their instances show, and the rows of a cycle show the machine behind it, and
-/// errors exactly in the states of errors.
+/// commands are where their instances show, the rows of a cycle show the machine behind it, and
+/// errors exactly in the states of errors, and an error is told with the number that is shown.
 /// Each move, Halt and Stop of an axis, and each line, GroupHalt and GroupStop of a group, comes to
 /// its end in time, and no blended move hangs; each end, be it a refusal, is told to the instance
 /// whose command it was, and to no other; each result that a reply tells comes of such an end,
-/// stays while Execute is true, and goes with it; a move is Done at its target; and rows show that
-/// moves arrive in time.
+/// stays while Execute is true, and goes with it; commands end by their kinds; a move is Done at
+/// its target; and rows show that moves arrive in time.
 pub fn histories_keep_their_laws()
     ensures { (s : Setup) (es : List Entry) → IsSetup s → AreWhole s → IsLegal s es →
         KeepsLaws s es }
@@ -39,6 +40,7 @@ pub fn histories_keep_their_laws()
     results_are_told();
     results_come_of_ends();
     results_stay_shown();
+    commands_end_by_their_kinds();
     done_moves_are_at_their_targets();
     rows_show_that_moves_arrive();
 }

@@ -6,8 +6,10 @@
 
 mod arrival_laws;
 mod entry_laws;
+mod error_laws;
 mod event_laws;
 mod history_laws;
+mod kind_laws;
 mod limit_laws;
 mod outcome_laws;
 mod owner_laws;
@@ -18,8 +20,10 @@ mod row_laws;
 
 pub use arrival_laws::{moves_arrive_in_time, paths_end_in_time};
 pub use entry_laws::entries_keep_their_laws;
+pub use error_laws::errors_are_told_as_shown;
 pub use event_laws::states_change_by_their_events;
 pub use history_laws::histories_keep_their_laws;
+pub use kind_laws::commands_end_by_their_kinds;
 pub use limit_laws::{at_most_eight_wait, axes_stay_stoppable, rows_keep_limits};
 pub use outcome_laws::entries_make_outcomes;
 pub use owner_laws::commands_are_where_their_instances_show;

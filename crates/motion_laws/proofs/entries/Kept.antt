@@ -9,6 +9,7 @@ use Rattle.motion_history.specs.Setup.{Setup, IsSetup}
 use Rattle.motion_history.specs.declared.config.BlockDef.{BlockDef}
 use Rattle.motion_laws.specs.entries.Errors.{ErrorsShow}
 use Rattle.motion_laws.specs.entries.Events.{GoByEvents}
+use Rattle.motion_laws.specs.entries.Numbers.{ErrorsAreTold}
 use Rattle.motion_laws.specs.entries.Kept.{KeepsEntries, KeepsEntry, KeepsReply}
 use Rattle.motion_kernel.specs.Histories.{IsLegal, after, machine_after}
 use Rattle.motion_kernel.specs.Machine.{machine_at_opening}
@@ -46,6 +47,8 @@ pub record EntryLaws : Type 0 where
       IsLegal s (made ++ e ∷ more) → RowsShow (after s (machine_after s made) e) e
   pub errors : (s : Setup) (made more : List Entry) (e : Entry) → IsSetup s → AreWhole s →
       IsLegal s (made ++ e ∷ more) → ErrorsShow e
+  pub told : (s : Setup) (made more : List Entry) (e : Entry) → IsSetup s → AreWhole s →
+      IsLegal s (made ++ e ∷ more) → ErrorsAreTold s (machine_after s made) e
 
 -- the machine after one entry more
 one_more : (s : Setup) (made : List Entry) (e : Entry) → machine_after s (made ++ e ∷ []) ≡ after s
@@ -83,6 +86,7 @@ entry_kept laws s made more e setup whole legal =
           (laws.commands s (made ++ e ∷ []) setup whole so_far);
       rows = laws.rows s made more e setup whole legal;
       errors = laws.errors s made more e setup whole legal;
+      told = laws.told s made more e setup whole legal;
     }
 
 pub entries_kept : EntryLaws → (s : Setup) (es : List Entry) → IsSetup s → AreWhole s →

@@ -9,6 +9,7 @@ use Rattle.motion_history.specs.declared.config.BlockDef.{BlockDef}
 use Rattle.motion_kernel.specs.calls.Calls.{after_call}
 use Rattle.motion_laws.specs.entries.Errors.{ErrorsShow}
 use Rattle.motion_laws.specs.entries.Events.{GoByEvents}
+use Rattle.motion_laws.specs.entries.Numbers.{ErrorsAreTold}
 use Rattle.motion_kernel.specs.Histories.{after, machine_after}
 use Rattle.motion_kernel.specs.Machine.{Machine}
 use Rattle.motion_laws.specs.owners.Shown.{AreWhereShown, ShowsCommand}
@@ -33,13 +34,15 @@ KeepsReply s m (cycle n rows grows) = Unit {0}
 KeepsReply s m (end_of task) = Unit {0}
 
 -- a call is answered, the states change by their events, commands are where their instances show,
--- and the rows show the machine, and errors exactly in the states of errors
+-- the rows show the machine, and errors exactly in the states of errors, and errors are told as
+-- they are shown
 pub record KeepsEntry (s : Setup) (m : Machine) (e : Entry) : Type 0 where
   pub reply : KeepsReply s m e
   pub states : GoByEvents s m e
   pub commands : AreWhereShown s (after s m e)
   pub rows : RowsShow (after s m e) e
   pub errors : ErrorsShow e
+  pub told : ErrorsAreTold s m e
 
 -- so it is with each entry after those before it
 abbrev pub KeepsEntries : Setup → List Entry → Type 0

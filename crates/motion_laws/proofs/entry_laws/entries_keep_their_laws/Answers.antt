@@ -12,4 +12,5 @@ returns c = entries_kept (record {
   commands = c.commands_are_where_their_instances_show.ensures.entries;
   rows = c.rows_show_the_machine.ensures.entries;
   errors = c.rows_show_errors.ensures.errors;
+  told = c.errors_are_told_as_shown.ensures.entries;
 })

@@ -21,6 +21,7 @@ returns c s es setup whole legal = record {
   origins = c.results_come_of_ends.ensures.results s es setup whole legal;
   stay = c.results_stay_shown.ensures.results s es setup whole legal;
   go = c.results_stay_shown.ensures.goes s es setup whole legal;
+  kinds = c.commands_end_by_their_kinds.ensures.kinds s es setup whole legal;
   targets = c.done_moves_are_at_their_targets.ensures.targets s es setup whole legal;
   rows = c.rows_show_that_moves_arrive.ensures.rows s es setup whole legal;
 }

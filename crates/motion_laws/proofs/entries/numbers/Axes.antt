@@ -1,0 +1,297 @@
+-- An axis has the error that its cycle tells.
+use Rattle.std.specs.Prelude.{◌≡◌, ◌⊎◌, refl, ℕ, Bool, true, false, ◌&&◌, nat_eq, if◌then◌else◌, ℤ, ◌+ℤ◌, Option, Some, None, Result, Ok, Err, List, [], ◌∷◌, slice_get}
+use Rattle.std.proofs.Common.{ap, subst, sym, ◌∙◌, inl, inr}
+use Rattle.std.proofs.lemmas.Bool.{cases_Bool}
+use Rattle.axis_core.proofs.KeptCycles.{reset-same}
+use Rattle.axis_core.specs.Cores.{Core, axis_under, axis_under_by, core_after_end, core_after_ending, core_after_error, core_after_take_over, core_taken_by}
+use Rattle.axis_core.specs.Cycles.{Advance, advance_by_command, advance_by_progress, advance_in_cycle, advance_without_error, axis_after_braking, axis_after_progress, core_after_advance, core_after_answer, core_after_cycle, core_after_going_on, core_after_step, progress_in_cycle}
+use Rattle.axis_core.specs.Drives.{answer_error_of, is_driven, new_error_of}
+use Rattle.axis_core.specs.blocks.Halts.{axis_after_stop, leaves_stopping}
+use Rattle.axis_core.specs.blocks.Moves.{position_of, target_of, with_target}
+use Rattle.axis_core.specs.blocks.Path.{place_on_path}
+use Rattle.axis_core.specs.blocks.Power.{state_when_driven}
+use Rattle.axis_core.specs.blocks.Reset.{after_reset, may_reset, reset_axis, reset_notes, state_after_reset}
+use Rattle.axis_core.specs.declared.axis.Axis.{Axis}
+use Rattle.axis_core.specs.declared.look.AxisLook.{AxisLook}
+use Rattle.axis_core.specs.declared.progress.Progress.{Progress}
+use Rattle.axis_state.specs.Diagram.{next_of}
+use Rattle.axis_state.specs.States.{is_error_stop, is_stopping}
+use Rattle.axis_state.specs.declared.diagram.AxisEvent.TheVariants.{StopReleased}
+use Rattle.axis_state.specs.declared.state.AxisState.{AxisState}
+use Rattle.axis_state.specs.declared.state.AxisState.TheVariants as state
+use Rattle.buffer_modes.specs.Owners.{is_owner, owner_by}
+use Rattle.buffer_modes.specs.Queue.{active_note, end_notes}
+use Rattle.buffer_modes.specs.declared.reset.PendingReset.{PendingReset}
+use Rattle.cia402_machine.specs.declared.drive.DriveIn.{DriveIn}
+use Rattle.command_changes.specs.Axis.{charge_of}
+use Rattle.command_core.specs.Charge.{Charge}
+use Rattle.command_pool.specs.Waiting.{told_to}
+use Rattle.command_pool.specs.declared.ending.Finish.{Finish}
+use Rattle.command_pool.specs.declared.ending.Finish.TheVariants as finish
+use Rattle.command_pool.specs.declared.kind.BlockKind.{BlockKind}
+use Rattle.command_pool.specs.declared.kind.BlockKind.TheVariants as kind
+use Rattle.command_pool.specs.declared.wanted.Wanted.{Wanted}
+use Rattle.motion_kernel.proofs.Sizes.{by_if}
+use Rattle.motion_numbers.specs.Ranges.{is_outside}
+use Rattle.motion_laws.specs.entries.Numbers.{MayFail, waits_first}
+use Rattle.motion_laws.proofs.entries.numbers.Notes.{AllTell, IsPlain, Nothing, Shows, aborts_plain, active_plain, all_told, done_plain, more, plain, untold, weaker}
+
+-- each error that is told is the axis's
+abbrev Tells : Charge → Core → Type 0
+Tells c d = AllTell (Shows c d.axis.error) d.notes
+
+none_told : (P : ℕ → ℕ → Type 0) (c : Core) → c.notes ≡ [] → AllTell P c.notes
+none_told P c e = untold P c.notes e
+
+-- all commands end by an error
+failed_tells : (n : ℕ) (c : Charge) (d : Core) → AllTell (Shows c n) d.notes →
+    ((k : ℕ) → is_owner k (owner_by d.axis.active) ≡ 1 → MayFail k c n) →
+    Tells c (core_after_error n d)
+unfolding core_after_error
+failed_tells n c d h may =
+    more (Shows c n) d.notes
+    (end_notes (finish.Error n) (record { active = d.axis.active; waiting = d.waiting })) h
+    (all_told (Shows c n) n (record { active = d.axis.active; waiting = d.waiting })
+    (λ k e. (may k e, refl)))
+
+answered_tells : (input : DriveIn) (d : Core) → d.notes ≡ [] →
+    Tells (charge_of d) (core_after_answer input d)
+answered_tells input d e =
+    let n = answer_error_of d.axis input in
+    by_if (Tells (charge_of d)) (nat_eq n 0) d (core_after_error n d)
+    (none_told (Shows (charge_of d) d.axis.error) d e)
+    (failed_tells n (charge_of d) d (none_told (Shows (charge_of d) n) d e) (λ k h. inl h))
+
+-- the active command ends, and the first that waits takes over
+from_nothing : (P : ℕ → ℕ → Type 0) (d : Core) → AllTell Nothing d.notes → AllTell P d.notes
+from_nothing P d h = weaker Nothing P d.notes (λ k x n. absurd n) h
+
+taken_tells : (x : BlockKind) (t : Option ℤ) (w : Wanted) (c : Charge) (d : Core) →
+    ((k : ℕ) → is_owner k w.owner ≡ 1 → waits_first k c.waiting ≡ 1) → AllTell Nothing d.notes →
+    Tells c (core_taken_by x t w d)
+unfolding axis_under_by
+taken_tells kind.MoveRelative None w c d first h =
+    let target = d.axis.setpoint +ℤ position_of w in
+    by_if (Tells c) (is_outside d.axis.limits.lo target d.axis.limits.hi)
+    (core_after_error 106 (record d { axis = record d.axis { active = Some w } }))
+    (record d { axis = axis_under (with_target (Some target) w) d.axis })
+    (failed_tells 106 c (record d { axis = record d.axis { active = Some w } })
+    (from_nothing (Shows c 106) d h) (λ k e. inr (first k e, refl)))
+    (from_nothing (Shows c d.axis.error) d h)
+taken_tells kind.MoveRelative (Some t) w c d first h = from_nothing (Shows c d.axis.error) d h
+taken_tells _ t w c d first h = from_nothing (Shows c d.axis.error) d h
+
+over_tells : (ws : List Wanted) (c : Charge) (d : Core) → c.waiting ≡ ws →
+    AllTell Nothing d.notes → Tells c (core_after_take_over ws d)
+over_tells [] c d e h = from_nothing (Shows c d.axis.error) d h
+over_tells (w ∷ ws) c d e h =
+    taken_tells w.kind w.target w c (record d { waiting = ws })
+    (λ k own. ap (waits_first k) e ∙ own) h
+
+ended_tells : (f : Finish) (d : Core) → IsPlain f → d.notes ≡ [] →
+    Tells (charge_of d) (core_after_end f d)
+unfolding core_after_end
+ended_tells f d p e =
+    over_tells d.waiting (charge_of d) _ refl
+    (more Nothing d.notes (active_note f d.axis.active) (none_told Nothing d e)
+    (active_plain Nothing d.axis.active f p))
+
+ending_tells : (o : Option Finish) (d : Core) → d.notes ≡ [] →
+    Tells (charge_of d) (core_after_ending o d)
+ending_tells None d e = none_told (Shows (charge_of d) d.axis.error) d e
+ending_tells (Some (finish.Error n)) d e =
+    failed_tells n (charge_of d) d (none_told (Shows (charge_of d) n) d e) (λ k h. inl h)
+ending_tells (Some finish.Done) d e = ended_tells finish.Done d done_plain e
+ending_tells (Some finish.Aborted) d e = ended_tells finish.Aborted d aborts_plain e
+
+-- a step leaves the commands
+abbrev Stays : Core → Axis → Type 0
+Stays c a = charge_of (record c { axis = a }) ≡ charge_of c
+
+progress_stays : (x : BlockKind) (t : ℤ) (p : Progress) (c : Core) →
+    Stays c (axis_after_progress x t p c.axis)
+progress_stays kind.Home t p c = refl
+progress_stays _ t p c = refl
+
+result_stays : (x : BlockKind) (t : ℤ) (r : Result Progress ℕ) (c : Core) →
+    Stays c (advance_by_progress x t c.axis r).axis
+result_stays x t (Ok p) c = progress_stays x t p c
+result_stays x t (Err n) c = refl
+
+command_stays : (active next : Option Wanted) (look : AxisLook) (c : Core) →
+    Stays c (advance_by_command active next look c.axis).axis
+command_stays None next look c = refl
+command_stays (Some w) next look c =
+    result_stays w.kind (target_of w) (progress_in_cycle c.axis w next look) c
+
+placed_stays : (o : Option ℤ) (next : Option Wanted) (look : AxisLook) (c : Core) →
+    Stays c (advance_without_error o next look c.axis).axis
+placed_stays None next look c = command_stays c.axis.active next look c
+placed_stays (Some place) next look c = by_if (Stays c) look.path_ends _ _ refl refl
+
+advance_stays : (next : Option Wanted) (look : AxisLook) (c : Core) →
+    Stays c (advance_in_cycle next look c.axis).axis
+unfolding advance_in_cycle
+advance_stays next look c =
+    by_if (λ (x : Advance). Stays c x.axis) (is_error_stop c.axis.state) _ _ refl
+    (placed_stays (place_on_path c.axis look) next look c)
+
+-- the step of a cycle
+stop_error : (look : AxisLook) (a : Axis) → (axis_after_stop look a).error ≡ a.error
+stop_error look a = by_if (λ (x : Axis). x.error ≡ a.error) (leaves_stopping look a) _ a refl refl
+
+going_tells : (look : AxisLook) (d : Core) → d.notes ≡ [] →
+    Tells (charge_of d) (core_after_going_on look d)
+going_tells look d e =
+    let step = advance_in_cycle (slice_get d.waiting 0) look d.axis in
+    let x = core_after_advance look d in
+    let told : Tells (charge_of d) x =
+    subst (λ c. Tells c x) (advance_stays (slice_get d.waiting 0) look d)
+    (ending_tells step.ending (record d { axis = step.axis }) e) in
+    subst (λ n. AllTell (Shows (charge_of d) n) x.notes) (sym (stop_error look x.axis)) told
+
+step_tells : (look : AxisLook) (driven : Bool) (d : Core) → d.notes ≡ [] →
+    Tells (charge_of d) (core_after_step look driven d)
+step_tells look driven d e =
+    by_if (Tells (charge_of d)) (driven && d.axis.driven) _ _ (going_tells look d e)
+    (none_told (Shows (charge_of d) d.axis.error) d e)
+
+-- a step of an axis in ErrorStop tells nothing, and leaves the error
+record IsStill (d x : Core) : Type 0 where
+  notes : x.notes ≡ d.notes
+  error : x.axis.error ≡ d.axis.error
+  state : is_error_stop x.axis.state ≡ true
+
+driven_stopped : (driven : Bool) (s : AxisState) → is_error_stop s ≡ true →
+    is_error_stop (state_when_driven driven s) ≡ true
+driven_stopped true state.ErrorStop h = refl
+driven_stopped false state.ErrorStop h = refl
+driven_stopped driven _ h = absurd (cc)
+
+no_stop : (s : AxisState) → is_error_stop s ≡ true → is_stopping s ≡ false
+no_stop state.ErrorStop h = refl
+no_stop _ h = absurd (cc)
+
+braked : (next : Option Wanted) (look : AxisLook) (a : Axis) → is_error_stop a.state ≡ true →
+    advance_in_cycle next look a ≡ record { axis = axis_after_braking a; ending = None }
+unfolding advance_in_cycle
+braked next look a h =
+    ap (λ b. let x : Advance = if b
+    then record { axis = axis_after_braking a; ending = None }
+    else advance_without_error (place_on_path a look) next look a in x) h
+
+stop_same : (look : AxisLook) (a : Axis) → is_error_stop a.state ≡ true → axis_after_stop look a ≡ a
+stop_same look a h = by (is_stopping a.state) _ _ _ (no_stop a.state h)
+  where
+    by : (b idle rests free : Bool) → b ≡ false → (if b && idle && rests && free
+        then record a { state = next_of StopReleased; hold = None } else a) ≡ a
+    by true idle rests free e = absurd (cc)
+    by false idle rests free e = refl
+
+step_still : (look : AxisLook) (driven : Bool) (d : Core) → is_error_stop d.axis.state ≡ true →
+    IsStill d (core_after_step look driven d)
+step_still look driven d h =
+    let brakes : core_after_advance look d ≡ record d { axis = axis_after_braking d.axis } =
+    ap (λ (y : Advance). core_after_ending y.ending (record d { axis = y.axis }))
+    (braked (slice_get d.waiting 0) look d.axis h) in
+    let P : Core → Type 0 = λ y. IsStill d (record y { axis = axis_after_stop look y.axis }) in
+    by_if (IsStill d) (driven && d.axis.driven) (core_after_going_on look d) _
+    (subst P (sym brakes) (record {
+      notes = refl;
+      error = stop_error look (axis_after_braking d.axis);
+      state = ap (λ (a : Axis). is_error_stop a.state)
+          (stop_same look (axis_after_braking d.axis) h) ∙ h;
+    }))
+    (record { notes = refl; error = refl; state = driven_stopped driven d.axis.state h })
+
+-- after the answer and the step
+still_tells : (c : Charge) (d x : Core) → IsStill d x → Tells c d → Tells c x
+still_tells c d x still h =
+    subst (λ n. AllTell (Shows c n) x.notes) (sym still.error)
+    (subst (AllTell (Shows c d.axis.error)) (sym still.notes) h)
+
+stepped_tells : (look : AxisLook) (driven : Bool) (d : Core) → d.notes ≡ [] →
+    Tells (charge_of d) (core_after_step look driven (core_after_answer look.input d))
+unfolding core_after_error
+stepped_tells look driven d e =
+    let n = answer_error_of d.axis look.input in
+    let failed = core_after_error n d in
+    by_if (λ y. Tells (charge_of d) (core_after_step look driven y)) (nat_eq n 0) d failed
+    (step_tells look driven d e)
+    (still_tells (charge_of d) failed (core_after_step look driven failed)
+    (step_still look driven failed refl)
+    (failed_tells n (charge_of d) d (none_told (Shows (charge_of d) n) d e) (λ k h. inl h)))
+
+-- a Reset leaves the error, or ErrorStop
+abbrev pub KeepsError : Axis → Axis → Type 0
+KeepsError a x = (x.error ≡ a.error) ⊎ (is_error_stop x.state ≡ false)
+
+reset_clear : (s : AxisState) (driven : Bool) → is_error_stop s ≡ true →
+    is_error_stop (state_after_reset driven s) ≡ false
+reset_clear state.ErrorStop true h = refl
+reset_clear state.ErrorStop false h = refl
+reset_clear _ driven h = absurd (cc)
+
+reset_leaves : (s : AxisState) (driven : Bool) → is_error_stop (state_after_reset driven s) ≡ false
+reset_leaves s driven = elim (cases_Bool (is_error_stop s)) [
+  | inl h ↦ reset_clear s driven h
+  | inr h ↦ ap is_error_stop (reset-same s driven h) ∙ h
+]
+
+reset_keeps : (o : Option PendingReset) (input : DriveIn) (a : Axis) →
+    KeepsError a (reset_axis o input a)
+reset_keeps None input a = inl refl
+reset_keeps (Some p) input a =
+    by_if (KeepsError a) (may_reset input a) (after_reset a) a (inr (reset_leaves a.state a.driven))
+    (inl refl)
+
+reset_plain : (P : ℕ → ℕ → Type 0) (o : Option PendingReset) (input : DriveIn) (a : Axis) →
+    AllTell P (reset_notes o input a)
+reset_plain P None input a = tt
+reset_plain P (Some p) input a =
+    by_if (AllTell P) (may_reset input a) (told_to p.owner finish.Done) []
+    (plain P p.owner finish.Done done_plain) tt
+
+-- an error that is told in a cycle
+abbrev pub IsTold : Charge → Axis → ℕ → ℕ → Type 0
+IsTold c a k x = MayFail k c x × ((a.error ≡ x) ⊎ (is_error_stop a.state ≡ false))
+
+then_told : (c : Charge) (a x : Axis) → KeepsError a x → (k n : ℕ) → Shows c a.error k n →
+    IsTold c x k n
+then_told c a x keeps k n h = (h.0, elim keeps [ inl e ↦ inl (e ∙ h.1) | inr e ↦ inr e ])
+
+pub cycle_told : (look : AxisLook) (d : Core) → d.notes ≡ [] →
+    AllTell (IsTold (charge_of d) (core_after_cycle look d).axis) (core_after_cycle look d).notes
+unfolding core_after_cycle
+cycle_told look d e =
+    let x = core_after_step look (is_driven d.axis look.input) (core_after_answer look.input d) in
+    let now = reset_axis x.axis.reset look.input x.axis in
+    let P = IsTold (charge_of d) now in
+    more P x.notes (reset_notes x.axis.reset look.input x.axis)
+    (weaker (Shows (charge_of d) x.axis.error) P x.notes
+    (then_told (charge_of d) x.axis now (reset_keeps x.axis.reset look.input x.axis))
+    (stepped_tells look (is_driven d.axis look.input) d e))
+    (reset_plain P x.axis.reset look.input x.axis)
+
+-- the error stays in ErrorStop: a cycle keeps it
+no_answer : (a : Axis) (input : DriveIn) → is_error_stop a.state ≡ true →
+    nat_eq (answer_error_of a input) 0 ≡ true
+unfolding answer_error_of
+no_answer a input h = ap (λ b. nat_eq (if b then 0 else new_error_of a input) 0) h
+
+pub cycle_keeps : (look : AxisLook) (d : Core) → is_error_stop d.axis.state ≡ true →
+    KeepsError d.axis (core_after_cycle look d).axis
+unfolding core_after_cycle
+cycle_keeps look d h =
+    let driven = is_driven d.axis look.input in
+    let n = answer_error_of d.axis look.input in
+    let same : core_after_answer look.input d ≡ d =
+    ap (λ b. if b then d else core_after_error n d) (no_answer d.axis look.input h) in
+    let still = step_still look driven d h in
+    subst (λ y. let x = core_after_step look driven y in
+    KeepsError d.axis (reset_axis x.axis.reset look.input x.axis)) (sym same)
+    (let x = core_after_step look driven d in
+    elim (reset_keeps x.axis.reset look.input x.axis) [
+      | inl e ↦ inl (e ∙ still.error)
+      | inr e ↦ inr e
+    ])
