@@ -1,5 +1,5 @@
 mod Choices
 mod Alike
 mod Fates
-mod axis
+pub mod axis
 pub mod group

@@ -73,7 +73,7 @@ ending_makes (Some finish.Done) c = ended_makes finish.Done c
 ending_makes (Some finish.Aborted) c = ended_makes finish.Aborted c
 
 -- a step leaves the commands
-abbrev Stays : Core → Axis → Type 0
+abbrev pub Stays : Core → Axis → Type 0
 Stays c a = charge_of (record c { axis = a }) ≡ charge_of c
 
 progress_stays : (x : BlockKind) (t : ℤ) (p : Progress) (c : Core) → Stays c (axis_after_progress x t p c.axis)
@@ -92,7 +92,7 @@ placed_stays : (o : Option ℤ) (next : Option Wanted) (look : AxisLook) (c : Co
 placed_stays None next look c = command_stays c.axis.active next look c
 placed_stays (Some place) next look c = by_if (Stays c) look.path_ends _ _ (λ h. refl) (λ h. refl)
 
-advance_stays : (next : Option Wanted) (look : AxisLook) (c : Core) → Stays c (advance_in_cycle next look c.axis).axis
+pub advance_stays : (next : Option Wanted) (look : AxisLook) (c : Core) → Stays c (advance_in_cycle next look c.axis).axis
 unfolding advance_in_cycle
 advance_stays next look c =
     by_if (λ (x : Advance). Stays c x.axis) (is_error_stop c.axis.state) _ _ (λ h. refl) (λ h. placed_stays (place_on_path c.axis look) next look c)

@@ -2,6 +2,7 @@
 use Rattle.std.specs.Prelude.{◌≡◌, refl, ℕ, ◌+◌, ◌<◌, ◌≤◌, ℤ, Bool, true, false, Option, Some, None, List, [], ◌∷◌, ◌++◌, length, slice_get, slice_index_or}
 use Rattle.std.proofs.Common.{arith, ap, sym, subst, ◌∙◌}
 use Rattle.std.proofs.lemmas.List.{append_assoc}
+use Rattle.std.proofs.lemmas.Option.{same_Some}
 use Rattle.axis_core.specs.Arrivals.{IsAtEnd, IsTurn, Turn, blended, bound_of, ended, toward, turn_by, turn_of}
 use Rattle.axis_state.specs.declared.definition.AxisRow.{AxisRow}
 use Rattle.buffer_modes.specs.Fates.{Fate}
@@ -38,9 +39,6 @@ record Found (s : Setup) (n : ℕ) (m : Machine) (es : List Entry) (t : Turned) 
   machine : t.machine ≡ after s (replay s m before) entry
   turn : turn_of (axis_fate s (replay s m before) entry n) ≡ Some t.turn
 
-some_same : {X : Type 0} (x y : X) → Some x ≡ Some y → x ≡ y
-some_same x y e = cc
-
 found_later : (s : Setup) (n : ℕ) (m : Machine) (e : Entry) (es : List Entry) (t u : Turned) → Found s n (after s m e) es u →
     (let x : Turned = record u { cycles = cycle_count e + u.cycles } in x) ≡ t → Found s n m (e ∷ es) t
 found_later s n m e es t u f same = record {
@@ -68,9 +66,9 @@ found_here s n m e es t turn at same = record {
 found_by : (s : Setup) (n : ℕ) (m : Machine) (e : Entry) (es : List Entry) (t : Turned) (o : Option Turn) → turn_of (axis_fate s m e n) ≡ o →
     (r : Option Turned) → ((u : Turned) → r ≡ Some u → Found s n (after s m e) es u) → turned_by o (cycle_count e) (after s m e) r ≡ Some t →
     Found s n m (e ∷ es) t
-found_by s n m e es t (Some u) at r rec is = found_here s n m e es t u at (some_same _ t is)
+found_by s n m e es t (Some u) at r rec is = found_here s n m e es t u at (same_Some _ t is)
 found_by s n m e es t None at None rec is = absurd (cc)
-found_by s n m e es t None at (Some u) rec is = found_later s n m e es t u (rec u refl) (some_same _ t is)
+found_by s n m e es t None at (Some u) rec is = found_later s n m e es t u (rec u refl) (same_Some _ t is)
 
 found : (s : Setup) (n : ℕ) (m : Machine) (es : List Entry) (t : Turned) → turned_in s n m es ≡ Some t → Found s n m es t
 found s n m [] t is = absurd (cc)

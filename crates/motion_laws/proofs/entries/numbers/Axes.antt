@@ -1,19 +1,18 @@
 -- An axis has the error that its cycle tells.
-use Rattle.std.specs.Prelude.{◌≡◌, ◌⊎◌, refl, ℕ, Bool, true, false, ◌&&◌, nat_eq, if◌then◌else◌, ℤ, ◌+ℤ◌, Option, Some, None, Result, Ok, Err, List, [], ◌∷◌, slice_get}
+use Rattle.std.specs.Prelude.{◌≡◌, ◌⊎◌, refl, ℕ, Bool, true, false, ◌&&◌, nat_eq, if◌then◌else◌, ℤ, ◌+ℤ◌, Option, Some, None, List, [], ◌∷◌, slice_get}
 use Rattle.std.proofs.Common.{ap, subst, sym, ◌∙◌, inl, inr}
 use Rattle.std.proofs.lemmas.Bool.{cases_Bool}
 use Rattle.axis_core.proofs.KeptCycles.{reset-same}
 use Rattle.axis_core.specs.Cores.{Core, axis_under, axis_under_by, core_after_end, core_after_ending, core_after_error, core_after_take_over, core_taken_by}
-use Rattle.axis_core.specs.Cycles.{Advance, advance_by_command, advance_by_progress, advance_in_cycle, advance_without_error, axis_after_braking, axis_after_progress, core_after_advance, core_after_answer, core_after_cycle, core_after_going_on, core_after_step, progress_in_cycle}
+use Rattle.axis_core.specs.Cycles.{Advance, advance_in_cycle, advance_without_error, axis_after_braking, core_after_advance, core_after_answer, core_after_cycle, core_after_going_on, core_after_step}
 use Rattle.axis_core.specs.Drives.{answer_error_of, is_driven, new_error_of}
 use Rattle.axis_core.specs.blocks.Halts.{axis_after_stop, leaves_stopping}
-use Rattle.axis_core.specs.blocks.Moves.{position_of, target_of, with_target}
+use Rattle.axis_core.specs.blocks.Moves.{position_of, with_target}
 use Rattle.axis_core.specs.blocks.Path.{place_on_path}
 use Rattle.axis_core.specs.blocks.Power.{state_when_driven}
 use Rattle.axis_core.specs.blocks.Reset.{after_reset, may_reset, reset_axis, reset_notes, state_after_reset}
 use Rattle.axis_core.specs.declared.axis.Axis.{Axis}
 use Rattle.axis_core.specs.declared.look.AxisLook.{AxisLook}
-use Rattle.axis_core.specs.declared.progress.Progress.{Progress}
 use Rattle.axis_state.specs.Diagram.{next_of}
 use Rattle.axis_state.specs.States.{is_error_stop, is_stopping}
 use Rattle.axis_state.specs.declared.diagram.AxisEvent.TheVariants.{StopReleased}
@@ -23,6 +22,7 @@ use Rattle.buffer_modes.specs.Owners.{is_owner, owner_by}
 use Rattle.buffer_modes.specs.Queue.{active_note, end_notes}
 use Rattle.buffer_modes.specs.declared.reset.PendingReset.{PendingReset}
 use Rattle.cia402_machine.specs.declared.drive.DriveIn.{DriveIn}
+use Rattle.command_changes.proofs.axis.Cycles.{advance_stays}
 use Rattle.command_changes.specs.Axis.{charge_of}
 use Rattle.command_core.specs.Charge.{Charge}
 use Rattle.command_pool.specs.Waiting.{told_to}
@@ -103,38 +103,6 @@ ending_tells (Some (finish.Error n)) d e =
     failed_tells n (charge_of d) d (none_told (Shows (charge_of d) n) d e) (λ k h. inl h)
 ending_tells (Some finish.Done) d e = ended_tells finish.Done d done_plain e
 ending_tells (Some finish.Aborted) d e = ended_tells finish.Aborted d aborts_plain e
-
--- a step leaves the commands
-abbrev Stays : Core → Axis → Type 0
-Stays c a = charge_of (record c { axis = a }) ≡ charge_of c
-
-progress_stays : (x : BlockKind) (t : ℤ) (p : Progress) (c : Core) →
-    Stays c (axis_after_progress x t p c.axis)
-progress_stays kind.Home t p c = refl
-progress_stays _ t p c = refl
-
-result_stays : (x : BlockKind) (t : ℤ) (r : Result Progress ℕ) (c : Core) →
-    Stays c (advance_by_progress x t c.axis r).axis
-result_stays x t (Ok p) c = progress_stays x t p c
-result_stays x t (Err n) c = refl
-
-command_stays : (active next : Option Wanted) (look : AxisLook) (c : Core) →
-    Stays c (advance_by_command active next look c.axis).axis
-command_stays None next look c = refl
-command_stays (Some w) next look c =
-    result_stays w.kind (target_of w) (progress_in_cycle c.axis w next look) c
-
-placed_stays : (o : Option ℤ) (next : Option Wanted) (look : AxisLook) (c : Core) →
-    Stays c (advance_without_error o next look c.axis).axis
-placed_stays None next look c = command_stays c.axis.active next look c
-placed_stays (Some place) next look c = by_if (Stays c) look.path_ends _ _ refl refl
-
-advance_stays : (next : Option Wanted) (look : AxisLook) (c : Core) →
-    Stays c (advance_in_cycle next look c.axis).axis
-unfolding advance_in_cycle
-advance_stays next look c =
-    by_if (λ (x : Advance). Stays c x.axis) (is_error_stop c.axis.state) _ _ refl
-    (placed_stays (place_on_path c.axis look) next look c)
 
 -- the step of a cycle
 stop_error : (look : AxisLook) (a : Axis) → (axis_after_stop look a).error ≡ a.error

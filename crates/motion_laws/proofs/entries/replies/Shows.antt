@@ -6,7 +6,7 @@ use Rattle.command_pool.specs.declared.ending.Finish.{Finish}
 use Rattle.command_pool.specs.declared.ending.Finish.TheVariants as finish
 use Rattle.fb_outputs.specs.InstanceState.{InstanceState}
 use Rattle.fb_outputs.specs.Steps as instance
-use Rattle.fb_outputs.specs.Steps.{is_power, is_stop, outputs_by, outputs_of, result_of, shown_progress}
+use Rattle.fb_outputs.specs.Steps.{is_power, is_stop, outputs_by, outputs_of, result_of}
 use Rattle.fb_outputs.specs.declared.inputs.Inputs.{Inputs}
 use Rattle.fb_outputs.specs.declared.instance.Progress.{Progress}
 use Rattle.fb_outputs.specs.declared.instance.Progress.TheVariants.{Active, Ended, Idle, Waiting}
@@ -25,6 +25,8 @@ use Rattle.motion_laws.specs.owners.Commands.{active_at, active_shown, commands_
 use Rattle.motion_laws.specs.owners.Objects.{IsThere, object_of}
 use Rattle.motion_laws.specs.owners.Shown.{AreWhereShown, ShowsCommand}
 use Rattle.motion_laws.proofs.Histories.{legal_kept, legal_so_far}
+use Rattle.motion_laws.proofs.owners.active.Calls.{reply_active}
+use Rattle.motion_laws.proofs.owners.commands.Calls.{reply_shown}
 use Rattle.motion_laws.proofs.results.Comes.{after_more}
 use Rattle.motion_laws.proofs.results.Outputs.{by_progress, called_kind}
 use Rattle.motion_laws.proofs.results.Replied.{blocks_after, last_reply}
@@ -84,28 +86,16 @@ outputs_show stop execute reached Active = record {
 outputs_show stop execute reached (Ended f shown) = result_shows stop execute reached f shown
 
 -- a result that was shown is no command as before
-commands_alike : (p : Progress) → commands_shown (shown_progress p) ≡ commands_shown p
-commands_alike Idle = refl
-commands_alike Waiting = refl
-commands_alike Active = refl
-commands_alike (Ended f shown) = refl
-
-active_alike : (p : Progress) → active_shown (shown_progress p) ≡ active_shown p
-active_alike Idle = refl
-active_alike Waiting = refl
-active_alike Active = refl
-active_alike (Ended f shown) = refl
-
 commands_replied : (is : List InstanceState) (k : ℕ) →
     commands_shown (instance_at (slice_set is k (instance.shown (instance_at is k))) k).progress ≡ commands_shown (instance_at is k).progress
 commands_replied [] k = refl
-commands_replied (v ∷ vs) zero = commands_alike v.progress
+commands_replied (v ∷ vs) zero = reply_shown v.progress
 commands_replied (v ∷ vs) (suc k) = commands_replied vs k
 
 active_replied : (is : List InstanceState) (k : ℕ) →
     active_shown (instance_at (slice_set is k (instance.shown (instance_at is k))) k).progress ≡ active_shown (instance_at is k).progress
 active_replied [] k = refl
-active_replied (v ∷ vs) zero = active_alike v.progress
+active_replied (v ∷ vs) zero = reply_active v.progress
 active_replied (v ∷ vs) (suc k) = active_replied vs k
 
 -- the outputs of an instance that is no Power

@@ -3,6 +3,7 @@ use Rattle.std.specs.Prelude.{◌≡◌, refl, ℕ, zero, suc, ◌<◌, ◌≤�
 use Rattle.std.proofs.Common.{arith, ap, sym, subst, ◌∙◌, inl, inr}
 use Rattle.std.proofs.lemmas.Bool.{cases_eq}
 use Rattle.std.proofs.lemmas.List.{get_or-set_other, get_or-set_same, length_push}
+use Rattle.std.proofs.lemmas.Option.{same_Some}
 use Rattle.axis_core.specs.Cycles.{core_after_cycle, row_shown}
 use Rattle.axis_core.specs.declared.axis.Axis.{Axis}
 use Rattle.axis_state.specs.declared.definition.AxisRow.{AxisRow}
@@ -24,14 +25,11 @@ use Rattle.motion_laws.proofs.entries.events.Cycles.{groups_moved, resets_count}
 use Rattle.motion_laws.proofs.owners.commands.Events.{there_where}
 use Rattle.motion_laws.specs.entries.Rows.{ShowMachine, ShowsAxis, ShowsGroup}
 
-some_is : {X : Type 0} (x y : X) → Some x ≡ Some y → x ≡ y
-some_is x y e = cc
-
 -- what is found at a place of a list
 found_at : {X : Type 0} (xs : List X) (n : ℕ) (x d : X) → slice_get xs n ≡ Some x →
     slice_index_or xs n d ≡ x
 found_at xs n x d e =
-    some_is (slice_index_or xs n d) x (sym (get_is xs n d (there_where xs n x e)) ∙ e)
+    same_Some (slice_index_or xs n d) x (sym (get_is xs n d (there_where xs n x e)) ∙ e)
 
 -- a row that an axis makes shows it
 row_shows : (input : DriveIn) (a : Axis) → ShowsAxis (row_shown input a) a
