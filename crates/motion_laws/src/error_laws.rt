@@ -11,10 +11,11 @@ use command_changes::{axis_changes_are_made, group_changes_are_made};
 use motion_kernel::machines_stay_kept;
 
 /// Errors are told as they are shown. In every entry of a legal history an error that is told as
-/// the end of a command on an axis or a group has the number that the axis or the group shows after
-/// the entry, or the error was reset in the same entry; it is told the instance whose command is
+/// the end of a command on an axis or a group has the number that the axis or the group has after
+/// the entry, unless that is not in its ErrorStop then; it is told the instance whose command is
 /// the active one, or, with 106, the one whose command waits first; and in ErrorStop and in
-/// GroupErrorStop the number stays.
+/// GroupErrorStop the number stays. A group that comes to GroupErrorStop in a cycle has the number
+/// of one of its axes, unless a Reset of that axis was pending.
 pub fn errors_are_told_as_shown()
     ensures entries { (s : Setup) (made more : List Entry) (e : Entry) → IsSetup s → AreWhole s →
         IsLegal s (made ++ e ∷ more) → ErrorsAreTold s (machine_after s made) e }

@@ -1,16 +1,17 @@
 -- Which errors the instances of a history are told, and what their axes and groups show then
 -- (PLCopen Motion Control Part 1 and Part 4, the state diagrams).
-use Rattle.std.specs.Prelude.{◌≡◌, ◌⊎◌, ℕ, Bool, true, false, Some, List, [], ◌∷◌}
+use Rattle.std.specs.Prelude.{◌≡◌, ◌≢◌, ◌⊎◌, ℕ, ◌<◌, Bool, true, false, Some, None, List, [], ◌∷◌, length}
 use Rattle.axis_state.specs.States as axis
 use Rattle.buffer_modes.specs.Owners.{is_owner}
 use Rattle.command_core.specs.Charge.{Charge, active_of}
 use Rattle.command_pool.specs.declared.ending.Finish.TheVariants as finish
 use Rattle.command_pool.specs.declared.wanted.Wanted.{Wanted}
 use Rattle.group_core.specs.States as group
-use Rattle.motion_history.specs.Entries.{Entry}
+use Rattle.motion_history.specs.Entries.{Entry, cycle_count}
 use Rattle.motion_history.specs.Setup.{Setup}
 use Rattle.motion_kernel.specs.Histories.{after}
 use Rattle.motion_kernel.specs.Machine.{Machine, axis_at, group_at}
+use Rattle.motion_kernel.specs.members.Members.{member_at, members_at}
 use Rattle.motion_laws.specs.owners.Objects.{IsThere, Object, a_group, an_axis}
 use Rattle.motion_laws.specs.results.Effects.{charge_at}
 use Rattle.motion_laws.specs.results.Outcomes.{end_of_command}
@@ -35,6 +36,22 @@ waits_first k (w ∷ ws) = is_owner k w.owner
 abbrev pub MayFail : ℕ → Charge → ℕ → Type 0
 MayFail k c error = (active_of k c ≡ 1) ⊎ ((waits_first k c.waiting ≡ 1) × (error ≡ 106))
 
+-- an error is that of an axis of a group, unless a Reset of that axis was pending before
+pub record IsOfAnAxis (s : Setup) (before now : Machine) (j error : ℕ) : Type 0 where
+  pub place : ℕ
+  pub there : place < length (members_at s j)
+  pub has :
+      let n = member_at (members_at s j) place in
+      ((axis_at now n).error ≡ error) ⊎ ((axis_at before n).reset ≢ None)
+
+-- the error with which a group comes to GroupErrorStop in a cycle is that of one of its axes
+abbrev pub ComesOfAnAxis : Setup → Machine → Entry → Object → Type 0
+ComesOfAnAxis s m e (an_axis n) = Unit {0}
+ComesOfAnAxis s m e (a_group j) =
+    cycle_count e ≡ 1 → is_stopped_at m (a_group j) ≡ false →
+    is_stopped_at (after s m e) (a_group j) ≡ true →
+    IsOfAnAxis s m (after s m e) j (error_at (after s m e) (a_group j))
+
 -- what an entry tells of the errors of an axis or a group
 pub record TellsErrors (s : Setup) (m : Machine) (e : Entry) (o : Object) : Type 0 where
   -- an error is told that the axis or the group then has, or it was reset in the same entry
@@ -46,6 +63,8 @@ pub record TellsErrors (s : Setup) (m : Machine) (e : Entry) (o : Object) : Type
   -- the error stays while the axis or the group is in ErrorStop or in GroupErrorStop
   pub stays : is_stopped_at m o ≡ true → is_stopped_at (after s m e) o ≡ true →
       error_at (after s m e) o ≡ error_at m o
+  -- and a group has that of one of its axes
+  pub comes : ComesOfAnAxis s m e o
 
 -- so it is of each axis and each group
 abbrev pub ErrorsAreTold : Setup → Machine → Entry → Type 0

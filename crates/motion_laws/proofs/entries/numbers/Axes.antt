@@ -1,5 +1,5 @@
 -- An axis has the error that its cycle tells.
-use Rattle.std.specs.Prelude.{◌≡◌, ◌⊎◌, refl, ℕ, Bool, true, false, ◌&&◌, nat_eq, if◌then◌else◌, ℤ, ◌+ℤ◌, Option, Some, None, List, [], ◌∷◌, slice_get}
+use Rattle.std.specs.Prelude.{◌≡◌, ◌≢◌, ◌⊎◌, refl, ℕ, Bool, true, false, ◌&&◌, nat_eq, if◌then◌else◌, ℤ, ◌+ℤ◌, Option, Some, None, List, [], ◌∷◌, slice_get}
 use Rattle.std.proofs.Common.{ap, subst, sym, ◌∙◌, inl, inr}
 use Rattle.std.proofs.lemmas.Bool.{cases_Bool}
 use Rattle.axis_core.proofs.KeptCycles.{reset-same}
@@ -108,6 +108,9 @@ ending_tells (Some finish.Aborted) d e = ended_tells finish.Aborted d aborts_pla
 stop_error : (look : AxisLook) (a : Axis) → (axis_after_stop look a).error ≡ a.error
 stop_error look a = by_if (λ (x : Axis). x.error ≡ a.error) (leaves_stopping look a) _ a refl refl
 
+stop_reset : (look : AxisLook) (a : Axis) → (axis_after_stop look a).reset ≡ a.reset
+stop_reset look a = by_if (λ (x : Axis). x.reset ≡ a.reset) (leaves_stopping look a) _ a refl refl
+
 going_tells : (look : AxisLook) (d : Core) → d.notes ≡ [] →
     Tells (charge_of d) (core_after_going_on look d)
 going_tells look d e =
@@ -128,6 +131,7 @@ step_tells look driven d e =
 record IsStill (d x : Core) : Type 0 where
   notes : x.notes ≡ d.notes
   error : x.axis.error ≡ d.axis.error
+  reset : x.axis.reset ≡ d.axis.reset
   state : is_error_stop x.axis.state ≡ true
 
 driven_stopped : (driven : Bool) (s : AxisState) → is_error_stop s ≡ true →
@@ -167,10 +171,16 @@ step_still look driven d h =
     (subst P (sym brakes) (record {
       notes = refl;
       error = stop_error look (axis_after_braking d.axis);
+      reset = stop_reset look (axis_after_braking d.axis);
       state = ap (λ (a : Axis). is_error_stop a.state)
           (stop_same look (axis_after_braking d.axis) h) ∙ h;
     }))
-    (record { notes = refl; error = refl; state = driven_stopped driven d.axis.state h })
+    (record {
+      notes = refl;
+      error = refl;
+      reset = refl;
+      state = driven_stopped driven d.axis.state h;
+    })
 
 -- after the answer and the step
 still_tells : (c : Charge) (d x : Core) → IsStill d x → Tells c d → Tells c x
@@ -262,4 +272,30 @@ cycle_keeps look d h =
     elim (reset_keeps x.axis.reset look.input x.axis) [
       | inl e ↦ inl (e ∙ still.error)
       | inr e ↦ inr e
+    ])
+
+-- an error that the drive's answer brings is the axis's, unless a Reset was pending
+reset_same : (o : Option PendingReset) (input : DriveIn) (a : Axis) →
+    ((reset_axis o input a).error ≡ a.error) ⊎ (o ≢ None)
+reset_same None input a = inl refl
+reset_same (Some p) input a = inr (λ e. cc)
+
+pub cycle_answers : (look : AxisLook) (d : Core) →
+    nat_eq (answer_error_of d.axis look.input) 0 ≡ false →
+    ((core_after_cycle look d).axis.error ≡ answer_error_of d.axis look.input)
+    ⊎ (d.axis.reset ≢ None)
+unfolding core_after_cycle core_after_error
+cycle_answers look d h =
+    let driven = is_driven d.axis look.input in
+    let n = answer_error_of d.axis look.input in
+    let failed = core_after_error n d in
+    let same : core_after_answer look.input d ≡ failed =
+    ap (λ b. if b then d else core_after_error n d) h in
+    let still = step_still look driven failed refl in
+    subst (λ y. let x = core_after_step look driven y in
+    ((reset_axis x.axis.reset look.input x.axis).error ≡ n) ⊎ (d.axis.reset ≢ None)) (sym same)
+    (let x = core_after_step look driven failed in
+    elim (reset_same x.axis.reset look.input x.axis) [
+      | inl e ↦ inl (e ∙ still.error)
+      | inr e ↦ inr (λ none. e (still.reset ∙ none))
     ])

@@ -133,6 +133,7 @@ axis_called s m k i reply n h l = record {
   shown = λ j error e. absurd (axis_quiet s m k i reply n j error e);
   whose = λ j error e. absurd (axis_quiet s m k i reply n j error e);
   stays = λ before now. axis_error s m k i n h l;
+  comes = tt;
 }
 
 -- in a call a group fails by 102 alone, and its error stays in GroupErrorStop
@@ -231,4 +232,5 @@ group_called laws s m k i reply j whole made h l =
         | inl same ↦ same
         | inr out ↦ absurd (cc)
       ];
+      comes = λ one before now. absurd (omega arith);
     }

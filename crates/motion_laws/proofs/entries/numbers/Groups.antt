@@ -3,6 +3,7 @@ use Rattle.std.specs.Prelude.{◌≡◌, ◌⊎◌, refl, ℕ, Bool, true, false
 use Rattle.std.specs.List.{list_any}
 use Rattle.std.specs.Ordering.{int_eq}
 use Rattle.std.proofs.Common.{ap, subst, sym, ◌∙◌, inl, inr}
+use Rattle.std.proofs.lemmas.Bool.{cases_Bool}
 use Rattle.buffer_modes.specs.Queue.{active_note, end_notes, is_active_at_once}
 use Rattle.buffer_modes.specs.declared.reset.PendingReset.{PendingReset}
 use Rattle.command_changes.specs.Group.{charge_of, reset_changes, reset_changes_by}
@@ -15,9 +16,9 @@ use Rattle.command_pool.specs.declared.kind.BlockKind.{BlockKind}
 use Rattle.command_pool.specs.declared.kind.BlockKind.TheVariants as kind
 use Rattle.command_pool.specs.declared.wanted.Wanted.{Wanted}
 use Rattle.group_core.specs.Calls.{admitted_by, asked_in, commanded, commanded_by, line_joined, powered_off, queue_in, queued, waits_for_rest}
-use Rattle.group_core.specs.Cores.{Core, ended, ended_by, failed, taken_over}
+use Rattle.group_core.specs.Cores.{Core, ended, ended_by, failed, settled, taken_over}
 use Rattle.group_core.specs.Cycles.{Advance, advanced, advanced_with, answered, cycled, ending_of, group_released, moved, over_at_rest, path_after, released, reset_where}
-use Rattle.group_core.specs.Kinds.{ending_by, step_by}
+use Rattle.group_core.specs.Kinds.{ending_by, event_of, step_by}
 use Rattle.group_core.specs.Refusals.{refusal_of, states_in}
 use Rattle.group_core.specs.States.{is_error_stop, is_moved, may_fail}
 use Rattle.group_core.specs.Tracks.{OnPath, braking_step_of, moved_by, places_at}
@@ -27,6 +28,7 @@ use Rattle.group_core.specs.declared.group.Group.{Group}
 use Rattle.group_core.specs.declared.group.Motion.{Motion}
 use Rattle.group_core.specs.declared.look.GroupLook.{GroupLook}
 use Rattle.group_core.specs.declared.reason.Reason.{Reason}
+use Rattle.group_state.specs.Diagram.{next_of}
 use Rattle.group_state.specs.declared.state.GroupState.{GroupState}
 use Rattle.group_state.specs.declared.state.GroupState.TheVariants as state
 use Rattle.motion_kernel.proofs.Sizes.{by_if}
@@ -226,3 +228,88 @@ command_keeps w jerk members d =
 pub off_same : (d : Core) → is_error_stop d.group.state ≡ true → powered_off d ≡ d
 unfolding powered_off
 off_same d h = ap (λ b. if b then failed 102 d else d) (no_fail d.group.state h)
+
+-- a GroupReset leads to no GroupErrorStop
+pub record IsLeft (g x : Group) : Type 0 where
+  pub error : KeepsError g x
+  pub state : is_error_stop x.state ≡ true → is_error_stop g.state ≡ true
+
+pub reset_left : (members : GroupLook) (on_path : Bool) (g : Group) →
+    IsLeft g (reset_where members on_path g)
+unfolding reset_where
+reset_left members on_path g = by g.reset
+  where
+    by : (o : Option PendingReset) → IsLeft g (reset_by o (states_in members) on_path g)
+    by None = record { error = inl refl; state = λ h. h }
+    by (Some r) =
+        let out = reset_leaves (list_any is_moved (states_in members)) g.state in
+        by_if (IsLeft g) (may_reset on_path g) (after_reset (states_in members) g) g
+        (record { error = inr out; state = λ h. absurd (cc) })
+        (record { error = inl refl; state = λ h. h })
+
+-- a group comes to GroupErrorStop by an error of a member alone
+settled_out : (s : GroupState) → is_error_stop s ≡ false → is_error_stop (settled s) ≡ false
+settled_out state.GroupMoving h = refl
+settled_out _ h = h
+
+begun_out : (x : BlockKind) → is_error_stop (next_of (event_of x)) ≡ false
+begun_out kind.GroupStop = refl
+begun_out _ = refl
+
+over_out : (members : GroupLook) (places : List ℤ) (ws : List Wanted) (d : Core) →
+    is_error_stop d.group.state ≡ false →
+    is_error_stop (taken_over members places ws d).group.state ≡ false
+over_out members places [] d h = settled_out d.group.state h
+over_out members places (w ∷ ws) d h = begun_out w.kind
+
+ended_out : (members : GroupLook) (places : List ℤ) (o : Option Finish) (d : Core) →
+    is_error_stop d.group.state ≡ false →
+    is_error_stop (ended_by members places o d).group.state ≡ false
+unfolding ended
+ended_out members places None d h = h
+ended_out members places (Some f) d h = over_out members places d.waiting _ h
+
+released_out : (held : Bool) (g : Group) (p : Option OnPath) → is_error_stop g.state ≡ false →
+    is_error_stop (group_released held g p).state ≡ false
+released_out held g p h =
+    by_if (λ (x : Group). is_error_stop x.state ≡ false) (leaves_stopping held g p) _ g refl h
+
+-- which is then its own
+pub record HasFailed (members : GroupLook) (x : Core) : Type 0 where
+  pub error : x.group.error ≡ members.error
+  pub is : nat_eq members.error 0 ≡ false
+
+not_none : (none fails : Bool) → not none && fails ≡ true → none ≡ false
+not_none true fails h = absurd (cc)
+not_none false fails h = refl
+
+pub has_failed : (members : GroupLook) (d : Core) → is_error_stop d.group.state ≡ false →
+    is_error_stop (cycled members d).group.state ≡ true → HasFailed members (cycled members d)
+unfolding cycled failed
+has_failed members d before now =
+    let fails = not (nat_eq members.error 0) && may_fail d.group.state in
+    let x = moved members (answered members.error d) in
+    let held = members.stop_held in
+    elim (cases_Bool fails) [
+      | inl some ↦
+          let y = failed members.error d in
+          let same : answered members.error d ≡ y =
+          ap (λ b. if b then failed members.error d else d) some in
+          let still : x ≡ record y { path = path_after y.group y.path } =
+          ap (moved members) same ∙ moved_still members y refl in
+          record {
+            error = released_error held x.group x.path ∙ ap (λ (z : Core). z.group.error) still;
+            is = not_none (nat_eq members.error 0) (may_fail d.group.state) some;
+          }
+      | inr none ↦
+          let same : answered members.error d ≡ d =
+          ap (λ b. if b then failed members.error d else d) none in
+          let path = path_after d.group d.path in
+          let out : is_error_stop (moved members d).group.state ≡ false =
+          ended_out members (places_at path members.setpoints) (ending_of d.group d.path)
+          (record d { path = path }) before in
+          let out_now : is_error_stop x.group.state ≡ false =
+          ap (λ (z : Core). is_error_stop (moved members z).group.state) same ∙ out in
+          absurd (let never : true ≡ false =
+          sym now ∙ released_out held x.group x.path out_now in cc)
+    ]

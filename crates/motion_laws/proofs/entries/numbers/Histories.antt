@@ -1,5 +1,6 @@
 -- Errors are told as they are shown, in every entry of a legal history.
 use Rattle.std.specs.Prelude.{refl, List, ◌∷◌, ◌++◌}
+use Rattle.std.proofs.Common.{arith}
 use Rattle.motion_history.specs.Entries.{Entry, call, cycle, end_of}
 use Rattle.motion_history.specs.Setup.{Setup, IsSetup}
 use Rattle.motion_kernel.specs.Histories.{IsLegal, machine_after, replay}
@@ -22,10 +23,18 @@ entry_tells laws s m (cycle c rows grows) whole h is (an_axis n) l =
     axis_cycled laws s m c rows grows n h l
 entry_tells laws s m (cycle c rows grows) whole h is (a_group j) l =
     group_cycled laws s m c rows grows j h l
-entry_tells laws s m (end_of task) whole h is (an_axis n) l =
-    record { shown = λ k x e. absurd (cc); whose = λ k x e. absurd (cc); stays = λ a b. refl }
-entry_tells laws s m (end_of task) whole h is (a_group j) l =
-    record { shown = λ k x e. absurd (cc); whose = λ k x e. absurd (cc); stays = λ a b. refl }
+entry_tells laws s m (end_of task) whole h is (an_axis n) l = record {
+  shown = λ k x e. absurd (cc);
+  whose = λ k x e. absurd (cc);
+  stays = λ a b. refl;
+  comes = tt;
+}
+entry_tells laws s m (end_of task) whole h is (a_group j) l = record {
+  shown = λ k x e. absurd (cc);
+  whose = λ k x e. absurd (cc);
+  stays = λ a b. refl;
+  comes = λ one a b. absurd (omega arith);
+}
 
 pub errors_told : WalkLaws → (s : Setup) (made more : List Entry) (e : Entry) → IsSetup s →
     AreWhole s → IsLegal s (made ++ e ∷ more) → ErrorsAreTold s (machine_after s made) e

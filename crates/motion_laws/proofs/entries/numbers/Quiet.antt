@@ -166,4 +166,5 @@ group_request s (for_group_command b) k i m j =
     let w = wanted_of k b.kind i in
     let look = group_look s x j 0 in
     inl (by_if (λ y. TellNone (group_changes y (group_core_at x j))) (nat_eq b.object j)
-    (on_group.asked w i.jerk look) on_group.rests (group_command w i.jerk look (group_core_at x j)) tt)
+    (on_group.asked w i.jerk look) on_group.rests
+    (group_command w i.jerk look (group_core_at x j)) tt)
