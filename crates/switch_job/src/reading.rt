@@ -2,6 +2,9 @@
 
 ghost use Rattle.std.specs.Prelude.{◌≡◌, IfErr, IfOk, OnOk};
 ghost use Rattle.outside.specs.Faults.{Rose};
+ghost use Rattle.switch_text.specs.Reading as switches;
+ghost use Rattle.switch_text.specs.Spelled.{IsSwitchText};
+ghost use Rattle.trace_text.specs.reading.Reading as traces;
 ghost use Rattle.switch_job.specs.Given.{GivesBoth, GivesSwitches, GivesTrace, NoBoth, NoSwitches, NoTrace};
 
 use job_ends::{Status, read_text, say_refused};
@@ -63,11 +66,19 @@ fn read_traced<F: Files, K: Sink>(
     ensures told { F.told files.new ≡ F.told files.old }
     ensures kept { OnOk result (F.count files.new ≡ F.count files.old) }
 {
-    match read_trace(alloc, read_text(alloc, 1, name, MOST_TRACE, files, out)?.as_slice()) {
+    let text = read_text(alloc, 1, name, MOST_TRACE, files, out)?;
+    match trace_of(alloc, text) {
         Ok(trace) => Ok(trace),
         Err(TextFault::Refused(refused)) => Err(say_refused(alloc, 1, name, &refused, out)),
         Err(TextFault::OutOfMemory) => Err(Status::OutOfMemory),
     }
+}
+
+// The trace that a text is, which is given up.
+fn trace_of(alloc: Global, text: Vec<u8>) -> Result<Trace, TextFault>
+    ensures { traces.ReadsBy (traces.trace_of text.items) result }
+{
+    read_trace(alloc, text.as_slice())
 }
 
 // The switches that the second file is, on the axes of a trace.
@@ -86,9 +97,17 @@ fn read_switched<F: Files, K: Sink>(
     ensures silent { OnOk result (out.new ≡ out.old) }
 {
     let text = read_text(alloc, 2, name, MOST_SWITCHES, files, out)?;
-    match read_switches(alloc, text.as_slice(), trace.config()) {
+    match switches_of(alloc, text, trace) {
         Ok(switches) => Ok(switches),
         Err(TextFault::Refused(refused)) => Err(say_refused(alloc, 2, name, &refused, out)),
         Err(TextFault::OutOfMemory) => Err(Status::OutOfMemory),
     }
+}
+
+// The switches that a text has on the axes of a trace; the text is given up.
+fn switches_of(alloc: Global, text: Vec<u8>, trace: &Trace) -> Result<Switches, TextFault>
+    ensures found { IfOk result (IsSwitchText trace.now.config text.items) }
+    ensures exact { switches.ReadsBy (switches.switches_of trace.now.config text.items) result }
+{
+    read_switches(alloc, text.as_slice(), trace.config())
 }
