@@ -15,8 +15,8 @@ returns-in-Ok g c = inl (record {
   ends = c.do_job.ensures;
 })
 
-pub returns : goal.returns
-returns g c =
+pub returns-in-Err : goal.returns-in-Err
+returns-in-Err g c =
     unread-ends _ _ (record { job = c.args.work.job; name = c.args.name.now }) _ _ _ _ c.in-Err.fault
     c.most_bytes.ensures
     (λ e. c.in-Err.ensures.failed (ap Err e)) (λ e. c.in-Err.ensures.longer (ap Err e))
