@@ -54,6 +54,22 @@ impl AxisCore {
         }
     }
 
+    /// An axis that goes on as this one is.
+    pub fn resume(axis: Axis) -> AxisCore
+        requires { IsAxisKept axis }
+        ensures { result ≡ axis }
+    {
+        AxisCore { axis }
+    }
+
+    /// The whole of it, as it is between two events.
+    pub fn axis(&self) -> &Axis
+        ensures axis { result.now ≡ self.now }
+        ensures kept { IsAxisKept self.now }
+    {
+        &self.axis
+    }
+
     /// Asks a command of the axis, and answers whether it is active, or why it is refused. A Reset,
     /// a GearOut and a CamOut are never active.
     pub fn command(

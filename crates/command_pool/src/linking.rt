@@ -1,6 +1,6 @@
 // Records in an array, linked by index.
 
-ghost use Rattle.std.specs.Prelude.{◌≡◌, ℕ, ◌<◌, ◌+◌, ◌-◌, ◌^◌, length, slice_set, slice_index, IfOk, vec_len};
+ghost use Rattle.std.specs.Prelude.{◌≡◌, ℕ, ◌<◌, ◌+◌, ◌-◌, ◌^◌, Some, length, slice_get, slice_set, slice_index, IfOk, vec_len};
 ghost use Rattle.command_pool.specs.Layout as spec;
 ghost use Rattle.command_pool.specs.Layout.{chain, chains, links_of, commands_of, command_at, detached_in, detached_in_all, rising, times, times_in_all};
 
@@ -43,6 +43,20 @@ pub(crate) fn command(records: &Vec<Record>, place: u16) -> &Wanted
     ensures { result.now ≡ command_at (commands_of records.now.items) place }
 {
     &records[place as usize].wanted
+}
+
+/// The record of the command at a place of a list, counted from 0.
+pub(crate) fn record_at(records: &Vec<Record>, queue: Queue, place: u8) -> u16
+    requires there { place < queue.count }
+    requires places { (k : ℕ) → 0 < times k (chain (links_of records.now.items) queue) → k < vec_len records.now }
+    ensures at { slice_get (chain (links_of records.now.items) queue) place ≡ Some result }
+    ensures below { result < vec_len records.now }
+{
+    let mut at = queue.first;
+    for _passed in 0..place {
+        at = next_of(records, at);
+    }
+    at
 }
 
 /// Puts a command into a record.

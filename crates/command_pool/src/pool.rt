@@ -8,6 +8,7 @@ ghost use Rattle.command_pool.specs.declared.ending.Finish.TheVariants as finish
 use crate::ending::Finish;
 use crate::linking::{
     EMPTY, Queue, Record, append, command, detach_in_all, fill, free_records, link, next_of,
+    record_at,
 };
 use crate::notes::Notes;
 use crate::wanted::Wanted;
@@ -99,6 +100,29 @@ impl CommandPool {
             return None;
         }
         Some(command(&self.records, queue.last))
+    }
+
+    /// The command at a place of a list, counted from 0.
+    pub fn waiting_at(&self, list: u8, place: u8) -> Option<&Wanted>
+        requires { list < length self.now }
+        ensures { option_copied result ≡ slice_get (queue_of self.now list) place }
+    {
+        let queue = self.queues[list as usize];
+        if place >= queue.count {
+            return None;
+        }
+        Some(command(&self.records, record_at(&self.records, queue, place)))
+    }
+
+    /// Takes the commands of a pool of as many lists in the place of its own.
+    pub fn copy_from(&mut self, other: &CommandPool)
+        requires { length self.old ≡ length other.now }
+        ensures { self.new ≡ other.now }
+    {
+        self.records.copy_from_slice(other.records.as_slice());
+        self.queues.copy_from_slice(other.queues.as_slice());
+        self.free_first = other.free_first;
+        self.free_count = other.free_count;
     }
 
     /// Takes all commands out of a list, and notes of each that has an owner that it is aborted, in their order.

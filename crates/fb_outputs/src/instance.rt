@@ -64,6 +64,23 @@ impl Instance {
         }
     }
 
+    /// An instance of which this is known.
+    pub fn resume(kind: BlockKind, execute: bool, reached: bool, progress: Progress) -> Instance
+        ensures { result ≡ record {
+          kind = kind;
+          execute = execute;
+          reached = reached;
+          progress = progress;
+        } }
+    {
+        Instance {
+            kind,
+            execute,
+            reached,
+            progress,
+        }
+    }
+
     /// Takes a call's Execute, and tells how it changed. A rising edge takes the earlier command's
     /// owner away.
     pub fn on_call(&mut self, execute: bool) -> Edge
@@ -122,6 +139,27 @@ impl Instance {
             };
         }
         outputs
+    }
+
+    /// The kind of its block.
+    pub fn kind(&self) -> BlockKind
+        ensures { result ≡ self.now.kind }
+    {
+        self.kind
+    }
+
+    /// What the last cycle found, as `set_reached` tells.
+    pub fn reached(&self) -> bool
+        ensures { result ≡ self.now.reached }
+    {
+        self.reached
+    }
+
+    /// How far its command is.
+    pub fn progress(&self) -> Progress
+        ensures { result ≡ self.now.progress }
+    {
+        self.progress
     }
 
     /// The Execute of the last call, false before the first.

@@ -38,6 +38,20 @@ impl<P: Path> Model for GroupCore<P> {
 }
 
 impl<P: Path + Drop> GroupCore<P> {
+    /// A group that goes on as this one is.
+    pub fn resume(on: GroupOnPath<P>) -> GroupCore<P>
+        ensures { result ≡ on }
+    {
+        GroupCore { on }
+    }
+
+    /// The whole of it, as it is between two events.
+    pub fn group(&self) -> &GroupOnPath<P>
+        ensures { result.now ≡ self.now }
+    {
+        &self.on
+    }
+
     /// Its state.
     pub fn state(&self) -> GroupState
         ensures { result ≡ self.now.group.state }

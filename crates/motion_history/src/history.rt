@@ -72,6 +72,17 @@ impl History {
         touch_room(&mut self.group_rows, NO_GROUP_ROW);
     }
 
+    /// Empties it: it has its whole room again.
+    pub fn clear(&mut self)
+        ensures { self.new ≡ record self.old { entries = []; rows = []; group_rows = [] } }
+    {
+        self.stored.clear();
+        self.calls.clear();
+        self.axis_rows.clear();
+        self.group_rows.clear();
+        self.made = 0;
+    }
+
     /// Adds a call of a block and its reply.
     pub fn record_call(&mut self, instance: u16, inputs: &Inputs, reply: &Outputs)
         requires { length self.old.entries < self.old.room }

@@ -1,6 +1,7 @@
 -- machines_stay_kept: kept/, by calls in kept/Calls and kept/MayCall, by cycles in kept/Cycles
 -- rows_are_counted: Counted, over calls/AxesLeft and cycles/OneAxis
--- the kernel's own answers: kept/Kernel, Marked, cycles/Entries
+-- the kernels' own answers: kept/Banked and Kernel, Marked, cycles/Entries
+-- banks_join: Banks
 -- what motion_laws cites: Sizes, calls/, cycles/OneAxis and Rows, kept/, looks/Shown, members/Places
 pub mod Lists
 pub mod Sizes
@@ -11,4 +12,5 @@ pub mod calls
 pub mod cycles
 pub mod kept
 pub mod Marked
+pub mod Banks
 pub mod Counted

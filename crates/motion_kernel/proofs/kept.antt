@@ -22,4 +22,5 @@ pub mod GroupsAndAxes
 pub mod GroupResets
 pub mod Cycles
 pub mod Machine
+pub mod Banked
 pub mod Kernel

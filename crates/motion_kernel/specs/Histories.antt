@@ -31,6 +31,10 @@ replay s m (e ∷ es) = replay s (after s m e) es
 unfoldable pub machine_after : Setup → List Entry → Machine
 machine_after s es = replay s (machine_at_opening s) es
 
+-- the machine after entries from where it was
+unfoldable pub machine_from : Setup → Machine → List Entry → Machine
+machine_from s m es = replay s m es
+
 -- a cycle is the machine's: one answer for each axis, whose count has 32 bits and is else free, and
 -- the rows that these answers make
 pub record IsCycleOf (s : Setup) (m : Machine) (rows : List AxisRow) (grows : List GroupRow)
@@ -58,3 +62,10 @@ pub record IsLegal (s : Setup) (es : List Entry) : Type 0 where
   pub entries : length es ≤ s.entries
   pub cycles : cycles_of es ≤ s.cycles
   pub follows : Follows s 0 (machine_at_opening s) es
+
+-- a history is legal from a machine on: it keeps within the room, and folding that machine gives
+-- each reply and each row
+pub record IsLegalFrom (s : Setup) (m : Machine) (es : List Entry) : Type 0 where
+  pub entries : length es ≤ s.entries
+  pub cycles : cycles_of es ≤ s.cycles
+  pub follows : Follows s 0 m es

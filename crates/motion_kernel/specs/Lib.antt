@@ -8,5 +8,6 @@ pub mod Histories
 pub mod Tasks
 pub mod Marked
 pub mod KernelState
+pub mod Banks
 pub mod Counted
 pub mod kept

@@ -1,4 +1,6 @@
 -- What always holds of the machine and of the kernel.
 pub mod Machine
 pub mod Ready
+pub mod Rooms
+pub mod Banked
 pub mod Kernel

@@ -2,7 +2,6 @@
 
 ghost use Rattle.std.specs.Prelude.{◌≡◌, ◌<◌, ◌≤◌, ◌+◌, ◌-◌, ◌++◌, ◌∷◌, [], length, map, IfOk, IsSomeAnd, slice_get, All, true, false};
 ghost use Rattle.std.specs.Option.{option_map};
-ghost use Rattle.axis_state.specs.Counts.{IsCount};
 ghost use Rattle.axis_state.specs.declared.definition.AxisRow.{AxisRow};
 ghost use Rattle.cia402_machine.specs.declared.drive.DriveIn.{DriveIn};
 ghost use Rattle.motion_history.specs.Bits.{HasBits};
@@ -17,19 +16,11 @@ ghost use Rattle.motion_kernel.specs.KernelState.{KernelState, room_of, state_of
 ghost use Rattle.motion_kernel.specs.kept.Machine.{AreWhole};
 ghost use Rattle.motion_kernel.specs.Tasks.{live_tasks, quiet_tasks};
 
-use crate::block_calls::call_block;
-use crate::drive_answers::counts_have_32_bits;
-use crate::laws::machines_stay_kept;
-use crate::layout::Layout;
-use crate::machine_cycle::{Aside, cycle_machine};
-use crate::opening::open_parts;
-use crate::parts::Parts;
+use crate::banked::BankedKernel;
 use crate::tasks::TaskMarks;
 use cia402_machine::{DriveIn, DriveOut};
 use fb_outputs::{Inputs, Outputs};
-use motion_history::{
-    Config, CycleLook, History, OutOfMemory, configurations_are_sound, cycles_add_up,
-};
+use motion_history::{Config, CycleLook, History, OutOfMemory, configurations_are_sound};
 use std::alloc::{AllocError, Global};
 use std::marker::Model;
 
@@ -54,10 +45,7 @@ impl From<OutOfMemory> for OpenFault {
 /// A motion kernel. Contracts see it as its configuration, its history, and whether it was stopped.
 #[derive(Drop)]
 pub struct Kernel {
-    layout: Layout,
-    parts: Parts,
-    aside: Aside,
-    history: History,
+    banked: BankedKernel,
     tasks: TaskMarks,
     stopped: bool,
 }
@@ -79,18 +67,12 @@ impl Kernel {
     pub fn open(alloc: Global, config: Config) -> Result<Kernel, OpenFault>
         ensures { IfOk result (λ k. k ≡ record { config = config; history = []; stopped = false }) }
     {
-        // law: what always holds of a machine holds at opening
-        machines_stay_kept();
-        let layout = Layout::open(alloc, config)?;
-        let parts = open_parts(alloc, &layout)?;
-        let aside = Aside::open(alloc, &layout)?;
-        let history = History::open(alloc, layout.config())?;
+        let banked = BankedKernel::open(alloc, config)?;
+        // law: a configuration has at most eight tasks
+        let _ = banked.history();
         let tasks = TaskMarks::open();
         Ok(Kernel {
-            layout,
-            parts,
-            aside,
-            history,
+            banked,
             tasks,
             stopped: false,
         })
@@ -101,7 +83,7 @@ impl Kernel {
     pub fn touch(&mut self)
         ensures { self.new ≡ self.old }
     {
-        self.history.touch();
+        self.banked.touch();
     }
 
     /// Calls a block, which belongs to this task, and answers its outputs.
@@ -114,12 +96,10 @@ impl Kernel {
           history = self.old.history ++ call instance inputs.now result ∷ [];
         } }
     {
-        // law: it holds after a call
-        cycles_add_up();
-        machines_stay_kept();
+        // law: a configuration has at most eight tasks
         configurations_are_sound();
-        let reply = call_block(instance, inputs, &self.layout, &mut self.parts);
-        self.history.record_call(instance, inputs, &reply);
+        let _ = self.banked.history();
+        let reply = self.banked.call(instance, inputs);
         self.tasks.hear(task);
         reply
     }
@@ -140,20 +120,7 @@ impl Kernel {
               (cycled self.old.config (state_of self.old) ins.now).groups ∷ [];
         } }
     {
-        // law: it holds after a cycle, since the counts have 32 bits
-        cycles_add_up();
-        machines_stay_kept();
-        counts_have_32_bits(ins);
-        let history = &mut self.history;
-        cycle_machine(
-            ins,
-            &self.layout,
-            &mut self.parts,
-            &mut self.aside,
-            history,
-            outs,
-        );
-        self.history.record_cycle();
+        self.banked.cycle(ins, outs);
         self.tasks.cycle();
     }
 
@@ -163,9 +130,7 @@ impl Kernel {
         requires task { task < length self.old.config.tasks }
         ensures { self.new ≡ record self.old { history = self.old.history ++ end_of task ∷ [] } }
     {
-        // law: the cycles of a history add up
-        cycles_add_up();
-        self.history.record_end(task);
+        self.banked.end(task);
         self.tasks.end(task);
     }
 
@@ -180,7 +145,7 @@ impl Kernel {
     pub fn config(&self) -> &Config
         ensures { result.now ≡ self.now.config }
     {
-        self.layout.config()
+        self.banked.config()
     }
 
     /// How many entries more the history has room for.
@@ -190,14 +155,14 @@ impl Kernel {
         if self.stopped {
             return 0;
         }
-        self.history.room_left()
+        self.banked.room_left()
     }
 
     /// How many cycles more there may be.
     pub fn cycles_left(&self) -> u32
         ensures { result ≡ self.now.config.cycles - cycles_of self.now.history }
     {
-        self.history.cycles_left()
+        self.banked.cycles_left()
     }
 
     /// How many cycles were made, at most the configured number.
@@ -205,15 +170,14 @@ impl Kernel {
         ensures cycles { result ≡ cycles_of self.now.history }
         ensures few { result ≤ self.now.config.cycles }
     {
-        let _ = self.history();
-        self.config().cycles() - self.cycles_left()
+        self.banked.cycles_made()
     }
 
     /// How many tasks live: those that have not ended.
     pub fn live_tasks(&self) -> u8
         ensures { result ≡ live_tasks self.now.config self.now.history }
     {
-        self.tasks.live(self.layout.config().tasks().len())
+        self.tasks.live(self.banked.config().tasks().len())
     }
 
     /// How many tasks are quiet: those that live and have made no entry since the last cycle or,
@@ -221,7 +185,7 @@ impl Kernel {
     pub fn quiet_tasks(&self) -> u8
         ensures { result ≡ quiet_tasks self.now.config self.now.history }
     {
-        self.tasks.quiet(self.layout.config().tasks().len())
+        self.tasks.quiet(self.banked.config().tasks().len())
     }
 
     /// The history so far: a legal one, for a sound configuration whose groups are whole. That is
@@ -233,14 +197,13 @@ impl Kernel {
         ensures whole { AreWhole self.now.config }
         ensures bits { All HasBits self.now.history }
     {
-        self.history.has_bits();
-        &self.history
+        self.banked.history()
     }
 
     /// The last cycle, if there was one: its number and its rows.
     pub fn last_cycle(&self) -> Option<CycleLook<'_>>
         ensures { option_map cycle_told result ≡ last_cycle_of self.now.history }
     {
-        self.history.last_cycle()
+        self.banked.last_cycle()
     }
 }

@@ -1,5 +1,5 @@
 -- The machines of a legal history are kept, and the entries with which it begins are a legal one.
-use Rattle.std.specs.Prelude.{◌≡◌, ℕ, ◌+◌, List, [], ◌∷◌, ◌++◌, length, refl}
+use Rattle.std.specs.Prelude.{◌≡◌, ℕ, ◌+◌, List, [], ◌∷◌, ◌++◌, length}
 use Rattle.std.proofs.Common.{arith}
 use Rattle.motion_history.proofs.HistoryLemmas.{cycles_of-append}
 use Rattle.motion_history.specs.Entries.{Entry, call, cycle, cycle_count, end_of}
@@ -10,12 +10,6 @@ use Rattle.motion_kernel.specs.Histories.{Follows, IsLegal, after, inputs_of, re
 use Rattle.motion_kernel.specs.Machine.{Machine, machine_at_opening}
 use Rattle.motion_kernel.specs.kept.Machine.{AreWhole, IsMachineKept}
 use Rattle.motion_kernel.proofs.kept.Machine.{MachinesStayKept, kept_by_cycle}
-
--- the replay of some entries, one after others
-pub replay_append : (s : Setup) (m : Machine) (es fs : List Entry) → replay s m
-    (es ++ fs) ≡ replay s (replay s m es) fs
-replay_append s m [] fs = refl
-replay_append s m (e ∷ es) fs = replay_append s (after s m e) es fs
 
 -- a machine is kept by the entries of its history
 pub replay_kept : MachinesStayKept → (s : Setup) (cycles : ℕ) (m : Machine) (es : List Entry) → AreWhole s → IsMachineKept s m → Follows s cycles m es →

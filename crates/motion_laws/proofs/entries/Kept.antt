@@ -19,7 +19,8 @@ use Rattle.motion_laws.specs.owners.Shown.{AreWhereShown, ShowsCommand}
 use Rattle.motion_laws.specs.entries.Refusals.{IsRefusalNumber, IsRefused, machine_refused}
 use Rattle.motion_laws.specs.entries.Replies.{IsReplyOf}
 use Rattle.motion_laws.specs.entries.Rows.{RowsShow}
-use Rattle.motion_laws.proofs.Histories.{replay_append, legal_so_far}
+use Rattle.motion_kernel.proofs.Banks.{replay_append}
+use Rattle.motion_laws.proofs.Histories.{legal_so_far}
 
 -- the laws of entries
 pub record EntryLaws : Type 0 where

@@ -26,7 +26,7 @@ use Rattle.motion_laws.specs.owners.Objects.{object_of}
 use Rattle.motion_laws.specs.results.Comes.{AreNoEdges, ComesOf}
 use Rattle.motion_laws.specs.results.Outcomes.{IsOutcome, answer_in, begins_command, end_answered, end_by_edge, end_of_command, finish_in, progress_answered, progress_at, progress_beside, progress_by, progress_by_call, progress_by_edge, progress_in}
 use Rattle.motion_laws.specs.results.Results.{Tells, is_rising, takes_away}
-use Rattle.motion_laws.proofs.Histories.{replay_append}
+use Rattle.motion_kernel.proofs.Banks.{replay_append}
 
 -- an end that a call's answer is, or that was there before the call
 pub data Origin (now before : Type 0) : Type 0 where

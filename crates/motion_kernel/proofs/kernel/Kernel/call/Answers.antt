@@ -1,48 +1,42 @@
--- A call is one more entry.
+-- A call is one more entry, and its task is heard.
 use Rattle.std.specs.Option.{IsSomeAnd}
-use Rattle.std.proofs.Common.{◌≡◌, slice_get, sym, arith, subst, length, ◌<◌}
-use Rattle.std.specs.Prelude.{refl}
-use Rattle.motion_history.specs.Calls.{IsCall}
+use Rattle.std.proofs.Common.{◌≡◌, ◌∙◌, ap, slice_get, sym, subst, ◌++◌, ◌∷◌, []}
 use Rattle.motion_history.specs.Entries.{call}
-use Rattle.motion_kernel.specs.KernelState.{KernelState, room_of}
-use Rattle.motion_kernel.specs.kept.Machine.{IsMachineKept}
-use Rattle.motion_kernel.specs.Seen.{machine_of}
-use Rattle.motion_kernel.proofs.kept.Kernel.{has_room, kernel_more}
+use Rattle.motion_kernel.specs.Banks.{BankedState}
+use Rattle.motion_kernel.specs.calls.Calls.{reply_of}
+use Rattle.motion_kernel.specs.KernelState.{KernelState, state_of}
+use Rattle.motion_kernel.specs.Machine.{Machine}
+use Rattle.motion_kernel.proofs.kept.Kernel.{kernel_next, same_machine}
 use Rattle.motion_kernel.proofs.Marked.{marked_by_task, task_fits}
 use Rattle.motion_kernel.proofs.kernel.Kernel.call.Goals as goal
 
-pub call_block-reply-requires-clause-may : goal.call_block-reply-requires-clause-may
-call_block-reply-requires-clause-may c b at =
-    let k = c.self.inside in
-    let is : IsCall k.layout c.args.instance c.args.inputs.now = subst (λ (x : KernelState). IsCall x.config c.args.instance c.args.inputs.now) (sym c.self.view_is) c.requires.call in
-    c.machines_stay_kept.ensures.may_call k.layout c.args.instance b c.args.inputs.now (machine_of k.parts) c.self.invariant.whole at is c.self.invariant.machine
-
-pub call_block-reply-requires-clause-still : goal.call_block-reply-requires-clause-still
-call_block-reply-requires-clause-still c =
-    let k = c.self.inside in
-    let is : IsCall k.layout c.args.instance c.args.inputs.now = subst (λ (x : KernelState). IsCall x.config c.args.instance c.args.inputs.now) (sym c.self.view_is) c.requires.call in
-    (c.machines_stay_kept.ensures.called k.layout c.args.instance c.args.inputs.now (machine_of k.parts) c.self.invariant.whole is c.self.invariant.machine).sized
+pub hear-requires : goal.hear-requires
+hear-requires c =
+    let s = c.self.inside.banked.config in
+    let task : IsSomeAnd (slice_get s.blocks c.args.instance) (λ b. b.task ≡ c.args.task) =
+    subst (λ (x : KernelState). IsSomeAnd (slice_get x.config.blocks c.args.instance) (λ b. b.task ≡ c.args.task)) (sym c.self.view_is) c.requires.task in
+    task_fits s c.args.instance c.args.task c.configurations_are_sound.ensures c.history.ensures.setup task
 
 pub invariant_of-self : goal.invariant_of-self
 invariant_of-self c =
     let k = c.self.inside in
-    let s = k.layout in
-    let m = machine_of k.parts in
+    let s = k.banked.config in
     let i = c.args.inputs.now in
-    let is : IsCall s c.args.instance i = subst (λ (x : KernelState). IsCall x.config c.args.instance i) (sym c.self.view_is) c.requires.call in
-    let room = has_room k (subst (λ (x : KernelState). length x.history < room_of x) (sym c.self.view_is) c.requires.room) in
     let task : IsSomeAnd (slice_get s.blocks c.args.instance) (λ b. b.task ≡ c.args.task) =
     subst (λ (x : KernelState). IsSomeAnd (slice_get x.config.blocks c.args.instance) (λ b. b.task ≡ c.args.task)) (sym c.self.view_is) c.requires.task in
-    let few = task_fits s c.args.instance c.args.task c.configurations_are_sound.ensures c.self.invariant.machine.sized.setup task in
-    let kept = c.machines_stay_kept.ensures.call s m c.args.instance i c.self.invariant.whole is c.self.invariant.machine in
-    kernel_more c.cycles_add_up.ensures.more k (record k { parts = c.call_block-reply.new.parts; history = c.record_call.new.self; tasks = c.hear.new.self }) (call c.args.instance i c.call_block-reply.result)
-    c.self.invariant refl c.record_call.ensures c.self.invariant.places c.call_block-reply.ensures.after (is, c.call_block-reply.ensures.reply)
-    (subst (IsMachineKept s) (sym c.call_block-reply.ensures.after) kept)
-    (marked_by_task s k.history.entries k.tasks.marks c.hear.new.self.marks c.args.instance i c.call_block-reply.result c.args.task c.self.invariant.tasks task few c.hear.ensures) room (let h = c.self.invariant.legal.cycles in omega arith)
+    let few = task_fits s c.args.instance c.args.task c.configurations_are_sound.ensures c.history.ensures.setup task in
+    kernel_next k (record k { banked = c.call-reply.new.self; tasks = c.hear.new.self }) (call c.args.instance i c.call-reply.result) c.self.invariant c.call-reply.ensures.after
+    (marked_by_task s k.banked.history k.tasks.marks c.hear.new.self.marks c.args.instance i c.call-reply.result c.args.task c.self.invariant.tasks task few c.hear.ensures)
 
-pub hear-requires : goal.hear-requires
-hear-requires c =
-    let s = c.self.inside.layout in
-    let task : IsSomeAnd (slice_get s.blocks c.args.instance) (λ b. b.task ≡ c.args.task) =
-    subst (λ (x : KernelState). IsSomeAnd (slice_get x.config.blocks c.args.instance) (λ b. b.task ≡ c.args.task)) (sym c.self.view_is) c.requires.task in
-    task_fits s c.args.instance c.args.task c.configurations_are_sound.ensures c.self.invariant.machine.sized.setup task
+pub returns-clause-reply : goal.returns-clause-reply
+returns-clause-reply c =
+    let k = c.self.inside in
+    c.call-reply.ensures.reply
+    ∙ ap (λ (m : Machine). reply_of k.banked.config m c.args.instance c.args.inputs.now) (same_machine k c.self.invariant)
+    ∙ ap (λ (x : KernelState). reply_of x.config (state_of x) c.args.instance c.args.inputs.now) c.self.view_is
+
+pub returns-clause-after : goal.returns-clause-after
+returns-clause-after c =
+    let k = c.self.inside in
+    ap (λ (b : BankedState). let x : KernelState = record { config = b.config; history = b.history; stopped = k.stopped } in x) c.call-reply.ensures.after
+    ∙ ap (λ (x : KernelState). record x { history = x.history ++ call c.args.instance c.args.inputs.now c.call-reply.result ∷ [] }) c.self.view_is

@@ -1,66 +1,45 @@
--- A cycle is one more entry.
-use Rattle.std.proofs.Common.{◌≡◌, ◌∙◌, ap, sym, arith, subst, length, ◌<◌, ◌+◌, ◌++◌, ◌∷◌, []}
+-- A cycle is one more entry, and no task has made an entry since.
+use Rattle.std.proofs.Common.{◌∙◌, ap, ◌+◌, ◌++◌, ◌∷◌, [], map}
 use Rattle.std.specs.Prelude.{refl}
-use Rattle.motion_history.specs.Entries.{HistoryState, cycle, cycles_of}
+use Rattle.axis_state.specs.declared.definition.AxisRow.{AxisRow}
+use Rattle.motion_history.specs.Entries.{cycle, cycles_of}
+use Rattle.motion_kernel.specs.Banks.{BankedState, machine_now}
 use Rattle.motion_kernel.specs.cycles.Cycles.{cycled}
-use Rattle.motion_kernel.specs.looks.DriveAnswers.{no_answer}
-use Rattle.motion_kernel.specs.Histories.{after}
-use Rattle.motion_kernel.specs.KernelState.{KernelState, room_of}
-use Rattle.motion_kernel.specs.kept.Machine.{IsMachineKept}
-use Rattle.motion_kernel.specs.Seen.{machine_of}
-use Rattle.motion_kernel.proofs.cycles.Entries.{after_is, is_cycle}
-use Rattle.motion_kernel.proofs.cycles.Rows.{grow_count, row_count, row_inputs}
-use Rattle.motion_kernel.proofs.kept.Kernel.{has_room, kernel_more}
+use Rattle.motion_kernel.specs.KernelState.{KernelState, state_of}
+use Rattle.motion_kernel.specs.Machine.{Machine}
+use Rattle.motion_kernel.proofs.kept.Kernel.{kernel_next, same_machine}
 use Rattle.motion_kernel.proofs.Marked.{marked_cycled}
 use Rattle.motion_kernel.proofs.kernel.Kernel.cycle.Goals as goal
-
-pub cycle_machine-requires-clause-step : goal.cycle_machine-requires-clause-step
-cycle_machine-requires-clause-step c =
-    let k = c.self.inside in
-    c.machines_stay_kept.ensures.may_step k.layout (machine_of k.parts) c.args.ins.now c.self.invariant.machine
-
-pub cycle_machine-requires-clause-go_on : goal.cycle_machine-requires-clause-go_on
-cycle_machine-requires-clause-go_on c =
-    let k = c.self.inside in
-    c.machines_stay_kept.ensures.may_go_on k.layout (machine_of k.parts) c.args.ins.now c.self.invariant.machine
-
-pub cycle_machine-requires-clause-history : goal.cycle_machine-requires-clause-history
-cycle_machine-requires-clause-history c =
-    let k = c.self.inside in
-    let room = c.self.invariant.room in
-    let left : cycles_of k.history.entries < k.layout.cycles = subst (λ (x : KernelState). cycles_of x.history < x.config.cycles) (sym c.self.view_is) c.requires.cycle in
-    let cycles = room.cycles in
-    record { axes = room.axes; groups = room.groups; cycle = omega arith; rows = room.rows; group_rows = room.group_rows }
-
-pub record_cycle-requires-clause-groups : goal.record_cycle-requires-clause-groups
-record_cycle-requires-clause-groups c =
-    let k = c.self.inside in
-    rw c.cycle_machine.ensures.rows (grow_count k.layout (machine_of k.parts) c.args.ins.now ∙ c.self.invariant.machine.sized.groups ∙ sym c.self.invariant.room.groups)
 
 pub invariant_of-self : goal.invariant_of-self
 invariant_of-self c =
     let k = c.self.inside in
-    let s = k.layout in
-    let m = machine_of k.parts in
+    let s = k.banked.config in
+    let m = machine_now k.banked in
     let ins = c.args.ins.now in
-    let n = cycles_of k.history.entries in
-    let v = c.self.view_is in
-    let room = has_room k (subst (λ (x : KernelState). length x.history < room_of x) (sym v) c.requires.room) in
-    let left : n < s.cycles = subst (λ (x : KernelState). cycles_of x.history < x.config.cycles) (sym v) c.requires.cycle in
-    let answers : length ins ≡ length s.axes = subst (λ (x : KernelState). length ins ≡ length x.config.axes) (sym v) c.requires.ins in
-    let long : length ins ≡ length m.axes = answers ∙ sym c.self.invariant.machine.sized.axes in
-    let shown = row_inputs s m ins long in
-    let counted = c.counts_have_32_bits.ensures in
-    let e = cycle (n + 1) (cycled s m ins).axes (cycled s m ins).groups in
-    let history = c.record_cycle.ensures
-    ∙ ap (λ (h : HistoryState). record h { entries = h.entries ++ cycle (cycles_of h.entries + 1) h.rows h.group_rows ∷ []; rows = []; group_rows = [] }) c.cycle_machine.ensures.rows
-    ∙ (λ i. record k.history {
-      entries = k.history.entries ++ cycle (n + 1) (cycled s m ins).axes (cycled s m ins).groups ∷ [];
-      rows = sym c.self.invariant.room.rows i;
-      group_rows = sym c.self.invariant.room.group_rows i;
-    }) in
-    let step : machine_of c.cycle_machine.new.parts ≡ after s m e = c.cycle_machine.ensures.after ∙ sym (after_is s m ins (n + 1) shown) in
-    let kept = c.machines_stay_kept.ensures.cycle s m ins c.self.invariant.machine (λ j l. counted j no_answer (omega arith)) in
-    kernel_more c.cycles_add_up.ensures.more k (record k { parts = c.cycle_machine.new.parts; aside = c.cycle_machine.new.aside; history = c.record_cycle.new.self; tasks = c.cycle.new.self }) e c.self.invariant refl
-    history c.cycle_machine.ensures.places step (refl, is_cycle s m ins shown (row_count s m ins) counted) (subst (IsMachineKept s) (sym c.cycle_machine.ensures.after) kept)
-    (marked_cycled s k.history.entries k.tasks.marks c.cycle.new.self.marks e c.self.invariant.tasks refl (λ t. refl) c.cycle.ensures) room (omega arith)
+    let e = cycle (cycles_of k.banked.history + 1) (cycled s m ins).axes (cycled s m ins).groups in
+    kernel_next k (record k { banked = c.cycle.new.self; tasks = c.cycle-2.new.self }) e c.self.invariant c.cycle.ensures.after
+    (marked_cycled s k.banked.history k.tasks.marks c.cycle-2.new.self.marks e c.self.invariant.tasks refl (λ t. refl) c.cycle-2.ensures)
+
+pub returns-clause-outs : goal.returns-clause-outs
+returns-clause-outs c =
+    let k = c.self.inside in
+    let ins = c.args.ins.now in
+    c.cycle.ensures.outs
+    ∙ ap (λ (m : Machine). map (λ (r : AxisRow). r.output) (cycled k.banked.config m ins).axes) (same_machine k c.self.invariant)
+    ∙ ap (λ (x : KernelState). map (λ (r : AxisRow). r.output) (cycled x.config (state_of x) ins).axes) c.self.view_is
+
+pub returns-clause-after : goal.returns-clause-after
+returns-clause-after c =
+    let k = c.self.inside in
+    let ins = c.args.ins.now in
+    let n = cycles_of k.banked.history + 1 in
+    ap (λ (b : BankedState). let x : KernelState = record { config = b.config; history = b.history; stopped = k.stopped } in x) c.cycle.ensures.after
+    ∙ ap (λ (m : Machine). let x : KernelState = record {
+      config = k.banked.config;
+      history = k.banked.history ++ cycle n (cycled k.banked.config m ins).axes (cycled k.banked.config m ins).groups ∷ [];
+      stopped = k.stopped;
+    } in x) (same_machine k c.self.invariant)
+    ∙ ap (λ (x : KernelState). record x {
+      history = x.history ++ cycle (cycles_of x.history + 1) (cycled x.config (state_of x) ins).axes (cycled x.config (state_of x) ins).groups ∷ [];
+    }) c.self.view_is

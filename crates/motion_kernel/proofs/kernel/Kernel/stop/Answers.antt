@@ -2,12 +2,4 @@
 use Rattle.motion_kernel.proofs.kernel.Kernel.stop.Goals as goal
 
 pub invariant_of-self : goal.invariant_of-self
-invariant_of-self c = record {
-  replayed = c.self.invariant.replayed;
-  legal = c.self.invariant.legal;
-  machine = c.self.invariant.machine;
-  whole = c.self.invariant.whole;
-  room = c.self.invariant.room;
-  places = c.self.invariant.places;
-  tasks = c.self.invariant.tasks;
-}
+invariant_of-self c = record { opened = c.self.invariant.opened; tasks = c.self.invariant.tasks }

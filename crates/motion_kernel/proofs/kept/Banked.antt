@@ -1,0 +1,95 @@
+-- What a kernel whose history is in banks keeps: at opening, with one more entry, and with an empty bank.
+use Rattle.std.specs.Prelude.{◌≡◌, refl, ℕ, ◌+◌, ◌<◌, ◌≤◌, List, [], ◌∷◌, ◌++◌, length}
+use Rattle.std.proofs.Common.{arith, ap, sym, subst, ◌∙◌}
+use Rattle.std.proofs.lemmas.List.{length_push}
+use Rattle.motion_history.specs.Entries.{CyclesAddUp, Entry, HistoryState, cycle_count, cycles_of}
+use Rattle.motion_history.specs.Setup.{Setup}
+use Rattle.motion_kernel.specs.Banks.{empty_history}
+use Rattle.motion_kernel.specs.cycles.Asides.{HasPlaces}
+use Rattle.motion_kernel.specs.Histories.{machine_from, Follows, IsLegalFrom, IsOf, after, replay}
+use Rattle.motion_kernel.specs.kept.Banked.{IsBankedKept}
+use Rattle.motion_kernel.specs.Machine.{Machine}
+use Rattle.motion_kernel.specs.kept.Machine.{AreWhole, IsMachineKept, IsSized}
+use Rattle.motion_kernel.specs.kept.Rooms.{HasRoom}
+use Rattle.motion_kernel.specs.Seen.{machine_of}
+use Rattle.motion_kernel.specs.declared.banked.BankedKernel.TheInside.{Inside}
+
+-- the replay of one entry more
+replay_more : (s : Setup) (m : Machine) (es : List Entry) (e : Entry) → replay s m (es ++ e ∷ []) ≡ after s (replay s m es) e
+replay_more s m [] e = refl
+replay_more s m (x ∷ xs) e = replay_more s (after s m x) xs e
+
+-- one entry more that is the machine's
+follows_more : (s : Setup) (n : ℕ) (m : Machine) (es : List Entry) (e : Entry) → Follows s n m es → IsOf s (n + cycles_of es) (replay s m es) e →
+    Follows s n m (es ++ e ∷ [])
+follows_more s n m [] e f o = (subst (λ k. IsOf s k m e) (omega arith) o, tt)
+follows_more s n m (x ∷ xs) e f o =
+    (f.0, follows_more s (n + cycle_count x) (after s m x) xs e f.1 (subst (λ k. IsOf s k (replay s (after s m x) xs) e) (omega arith) o))
+
+-- a history with one entry more is legal
+legal_more : CyclesAddUp → (s : Setup) (m : Machine) (es : List Entry) (e : Entry) → IsLegalFrom s m es → IsOf s (cycles_of es) (replay s m es) e →
+    length es < s.entries → cycles_of es + cycle_count e ≤ s.cycles → IsLegalFrom s m (es ++ e ∷ [])
+legal_more add s m es e legal is room cycles = record {
+  entries = let l = length_push es e in omega (arith, l);
+  cycles = let a = add es e in omega (arith, a);
+  follows = follows_more s 0 m es e legal.follows (subst (λ k. IsOf s k (replay s m es) e) (omega arith) is);
+}
+
+-- an empty history has its room
+pub empty_room : (s : Setup) (h : HistoryState) → h ≡ empty_history s → HasRoom s h
+empty_room s h e = record {
+  axes = ap (λ (h : HistoryState). h.axes) e;
+  groups = ap (λ (h : HistoryState). h.groups) e;
+  room = ap (λ (h : HistoryState). h.room) e;
+  cycles = ap (λ (h : HistoryState). h.cycles) e;
+  rows = ap (λ (h : HistoryState). h.rows) e;
+  group_rows = ap (λ (h : HistoryState). h.group_rows) e;
+}
+
+-- a kernel whose bank has no entry yet
+pub banked_begun : (k : Inside) → machine_of k.parts ≡ k.bank.start → k.bank.history ≡ empty_history k.layout → IsMachineKept k.layout (machine_of k.parts) →
+    IsSized k.layout k.bank.start → AreWhole k.layout → HasPlaces k.layout k.aside → IsBankedKept k
+unfolding machine_from
+banked_begun k machine history kept sized whole places =
+    let none : k.bank.history.entries ≡ [] = ap (λ (h : HistoryState). h.entries) history in
+    record {
+      replayed = machine ∙ ap (replay k.layout k.bank.start) (sym none);
+      legal = rw none (record { entries = omega arith; cycles = omega arith; follows = tt });
+      machine = kept;
+      start = sized;
+      whole = whole;
+      room = empty_room k.layout k.bank.history history;
+      places = places;
+    }
+
+-- a kernel with one more entry
+pub banked_more : CyclesAddUp → (k next : Inside) (e : Entry) → IsBankedKept k → next.layout ≡ k.layout → next.bank.start ≡ k.bank.start →
+    next.bank.history ≡ record k.bank.history { entries = k.bank.history.entries ++ e ∷ [] } → HasPlaces k.layout next.aside →
+    machine_of next.parts ≡ after k.layout (machine_of k.parts) e → IsOf k.layout (cycles_of k.bank.history.entries) (machine_of k.parts) e →
+    IsMachineKept k.layout (machine_of next.parts) →
+    length k.bank.history.entries < k.layout.entries → cycles_of k.bank.history.entries + cycle_count e ≤ k.layout.cycles → IsBankedKept next
+unfolding machine_from
+banked_more add k next e kept layout start history places step is machine room cycles =
+    let s = k.layout in
+    let m = k.bank.start in
+    let es = k.bank.history.entries in
+    let entries : next.bank.history.entries ≡ es ++ e ∷ [] = ap (λ (h : HistoryState). h.entries) history in
+    let here : IsOf s (cycles_of es) (replay s m es) e = subst (λ n. IsOf s (cycles_of es) n e) kept.replayed is in
+    let replayed : machine_of next.parts ≡ replay s m (es ++ e ∷ []) = step ∙ ap (λ n. after s n e) kept.replayed ∙ sym (replay_more s m es e) in
+    let legal = legal_more add s m es e kept.legal here room cycles in
+    record {
+      replayed = replayed ∙ (λ i. replay (sym layout i) (sym start i) (sym entries i));
+      legal = rw (entries, layout, start) legal;
+      machine = rw layout machine;
+      start = rw (layout, start) kept.start;
+      whole = rw layout kept.whole;
+      room = record {
+        axes = ap (λ (h : HistoryState). h.axes) history ∙ kept.room.axes ∙ ap (λ (x : Setup). length x.axes) (sym layout);
+        groups = ap (λ (h : HistoryState). h.groups) history ∙ kept.room.groups ∙ ap (λ (x : Setup). length x.groups) (sym layout);
+        room = ap (λ (h : HistoryState). h.room) history ∙ kept.room.room ∙ ap (λ (x : Setup). x.entries) (sym layout);
+        cycles = ap (λ (h : HistoryState). h.cycles) history ∙ kept.room.cycles ∙ ap (λ (x : Setup). x.cycles) (sym layout);
+        rows = ap (λ (h : HistoryState). h.rows) history ∙ kept.room.rows;
+        group_rows = ap (λ (h : HistoryState). h.group_rows) history ∙ kept.room.group_rows;
+      };
+      places = rw layout places;
+    }

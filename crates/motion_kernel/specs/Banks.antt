@@ -1,0 +1,85 @@
+-- A history in banks: the kernel holds the last one, which begins with the machine that those before
+-- it lead to. This project's profile.
+use Rattle.std.specs.Prelude.{◌≡◌, ℕ, ◌+◌, ◌<◌, ◌^◌, List, [], length, map}
+use Rattle.motion_history.specs.Entries.{Entry, HistoryState, call, cycle, cycles_of, end_of}
+use Rattle.motion_history.specs.Setup.{Setup}
+use Rattle.motion_kernel.specs.Histories.{machine_from}
+use Rattle.motion_kernel.specs.Machine.{Machine, machine_at_opening}
+use Rattle.motion_kernel.specs.declared.bank.Bank.{Bank}
+use Rattle.motion_kernel.specs.declared.bank.Before.{Before}
+use Rattle.motion_kernel.specs.kept.Machine.{IsSized}
+
+-- nothing was before
+abbrev pub nothing_before : Before
+nothing_before = record { banks = 0; entries = 0; cycles = 0 }
+
+-- a kernel whose history is in banks: its configuration, what was before the last bank, the machine
+-- with which that begins, and its entries
+pub record BankedState : Type 0 where
+  pub config : Setup
+  pub before : Before
+  pub start : Machine
+  pub history : List Entry
+
+-- such a kernel at opening
+abbrev pub at_opening : Setup → BankedState
+at_opening s = record {
+  config = s;
+  before = nothing_before;
+  start = machine_at_opening s;
+  history = [];
+}
+
+-- the machine that it is: the replay of its bank from where that begins
+abbrev pub machine_now : BankedState → Machine
+machine_now k = machine_from k.config k.start k.history
+
+-- what is before the next bank
+abbrev pub after_bank : BankedState → Before
+after_bank k = record {
+  banks = k.before.banks + 1;
+  entries = k.before.entries + length k.history;
+  cycles = k.before.cycles + cycles_of k.history;
+}
+
+-- so little was before that more can be counted
+pub record IsEarly (b : Before) : Type 0 where
+  pub banks : b.banks < 2 ^ 63
+  pub entries : b.entries < 2 ^ 63
+  pub cycles : b.cycles < 2 ^ 63
+
+-- an empty history with the whole room of a configuration
+abbrev pub empty_history : Setup → HistoryState
+empty_history s = record {
+  axes = length s.axes;
+  groups = length s.groups;
+  room = s.entries;
+  cycles = s.cycles;
+  entries = [];
+  rows = [];
+  group_rows = [];
+}
+
+-- a bank may be taken by a kernel of a configuration: it is empty, and has room for its machine
+pub record IsSpare (s : Setup) (b : Bank) : Type 0 where
+  pub start : IsSized s b.start
+  pub history : b.history ≡ empty_history s
+
+-- a bank is the one that a kernel held, and a spare one again once its history is cleared
+pub record IsHeldBank (k : BankedState) (b : Bank) : Type 0 where
+  pub before : b.before ≡ k.before
+  pub start : b.start ≡ k.start
+  pub entries : b.history.entries ≡ k.history
+  pub cleared : IsSpare k.config (record b {
+    history = record b.history { entries = []; rows = []; group_rows = [] };
+  })
+
+-- an entry whose cycle is counted on behind so many
+abbrev pub numbered_on : ℕ → Entry → Entry
+numbered_on n (call k inputs reply) = call k inputs reply
+numbered_on n (cycle number rows grows) = cycle (n + number) rows grows
+numbered_on n (end_of task) = end_of task
+
+-- the entries of a bank, its cycles counted on behind those of the banks before it
+unfoldable pub counted_on : ℕ → List Entry → List Entry
+counted_on n es = map (numbered_on n) es

@@ -1,0 +1,30 @@
+-- How a kernel is kept whose history is in banks: the machine's parts beside the bank of which they
+-- are the replay.
+use Rattle.std.specs.Prelude.{◌≡◌}
+use Rattle.motion_kernel.specs.Banks.{BankedState, machine_now}
+use Rattle.motion_kernel.specs.cycles.Asides.{HasPlaces}
+use Rattle.motion_kernel.specs.Histories.{IsLegalFrom}
+use Rattle.motion_kernel.specs.kept.Machine.{AreWhole, IsMachineKept, IsSized}
+use Rattle.motion_kernel.specs.kept.Rooms.{HasRoom}
+use Rattle.motion_kernel.specs.Seen.{machine_of}
+use Rattle.motion_kernel.specs.declared.banked.BankedKernel.TheInside.{Inside}
+
+-- what contracts see of a kernel that is kept so
+abbrev pub seen_of : Inside → BankedState
+seen_of k = record {
+  config = k.layout;
+  before = k.bank.before;
+  start = k.bank.start;
+  history = k.bank.history.entries;
+}
+
+-- the parts are those of the machine that the bank leads to, the bank is legal and has its room, and
+-- there is a place for each axis and each group
+pub record IsBankedKept (k : Inside) : Type 0 where
+  pub replayed : machine_of k.parts ≡ machine_now (seen_of k)
+  pub legal : IsLegalFrom k.layout k.bank.start k.bank.history.entries
+  pub machine : IsMachineKept k.layout (machine_of k.parts)
+  pub start : IsSized k.layout k.bank.start
+  pub whole : AreWhole k.layout
+  pub room : HasRoom k.layout k.bank.history
+  pub places : HasPlaces k.layout k.aside

@@ -1,0 +1,249 @@
+// The kernel whose history is in banks: its state is the replay of the last one from where that
+// begins.
+
+ghost use Rattle.std.specs.Prelude.{◌≡◌, ◌↔◌, ◌<◌, ◌≤◌, ◌+◌, ◌-◌, ◌^◌, ◌++◌, ◌∷◌, [], length, map, IfOk, IsTrue, All};
+ghost use Rattle.std.specs.Option.{option_map};
+ghost use Rattle.axis_state.specs.declared.definition.AxisRow.{AxisRow};
+ghost use Rattle.cia402_machine.specs.declared.drive.DriveIn.{DriveIn};
+ghost use Rattle.motion_history.specs.Bits.{HasBits};
+ghost use Rattle.motion_history.specs.Calls.{IsCall};
+ghost use Rattle.motion_history.specs.Entries.{call, cycle, end_of, cycles_of};
+ghost use Rattle.motion_history.specs.LastCycles.{cycle_told, last_cycle_of};
+ghost use Rattle.motion_history.specs.Setup.{IsSetup};
+ghost use Rattle.motion_kernel.specs.Banks.{IsEarly, IsSpare, after_bank, at_opening, IsHeldBank, machine_now};
+ghost use Rattle.motion_kernel.specs.calls.Calls.{reply_of};
+ghost use Rattle.motion_kernel.specs.cycles.Cycles.{cycled};
+ghost use Rattle.motion_kernel.specs.Histories.{IsLegalFrom};
+ghost use Rattle.motion_kernel.specs.kept.Machine.{AreWhole};
+
+use crate::bank::{Bank, Before, NOTHING_BEFORE};
+use crate::block_calls::call_block;
+use crate::drive_answers::counts_have_32_bits;
+use crate::laws::machines_stay_kept;
+use crate::layout::Layout;
+use crate::machine_cycle::{Aside, cycle_machine};
+use crate::opening::open_parts;
+use crate::parts::Parts;
+use crate::start::Start;
+use cia402_machine::{DriveIn, DriveOut};
+use fb_outputs::{Inputs, Outputs};
+use motion_history::{
+    Config, CycleLook, History, OutOfMemory, configurations_are_sound, cycles_add_up,
+};
+use std::alloc::Global;
+use std::marker::Model;
+use std::mem::swap;
+
+/// A kernel whose history is in banks, of which it holds the last one: a full bank is given out for
+/// an empty one, and the kernel goes on. Contracts see it as its configuration, what was before the
+/// bank, the machine with which the bank begins, and the bank's entries.
+#[derive(Drop)]
+pub struct BankedKernel {
+    layout: Layout,
+    parts: Parts,
+    aside: Aside,
+    bank: Bank,
+}
+
+impl Model for BankedKernel {
+    ghost use Rattle.motion_kernel.specs.Banks.{BankedState};
+    ghost use Rattle.motion_kernel.specs.kept.Banked.{seen_of, IsBankedKept};
+
+    ghost Value = { BankedState };
+
+    ghost view = { seen_of };
+
+    ghost invariant = { IsBankedKept };
+}
+
+impl BankedKernel {
+    /// A kernel at rest, with the whole room of its first bank reserved.
+    pub fn open(alloc: Global, config: Config) -> Result<BankedKernel, OutOfMemory>
+        ensures { IfOk result (λ k. k ≡ at_opening config) }
+    {
+        // law: what always holds of a machine holds at opening
+        machines_stay_kept();
+        let layout = Layout::open(alloc, config)?;
+        let parts = open_parts(alloc, &layout)?;
+        let aside = Aside::open(alloc, &layout)?;
+        let bank = Bank {
+            before: NOTHING_BEFORE,
+            start: Start::open(alloc, &layout)?,
+            history: History::open(alloc, layout.config())?,
+        };
+        Ok(BankedKernel {
+            layout,
+            parts,
+            aside,
+            bank,
+        })
+    }
+
+    /// An empty bank for `swap`, with its whole room reserved.
+    pub fn spare(&self, alloc: Global) -> Result<Bank, OutOfMemory>
+        ensures { IfOk result (IsSpare self.now.config) }
+    {
+        machines_stay_kept();
+        Ok(Bank {
+            before: NOTHING_BEFORE,
+            start: Start::open(alloc, &self.layout)?,
+            history: History::open(alloc, self.layout.config())?,
+        })
+    }
+
+    /// Whether a bank may be given out: no more than 2^63 entries were before it, which lasts for
+    /// longer than a machine does.
+    pub fn may_swap(&self) -> bool
+        ensures { IsTrue result ↔ IsEarly self.now.before }
+    {
+        self.bank.before.is_early()
+    }
+
+    /// Gives the bank out for an empty one, and goes on. It takes no memory, and as long whatever
+    /// the bank holds.
+    pub fn swap(&mut self, spare: &mut Bank)
+        requires early { IsEarly self.old.before }
+        requires spare { IsSpare self.old.config spare.old }
+        ensures kernel { self.new ≡ record self.old {
+          before = after_bank self.old;
+          start = machine_now self.old;
+          history = [];
+        } }
+        ensures bank { IsHeldBank self.old spare.new }
+    {
+        spare.before = Before {
+            banks: self.bank.before.banks + 1,
+            entries: self.bank.before.entries + self.bank.history.entries(),
+            cycles: self.bank.before.cycles + u64::from(self.cycles_made()),
+        };
+        spare.start.copy_from(&self.parts);
+        swap(&mut self.bank, spare);
+    }
+
+    /// Touches the memory of the bank's whole room, so that no call and no cycle pays for its
+    /// pages.
+    pub fn touch(&mut self)
+        ensures { self.new ≡ self.old }
+    {
+        self.bank.history.touch();
+    }
+
+    /// Calls a block, and answers its outputs.
+    pub fn call(&mut self, instance: u16, inputs: &Inputs) -> Outputs
+        requires room { length self.old.history < self.old.config.entries }
+        requires call { IsCall self.old.config instance inputs.now }
+        ensures reply { result ≡ reply_of self.old.config (machine_now self.old) instance
+            inputs.now }
+        ensures after { self.new ≡ record self.old {
+          history = self.old.history ++ call instance inputs.now result ∷ [];
+        } }
+    {
+        // law: it holds after a call
+        cycles_add_up();
+        machines_stay_kept();
+        configurations_are_sound();
+        let reply = call_block(instance, inputs, &self.layout, &mut self.parts);
+        self.bank.history.record_call(instance, inputs, &reply);
+        reply
+    }
+
+    /// Goes through a cycle with the drives' answers, and gives each drive its controlword, mode
+    /// and target.
+    pub fn cycle(&mut self, ins: &[DriveIn], outs: &mut [DriveOut])
+        requires room { length self.old.history < self.old.config.entries }
+        requires cycle { cycles_of self.old.history < self.old.config.cycles }
+        requires ins { length ins.now ≡ length self.old.config.axes }
+        requires outs { length outs.old ≡ length self.old.config.axes }
+        ensures outs { outs.new ≡ map (λ (r : AxisRow). r.output) (cycled self.old.config
+            (machine_now self.old) ins.now).axes }
+        ensures after { self.new ≡ record self.old {
+          history = self.old.history ++
+              cycle (cycles_of self.old.history + 1) (cycled self.old.config
+              (machine_now self.old) ins.now).axes
+              (cycled self.old.config (machine_now self.old) ins.now).groups ∷ [];
+        } }
+    {
+        // law: it holds after a cycle, since the counts have 32 bits
+        cycles_add_up();
+        machines_stay_kept();
+        counts_have_32_bits(ins);
+        let history = &mut self.bank.history;
+        cycle_machine(
+            ins,
+            &self.layout,
+            &mut self.parts,
+            &mut self.aside,
+            history,
+            outs,
+        );
+        self.bank.history.record_cycle();
+    }
+
+    /// Ends a task. A second end of a task makes an entry and changes nothing else.
+    pub fn end(&mut self, task: u8)
+        requires room { length self.old.history < self.old.config.entries }
+        requires task { task < length self.old.config.tasks }
+        ensures { self.new ≡ record self.old { history = self.old.history ++ end_of task ∷ [] } }
+    {
+        // law: the cycles of a history add up
+        cycles_add_up();
+        self.bank.history.record_end(task);
+    }
+
+    /// The configuration.
+    pub fn config(&self) -> &Config
+        ensures { result.now ≡ self.now.config }
+    {
+        self.layout.config()
+    }
+
+    /// What was before the bank.
+    pub fn before(&self) -> Before
+        ensures { result ≡ self.now.before }
+    {
+        self.bank.before
+    }
+
+    /// How many entries more the bank has room for.
+    pub fn room_left(&self) -> u64
+        ensures { result ≡ self.now.config.entries - length self.now.history }
+    {
+        self.bank.history.room_left()
+    }
+
+    /// How many cycles more there may be in the bank.
+    pub fn cycles_left(&self) -> u32
+        ensures { result ≡ self.now.config.cycles - cycles_of self.now.history }
+    {
+        self.bank.history.cycles_left()
+    }
+
+    /// How many cycles were made in the bank, at most the configured number.
+    pub fn cycles_made(&self) -> u32
+        ensures cycles { result ≡ cycles_of self.now.history }
+        ensures few { result ≤ self.now.config.cycles }
+    {
+        let _ = self.history();
+        self.config().cycles() - self.cycles_left()
+    }
+
+    /// The bank's history so far: a legal one from where the bank begins, for a sound configuration
+    /// whose groups are whole. Its numbers have the bits of their types.
+    pub fn history(&self) -> &History
+        ensures entries { result.now.entries ≡ self.now.history }
+        ensures legal { IsLegalFrom self.now.config self.now.start self.now.history }
+        ensures setup { IsSetup self.now.config }
+        ensures whole { AreWhole self.now.config }
+        ensures bits { All HasBits self.now.history }
+    {
+        self.bank.history.has_bits();
+        &self.bank.history
+    }
+
+    /// The last cycle of the bank, if there was one: its number and its rows.
+    pub fn last_cycle(&self) -> Option<CycleLook<'_>>
+        ensures { option_map cycle_told result ≡ last_cycle_of self.now.history }
+    {
+        self.bank.history.last_cycle()
+    }
+}
