@@ -1,5 +1,5 @@
 -- Numbers of few digits, digit by digit.
-use Rattle.std.specs.Prelude.{◌≡◌, refl, ℕ, zero, suc, ◌+◌, ◌-◌, ◌*◌, ◌^◌, ◌<◌, ◌≤◌, ℤ, pos, neg_ℤ, Option, Some, None, IfSome, Bool, true, false, nat_lt, decimal, List, [], ◌∷◌, length, take, slice_index_or}
+use Rattle.std.specs.Prelude.{◌≡◌, refl, ℕ, zero, suc, ◌+◌, ◌-◌, ◌*◌, ◌^◌, ◌<◌, ◌≤◌, ℤ, pos, neg_ℤ, Option, Some, None, IfSome, nat_lt, decimal, List, [], ◌∷◌, length, take, slice_index_or}
 use Rattle.std.specs.Char.{digit_value}
 use Rattle.std.specs.Fmt.{signed_decimal}
 use Rattle.std.specs.Str.Parse.{AllDigits, digits_value}
@@ -17,7 +17,7 @@ own : IsNumeralModel (AllDigits 10) (digits_value 10)
 own = numerals_by_value (AllDigits 10) tells_digits
 
 -- the value of a digit
-digit-is : (c : ℕ) → 48 ≤ c → c ≤ 57 → digit_value c ≡ c - 48
+pub digit-is : (c : ℕ) → 48 ≤ c → c ≤ 57 → digit_value c ≡ c - 48
 digit-is c low high = rw (false_from_ne_true (nat_lt c 48) (λ h. let l = ltb-true c 48 h in omega (arith, l, low)), lt-ltb c 58 (omega (arith, high))) refl
 
 -- the digits so far, and their number

@@ -17,12 +17,16 @@ pub fn flag_text(flag: bool) -> &'static str
     if flag { "1" } else { "0" }
 }
 
+/// The hexadecimal digits, in small letters.
+static HEX_LETTERS: [u8; 16] = *b"0123456789abcdef";
+
 // A hexadecimal digit.
+#[inline]
 fn hex_digit(n: u8) -> u8
     requires { n < 16 }
     ensures { result ≡ spec.hex_digit n }
 {
-    if n < 10 { b'0' + n } else { b'a' - 10 + n }
+    HEX_LETTERS[n as usize]
 }
 
 /// The four hexadecimal digits of a word.

@@ -4,6 +4,7 @@
 //! is [`columns_are_read_back`].
 #![tactic(auto)]
 
+mod eight;
 mod fields;
 mod laws;
 mod number;

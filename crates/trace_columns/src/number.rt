@@ -1,13 +1,15 @@
 // The numbers of a trace, as a writer spells them.
 
-ghost use Rattle.std.specs.Prelude.{◌≡◌, ◌≤◌, ◌<◌, ◌-◌, ◌^◌, ◌≤ℤ◌, pos, neg_ℤ, unsigned_abs, IfSome, Some, true, length, decimal, slice_index_or};
+ghost use Rattle.std.specs.Prelude.{◌≡◌, ◌≤◌, ◌<◌, ◌-◌, ◌^◌, ◌≤ℤ◌, pos, neg_ℤ, unsigned_abs, IfSome, Some, true, length, decimal, take, slice_index_or};
 ghost use Rattle.std.specs.Fmt.{signed_decimal};
 ghost use Rattle.std.specs.List.{position};
 ghost use Rattle.std.specs.Option.{option_map};
 ghost use Rattle.std.specs.Str.{bytes_eq};
+ghost use Rattle.std.specs.Str.Parse.{AllDigits, digits_value};
 ghost use Rattle.line_text.specs.Numbers.{is_colon};
 ghost use Rattle.trace_columns.specs.Columns as spec;
 
+use crate::eight::eight_digits;
 use itoa::Buffer;
 use motion_numbers::MOST_NUMBER;
 use std::str;
@@ -26,6 +28,7 @@ pub fn wide_number_of(text: &[u8]) -> Option<i64>
 }
 
 // The number that a field of at most 18 digits is, behind a minus or not, as it is spelled.
+#[inline]
 fn short_number_of(text: &[u8]) -> Option<i64>
     ensures { IfSome result (λ z. Some z ≡ spec.wide_number_of text.now) }
 {
@@ -57,15 +60,33 @@ fn digits_of(text: &[u8]) -> Option<u64>
     if !may_be_digits(text) {
         return None;
     }
-    let mut number = 0u64;
-    for byte in text {
-        let digit = digit_of(*byte);
+    let (from, front) = first_digits(text)?;
+    let mut number = front;
+    for i in from..text.len() {
+        let digit = digit_of(text[i]);
         if digit > 9 {
             return None;
         }
         number = number * 10 + u64::from(digit);
     }
     Some(number)
+}
+
+// How many digits were read at once, the first eight or none, and the number that they are. There
+// is nothing where the first eight bytes are no digits.
+#[inline]
+fn first_digits(text: &[u8]) -> Option<(usize, u64)>
+    ensures within { IfSome result (λ r. r.0 ≤ length text.now) }
+    ensures digits { IfSome result (λ r. AllDigits 10 (take r.0 text.now)) }
+    ensures value { IfSome result (λ r. r.1 ≡ digits_value 10 (take r.0 text.now)) }
+{
+    match text {
+        [a, b, c, d, e, f, g, h, ..] => {
+            let front = eight_digits(*a, *b, *c, *d, *e, *f, *g, *h)?;
+            Some((8, front))
+        }
+        _ => Some((0, 0)),
+    }
 }
 
 // The digit that a byte is, or more than 9 where it is none.
@@ -90,6 +111,8 @@ fn may_be_digits(text: &[u8]) -> bool
 }
 
 // The number of 64 bits that a field is, of any spelling.
+#[cold]
+#[inline(never)]
 fn parsed_number_of(text: &[u8]) -> Option<i64>
     ensures { result ≡ spec.wide_number_of text.now }
 {

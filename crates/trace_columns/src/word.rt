@@ -1,6 +1,7 @@
 // The words and truth values of a trace.
 
-ghost use Rattle.std.specs.Prelude.{◌≡◌, ◌<◌, IfSome};
+ghost use Rattle.std.specs.Prelude.{◌≡◌, ◌≤◌, ◌∷◌, []};
+ghost use Rattle.std.specs.Option.{unwrap_or};
 ghost use Rattle.trace_columns.specs.Columns as spec;
 
 /// The truth value that a field is.
@@ -15,19 +16,47 @@ pub fn flag_of(text: &[u8]) -> Option<bool>
     }
 }
 
-// The value of a hexadecimal digit in small letters.
-#[tactic(auto, unfolding(crate::specs::Columns::hex_digit_of))]
-fn hex_digit_of(digit: u8) -> Option<u16>
-    ensures value { result ≡ spec.hex_digit_of digit }
-    ensures small { IfSome result (λ n. n < 16) }
+/// More than each word, for a byte that is no hexadecimal digit.
+const NONE: u32 = 65_536;
+
+/// The value of each byte as a hexadecimal digit in small letters.
+static HEX_DIGITS: [u32; 256] = [
+    NONE, NONE, NONE, NONE, NONE, NONE, NONE, NONE, NONE, NONE, NONE, NONE, NONE, NONE, NONE, NONE,
+    NONE, NONE, NONE, NONE, NONE, NONE, NONE, NONE, NONE, NONE, NONE, NONE, NONE, NONE, NONE, NONE,
+    NONE, NONE, NONE, NONE, NONE, NONE, NONE, NONE, NONE, NONE, NONE, NONE, NONE, NONE, NONE, NONE,
+    0, 1, 2, 3, 4, 5, 6, 7, 8, 9, NONE, NONE, NONE, NONE, NONE, NONE, NONE, NONE, NONE, NONE, NONE,
+    NONE, NONE, NONE, NONE, NONE, NONE, NONE, NONE, NONE, NONE, NONE, NONE, NONE, NONE, NONE, NONE,
+    NONE, NONE, NONE, NONE, NONE, NONE, NONE, NONE, NONE, NONE, NONE, NONE, 10, 11, 12, 13, 14, 15,
+    NONE, NONE, NONE, NONE, NONE, NONE, NONE, NONE, NONE, NONE, NONE, NONE, NONE, NONE, NONE, NONE,
+    NONE, NONE, NONE, NONE, NONE, NONE, NONE, NONE, NONE, NONE, NONE, NONE, NONE, NONE, NONE, NONE,
+    NONE, NONE, NONE, NONE, NONE, NONE, NONE, NONE, NONE, NONE, NONE, NONE, NONE, NONE, NONE, NONE,
+    NONE, NONE, NONE, NONE, NONE, NONE, NONE, NONE, NONE, NONE, NONE, NONE, NONE, NONE, NONE, NONE,
+    NONE, NONE, NONE, NONE, NONE, NONE, NONE, NONE, NONE, NONE, NONE, NONE, NONE, NONE, NONE, NONE,
+    NONE, NONE, NONE, NONE, NONE, NONE, NONE, NONE, NONE, NONE, NONE, NONE, NONE, NONE, NONE, NONE,
+    NONE, NONE, NONE, NONE, NONE, NONE, NONE, NONE, NONE, NONE, NONE, NONE, NONE, NONE, NONE, NONE,
+    NONE, NONE, NONE, NONE, NONE, NONE, NONE, NONE, NONE, NONE, NONE, NONE, NONE, NONE, NONE, NONE,
+    NONE, NONE, NONE, NONE, NONE, NONE, NONE, NONE, NONE, NONE, NONE, NONE, NONE, NONE, NONE, NONE,
+    NONE, NONE, NONE, NONE, NONE, NONE, NONE, NONE, NONE,
+];
+
+// The value of a hexadecimal digit in small letters, or more than each word.
+#[inline]
+fn hex_digit_of(digit: u8) -> u32
+    ensures value { result ≡ unwrap_or (spec.hex_digit_of digit) 65536 }
+    ensures most { result ≤ 65536 }
 {
-    if b'0' <= digit && digit <= b'9' {
-        Some(u16::from(digit - b'0'))
-    } else if b'a' <= digit && digit <= b'f' {
-        Some(u16::from(digit - b'a' + 10))
-    } else {
-        None
-    }
+    HEX_DIGITS[digit as usize]
+}
+
+// The word of four hexadecimal digits.
+fn hex_word(a: u8, b: u8, c: u8, d: u8) -> Option<u16>
+    ensures { result ≡ spec.hex_of (a ∷ b ∷ c ∷ d ∷ []) }
+{
+    let word = hex_digit_of(a) * 4096
+        + hex_digit_of(b) * 256
+        + hex_digit_of(c) * 16
+        + hex_digit_of(d);
+    if word < NONE { Some(word as u16) } else { None }
 }
 
 /// The word that a field is, by its four hexadecimal digits.
@@ -35,12 +64,8 @@ fn hex_digit_of(digit: u8) -> Option<u16>
 pub fn hex_of(text: &[u8]) -> Option<u16>
     ensures { result ≡ spec.hex_of text.now }
 {
-    let [a, b, c, d] = text else {
-        return None;
-    };
-    let a = hex_digit_of(*a)?;
-    let b = hex_digit_of(*b)?;
-    let c = hex_digit_of(*c)?;
-    let d = hex_digit_of(*d)?;
-    Some(a * 4096 + b * 256 + c * 16 + d)
+    match text {
+        [a, b, c, d] => hex_word(*a, *b, *c, *d),
+        _ => None,
+    }
 }

@@ -2,5 +2,5 @@
 use Rattle.trace_columns.proofs.ShortLaws.{IsRead}
 use Rattle.trace_columns.proofs.number.digits_of.Given as goal
 
-abbrev pub invariant-loop-byte : goal.invariant-loop-byte
-invariant-loop-byte l = IsRead l.text l.byte-index l.number
+abbrev pub invariant-loop-i : goal.invariant-loop-i
+invariant-loop-i l = IsRead l.text l.i l.number
