@@ -24,8 +24,6 @@ mod reason;
 mod refusing;
 mod steps;
 mod taking_over;
-#[cfg(test)]
-mod tests;
 
 pub use axis::Axis;
 pub use axis_state::{AxisDef, AxisRow, AxisState, DriveIn, DriveOut, Limits};

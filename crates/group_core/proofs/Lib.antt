@@ -8,7 +8,6 @@ pub mod StepLaws
 pub mod PathBegins
 pub mod PathEnds
 pub mod MemberLaws
-pub mod Benches
 pub mod KeptOthers
 pub mod CycleMade
 pub mod KeptCycles

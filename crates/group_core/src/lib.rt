@@ -21,8 +21,6 @@ mod refusing;
 mod states;
 mod taking_over;
 mod target_laws;
-#[cfg(test)]
-mod tests;
 
 pub use axis_state::AxisState;
 pub use buffer_modes::PendingReset;

@@ -1,4 +1,6 @@
-mod axes_group;
-mod member;
+mod axes;
+mod axis_bench;
+mod group_bench;
+mod groups;
+mod members;
 mod plant;
-mod rows;

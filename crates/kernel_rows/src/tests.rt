@@ -1,4 +1,6 @@
 mod answers;
+mod history;
 mod machine;
 mod play;
+mod traces;
 mod turns;

@@ -111,6 +111,18 @@ fn status<H: Host + Wait + Sync>(
     Ok(status)
 }
 
+// How the program ends on these words and files, and what it writes.
+fn outcome<H: Host + Wait + Sync>(
+    rt: &H,
+    alloc: Global,
+    words: &[&str],
+    files: &mut MemoryFiles,
+) -> Result<(Status, Vec<u8>), Fail> {
+    let mut out = MemorySink::new(alloc, &[], u32::MAX)?;
+    let ended = status(rt, alloc, words, files, &mut out)?;
+    Ok((ended, Vec::from_slice(alloc, out.bytes())?))
+}
+
 // The files of the tests, of which the listed reads fail.
 fn files(alloc: Global, fails: &[u32]) -> Result<MemoryFiles, Fail> {
     let mut files = MemoryFiles::new(alloc, fails)?;
@@ -130,9 +142,7 @@ fn ended<H: Host + Wait + Sync>(
 ) -> Result<(Status, Vec<u8>), Fail> {
     let mut files = files(alloc, &[])?;
     files.put(name, text)?;
-    let mut out = MemorySink::new(alloc, &[], u32::MAX)?;
-    let ended = status(rt, alloc, &[job, name], &mut files, &mut out)?;
-    Ok((ended, Vec::from_slice(alloc, out.bytes())?))
+    outcome(rt, alloc, &[job, name], &mut files)
 }
 
 // How the program ends on a bench, and what it writes.
@@ -151,18 +161,10 @@ fn writes_the_trace_of_a_move(rt: HostRuntime) -> Result<(), Fail> {
         ("move_of_no_distance", MOVE_OF_NO_DISTANCE_TRACE),
     ];
     for (name, trace) in cases {
-        let mut out = MemorySink::new(rt.alloc(), &[], u32::MAX)?;
-        assert_eq!(rt;
-            status(
-                &rt,
-                rt.alloc(),
-                &["bench", name],
-                &mut files(rt.alloc(), &[])?,
-                &mut out
-            )?,
-            Status::Ok
-        );
-        assert_eq!(rt; out.bytes(), trace);
+        let mut files = files(rt.alloc(), &[])?;
+        let (ended, told) = outcome(&rt, rt.alloc(), &["bench", name], &mut files)?;
+        assert_eq!(rt; ended, Status::Ok);
+        assert_eq!(rt; told.as_slice(), trace);
     }
     Ok(())
 }
@@ -208,21 +210,27 @@ fn writes_the_trace_so_far(rt: HostRuntime) -> Result<(), Fail> {
     Ok(())
 }
 
+// A bench with this limit and these events.
+fn small_bench(alloc: Global, limit: &[u8], events: &[u8]) -> Result<Vec<u8>, Fail> {
+    let machine =
+        b"axis X 0 50 10 4 1 0 ready\ntask main\nblock M main MoveAbsolute X\ngo\ncycle\n";
+    let mut bench = Vec::from_slice(alloc, b"motion-bench 1\n".as_slice())?;
+    bench.extend_from_slice(limit)?;
+    bench.extend_from_slice(machine.as_slice())?;
+    bench.extend_from_slice(events)?;
+    Ok(bench)
+}
+
 // A cycle for which neither is left, and a call for which no entry is: the call comes second.
 #[test]
 fn looks_for_cycles_before_room(rt: HostRuntime) -> Result<(), Fail> {
-    let machine =
-        b"axis X 0 50 10 4 1 0 ready\ntask main\nblock M main MoveAbsolute X\ngo\ncycle\n";
     let cases: [(&[u8], &[u8], Status); 3] = [
         (b"limit 1 1\n", b"cycle\ncall M off\n", Status::CyclesOver),
         (b"limit 2 1\n", b"cycle\ncall M off\n", Status::HistoryFull),
         (b"limit 1 1\n", b"call M off\ncycle\n", Status::HistoryFull),
     ];
     for (limit, events, wanted) in cases {
-        let mut bench = Vec::from_slice(rt.alloc(), b"motion-bench 1\n".as_slice())?;
-        bench.extend_from_slice(limit)?;
-        bench.extend_from_slice(machine.as_slice())?;
-        bench.extend_from_slice(events)?;
+        let bench = small_bench(rt.alloc(), limit, events)?;
         let (ended, _) = run_of(&rt, rt.alloc(), bench.as_slice())?;
         assert_eq!(rt; ended, wanted);
     }
@@ -274,18 +282,10 @@ fn tells_the_words_that_it_takes(rt: HostRuntime) -> Result<(), Fail> {
         &["scope", "one_move", "0"],
     ];
     for words in cases {
-        let mut out = MemorySink::new(rt.alloc(), &[], u32::MAX)?;
-        assert_eq!(rt;
-            status(
-                &rt,
-                rt.alloc(),
-                words,
-                &mut files(rt.alloc(), &[])?,
-                &mut out
-            )?,
-            Status::Usage
-        );
-        assert_eq!(rt; out.bytes(), USAGE);
+        let mut files = files(rt.alloc(), &[])?;
+        let (ended, told) = outcome(&rt, rt.alloc(), words, &mut files)?;
+        assert_eq!(rt; ended, Status::Usage);
+        assert_eq!(rt; told.as_slice(), USAGE);
     }
     Ok(())
 }
@@ -302,9 +302,9 @@ fn ended_by_args<H: Host + Wait + Sync>(
     top_of_args(rt, alloc, args, files, out, &mut spawner, &OpenGate)
 }
 
-// Arguments that are no texts, or for which there was no memory, and those of a bench.
+// Arguments that are no texts, or for which there was no memory.
 #[test]
-fn takes_the_arguments_of_the_process(rt: HostRuntime) -> Result<(), Fail> {
+fn tells_why_arguments_cannot_be_taken(rt: HostRuntime) -> Result<(), Fail> {
     let cases: [(ErrorKind, Status, &[u8]); 2] = [
         (ErrorKind::InvalidData, Status::Usage, USAGE),
         (ErrorKind::OutOfMemory, Status::OutOfMemory, b""),
@@ -317,16 +317,25 @@ fn takes_the_arguments_of_the_process(rt: HostRuntime) -> Result<(), Fail> {
         assert_eq!(rt; ended, wanted);
         assert_eq!(rt; out.bytes(), line);
     }
-    let mut args = Vec::new(rt.alloc());
+    Ok(())
+}
+
+// The arguments of a bench.
+fn bench_args(alloc: Global) -> Result<Args, Fail> {
+    let mut args = Vec::new(alloc);
     for arg in ["motion", "bench", "one_move"] {
-        args.push(String::from_str(rt.alloc(), arg)?)?;
+        args.push(String::from_str(alloc, arg)?)?;
     }
+    Ok(args.into_iter())
+}
+
+#[test]
+fn takes_the_arguments_of_the_process(rt: HostRuntime) -> Result<(), Fail> {
+    let mut files = files(rt.alloc(), &[])?;
+    let args = Ok(bench_args(rt.alloc())?);
     let mut out = MemorySink::new(rt.alloc(), &[], u32::MAX)?;
-    let args = Ok(args.into_iter());
-    assert_eq!(rt;
-        ended_by_args(&rt, rt.alloc(), args, &mut files, &mut out),
-        Status::Ok
-    );
+    let ended = ended_by_args(&rt, rt.alloc(), args, &mut files, &mut out);
+    assert_eq!(rt; ended, Status::Ok);
     assert_eq!(rt; out.bytes(), ONE_MOVE_TRACE);
     Ok(())
 }
@@ -357,18 +366,10 @@ fn tells_why_a_file_gives_no_trace(rt: HostRuntime) -> Result<(), Fail> {
         ),
     ];
     for (name, fails, wanted, line) in cases {
-        let mut out = MemorySink::new(rt.alloc(), &[], u32::MAX)?;
-        assert_eq!(rt;
-            status(
-                &rt,
-                rt.alloc(),
-                &["bench", name],
-                &mut files(rt.alloc(), fails)?,
-                &mut out
-            )?,
-            wanted
-        );
-        assert_eq!(rt; out.bytes(), line);
+        let mut files = files(rt.alloc(), fails)?;
+        let (ended, told) = outcome(&rt, rt.alloc(), &["bench", name], &mut files)?;
+        assert_eq!(rt; ended, wanted);
+        assert_eq!(rt; told.as_slice(), line);
     }
     Ok(())
 }
@@ -449,16 +450,11 @@ fn reads_a_file_of_16_mib(rt: HostRuntime) -> Result<(), Fail> {
 
 #[test]
 fn refuses_a_byte_more_than_16_mib(rt: HostRuntime) -> Result<(), Fail> {
-    let mut files = files(rt.alloc(), &[])?;
     let mut long = Vec::new(rt.alloc());
     long.resize(16_777_217, b'\n')?;
-    files.put("long", long.as_slice())?;
-    let mut out = MemorySink::new(rt.alloc(), &[], u32::MAX)?;
-    assert_eq!(rt;
-        status(&rt, rt.alloc(), &["bench", "long"], &mut files, &mut out)?,
-        Status::TooLong { word: 1 }
-    );
-    assert_eq!(rt; out.bytes(), b"too long long\n".as_slice());
+    let (ended, told) = ended(&rt, rt.alloc(), "bench", "long", long.as_slice())?;
+    assert_eq!(rt; ended, Status::TooLong { word: 1 });
+    assert_eq!(rt; told.as_slice(), b"too long long\n".as_slice());
     Ok(())
 }
 

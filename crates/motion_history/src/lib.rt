@@ -10,23 +10,17 @@ mod blocks;
 mod builder;
 mod config;
 mod drives;
-#[cfg(test)]
-mod edge_tests;
 mod entry;
 mod event;
 mod fault;
 mod groups;
 mod history;
-#[cfg(test)]
-mod history_tests;
 mod laws;
 mod names;
 mod refused;
 mod shown;
 mod sizes;
 mod tables;
-#[cfg(test)]
-mod tests;
 mod touching;
 
 pub use axis_state::{AxisDef, AxisRow, AxisState, DriveIn, DriveOut, Limits, Name};

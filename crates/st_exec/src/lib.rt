@@ -21,6 +21,3 @@ pub use instruction::{Act, Instruction, Use};
 pub use laws::{scans_ask_in_order, scans_call_the_machine, scans_have_their_operands};
 pub use out_of_memory::OutOfMemory;
 pub use task::{StNext, StTask};
-
-#[cfg(test)]
-mod tests;

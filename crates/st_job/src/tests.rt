@@ -5,6 +5,8 @@ use outside::{MemoryFiles, MemorySink};
 use std::alloc::Global;
 use std::test::Fail;
 
+mod tasks;
+
 /// A machine with two axes.
 const CELL: &str = "cycle_us = 1000
 cycles = 20000

@@ -28,14 +28,22 @@ fn machine(alloc: Global) -> Option<Builder>
     let Ok(mut builder) = Builder::open(alloc, 20, 40) else {
         return None;
     };
-    add_axis(&mut builder, b"X")?;
-    add_axis(&mut builder, b"Y")?;
-    add_axis(&mut builder, b"A")?;
-    add_axis(&mut builder, b"B")?;
+    add_axes(&mut builder)?;
     let Ok(_) = builder.group(b"G", &[2, 3]) else {
         return None;
     };
     Some(builder)
+}
+
+// Adds the axes X, Y, A and B.
+fn add_axes(builder: &mut Builder) -> Option<()>
+    ensures { OnSome result (builder.new.tasks ≡ builder.old.tasks) }
+{
+    add_axis(builder, b"X")?;
+    add_axis(builder, b"Y")?;
+    add_axis(builder, b"A")?;
+    add_axis(builder, b"B")?;
+    Some(())
 }
 
 // Adds an axis of this name.

@@ -11,8 +11,6 @@ mod found;
 mod laws;
 mod reading;
 mod records;
-#[cfg(test)]
-mod tests;
 mod trace;
 mod writing;
 

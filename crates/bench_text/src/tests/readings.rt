@@ -1,9 +1,9 @@
 // Benches that are read: their machines, drives and events.
 
 use super::{TOP, joined};
-use crate::{BenchLine, read_bench};
+use crate::{Bench, BenchLine, read_bench};
 use fb_outputs::{BlockKind, BufferMode, Inputs};
-use motion_history::TraceVersion;
+use motion_history::{Config, TraceVersion};
 use std::alloc::Global;
 use std::process::Abort;
 use std::test::Fail;
@@ -148,6 +148,54 @@ fn reads_calls_of_groups_and_followers(rt: HostRuntime) -> Result<(), Fail> {
     Ok(())
 }
 
+// Whether the room, the tasks and the blocks are those of the machine of eleven lines.
+fn has_its_blocks(config: &Config) -> bool {
+    let [_, line, gear, _, _] = config.blocks() else {
+        return false;
+    };
+    config.cycles() == 20
+        && config.entries() == 40
+        && config.tasks().len() == 1
+        && line.kind == BlockKind::MoveLinearAbsolute
+        && line.object == 0
+        && gear.object == 1
+}
+
+// Whether the axes are X, which is ready, and one that isn't.
+fn has_its_axes(config: &Config) -> bool {
+    let [x, y] = config.axes() else {
+        return false;
+    };
+    x.name.bytes() == b"X".as_slice() && x.ready && !y.ready && y.limits.dmax == 4
+}
+
+// Whether the one group is that of both axes.
+fn has_its_group(config: &Config) -> bool {
+    let [group] = config.groups() else {
+        return false;
+    };
+    group.members() == [0u8, 1].as_slice()
+}
+
+// Whether the one cam table has two points.
+fn has_its_table(config: &Config) -> bool {
+    let [table] = config.tables() else {
+        return false;
+    };
+    table.points() == [(0i64, 0i64), (10, -5)].as_slice()
+}
+
+// Whether the drives are a plain one and the one that is stated.
+fn has_its_drives(bench: &Bench) -> bool {
+    let [plain, stated] = bench.drives().as_slice() else {
+        return false;
+    };
+    plain.lag == 0
+        && plain.faults.len() == 0
+        && stated.lag == 64
+        && stated.faults.as_slice() == [1u32, 2, 4_294_967_295].as_slice()
+}
+
 // The machine of eleven lines, with a drive and a cam table more.
 #[test]
 fn reads_a_machine(rt: HostRuntime) -> Result<(), Fail> {
@@ -159,47 +207,18 @@ fn reads_a_machine(rt: HostRuntime) -> Result<(), Fail> {
         .ok()
         .ok_or("a bench")?;
     let config = bench.config();
-    assert_eq!(rt; bench.version(), TraceVersion::One);
-    assert_eq!(rt; config.cycles(), 20);
-    assert_eq!(rt; config.entries(), 40);
-    let [x, y] = config.axes() else {
-        assert!(rt; false, "two axes");
-        return Ok(());
-    };
-    assert_eq!(rt; x.name.bytes(), b"X".as_slice());
-    assert!(rt; x.ready);
-    assert!(rt; !y.ready);
-    assert_eq!(rt; y.limits.dmax, 4);
-    let [group] = config.groups() else {
-        assert!(rt; false, "one group");
-        return Ok(());
-    };
-    assert_eq!(rt; group.members(), [0u8, 1].as_slice());
-    let [table] = config.tables() else {
-        assert!(rt; false, "one table");
-        return Ok(());
-    };
-    assert_eq!(rt; table.points(), [(0i64, 0i64), (10, -5)].as_slice());
-    assert_eq!(rt; config.tasks().len(), 1);
-    let [_, line, gear, ..] = config.blocks() else {
-        assert!(rt; false, "five blocks");
-        return Ok(());
-    };
-    assert_eq!(rt; line.kind, BlockKind::MoveLinearAbsolute);
-    assert_eq!(rt; line.object, 0);
-    assert_eq!(rt; gear.object, 1);
-    let [plain, stated] = bench.drives().as_slice() else {
-        assert!(rt; false, "two drives");
-        return Ok(());
-    };
-    assert_eq!(rt; plain.lag, 0);
-    assert_eq!(rt; plain.faults.len(), 0);
-    assert_eq!(rt; stated.lag, 64);
-    assert_eq!(rt;
-        stated.faults.as_slice(),
-        [1u32, 2, 4_294_967_295].as_slice()
-    );
-    assert!(rt; bench.lines().is_empty());
+    let parts = [
+        ("version 1", bench.version() == TraceVersion::One),
+        ("blocks", has_its_blocks(config)),
+        ("axes", has_its_axes(config)),
+        ("a group", has_its_group(config)),
+        ("a table", has_its_table(config)),
+        ("drives", has_its_drives(&bench)),
+        ("no event", bench.lines().is_empty()),
+    ];
+    for (part, holds) in parts {
+        assert!(rt; holds, "{part}");
+    }
     Ok(())
 }
 

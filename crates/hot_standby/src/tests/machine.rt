@@ -38,11 +38,17 @@ pub(crate) fn machine(alloc: Global, cycles: u32, entries: u32) -> Result<Config
     };
     let mut builder = Builder::open(alloc, cycles, entries)?;
     builder.axis(b"X", &limits, 1, 0, true)?;
+    add_blocks(&mut builder)?;
+    builder.finish()
+}
+
+// Adds both tasks with their blocks.
+fn add_blocks(builder: &mut Builder) -> Result<(), ConfigFault> {
     builder.task(b"main")?;
     builder.task(b"other")?;
     builder.block(b"Move", 0, BlockKind::MoveAbsolute, 0)?;
     builder.block(b"Power", 1, BlockKind::Power, 0)?;
-    builder.finish()
+    Ok(())
 }
 
 /// The inputs of a call with Execute false.
@@ -152,6 +158,18 @@ impl Ends {
         Ok(Ends { feed, standby })
     }
 
+    // The ends of a ring whose standby has the small machine.
+    pub(crate) fn of_machine(
+        alloc: Global,
+        cycles: u32,
+        entries: u32,
+        room: u32,
+    ) -> Result<Ends, Fail>
+        requires { (1 ≤ room) × (room ≤ 4096) }
+    {
+        Ends::open(alloc, machine(alloc, cycles, entries)?, room)
+    }
+
     pub(crate) fn push(&mut self, event: FedEvent) -> Result<(), FedEvent> {
         self.feed.push(event)
     }
@@ -182,6 +200,16 @@ impl Ends {
             return None;
         }
         Some(self.take())
+    }
+
+    // Passes the events of the move from a place up to another, and tells whether each is made.
+    pub(crate) fn passes(&mut self, from: usize, to: usize) -> bool {
+        for place in from..to {
+            if self.pass(event(place)) != Some(Fed::Applied) {
+                return false;
+            }
+        }
+        true
     }
 
     pub(crate) fn into_ends(self) -> (Feed, Standby)

@@ -2,7 +2,7 @@
 
 ghost use Rattle.std.specs.Prelude.{◌≡◌, ◌≤◌};
 
-use crate::tests::machine::{Ends, call, cycle, event, expect_move, machine, no_inputs};
+use crate::tests::machine::{Ends, call, cycle, event, expect_move, no_inputs};
 use crate::{Fed, FedEvent, Inputs};
 use std::test::Fail;
 
@@ -43,33 +43,45 @@ fn strangers() -> [(&'static str, FedEvent); 9] {
 #[test]
 fn a_stranger_changes_nothing(rt: HostRuntime) -> Result<(), Fail> {
     for (name, stranger) in strangers() {
-        let mut ends = Ends::open(rt.alloc(), machine(rt.alloc(), 40, 20)?, 4)?;
-        for place in 0..3 {
-            assert_eq!(rt; ends.pass(event(place)), Some(Fed::Applied), "{name}");
-        }
+        let mut ends = Ends::of_machine(rt.alloc(), 40, 20, 4)?;
+        assert!(rt; ends.passes(0, 3), "{name}");
         assert_eq!(rt;
             ends.pass(stranger),
             Some(Fed::Stranger(stranger)),
             "{name}"
         );
         expect_move(&rt, ends.kernel().history(), 3);
-        assert_eq!(rt; ends.pass(event(3)), Some(Fed::Applied), "{name}");
+        assert!(rt; ends.passes(3, 4), "{name}");
         expect_move(&rt, ends.kernel().history(), 4);
     }
     Ok(())
 }
 
+// Whether each event finds room in the ring.
+fn push_all(ends: &mut Ends, events: &[FedEvent]) -> bool {
+    for event in events {
+        if ends.push(*event).is_err() {
+            return false;
+        }
+    }
+    true
+}
+
+// Whether promoting tells this stranger.
+fn is_told(stranger: FedEvent, ends: Ends) -> bool {
+    let Err(told) = ends.promote() else {
+        return false;
+    };
+    told == stranger
+}
+
 #[test]
 fn promoting_tells_the_first_stranger(rt: HostRuntime) -> Result<(), Fail> {
     for (name, stranger) in strangers() {
-        let mut ends = Ends::open(rt.alloc(), machine(rt.alloc(), 40, 20)?, 4)?;
-        assert!(rt; ends.push(event(0)).is_ok());
-        assert!(rt; ends.push(stranger).is_ok());
-        assert!(rt; ends.push(event(1)).is_ok());
-        let Err(told) = ends.promote() else {
-            return Err(Fail::new("no stranger"));
-        };
-        assert_eq!(rt; told, stranger, "{name}");
+        let mut ends = Ends::of_machine(rt.alloc(), 40, 20, 4)?;
+        let events = [event(0), stranger, event(1)];
+        assert!(rt; push_all(&mut ends, &events), "{name}");
+        assert!(rt; is_told(stranger, ends), "{name}");
     }
     Ok(())
 }
@@ -77,10 +89,8 @@ fn promoting_tells_the_first_stranger(rt: HostRuntime) -> Result<(), Fail> {
 #[test]
 fn what_finds_no_room_is_a_stranger(rt: HostRuntime) -> Result<(), Fail> {
     for (cycles, entries) in [(6, 20), (40, 7)] {
-        let mut ends = Ends::open(rt.alloc(), machine(rt.alloc(), cycles, entries)?, 4)?;
-        for place in 0..7 {
-            assert_eq!(rt; ends.pass(event(place)), Some(Fed::Applied));
-        }
+        let mut ends = Ends::of_machine(rt.alloc(), cycles, entries, 4)?;
+        assert!(rt; ends.passes(0, 7));
         assert_eq!(rt; ends.pass(event(7)), Some(Fed::Stranger(event(7))));
         expect_move(&rt, ends.kernel().history(), 7);
     }

@@ -5,46 +5,71 @@ ghost use Rattle.std.specs.Prelude.{◌≡◌};
 use crate::making::try_make;
 use crate::tests::machine::{Ends, MOVE, event, expect_move, machine};
 use crate::{Fed, Kernel, Standby};
+use std::alloc::Global;
 use std::test::Fail;
 use std::thread;
 
-#[test]
-fn the_first_kernel_is_given_up_after_three_events(rt: HostRuntime) -> Result<(), Fail> {
-    let config = machine(rt.alloc(), 40, 20)?;
-    let mut first = Kernel::open(rt.alloc(), config.copy(rt.alloc())?)?;
-    let mut ends = Ends::open(rt.alloc(), config, 4)?;
-    for place in 0..3 {
-        assert!(rt; try_make(&mut first, &event(place)));
-        assert_eq!(rt; ends.pass(event(place)), Some(Fed::Applied));
+// A kernel with the small machine, and the ends of a ring whose standby has it too.
+fn two_kernels(alloc: Global) -> Result<(Kernel, Ends), Fail> {
+    let config = machine(alloc, 40, 20)?;
+    let first = Kernel::open(alloc, config.copy(alloc)?)?;
+    Ok((first, Ends::open(alloc, config, 4)?))
+}
+
+// Makes the first events of the move on both kernels.
+fn makes_on_both(first: &mut Kernel, ends: &mut Ends, count: usize) -> bool {
+    for place in 0..count {
+        let is_made = try_make(first, &event(place));
+        let passed = ends.pass(event(place));
+        if !is_made || passed != Some(Fed::Applied) {
+            return false;
+        }
     }
-    expect_move(&rt, first.history(), 3);
-    drop(first);
-    expect_move(&rt, ends.kernel().history(), 3);
-    for place in 3..MOVE.len() {
-        assert_eq!(rt; ends.pass(event(place)), Some(Fed::Applied));
+    true
+}
+
+// Makes the events of the move from a place on.
+fn makes_rest(kernel: &mut Kernel, from: usize) -> bool {
+    for place in from..MOVE.len() {
+        if !try_make(kernel, &event(place)) {
+            return false;
+        }
     }
-    assert_eq!(rt; ends.take(), Fed::Empty);
+    true
+}
+
+// The second kernel, where no stranger is met.
+fn promoted(ends: Ends) -> Result<Kernel, Fail> {
     let Ok(second) = ends.promote() else {
         return Err(Fail::new("a stranger"));
     };
+    Ok(second)
+}
+
+#[test]
+fn the_first_kernel_is_given_up_after_three_events(rt: HostRuntime) -> Result<(), Fail> {
+    let (mut first, mut ends) = two_kernels(rt.alloc())?;
+    assert!(rt; makes_on_both(&mut first, &mut ends, 3));
+    expect_move(&rt, first.history(), 3);
+    drop(first);
+    expect_move(&rt, ends.kernel().history(), 3);
+    assert!(rt; ends.passes(3, MOVE.len()));
+    assert_eq!(rt; ends.take(), Fed::Empty);
+    let second = promoted(ends)?;
     expect_move(&rt, second.history(), MOVE.len());
     Ok(())
 }
 
 #[test]
 fn a_promoted_kernel_goes_on(rt: HostRuntime) -> Result<(), Fail> {
-    let mut ends = Ends::open(rt.alloc(), machine(rt.alloc(), 40, 20)?, 4)?;
+    let mut ends = Ends::of_machine(rt.alloc(), 40, 20, 4)?;
     for place in 0..4 {
         assert!(rt; ends.push(event(place)).is_ok());
     }
     assert_eq!(rt; ends.take(), Fed::Applied);
-    let Ok(mut second) = ends.promote() else {
-        return Err(Fail::new("a stranger"));
-    };
+    let mut second = promoted(ends)?;
     expect_move(&rt, second.history(), 4);
-    for place in 4..MOVE.len() {
-        assert!(rt; try_make(&mut second, &event(place)));
-    }
+    assert!(rt; makes_rest(&mut second, 4));
     expect_move(&rt, second.history(), MOVE.len());
     Ok(())
 }
@@ -64,7 +89,7 @@ fn take_all(mut standby: Standby, count: usize) -> (Standby, usize)
 
 #[test]
 fn takes_in_a_thread_of_its_own(rt: HostRuntime) -> Result<(), Fail> {
-    let mut ends = Ends::open(rt.alloc(), machine(rt.alloc(), 40, 20)?, 16)?;
+    let mut ends = Ends::of_machine(rt.alloc(), 40, 20, 16)?;
     for place in 0..MOVE.len() {
         assert!(rt; ends.push(event(place)).is_ok());
     }

@@ -1,7 +1,7 @@
 // What an axis makes of answers that no simulated drive gives.
 
 use crate::tests::play::{call, cycle, last_row, opened};
-use axis_state::AxisState;
+use axis_state::{AxisRow, AxisState};
 use cia402_machine::{DriveIn, DriveOut};
 use fb_outputs::Outputs;
 use std::test::Fail;
@@ -84,22 +84,33 @@ fn stops_where_the_drive_stands_outside_as_it_is_switched_on(rt: HostRuntime) ->
     Ok(())
 }
 
+// Whether an axis stands still at 10 where its drive stands at 0, which is given no other place.
+fn is_homed(row: &AxisRow, out: &DriveOut) -> bool {
+    row.state == AxisState::Standstill
+        && row.error == 0
+        && row.driven
+        && row.setpoint == 10
+        && row.offset == 10
+        && out.target == 0
+}
+
 #[test]
 fn homes_without_a_step_and_not_outside(rt: HostRuntime) -> Result<(), Fail> {
     let (bench, mut kernel) = opened(rt.alloc(), READY)?;
-    let told = call(&rt, &bench, &mut kernel, 0);
-    assert_eq!(rt; told, reply(true, true, false, 0));
+    let begun = call(&rt, &bench, &mut kernel, 0);
     let mut outs = [NO_OUTPUT];
     cycle(&rt, &mut kernel, &answer(0x0037, 0), &mut outs);
     let row = last_row(&rt, &kernel);
-    assert_eq!(rt;
-        (row.state, row.error, row.driven),
-        (AxisState::Standstill, 0, true)
-    );
-    assert_eq!(rt; (row.setpoint, row.offset, outs[0].target), (10, 10, 0));
-    let told = call(&rt, &bench, &mut kernel, 1);
-    assert_eq!(rt; told, reply(false, false, true, 0));
-    let told = call(&rt, &bench, &mut kernel, 2);
-    assert_eq!(rt; told, reply(false, false, false, 10));
+    let ended = call(&rt, &bench, &mut kernel, 1);
+    let outside = call(&rt, &bench, &mut kernel, 2);
+    let parts = [
+        ("a Home that begins", begun == reply(true, true, false, 0)),
+        ("no step", is_homed(&row, &outs[0])),
+        ("its end", ended == reply(false, false, true, 0)),
+        ("a place outside", outside == reply(false, false, false, 10)),
+    ];
+    for (part, holds) in parts {
+        assert!(rt; holds, "{part}");
+    }
     Ok(())
 }

@@ -3,10 +3,10 @@
 ghost use Rattle.std.specs.Prelude.{◌≡◌, false};
 
 use crate::tests::play::{call, cycle, opened};
-use axis_state::AxisState;
+use axis_state::{AxisRow, AxisState};
 use bench_text::Bench;
 use cia402_machine::{DriveIn, DriveOut};
-use group_state::GroupState;
+use group_state::{GroupRow, GroupState};
 use motion_history::EntryLook;
 use motion_kernel::Kernel;
 use std::process::Abort;
@@ -111,6 +111,39 @@ fn calls(rt: &impl Abort, bench: &Bench, kernel: &mut Kernel, count: usize)
     }
 }
 
+// The state of an axis at the end. That of N is its gear's.
+fn state_at_end(axis: usize) -> AxisState {
+    if axis == 13 {
+        AxisState::SynchronizedMotion
+    } else {
+        AxisState::Standstill
+    }
+}
+
+// Whether an axis stands in its place.
+fn is_in_place(axes: &[AxisRow], axis: usize, place: i64) -> bool {
+    let Some(row) = axes.get(axis) else {
+        return false;
+    };
+    row.setpoint == place && row.state == state_at_end(axis)
+}
+
+// Each of the sixteen axes stands in its place.
+fn expect_places(rt: &impl Abort, axes: &[AxisRow]) {
+    assert_eq!(rt; axes.len(), 16);
+    for (axis, place) in PLACES.iter().enumerate() {
+        assert!(rt; is_in_place(axes, axis, *place), "axis {axis}");
+    }
+}
+
+// Each of the four groups is done.
+fn expect_standby(rt: &impl Abort, groups: &[GroupRow]) {
+    assert_eq!(rt; groups.len(), 4);
+    for group in groups {
+        assert_eq!(rt; group.state, GroupState::GroupStandby);
+    }
+}
+
 // Each axis stands in its place, and each group is done.
 fn expect_done(rt: &impl Abort, kernel: &Kernel) {
     let history = kernel.history();
@@ -118,22 +151,8 @@ fn expect_done(rt: &impl Abort, kernel: &Kernel) {
     let Some(EntryLook::Cycle { axes, groups, .. }) = history.look(history.entries() - 1) else {
         rt.abort();
     };
-    for (axis, place) in PLACES.iter().enumerate() {
-        let state = if axis == 13 {
-            AxisState::SynchronizedMotion
-        } else {
-            AxisState::Standstill
-        };
-        assert!(rt; axis < axes.len());
-        assert_eq!(rt;
-            (axis, axes[axis].setpoint, axes[axis].state),
-            (axis, *place, state)
-        );
-    }
-    for group in groups {
-        assert_eq!(rt; group.state, GroupState::GroupStandby);
-    }
-    assert_eq!(rt; (axes.len(), groups.len()), (16, 4));
+    expect_places(rt, axes);
+    expect_standby(rt, groups);
 }
 
 #[test]

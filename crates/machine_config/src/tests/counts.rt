@@ -94,6 +94,13 @@ fn refuses_too_many_items(rt: HostRuntime) -> Result<(), Fail> {
     Ok(())
 }
 
+// A text of seven axes and a group of these.
+fn group_of(alloc: Global, axes: &[u8]) -> Result<Vec<u8>, AllocError> {
+    let seven = axes_of(alloc, b"abcdefg")?;
+    let group = b"]\n[[group]]\nname = 'G'\naxes = [";
+    joined(alloc, &[seven.as_slice(), group, axes, b"]"])
+}
+
 #[test]
 fn takes_six_axes_in_a_group(rt: HostRuntime) -> Result<(), Fail> {
     let cases: [(&[u8], Option<(u64, u8)>); 3] = [
@@ -102,10 +109,7 @@ fn takes_six_axes_in_a_group(rt: HostRuntime) -> Result<(), Fail> {
         (b"'a', 'b', 'c', 'd', 'e', 'f', 'h'", Some((8, 4))),
     ];
     for (axes, wanted) in cases {
-        let mut text = axes_of(rt.alloc(), b"abcdefg")?;
-        text.extend_from_slice(b"]\n[[group]]\nname = 'G'\naxes = [")?;
-        text.extend_from_slice(axes)?;
-        text.push(b']')?;
+        let text = group_of(rt.alloc(), axes)?;
         assert_eq!(rt; refusal(rt.alloc(), text.as_slice())?, wanted, "{axes:?}");
         assert_eq!(rt;
             read_config(rt.alloc(), text.as_slice()).is_ok(),
@@ -114,6 +118,24 @@ fn takes_six_axes_in_a_group(rt: HostRuntime) -> Result<(), Fail> {
         );
     }
     Ok(())
+}
+
+// The faults 1 up to so many, with a comma behind each.
+fn faults_to(alloc: Global, count: u32) -> Result<Vec<u8>, AllocError> {
+    let mut faults = Vec::new(alloc);
+    for fault in 1..=count {
+        faults.extend_from_slice(format!(in alloc; "{fault},")?.as_bytes())?;
+    }
+    Ok(faults)
+}
+
+// A text of an axis with so many faults, and this behind them.
+fn axis_with_faults(alloc: Global, count: u32, last: &[u8]) -> Result<Vec<u8>, AllocError> {
+    let faults = faults_to(alloc, count)?;
+    let open = b"axis = [{ faults = [";
+    let name = b"], name = 'a";
+    let texts = [TOP, open, faults.as_slice(), last, name, LIMITS, b"]"];
+    joined(alloc, &texts)
 }
 
 // 1,000 faults are taken, one more is too many, and where one of them falls it is out of range.
@@ -125,29 +147,34 @@ fn refuses_too_many_faults(rt: HostRuntime) -> Result<(), Fail> {
         (1001, b"1", Some((1, 5))),
     ];
     for (count, last, wanted) in cases {
-        let mut text = joined(rt.alloc(), &[TOP, b"axis = [{ faults = ["])?;
-        for step in 1..=count {
-            text.extend_from_slice(format!(in rt.alloc(); "{step},")?.as_bytes())?;
-        }
-        text.extend_from_slice(last)?;
-        text.extend_from_slice(b"], name = 'a")?;
-        text.extend_from_slice(LIMITS)?;
-        text.push(b']')?;
+        let text = axis_with_faults(rt.alloc(), count, last)?;
         assert_eq!(rt; refusal(rt.alloc(), text.as_slice())?, wanted, "{count}");
     }
     Ok(())
+}
+
+// So many points, with a comma behind each.
+fn points_of(alloc: Global, count: u32) -> Result<Vec<u8>, AllocError> {
+    let mut points = Vec::new(alloc);
+    for x in 0..count {
+        points.extend_from_slice(format!(in alloc; "'{x}:0',")?.as_bytes())?;
+    }
+    Ok(points)
+}
+
+// A text of an axis and a cam table of so many points.
+fn table_of(alloc: Global, count: u32) -> Result<Vec<u8>, AllocError> {
+    let axis = axes_of(alloc, b"a")?;
+    let points = points_of(alloc, count)?;
+    let table = b"]\n[[table]]\npoints = [";
+    joined(alloc, &[axis.as_slice(), table, points.as_slice(), b"]"])
 }
 
 // 4,096 points are a cam table, one more is none.
 #[test]
 fn refuses_too_many_points(rt: HostRuntime) -> Result<(), Fail> {
     for (count, wanted) in [(4096, None), (4097, Some((2, 7)))] {
-        let mut text = axes_of(rt.alloc(), b"a")?;
-        text.extend_from_slice(b"]\n[[table]]\npoints = [")?;
-        for x in 0..count {
-            text.extend_from_slice(format!(in rt.alloc(); "'{x}:0',")?.as_bytes())?;
-        }
-        text.push(b']')?;
+        let text = table_of(rt.alloc(), count)?;
         assert_eq!(rt; refusal(rt.alloc(), text.as_slice())?, wanted, "{count}");
     }
     Ok(())

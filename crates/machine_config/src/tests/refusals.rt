@@ -188,30 +188,40 @@ fn lines(alloc: Global, text: &str) -> Result<Vec<u8>, AllocError> {
     Ok(lines)
 }
 
-// The whole text with a text in place of another.
+// The whole text with a text in place of an old one.
+fn with_new(alloc: Global, old: &str, new: &[u8]) -> Result<Vec<u8>, Fail> {
+    let (before, behind) = WHOLE.split_once(old).ok_or("the old text")?;
+    let mut text = Vec::from_slice(alloc, before.as_bytes())?;
+    text.extend_from_slice(new)?;
+    text.extend_from_slice(behind.as_bytes())?;
+    Ok(text)
+}
+
+// The whole text with a change.
 fn changed(alloc: Global, change: &str) -> Result<Vec<u8>, Fail> {
     let (old, new) = change.split_once("=>").ok_or("an arrow")?;
     let old = lines(alloc, old)?;
     let new = lines(alloc, new)?;
     let old = str::from_utf8(old.as_slice())?;
-    let (before, behind) = WHOLE.split_once(old).ok_or("the old text")?;
-    let mut text = Vec::from_slice(alloc, before.as_bytes())?;
-    text.extend_from_slice(new.as_slice())?;
-    text.extend_from_slice(behind.as_bytes())?;
-    Ok(text)
+    with_new(alloc, old, new.as_slice())
+}
+
+// The place and the rule that two digits tell.
+fn told_by(digits: &str) -> Option<(u64, u8)> {
+    let [place, rule] = digits.as_bytes() else {
+        return None;
+    };
+    Some((u64::from(*place & 15), *rule & 15))
 }
 
 // Stops the test unless each change is refused where and as it says.
 pub(super) fn expect_refusals(rt: &impl Abort, alloc: Global, changes: &str) -> Result<(), Fail> {
     for line in changes.lines() {
         let (at, change) = line.split_once(' ').ok_or("a place and a rule")?;
-        let [place, rule] = at.as_bytes() else {
-            assert!(rt; false, "two digits in {line}");
-            return Ok(());
-        };
+        let wanted = told_by(at);
+        assert!(rt; wanted.is_some(), "two digits in {line}");
         let text = changed(alloc, change)?;
-        let wanted = (u64::from(*place & 15), *rule & 15);
-        assert_eq!(rt; refusal(alloc, text.as_slice())?, Some(wanted), "{line}");
+        assert_eq!(rt; refusal(alloc, text.as_slice())?, wanted, "{line}");
     }
     Ok(())
 }

@@ -177,16 +177,21 @@ fn written<H: Host + Wait + Sync>(
 #[test]
 fn tells_what_cannot_be_read(rt: HostRuntime) -> Result<(), Fail> {
     for job in ["bench", "check", "migrate"] {
-        for (fails, name) in [([1], "text"), ([2], "other")] {
-            let mut files = MemoryFiles::new(rt.alloc(), &fails)?;
-            files.put("text", ONE_MOVE)?;
-            let mut out = MemorySink::new(rt.alloc(), &[], u32::MAX)?;
-            let ended = status(&rt, rt.alloc(), &[job, name], &mut files, &mut out)?;
-            assert_eq!(rt; ended, Status::ReadFault { word: 1 });
-            assert!(rt; out.bytes().starts_with(b"cannot read "), "{job}");
+        for (fails, name) in [([1], "one_move"), ([2], "other")] {
+            let mut files = files(rt.alloc(), &fails)?;
+            let (ended, told) = outcome(&rt, rt.alloc(), &[job, name], &mut files)?;
+            assert_eq!(rt; ended, Status::ReadFault { word: 1 }, "{job}");
+            assert!(rt; told.starts_with(b"cannot read "), "{job}");
         }
     }
     Ok(())
+}
+
+// Whether a part is a beginning of all that is written, less than all where a write failed and
+// nowhere else, and otherwise ends as the whole does.
+fn is_beginning(whole: Status, all: &[u8], ended: Status, part: &[u8]) -> bool {
+    let is_cut = part.len() < all.len();
+    all.starts_with(part) && (ended == Status::WriteFault) == is_cut && (is_cut || ended == whole)
 }
 
 // The first to the fourth write of each job's output fails, if there is one.
@@ -197,12 +202,9 @@ fn writes_a_beginning_where_a_write_fails(rt: HostRuntime) -> Result<(), Fail> {
         for write in 1..=4 {
             let (ended, part) = written(&rt, rt.alloc(), job, word, text, &[write])?;
             assert!(rt;
-                all.as_slice().starts_with(part.as_slice()),
+                is_beginning(whole, all.as_slice(), ended, part.as_slice()),
                 "{job} {write}"
             );
-            let is_cut = part.len() < all.len();
-            assert_eq!(rt; ended == Status::WriteFault, is_cut, "{job} {write}");
-            assert!(rt; is_cut || ended == whole, "{job} {write}");
         }
     }
     Ok(())

@@ -12,9 +12,7 @@ fn reported<H: Host + Wait + Sync>(
     let mut files = files(alloc, &[])?;
     files.put("t", ONE_MOVE_TRACE)?;
     files.put("s", switches)?;
-    let mut out = MemorySink::new(alloc, &[], u32::MAX)?;
-    let ended = status(rt, alloc, words, &mut files, &mut out)?;
-    Ok((ended, Vec::from_slice(alloc, out.bytes())?))
+    outcome(rt, alloc, words, &mut files)
 }
 
 #[test]

@@ -125,6 +125,18 @@ fn run_texts<H: Host + Wait + Sync>(
     )
 }
 
+// How a run of these texts ends, and how its trace is judged.
+fn run_and_check<H: Host + Wait + Sync>(
+    rt: &H,
+    alloc: Global,
+    machine: &[u8],
+    program: &[u8],
+) -> Result<(Status, Status), Fail> {
+    let (status, trace) = run_texts(rt, alloc, machine, program)?;
+    let (checked, _) = ended(rt, alloc, "check", "trace", trace.as_slice())?;
+    Ok((status, checked))
+}
+
 // The refusal of a text by a rule.
 fn refusal(word: u8, place: u64, letter: u8, number: u8) -> Status {
     Status::TextRefused {
@@ -146,27 +158,44 @@ fn runs_two_tasks_to_their_ends(rt: HostRuntime) -> Result<(), Fail> {
 }
 
 #[test]
-fn tells_that_cycles_or_entries_are_spent(rt: HostRuntime) -> Result<(), Fail> {
-    let (status, trace) = run_texts(&rt, rt.alloc(), FEW_CYCLES, ONE_TASK)?;
+fn tells_that_cycles_are_spent(rt: HostRuntime) -> Result<(), Fail> {
+    let (status, checked) = run_and_check(&rt, rt.alloc(), FEW_CYCLES, ONE_TASK)?;
     assert_eq!(rt; status, Status::CyclesOver);
-    let (checked, _) = ended(&rt, rt.alloc(), "check", "trace", trace.as_slice())?;
     assert!(rt; matches!(checked, Status::Legal { .. }));
-    let (status, trace) = run_texts(&rt, rt.alloc(), FEW_ENTRIES, ONE_TASK)?;
+    Ok(())
+}
+
+#[test]
+fn tells_that_entries_are_spent(rt: HostRuntime) -> Result<(), Fail> {
+    let (status, checked) = run_and_check(&rt, rt.alloc(), FEW_ENTRIES, ONE_TASK)?;
     assert_eq!(rt; status, Status::HistoryFull);
-    let (checked, _) = ended(&rt, rt.alloc(), "check", "trace", trace.as_slice())?;
     assert_eq!(rt; checked, Status::Legal { entries: 10 });
     Ok(())
 }
 
 #[test]
 fn tells_the_configuration_before_the_program(rt: HostRuntime) -> Result<(), Fail> {
-    let (status, said) = run_texts(&rt, rt.alloc(), b"[[axis", b"task")?;
-    assert_eq!(rt; status, refusal(1, 0, b'C', 1));
-    assert_eq!(rt; said.as_slice(), b"refused machine 0 C1\n".as_slice());
     let open: &[u8] = b"motion-program 1\ntask one\nblock P Power X\nrepeat 2\ncall P on\n";
-    let (status, said) = run_texts(&rt, rt.alloc(), MACHINE, open)?;
-    assert_eq!(rt; status, refusal(2, 5, b'P', 10));
-    assert_eq!(rt; said.as_slice(), b"refused program 5 P10\n".as_slice());
+    let no_axis: &[u8] = b"[[axis";
+    let cases: [(&[u8], &[u8], Status, &[u8]); 2] = [
+        (
+            no_axis,
+            b"task",
+            refusal(1, 0, b'C', 1),
+            b"refused machine 0 C1\n",
+        ),
+        (
+            MACHINE,
+            open,
+            refusal(2, 5, b'P', 10),
+            b"refused program 5 P10\n",
+        ),
+    ];
+    for (machine, program, wanted, line) in cases {
+        let (status, said) = run_texts(&rt, rt.alloc(), machine, program)?;
+        assert_eq!(rt; status, wanted);
+        assert_eq!(rt; said.as_slice(), line);
+    }
     Ok(())
 }
 
@@ -178,6 +207,11 @@ fn tells_which_file_cannot_be_read(rt: HostRuntime) -> Result<(), Fail> {
         assert_eq!(rt; status, Status::ReadFault { word });
         assert!(rt; said.starts_with(b"cannot read "));
     }
+    Ok(())
+}
+
+#[test]
+fn tells_that_the_program_is_not_there(rt: HostRuntime) -> Result<(), Fail> {
     let mut files = MemoryFiles::new(rt.alloc(), &[])?;
     files.put("machine", MACHINE)?;
     let (status, said) = run_with(&rt, rt.alloc(), &mut files, &[])?;

@@ -83,10 +83,8 @@ const GROUP_KINDS: [(&str, &str); 7] = [
 // Whether a bench has a trace that is legal, also in version 2.
 fn is_legal<H: Host + Wait + Sync>(rt: &H, alloc: Global, bench: &str) -> Result<bool, Fail> {
     let (ran, trace) = run_of(rt, alloc, bench.as_bytes())?;
-    let (judged, _) = ended(rt, alloc, "check", "t", trace.as_slice())?;
-    let (_, migrated) = ended(rt, alloc, "migrate", "t", trace.as_slice())?;
-    let (again, _) = ended(rt, alloc, "check", "t", migrated.as_slice())?;
-    Ok(ran == Status::Ok && judged.exit() == 0 && again == judged)
+    let is_legal = traces::is_legal(rt, alloc, trace.as_slice())?;
+    Ok(ran == Status::Ok && is_legal)
 }
 
 // Each kind on, off and on again, then a Stop and three cycles.

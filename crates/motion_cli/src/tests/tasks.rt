@@ -63,9 +63,7 @@ fn run_of_tasks<H: Host + Wait + Sync>(
     let mut files = MemoryFiles::new(alloc, &[])?;
     files.put("machine", machine)?;
     files.put("tasks", tasks)?;
-    let mut out = MemorySink::new(alloc, &[], u32::MAX)?;
-    let ended = status(rt, alloc, &["st", "machine", "tasks"], &mut files, &mut out)?;
-    Ok((ended, Vec::from_slice(alloc, out.bytes())?))
+    outcome(rt, alloc, &["st", "machine", "tasks"], &mut files)
 }
 
 #[test]

@@ -27,51 +27,67 @@ end,main,,,,,,,,,,
 drive,X,7,OperationEnabled,20,,,,,,,
 ";
 
+// What is told where the row of record 12 has a setpoint that isn't the machine's.
+const WRONG_ROW: &[u8] = b"illegal 12
+expected row,X,0037,6,8,DiscreteMotion,0,1,12,000f,12,
+found row,X,0037,6,8,DiscreteMotion,0,1,13,000f,12,
+";
+
 #[test]
 fn judges_a_trace(rt: HostRuntime) -> Result<(), Fail> {
-    let (legal, told) = ended(&rt, rt.alloc(), "check", "t", ONE_MOVE_TRACE)?;
-    assert_eq!(rt; legal, Status::Legal { entries: 10 });
-    assert_eq!(rt; told.as_slice(), b"legal 10\n".as_slice());
     let wrong = with_line(
         &rt,
         ONE_MOVE_TRACE,
         12,
         b"row,X,0037,6,8,DiscreteMotion,0,1,13,000f,12,",
     )?;
-    let lines = b"illegal 12
-expected row,X,0037,6,8,DiscreteMotion,0,1,12,000f,12,
-found row,X,0037,6,8,DiscreteMotion,0,1,13,000f,12,
-";
-    let (illegal, told) = ended(&rt, rt.alloc(), "check", "t", wrong.as_slice())?;
-    assert_eq!(rt; illegal, Status::Illegal { record: 12 });
-    assert_eq!(rt; told.as_slice(), lines.as_slice());
-    let (illegal, told) = ended(&rt, rt.alloc(), "migrate", "t", wrong.as_slice())?;
-    assert_eq!(rt; illegal.exit(), 1);
-    assert_eq!(rt; told.as_slice(), lines.as_slice());
+    let illegal = Status::Illegal { record: 12 };
+    let cases: [(&str, &[u8], Status, &[u8]); 3] = [
+        (
+            "check",
+            ONE_MOVE_TRACE,
+            Status::Legal { entries: 10 },
+            b"legal 10\n",
+        ),
+        ("check", wrong.as_slice(), illegal, WRONG_ROW),
+        ("migrate", wrong.as_slice(), illegal, WRONG_ROW),
+    ];
+    for (job, trace, wanted, lines) in cases {
+        let (judged, told) = ended(&rt, rt.alloc(), job, "t", trace)?;
+        assert_eq!(rt; judged, wanted, "{job}");
+        assert_eq!(rt; told.as_slice(), lines, "{job}");
+    }
     Ok(())
+}
+
+// Whether a trace is legal, and in version 2 as well, with as many entries.
+pub(super) fn is_legal<H: Host + Wait + Sync>(
+    rt: &H,
+    alloc: Global,
+    trace: &[u8],
+) -> Result<bool, Fail> {
+    let (legal, _) = ended(rt, alloc, "check", "t", trace)?;
+    let (migrated, two) = ended(rt, alloc, "migrate", "t", trace)?;
+    let (again, _) = ended(rt, alloc, "check", "t", two.as_slice())?;
+    Ok(legal.exit() == 0 && migrated == Status::Ok && again == legal)
 }
 
 // Every trace of a bench is legal, the drives having taken a setpoint in each of its cycles.
 #[test]
 fn finds_the_traces_of_benches_legal(rt: HostRuntime) -> Result<(), Fail> {
-    let traces: [&[u8]; 9] = [
-        MOVE_OF_NO_DISTANCE_TRACE,
-        rows::POWER_ON_TRACE,
-        rows::DRIVE_FAULT_TRACE,
-        rows::GEAR_TRACE,
-        rows::BLENDING_TRACE,
-        rows::MEMBER_FAULT_TRACE,
-        rows::VERSION_TWO_TRACE,
-        rows::CYCLES_OVER_TRACE,
-        rows::HISTORY_FULL_TRACE,
+    let traces: [(&str, &[u8]); 9] = [
+        ("no distance", MOVE_OF_NO_DISTANCE_TRACE),
+        ("power", rows::POWER_ON_TRACE),
+        ("a drive's fault", rows::DRIVE_FAULT_TRACE),
+        ("a gear", rows::GEAR_TRACE),
+        ("a blend", rows::BLENDING_TRACE),
+        ("a member's fault", rows::MEMBER_FAULT_TRACE),
+        ("version 2", rows::VERSION_TWO_TRACE),
+        ("cycles over", rows::CYCLES_OVER_TRACE),
+        ("a full history", rows::HISTORY_FULL_TRACE),
     ];
-    for trace in traces {
-        let (legal, _) = ended(&rt, rt.alloc(), "check", "t", trace)?;
-        assert_eq!(rt; legal.exit(), 0);
-        let (migrated, two) = ended(&rt, rt.alloc(), "migrate", "t", trace)?;
-        assert_eq!(rt; migrated, Status::Ok);
-        let (again, _) = ended(&rt, rt.alloc(), "check", "t", two.as_slice())?;
-        assert_eq!(rt; again, legal);
+    for (name, trace) in traces {
+        assert!(rt; is_legal(&rt, rt.alloc(), trace)?, "{name}");
     }
     Ok(())
 }
@@ -102,6 +118,11 @@ fn refuses_damaged_traces(rt: HostRuntime) -> Result<(), Fail> {
             assert_eq!(rt; line_told.as_slice(), told);
         }
     }
+    Ok(())
+}
+
+#[test]
+fn refuses_a_trace_without_its_last_line(rt: HostRuntime) -> Result<(), Fail> {
     let (cut, _) = ONE_MOVE_TRACE.split_at(ONE_MOVE_TRACE.len() - 38);
     let (status, told) = ended(&rt, rt.alloc(), "check", "t", cut)?;
     assert_eq!(rt; status.exit(), 3);

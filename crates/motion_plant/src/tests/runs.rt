@@ -9,6 +9,7 @@ ghost use Rattle.plc_program.specs.Programs.{IsProgramOf};
 use super::plants::{machine, plain_drives, plant, two_axes};
 use crate::{Plant, PlantEnd, PlantJob, RunEnding, ending_of, run_plant};
 use outside::{Gate, HoldGate, Host, OpenGate, Spawner};
+use setpoint_ring::DriveLog;
 use std::alloc::Global;
 use std::process::Abort;
 use std::sync::Wait;
@@ -41,6 +42,13 @@ fn eight_tasks(alloc: Global) -> Result<Vec<u8>, Fail> {
     Ok(text)
 }
 
+// Whether a drive took an output in each cycle, and stands at 20 mm.
+fn came_to_its_end(log: &DriveLog, cycles_left: u32) -> bool {
+    log.taken.wrapping_add(cycles_left) == 2_000
+        && log.last.statusword == 0x0037
+        && log.last.actual == 20_000
+}
+
 // A run by so many jobs comes to the ends of its tasks: each drive took an output in each cycle,
 // and stands at 20 mm.
 fn expect_whole<H: Host + Wait + Abort, G: Gate + Drop + Send + 'static>(
@@ -60,9 +68,9 @@ fn expect_whole<H: Host + Wait + Abort, G: Gate + Drop + Send + 'static>(
     };
     assert_eq!(rt; ending_of(&kernel), RunEnding::Ok);
     assert_eq!(rt; spawner.started(), jobs);
-    for log in drives.iter() {
-        assert_eq!(rt; log.taken.wrapping_add(kernel.cycles_left()), 2_000);
-        assert_eq!(rt; (log.last.statusword, log.last.actual), (0x0037, 20_000));
+    let cycles_left = kernel.cycles_left();
+    for (axis, log) in drives.iter().enumerate() {
+        assert!(rt; came_to_its_end(log, cycles_left), "{axis}");
     }
     Ok(())
 }

@@ -50,20 +50,31 @@ fn takes_10000_statements(rt: HostRuntime) -> Result<(), Fail> {
     Ok(())
 }
 
+// Adds so many blocks, each a line, whose names begin with this letter.
+fn push_blocks(text: &mut Vec<u8>, letter: u8, blocks: u8) -> Result<(), AllocError> {
+    for block in 0..blocks {
+        text.push(letter)?;
+        text.push(b'a'.wrapping_add(block / 16))?;
+        text.push(b'a'.wrapping_add(block % 16))?;
+        text.extend_from_slice(b":Power(X);\n")?;
+    }
+    Ok(())
+}
+
+// Adds a task whose name ends with this letter, and its blocks.
+fn push_task(text: &mut Vec<u8>, letter: u8, blocks: u8) -> Result<(), AllocError> {
+    text.extend_from_slice(b"PROGRAM t")?;
+    text.push(letter)?;
+    text.extend_from_slice(b" VAR\n")?;
+    push_blocks(text, letter, blocks)?;
+    text.extend_from_slice(b"END_VAR END_PROGRAM\n")
+}
+
 // A text of so many tasks of so many blocks, a task and a block a line.
 fn tasks_of(alloc: Global, tasks: u8, blocks: u8) -> Result<Vec<u8>, AllocError> {
     let mut text = Vec::new(alloc);
     for task in 0..tasks {
-        text.extend_from_slice(b"PROGRAM t")?;
-        text.push(b'a'.wrapping_add(task))?;
-        text.extend_from_slice(b" VAR\n")?;
-        for block in 0..blocks {
-            text.push(b'a'.wrapping_add(task))?;
-            text.push(b'a'.wrapping_add(block / 16))?;
-            text.push(b'a'.wrapping_add(block % 16))?;
-            text.extend_from_slice(b":Power(X);\n")?;
-        }
-        text.extend_from_slice(b"END_VAR END_PROGRAM\n")?;
+        push_task(&mut text, b'a'.wrapping_add(task), blocks)?;
     }
     Ok(text)
 }

@@ -4,6 +4,7 @@ use super::with_record;
 use crate::{Verdict, check, read_trace};
 use motion_history::TextFault;
 use std::alloc::{AllocError, Global};
+use std::process::Abort;
 use std::test::Fail;
 
 /// A Home, a move, a gear, a cam, and a line whose group stops as the drive of a member fails.
@@ -154,6 +155,60 @@ fn is_told(kind: &[u8], column: usize) -> bool {
     }
 }
 
+// The word that a record begins with.
+fn kind_of(record: &[u8]) -> &[u8] {
+    record.split(|b| *b == b',').next().unwrap_or(b"")
+}
+
+// Where the text is found wrong in which a record of this number has another digit in a column, if
+// there is one.
+fn found_changed(
+    alloc: Global,
+    record: &[u8],
+    line: usize,
+    column: usize,
+) -> Result<Option<Option<u64>>, Fail> {
+    let Some(changed) = with_next_digit(alloc, record, column)? else {
+        return Ok(None);
+    };
+    let text = with_record(alloc, LONG, line, changed.as_slice())?;
+    Ok(Some(found_at(alloc, text.as_slice())?))
+}
+
+// Whether another digit is found where it must be: one that the machine tells in its record, and
+// another one in a record of the run in its entry or further on, if at all.
+fn is_found_right(found: Option<u64>, line: u64, entry: u64, is_told: bool) -> bool {
+    if is_told {
+        found == Some(line)
+    } else {
+        line <= 18 || found.unwrap_or(entry) >= entry
+    }
+}
+
+// How many digits of a record the machine tells. Each digit is found right where it is changed.
+fn told_digits(
+    rt: &impl Abort,
+    alloc: Global,
+    record: &[u8],
+    line: usize,
+    entry: u64,
+) -> Result<u32, Fail> {
+    let kind = kind_of(record);
+    let mut told = 0u32;
+    for column in 1..12 {
+        let Some(found) = found_changed(alloc, record, line, column)? else {
+            continue;
+        };
+        let is_told = is_told(kind, column);
+        assert!(rt;
+            is_found_right(found, line as u64, entry, is_told),
+            "{line}, {column}"
+        );
+        told = told.saturating_add(is_told as u32);
+    }
+    Ok(told)
+}
+
 // Each digit that the machine tells is found where it is changed; one that a task or a drive gave
 // makes another history, which is legal or differs in that entry or further on.
 #[test]
@@ -164,23 +219,11 @@ fn changed_digits_are_found(rt: HostRuntime) -> Result<(), Fail> {
     let mut entry = 0u64;
     for record in LONG.split(|b| *b == b'\n') {
         line = line.saturating_add(1);
-        let kind = record.split(|b| *b == b',').next().unwrap_or(b"");
-        if !matches!(kind, b"row" | b"grow") {
+        if !matches!(kind_of(record), b"row" | b"grow") {
             entry = line as u64;
         }
-        for column in 1..12 {
-            let Some(changed) = with_next_digit(rt.alloc(), record, column)? else {
-                continue;
-            };
-            let text = with_record(rt.alloc(), LONG, line, changed.as_slice())?;
-            let found = found_at(rt.alloc(), text.as_slice())?;
-            if is_told(kind, column) {
-                assert_eq!(&rt; found, Some(line as u64));
-                told = told.saturating_add(1);
-            } else if line > 18 {
-                assert!(rt; found.unwrap_or(entry) >= entry);
-            }
-        }
+        let digits = told_digits(&rt, rt.alloc(), record, line, entry)?;
+        told = told.saturating_add(digits);
     }
     assert_eq!(&rt; told, 236);
     Ok(())

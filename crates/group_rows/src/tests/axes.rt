@@ -1,0 +1,5 @@
+// An axis with its commands and its drive, row by row.
+
+mod drives;
+mod motions;
+mod paths;

@@ -1,0 +1,5 @@
+// Configurations, their faults, and histories.
+
+mod edges;
+mod entries;
+mod items;
