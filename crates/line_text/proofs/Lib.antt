@@ -5,3 +5,4 @@ pub mod Results
 pub mod Texts
 pub mod Each
 pub mod Leading
+pub mod Places
