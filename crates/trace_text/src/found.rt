@@ -1,6 +1,6 @@
 // What is found in a trace: its entries as they stand there.
 
-ghost use Rattle.std.specs.Prelude.{◌≡◌, ◌++◌, ◌∷◌, [], OnOk, IfErr, length};
+ghost use Rattle.std.specs.Prelude.{◌≡◌, ◌++◌, ◌∷◌, [], IfErr, IfOk, OnOk, length};
 ghost use Rattle.std.specs.Option.{option_to_list};
 ghost use Rattle.motion_history.specs.Looks.{told};
 ghost use Rattle.trace_text.specs.TraceState as spec;
@@ -34,6 +34,14 @@ impl Model for FoundCycle {
     } };
 }
 
+/// How many rows of axes and of groups a cycle is to have, and how many places of drives.
+#[derive(Clone, Copy)]
+pub struct CycleRoom {
+    pub axes: usize,
+    pub groups: usize,
+    pub places: usize,
+}
+
 /// An entry of a trace.
 #[derive(Drop)]
 pub enum FoundEntry {
@@ -62,6 +70,19 @@ impl FoundCycle {
             groups: Vec::new(alloc),
             places: Vec::new(alloc),
         }
+    }
+
+    /// A cycle of this number without rows, with the room that it is to have.
+    pub fn with_room(alloc: Global, number: u32, room: CycleRoom) -> Result<FoundCycle, OutOfMemory>
+        ensures { IfOk result (λ c. c ≡
+            record { number = number; axes = []; groups = []; places = [] }) }
+    {
+        Ok(FoundCycle {
+            number,
+            axes: Vec::with_capacity(alloc, room.axes)?,
+            groups: Vec::with_capacity(alloc, room.groups)?,
+            places: Vec::with_capacity(alloc, room.places)?,
+        })
     }
 
     /// How many rows of axes it has.

@@ -1,18 +1,18 @@
 // The calls, cycles and ends of a trace, read from its records.
 
-ghost use Rattle.std.specs.Prelude.{◌≡◌};
+ghost use Rattle.std.specs.Prelude.{◌≡◌, [], Ok};
 ghost use Rattle.line_text.specs.Reading.{Gives};
 ghost use Rattle.line_text.specs.Texts.{texts};
 ghost use Rattle.trace_text.specs.reading.Events as spec;
 ghost use Rattle.trace_text.specs.reading.InputFields.{fields_of};
 
-use crate::found::FoundEntry;
+use crate::found::{CycleRoom, FoundCycle, FoundEntry};
 use crate::reading::inputs::{InputFields, inputs_of};
 use crate::reading::rule::{NO_VALUE, are_empty, value};
 use fb_outputs::Outputs;
 use line_text::{LineFault, broken_unless};
 use machine_words::{KnownBlocks, task_at};
-use motion_history::Builder;
+use motion_history::{Builder, TraceVersion};
 use std::alloc::Global;
 use trace_columns::{outputs_of, unsigned_of, word_of};
 
@@ -103,6 +103,39 @@ pub fn cycle_of(fields: &[&[u8]]) -> Result<u32, LineFault>
     let number = value(unsigned_of(1, u32::MAX, number))?;
     broken_unless(are_empty(unused), NO_VALUE)?;
     Ok(number)
+}
+
+/// The cycle of this number before its first row, in room for all its rows.
+pub fn begun(
+    alloc: Global,
+    version: TraceVersion,
+    machine: &Builder,
+    number: u32,
+) -> Result<FoundCycle, LineFault>
+    ensures { Gives (λ c. c)
+        (Ok (record { number = number; axes = []; groups = []; places = [] })) result }
+{
+    let room = room_of(version, machine);
+    match FoundCycle::with_room(alloc, number, room) {
+        Ok(cycle) => Ok(cycle),
+        Err(_) => Err(LineFault::OutOfMemory),
+    }
+}
+
+// The room of a cycle: for a row of each axis and each group, and for a place of each axis in the
+// version that has places.
+fn room_of(version: TraceVersion, machine: &Builder) -> CycleRoom {
+    let axes = machine.axes().len();
+    let groups = machine.groups().len();
+    let places = match version {
+        TraceVersion::One => 0,
+        TraceVersion::Two => axes,
+    };
+    CycleRoom {
+        axes,
+        groups,
+        places,
+    }
 }
 
 /// The end of a task of a record.

@@ -11,7 +11,7 @@ ghost use Rattle.trace_text.specs.declared.found.FoundEntry.{FoundEntry};
 use crate::command::Command;
 use crate::drive_end::DriveEndRow;
 use crate::found::{FoundCycle, FoundEntry};
-use crate::reading::events::{call_of, cycle_of, end_of};
+use crate::reading::events::{begun, call_of, cycle_of, end_of};
 use crate::reading::head::{command_of, is_header, version_of};
 use crate::reading::item::{set_room, whole};
 use crate::reading::kind::{Kind, Stage, is_stage, kind_of};
@@ -177,8 +177,9 @@ impl TraceReader {
     {
         let number = cycle_of(fields)?;
         whole(&self.machine)?;
+        let cycle = begun(self.alloc, self.version, &self.machine, number)?;
         self.stage = Stage::Rows;
-        self.cycle = FoundCycle::new(self.alloc, number);
+        self.cycle = cycle;
         Ok(())
     }
 
