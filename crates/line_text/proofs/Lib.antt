@@ -6,3 +6,4 @@ pub mod Texts
 pub mod Each
 pub mod Leading
 pub mod Places
+pub mod Numerals

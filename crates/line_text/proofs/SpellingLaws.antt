@@ -1,11 +1,11 @@
 -- What is found in a text is what it spells.
-use Rattle.std.proofs.Common.{◌≡◌, refl, ℕ, suc, zero, ◌+◌, ◌≤◌, Bool, true, false, List, [], ◌∷◌, ◌++◌, length, take, sym, ◌∙◌, ap, subst, arith, inl, inr, lit≤}
-use Rattle.std.specs.Prelude.{◌&&◌, ◌||◌, ◌==◌, cond, eqb, not}
+use Rattle.std.proofs.Common.{◌≡◌, refl, ℕ, suc, ◌+◌, ◌≤◌, Bool, true, false, List, [], ◌∷◌, ◌++◌, length, sym, ◌∙◌, ap, subst, arith, inl, inr, lit≤}
+use Rattle.std.specs.Prelude.{◌||◌, not}
 use Rattle.std.specs.List.{before_first, filter, list_all, onto_first, position_or_len, slice_split}
 use Rattle.std.proofs.lemmas.Bool.{and_parts, cases_Bool, eqb-true, ne_eqb, not-true, or_parts}
 use Rattle.std.proofs.lemmas.List.Splits.{length-slice_split, slice_split-cons_no, slice_split-cons_yes}
 use Rattle.line_text.specs.Lines.{is_end, lines_of, without_empty_end}
-use Rattle.line_text.specs.Spelling.{AreSpelled, EndsWord, IsWord, SpellsLines, SpellsWords, blank, comment, is_line, is_plain, last_line, no_line, nothing, one_line, word}
+use Rattle.line_text.specs.Spelling.{AreSpelled, EndsWord, IsWord, SpellsLines, SpellsWords, blank, comment, is_plain, last_line, no_line, nothing, one_line, word}
 use Rattle.line_text.specs.Words.{is_blank, is_comment, is_word, words_of}
 use Rattle.line_text.proofs.LineLaws.{one_part, without_empty_end-cons}
 

@@ -1,6 +1,6 @@
 -- How texts spell lines, and lines spell words: a grammar, apart from how they are found. This
 -- project's profile.
-use Rattle.std.specs.Prelude.{◌≡◌, ◌↔◌, ◌≤◌, ℕ, Bool, not, ◌&&◌, ◌||◌, List, [], ◌∷◌, ◌++◌, length, IsTrue}
+use Rattle.std.specs.Prelude.{◌≡◌, ◌↔◌, ◌≤◌, ℕ, Bool, not, ◌||◌, List, [], ◌∷◌, ◌++◌, length, IsTrue}
 use Rattle.std.specs.List.{list_all}
 use Rattle.line_text.specs.Lines.{is_end, lines_of}
 use Rattle.line_text.specs.Words.{is_blank, is_comment, words_of}

@@ -1,10 +1,9 @@
 // Numbers and points in words.
 
-ghost use Rattle.std.specs.Prelude.{◌≡◌, ◌≤◌, IfSome, IsTrue, length, unsigned_abs};
+ghost use Rattle.std.specs.Prelude.{◌≡◌, ◌≤◌, if◌then◌else◌, IfSome, Some, None, length, unsigned_abs};
 ghost use Rattle.std.specs.Char.{is_ascii_digit};
 ghost use Rattle.std.specs.List.{list_all};
 ghost use Rattle.std.specs.Str.Parse.{digits_value};
-ghost use Rattle.fixed_units.specs.Numbers as fixed;
 ghost use Rattle.line_text.specs.Numbers as spec;
 
 use crate::word::place_of;
@@ -31,10 +30,10 @@ fn size_of(digits: &[u8]) -> Option<u64>
     ensures value { result ≡ spec.size_of digits.now }
     ensures small { IfSome result (λ n. n ≤ MOST_NUMBER) }
 {
-    if !is_digits(digits) || digits.len() > MOST_DIGITS {
+    if digits.is_empty() || digits.len() > MOST_DIGITS {
         return None;
     }
-    let size = value_of(digits);
+    let size = value_of(digits)?;
     if size <= MOST_NUMBER {
         Some(size)
     } else {
@@ -42,31 +41,20 @@ fn size_of(digits: &[u8]) -> Option<u64>
     }
 }
 
-// The number that at most 19 digits write.
-fn value_of(digits: &[u8]) -> u64
-    requires digits { IsTrue (fixed.is_digits digits.now) }
-    requires few { length digits.now ≤ MOST_DIGITS }
-    ensures { result ≡ digits_value 10 digits.now }
+// The number that at most 19 bytes write, where each is a decimal digit.
+fn value_of(bytes: &[u8]) -> Option<u64>
+    requires { length bytes.now ≤ MOST_DIGITS }
+    ensures { result ≡ (if list_all is_ascii_digit bytes.now
+        then Some (digits_value 10 bytes.now) else None) }
 {
     let mut number = 0u64;
-    for digit in digits {
-        number = number * 10 + u64::from(*digit - b'0');
+    for byte in bytes {
+        if !byte.is_ascii_digit() {
+            return None;
+        }
+        number = number * 10 + u64::from(*byte - b'0');
     }
-    number
-}
-
-// Whether the bytes are one decimal digit or more.
-fn is_digits(bytes: &[u8]) -> bool
-    ensures { result ≡ fixed.is_digits bytes.now }
-{
-    !bytes.is_empty() && has_digits_alone(bytes)
-}
-
-// Whether each byte is a decimal digit.
-fn has_digits_alone(bytes: &[u8]) -> bool
-    ensures { result ≡ list_all is_ascii_digit bytes.now }
-{
-    bytes.iter().all(|b| b.is_ascii_digit())
+    Some(number)
 }
 
 /// The point that a word is: two numbers joined by a colon.

@@ -6,7 +6,7 @@ ghost use Rattle.line_text.specs.Texts as shown;
 ghost use Rattle.line_text.specs.Texts.{texts};
 ghost use Rattle.line_text.specs.Words as spec;
 
-use memchr::{memchr, memchr3};
+use memchr::memchr;
 use std::alloc::{AllocError, Global};
 
 /// Whether a word is this text.
@@ -89,7 +89,7 @@ fn blank_in(bytes: &[u8]) -> Option<usize>
     ensures place { result ≡ position spec.is_blank bytes.now }
     ensures within { IfSome result (λ place. place < length bytes.now) }
 {
-    memchr3(b' ', b'\t', b'\r', bytes)
+    bytes.iter().position(|b| is_blank(*b))
 }
 
 // Whether a line may have the byte.
@@ -97,6 +97,13 @@ fn is_line_byte(b: u8) -> bool
     ensures { result ≡ spec.is_line_byte b }
 {
     b == b'\t' || b == b'\r' || (b' ' <= b && b <= b'~')
+}
+
+// Whether a byte stands between words.
+fn is_blank(b: u8) -> bool
+    ensures { result ≡ spec.is_blank b }
+{
+    b == b' ' || b == b'\t' || b == b'\r'
 }
 
 // What stands before the comment of a line.

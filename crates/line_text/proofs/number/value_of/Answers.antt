@@ -1,27 +1,25 @@
--- Digit by digit.
-use Rattle.std.proofs.Common.{◌≤◌, ◌^◌, arith}
+-- Byte by byte.
+use Rattle.std.proofs.Common.{◌≡◌, ◌≤◌, ◌^◌, true, get_or, sym, ◌∙◌, arith}
 use Rattle.std.proofs.Math.Nat.{pow-le-pow_right}
-use Rattle.fixed_units.proofs.Digits.{digits_value-next, pow-more}
-use Rattle.fixed_units.proofs.Parts.{digits_parts}
+use Rattle.std.specs.Char.{is_ascii_digit}
+use Rattle.line_text.proofs.Numerals.{digit-range, read-more}
 use Rattle.line_text.proofs.number.value_of.Goals as goal
 
 pub overflow_mul-number : goal.overflow_mul-number
 overflow_mul-number c =
-    let few : c.loop-digit.digit-index ≤ 18 = omega (arith, c.requires.few, c.loop-digit-test.true) in
-    let top : 10 ^ c.loop-digit.digit-index ≤ 10 ^ 18 = pow-le-pow_right {n = 10} (omega arith) few in
-    omega (arith, c.loop-digit.invariant.small, top)
+    let few : c.loop-byte.byte-index ≤ 18 = omega (arith, c.requires, c.loop-byte-test.true) in
+    let top : 10 ^ c.loop-byte.byte-index ≤ 10 ^ 18 = pow-le-pow_right {n = 10} (omega arith) few in
+    omega (arith, c.loop-byte.invariant.small, top)
 
 pub overflow_add-number : goal.overflow_add-number
 overflow_add-number c =
-    let few : c.loop-digit.digit-index ≤ 18 = omega (arith, c.requires.few, c.loop-digit-test.true) in
-    let top : 10 ^ c.loop-digit.digit-index ≤ 10 ^ 18 = pow-le-pow_right {n = 10} (omega arith) few in
-    let next = digits_value-next c.args.digits.now c.loop-digit.digit-index (digits_parts c.args.digits.now c.requires.digits).1 c.loop-digit-test.true in
-    omega (arith, c.loop-digit.invariant.small, top, next.1, c.from.ensures)
+    let few : c.loop-byte.byte-index ≤ 18 = omega (arith, c.requires, c.loop-byte-test.true) in
+    let top : 10 ^ c.loop-byte.byte-index ≤ 10 ^ 18 = pow-le-pow_right {n = 10} (omega arith) few in
+    let digit : is_ascii_digit (get_or c.args.bytes.now c.loop-byte.byte-index 0) ≡ true = sym c.is_ascii_digit.ensures.value ∙ c.if-not-is_ascii_digit.false in
+    let range = digit-range (get_or c.args.bytes.now c.loop-byte.byte-index 0) digit in
+    omega (arith, c.loop-byte.invariant.small, top, range, c.from.ensures)
 
-pub loop-digit-preserved : goal.loop-digit-preserved
-loop-digit-preserved c =
-    let next = digits_value-next c.args.digits.now c.loop-digit.digit-index (digits_parts c.args.digits.now c.requires.digits).1 c.loop-digit-test.true in
-    record {
-      value = omega (arith, next.0, next.1, c.from.ensures, c.loop-digit.invariant.value);
-      small = omega (arith, next.1, c.from.ensures, c.loop-digit.invariant.small, pow-more c.loop-digit.digit-index);
-    }
+pub loop-byte-preserved : goal.loop-byte-preserved
+loop-byte-preserved c =
+    let digit : is_ascii_digit (get_or c.args.bytes.now c.loop-byte.byte-index 0) ≡ true = sym c.is_ascii_digit.ensures.value ∙ c.if-not-is_ascii_digit.false in
+    rw c.from.ensures (read-more c.args.bytes.now c.loop-byte.byte-index c.loop-byte.number c.loop-byte.invariant c.loop-byte-test.true digit)

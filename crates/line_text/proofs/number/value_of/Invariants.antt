@@ -1,10 +1,6 @@
--- The number so far is that of the digits so far, and has room for one more.
-use Rattle.std.proofs.Common.{◌≡◌, ◌<◌, ◌^◌, take}
-use Rattle.std.specs.Str.Parse.{digits_value}
+-- The bytes so far are digits, and the number is theirs and has room for one more.
+use Rattle.line_text.proofs.Numerals.{IsRead}
 use Rattle.line_text.proofs.number.value_of.Given as goal
 
-abbrev pub invariant-loop-digit : goal.invariant-loop-digit
-invariant-loop-digit l = record {
-  value : l.number ≡ digits_value 10 (take l.digit-index l.digits);
-  small : l.number < 10 ^ l.digit-index;
-}
+abbrev pub invariant-loop-byte : goal.invariant-loop-byte
+invariant-loop-byte l = IsRead l.bytes l.byte-index l.number
