@@ -7,3 +7,4 @@ pub mod Each
 pub mod Leading
 pub mod Places
 pub mod Numerals
+pub mod Behind

@@ -1,6 +1,7 @@
 // Words of the form KEY=VALUE.
 
-ghost use Rattle.std.specs.Prelude.{◌≡◌, Option};
+ghost use Rattle.std.specs.Prelude.{◌≡◌, nat_eq, if◌then◌else◌, Option, None, Some, drop, length};
+ghost use Rattle.std.specs.List.{starts_with};
 ghost use Rattle.std.specs.Option.{option_map};
 ghost use Rattle.line_text.specs.Keys as spec;
 ghost use Rattle.line_text.specs.Texts.{texts};
@@ -15,9 +16,26 @@ pub fn value_at<'a, 'b>(key: &[u8], words: &'b [&'a [u8]]) -> (Option<&'a [u8]>,
     let [word, behind @ ..] = words else {
         return (None, words);
     };
-    if word.starts_with(key) {
-        (Some(&word[key.len()..]), behind)
-    } else {
-        (None, words)
+    match text_behind(key, word) {
+        Some(text) => (Some(text), behind),
+        None => (None, words),
     }
+}
+
+// What stands behind a key in a word that begins with it.
+fn text_behind<'a>(key: &[u8], word: &'a [u8]) -> Option<&'a [u8]>
+    ensures { option_map (λ v. v.now) result ≡ (if starts_with nat_eq word.now key.now
+        then Some (drop (length key.now) word.now) else None) }
+{
+    let mut rest = word;
+    for byte in key {
+        let [first, behind @ ..] = rest else {
+            return None;
+        };
+        if first != byte {
+            return None;
+        }
+        rest = behind;
+    }
+    Some(rest)
 }
