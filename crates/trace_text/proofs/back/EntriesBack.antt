@@ -1,5 +1,5 @@
 -- The entries of a trace and the records of its drives are read back.
-use Rattle.std.specs.Prelude.{◌≡◌, refl, ℕ, suc, ◌+◌, ◌^◌, ◌<◌, ◌≤◌, ◌&&◌, Bool, true, false, nat_le, ℤ, Some, Ok, List, [], ◌∷◌, ◌++◌, length, map, slice_get}
+use Rattle.std.specs.Prelude.{◌≡◌, refl, ℕ, suc, ◌+◌, ◌^◌, ◌<◌, ◌≤◌, true, false, nat_le, ℤ, Some, Ok, List, [], ◌∷◌, ◌++◌, length, map, slice_get}
 use Rattle.std.specs.List.{AllByRecursion, AllZip, flat_map}
 use Rattle.std.specs.Option.{option_to_list}
 use Rattle.std.proofs.Common.{◌∙◌, sym, ap, subst, arith, append_assoc}

@@ -1,5 +1,5 @@
 -- The fields of a machine's items are read back.
-use Rattle.std.specs.Prelude.{◌≡◌, refl, ℕ, ◌+◌, ◌-◌, ◌≤◌, ◌==◌, Bool, true, false, ◌↔◌, ℤ, pos, neg_ℤ, int_le, unsigned_abs, Some, Ok, List, [], ◌∷◌, decimal, IsTrue}
+use Rattle.std.specs.Prelude.{◌≡◌, refl, ℕ, ◌+◌, ◌-◌, ◌≤◌, ◌==◌, true, false, ◌↔◌, ℤ, pos, neg_ℤ, int_le, unsigned_abs, Some, Ok, List, [], ◌∷◌, decimal, IsTrue}
 use Rattle.std.specs.Fmt.{signed_decimal}
 use Rattle.std.specs.List.{AllByRecursion}
 use Rattle.std.proofs.Common.{arith}

@@ -1,5 +1,5 @@
 -- The items of a machine are read back, each behind those before it.
-use Rattle.std.specs.Prelude.{◌≡◌, refl, ℕ, zero, suc, ◌+◌, ◌-◌, ◌<◌, ◌≤◌, Bool, true, false, ◌||◌, if◌then◌else◌, nat_eq, nat_le, nat_lt, ℤ, Some, None, Ok, List, [], ◌∷◌, ◌++◌, drop, length, map, replicate, slice_get}
+use Rattle.std.specs.Prelude.{◌≡◌, refl, ℕ, zero, suc, ◌+◌, ◌-◌, ◌<◌, ◌≤◌, true, false, if◌then◌else◌, nat_eq, nat_le, nat_lt, ℤ, Some, None, Ok, List, [], ◌∷◌, ◌++◌, drop, length, map, replicate, slice_get}
 use Rattle.std.specs.List.{AllByRecursion, IsDistinct, flat_map, position}
 use Rattle.std.specs.Fmt.{signed_decimal}
 use Rattle.std.specs.Str.{bytes_eq}

@@ -1,5 +1,5 @@
 -- Texts without the marks that stand between parts.
-use Rattle.std.specs.Prelude.{◌≡◌, refl, ℕ, suc, ◌+◌, ◌^◌, ◌<◌, ◌≤◌, ◌==◌, ◌%◌, ◌&&◌, ◌++◌, ℤ, pos, negsuc, unsigned_abs, true, false, nat_lt, decimal, List, [], ◌∷◌, length}
+use Rattle.std.specs.Prelude.{◌≡◌, refl, ℕ, suc, ◌+◌, ◌^◌, ◌<◌, ◌≤◌, ◌==◌, ◌%◌, ◌&&◌, ℤ, pos, negsuc, unsigned_abs, true, false, nat_lt, decimal, List, [], ◌∷◌, length}
 use Rattle.std.specs.Fmt.{signed_decimal}
 use Rattle.std.specs.List.{list_all, AllByRecursion}
 use Rattle.std.proofs.Common.{arith, subst, sym, ◌∙◌}
@@ -8,7 +8,7 @@ use Rattle.std.proofs.lemmas.Fmt.{decimal_by_steps}
 use Rattle.std.proofs.lemmas.Int.{ints}
 use Rattle.axis_state.specs.Names.{is_name, is_name_byte, is_letter}
 use Rattle.machine_words.proofs.Lists.{all-push}
-use Rattle.motion_history.proofs.DistinctLemmas.{each-append, each-weaker}
+use Rattle.motion_history.proofs.DistinctLemmas.{each-weaker}
 
 -- a text has no byte of this value
 abbrev pub IsWithout : ℕ → List ℕ → Type 0

@@ -6,7 +6,6 @@ use Rattle.std.specs.Option.{ok_or}
 use Rattle.std.proofs.lemmas.Bool.{ltb-false}
 use Rattle.std.proofs.lemmas.List.{length-append, length-replicate}
 use Rattle.axis_state.specs.Names.{is_name}
-use Rattle.cam_table.specs.CamTable.{is_cam_table}
 use Rattle.fb_outputs.specs.Names.{kind_named}
 use Rattle.line_text.specs.Reading.{each_of}
 use Rattle.line_text.specs.Rules.{broken_unless, in_range}
@@ -20,7 +19,7 @@ use Rattle.motion_history.specs.declared.fault.ConfigFault.{ConfigFault}
 use Rattle.motion_history.specs.declared.fault.ConfigFault.TheVariants.{NameUnknown, TooMany, TooFew}
 use Rattle.motion_history.specs.declared.refused.TraceVersion.{TraceVersion}
 use Rattle.motion_history.specs.declared.refused.TraceVersion.TheVariants.{One, Two}
-use Rattle.motion_history.specs.declared.sizes.TheConstants.{MOST_CYCLES, MOST_ENTRIES, MOST_GROUPS, MOST_MEMBERS, MOST_TABLES}
+use Rattle.motion_history.specs.declared.sizes.TheConstants.{MOST_CYCLES, MOST_ENTRIES, MOST_GROUPS, MOST_MEMBERS}
 use Rattle.trace_text.specs.reading.Items.{axis_added, axis_meaning, block_meaning, group_meaning, is_object, limits_of, number, parts_of, placed_of, point, room_meaning, table_meaning, task_meaning}
 use Rattle.trace_text.specs.reading.Rules.{are_empty, rule_of, value}
 use Rattle.trace_text.specs.reading.RuleNumbers.{item_refused, item_rules, no_value}

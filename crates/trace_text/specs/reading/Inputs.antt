@@ -1,5 +1,5 @@
 -- The inputs of a call, read from the fields of its record. This project's profile.
-use Rattle.std.specs.Prelude.{ℕ, ℤ, pos, ◌-◌, ◌^◌, ◌==◌, if◌then◌else◌, Result, Ok, Err, List, [], ◌∷◌, ◌++◌, length, replicate, slice_get}
+use Rattle.std.specs.Prelude.{ℕ, ℤ, pos, ◌==◌, if◌then◌else◌, Result, Ok, Err, List, [], ◌∷◌, length}
 use Rattle.command_pool.specs.declared.kind.BlockKind.{BlockKind}
 use Rattle.command_pool.specs.declared.kind.BlockKind.TheVariants.{GearIn, CamIn}
 use Rattle.command_pool.specs.declared.kind.BufferMode.{BufferMode}
@@ -9,24 +9,20 @@ use Rattle.fb_outputs.specs.Names.{mode_named}
 use Rattle.fb_outputs.specs.declared.inputs.Input.{Input}
 use Rattle.fb_outputs.specs.declared.inputs.Input.TheVariants.{Position, Velocity, Acceleration, Deceleration, Jerk, Mode}
 use Rattle.fb_outputs.specs.declared.inputs.Inputs.{Inputs}
-use Rattle.fb_outputs.specs.declared.outputs.Outputs.{Outputs}
 use Rattle.line_text.specs.Reading.{◌>>=◌, each_of}
 use Rattle.line_text.specs.Rules.{broken_unless}
-use Rattle.machine_words.specs.Names.{axis_named, block_at, task_at}
+use Rattle.machine_words.specs.Names.{axis_named}
 use Rattle.machine_words.specs.Positions.{no_positions, positions_from}
 use Rattle.motion_history.specs.Calls.{axes_of}
 use Rattle.motion_history.specs.Setup.{Setup}
 use Rattle.motion_history.specs.declared.config.BlockDef.{BlockDef}
-use Rattle.motion_history.specs.declared.sizes.TheConstants.{MOST_MEMBERS}
-use Rattle.trace_columns.specs.Columns.{flag_of, halves_of, outputs_of, unsigned_of}
+use Rattle.trace_columns.specs.Columns.{flag_of, halves_of, unsigned_of}
 use Rattle.trace_text.specs.reading.Items.{number, parts_of}
 use Rattle.trace_text.specs.reading.Rules.{unused, value}
 use Rattle.trace_text.specs.declared.reading.inputs.Followed.{Followed}
 use Rattle.trace_text.specs.declared.reading.inputs.Rates.{Rates}
 use Rattle.trace_text.specs.declared.reading.inputs.Last.{Last}
 use Rattle.trace_text.specs.reading.InputFields.{InputTexts}
-use Rattle.trace_text.specs.declared.found.FoundEntry.{FoundEntry}
-use Rattle.trace_text.specs.declared.found.FoundEntry.TheVariants as found
 use Rattle.trace_text.specs.reading.RuleNumbers.{no_value}
 
 -- so many positions, joined by semicolons, and 0 behind them
