@@ -1,8 +1,8 @@
-// What no clause says: whole runs of the program in memory, byte for byte.
+// What no clause says: whole runs of the program in memory, byte for byte. More benches with their
+// traces stand in .ci/benches and are compared by .ci/run.
 mod failures;
 mod loads;
 mod reports;
-mod rows;
 mod runs;
 mod states;
 mod tasks;
@@ -52,29 +52,6 @@ row,X,0037,20,8,Standstill,0,1,20,000f,20,
 call,M,1,0,0,0,0,0,aborting,,D,0
 end,main,,,,,,,,,,
 drive,X,7,OperationEnabled,20,,,,,,,
-";
-
-const MOVE_OF_NO_DISTANCE: &[u8] = b"motion-bench 1
-limit 1000 10000
-axis A 0 50 10 4 1 0 ready
-task main
-block M main MoveAbsolute A
-go
-call M on pos=0 vel=6 acc=2 dec=2
-cycle
-call M on
-";
-
-const MOVE_OF_NO_DISTANCE_TRACE: &[u8] = b"kind,a,b,c,d,e,f,g,h,i,j,k
-trace,1,bench,1000,10000,,,,,,,
-axis,A,0,50,10,4,1,0,1,,,
-task,main,,,,,,,,,,
-block,M,main,MoveAbsolute,A,,,,,,,
-call,M,1,0,6,2,2,0,aborting,,BA,0
-cycle,1,,,,,,,,,,
-row,A,0037,0,8,Standstill,0,1,0,000f,0,
-call,M,1,0,0,0,0,0,aborting,,D,0
-drive,A,1,OperationEnabled,0,,,,,,,
 ";
 
 // The change of step is less than an axis's may be.
@@ -127,7 +104,6 @@ fn outcome<H: Host + Wait + Sync>(
 fn files(alloc: Global, fails: &[u32]) -> Result<MemoryFiles, Fail> {
     let mut files = MemoryFiles::new(alloc, fails)?;
     files.put("one_move", ONE_MOVE)?;
-    files.put("move_of_no_distance", MOVE_OF_NO_DISTANCE)?;
     files.put("r.bench", AMAX_ONE)?;
     Ok(files)
 }
@@ -152,62 +128,6 @@ fn run_of<H: Host + Wait + Sync>(
     bench: &[u8],
 ) -> Result<(Status, Vec<u8>), Fail> {
     ended(rt, alloc, "bench", "b", bench)
-}
-
-#[test]
-fn writes_the_trace_of_a_move(rt: HostRuntime) -> Result<(), Fail> {
-    let cases: [(&str, &[u8]); 2] = [
-        ("one_move", ONE_MOVE_TRACE),
-        ("move_of_no_distance", MOVE_OF_NO_DISTANCE_TRACE),
-    ];
-    for (name, trace) in cases {
-        let mut files = files(rt.alloc(), &[])?;
-        let (ended, told) = outcome(&rt, rt.alloc(), &["bench", name], &mut files)?;
-        assert_eq!(rt; ended, Status::Ok);
-        assert_eq!(rt; told.as_slice(), trace);
-    }
-    Ok(())
-}
-
-// Power, a drive's fault, a gear, a blend, a group, and a version.
-#[test]
-fn writes_the_traces_of_worked_benches(rt: HostRuntime) -> Result<(), Fail> {
-    let cases: [(&[u8], &[u8]); 6] = [
-        (rows::POWER_ON, rows::POWER_ON_TRACE),
-        (rows::DRIVE_FAULT, rows::DRIVE_FAULT_TRACE),
-        (rows::GEAR, rows::GEAR_TRACE),
-        (rows::BLENDING, rows::BLENDING_TRACE),
-        (rows::MEMBER_FAULT, rows::MEMBER_FAULT_TRACE),
-        (rows::VERSION_TWO, rows::VERSION_TWO_TRACE),
-    ];
-    for (bench, trace) in cases {
-        let (ended, told) = run_of(&rt, rt.alloc(), bench)?;
-        assert_eq!(rt; ended, Status::Ok);
-        assert_eq!(rt; told.as_slice(), trace);
-    }
-    Ok(())
-}
-
-#[test]
-fn writes_the_trace_so_far(rt: HostRuntime) -> Result<(), Fail> {
-    let cases: [(&[u8], Status, &[u8]); 2] = [
-        (
-            rows::CYCLES_OVER,
-            Status::CyclesOver,
-            rows::CYCLES_OVER_TRACE,
-        ),
-        (
-            rows::HISTORY_FULL,
-            Status::HistoryFull,
-            rows::HISTORY_FULL_TRACE,
-        ),
-    ];
-    for (bench, wanted, trace) in cases {
-        let (ended, told) = run_of(&rt, rt.alloc(), bench)?;
-        assert_eq!(rt; ended, wanted);
-        assert_eq!(rt; told.as_slice(), trace);
-    }
-    Ok(())
 }
 
 // A bench with this limit and these events.

@@ -2,7 +2,7 @@
 -- it lead to. This project's profile.
 use Rattle.std.specs.Prelude.{◌≡◌, ℕ, ◌+◌, ◌<◌, ◌^◌, List, [], length, map}
 use Rattle.motion_history.specs.Entries.{Entry, HistoryState, call, cycle, cycles_of, end_of}
-use Rattle.motion_history.specs.Setup.{Setup}
+use Rattle.motion_history.specs.Setup.{IsSetup, Setup}
 use Rattle.motion_kernel.specs.Histories.{machine_from}
 use Rattle.motion_kernel.specs.Machine.{Machine, machine_at_opening}
 use Rattle.motion_kernel.specs.declared.bank.Bank.{Bank}
@@ -59,6 +59,13 @@ empty_history s = record {
   rows = [];
   group_rows = [];
 }
+
+-- a bank of a sound configuration that was never used: it begins at opening, with nothing before it
+pub record IsUnused (s : Setup) (b : Bank) : Type 0 where
+  pub setup : IsSetup s
+  pub before : b.before ≡ nothing_before
+  pub start : b.start ≡ machine_at_opening s
+  pub history : b.history ≡ empty_history s
 
 -- a bank may be taken by a kernel of a configuration: it is empty, and has room for its machine
 pub record IsSpare (s : Setup) (b : Bank) : Type 0 where

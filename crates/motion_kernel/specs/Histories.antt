@@ -56,16 +56,17 @@ Follows s cycles m [] = Unit {0}
 Follows s cycles m (e ∷ es) =
     IsOf s cycles m e × Follows s (cycles + cycle_count e) (after s m e) es
 
--- a history is legal for a configuration: it keeps within the room, and folding the machine from
--- opening gives each reply and each row
-pub record IsLegal (s : Setup) (es : List Entry) : Type 0 where
-  pub entries : length es ≤ s.entries
-  pub cycles : cycles_of es ≤ s.cycles
-  pub follows : Follows s 0 (machine_at_opening s) es
-
--- a history is legal from a machine on: it keeps within the room, and folding that machine gives
--- each reply and each row
+-- a history is legal from a machine on: it keeps within the room of a configuration, and folding that
+-- machine gives each reply and each row
 pub record IsLegalFrom (s : Setup) (m : Machine) (es : List Entry) : Type 0 where
   pub entries : length es ≤ s.entries
   pub cycles : cycles_of es ≤ s.cycles
   pub follows : Follows s 0 m es
+
+-- a history is legal for a configuration: it is so from the machine at opening on
+abbrev pub IsLegal : Setup → List Entry → Type 0
+IsLegal s es = IsLegalFrom s (machine_at_opening s) es
+
+-- entries are the machine's from opening on, however many
+pub record IsPast (s : Setup) (es : List Entry) : Type 0 where
+  pub follows : Follows s 0 (machine_at_opening s) es

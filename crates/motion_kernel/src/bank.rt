@@ -1,10 +1,12 @@
 // A bank of a history: where it begins, and the entries since.
 
-ghost use Rattle.std.specs.Prelude.{◌↔◌, IsTrue};
-ghost use Rattle.motion_kernel.specs.Banks.{IsEarly};
+ghost use Rattle.std.specs.Prelude.{◌↔◌, IfOk, IsTrue};
+ghost use Rattle.motion_kernel.specs.Banks.{IsEarly, IsUnused};
 
+use crate::layout::Layout;
 use crate::start::Start;
-use motion_history::History;
+use motion_history::{History, OutOfMemory};
+use std::alloc::Global;
 
 /// What was before a bank.
 #[derive(Clone, Copy, Debug, PartialEq, Eq)]
@@ -26,8 +28,8 @@ impl Before {
     }
 }
 
-/// Nothing was before.
-pub const NOTHING_BEFORE: Before = Before {
+// Nothing was before.
+const NOTHING_BEFORE: Before = Before {
     banks: 0,
     entries: 0,
     cycles: 0,
@@ -40,4 +42,17 @@ pub struct Bank {
     pub before: Before,
     pub start: Start,
     pub history: History,
+}
+
+impl Bank {
+    /// A bank with its whole room reserved, which begins at opening and was never used.
+    pub(crate) fn empty(alloc: Global, layout: &Layout) -> Result<Bank, OutOfMemory>
+        ensures { IfOk result (IsUnused layout.now) }
+    {
+        Ok(Bank {
+            before: NOTHING_BEFORE,
+            start: Start::open(alloc, layout)?,
+            history: History::open(alloc, layout.config())?,
+        })
+    }
 }

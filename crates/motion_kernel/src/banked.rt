@@ -1,7 +1,7 @@
 // The kernel whose history is in banks: its state is the replay of the last one from where that
 // begins.
 
-ghost use Rattle.std.specs.Prelude.{◌≡◌, ◌↔◌, ◌<◌, ◌≤◌, ◌+◌, ◌-◌, ◌^◌, ◌++◌, ◌∷◌, [], length, map, IfOk, IsTrue, All};
+ghost use Rattle.std.specs.Prelude.{◌≡◌, ◌<◌, ◌≤◌, ◌+◌, ◌-◌, ◌++◌, ◌∷◌, [], length, map, IfOk, All};
 ghost use Rattle.std.specs.Option.{option_map};
 ghost use Rattle.axis_state.specs.declared.definition.AxisRow.{AxisRow};
 ghost use Rattle.cia402_machine.specs.declared.drive.DriveIn.{DriveIn};
@@ -10,13 +10,13 @@ ghost use Rattle.motion_history.specs.Calls.{IsCall};
 ghost use Rattle.motion_history.specs.Entries.{call, cycle, end_of, cycles_of};
 ghost use Rattle.motion_history.specs.LastCycles.{cycle_told, last_cycle_of};
 ghost use Rattle.motion_history.specs.Setup.{IsSetup};
-ghost use Rattle.motion_kernel.specs.Banks.{IsEarly, IsSpare, after_bank, at_opening, IsHeldBank, machine_now};
+ghost use Rattle.motion_kernel.specs.Banks.{at_opening, machine_now};
 ghost use Rattle.motion_kernel.specs.calls.Calls.{reply_of};
 ghost use Rattle.motion_kernel.specs.cycles.Cycles.{cycled};
 ghost use Rattle.motion_kernel.specs.Histories.{IsLegalFrom};
 ghost use Rattle.motion_kernel.specs.kept.Machine.{AreWhole};
 
-use crate::bank::{Bank, Before, NOTHING_BEFORE};
+use crate::bank::{Bank, Before};
 use crate::block_calls::call_block;
 use crate::drive_answers::counts_have_32_bits;
 use crate::laws::machines_stay_kept;
@@ -24,7 +24,6 @@ use crate::layout::Layout;
 use crate::machine_cycle::{Aside, cycle_machine};
 use crate::opening::open_parts;
 use crate::parts::Parts;
-use crate::start::Start;
 use cia402_machine::{DriveIn, DriveOut};
 use fb_outputs::{Inputs, Outputs};
 use motion_history::{
@@ -32,7 +31,8 @@ use motion_history::{
 };
 use std::alloc::Global;
 use std::marker::Model;
-use std::mem::swap;
+
+mod swapping;
 
 /// A kernel whose history is in banks, of which it holds the last one: a full bank is given out for
 /// an empty one, and the kernel goes on. Contracts see it as its configuration, what was before the
@@ -66,58 +66,13 @@ impl BankedKernel {
         let layout = Layout::open(alloc, config)?;
         let parts = open_parts(alloc, &layout)?;
         let aside = Aside::open(alloc, &layout)?;
-        let bank = Bank {
-            before: NOTHING_BEFORE,
-            start: Start::open(alloc, &layout)?,
-            history: History::open(alloc, layout.config())?,
-        };
+        let bank = Bank::empty(alloc, &layout)?;
         Ok(BankedKernel {
             layout,
             parts,
             aside,
             bank,
         })
-    }
-
-    /// An empty bank for `swap`, with its whole room reserved.
-    pub fn spare(&self, alloc: Global) -> Result<Bank, OutOfMemory>
-        ensures { IfOk result (IsSpare self.now.config) }
-    {
-        machines_stay_kept();
-        Ok(Bank {
-            before: NOTHING_BEFORE,
-            start: Start::open(alloc, &self.layout)?,
-            history: History::open(alloc, self.layout.config())?,
-        })
-    }
-
-    /// Whether a bank may be given out: no more than 2^63 entries were before it, which lasts for
-    /// longer than a machine does.
-    pub fn may_swap(&self) -> bool
-        ensures { IsTrue result ↔ IsEarly self.now.before }
-    {
-        self.bank.before.is_early()
-    }
-
-    /// Gives the bank out for an empty one, and goes on. It takes no memory, and as long whatever
-    /// the bank holds.
-    pub fn swap(&mut self, spare: &mut Bank)
-        requires early { IsEarly self.old.before }
-        requires spare { IsSpare self.old.config spare.old }
-        ensures kernel { self.new ≡ record self.old {
-          before = after_bank self.old;
-          start = machine_now self.old;
-          history = [];
-        } }
-        ensures bank { IsHeldBank self.old spare.new }
-    {
-        spare.before = Before {
-            banks: self.bank.before.banks + 1,
-            entries: self.bank.before.entries + self.bank.history.entries(),
-            cycles: self.bank.before.cycles + u64::from(self.cycles_made()),
-        };
-        spare.start.copy_from(&self.parts);
-        swap(&mut self.bank, spare);
     }
 
     /// Touches the memory of the bank's whole room, so that no call and no cycle pays for its

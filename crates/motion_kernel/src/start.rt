@@ -1,7 +1,8 @@
 // The machine with which a bank of a history begins.
 
-ghost use Rattle.std.specs.Prelude.{◌≡◌, ◌<◌, IfOk, length, slice_get};
+ghost use Rattle.std.specs.Prelude.{◌≡◌, ◌↔◌, ◌<◌, ◌++◌, ◌∷◌, [], IfErr, IfOk, IsErr, OnErr, OnOk, length, slice_get, slice_set};
 ghost use Rattle.std.specs.Option.{option_copied, option_map};
+ghost use Rattle.axis_core.specs.AxisKept.{IsAxisKept};
 ghost use Rattle.command_pool.specs.Waiting.{queue_of};
 ghost use Rattle.motion_kernel.specs.Machine.{machine_at_opening};
 ghost use Rattle.motion_kernel.specs.Seen.{machine_of, placed};
@@ -71,6 +72,49 @@ impl Start {
         self.parts.instances.get(block as usize)
     }
 
+    /// Sets an axis, by its number.
+    pub fn set_axis(&mut self, axis: u8, now: Axis)
+        requires kept { IsAxisKept now }
+        requires place { axis < length self.old.axes }
+        ensures { self.new ≡ record self.old { axes = slice_set self.old.axes axis now } }
+    {
+        self.parts.axes[axis as usize] = AxisCore::resume(now);
+    }
+
+    /// Sets a group with its path, by its number.
+    pub fn set_group(&mut self, group: u8, now: GroupOnPath<LinePath>)
+        requires { group < length self.old.groups }
+        ensures { self.new ≡ record self.old {
+          groups = slice_set self.old.groups group (placed now);
+        } }
+    {
+        self.parts.groups[group as usize] = GroupCore::resume(now);
+    }
+
+    /// Puts a command behind the last that waits in a list. Where eight wait it is given back.
+    pub fn push_waiting(&mut self, list: u8, wanted: Wanted) -> Result<(), Wanted>
+        requires { list < length self.old.queues }
+        ensures added { OnOk result (self.new ≡ record self.old {
+          queues = slice_set self.old.queues list (queue_of self.old.queues list ++ wanted ∷ []);
+        }) }
+        ensures full_exactly_at_eight { IsErr result ↔
+            (length (queue_of self.old.queues list) ≡ 8) }
+        ensures given_back { IfErr result (λ back. back ≡ wanted) }
+        ensures unchanged { OnErr result (self.new ≡ self.old) }
+    {
+        self.parts.pool.push_last(list, wanted)
+    }
+
+    /// Sets the instance of a block, by its number.
+    pub fn set_instance(&mut self, block: u16, now: Instance)
+        requires { block < length self.old.instances }
+        ensures { self.new ≡ record self.old {
+          instances = slice_set self.old.instances block now;
+        } }
+    {
+        self.parts.instances[block as usize] = now;
+    }
+
     /// Takes the machine of these parts in the place of its own, which has as many.
     pub(crate) fn copy_from(&mut self, parts: &Parts)
         requires axes { length self.old.axes ≡ length (machine_of parts.now).axes }
@@ -79,47 +123,17 @@ impl Start {
         requires instances { length self.old.instances ≡ length (machine_of parts.now).instances }
         ensures { self.new ≡ machine_of parts.now }
     {
-        copy_axes(self.parts.axes.as_mut_slice(), parts.axes.as_slice());
-        copy_groups(self.parts.groups.as_mut_slice(), parts.groups.as_slice());
-        self.parts.pool.copy_from(&parts.pool);
-        copy_instances(
-            self.parts.instances.as_mut_slice(),
-            parts.instances.as_slice(),
-        );
+        self.parts.copy_from(parts);
     }
-}
 
-// Each axis becomes what the other of its number is.
-fn copy_axes(axes: &mut [AxisCore], others: &[AxisCore])
-    requires { length axes.old ≡ length others.now }
-    ensures { axes.new ≡ others.now }
-{
-    for (i, other) in others.iter().enumerate() {
-        axes[i] = AxisCore::resume(*other.axis());
-    }
-}
-
-// Each group becomes what the other of its number is.
-fn copy_groups(groups: &mut [GroupCore<LinePath>], others: &[GroupCore<LinePath>])
-    requires { length groups.old ≡ length others.now }
-    ensures { groups.new ≡ others.now }
-{
-    for (i, other) in others.iter().enumerate() {
-        groups[i] = GroupCore::resume(*other.group());
-    }
-}
-
-// Each instance becomes what the other of its number is.
-fn copy_instances(instances: &mut [Instance], others: &[Instance])
-    requires { length instances.old ≡ length others.now }
-    ensures { instances.new ≡ others.now }
-{
-    for (i, other) in others.iter().enumerate() {
-        instances[i] = Instance::resume(
-            other.kind(),
-            other.execute(),
-            other.reached(),
-            other.progress(),
-        );
+    /// Gives its machine to these parts, of which there are as many.
+    pub(crate) fn copy_to(&self, parts: &mut Parts)
+        requires axes { length self.now.axes ≡ length (machine_of parts.old).axes }
+        requires groups { length self.now.groups ≡ length (machine_of parts.old).groups }
+        requires queues { length self.now.queues ≡ length (machine_of parts.old).queues }
+        requires instances { length self.now.instances ≡ length (machine_of parts.old).instances }
+        ensures { machine_of parts.new ≡ self.now }
+    {
+        parts.copy_from(&self.parts);
     }
 }

@@ -1,12 +1,10 @@
--- The machines of a legal history are kept, and the entries with which it begins are a legal one.
-use Rattle.std.specs.Prelude.{◌≡◌, ℕ, ◌+◌, List, [], ◌∷◌, ◌++◌, length}
-use Rattle.std.proofs.Common.{arith}
-use Rattle.motion_history.proofs.HistoryLemmas.{cycles_of-append}
+-- The machines of a past are kept, and the entries with which it begins are one.
+use Rattle.std.specs.Prelude.{ℕ, ◌+◌, List, [], ◌∷◌, ◌++◌}
 use Rattle.motion_history.specs.Entries.{Entry, call, cycle, cycle_count, end_of}
 use Rattle.motion_history.specs.Setup.{Setup, IsSetup}
 use Rattle.motion_kernel.specs.calls.Calls.{after_call}
 use Rattle.motion_kernel.specs.cycles.Cycles.{after_cycle}
-use Rattle.motion_kernel.specs.Histories.{Follows, IsLegal, after, inputs_of, replay}
+use Rattle.motion_kernel.specs.Histories.{Follows, IsPast, after, inputs_of, replay}
 use Rattle.motion_kernel.specs.Machine.{Machine, machine_at_opening}
 use Rattle.motion_kernel.specs.kept.Machine.{AreWhole, IsMachineKept}
 use Rattle.motion_kernel.proofs.kept.Machine.{MachinesStayKept, kept_by_cycle}
@@ -22,22 +20,14 @@ replay_kept laws s cycles m (cycle c rows grows ∷ es) whole h f =
     (kept_by_cycle laws s m rows grows h f.0.1) f.1
 replay_kept laws s cycles m (end_of task ∷ es) whole h f = replay_kept laws s (cycles + cycle_count (end_of task)) m es whole h f.1
 
-pub legal_kept : MachinesStayKept → (s : Setup) (es : List Entry) → IsSetup s → AreWhole s → IsLegal s es →
+pub past_kept : MachinesStayKept → (s : Setup) (es : List Entry) → IsSetup s → AreWhole s → IsPast s es →
     IsMachineKept s (replay s (machine_at_opening s) es)
-legal_kept laws s es setup whole legal = replay_kept laws s 0 (machine_at_opening s) es whole (laws.opened s setup whole) legal.follows
+past_kept laws s es setup whole past = replay_kept laws s 0 (machine_at_opening s) es whole (laws.opened s setup whole) past.follows
 
--- the entries with which a legal history begins are a legal one
-length_append : (es fs : List Entry) → length (es ++ fs) ≡ length es + length fs
-length_append [] fs = omega arith
-length_append (e ∷ es) fs = let more = length_append es fs in omega (arith, more)
-
+-- the entries with which a past begins are one
 follows_so_far : (s : Setup) (cycles : ℕ) (m : Machine) (es fs : List Entry) → Follows s cycles m (es ++ fs) → Follows s cycles m es
 follows_so_far s cycles m [] fs f = tt
 follows_so_far s cycles m (e ∷ es) fs f = (f.0, follows_so_far s (cycles + cycle_count e) (after s m e) es fs f.1)
 
-pub legal_so_far : (s : Setup) (es fs : List Entry) → IsLegal s (es ++ fs) → IsLegal s es
-legal_so_far s es fs legal = record {
-  entries = let most = legal.entries in let sum = length_append es fs in omega (arith, sum);
-  cycles = let most = legal.cycles in let sum = cycles_of-append es fs in omega (arith, sum);
-  follows = follows_so_far s 0 (machine_at_opening s) es fs legal.follows;
-}
+pub past_so_far : (s : Setup) (es fs : List Entry) → IsPast s (es ++ fs) → IsPast s es
+past_so_far s es fs past = record { follows = follows_so_far s 0 (machine_at_opening s) es fs past.follows }

@@ -1,4 +1,4 @@
--- What every legal history keeps.
+-- What every past keeps.
 use Rattle.std.specs.Prelude.{◌≡◌, List, ◌++◌}
 use Rattle.motion_history.specs.Columns.{KeepTheirLimits}
 use Rattle.motion_history.specs.Entries.{Entry}

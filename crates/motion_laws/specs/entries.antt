@@ -1,4 +1,4 @@
--- What each entry of a legal history keeps.
+-- What each entry of a past keeps.
 pub mod Refusals
 pub mod Replies
 pub mod AxisEvents

@@ -6,7 +6,7 @@ ghost use Rattle.motion_history.specs.Entries.{Entry};
 ghost use Rattle.motion_history.specs.Setup.{Setup, IsSetup};
 ghost use Rattle.motion_laws.specs.arrivals.Moves.{MovesArrive};
 ghost use Rattle.motion_laws.specs.arrivals.Paths.{PathsEnd};
-ghost use Rattle.motion_kernel.specs.Histories.{IsLegal};
+ghost use Rattle.motion_kernel.specs.Histories.{IsPast};
 ghost use Rattle.motion_kernel.specs.kept.Machine.{AreWhole};
 
 use axis_core::{
@@ -17,7 +17,7 @@ use command_changes::{axis_fates_are_told, group_fates_are_told};
 use group_core::lines_lead_to_their_targets;
 use motion_kernel::machines_stay_kept;
 
-/// In every legal history the active command of an axis changes by its fate alone; and a move, a
+/// In every past the active command of an axis changes by its fate alone; and a move, a
 /// Halt and a Stop come to their end in time. From the entry on in which one becomes active, be it
 /// in its call or by taking over in a cycle, and where the history has as many cycles behind it as
 /// its bound, it is within these Done at the end of its course, or was aborted, blended or faulted
@@ -30,7 +30,7 @@ use motion_kernel::machines_stay_kept;
 /// these, or was aborted or faulted; where the blend has a step, its bound is as many cycles as the
 /// target is units away, and one.
 pub fn moves_arrive_in_time()
-    ensures moves { (s : Setup) (es : List Entry) → IsSetup s → AreWhole s → IsLegal s es →
+    ensures moves { (s : Setup) (es : List Entry) → IsSetup s → AreWhole s → IsPast s es →
         MovesArrive s es }
 {
     machines_stay_kept();
@@ -40,7 +40,7 @@ pub fn moves_arrive_in_time()
     moves_are_done_at_their_targets();
 }
 
-/// In every legal history the active command of a group changes by its fate alone; and a
+/// In every past the active command of a group changes by its fate alone; and a
 /// MoveLinearAbsolute, a GroupHalt and a GroupStop, and what brakes a path before an aborting line,
 /// come to their end in time. From the entry on in which one becomes active, be it in its call, by
 /// taking over in a cycle or after the braking, and where the history has as many cycles behind it
@@ -50,7 +50,7 @@ pub fn moves_arrive_in_time()
 /// |step| / Deceleration + 1 cycles. Wherever a command is Done, each axis of the group rests, and
 /// where it was a line stands at its target.
 pub fn paths_end_in_time()
-    ensures paths { (s : Setup) (es : List Entry) → IsSetup s → AreWhole s → IsLegal s es →
+    ensures paths { (s : Setup) (es : List Entry) → IsSetup s → AreWhole s → IsPast s es →
         PathsEnd s es }
 {
     machines_stay_kept();

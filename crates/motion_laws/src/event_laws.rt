@@ -9,7 +9,7 @@ ghost use Rattle.motion_history.specs.Calls.{IsCall};
 ghost use Rattle.motion_history.specs.Entries.{Entry, call, cycle};
 ghost use Rattle.motion_history.specs.Setup.{Setup, IsSetup};
 ghost use Rattle.motion_laws.specs.entries.Events.{GoByEvents};
-ghost use Rattle.motion_kernel.specs.Histories.{IsLegal, machine_after};
+ghost use Rattle.motion_kernel.specs.Histories.{IsPast, machine_after};
 ghost use Rattle.motion_kernel.specs.Machine.{Machine};
 ghost use Rattle.motion_kernel.specs.kept.Machine.{AreWhole, IsMachineKept};
 
@@ -27,14 +27,14 @@ use state_events::{axes_change_by_their_events, groups_change_by_their_events};
 /// the error or the end of its command, and what takes over; then the released stop; and last the
 /// row of a Reset. Those of a group are an error of a member or the end of its command; then the
 /// released stop; and last, behind the cycles of its axes, the row of a GroupReset. So it is in
-/// every machine that is kept, and in every entry of a legal history.
+/// every machine that is kept, and in every entry of a past.
 pub fn states_change_by_their_events()
     ensures call { (s : Setup) (m : Machine) (k : ℕ) (i : Inputs) (reply : Outputs) → AreWhole s →
         IsCall s k i → IsMachineKept s m → GoByEvents s m (call k i reply) }
     ensures cycle { (s : Setup) (m : Machine) (n : ℕ) (rows : List AxisRow)
         (grows : List GroupRow) → IsMachineKept s m → GoByEvents s m (cycle n rows grows) }
     ensures entries { (s : Setup) (made more : List Entry) (e : Entry) → IsSetup s → AreWhole s →
-        IsLegal s (made ++ e ∷ more) → GoByEvents s (machine_after s made) e }
+        IsPast s (made ++ e ∷ more) → GoByEvents s (machine_after s made) e }
 {
     machines_stay_kept();
     axes_stay_kept();

@@ -1,9 +1,12 @@
-// What every legal history keeps, in one: the contract of a function that does nothing.
+// What every past keeps, in one, and so every legal history and what banks tell together: contracts
+// of functions that do nothing.
 
-ghost use Rattle.std.specs.Prelude.{List};
-ghost use Rattle.motion_history.specs.Entries.{Entry};
+ghost use Rattle.std.specs.Prelude.{◌≡◌, ◌++◌, List};
+ghost use Rattle.motion_history.specs.Entries.{Entry, cycles_of};
 ghost use Rattle.motion_history.specs.Setup.{Setup, IsSetup};
-ghost use Rattle.motion_kernel.specs.Histories.{IsLegal};
+ghost use Rattle.motion_kernel.specs.Banks.{counted_on};
+ghost use Rattle.motion_kernel.specs.Histories.{IsLegal, IsLegalFrom, IsPast, machine_from};
+ghost use Rattle.motion_kernel.specs.Machine.{machine_at_opening};
 ghost use Rattle.motion_laws.specs.Laws.{KeepsLaws};
 ghost use Rattle.motion_kernel.specs.kept.Machine.{AreWhole};
 
@@ -15,8 +18,9 @@ use crate::result_laws::{
     done_moves_are_at_their_targets, results_are_told, results_come_of_ends, results_stay_shown,
 };
 use crate::row_laws::rows_show_that_moves_arrive;
+use motion_kernel::banks_join;
 
-/// In every legal history each row keeps its axis's limits; and after every entry each axis that is
+/// In every past each row keeps its axis's limits; and after every entry each axis that is
 /// driven and each path can be stopped within its limits, and at most eight commands wait for each
 /// axis and each group. Each entry keeps the laws of entries: a refused call changes nothing but
 /// its own instance, each reply tells one result, the states change by the entry's events,
@@ -27,8 +31,8 @@ use crate::row_laws::rows_show_that_moves_arrive;
 /// whose command it was, and to no other; each result that a reply tells comes of such an end,
 /// stays while Execute is true, and goes with it; commands end by their kinds; a move is Done at
 /// its target; and rows show that moves arrive in time.
-pub fn histories_keep_their_laws()
-    ensures { (s : Setup) (es : List Entry) → IsSetup s → AreWhole s → IsLegal s es →
+pub fn pasts_keep_their_laws()
+    ensures { (s : Setup) (es : List Entry) → IsSetup s → AreWhole s → IsPast s es →
         KeepsLaws s es }
 {
     rows_keep_limits();
@@ -43,4 +47,32 @@ pub fn histories_keep_their_laws()
     commands_end_by_their_kinds();
     done_moves_are_at_their_targets();
     rows_show_that_moves_arrive();
+}
+
+/// Every legal history is a past, and so keeps its laws.
+pub fn histories_keep_their_laws()
+    ensures { (s : Setup) (es : List Entry) → IsSetup s → AreWhole s → IsLegal s es →
+        KeepsLaws s es }
+{
+    pasts_keep_their_laws();
+}
+
+/// Banks that follow each other, each legal from the machine to which those before it lead, are one
+/// past, their cycles counted on: so all laws hold of what a machine makes in any number of banks.
+/// A first bank is a past by itself, as a legal history is, and each later one makes of the past
+/// before it the next.
+pub fn banks_keep_their_laws()
+    ensures first { (s : Setup) (bank : List Entry) → IsLegal s bank → IsPast s bank }
+    ensures past { (s : Setup) (past bank : List Entry) → IsPast s past →
+        IsLegalFrom s (machine_from s (machine_at_opening s) past) bank →
+        IsPast s (past ++ counted_on (cycles_of past) bank) }
+    ensures machine { (s : Setup) (past bank : List Entry) →
+        machine_from s (machine_at_opening s) (past ++ counted_on (cycles_of past) bank)
+        ≡ machine_from s (machine_from s (machine_at_opening s) past) bank }
+    ensures laws { (s : Setup) (past bank : List Entry) → IsSetup s → AreWhole s →
+        IsPast s past → IsLegalFrom s (machine_from s (machine_at_opening s) past) bank →
+        KeepsLaws s (past ++ counted_on (cycles_of past) bank) }
+{
+    banks_join();
+    pasts_keep_their_laws();
 }

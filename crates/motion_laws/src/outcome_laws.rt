@@ -5,7 +5,7 @@ ghost use Rattle.fb_outputs.specs.Steps.{is_power};
 ghost use Rattle.motion_history.specs.Entries.{Entry};
 ghost use Rattle.motion_history.specs.Setup.{Setup, IsSetup};
 ghost use Rattle.motion_history.specs.declared.config.BlockDef.{BlockDef};
-ghost use Rattle.motion_kernel.specs.Histories.{IsLegal, machine_after};
+ghost use Rattle.motion_kernel.specs.Histories.{IsPast, machine_after};
 ghost use Rattle.motion_kernel.specs.kept.Machine.{AreWhole};
 ghost use Rattle.motion_laws.specs.results.Outcomes.{IsOutcome};
 
@@ -17,14 +17,14 @@ use command_core::{
 use motion_history::configurations_are_sound;
 use motion_kernel::machines_stay_kept;
 
-/// What an entry of a legal history makes of the command of an instance. A call of the instance
+/// What an entry of a past makes of the command of an instance. A call of the instance
 /// itself makes of it what it is answered, where it is a rising edge: refused, active, waiting, or
 /// Done at once; else it only takes away a result that was shown, with Execute false. Any other
 /// entry ends it exactly where it tells so: Done at its end, aborted where it waits or is replaced,
 /// or by an error; makes it active exactly where it begins; and else leaves it as it was.
 pub fn entries_make_outcomes()
     ensures outcomes { (s : Setup) (made more : List Entry) (e : Entry) (k : ℕ) (b : BlockDef) →
-        IsSetup s → AreWhole s → IsLegal s (made ++ e ∷ more) → slice_get s.blocks k ≡ Some b →
+        IsSetup s → AreWhole s → IsPast s (made ++ e ∷ more) → slice_get s.blocks k ≡ Some b →
         is_power b.kind ≡ false → IsOutcome s (machine_after s made) e k b }
 {
     machines_stay_kept();

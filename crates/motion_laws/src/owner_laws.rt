@@ -8,7 +8,7 @@ ghost use Rattle.motion_history.specs.Entries.{Entry};
 ghost use Rattle.motion_history.specs.Setup.{Setup, IsSetup};
 ghost use Rattle.motion_kernel.specs.calls.Calls.{after_call};
 ghost use Rattle.motion_kernel.specs.cycles.Cycles.{after_cycle};
-ghost use Rattle.motion_kernel.specs.Histories.{IsLegal, machine_after};
+ghost use Rattle.motion_kernel.specs.Histories.{IsPast, machine_after};
 ghost use Rattle.motion_kernel.specs.Machine.{Machine, machine_at_opening};
 ghost use Rattle.motion_kernel.specs.kept.Machine.{AreWhole, IsMachineKept};
 ghost use Rattle.motion_laws.specs.owners.Shown.{AreWhereShown};
@@ -21,14 +21,14 @@ use motion_kernel::machines_stay_kept;
 /// which its block acts, and Waiting exactly while its command waits there or is a pending reset;
 /// it has no command elsewhere, and never two. Nobody but an instance of the configuration has a
 /// command, or holds an axis in Stopping or a group in GroupStopping. So it is at opening, after
-/// every call and every cycle, and so after every entry of a legal history.
+/// every call and every cycle, and so after every entry of a past.
 pub fn commands_are_where_their_instances_show()
     ensures opened { (s : Setup) → AreWhereShown s (machine_at_opening s) }
     ensures call { (s : Setup) (m : Machine) (k : ℕ) (i : Inputs) → AreWhole s → IsCall s k i →
         IsMachineKept s m → AreWhereShown s m → AreWhereShown s (after_call s m k i) }
     ensures cycle { (s : Setup) (m : Machine) (ins : List DriveIn) → IsMachineKept s m →
         AreWhereShown s m → AreWhereShown s (after_cycle s m ins) }
-    ensures entries { (s : Setup) (es : List Entry) → IsSetup s → AreWhole s → IsLegal s es →
+    ensures entries { (s : Setup) (es : List Entry) → IsSetup s → AreWhole s → IsPast s es →
         AreWhereShown s (machine_after s es) }
 {
     machines_stay_kept();

@@ -6,13 +6,13 @@ ghost use Rattle.fb_outputs.specs.declared.outputs.Outputs.{Outputs};
 ghost use Rattle.motion_history.specs.Entries.{Entry, call};
 ghost use Rattle.motion_history.specs.Setup.{Setup};
 ghost use Rattle.motion_kernel.specs.calls.Calls.{after_call, reply_of};
-ghost use Rattle.motion_kernel.specs.Histories.{IsLegal, machine_after};
+ghost use Rattle.motion_kernel.specs.Histories.{IsPast, machine_after};
 ghost use Rattle.motion_kernel.specs.Machine.{Machine};
 ghost use Rattle.motion_laws.specs.entries.Refusals.{IsRefusalNumber, IsRefused, machine_refused};
 
 /// A call that is refused, by an ErrorID from 1 to 19, changes nothing but its own instance: every
 /// axis, every group and every command that waits stays as it is, except that the instance has its
-/// earlier command no longer. So it is in every machine, and after every entry of a legal history.
+/// earlier command no longer. So it is in every machine, and after every entry of a past.
 pub fn refusals_change_nothing()
     ensures call { (s : Setup) (m : Machine) (k : ℕ) (i : Inputs) → k < length s.blocks →
         IsRefused m k i (reply_of s m k i) →
@@ -20,11 +20,11 @@ pub fn refusals_change_nothing()
     ensures number { (s : Setup) (m : Machine) (k : ℕ) (i : Inputs) → k < length s.blocks →
         IsRefused m k i (reply_of s m k i) → IsRefusalNumber (reply_of s m k i).error_id }
     ensures entries { (s : Setup) (made more : List Entry) (k : ℕ) (i : Inputs)
-        (reply : Outputs) → IsLegal s (made ++ call k i reply ∷ more) →
+        (reply : Outputs) → IsPast s (made ++ call k i reply ∷ more) →
         IsRefused (machine_after s made) k i reply →
         machine_after s (made ++ call k i reply ∷ [])
         ≡ machine_refused k reply.error_id (machine_after s made) }
     ensures numbers { (s : Setup) (made more : List Entry) (k : ℕ) (i : Inputs)
-        (reply : Outputs) → IsLegal s (made ++ call k i reply ∷ more) →
+        (reply : Outputs) → IsPast s (made ++ call k i reply ∷ more) →
         IsRefused (machine_after s made) k i reply → IsRefusalNumber reply.error_id }
 {}

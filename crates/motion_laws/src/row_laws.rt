@@ -5,7 +5,7 @@ ghost use Rattle.axis_state.specs.declared.definition.AxisRow.{AxisRow};
 ghost use Rattle.group_state.specs.declared.state.GroupRow.{GroupRow};
 ghost use Rattle.motion_history.specs.Entries.{Entry};
 ghost use Rattle.motion_history.specs.Setup.{Setup, IsSetup};
-ghost use Rattle.motion_kernel.specs.Histories.{IsCycleOf, IsLegal, after, inputs_of, machine_after};
+ghost use Rattle.motion_kernel.specs.Histories.{IsCycleOf, IsPast, after, inputs_of, machine_after};
 ghost use Rattle.motion_kernel.specs.Machine.{Machine};
 ghost use Rattle.motion_kernel.specs.cycles.Cycles.{after_cycle};
 ghost use Rattle.motion_kernel.specs.kept.Machine.{AreWhole, IsMachineKept};
@@ -21,24 +21,24 @@ use motion_kernel::machines_stay_kept;
 
 /// The rows of a cycle show the machine behind it: the row of an axis its state, its error, whether
 /// it is driven, its setpoint and its offset, and the row of a group its state and its error. So it
-/// is in every cycle of a machine that is kept, and in every entry of a legal history.
+/// is in every cycle of a machine that is kept, and in every entry of a past.
 pub fn rows_show_the_machine()
     ensures cycle { (s : Setup) (m : Machine) (rows : List AxisRow) (grows : List GroupRow) →
         IsMachineKept s m → IsCycleOf s m rows grows →
         ShowMachine (after_cycle s m (inputs_of rows)) rows grows }
     ensures entries { (s : Setup) (made more : List Entry) (e : Entry) → IsSetup s → AreWhole s →
-        IsLegal s (made ++ e ∷ more) →
+        IsPast s (made ++ e ∷ more) →
         RowsShow (after s (machine_after s made) e) e }
 {
     machines_stay_kept();
 }
 
-/// Rows show errors: in every entry of a legal history the row of an axis has the number of an axis
+/// Rows show errors: in every entry of a past the row of an axis has the number of an axis
 /// error, 101 to 106, exactly in ErrorStop, and else 0; and so has the row of a group in
 /// GroupErrorStop.
 pub fn rows_show_errors()
     ensures errors { (s : Setup) (made more : List Entry) (e : Entry) → IsSetup s → AreWhole s →
-        IsLegal s (made ++ e ∷ more) → ErrorsShow e }
+        IsPast s (made ++ e ∷ more) → ErrorsShow e }
 {
     machines_stay_kept();
     axis_errors_stand();
@@ -46,12 +46,12 @@ pub fn rows_show_errors()
     errors_are_those_of_axes();
 }
 
-/// Rows show that moves arrive in time: in every legal history, from the entry in which a move
+/// Rows show that moves arrive in time: in every past, from the entry in which a move
 /// becomes active, and where the history has as many cycles behind it as the move's bound, a row of
 /// its axis within these stands at the target, where the setpoint before it was, or the move was
 /// aborted, faulted or blended before.
 pub fn rows_show_that_moves_arrive()
-    ensures rows { (s : Setup) (es : List Entry) → IsSetup s → AreWhole s → IsLegal s es →
+    ensures rows { (s : Setup) (es : List Entry) → IsSetup s → AreWhole s → IsPast s es →
         RowsStand s es }
 {
     rows_show_the_machine();

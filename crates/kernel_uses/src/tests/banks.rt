@@ -45,7 +45,7 @@ fn goes_on_with_an_empty_bank(rt: HostRuntime) -> Result<(), Fail> {
     let mut kernel = one_axis(rt.alloc())?;
     let mut bank = kernel.spare(rt.alloc())?;
     let first = makes_cycle(&mut kernel, 1) && makes_cycle(&mut kernel, 2);
-    assert!(rt; first && kernel.may_swap());
+    assert!(rt; first && kernel.before().is_early());
     kernel.swap(&mut bank);
     assert!(rt; bank.history.entries() == 2 && bank.before.banks == 0);
     let before = Before {
@@ -56,7 +56,7 @@ fn goes_on_with_an_empty_bank(rt: HostRuntime) -> Result<(), Fail> {
     assert!(rt; kernel.before() == before && kernel.cycles_made() == 0);
     assert!(rt; makes_cycle(&mut kernel, 1));
     bank.history.clear();
-    assert!(rt; kernel.may_swap());
+    assert!(rt; kernel.before().is_early());
     kernel.swap(&mut bank);
     assert!(rt; bank.before == before && kernel.before().cycles == 3);
     Ok(())

@@ -72,26 +72,6 @@ pub(super) fn is_legal<H: Host + Wait + Sync>(
     Ok(legal.exit() == 0 && migrated == Status::Ok && again == legal)
 }
 
-// Every trace of a bench is legal, the drives having taken a setpoint in each of its cycles.
-#[test]
-fn finds_the_traces_of_benches_legal(rt: HostRuntime) -> Result<(), Fail> {
-    let traces: [(&str, &[u8]); 9] = [
-        ("no distance", MOVE_OF_NO_DISTANCE_TRACE),
-        ("power", rows::POWER_ON_TRACE),
-        ("a drive's fault", rows::DRIVE_FAULT_TRACE),
-        ("a gear", rows::GEAR_TRACE),
-        ("a blend", rows::BLENDING_TRACE),
-        ("a member's fault", rows::MEMBER_FAULT_TRACE),
-        ("version 2", rows::VERSION_TWO_TRACE),
-        ("cycles over", rows::CYCLES_OVER_TRACE),
-        ("a full history", rows::HISTORY_FULL_TRACE),
-    ];
-    for (name, trace) in traces {
-        assert!(rt; is_legal(&rt, rt.alloc(), trace)?, "{name}");
-    }
-    Ok(())
-}
-
 #[test]
 fn writes_a_trace_in_version_two(rt: HostRuntime) -> Result<(), Fail> {
     for trace in [ONE_MOVE_TRACE, ONE_MOVE_MIGRATED] {

@@ -46,6 +46,20 @@ empty_room s h e = record {
   group_rows = ap (λ (h : HistoryState). h.group_rows) e;
 }
 
+-- a history that is emptied is one with the whole room of its configuration
+pub cleared_room : (s t : Setup) (h : HistoryState) → t ≡ s → HasRoom t h → record h { entries = []; rows = []; group_rows = [] } ≡ empty_history s
+cleared_room s t h same room =
+    let here = subst (λ (x : Setup). HasRoom x h) same room in
+    λ i. record {
+      axes = here.axes i;
+      groups = here.groups i;
+      room = here.room i;
+      cycles = here.cycles i;
+      entries = [];
+      rows = [];
+      group_rows = [];
+    }
+
 -- a kernel whose bank has no entry yet
 pub banked_begun : (k : Inside) → machine_of k.parts ≡ k.bank.start → k.bank.history ≡ empty_history k.layout → IsMachineKept k.layout (machine_of k.parts) →
     IsSized k.layout k.bank.start → AreWhole k.layout → HasPlaces k.layout k.aside → IsBankedKept k

@@ -16,14 +16,14 @@ use Rattle.command_pool.specs.declared.wanted.Wanted.{Wanted}
 use Rattle.motion_history.specs.Entries.{Entry, call, cycle, cycle_count, cycles_of, end_of}
 use Rattle.motion_history.specs.Setup.{Setup, IsSetup}
 use Rattle.motion_kernel.specs.cycles.Cycles.{look_of_axis, after_cycle}
-use Rattle.motion_kernel.specs.Histories.{Follows, IsLegal, IsOf, after, inputs_of, machine_after, replay}
+use Rattle.motion_kernel.specs.Histories.{Follows, IsPast, IsOf, after, inputs_of, machine_after, replay}
 use Rattle.motion_kernel.specs.Machine.{Machine, axis_at, axis_core_at, machine_at_opening}
 use Rattle.motion_kernel.specs.kept.Machine.{AreWhole, IsMachineKept}
 use Rattle.motion_kernel.proofs.cycles.OneAxis.{GoesThrough, goes_through}
 use Rattle.motion_laws.specs.arrivals.Moves.{IsMoveEndedWithin, IsTurnedWithin, IsWithin, KeepsMotion, MovesArrive, Turned, move_end_in, turned_by, turned_by_fates, turned_in}
 use Rattle.motion_laws.specs.arrivals.AxisFates.{axis_fate}
 use Rattle.motion_laws.proofs.walk.AxisCalls.{IsThere, by_call}
-use Rattle.motion_laws.proofs.Histories.{legal_kept, legal_so_far, replay_kept}
+use Rattle.motion_laws.proofs.Histories.{past_kept, past_so_far, replay_kept}
 use Rattle.motion_laws.proofs.results.outcomes.NotDone.{axis_not_done}
 use Rattle.motion_laws.proofs.arrivals.MoveEvents.{ArrivalLaws, as_it_is, stays, fates_by, on_it, carried_by, blend_on_it, blended_by}
 
@@ -248,13 +248,13 @@ motion_kept laws s cycles m e more n whole h f l =
           blended) most;
     }
 
--- and so each entry of a legal history
+-- and so each entry of a past
 pub moves_arrive : ArrivalLaws → (s : Setup) (es : List Entry) → IsSetup s → AreWhole s →
-    IsLegal s es → MovesArrive s es
+    IsPast s es → MovesArrive s es
 unfolding machine_after
-moves_arrive laws s es setup whole legal made more e n is l =
-    let all = subst (IsLegal s) is legal in
-    let so_far = legal_so_far s made (e ∷ more) all in
+moves_arrive laws s es setup whole past made more e n is l =
+    let all = subst (IsPast s) is past in
+    let so_far = past_so_far s made (e ∷ more) all in
     motion_kept laws s (0 + cycles_of made) (machine_after s made) e more n whole
-    (legal_kept laws.machines s made setup whole so_far)
+    (past_kept laws.machines s made setup whole so_far)
     (behind s 0 (machine_at_opening s) made (e ∷ more) all.follows) l

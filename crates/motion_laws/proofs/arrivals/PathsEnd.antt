@@ -1,18 +1,18 @@
--- The commands of groups come to their end in time, in every legal history.
+-- The commands of groups come to their end in time, in every past.
 use Rattle.std.specs.Prelude.{ℕ, ◌+◌, ◌<◌, List, ◌∷◌, length, map}
 use Rattle.std.proofs.Common.{arith, subst}
 use Rattle.group_core.specs.Courses.{bound_of}
 use Rattle.motion_history.specs.Entries.{Entry, cycle_count, cycles_of}
 use Rattle.motion_history.specs.Setup.{Setup, IsSetup}
 use Rattle.motion_laws.specs.arrivals.Paths.{KeepsCourse, PathsEnd}
-use Rattle.motion_kernel.specs.Histories.{Follows, IsLegal, after, machine_after}
+use Rattle.motion_kernel.specs.Histories.{Follows, IsPast, after, machine_after}
 use Rattle.motion_kernel.specs.Machine.{Machine, group_core_at, machine_at_opening}
 use Rattle.motion_kernel.specs.kept.Machine.{AreWhole, IsMachineKept, limits_of}
 use Rattle.motion_kernel.specs.members.Members.{members_at}
 use Rattle.motion_laws.proofs.arrivals.Moves.{behind}
 use Rattle.motion_laws.proofs.arrivals.Paths.{arrives, fate_shown, kept_after}
 use Rattle.motion_laws.proofs.arrivals.PathsDone.{DoneLaws, IsGoing, done_there, toward_here}
-use Rattle.motion_laws.proofs.Histories.{legal_kept, legal_so_far}
+use Rattle.motion_laws.proofs.Histories.{past_kept, past_so_far}
 
 -- each entry of a history that follows a kept machine
 course_kept : DoneLaws → (s : Setup) (cycles : ℕ) (m : Machine) (e : Entry) (more : List Entry)
@@ -39,14 +39,14 @@ course_kept laws s cycles m e more j whole h f l goes =
           done_there laws s cycles m e j w whole h f.0 here goes active done;
     }
 
--- and so each entry of a legal history
-pub paths_end : DoneLaws → (s : Setup) (es : List Entry) → IsSetup s → AreWhole s → IsLegal s es →
+-- and so each entry of a past
+pub paths_end : DoneLaws → (s : Setup) (es : List Entry) → IsSetup s → AreWhole s → IsPast s es →
     PathsEnd s es
 unfolding machine_after
-paths_end laws s es setup whole legal made more e j is l =
-    let all = subst (IsLegal s) is legal in
-    let so_far = legal_so_far s made (e ∷ more) all in
+paths_end laws s es setup whole past made more e j is l =
+    let all = subst (IsPast s) is past in
+    let so_far = past_so_far s made (e ∷ more) all in
     course_kept laws s (0 + cycles_of made) (machine_after s made) e more j whole
-    (legal_kept laws.groups.machines s made setup whole so_far)
+    (past_kept laws.groups.machines s made setup whole so_far)
     (behind s 0 (machine_at_opening s) made (e ∷ more) all.follows) l
     (toward_here laws s made j setup whole so_far.follows l)

@@ -16,14 +16,14 @@ use Rattle.motion_history.specs.Entries.{Entry, call, cycle, cycle_count, cycles
 use Rattle.motion_history.specs.Setup.{Setup, IsSetup}
 use Rattle.motion_kernel.proofs.Lists.{get_is}
 use Rattle.motion_kernel.proofs.kept.Machine.{MachinesStayKept}
-use Rattle.motion_kernel.specs.Histories.{IsLegal, IsOf, after, machine_after, replay}
+use Rattle.motion_kernel.specs.Histories.{IsPast, IsOf, after, machine_after, replay}
 use Rattle.motion_kernel.specs.Machine.{Machine, axis_at, machine_at_opening}
 use Rattle.motion_kernel.specs.kept.Machine.{AreWhole}
 use Rattle.motion_laws.specs.arrivals.AxisFates.{axis_fate}
 use Rattle.motion_laws.specs.arrivals.Moves.{IsTurnedWithin, MovesArrive, Turned, turned_by, turned_in}
 use Rattle.motion_laws.specs.arrivals.Rows.{RowStands, RowsStand, StandsBy, StandsWithin}
 use Rattle.motion_laws.specs.entries.Rows.{RowsShow}
-use Rattle.motion_laws.proofs.Histories.{legal_so_far}
+use Rattle.motion_laws.proofs.Histories.{past_so_far}
 use Rattle.motion_laws.proofs.arrivals.Moves.{behind}
 use Rattle.motion_laws.proofs.results.Comes.{after_more}
 use Rattle.motion_laws.proofs.results.Stays.{machine_kept}
@@ -88,39 +88,39 @@ turn_done f e = by f.blends f.ends e
 pub record StandLaws : Type 0 where
   pub machines : MachinesStayKept
   pub axes : AreAxisFates
-  pub rows : (s : Setup) (made more : List Entry) (e : Entry) → IsSetup s → AreWhole s → IsLegal s (made ++ e ∷ more) →
+  pub rows : (s : Setup) (made more : List Entry) (e : Entry) → IsSetup s → AreWhole s → IsPast s (made ++ e ∷ more) →
       RowsShow (after s (machine_after s made) e) e
-  pub moves : (s : Setup) (es : List Entry) → IsSetup s → AreWhole s → IsLegal s es → MovesArrive s es
+  pub moves : (s : Setup) (es : List Entry) → IsSetup s → AreWhole s → IsPast s es → MovesArrive s es
 
-entry_of : (s : Setup) (made more : List Entry) (e : Entry) → IsLegal s (made ++ e ∷ more) → IsOf s (0 + cycles_of made) (machine_after s made) e
+entry_of : (s : Setup) (made more : List Entry) (e : Entry) → IsPast s (made ++ e ∷ more) → IsOf s (0 + cycles_of made) (machine_after s made) e
 unfolding machine_after
-entry_of s made more e legal = (behind s 0 (machine_at_opening s) made (e ∷ more) legal.follows).0
+entry_of s made more e past = (behind s 0 (machine_at_opening s) made (e ∷ more) past.follows).0
 
 -- its row
 cycle_stands : StandLaws → (s : Setup) (so_far rest : List Entry) (c : ℕ) (rows : List AxisRow) (grows : List GroupRow) (n : ℕ) (target : ℤ) → IsSetup s → AreWhole s →
-    IsLegal s (so_far ++ cycle c rows grows ∷ rest) → n < length s.axes → (axis_at (after s (machine_after s so_far) (cycle c rows grows)) n).setpoint ≡ target →
+    IsPast s (so_far ++ cycle c rows grows ∷ rest) → n < length s.axes → (axis_at (after s (machine_after s so_far) (cycle c rows grows)) n).setpoint ≡ target →
     (slice_get rows n ≡ Some (slice_index_or rows n no_row)) × ((slice_index_or rows n no_row).setpoint ≡ target)
-cycle_stands laws s so_far rest c rows grows n target setup whole legal l at =
-    let is = (entry_of s so_far rest (cycle c rows grows) legal).1 in
-    let kept = machine_kept laws.machines s so_far setup whole (legal_so_far s so_far (cycle c rows grows ∷ rest) legal) in
+cycle_stands laws s so_far rest c rows grows n target setup whole past l at =
+    let is = (entry_of s so_far rest (cycle c rows grows) past).1 in
+    let kept = machine_kept laws.machines s so_far setup whole (past_so_far s so_far (cycle c rows grows ∷ rest) past) in
     let sizes = kept.sized in
     let axes = sizes.axes in
     let answers = is.answers in
     let has = get_is rows n no_row (omega arith) in
-    let shows = (laws.rows s so_far rest (cycle c rows grows) setup whole legal).axes n (slice_index_or rows n no_row) has in
+    let shows = (laws.rows s so_far rest (cycle c rows grows) setup whole past).axes n (slice_index_or rows n no_row) has in
     (has, shows.setpoint ∙ at)
 
 stands_in : StandLaws → (s : Setup) (made more : List Entry) (e : Entry) (n : ℕ) (target : ℤ) (rates : Rates) (most : ℕ) (t : Turned) → IsSetup s → AreWhole s →
-    IsLegal s (made ++ e ∷ more) → n < length s.axes → Found s n (after s (machine_after s made) e) more t → t.turn ≡ ended finish.Done → t.cycles ≤ most →
+    IsPast s (made ++ e ∷ more) → n < length s.axes → Found s n (after s (machine_after s made) e) more t → t.turn ≡ ended finish.Done → t.cycles ≤ most →
     IsAtEnd (toward target rates) (axis_at t.machine n) → (x : Entry) → (before rest : List Entry) → more ≡ before ++ x ∷ rest →
     cycles_of before + cycle_count x ≡ t.cycles → t.machine ≡ after s (replay s (after s (machine_after s made) e) before) x →
     turn_of (axis_fate s (replay s (after s (machine_after s made) e) before) x n) ≡ Some (ended finish.Done) →
     RowStands s (after s (machine_after s made) e) n target most more
-stands_in laws s made more e n target rates most t setup whole legal l f done few at (call k i reply) before rest split cycles machine turn =
+stands_in laws s made more e n target rates most t setup whole past l f done few at (call k i reply) before rest split cycles machine turn =
     absurd (axis_not_done laws.axes s (replay s (after s (machine_after s made) e) before) k i n
     (turn_done (axis_fate s (replay s (after s (machine_after s made) e) before) (call k i reply) n) turn))
-stands_in laws s made more e n target rates most t setup whole legal l f done few at (end_of task) before rest split cycles machine turn = absurd (cc)
-stands_in laws s made more e n target rates most t setup whole legal l f done few at (cycle c rows grows) before rest split cycles machine turn =
+stands_in laws s made more e n target rates most t setup whole past l f done few at (end_of task) before rest split cycles machine turn = absurd (cc)
+stands_in laws s made more e n target rates most t setup whole past l f done few at (cycle c rows grows) before rest split cycles machine turn =
     let m = after s (machine_after s made) e in
     let so_far = made ++ e ∷ before in
     let all : made ++ e ∷ more ≡ so_far ++ cycle c rows grows ∷ rest =
@@ -128,7 +128,7 @@ stands_in laws s made more e n target rates most t setup whole legal l f done fe
     let same : machine_after s so_far ≡ replay s m before = after_more s made before e in
     let setpoint : (axis_at (after s (machine_after s so_far) (cycle c rows grows)) n).setpoint ≡ target =
     ap (λ y. (axis_at (after s y (cycle c rows grows)) n).setpoint) same ∙ ap (λ y. (axis_at y n).setpoint) (sym machine) ∙ at.0 in
-    let shown = cycle_stands laws s so_far rest c rows grows n target setup whole (subst (IsLegal s) all legal) l setpoint in
+    let shown = cycle_stands laws s so_far rest c rows grows n target setup whole (subst (IsPast s) all past) l setpoint in
     record {
       before = before;
       number = c;
@@ -144,24 +144,24 @@ stands_in laws s made more e n target rates most t setup whole legal l f done fe
     }
 
 turned_stands : StandLaws → (s : Setup) (made more : List Entry) (e : Entry) (n : ℕ) (target : ℤ) (rates : Rates) (most : ℕ) → IsSetup s → AreWhole s →
-    IsLegal s (made ++ e ∷ more) → n < length s.axes → (o : Option Turned) → turned_in s n (after s (machine_after s made) e) more ≡ o →
+    IsPast s (made ++ e ∷ more) → n < length s.axes → (o : Option Turned) → turned_in s n (after s (machine_after s made) e) more ≡ o →
     IsTurnedWithin most (toward target rates) n o → StandsWithin s (after s (machine_after s made) e) n target most more o
-turned_stands laws s made more e n target rates most setup whole legal l None at h = h
-turned_stands laws s made more e n target rates most setup whole legal l (Some t) at h = by t.turn refl h.1
+turned_stands laws s made more e n target rates most setup whole past l None at h = h
+turned_stands laws s made more e n target rates most setup whole past l (Some t) at h = by t.turn refl h.1
   where
     by : (u : Turn) → t.turn ≡ u → IsTurn u (toward target rates) (axis_at t.machine n) → StandsBy s (after s (machine_after s made) e) n target most more u
     by (ended finish.Done) is end =
         let f = found s n (after s (machine_after s made) e) more t at in
-        stands_in laws s made more e n target rates most t setup whole legal l f is h.0 end f.entry f.before f.rest f.split f.cycles f.machine
+        stands_in laws s made more e n target rates most t setup whole past l f is h.0 end f.entry f.before f.rest f.split f.cycles f.machine
         (f.turn ∙ ap Some is)
     by (ended finish.Aborted) is end = tt
     by (ended (finish.Error error)) is end = tt
     by blended is end = tt
 
-pub rows_stand : StandLaws → (s : Setup) (es : List Entry) → IsSetup s → AreWhole s → IsLegal s es → RowsStand s es
-rows_stand laws s es setup whole legal made more e n w target rates is l begins course few =
+pub rows_stand : StandLaws → (s : Setup) (es : List Entry) → IsSetup s → AreWhole s → IsPast s es → RowsStand s es
+rows_stand laws s es setup whole past made more e n w target rates is l begins course few =
     let m = after s (machine_after s made) e in
     let most = bound_of (toward target rates) (axis_at m n) in
-    let moves = laws.moves s es setup whole legal made more e n is l in
-    turned_stands laws s made more e n target rates most setup whole (subst (IsLegal s) is legal) l (turned_in s n m more) refl
+    let moves = laws.moves s es setup whole past made more e n is l in
+    turned_stands laws s made more e n target rates most setup whole (subst (IsPast s) is past) l (turned_in s n m more) refl
     (moves.in_time w (toward target rates) begins course few)

@@ -1,4 +1,4 @@
--- Every row of a legal history keeps its axis's limits.
+-- Every row of a past keeps its axis's limits.
 use Rattle.std.specs.Prelude.{◌≡◌, refl, ℕ, zero, suc, ◌+◌, ◌<◌, pos, ◌-ℤ◌, Option, Some, List, [], ◌∷◌, length, slice_get, slice_index_or}
 use Rattle.std.proofs.Common.{arith, ap, sym, subst, ◌∙◌}
 use Rattle.std.proofs.lemmas.Int.{ints}
@@ -16,7 +16,7 @@ use Rattle.motion_history.specs.Entries.{Entry, call, cycle, cycle_count, end_of
 use Rattle.motion_history.specs.Setup.{Setup, IsSetup}
 use Rattle.motion_kernel.specs.calls.Calls.{after_call}
 use Rattle.motion_kernel.specs.cycles.Cycles.{after_cycle, cycled}
-use Rattle.motion_kernel.specs.Histories.{Follows, IsCycleOf, IsLegal, inputs_of}
+use Rattle.motion_kernel.specs.Histories.{Follows, IsCycleOf, IsPast, inputs_of}
 use Rattle.motion_kernel.specs.Machine.{Machine, axis_at, machine_at_opening, no_axis}
 use Rattle.motion_kernel.specs.kept.Machine.{AreWhole, IsMachineKept, limits_of, no_def}
 use Rattle.motion_kernel.proofs.calls.AxesLeft.{call_left}
@@ -84,13 +84,13 @@ opens_in : (d : AxisDef) → spell_of (axis_at_opening d) ≡ opening_spell d
 unfolding axis_at_opening
 opens_in d = let same : d.start -ℤ pos 0 ≡ d.start = omega (arith, ints) in rw same refl
 
--- every row of a legal history keeps its axis's limits
-pub limits_kept : LimitLaws → (s : Setup) (es : List Entry) → IsSetup s → AreWhole s → IsLegal s es → KeepTheirLimits s es
+-- every row of a past keeps its axis's limits
+pub limits_kept : LimitLaws → (s : Setup) (es : List Entry) → IsSetup s → AreWhole s → IsPast s es → KeepTheirLimits s es
 unfolding KeepTheirLimits
-limits_kept laws s es setup whole legal n d e =
+limits_kept laws s es setup whole past n d e =
     let m = machine_at_opening s in
     let at = is_there s.axes n d e in
-    let rows = rows_keep laws s 0 m es whole (laws.machines.opened s setup whole) legal.follows n at.there in
+    let rows = rows_keep laws s 0 m es whole (laws.machines.opened s setup whole) past.follows n at.there in
     let opened : axis_at m n ≡ axis_at_opening d = get_or-map axis_at_opening s.axes n no_def no_axis at.there ∙ ap axis_at_opening at.is in
     let P : Axis → Type 0 = λ a. KeepFrom s n a (rows_in n es) in
     let Q : Option Spell → Type 0 = λ t. KeepsLimits (limits_of s n) t (rows_in n es) in

@@ -1,4 +1,4 @@
--- At most eight commands wait in each list after every entry of a legal history.
+-- At most eight commands wait in each list after every entry of a past.
 use Rattle.std.specs.Prelude.{◌≡◌, refl, ℕ, zero, suc, ◌+◌, ◌-◌, ◌≤◌, List, [], ◌∷◌, length, replicate}
 use Rattle.std.proofs.Common.{arith, ap, sym, subst, inl, inr}
 use Rattle.std.proofs.lemmas.Bool.{cases_Bool, cases_lt}
@@ -11,13 +11,13 @@ use Rattle.command_pool.specs.Waiting.{detached, queue_of}
 use Rattle.command_pool.specs.declared.wanted.Wanted.{Wanted}
 use Rattle.motion_history.specs.Entries.{Entry}
 use Rattle.motion_history.specs.Setup.{Setup, IsSetup}
-use Rattle.motion_kernel.specs.Histories.{IsLegal, replay}
+use Rattle.motion_kernel.specs.Histories.{IsPast, replay}
 use Rattle.motion_kernel.specs.Machine.{Machine, list_of, machine_at_opening}
 use Rattle.motion_kernel.specs.calls.Calls.{after_reply, with_execute}
 use Rattle.motion_kernel.specs.cycles.Showing.{with_found}
 use Rattle.motion_kernel.specs.kept.Machine.{AreWhole, IsSized}
 use Rattle.motion_laws.specs.owners.Objects.{a_group, an_axis, IsThere, Object, is_same}
-use Rattle.motion_laws.proofs.Histories.{legal_kept}
+use Rattle.motion_laws.proofs.Histories.{past_kept}
 use Rattle.motion_laws.proofs.owners.commands.Events.{same_object}
 use Rattle.motion_laws.proofs.walk.Events.{executed_alike, found_alike, freed_at, freed_there, replied_alike}
 use Rattle.motion_laws.proofs.walk.Histories.{by_history}
@@ -101,12 +101,12 @@ all_short s m sized h list =
             let j = list - length m.axes in
             let is : length m.axes + j ≡ list = omega arith in
             subst (λ n. length (queue_of m.queues n) ≤ 8) is (h (a_group j) (omega arith))
-        | inr past ↦ let none = ap length (none_past m.queues list (omega arith)) in omega arith
+        | inr behind ↦ let none = ap length (none_past m.queues list (omega arith)) in omega arith
       ]
     ]
 
-pub legal_short : WalkLaws → CoresKept → WaitAtMost → (s : Setup) (es : List Entry) → IsSetup s → AreWhole s → IsLegal s es →
+pub past_short : WalkLaws → CoresKept → WaitAtMost → (s : Setup) (es : List Entry) → IsSetup s → AreWhole s → IsPast s es →
     (list : ℕ) → length (queue_of (replay s (machine_at_opening s) es).queues list) ≤ 8
-legal_short laws cores law s es setup whole legal =
-    all_short s (replay s (machine_at_opening s) es) (legal_kept laws.machines s es setup whole legal).sized
-    (by_history laws s Anyone FewWait FewWait (few_kept laws cores law s) (λ k. tt) (opened_few s) es setup whole legal)
+past_short laws cores law s es setup whole past =
+    all_short s (replay s (machine_at_opening s) es) (past_kept laws.machines s es setup whole past).sized
+    (by_history laws s Anyone FewWait FewWait (few_kept laws cores law s) (λ k. tt) (opened_few s) es setup whole past)

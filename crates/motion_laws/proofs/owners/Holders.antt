@@ -1,5 +1,5 @@
 -- Whoever has a command, or holds an axis or a group in stopping, is an instance whose block acts
--- there; so commands are where their instances show after every legal history.
+-- there; so commands are where their instances show after every past.
 use Rattle.std.specs.Prelude.{◌≡◌, refl, ℕ, zero, suc, ◌+◌, ◌<◌, Bool, true, false, nat_eq, if◌then◌else◌, Option, Some, None, List, [], ◌∷◌, map, slice_get}
 use Rattle.std.proofs.Common.{arith, ap, sym, subst, inl, inr}
 use Rattle.std.proofs.lemmas.Bool.{cases_Bool, cases_eq, eqb-true}
@@ -17,7 +17,7 @@ use Rattle.motion_history.specs.Calls.{IsCall}
 use Rattle.motion_history.specs.Entries.{Entry}
 use Rattle.motion_history.specs.Setup.{Setup, IsSetup}
 use Rattle.motion_history.specs.declared.config.GroupDef.{GroupDef}
-use Rattle.motion_kernel.specs.Histories.{IsLegal, replay}
+use Rattle.motion_kernel.specs.Histories.{IsPast, replay}
 use Rattle.motion_kernel.specs.Machine.{Machine, axis_among, group_among, group_at_opening, machine_at_opening}
 use Rattle.motion_kernel.specs.calls.Calls.{after_call, after_reply, with_execute}
 use Rattle.motion_kernel.specs.cycles.Cycles.{after_cycle}
@@ -164,9 +164,9 @@ pub opening_holders : (s : Setup) → HoldersHaveBlocks s (machine_at_opening s)
 opening_holders s (an_axis n) there k e = absurd (let free = axis_opens_free s.axes n in cc)
 opening_holders s (a_group j) there k e = absurd (let free = group_opens_free s.groups j in cc)
 
-pub legal_holders : WalkLaws → AreToldOnce → HaveCommands → (s : Setup) (es : List Entry) → IsSetup s → AreWhole s → IsLegal s es →
+pub past_holders : WalkLaws → AreToldOnce → HaveCommands → (s : Setup) (es : List Entry) → IsSetup s → AreWhole s → IsPast s es →
     HoldersHaveBlocks s (replay s (machine_at_opening s) es)
-legal_holders laws once hold s es setup whole legal =
+past_holders laws once hold s es setup whole past =
     let opened = have_blocks laws once hold s (machine_at_opening s) (opening_shown s) (opening_holders s) in
     holders_of laws once hold s (replay s (machine_at_opening s) es)
-    (by_history laws s Anyone (HaveBlocks s) (HaveBlocks s) (blocks_kept laws once hold s) (λ k. tt) opened es setup whole legal)
+    (by_history laws s Anyone (HaveBlocks s) (HaveBlocks s) (blocks_kept laws once hold s) (λ k. tt) opened es setup whole past)

@@ -16,7 +16,7 @@ use Rattle.fb_outputs.specs.declared.inputs.Inputs.{Inputs}
 use Rattle.motion_history.specs.Calls.{IsCall}
 use Rattle.motion_history.specs.Entries.{Entry}
 use Rattle.motion_history.specs.Setup.{Setup, IsSetup}
-use Rattle.motion_kernel.specs.Histories.{IsLegal, replay}
+use Rattle.motion_kernel.specs.Histories.{IsPast, replay}
 use Rattle.motion_kernel.specs.Machine.{Machine, machine_at_opening, axis_core_at, instance_at, no_instance}
 use Rattle.motion_kernel.specs.calls.Calls.{after_call, with_axis_core, with_instance}
 use Rattle.motion_kernel.specs.cycles.AxisCycles.{axes_cycled}
@@ -190,10 +190,10 @@ module _ (laws : OwnerLaws) where
       AreTrulyShown s (after_cycle s m ins)
   cycle_truly_shown s m ins kept h = by_cycle laws.walk s Anyone (AreTrulyShown s) (AreWaiting s) (truly_kept s) m ins kept h
 
-  pub legal_truly_shown : (s : Setup) (es : List Entry) → IsSetup s → AreWhole s → IsLegal s es →
+  pub past_truly_shown : (s : Setup) (es : List Entry) → IsSetup s → AreWhole s → IsPast s es →
       AreTrulyShown s (replay s (machine_at_opening s) es)
-  legal_truly_shown s es setup whole legal =
-      by_history laws.walk s Anyone (AreTrulyShown s) (AreWaiting s) (truly_kept s) (λ k. tt) (opening_truly_shown s) es setup whole legal
+  past_truly_shown s es setup whole past =
+      by_history laws.walk s Anyone (AreTrulyShown s) (AreWaiting s) (truly_kept s) (λ k. tt) (opening_truly_shown s) es setup whole past
 
   -- so within a call and a cycle
   good_of : (s : Setup) (m : Machine) → IsGood s m → Good s (CommandsAreShown s) m

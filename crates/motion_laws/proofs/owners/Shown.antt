@@ -1,4 +1,4 @@
--- Commands are where their instances show, and who holds has its block there, after every legal
+-- Commands are where their instances show, and who holds has its block there, after every past
 -- history.
 use Rattle.std.specs.Prelude.{ℕ, List}
 use Rattle.cia402_machine.specs.declared.drive.DriveIn.{DriveIn}
@@ -6,14 +6,14 @@ use Rattle.fb_outputs.specs.declared.inputs.Inputs.{Inputs}
 use Rattle.motion_history.specs.Calls.{IsCall}
 use Rattle.motion_history.specs.Entries.{Entry}
 use Rattle.motion_history.specs.Setup.{Setup, IsSetup}
-use Rattle.motion_kernel.specs.Histories.{IsLegal, machine_after}
+use Rattle.motion_kernel.specs.Histories.{IsPast, machine_after}
 use Rattle.motion_kernel.specs.Machine.{Machine, machine_at_opening}
 use Rattle.motion_kernel.specs.calls.Calls.{after_call}
 use Rattle.motion_kernel.specs.cycles.Cycles.{after_cycle}
 use Rattle.motion_kernel.specs.kept.Machine.{AreWhole, IsMachineKept}
 use Rattle.motion_laws.specs.owners.Shown.{AreWhereShown}
-use Rattle.motion_laws.proofs.owners.Holders.{call_holders, cycle_holders, legal_holders, opening_holders}
-use Rattle.motion_laws.proofs.owners.Kept.{call_truly_shown, cycle_truly_shown, legal_truly_shown}
+use Rattle.motion_laws.proofs.owners.Holders.{call_holders, cycle_holders, past_holders, opening_holders}
+use Rattle.motion_laws.proofs.owners.Kept.{call_truly_shown, cycle_truly_shown, past_truly_shown}
 use Rattle.motion_laws.proofs.owners.active.Cycles.{opening_truly_shown}
 use Rattle.motion_laws.proofs.owners.commands.Events.{OwnerLaws}
 
@@ -43,12 +43,12 @@ module _ (laws : OwnerLaws) where
         holders = cycle_holders laws.walk laws.once laws.hold s m ins kept h.commands h.holders;
       }
 
-  pub legal_all_shown : (s : Setup) (es : List Entry) → IsSetup s → AreWhole s → IsLegal s es → AreWhereShown s (machine_after s es)
+  pub past_all_shown : (s : Setup) (es : List Entry) → IsSetup s → AreWhole s → IsPast s es → AreWhereShown s (machine_after s es)
   unfolding machine_after
-  legal_all_shown s es setup whole legal =
-      let truly = legal_truly_shown laws s es setup whole legal in
+  past_all_shown s es setup whole past =
+      let truly = past_truly_shown laws s es setup whole past in
       record {
         commands = truly.commands;
         active = truly.active;
-        holders = legal_holders laws.walk laws.once laws.hold s es setup whole legal;
+        holders = past_holders laws.walk laws.once laws.hold s es setup whole past;
       }

@@ -44,7 +44,7 @@ use Rattle.group_state.specs.declared.state.GroupState.TheVariants as state
 use Rattle.motion_history.specs.Entries.{Entry, call, cycle, cycle_count, end_of}
 use Rattle.motion_history.specs.Setup.{Setup, IsSetup}
 use Rattle.motion_history.specs.declared.config.BlockDef.{BlockDef}
-use Rattle.motion_kernel.specs.Histories.{IsLegal, inputs_of, machine_after}
+use Rattle.motion_kernel.specs.Histories.{IsPast, inputs_of, machine_after}
 use Rattle.motion_kernel.specs.Machine.{Machine, axis_core_at, group_at, group_core_at, instance_at}
 use Rattle.motion_kernel.specs.calls.Asking.{is_done_at_once}
 use Rattle.motion_kernel.specs.calls.Calls.{with_execute}
@@ -60,7 +60,7 @@ use Rattle.motion_laws.specs.results.Effects.{charge_at}
 use Rattle.motion_laws.specs.results.KindEnds.{EndByKinds, GivesWay, may_be_done, may_give_way}
 use Rattle.motion_laws.specs.results.Outcomes.{answer_in, end_answered, end_by_edge, end_of_command, finish_in}
 use Rattle.motion_laws.specs.results.Results.{KeepsResults, ResultsAreTold, end_in}
-use Rattle.motion_laws.proofs.Histories.{legal_so_far}
+use Rattle.motion_laws.proofs.Histories.{past_so_far}
 use Rattle.motion_laws.proofs.entries.numbers.Groups.{OnlyDone, path_done}
 use Rattle.motion_laws.proofs.owners.active.Cycles.{found_in}
 use Rattle.motion_laws.proofs.owners.Events.{active_in}
@@ -360,16 +360,16 @@ object_there sound s m k b setup h at =
           let here : b.object < length m.axes = omega arith in subst P (sym off) here
     ]
 
--- in every legal history
+-- in every past
 pub end_by_kinds : WalkLaws → ConfigurationsAreSound →
-    ((s : Setup) (es : List Entry) → IsSetup s → AreWhole s → IsLegal s es → ResultsAreTold s es) →
-    (s : Setup) (es : List Entry) → IsSetup s → AreWhole s → IsLegal s es → EndByKinds s es
-end_by_kinds laws sound results s es setup whole legal made more e k b is at =
+    ((s : Setup) (es : List Entry) → IsSetup s → AreWhole s → IsPast s es → ResultsAreTold s es) →
+    (s : Setup) (es : List Entry) → IsSetup s → AreWhole s → IsPast s es → EndByKinds s es
+end_by_kinds laws sound results s es setup whole past made more e k b is at =
     let m = machine_after s made in
-    let so_far = legal_so_far s made (e ∷ more) (subst (IsLegal s) is legal) in
+    let so_far = past_so_far s made (e ∷ more) (subst (IsPast s) is past) in
     let kept = machine_kept laws.machines s made setup whole so_far in
     let there = object_there sound s m k b setup kept at in
-    let told = results s es setup whole legal made more e k is in
+    let told = results s es setup whole past made more e k is in
     let kinds = kinds_match laws s made setup whole so_far (object_of b) there in
     record {
       done = λ ends. entry_done s m e more k b kept there told kinds at ends;

@@ -12,7 +12,7 @@ use Rattle.fb_outputs.specs.declared.outputs.Outputs.{Outputs}
 use Rattle.motion_history.specs.Entries.{Entry, call}
 use Rattle.motion_history.specs.Setup.{Setup, IsSetup}
 use Rattle.motion_history.specs.declared.config.BlockDef.{BlockDef}
-use Rattle.motion_kernel.specs.Histories.{IsLegal, machine_after}
+use Rattle.motion_kernel.specs.Histories.{IsPast, machine_after}
 use Rattle.motion_kernel.specs.Machine.{instance_at, machine_at_opening}
 use Rattle.motion_kernel.specs.calls.Calls.{called, reply_of}
 use Rattle.motion_kernel.specs.kept.Machine.{AreWhole}
@@ -20,7 +20,7 @@ use Rattle.motion_laws.specs.entries.Replies.{AreOfBlocks}
 use Rattle.motion_laws.specs.results.Comes.{ResultsCome}
 use Rattle.motion_laws.specs.results.Outcomes.{progress_at}
 use Rattle.motion_laws.specs.results.Results.{Tells}
-use Rattle.motion_laws.proofs.Histories.{legal_so_far}
+use Rattle.motion_laws.proofs.Histories.{past_so_far}
 use Rattle.motion_laws.proofs.arrivals.Moves.{behind}
 use Rattle.motion_laws.proofs.entries.replies.Entries.{opening_of_blocks}
 use Rattle.motion_laws.proofs.entries.replies.Histories.{replay_of_blocks}
@@ -44,10 +44,10 @@ unfolding machine_after
 blocks_after s es = replay_of_blocks s (machine_at_opening s) es (opening_of_blocks s)
 
 -- the reply of the last call
-pub last_reply : (s : Setup) (made : List Entry) (k : ℕ) (i : Inputs) (reply : Outputs) → IsLegal s (made ++ call k i reply ∷ []) →
+pub last_reply : (s : Setup) (made : List Entry) (k : ℕ) (i : Inputs) (reply : Outputs) → IsPast s (made ++ call k i reply ∷ []) →
     reply ≡ reply_of s (machine_after s made) k i
 unfolding machine_after
-last_reply s made k i reply legal = (behind s 0 (machine_at_opening s) made (call k i reply ∷ []) legal.follows).0.1
+last_reply s made k i reply past = (behind s 0 (machine_at_opening s) made (call k i reply ∷ []) past.follows).0.1
 
 -- a reply that tells an end is one of a block that is no Power, and its instance then shows it
 pub record EndsAt (s : Setup) (made : List Entry) (k : ℕ) (i : Inputs) (reply : Outputs) (b : BlockDef) (f : Finish) : Type 0 where
@@ -55,22 +55,22 @@ pub record EndsAt (s : Setup) (made : List Entry) (k : ℕ) (i : Inputs) (reply 
   pub after : progress_at (machine_after s (made ++ call k i reply ∷ [])) k ≡ Ended f true
 
 pub first_ended : (s : Setup) (made : List Entry) (k : ℕ) (i : Inputs) (reply : Outputs) (b : BlockDef) (f : Finish) → slice_get s.blocks k ≡ Some b →
-    IsLegal s (made ++ call k i reply ∷ []) → Tells f reply → EndsAt s made k i reply b f
-first_ended s made k i reply b f at legal tells =
+    IsPast s (made ++ call k i reply ∷ []) → Tells f reply → EndsAt s made k i reply b f
+first_ended s made k i reply b f at past tells =
     let m = machine_after s made in
     let x = called s k i m in
     let v = instance_at x.instances k in
-    let told = told_end f v (subst (Tells f) (last_reply s made k i reply legal) tells) in
+    let told = told_end f v (subst (Tells f) (last_reply s made k i reply past) tells) in
     record {
       other = ap is_power (sym (called_kind s m k i b (blocks_after s made) at)) ∙ told.0;
       after = ap (λ y. progress_at y k) (after_more s made [] (call k i reply)) ∙ replied_so f x.instances k told.1;
     }
 
-pub results_come : EntriesMakeOutcomes → (s : Setup) (es : List Entry) → IsSetup s → AreWhole s → IsLegal s es → ResultsCome s es
-results_come make s es setup whole legal made more k i reply b f is at tells =
+pub results_come : EntriesMakeOutcomes → (s : Setup) (es : List Entry) → IsSetup s → AreWhole s → IsPast s es → ResultsCome s es
+results_come make s es setup whole past made more k i reply b f is at tells =
     let so_far = made ++ call k i reply ∷ [] in
     let split : es ≡ so_far ++ more = is ∙ sym (append_assoc made (call k i reply ∷ []) more) in
-    let legal_here = legal_so_far s so_far more (subst (IsLegal s) split legal) in
-    let ended = first_ended s made k i reply b f at legal_here tells in
-    ends_come s k b so_far (λ before behind e split_so. make s before behind e k b setup whole (subst (IsLegal s) split_so legal_here) at ended.other) f
+    let past_here = past_so_far s so_far more (subst (IsPast s) split past) in
+    let ended = first_ended s made k i reply b f at past_here tells in
+    ends_come s k b so_far (λ before behind e split_so. make s before behind e k b setup whole (subst (IsPast s) split_so past_here) at ended.other) f
     (record { shown = true; is = ended.after })

@@ -17,7 +17,7 @@ use Rattle.fb_outputs.specs.declared.outputs.Outputs.{Outputs}
 use Rattle.motion_history.specs.Entries.{Entry, call, cycle, end_of}
 use Rattle.motion_history.specs.Setup.{Setup, IsSetup}
 use Rattle.motion_history.specs.declared.config.BlockDef.{BlockDef}
-use Rattle.motion_kernel.specs.Histories.{IsLegal, machine_after}
+use Rattle.motion_kernel.specs.Histories.{IsPast, machine_after}
 use Rattle.motion_kernel.specs.Machine.{Machine, axis_at, instance_at}
 use Rattle.motion_kernel.specs.calls.Asking.{is_done_at_once}
 use Rattle.motion_kernel.specs.calls.Calls.{with_execute}
@@ -32,7 +32,7 @@ use Rattle.motion_laws.specs.results.Effects.{charge_at}
 use Rattle.motion_laws.specs.results.Outcomes.{answer_in, end_answered, end_by_edge, end_of_command, finish_in}
 use Rattle.motion_laws.specs.results.Results.{KeepsResults, ResultsAreTold, end_in}
 use Rattle.motion_laws.specs.results.Targets.{IsDoneThere, MovesEndThere}
-use Rattle.motion_laws.proofs.Histories.{legal_so_far}
+use Rattle.motion_laws.proofs.Histories.{past_so_far}
 use Rattle.motion_laws.proofs.owners.active.Cycles.{found_in}
 use Rattle.motion_laws.proofs.owners.commands.Events.{there_where}
 use Rattle.motion_laws.proofs.owners.kinds.Kept.{kinds_match}
@@ -118,17 +118,17 @@ entry_there s m (cycle c rows grows) more k b l told moves kinds at move ends =
     (ap (end_of_command s m (cycle c rows grows) k) (sym on) ∙ ends) (λ act. told.end (an_axis b.object) l act refl)
 entry_there s m (end_of task) more k b l told moves kinds at move ends = absurd (cc)
 
--- in every legal history
+-- in every past
 pub moves_end_there : WalkLaws → ConfigurationsAreSound →
-    ((s : Setup) (es : List Entry) → IsSetup s → AreWhole s → IsLegal s es → ResultsAreTold s es) →
-    ((s : Setup) (es : List Entry) → IsSetup s → AreWhole s → IsLegal s es → MovesArrive s es) →
-    (s : Setup) (es : List Entry) → IsSetup s → AreWhole s → IsLegal s es → MovesEndThere s es
-moves_end_there laws sound told moves s es setup whole legal made more e k b is at move ends =
-    let so_far = legal_so_far s made (e ∷ more) (subst (IsLegal s) is legal) in
+    ((s : Setup) (es : List Entry) → IsSetup s → AreWhole s → IsPast s es → ResultsAreTold s es) →
+    ((s : Setup) (es : List Entry) → IsSetup s → AreWhole s → IsPast s es → MovesArrive s es) →
+    (s : Setup) (es : List Entry) → IsSetup s → AreWhole s → IsPast s es → MovesEndThere s es
+moves_end_there laws sound told moves s es setup whole past made more e k b is at move ends =
+    let so_far = past_so_far s made (e ∷ more) (subst (IsPast s) is past) in
     let kept = machine_kept laws.machines s made setup whole so_far in
     let sizes = kept.sized in
     let size = sizes.axes in
     let l = axis_object sound s k b setup (there_where s.blocks k b at) at (on_axis b.kind move) in
     let there : b.object < length (machine_after s made).axes = omega arith in
-    entry_there s (machine_after s made) e more k b there (told s es setup whole legal made more e k is) (moves s es setup whole legal made more e b.object is l)
+    entry_there s (machine_after s made) e more k b there (told s es setup whole past made more e k is) (moves s es setup whole past made more e b.object is l)
     (kinds_match laws s made setup whole so_far (an_axis b.object) there) at move ends

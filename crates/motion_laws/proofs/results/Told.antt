@@ -12,7 +12,7 @@ use Rattle.motion_history.specs.Entries.{Entry, call, cycle, cycle_count, cycles
 use Rattle.motion_history.specs.Setup.{Setup, IsSetup}
 use Rattle.motion_history.specs.declared.config.BlockDef.{BlockDef}
 use Rattle.motion_kernel.specs.calls.Calls.{reply_of, with_execute}
-use Rattle.motion_kernel.specs.Histories.{Follows, IsLegal, IsOf, after, inputs_of, machine_after, replay}
+use Rattle.motion_kernel.specs.Histories.{Follows, IsPast, IsOf, after, inputs_of, machine_after, replay}
 use Rattle.motion_kernel.specs.Machine.{Machine, instance_at, machine_at_opening}
 use Rattle.motion_kernel.specs.kept.Machine.{AreWhole, IsMachineKept}
 use Rattle.motion_laws.specs.owners.Shown.{AreWhereShown}
@@ -22,12 +22,12 @@ use Rattle.motion_laws.specs.entries.Replies.{AreOfBlocks}
 use Rattle.motion_laws.specs.results.Outcomes.{IsOutcome, begins_command, end_of_command, finish_in, progress_at, progress_beside, progress_by, progress_by_call, progress_by_edge}
 use Rattle.motion_laws.specs.results.Results.{AreNoCalls, KeepsResults, ResultsAreTold, Tells, TellsNext, end_in, is_call_of, is_rising}
 use Rattle.motion_laws.proofs.arrivals.Moves.{behind}
-use Rattle.motion_laws.proofs.owners.Shown.{call_all_shown, cycle_all_shown, legal_all_shown}
+use Rattle.motion_laws.proofs.owners.Shown.{call_all_shown, cycle_all_shown, past_all_shown}
 use Rattle.motion_kernel.proofs.kept.Machine.{kept_by_cycle}
 use Rattle.motion_laws.proofs.owners.commands.Events.{shown_where}
 use Rattle.motion_laws.proofs.entries.replies.Entries.{call_of_blocks, cycle_of_blocks, opening_of_blocks}
 use Rattle.motion_laws.proofs.entries.replies.Histories.{replay_of_blocks}
-use Rattle.motion_laws.proofs.Histories.{legal_kept, legal_so_far}
+use Rattle.motion_laws.proofs.Histories.{past_kept, past_so_far}
 use Rattle.motion_laws.proofs.results.Spared.{call_spares, cycle_spares}
 use Rattle.motion_laws.proofs.results.Answered.{answer_told}
 use Rattle.motion_laws.proofs.results.Events.{HasEnded, progress_in}
@@ -45,7 +45,7 @@ pub record TellLaws : Type 0 where
   pub axes : AreAxisFates
   pub groups : AreGroupFates
 
--- a machine of a legal history
+-- a machine of a past
 record IsRunning (s : Setup) (m : Machine) : Type 0 where
   kept : IsMachineKept s m
   shown : AreWhereShown s m
@@ -217,17 +217,17 @@ results_kept laws s cycles m e more k whole h follows outcome = record {
   untold = λ none other. untold_by laws s cycles m e k whole h follows.0 none other;
 }
 
--- and so in every legal history
+-- and so in every past
 pub results_told : TellLaws → EntriesMakeOutcomes → (s : Setup) (es : List Entry) → IsSetup s →
-    AreWhole s → IsLegal s es → ResultsAreTold s es
+    AreWhole s → IsPast s es → ResultsAreTold s es
 unfolding machine_after
-results_told laws make s es setup whole legal made more e k is =
-    let all = subst (IsLegal s) is legal in
-    let so_far = legal_so_far s made (e ∷ more) all in
+results_told laws make s es setup whole past made more e k is =
+    let all = subst (IsPast s) is past in
+    let so_far = past_so_far s made (e ∷ more) all in
     results_kept laws s (0 + cycles_of made) (machine_after s made) e more k whole
     (record {
-      kept = legal_kept laws.outcomes.owners.walk.machines s made setup whole so_far;
-      shown = legal_all_shown laws.outcomes.owners s made setup whole so_far;
+      kept = past_kept laws.outcomes.owners.walk.machines s made setup whole so_far;
+      shown = past_all_shown laws.outcomes.owners s made setup whole so_far;
       blocks = replay_of_blocks s (machine_at_opening s) made (opening_of_blocks s);
     }) (behind s 0 (machine_at_opening s) made (e ∷ more) all.follows)
     (λ b at other. make s made more e k b setup whole all at other)

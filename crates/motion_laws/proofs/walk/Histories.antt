@@ -1,8 +1,8 @@
--- What every event keeps, and what holds at opening, holds after every legal history.
+-- What every event keeps, and what holds at opening, holds after every past.
 use Rattle.std.specs.Prelude.{ℕ, ◌+◌, List, [], ◌∷◌}
 use Rattle.motion_history.specs.Entries.{Entry, call, cycle, cycle_count, end_of}
 use Rattle.motion_history.specs.Setup.{Setup, IsSetup}
-use Rattle.motion_kernel.specs.Histories.{Follows, IsLegal, inputs_of, replay}
+use Rattle.motion_kernel.specs.Histories.{Follows, IsPast, inputs_of, replay}
 use Rattle.motion_kernel.specs.Machine.{Machine, machine_at_opening}
 use Rattle.motion_kernel.specs.calls.Calls.{after_call}
 use Rattle.motion_kernel.specs.cycles.Cycles.{after_cycle}
@@ -23,6 +23,6 @@ module _ (laws : WalkLaws) (s : Setup) (May : ℕ → Type 0) (P Q : Machine →
       (kept_by_cycle laws.machines s m rows grows kept f.0.1) (by_cycle laws s May P Q keeps m (inputs_of rows) kept h) f.1
   by_replay cycles m (end_of task ∷ es) whole kept h f = by_replay (cycles + cycle_count (end_of task)) m es whole kept h f.1
 
-  pub by_history : P (machine_at_opening s) → (es : List Entry) → IsSetup s → AreWhole s → IsLegal s es → P (replay s (machine_at_opening s) es)
-  by_history opened es setup whole legal =
-      by_replay 0 (machine_at_opening s) es whole (laws.machines.opened s setup whole) opened legal.follows
+  pub by_history : P (machine_at_opening s) → (es : List Entry) → IsSetup s → AreWhole s → IsPast s es → P (replay s (machine_at_opening s) es)
+  by_history opened es setup whole past =
+      by_replay 0 (machine_at_opening s) es whole (laws.machines.opened s setup whole) opened past.follows

@@ -1,4 +1,4 @@
--- What each entry of a legal history keeps (PLCopen Motion Control Part 1 and Part 4).
+-- What each entry of a past keeps (PLCopen Motion Control Part 1 and Part 4).
 use Rattle.std.specs.Prelude.{◌≡◌, ℕ, false, Some, List, ◌∷◌, ◌++◌, slice_get}
 use Rattle.fb_outputs.specs.Steps.{is_power}
 use Rattle.fb_outputs.specs.declared.inputs.Inputs.{Inputs}

@@ -1,4 +1,4 @@
--- Rows show errors exactly in the states of errors, in every entry of a legal history.
+-- Rows show errors exactly in the states of errors, in every entry of a past.
 use Rattle.std.specs.Prelude.{ℕ, zero, suc, ◌<◌, ◌+◌, List, [], ◌∷◌, ◌++◌, length, map}
 use Rattle.std.proofs.Common.{arith, ap, sym, subst, ◌∙◌}
 use Rattle.axis_core.specs.Cycles.{axis_at_opening}
@@ -15,12 +15,12 @@ use Rattle.motion_history.specs.Entries.{Entry, call, cycle, cycle_count, end_of
 use Rattle.motion_history.specs.Setup.{Setup, IsSetup}
 use Rattle.motion_history.specs.declared.config.GroupDef.{GroupDef}
 use Rattle.motion_kernel.proofs.kept.Machine.{kept_by_cycle}
-use Rattle.motion_kernel.specs.Histories.{Follows, IsCycleOf, IsLegal, inputs_of, replay}
+use Rattle.motion_kernel.specs.Histories.{Follows, IsCycleOf, IsPast, inputs_of, replay}
 use Rattle.motion_kernel.specs.Machine.{Machine, PlacedGroup, axis_among, group_among, group_at_opening, machine_at_opening}
 use Rattle.motion_kernel.specs.calls.Calls.{after_call}
 use Rattle.motion_kernel.specs.cycles.Cycles.{after_cycle}
 use Rattle.motion_kernel.specs.kept.Machine.{AreWhole, IsMachineKept}
-use Rattle.motion_laws.proofs.Histories.{legal_kept, legal_so_far}
+use Rattle.motion_laws.proofs.Histories.{past_kept, past_so_far}
 use Rattle.motion_laws.proofs.entries.errors.Calls.{call_shown}
 use Rattle.motion_laws.proofs.entries.errors.Cycles.{cycle_shown}
 use Rattle.motion_laws.proofs.entries.errors.Laws.{AreAllShown, AxisErrors, ErrorLaws, GroupErrors, ShowsTruly}
@@ -117,12 +117,12 @@ entry_errors laws s m (cycle n rows grows) h shown is =
 entry_errors laws s m (end_of task) h shown is = tt
 
 pub errors_show : ErrorLaws → (s : Setup) (made more : List Entry) (e : Entry) → IsSetup s →
-    AreWhole s → IsLegal s (made ++ e ∷ more) → ErrorsShow e
-errors_show laws s made more e setup whole legal =
+    AreWhole s → IsPast s (made ++ e ∷ more) → ErrorsShow e
+errors_show laws s made more e setup whole past =
     let start = machine_at_opening s in
-    let so_far = legal_so_far s made (e ∷ more) legal in
+    let so_far = past_so_far s made (e ∷ more) past in
     entry_errors laws s (replay s start made) e
-    (legal_kept laws.machines s made setup whole so_far)
+    (past_kept laws.machines s made setup whole so_far)
     (replay_shown laws s 0 start made whole (laws.machines.opened s setup whole)
     (opening_shown laws s) so_far.follows)
-    (entry_in s 0 start made more e legal.follows)
+    (entry_in s 0 start made more e past.follows)

@@ -1,15 +1,15 @@
--- The states change by their events in every entry of a legal history.
+-- The states change by their events in every entry of a past.
 use Rattle.std.specs.Prelude.{refl, ℕ, ◌+◌, List, [], ◌∷◌, ◌++◌}
 use Rattle.fb_outputs.specs.declared.inputs.Inputs.{Inputs}
 use Rattle.fb_outputs.specs.declared.outputs.Outputs.{Outputs}
 use Rattle.motion_history.specs.Calls.{IsCall}
 use Rattle.motion_history.specs.Entries.{Entry, call, cycle, cycle_count, end_of}
 use Rattle.motion_history.specs.Setup.{Setup, IsSetup}
-use Rattle.motion_kernel.specs.Histories.{Follows, IsLegal, IsOf, after, machine_after, replay}
+use Rattle.motion_kernel.specs.Histories.{Follows, IsPast, IsOf, after, machine_after, replay}
 use Rattle.motion_kernel.specs.Machine.{Machine, machine_at_opening}
 use Rattle.motion_kernel.specs.kept.Machine.{AreWhole, IsMachineKept}
 use Rattle.motion_laws.specs.entries.Events.{GoByEvents}
-use Rattle.motion_laws.proofs.Histories.{legal_kept, legal_so_far}
+use Rattle.motion_laws.proofs.Histories.{past_kept, past_so_far}
 use Rattle.motion_laws.proofs.entries.events.AxisCalls as axes
 use Rattle.motion_laws.proofs.entries.events.Cycles.{cycle_goes}
 use Rattle.motion_laws.proofs.entries.events.GroupCalls as groups
@@ -39,9 +39,9 @@ entry_goes laws s m (cycle n rows grows) whole h is = cycle_goes laws s m n rows
 entry_goes laws s m (end_of task) whole h is = record { axes = λ n l. refl; groups = λ j l. refl }
 
 pub entries_go : EventLaws → (s : Setup) (made more : List Entry) (e : Entry) → IsSetup s → AreWhole s →
-    IsLegal s (made ++ e ∷ more) → GoByEvents s (machine_after s made) e
+    IsPast s (made ++ e ∷ more) → GoByEvents s (machine_after s made) e
 unfolding machine_after
-entries_go laws s made more e setup whole legal =
-    let kept = legal_kept laws.machines s made setup whole (legal_so_far s made (e ∷ more) legal) in
+entries_go laws s made more e setup whole past =
+    let kept = past_kept laws.machines s made setup whole (past_so_far s made (e ∷ more) past) in
     entry_goes laws s (replay s (machine_at_opening s) made) e whole kept
-    (entry_in s 0 (machine_at_opening s) made more e legal.follows)
+    (entry_in s 0 (machine_at_opening s) made more e past.follows)

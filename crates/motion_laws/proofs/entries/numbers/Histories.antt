@@ -1,14 +1,14 @@
--- Errors are told as they are shown, in every entry of a legal history.
+-- Errors are told as they are shown, in every entry of a past.
 use Rattle.std.specs.Prelude.{refl, List, ◌∷◌, ◌++◌}
 use Rattle.std.proofs.Common.{arith}
 use Rattle.motion_history.specs.Entries.{Entry, call, cycle, end_of}
 use Rattle.motion_history.specs.Setup.{Setup, IsSetup}
-use Rattle.motion_kernel.specs.Histories.{IsLegal, machine_after, replay}
+use Rattle.motion_kernel.specs.Histories.{IsPast, machine_after, replay}
 use Rattle.motion_kernel.specs.Machine.{Machine, machine_at_opening}
 use Rattle.motion_kernel.specs.kept.Machine.{AreWhole, IsMachineKept}
 use Rattle.motion_laws.specs.entries.Numbers.{ErrorsAreTold}
 use Rattle.motion_laws.specs.owners.Objects.{a_group, an_axis}
-use Rattle.motion_laws.proofs.Histories.{legal_kept, legal_so_far}
+use Rattle.motion_laws.proofs.Histories.{past_kept, past_so_far}
 use Rattle.motion_laws.proofs.entries.events.Histories.{IsEntry, entry_in}
 use Rattle.motion_laws.proofs.entries.numbers.Calls.{axis_called, group_called}
 use Rattle.motion_laws.proofs.entries.numbers.Cycles.{axis_cycled, group_cycled}
@@ -37,10 +37,10 @@ entry_tells laws s m (end_of task) whole h is (a_group j) l = record {
 }
 
 pub errors_told : WalkLaws → (s : Setup) (made more : List Entry) (e : Entry) → IsSetup s →
-    AreWhole s → IsLegal s (made ++ e ∷ more) → ErrorsAreTold s (machine_after s made) e
+    AreWhole s → IsPast s (made ++ e ∷ more) → ErrorsAreTold s (machine_after s made) e
 unfolding machine_after
-errors_told laws s made more e setup whole legal =
+errors_told laws s made more e setup whole past =
     let start = machine_at_opening s in
     entry_tells laws s (replay s start made) e whole
-    (legal_kept laws.machines s made setup whole (legal_so_far s made (e ∷ more) legal))
-    (entry_in s 0 start made more e legal.follows)
+    (past_kept laws.machines s made setup whole (past_so_far s made (e ∷ more) past))
+    (entry_in s 0 start made more e past.follows)

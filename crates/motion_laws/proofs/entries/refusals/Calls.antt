@@ -27,7 +27,7 @@ use Rattle.motion_history.specs.Entries.{Entry, call, cycle_count}
 use Rattle.motion_history.specs.Setup.{Setup}
 use Rattle.motion_kernel.specs.calls.Asking.{wanted_of}
 use Rattle.motion_kernel.specs.calls.Calls.{after_axis_command, after_call, after_group_command, after_power, asked_of_axis, called, leaves_path, members_led, reply_of, with_answer, with_axis_core, with_execute, with_group_core}
-use Rattle.motion_kernel.specs.Histories.{Follows, IsLegal, after, machine_after, replay}
+use Rattle.motion_kernel.specs.Histories.{Follows, IsPast, after, machine_after, replay}
 use Rattle.motion_kernel.specs.looks.GroupLooks.{group_look}
 use Rattle.motion_kernel.specs.Machine.{Machine, axis_core_at, group_core_at, instance_at, machine_at_opening}
 use Rattle.motion_laws.specs.entries.Refusals.{IsRefusalNumber, IsRefused, machine_refused}
@@ -202,14 +202,14 @@ call_in s cycles m (e ∷ es) more k i reply f = call_in s (cycles + cycle_count
     (after s m e) es more k i reply f.1
 
 pub refused_entry : (s : Setup) (made more : List Entry) (k : ℕ) (i : Inputs) (reply : Outputs) →
-    IsLegal s (made ++ call k i reply ∷ more) →
+    IsPast s (made ++ call k i reply ∷ more) →
     IsRefused (machine_after s made) k i reply →
     machine_after s (made ++ call k i reply ∷ []) ≡ machine_refused k reply.error_id
     (machine_after s made)
 unfolding machine_after
-refused_entry s made more k i reply legal h =
+refused_entry s made more k i reply past h =
     let m = replay s (machine_at_opening s) made in
-    let one = call_in s 0 (machine_at_opening s) made more k i reply legal.follows in
+    let one = call_in s 0 (machine_at_opening s) made more k i reply past.follows in
     let is = one.made in
     let refused : IsRefused m k i (reply_of s m k i) = subst (IsRefused m k i) one.answered h in
     replay_append s (machine_at_opening s) made (call k i reply ∷ [])
@@ -217,12 +217,12 @@ refused_entry s made more k i reply legal h =
     ∙ ap (λ (o : Outputs). machine_refused k o.error_id m) (sym one.answered)
 
 pub numbered_entry : (s : Setup) (made more : List Entry) (k : ℕ) (i : Inputs) (reply : Outputs) →
-    IsLegal s (made ++ call k i reply ∷ more) → IsRefused (machine_after s made) k i reply →
+    IsPast s (made ++ call k i reply ∷ more) → IsRefused (machine_after s made) k i reply →
     IsRefusalNumber reply.error_id
 unfolding machine_after
-numbered_entry s made more k i reply legal h =
+numbered_entry s made more k i reply past h =
     let m = replay s (machine_at_opening s) made in
-    let one = call_in s 0 (machine_at_opening s) made more k i reply legal.follows in
+    let one = call_in s 0 (machine_at_opening s) made more k i reply past.follows in
     let is = one.made in
     let refused : IsRefused m k i (reply_of s m k i) = subst (IsRefused m k i) one.answered h in
     subst (λ (o : Outputs). IsRefusalNumber o.error_id) (sym one.answered)

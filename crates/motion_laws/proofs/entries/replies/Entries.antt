@@ -1,4 +1,4 @@
--- Nothing else has happened to an instance of a legal history than what its block allows.
+-- Nothing else has happened to an instance of a past than what its block allows.
 use Rattle.std.specs.Prelude.{◌≡◌, refl, ℕ, zero, suc, Bool, true, false, Option, Some, None, List, [], ◌∷◌, ◌++◌, length, map, slice_get, slice_set}
 use Rattle.std.specs.List.{AllByRecursion}
 use Rattle.std.proofs.Common.{ap, sym, subst, ◌∙◌}

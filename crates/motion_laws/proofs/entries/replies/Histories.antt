@@ -1,4 +1,4 @@
--- Each reply of a legal history tells one result.
+-- Each reply of a past tells one result.
 use Rattle.std.specs.Prelude.{◌≡◌, refl, ℕ, zero, suc, ◌<◌, Bool, true, ◌&&◌, Some, List, [], ◌∷◌, ◌++◌, length, slice_get, slice_set}
 use Rattle.std.proofs.Common.{arith, ap, sym, subst, ◌∙◌}
 use Rattle.std.proofs.lemmas.List.{get_or-set_same}
@@ -14,12 +14,12 @@ use Rattle.motion_history.specs.Setup.{Setup, IsSetup}
 use Rattle.motion_history.specs.declared.config.BlockDef.{BlockDef}
 use Rattle.motion_kernel.specs.calls.Calls.{after_call, called, reply_of}
 use Rattle.motion_kernel.specs.cycles.Cycles.{after_cycle}
-use Rattle.motion_kernel.specs.Histories.{IsLegal, inputs_of, replay}
+use Rattle.motion_kernel.specs.Histories.{IsPast, inputs_of, replay}
 use Rattle.motion_kernel.specs.Machine.{Machine, instance_at, machine_at_opening, no_instance}
 use Rattle.motion_kernel.specs.kept.Machine.{AreWhole}
 use Rattle.motion_laws.specs.entries.Replies.{AreOfBlocks, HasHappened, IsReplyOf}
 use Rattle.motion_laws.proofs.entries.refusals.Calls.{call_in}
-use Rattle.motion_laws.proofs.Histories.{legal_kept, legal_so_far}
+use Rattle.motion_laws.proofs.Histories.{past_kept, past_so_far}
 use Rattle.motion_laws.proofs.entries.replies.Commands.{InstancesTellOne, ReplyLaws, Stays, call_stays}
 use Rattle.motion_laws.proofs.entries.replies.Entries.{opening_of_blocks, called_of_blocks, call_of_blocks, cycle_of_blocks}
 
@@ -97,14 +97,14 @@ replay_of_blocks s m (end_of task ∷ es) h = replay_of_blocks s m es h
 
 pub entry_of_block : ReplyLaws → (s : Setup) (made more : List Entry) (k : ℕ) (i : Inputs)
     (reply : Outputs) (b : BlockDef) → IsSetup s → AreWhole s →
-    IsLegal s (made ++ call k i reply ∷ more) → slice_get s.blocks k ≡ Some b → IsReplyOf b i reply
-entry_of_block laws s made more k i reply b setup whole legal at =
+    IsPast s (made ++ call k i reply ∷ more) → slice_get s.blocks k ≡ Some b → IsReplyOf b i reply
+entry_of_block laws s made more k i reply b setup whole past at =
     let m = replay s (machine_at_opening s) made in
-    let kept = legal_kept laws.machines s made setup whole
-    (legal_so_far s made (call k i reply ∷ more) legal) in
+    let kept = past_kept laws.machines s made setup whole
+    (past_so_far s made (call k i reply ∷ more) past) in
     let sizes = kept.sized in
     let size = sizes.instances in
-    let one = call_in s 0 (machine_at_opening s) made more k i reply legal.follows in
+    let one = call_in s 0 (machine_at_opening s) made more k i reply past.follows in
     let is = one.made in
     let there = is.there in
     let all = replay_of_blocks s (machine_at_opening s) made (opening_of_blocks s) in

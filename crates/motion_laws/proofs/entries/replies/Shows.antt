@@ -1,4 +1,4 @@
--- Each reply of a legal history shows what command its block has behind the call.
+-- Each reply of a past shows what command its block has behind the call.
 use Rattle.std.specs.Prelude.{◌≡◌, refl, ◌⊎◌, ℕ, zero, suc, Bool, true, false, ◌&&◌, if◌then◌else◌, Some, List, [], ◌∷◌, ◌++◌, slice_get, slice_set}
 use Rattle.std.proofs.Common.{ap, sym, subst, ◌∙◌, inl, inr}
 use Rattle.std.proofs.lemmas.List.{append_assoc}
@@ -14,7 +14,7 @@ use Rattle.fb_outputs.specs.declared.outputs.Outputs.{Outputs}
 use Rattle.motion_history.specs.Entries.{Entry, call}
 use Rattle.motion_history.specs.Setup.{IsSetup, Setup}
 use Rattle.motion_history.specs.declared.config.BlockDef.{BlockDef}
-use Rattle.motion_kernel.specs.Histories.{IsLegal, machine_after}
+use Rattle.motion_kernel.specs.Histories.{IsPast, machine_after}
 use Rattle.motion_kernel.specs.Machine.{Machine, instance_at}
 use Rattle.motion_kernel.specs.calls.Calls.{after_call, called, reply_of}
 use Rattle.motion_kernel.specs.kept.Machine.{AreWhole, IsMachineKept}
@@ -24,7 +24,7 @@ use Rattle.motion_laws.specs.entries.Replies.{AreOfBlocks}
 use Rattle.motion_laws.specs.owners.Commands.{active_at, active_shown, commands_at, commands_shown}
 use Rattle.motion_laws.specs.owners.Objects.{IsThere, object_of}
 use Rattle.motion_laws.specs.owners.Shown.{AreWhereShown, ShowsCommand}
-use Rattle.motion_laws.proofs.Histories.{legal_kept, legal_so_far}
+use Rattle.motion_laws.proofs.Histories.{past_kept, past_so_far}
 use Rattle.motion_laws.proofs.owners.active.Calls.{reply_active}
 use Rattle.motion_laws.proofs.owners.commands.Calls.{reply_shown}
 use Rattle.motion_laws.proofs.results.Comes.{after_more}
@@ -132,18 +132,18 @@ reply_shows s m k i b at other blocks there shown =
 
 -- and so each reply of a history
 pub entry_shows : MachinesStayKept → ConfigurationsAreSound →
-    ((s : Setup) (es : List Entry) → IsSetup s → AreWhole s → IsLegal s es → AreWhereShown s (machine_after s es)) →
+    ((s : Setup) (es : List Entry) → IsSetup s → AreWhole s → IsPast s es → AreWhereShown s (machine_after s es)) →
     (s : Setup) (made more : List Entry) (k : ℕ) (i : Inputs) (reply : Outputs) (b : BlockDef) → IsSetup s → AreWhole s →
-    IsLegal s (made ++ call k i reply ∷ more) → slice_get s.blocks k ≡ Some b → is_power b.kind ≡ false →
+    IsPast s (made ++ call k i reply ∷ more) → slice_get s.blocks k ≡ Some b → is_power b.kind ≡ false →
     ShowsCommand (after_call s (machine_after s made) k i) k b reply
 unfolding machine_after
-entry_shows machines sound owners s made more k i reply b setup whole legal at other =
+entry_shows machines sound owners s made more k i reply b setup whole past at other =
     let so_far = made ++ call k i reply ∷ [] in
     let m = machine_after s made in
     let y = after_call s m k i in
-    let legal_here = legal_so_far s so_far more (subst (IsLegal s) (sym (append_assoc made (call k i reply ∷ []) more)) legal) in
+    let past_here = past_so_far s so_far more (subst (IsPast s) (sym (append_assoc made (call k i reply ∷ []) more)) past) in
     let is : machine_after s so_far ≡ y = after_more s made [] (call k i reply) in
-    let shown : AreWhereShown s y = subst (AreWhereShown s) is (owners s so_far setup whole legal_here) in
-    let kept : IsMachineKept s y = subst (IsMachineKept s) is (legal_kept machines s so_far setup whole legal_here) in
-    subst (ShowsCommand y k b) (sym (last_reply s made k i reply legal_here))
+    let shown : AreWhereShown s y = subst (AreWhereShown s) is (owners s so_far setup whole past_here) in
+    let kept : IsMachineKept s y = subst (IsMachineKept s) is (past_kept machines s so_far setup whole past_here) in
+    subst (ShowsCommand y k b) (sym (last_reply s made k i reply past_here))
     (reply_shows s m k i b at other (blocks_after s made) (object_there sound s y k b kept at) shown)

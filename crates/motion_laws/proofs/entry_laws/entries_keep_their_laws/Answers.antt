@@ -1,4 +1,4 @@
--- What each entry of a legal history keeps, by the laws of entries.
+-- What each entry of a past keeps, by the laws of entries.
 use Rattle.motion_laws.proofs.entries.Kept.{entries_kept}
 use Rattle.motion_laws.proofs.entry_laws.entries_keep_their_laws.Goals as goal
 

@@ -1,5 +1,5 @@
 -- At most eight commands wait in each list, by the laws of the machine, its axes and its groups.
-use Rattle.motion_laws.proofs.limits.Waiting.{legal_short}
+use Rattle.motion_laws.proofs.limits.Waiting.{past_short}
 use Rattle.motion_laws.proofs.walk.Keeps.{CoresKept, WalkLaws}
 use Rattle.motion_laws.proofs.limit_laws.at_most_eight_wait.Goals as goal
 
@@ -27,4 +27,4 @@ cores c =
     }
 
 pub returns : goal.returns
-returns c = record { lists = legal_short (walk c) (cores c) c.at_most_eight_wait.ensures }
+returns c = record { lists = past_short (walk c) (cores c) c.at_most_eight_wait.ensures }

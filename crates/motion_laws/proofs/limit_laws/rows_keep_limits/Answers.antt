@@ -1,4 +1,4 @@
--- Every row of a legal history keeps its axis's limits, by the laws of the machine and of its axes.
+-- Every row of a past keeps its axis's limits, by the laws of the machine and of its axes.
 use Rattle.motion_kernel.proofs.kept.Machine.{MachinesStayKept}
 use Rattle.motion_laws.proofs.limits.Rows.{limits_kept}
 use Rattle.motion_laws.proofs.limit_laws.rows_keep_limits.Goals as goal

@@ -1,5 +1,5 @@
 -- Commands are where their instances show, by the laws of the machine, its axes and its groups.
-use Rattle.motion_laws.proofs.owners.Shown.{call_all_shown, cycle_all_shown, legal_all_shown, opening_all_shown}
+use Rattle.motion_laws.proofs.owners.Shown.{call_all_shown, cycle_all_shown, past_all_shown, opening_all_shown}
 use Rattle.motion_kernel.proofs.kept.Machine.{MachinesStayKept}
 use Rattle.motion_laws.proofs.owners.commands.Events.{OwnerLaws}
 use Rattle.motion_laws.proofs.owner_laws.commands_are_where_their_instances_show.Goals as goal
@@ -30,4 +30,4 @@ pub returns-clause-cycle : goal.returns-clause-cycle
 returns-clause-cycle c = cycle_all_shown (laws c)
 
 pub returns-clause-entries : goal.returns-clause-entries
-returns-clause-entries c = legal_all_shown (laws c)
+returns-clause-entries c = past_all_shown (laws c)

@@ -1,4 +1,4 @@
--- Commands are of the kinds of their instances' blocks, after every legal history.
+-- Commands are of the kinds of their instances' blocks, after every past.
 use Rattle.std.specs.Prelude.{◌≡◌, refl, ℕ, zero, suc, ◌+◌, Some, None, List, [], ◌∷◌, length, map}
 use Rattle.std.specs.List.{AllByRecursion}
 use Rattle.std.proofs.Common.{sym, subst, ◌∙◌, inl, inr}
@@ -11,7 +11,7 @@ use Rattle.command_core.specs.Charge.{Charge}
 use Rattle.motion_history.specs.Entries.{Entry}
 use Rattle.motion_history.specs.Setup.{Setup, IsSetup}
 use Rattle.motion_history.specs.declared.config.GroupDef.{GroupDef}
-use Rattle.motion_kernel.specs.Histories.{IsLegal, machine_after}
+use Rattle.motion_kernel.specs.Histories.{IsPast, machine_after}
 use Rattle.motion_kernel.specs.Machine.{Machine, axis_among, group_among, group_at_opening, list_of, machine_at_opening}
 use Rattle.motion_kernel.specs.kept.Machine.{AreWhole}
 use Rattle.motion_kernel.proofs.kept.Opening.{none_waits}
@@ -98,8 +98,8 @@ opening_match s (a_group j) l =
     no_command s (charge_at (machine_at_opening s) (a_group j)) (group_rests s.groups j)
     (none_waits (length s.axes + length s.groups) (list_of (machine_at_opening s) j)) (group_resets s.groups j)
 
--- in every legal history
-pub kinds_match : WalkLaws → (s : Setup) (es : List Entry) → IsSetup s → AreWhole s → IsLegal s es → KindsMatch s (machine_after s es)
+-- in every past
+pub kinds_match : WalkLaws → (s : Setup) (es : List Entry) → IsSetup s → AreWhole s → IsPast s es → KindsMatch s (machine_after s es)
 unfolding machine_after
-kinds_match laws s es setup whole legal =
-    by_history laws s Anyone (KindsMatch s) (KindsMatch s) (kinds_kept laws s) (λ k. tt) (opening_match s) es setup whole legal
+kinds_match laws s es setup whole past =
+    by_history laws s Anyone (KindsMatch s) (KindsMatch s) (kinds_kept laws s) (λ k. tt) (opening_match s) es setup whole past

@@ -9,10 +9,10 @@ use Rattle.motion_kernel.proofs.banked.BankedKernel.open.Goals as goal
 pub invariant_of-result : goal.invariant_of-result
 invariant_of-result c =
     let s = c.in_ok-layout.layout in
-    let setup : IsSetup s = c.config.ensures.setup in
-    let history = c.in_ok-open-2.ensures ∙ ap (λ (x : Setup). empty_history x) c.config.ensures.config in
+    let setup : IsSetup s = c.in_ok-bank.ensures.setup in
+    let history = c.in_ok-bank.ensures.history in
     let whole = c.in_ok-parts.ensures.whole in
     let opened = c.machines_stay_kept.ensures.opened s setup whole in
     let kept = subst (IsMachineKept s) (sym c.in_ok-parts.ensures.opened) opened in
-    let sized = subst (IsSized s) (sym c.in_ok-open.ensures) opened.sized in
-    banked_begun _ (c.in_ok-parts.ensures.opened ∙ sym c.in_ok-open.ensures) history kept sized whole c.in_ok-aside.ensures
+    let sized = subst (IsSized s) (sym c.in_ok-bank.ensures.start) opened.sized in
+    banked_begun _ (c.in_ok-parts.ensures.opened ∙ sym c.in_ok-bank.ensures.start) history kept sized whole c.in_ok-aside.ensures

@@ -1,5 +1,5 @@
 use Rattle.std.proofs.Common.{◌≡◌, length, take}
-use Rattle.motion_kernel.proofs.start.copy_groups.Given as goal
+use Rattle.motion_kernel.proofs.parts.copy_groups.Given as goal
 
 abbrev pub invariant-loop-i : goal.invariant-loop-i
 invariant-loop-i l = record {

@@ -1,0 +1,20 @@
+-- Banks that follow each other are one past.
+use Rattle.motion_history.specs.Entries.{cycles_of}
+use Rattle.std.specs.Prelude.{◌++◌}
+use Rattle.motion_kernel.specs.Banks.{counted_on}
+use Rattle.motion_kernel.specs.Machine.{machine_at_opening}
+use Rattle.motion_laws.proofs.history_laws.banks_keep_their_laws.Goals as goal
+
+pub returns-clause-first : goal.returns-clause-first
+returns-clause-first c s bank legal = record { follows = legal.follows }
+
+pub returns-clause-past : goal.returns-clause-past
+returns-clause-past c s past bank before legal = record { follows = c.banks_join.ensures.follows s (machine_at_opening s) past bank before.follows legal }
+
+pub returns-clause-machine : goal.returns-clause-machine
+returns-clause-machine c s past bank = c.banks_join.ensures.machine s (machine_at_opening s) past bank
+
+pub returns-clause-laws : goal.returns-clause-laws
+returns-clause-laws c s past bank setup whole before legal =
+    c.pasts_keep_their_laws.ensures s (past ++ counted_on (cycles_of past) bank) setup whole
+    (record { follows = c.banks_join.ensures.follows s (machine_at_opening s) past bank before.follows legal })
