@@ -46,8 +46,8 @@ fn memberships_in(alloc: Global, config: &Config) -> Result<Vec<Option<Membershi
     Ok(memberships)
 }
 
-// The axes of a group, in its order.
-fn members_in(config: &Config, group: u8) -> &[u8]
+/// The axes of a group by its number, in its order.
+pub fn members_in(config: &Config, group: u8) -> &[u8]
     requires setup { IsSetup config.now }
     requires there { group < length config.now.groups }
     ensures members { result.now ≡ members_at config.now group }

@@ -41,5 +41,7 @@ pub use banked::BankedKernel;
 pub use count_laws::rows_are_counted;
 pub use kernel::{Kernel, OpenFault};
 pub use laws::machines_stay_kept;
+pub use layout::members_in;
+pub use memberships::{Membership, membership_of};
 pub use motion_history::{Config, DriveIn, DriveOut, History, Inputs, Outputs};
 pub use start::Start;

@@ -1,6 +1,6 @@
 // The machine with which a bank of a history begins.
 
-ghost use Rattle.std.specs.Prelude.{◌≡◌, ◌↔◌, ◌<◌, ◌++◌, ◌∷◌, [], IfErr, IfOk, IsErr, OnErr, OnOk, length, slice_get, slice_set};
+ghost use Rattle.std.specs.Prelude.{◌≡◌, ◌↔◌, ◌<◌, ◌≤◌, ◌++◌, ◌∷◌, [], IfErr, IfOk, IsErr, OnErr, OnOk, length, slice_get, slice_set};
 ghost use Rattle.std.specs.Option.{option_copied, option_map};
 ghost use Rattle.axis_core.specs.AxisKept.{IsAxisKept};
 ghost use Rattle.command_pool.specs.Waiting.{queue_of};
@@ -63,6 +63,15 @@ impl Start {
         ensures { option_copied result ≡ slice_get (queue_of self.now.queues list) place }
     {
         self.parts.pool.waiting_at(list, place)
+    }
+
+    /// How many commands wait in a list.
+    pub fn waiting_count(&self, list: u8) -> u8
+        requires { list < length self.now.queues }
+        ensures count { result ≡ length (queue_of self.now.queues list) }
+        ensures few { result ≤ 8 }
+    {
+        self.parts.pool.waiting(list)
     }
 
     /// The instance of a block, by its number.
