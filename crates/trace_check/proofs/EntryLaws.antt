@@ -1,5 +1,5 @@
 -- Entries that are replayed.
-use Rattle.std.proofs.Common.{◌≡◌, ℕ, zero, suc, ◌<◌, Bool, true, false, Some, List, [], ◌∷◌, ◌++◌, length, map, refl, sym, ◌∙◌, ap, subst, arith}
+use Rattle.std.proofs.Common.{◌≡◌, ℕ, zero, suc, ◌<◌, true, false, Some, List, [], ◌∷◌, ◌++◌, length, map, refl, sym, ◌∙◌, ap, subst, arith}
 use Rattle.std.specs.Prelude.{slice_get}
 use Rattle.std.specs.List.{AllByRecursion}
 use Rattle.std.specs.Option.{option_map}
@@ -11,6 +11,7 @@ use Rattle.motion_history.specs.Entries.{Entry, call, cycle, end_of}
 use Rattle.motion_history.specs.Setup.{Setup}
 use Rattle.motion_history.specs.declared.refused.TraceVersion.{TraceVersion}
 use Rattle.motion_history.specs.declared.refused.TraceVersion.TheVariants.{One, Two}
+use Rattle.motion_kernel.specs.Machine.{Machine}
 use Rattle.trace_text.specs.Records.{row_fields}
 use Rattle.trace_text.specs.RowRanges.{found_place, found_row}
 use Rattle.trace_text.specs.Trace.{entry_records, numbered}
@@ -20,7 +21,7 @@ use Rattle.trace_text.specs.declared.found.FoundEntry.{FoundEntry}
 use Rattle.trace_text.specs.declared.found.FoundEntry.TheVariants as found
 use Rattle.trace_check.specs.Events.{IsEvent}
 use Rattle.trace_check.specs.FoundRecords.{found_entry_records, found_row_fields}
-use Rattle.trace_check.specs.Replays.{expected_of, has_room, made_after}
+use Rattle.trace_check.specs.Replays.{expected_of, has_room, made_from}
 use Rattle.trace_check.specs.Rows.{IsFoundAt}
 use Rattle.trace_check.specs.Stops.{StopsAt}
 use Rattle.trace_text.specs.TraceKept.{IsEntryRead}
@@ -58,16 +59,16 @@ made-last es all x y n is e h =
 
 -- ---- room
 
-pub room-same : (v : TraceVersion) (s : Setup) (es : List Entry) (e : Entry) → has_room s es e ≡ true → expected_of v s es e ≡ entry_records v s (made_after s es e)
+pub room-same : (v : TraceVersion) (s : Setup) (m : Machine) (es : List Entry) (e : Entry) → has_room s es e ≡ true → expected_of v s m es e ≡ entry_records v s (made_from s m es e)
 unfolding expected_of
-room-same v s es e room = rw room refl
+room-same v s m es e room = rw room refl
 
-pub room-stop : (v : TraceVersion) (s : Setup) (es : List Entry) (e x : Entry) (place : ℕ) (rs : List (List (List ℕ))) (st : Stop) → has_room s es e ≡ true → x ≡ made_after s es e → StopsAt place (entry_records v s x) rs st → StopsAt place (expected_of v s es e) rs st
-room-stop v s es e x place rs st room is h = rw (room-same v s es e room, ← is) h
+pub room-stop : (v : TraceVersion) (s : Setup) (m : Machine) (es : List Entry) (e x : Entry) (place : ℕ) (rs : List (List (List ℕ))) (st : Stop) → has_room s es e ≡ true → x ≡ made_from s m es e → StopsAt place (entry_records v s x) rs st → StopsAt place (expected_of v s m es e) rs st
+room-stop v s m es e x place rs st room is h = rw (room-same v s m es e room, ← is) h
 
-pub no-room-stop : (v : TraceVersion) (s : Setup) (es : List Entry) (e : Entry) (place : ℕ) (rs : List (List (List ℕ))) (st : Stop) → has_room s es e ≡ false → StopsAt place ([] ∷ []) rs st → StopsAt place (expected_of v s es e) rs st
+pub no-room-stop : (v : TraceVersion) (s : Setup) (m : Machine) (es : List Entry) (e : Entry) (place : ℕ) (rs : List (List (List ℕ))) (st : Stop) → has_room s es e ≡ false → StopsAt place ([] ∷ []) rs st → StopsAt place (expected_of v s m es e) rs st
 unfolding expected_of
-no-room-stop v s es e place rs st none h = rw none h
+no-room-stop v s m es e place rs st none h = rw none h
 
 pub room-for : (s : Setup) (es : List Entry) (e : Entry) → has_room s es e ≡ true → length es < s.entries
 room-for s es e h = ltb-true (length es) s.entries ((and_parts _ _ h).0)

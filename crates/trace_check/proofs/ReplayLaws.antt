@@ -1,11 +1,12 @@
 -- Entries that are replayed one after another.
-use Rattle.std.proofs.Common.{◌≡◌, ℕ, zero, suc, ◌+◌, ◌≤◌, false, Some, Err, List, [], ◌∷◌, ◌++◌, drop, length, map, take, refl, sym, ◌∙◌, ap, arith, append_assoc}
+use Rattle.std.proofs.Common.{◌≡◌, ℕ, zero, suc, ◌+◌, ◌≤◌, Some, Err, List, [], ◌∷◌, ◌++◌, drop, length, map, take, refl, sym, ◌∙◌, ap, arith, append_assoc, subst}
 use Rattle.std.specs.Prelude.{slice_get}
 use Rattle.std.specs.List.{flat_map}
 use Rattle.std.specs.Option.{option_map}
 use Rattle.std.proofs.lemmas.List.{drop_all, length-append, length-map, map-append, take_all}
 use Rattle.motion_history.specs.Entries.{cycles_of}
-use Rattle.motion_kernel.specs.KernelState.{KernelState}
+use Rattle.motion_kernel.specs.Banks.{BankedState}
+use Rattle.motion_kernel.specs.Machine.{Machine}
 use Rattle.motion_history.specs.Setup.{Setup}
 use Rattle.motion_history.specs.declared.refused.TraceVersion.{TraceVersion}
 use Rattle.trace_text.specs.Trace.{drive_records, machine_records}
@@ -15,8 +16,8 @@ use Rattle.trace_text.specs.Writable.{found_entry}
 use Rattle.trace_text.specs.declared.found.FoundEntry.{FoundEntry}
 use Rattle.trace_check.specs.Differences.{first_difference}
 use Rattle.trace_check.specs.FoundRecords.{found_entry_records, found_records}
-use Rattle.trace_check.specs.Progress.{EntriesReplay, IsUnderWay, difference_in, first_place}
-use Rattle.trace_check.specs.Replays.{expected_from, expected_of, expected_records, made_after, with_made, with_taken}
+use Rattle.trace_check.specs.Progress.{EntriesReplay, IsUnderWay, difference_from, first_place}
+use Rattle.trace_check.specs.Replays.{expected_from, expected_of, expected_records, made_from, with_made_from, with_taken}
 use Rattle.trace_check.specs.Stops.{IsEntryReplayed, StopsAt}
 use Rattle.trace_check.specs.declared.difference.Stop.{Stop}
 use Rattle.trace_check.specs.declared.difference.Stop.TheVariants as stop
@@ -37,84 +38,82 @@ entry-at : (t : TraceState) (n : ℕ) (e : FoundEntry) → slice_get t.found n �
 entry-at t n e h = get-map entry_of t.found n ∙ ap (option_map entry_of) h
 
 -- what is left begins with the entry
-pub next-rest : (t : TraceState) (k : KernelState) (count place : ℕ) (e : FoundEntry) (xs ys : List (List (List ℕ))) → IsUnderWay t k count place → slice_get t.found count ≡ Some e →
-    first_difference (first_place t) (expected_from t.version t.config [] (entries_of t) ++ xs) (flat_map (found_entry_records t.config) t.found ++ ys) ≡
+pub next-rest : (t : TraceState) (m : Machine) (k : BankedState) (count place : ℕ) (e : FoundEntry) (xs ys : List (List (List ℕ))) → IsUnderWay t m k count place → slice_get t.found count ≡ Some e →
+    first_difference (first_place t) (expected_from t.version t.config m [] (entries_of t) ++ xs) (flat_map (found_entry_records t.config) t.found ++ ys) ≡
     first_difference place
-    (expected_of t.version t.config k.history (entry_of e) ++ (expected_from t.version t.config (with_made t.config k.history (entry_of e)) (drop (count + 1) (entries_of t)) ++ xs))
+    (expected_of t.version t.config m k.history (entry_of e) ++ (expected_from t.version t.config m (with_made_from t.config m k.history (entry_of e)) (drop (count + 1) (entries_of t)) ++ xs))
     (found_entry_records t.config e ++ (flat_map (found_entry_records t.config) (drop (count + 1) t.found) ++ ys))
-next-rest t k count place e xs ys u at =
+next-rest t m k count place e xs ys u at =
     let a = next-drop (entries_of t) count (entry_of e) (entry-at t count e at) in
     let b = next-drop t.found count e at in
     let v = t.version in
     let s = t.config in
     u.rest xs ys ∙
-    ap (λ l. first_difference place (expected_from v s k.history l ++ xs) (flat_map (found_entry_records s) (drop count t.found) ++ ys)) a ∙
-    ap (λ l. first_difference place ((expected_of v s k.history (entry_of e) ++ expected_from v s (with_made s k.history (entry_of e)) (drop (count + 1) (entries_of t))) ++ xs) (flat_map (found_entry_records s) l ++ ys)) b ∙
-    ap (λ l. first_difference place l ((found_entry_records s e ++ flat_map (found_entry_records s) (drop (count + 1) t.found)) ++ ys)) (append_assoc (expected_of v s k.history (entry_of e)) _ xs) ∙
-    ap (λ l. first_difference place (expected_of v s k.history (entry_of e) ++ (expected_from v s (with_made s k.history (entry_of e)) (drop (count + 1) (entries_of t)) ++ xs)) l) (append_assoc (found_entry_records s e) _ ys)
+    ap (λ l. first_difference place (expected_from v s m k.history l ++ xs) (flat_map (found_entry_records s) (drop count t.found) ++ ys)) a ∙
+    ap (λ l. first_difference place ((expected_of v s m k.history (entry_of e) ++ expected_from v s m (with_made_from s m k.history (entry_of e)) (drop (count + 1) (entries_of t))) ++ xs) (flat_map (found_entry_records s) l ++ ys)) b ∙
+    ap (λ l. first_difference place l ((found_entry_records s e ++ flat_map (found_entry_records s) (drop (count + 1) t.found)) ++ ys)) (append_assoc (expected_of v s m k.history (entry_of e)) _ xs) ∙
+    ap (λ l. first_difference place (expected_of v s m k.history (entry_of e) ++ (expected_from v s m (with_made_from s m k.history (entry_of e)) (drop (count + 1) (entries_of t)) ++ xs)) l) (append_assoc (found_entry_records s e) _ ys)
 
 -- one entry more is replayed
-pub goes-on : (t : TraceState) (k m : KernelState) (count place n : ℕ) (e : FoundEntry) → IsUnderWay t k count place → slice_get t.found count ≡ Some e → IsEntryReplayed t e k m n → IsUnderWay t m (count + 1) (place + n)
-goes-on t k m count place n e u at r =
-    let history : m.history ≡ with_made t.config k.history (entry_of e) = ap (λ (x : KernelState). x.history) r.after in
+pub goes-on : (t : TraceState) (m : Machine) (k new : BankedState) (count place n : ℕ) (e : FoundEntry) → IsUnderWay t m k count place → slice_get t.found count ≡ Some e → IsEntryReplayed t e k.start k new n →
+    IsUnderWay t m new (count + 1) (place + n)
+goes-on t m k new count place n e u at replayed =
+    let r : IsEntryReplayed t e m k new n = subst (λ x. IsEntryReplayed t e x k new n) u.start replayed in
+    let history : new.history ≡ with_made_from t.config m k.history (entry_of e) = ap (λ (x : BankedState). x.history) r.after in
     let made = u.made in
     let room = r.room in
     let small = u.small in
     let few = r.few in
-    let long : length (k.history ++ made_after t.config k.history (entry_of e) ∷ []) ≡ length k.history + 1 = length-append k.history (made_after t.config k.history (entry_of e) ∷ []) in
+    let long : length (k.history ++ made_from t.config m k.history (entry_of e) ∷ []) ≡ length k.history + 1 = length-append k.history (made_from t.config m k.history (entry_of e) ∷ []) in
     record {
-      config = ap (λ (x : KernelState). x.config) r.after ∙ u.config;
-      runs = ap (λ (x : KernelState). x.stopped) r.after ∙ u.runs;
+      config = ap (λ (x : BankedState). x.config) r.after ∙ u.config;
+      start = ap (λ (x : BankedState). x.start) r.after ∙ u.start;
       made = ap length history ∙ long ∙ ap (λ j. j + 1) made;
       room = omega (arith, made, room);
       small = omega (arith, small, few);
       found =
           next-take t.found count e at ∙ ap (λ l. l ++ e ∷ []) u.found ∙ ap (λ x. map (found_entry t.version t.config) k.history ++ x ∷ []) r.found ∙
-          sym (map-append (found_entry t.version t.config) k.history (made_after t.config k.history (entry_of e) ∷ [])) ∙ ap (map (found_entry t.version t.config)) (sym history);
+          sym (map-append (found_entry t.version t.config) k.history (made_from t.config m k.history (entry_of e) ∷ [])) ∙ ap (map (found_entry t.version t.config)) (sym history);
       rest = λ xs ys.
-          next-rest t k count place e xs ys u at ∙
+          next-rest t m k count place e xs ys u at ∙
           first-past place (place + n) _ _ _ _ r.same (ap (λ j. place + j) r.told) ∙
-          ap (λ h. first_difference (place + n) (expected_from t.version t.config h (drop (count + 1) (entries_of t)) ++ xs) (flat_map (found_entry_records t.config) (drop (count + 1) t.found) ++ ys)) (sym history);
+          ap (λ h. first_difference (place + n) (expected_from t.version t.config m h (drop (count + 1) (entries_of t)) ++ xs) (flat_map (found_entry_records t.config) (drop (count + 1) t.found) ++ ys)) (sym history);
     }
-
-drives-expected : TraceState → List (List (List ℕ))
-drives-expected t = drive_records t.config (map (with_taken (cycles_of (entries_of t))) t.drives)
 
 -- a stop in an entry is the trace's
-pub stops-here : (t : TraceState) (k m : KernelState) (count place : ℕ) (e : FoundEntry) (s : Stop) → IsUnderWay t k count place → slice_get t.found count ≡ Some e →
-    StopsAt place (expected_of t.version t.config k.history (entry_of e)) (found_entry_records t.config e) s → EntriesReplay t m (Err s)
-unfolding difference_in expected_records found_records
-stops-here t k m count place e (stop.Differs d) u at h =
-    next-rest t k count place e (drive_records t.config (map (with_taken (cycles_of (entries_of t))) t.drives)) (drive_records t.config t.drives) u at ∙
-    first-stop place (expected_of t.version t.config k.history (entry_of e)) (found_entry_records t.config e) _ _ d h
-stops-here t k m count place e stop.OutOfMemory u at h = tt
+pub stops-here : (t : TraceState) (m : Machine) (k new : BankedState) (count place : ℕ) (e : FoundEntry) (s : Stop) → IsUnderWay t m k count place → slice_get t.found count ≡ Some e →
+    StopsAt place (expected_of t.version t.config k.start k.history (entry_of e)) (found_entry_records t.config e) s → EntriesReplay t m new (Err s)
+unfolding difference_from expected_records found_records
+stops-here t m k new count place e (stop.Differs d) u at h =
+    let here = subst (λ x. StopsAt place (expected_of t.version t.config x k.history (entry_of e)) (found_entry_records t.config e) (stop.Differs d)) u.start h in
+    next-rest t m k count place e (drive_records t.config (map (with_taken (cycles_of (entries_of t))) t.drives)) (drive_records t.config t.drives) u at ∙
+    first-stop place (expected_of t.version t.config m k.history (entry_of e)) (found_entry_records t.config e) _ _ d here
+stops-here t m k new count place e stop.OutOfMemory u at h = tt
 
 -- nothing is replayed at first
-pub opens : (t : TraceState) (k : KernelState) (place : ℕ) → k ≡ record { config = t.config; history = []; stopped = false } → place ≡ first_place t → place ≤ 2000 → IsUnderWay t k 0 place
-opens t k place is e small =
-    let history : k.history ≡ [] = ap (λ (x : KernelState). x.history) is in
-    record {
-      config = ap (λ (x : KernelState). x.config) is;
-      runs = ap (λ (x : KernelState). x.stopped) is;
-      made = ap length history;
-      room = omega arith;
-      small = omega (arith, small);
-      found = rw history refl;
-      rest = λ xs ys. rw (history, e) refl;
-    }
+pub opens : (t : TraceState) (k : BankedState) (place : ℕ) → k.config ≡ t.config → k.history ≡ [] → place ≡ first_place t → place ≤ 2000 → IsUnderWay t k.start k 0 place
+opens t k place config history e small = record {
+  config = config;
+  start = refl;
+  made = ap length history;
+  room = omega arith;
+  small = omega (arith, small);
+  found = rw history refl;
+  rest = λ xs ys. rw (history, e) refl;
+}
 
 -- at the end the drives are left
-pub drives-left : (t : TraceState) (k : KernelState) (place : ℕ) → IsUnderWay t k (length t.found) place →
-    difference_in t ≡ first_difference place (drive_records t.config (map (with_taken (cycles_of (entries_of t))) t.drives)) (drive_records t.config t.drives)
-unfolding difference_in expected_records found_records
-drives-left t k place u =
+pub drives-left : (t : TraceState) (m : Machine) (k : BankedState) (place : ℕ) → IsUnderWay t m k (length t.found) place →
+    difference_from m t ≡ first_difference place (drive_records t.config (map (with_taken (cycles_of (entries_of t))) t.drives)) (drive_records t.config t.drives)
+unfolding difference_from expected_records found_records
+drives-left t m k place u =
     let a : drop (length t.found) (entries_of t) ≡ [] = drop_all (length t.found) (entries_of t) (omega (arith, length-map t.found entry_of)) in
     let b : drop (length t.found) t.found ≡ [] = drop_all (length t.found) t.found (omega arith) in
     u.rest _ _ ∙ rw (a, b) refl
 
 -- the entries are those of the kernel's history
-pub all-found : (t : TraceState) (k : KernelState) (place : ℕ) → IsUnderWay t k (length t.found) place → t.found ≡ map (found_entry t.version t.config) k.history
-all-found t k place u = sym (take_all (length t.found) t.found (omega arith)) ∙ u.found
+pub all-found : (t : TraceState) (m : Machine) (k : BankedState) (place : ℕ) → IsUnderWay t m k (length t.found) place → t.found ≡ map (found_entry t.version t.config) k.history
+all-found t m k place u = sym (take_all (length t.found) t.found (omega arith)) ∙ u.found
 
 pub first-is : (t : TraceState) (place : ℕ) (s : Setup) → s ≡ t.config → ((v : TraceVersion) (c : Command) → place ≡ length (machine_records v c s) + 1) → place ≡ first_place t
 unfolding first_place

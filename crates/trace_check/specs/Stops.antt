@@ -1,13 +1,14 @@
 -- What comparing records answers. This project's profile.
 use Rattle.std.specs.Prelude.{◌≡◌, ◌<◌, ◌≤◌, ℕ, false, Some, Result, Ok, Err, List, length}
-use Rattle.motion_kernel.specs.KernelState.{KernelState}
+use Rattle.motion_kernel.specs.Banks.{BankedState}
+use Rattle.motion_kernel.specs.Machine.{Machine}
 use Rattle.trace_text.specs.reading.Reading.{are_same}
 use Rattle.trace_text.specs.TraceState.{TraceState, entry_of}
 use Rattle.trace_text.specs.Writable.{found_entry}
 use Rattle.trace_text.specs.declared.found.FoundEntry.{FoundEntry}
 use Rattle.trace_check.specs.Differences.{first_difference}
 use Rattle.trace_check.specs.FoundRecords.{found_entry_records}
-use Rattle.trace_check.specs.Replays.{expected_of, made_after, with_made}
+use Rattle.trace_check.specs.Replays.{expected_of, made_from, with_made_from}
 use Rattle.trace_check.specs.declared.difference.Stop.{Stop}
 use Rattle.trace_check.specs.declared.difference.Stop.TheVariants as stop
 
@@ -30,22 +31,22 @@ abbrev pub Compares : {A : Type 0} → ℕ → List (List (List ℕ)) → List (
 Compares place expected found (Ok x) = expected ≡ found
 Compares place expected found (Err s) = StopsAt place expected found s
 
--- an entry was replayed, from a kernel's state to another: it is found as the machine makes it, so
--- are its records, and their number is told
-pub record IsEntryReplayed (t : TraceState) (e : FoundEntry) (old new : KernelState) (count : ℕ)
-    : Type 0 where
-  pub same : expected_of t.version t.config old.history (entry_of e) ≡
+-- an entry was replayed from a machine on, from a kernel's state to another: it is found as the
+-- machine makes it, so are its records, and their number is told
+pub record IsEntryReplayed (t : TraceState) (e : FoundEntry) (m : Machine) (old new : BankedState)
+    (count : ℕ) : Type 0 where
+  pub same : expected_of t.version t.config m old.history (entry_of e) ≡
       found_entry_records t.config e
-  pub after : new ≡ record old { history = with_made t.config old.history (entry_of e) }
-  pub found : e ≡ found_entry t.version t.config (made_after t.config old.history (entry_of e))
+  pub after : new ≡ record old { history = with_made_from t.config m old.history (entry_of e) }
+  pub found : e ≡ found_entry t.version t.config (made_from t.config m old.history (entry_of e))
   pub room : length old.history < t.config.entries
   pub told : count ≡ length (found_entry_records t.config e)
   pub few : count ≤ 300
 
 -- an entry was, or the first of its records that differs is told; or memory ran out
-abbrev pub EntryReplays : TraceState → FoundEntry → ℕ → KernelState → KernelState →
+abbrev pub EntryReplays : TraceState → FoundEntry → ℕ → Machine → BankedState → BankedState →
     Result ℕ Stop → Type 0
-EntryReplays t e place old new (Ok count) = IsEntryReplayed t e old new count
-EntryReplays t e place old new (Err s) =
-    StopsAt place (expected_of t.version t.config old.history (entry_of e))
+EntryReplays t e place m old new (Ok count) = IsEntryReplayed t e m old new count
+EntryReplays t e place m old new (Err s) =
+    StopsAt place (expected_of t.version t.config m old.history (entry_of e))
     (found_entry_records t.config e) s

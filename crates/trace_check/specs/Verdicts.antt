@@ -1,7 +1,8 @@
 -- The verdict on a trace. This project's profile.
 use Rattle.std.specs.Prelude.{ℕ, Option, Some, None, length}
+use Rattle.motion_kernel.specs.Machine.{Machine}
 use Rattle.trace_text.specs.TraceState.{TraceState, entries_of}
-use Rattle.trace_check.specs.Progress.{difference_in}
+use Rattle.trace_check.specs.Progress.{difference_from, difference_in}
 use Rattle.trace_check.specs.declared.difference.Difference.{Difference}
 use Rattle.trace_check.specs.declared.verdict.Verdict.{Verdict}
 use Rattle.trace_check.specs.declared.verdict.Verdict.TheVariants as verdict
@@ -11,5 +12,10 @@ abbrev pub verdict_by : ℕ → Option Difference → Verdict
 verdict_by entries None = verdict.Legal entries
 verdict_by entries (Some d) = verdict.IllegalAt d.place d.expected d.found
 
+-- the verdict from a machine on
+unfoldable pub verdict_from : Machine → TraceState → Verdict
+verdict_from m t = verdict_by (length (entries_of t)) (difference_from m t)
+
+-- the verdict from opening on
 unfoldable pub verdict_of : TraceState → Verdict
 verdict_of t = verdict_by (length (entries_of t)) (difference_in t)

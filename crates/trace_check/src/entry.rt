@@ -1,6 +1,6 @@
 // An entry of a trace, replayed: its event is made, and its records are compared.
 
-ghost use Rattle.std.specs.Prelude.{◌≡◌, ◌+◌, ◌<◌, ◌≤◌, ◌^◌, [], ◌∷◌, false, Some, length, slice_get, take};
+ghost use Rattle.std.specs.Prelude.{◌≡◌, ◌+◌, ◌<◌, ◌≤◌, ◌^◌, [], ◌∷◌, Some, length, slice_get, take};
 ghost use Rattle.motion_history.specs.Looks.{told};
 ghost use Rattle.trace_text.specs.Trace.{entry_records};
 ghost use Rattle.trace_text.specs.declared.found.FoundEntry.{FoundEntry};
@@ -15,7 +15,7 @@ use crate::record::Record;
 use crate::rows::wrong_record;
 use crate::texts::{entry_record, found_record};
 use motion_history::EntryLook;
-use motion_kernel::Kernel;
+use motion_kernel::BankedKernel;
 use std::alloc::Global;
 use trace_text::Trace;
 
@@ -89,15 +89,14 @@ pub fn replay_entry(
     trace: &Trace,
     entry: u64,
     place: u64,
-    kernel: &mut Kernel,
+    kernel: &mut BankedKernel,
 ) -> Result<u64, Stop>
     requires kept { IsTraceKept trace.now }
     requires config { kernel.old.config ≡ trace.now.config }
-    requires runs { kernel.old.stopped ≡ false }
     requires made { length kernel.old.history ≡ entry }
     requires fits { place + 300 < 2 ^ 64 }
     ensures { (e : FoundEntry) → slice_get trace.now.found entry ≡ Some e →
-        EntryReplays trace.now e place kernel.old kernel.new result }
+        EntryReplays trace.now e place kernel.old.start kernel.old kernel.new result }
 {
     let Some(found) = trace.look(entry) else {
         return Err(Stop::OutOfMemory);

@@ -1,6 +1,7 @@
-//! Replays a trace on the kernel and judges it: legal, or the first record that differs. It stands
-//! on `trace_text`, which reads, and on `motion_kernel`, which makes each entry anew; records are
-//! compared only where an entry differs. Begin at [`check`] and [`Verdict`].
+//! Replays a trace on the kernel, from opening on or from where a kernel begins, and judges it:
+//! legal, or the first record that differs. It stands on `trace_text`, which reads, and on
+//! `motion_kernel`, which makes each entry anew; records are compared only where an entry differs.
+//! Begin at [`check`] and [`Verdict`].
 #![tactic(auto)]
 
 mod difference;
@@ -18,8 +19,8 @@ mod verdict;
 
 pub use difference::Difference;
 pub use laws::{migrated_traces_are_legal, traces_tell_their_history};
-pub use motion_kernel::Kernel;
+pub use motion_kernel::BankedKernel;
 pub use record::Record;
-pub use replaying::{Replayed, replay};
+pub use replaying::{Replayed, replay, replay_from};
 pub use trace_text::{OutOfMemory, Trace, read_trace};
-pub use verdict::{Verdict, check};
+pub use verdict::{Verdict, check, check_from};

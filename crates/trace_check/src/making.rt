@@ -1,17 +1,18 @@
 // The events of a trace, made on the kernel.
 
-ghost use Rattle.std.specs.Prelude.{◌≡◌, ◌+◌, ◌<◌, ◌++◌, ◌∷◌, [], IsTrue, false, length};
+ghost use Rattle.std.specs.Prelude.{◌≡◌, ◌<◌, ◌++◌, ◌∷◌, [], IsTrue, length};
 ghost use Rattle.motion_history.specs.Entries.{cycles_of};
 ghost use Rattle.motion_history.specs.Looks.{told};
+ghost use Rattle.motion_kernel.specs.Banks.{machine_now};
 ghost use Rattle.motion_kernel.specs.Histories.{inputs_of};
 ghost use Rattle.trace_check.specs.Events.{IsEvent};
 ghost use Rattle.trace_check.specs.Replays as spec;
-ghost use Rattle.trace_check.specs.Replays.{cycle_made, with_made};
+ghost use Rattle.trace_check.specs.Replays.{cycle_of, with_made_from};
 
 use axis_state::AxisRow;
 use cia402_machine::{DriveIn, DriveOut};
 use motion_history::{EntryLook, MOST_AXES};
-use motion_kernel::Kernel;
+use motion_kernel::BankedKernel;
 
 /// An answer before it is given.
 const NO_ANSWER: DriveIn = DriveIn {
@@ -28,8 +29,7 @@ const NO_OUTPUT: DriveOut = DriveOut {
 };
 
 /// Whether the history has room for an entry more, and where it is a cycle also for that.
-pub fn has_room(kernel: &Kernel, entry: &EntryLook<'_>) -> bool
-    requires { kernel.now.stopped ≡ false }
+pub fn has_room(kernel: &BankedKernel, entry: &EntryLook<'_>) -> bool
     ensures { result ≡ spec.has_room kernel.now.config kernel.now.history (told entry.now) }
 {
     let is_in_time = match entry {
@@ -50,14 +50,14 @@ fn take_answers(rows: &[AxisRow], answers: &mut [DriveIn])
 }
 
 // Goes through a cycle with the answers that these rows show.
-fn make_cycle(kernel: &mut Kernel, rows: &[AxisRow])
+fn make_cycle(kernel: &mut BankedKernel, rows: &[AxisRow])
     requires room { length kernel.old.history < kernel.old.config.entries }
     requires cycle { cycles_of kernel.old.history < kernel.old.config.cycles }
-    requires runs { kernel.old.stopped ≡ false }
     requires rows { length rows.now ≡ length kernel.old.config.axes }
     ensures { kernel.new ≡ record kernel.old {
       history = kernel.old.history ++
-          cycle_made kernel.old.config kernel.old.history (inputs_of rows.now) ∷ [];
+          cycle_of kernel.old.config (cycles_of kernel.old.history) (machine_now kernel.old)
+          (inputs_of rows.now) ∷ [];
     } }
 {
     let mut answers = [NO_ANSWER; MOST_AXES];
@@ -68,12 +68,12 @@ fn make_cycle(kernel: &mut Kernel, rows: &[AxisRow])
 }
 
 /// Makes the event of an entry, for which there is room.
-pub fn make(kernel: &mut Kernel, entry: &EntryLook<'_>)
-    requires runs { kernel.old.stopped ≡ false }
+pub fn make(kernel: &mut BankedKernel, entry: &EntryLook<'_>)
     requires room { IsTrue (spec.has_room kernel.old.config kernel.old.history (told entry.now)) }
     requires event { IsEvent kernel.old.config (told entry.now) }
     ensures { kernel.new ≡ record kernel.old {
-      history = with_made kernel.old.config kernel.old.history (told entry.now);
+      history = with_made_from kernel.old.config kernel.old.start kernel.old.history
+          (told entry.now);
     } }
 {
     match entry {
@@ -82,8 +82,7 @@ pub fn make(kernel: &mut Kernel, entry: &EntryLook<'_>)
             inputs,
             ..
         } => {
-            let task = kernel.config().blocks()[*instance as usize].task;
-            kernel.call(task, *instance, inputs);
+            kernel.call(*instance, inputs);
         }
         EntryLook::Cycle { axes, .. } => make_cycle(kernel, axes),
         EntryLook::End { task } => kernel.end(*task),

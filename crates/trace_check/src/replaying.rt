@@ -1,18 +1,19 @@
 // The replay of a whole trace.
 
-ghost use Rattle.std.specs.Prelude.{◌≡◌, ◌+◌, ◌≤◌, [], IfOk, false, length};
+ghost use Rattle.std.specs.Prelude.{◌≡◌, ◌+◌, ◌≤◌, [], IfOk, length};
 ghost use Rattle.trace_text.specs.Trace.{machine_records};
 ghost use Rattle.trace_text.specs.declared.command.Command.{Command};
 ghost use Rattle.motion_history.specs.declared.refused.TraceVersion.{TraceVersion};
+ghost use Rattle.motion_kernel.specs.Banks.{at_opening};
 ghost use Rattle.trace_text.specs.TraceKept.{IsTraceKept};
-ghost use Rattle.trace_check.specs.Progress.{EntriesReplay, Judges};
-ghost use Rattle.trace_check.specs.Outcomes.{IsReplayed};
+ghost use Rattle.trace_check.specs.Progress.{EntriesReplay};
+ghost use Rattle.trace_check.specs.Outcomes.{IsReplayed, IsReplayedFrom, Judges};
 
 use crate::difference::{Difference, Stop};
 use crate::drives::check_drives;
 use crate::entry::replay_entry;
 use motion_history::{Config, MOST_ENTRIES, OutOfMemory};
-use motion_kernel::Kernel;
+use motion_kernel::BankedKernel;
 use std::alloc::Global;
 use trace_text::Trace;
 
@@ -20,7 +21,7 @@ use trace_text::Trace;
 #[derive(Drop)]
 pub enum Replayed {
     /// It is legal: the kernel has its history, the offsets of the rows too.
-    Legal(Kernel),
+    Legal(BankedKernel),
     /// The first record that differs.
     IllegalAt(Difference),
 }
@@ -40,10 +41,11 @@ fn first_place(config: &Config) -> u64
 }
 
 // Replays all entries, and answers the number of the first record behind them.
-fn replay_entries(alloc: Global, trace: &Trace, kernel: &mut Kernel) -> Result<u64, Stop>
+fn replay_entries(alloc: Global, trace: &Trace, kernel: &mut BankedKernel) -> Result<u64, Stop>
     requires kept { IsTraceKept trace.now }
-    requires opened { kernel.old ≡ record { config = trace.now.config; history = []; stopped = false } }
-    ensures { EntriesReplay trace.now kernel.new result }
+    requires config { kernel.old.config ≡ trace.now.config }
+    requires empty { kernel.old.history ≡ [] }
+    ensures { EntriesReplay trace.now kernel.old.start kernel.new result }
 {
     let mut place = first_place(trace.config());
     for entry in 0..trace.entries() {
@@ -55,18 +57,14 @@ fn replay_entries(alloc: Global, trace: &Trace, kernel: &mut Kernel) -> Result<u
     Ok(place)
 }
 
-// Replays a trace up to the first record that differs.
-fn kernel_of(alloc: Global, trace: &Trace) -> Result<Kernel, Stop>
-    ensures { Judges trace.now result }
+// Replays a trace on a kernel up to the first record that differs.
+fn kernel_of(alloc: Global, trace: &Trace, mut kernel: BankedKernel) -> Result<BankedKernel, Stop>
+    requires config { kernel.config ≡ trace.now.config }
+    requires empty { kernel.history ≡ [] }
+    ensures { Judges kernel.start trace.now result }
 {
     // Its entries are as they are read.
     let _ = trace.entries();
-    let Ok(config) = trace.config().copy(alloc) else {
-        return Err(Stop::OutOfMemory);
-    };
-    let Ok(mut kernel) = Kernel::open(alloc, config) else {
-        return Err(Stop::OutOfMemory);
-    };
     let place = match replay_entries(alloc, trace, &mut kernel) {
         Ok(place) => place,
         Err(stop) => return Err(stop),
@@ -78,14 +76,37 @@ fn kernel_of(alloc: Global, trace: &Trace) -> Result<Kernel, Stop>
     }
 }
 
-/// Replays a trace on a kernel of its configuration, one entry at a time, the answers of the drives
-/// being given. It takes memory for the kernel, and for two records where they differ.
-pub fn replay(alloc: Global, trace: &Trace) -> Result<Replayed, OutOfMemory>
-    ensures { IfOk result (IsReplayed trace.now) }
+/// Replays a trace from where a kernel of its configuration begins, one entry at a time, the
+/// answers of the drives being given. It takes memory for two records where they differ.
+pub fn replay_from(
+    alloc: Global,
+    trace: &Trace,
+    kernel: BankedKernel,
+) -> Result<Replayed, OutOfMemory>
+    requires config { kernel.config ≡ trace.now.config }
+    requires empty { kernel.history ≡ [] }
+    ensures { IfOk result (IsReplayedFrom kernel.start trace.now) }
 {
-    match kernel_of(alloc, trace) {
+    match kernel_of(alloc, trace, kernel) {
         Ok(kernel) => Ok(Replayed::Legal(kernel)),
         Err(Stop::Differs(difference)) => Ok(Replayed::IllegalAt(difference)),
         Err(Stop::OutOfMemory) => Err(OutOfMemory),
     }
+}
+
+/// A kernel of a trace's configuration, at opening.
+pub fn open_kernel(alloc: Global, trace: &Trace) -> Result<BankedKernel, OutOfMemory>
+    ensures { IfOk result (λ k. k ≡ at_opening trace.now.config) }
+{
+    let config = trace.config().copy(alloc)?;
+    BankedKernel::open(alloc, config)
+}
+
+/// Replays a trace on a kernel of its configuration, from opening on. It takes memory for the
+/// kernel, and for two records where they differ.
+pub fn replay(alloc: Global, trace: &Trace) -> Result<Replayed, OutOfMemory>
+    ensures { IfOk result (IsReplayed trace.now) }
+{
+    let kernel = open_kernel(alloc, trace)?;
+    replay_from(alloc, trace, kernel)
 }

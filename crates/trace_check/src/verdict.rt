@@ -1,14 +1,15 @@
 // The verdict on a trace.
 
-ghost use Rattle.std.specs.Prelude.{◌≡◌, ◌↔◌, IfOk, length};
+ghost use Rattle.std.specs.Prelude.{◌≡◌, ◌↔◌, [], IfOk, length};
 ghost use Rattle.trace_text.specs.TraceState.{entries_of};
-ghost use Rattle.trace_check.specs.Legal.{IsLegalTrace};
+ghost use Rattle.trace_check.specs.Legal.{IsLegalTrace, IsLegalTraceFrom};
 ghost use Rattle.trace_check.specs.Verdicts as spec;
 
 use crate::difference::Difference;
 use crate::record::Record;
-use crate::replaying::{Replayed, replay};
+use crate::replaying::{Replayed, open_kernel, replay_from};
 use motion_history::OutOfMemory;
+use motion_kernel::BankedKernel;
 use std::alloc::Global;
 use trace_text::Trace;
 
@@ -27,14 +28,22 @@ pub enum Verdict {
     },
 }
 
-/// Judges a trace: legal exactly where it is that of a legal history of its machine, each drive
-/// having taken a setpoint in every cycle; else the first record that differs.
-pub fn check(alloc: Global, trace: &Trace) -> Result<Verdict, OutOfMemory>
-    ensures verdict { IfOk result (λ v. v ≡ spec.verdict_of trace.now) }
+/// Judges a trace from where a kernel of its configuration begins: legal exactly where it is that
+/// of a history that is legal from there on, each drive having taken a setpoint in every cycle;
+/// else the first record that differs.
+pub fn check_from(
+    alloc: Global,
+    trace: &Trace,
+    kernel: BankedKernel,
+) -> Result<Verdict, OutOfMemory>
+    requires config { kernel.config ≡ trace.now.config }
+    requires empty { kernel.history ≡ [] }
+    ensures verdict { IfOk result (λ v. v ≡ spec.verdict_from kernel.start trace.now) }
     ensures legal { IfOk result (λ v.
-        (v ≡ Verdict.Legal (length (entries_of trace.now))) ↔ IsLegalTrace trace.now) }
+        (v ≡ Verdict.Legal (length (entries_of trace.now))) ↔
+        IsLegalTraceFrom kernel.start trace.now) }
 {
-    match replay(alloc, trace)? {
+    match replay_from(alloc, trace, kernel)? {
         Replayed::Legal(_) => Ok(Verdict::Legal {
             entries: trace.entries(),
         }),
@@ -50,4 +59,15 @@ pub fn check(alloc: Global, trace: &Trace) -> Result<Verdict, OutOfMemory>
             found,
         }),
     }
+}
+
+/// Judges a trace: legal exactly where it is that of a legal history of its machine, each drive
+/// having taken a setpoint in every cycle; else the first record that differs.
+pub fn check(alloc: Global, trace: &Trace) -> Result<Verdict, OutOfMemory>
+    ensures verdict { IfOk result (λ v. v ≡ spec.verdict_of trace.now) }
+    ensures legal { IfOk result (λ v.
+        (v ≡ Verdict.Legal (length (entries_of trace.now))) ↔ IsLegalTrace trace.now) }
+{
+    let kernel = open_kernel(alloc, trace)?;
+    check_from(alloc, trace, kernel)
 }

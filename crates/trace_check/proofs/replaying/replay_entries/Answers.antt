@@ -10,7 +10,7 @@ use Rattle.trace_check.proofs.replaying.replay_entries.Goals as goal
 
 pub loop-entry-init : goal.loop-entry-init
 loop-entry-init c =
-    opens c.args.trace.now c.args.kernel.now c.first_place-place.result c.requires.opened
+    opens c.args.trace.now c.args.kernel.now c.first_place-place.result c.requires.config c.requires.empty
     (first-is c.args.trace.now _ _ c.config.ensures c.first_place-place.ensures.place) c.first_place-place.ensures.small
 
 pub replay_entry-requires-clause-fits : goal.replay_entry-requires-clause-fits
@@ -40,7 +40,7 @@ returns-in-Err c =
     let end = c.entries-entry-end.ensures.count in
     let within : c.loop-entry.entry < length c.args.trace.now.found = omega (arith, c.loop-entry-test.true, end, long) in
     let e = there c.args.trace.now.found c.loop-entry.entry within in
-    stops-here c.args.trace.now c.loop-entry.kernel c.loop-entry.kernel c.loop-entry.entry c.loop-entry.place e.0 _ c.loop-entry.invariant e.1 (c.in-Err.ensures e.0 e.1)
+    stops-here c.args.trace.now c.args.kernel.now.start c.loop-entry.kernel c.loop-entry.kernel c.loop-entry.entry c.loop-entry.place e.0 _ c.loop-entry.invariant e.1 (c.in-Err.ensures e.0 e.1)
 
 pub loop-entry-preserved : goal.loop-entry-preserved
 loop-entry-preserved c =
@@ -48,4 +48,4 @@ loop-entry-preserved c =
     let end = c.entries-entry-end.ensures.count in
     let within : c.loop-entry.entry < length c.args.trace.now.found = omega (arith, c.loop-entry-test.true, end, long) in
     let e = there c.args.trace.now.found c.loop-entry.entry within in
-    goes-on c.args.trace.now c.loop-entry.kernel _ c.loop-entry.entry c.loop-entry.place _ e.0 c.loop-entry.invariant e.1 (c.in-Ok.ensures e.0 e.1)
+    goes-on c.args.trace.now c.args.kernel.now.start c.loop-entry.kernel _ c.loop-entry.entry c.loop-entry.place _ e.0 c.loop-entry.invariant e.1 (c.in-Ok.ensures e.0 e.1)

@@ -1,13 +1,9 @@
--- The verdict by the replay.
-use Rattle.trace_check.proofs.VerdictLaws.{verdict-illegal, verdict-legal}
+-- From opening on.
+use Rattle.trace_check.proofs.VerdictLaws.{judged-opened, told-opened}
 use Rattle.trace_check.proofs.verdict.check.Goals as goal
 
-pub returns-in-Legal-clause-verdict : goal.returns-in-Legal-clause-verdict
-returns-in-Legal-clause-verdict c =
-    let told = rw c.in-Legal.is at c.in_ok-replay.ensures in
-    verdict-legal c.args.trace.now c.entries.result told.0 c.entries.ensures.count
-
 pub returns-clause-verdict : goal.returns-clause-verdict
-returns-clause-verdict c =
-    let told = rw c.in-IllegalAt.is at c.in_ok-replay.ensures in
-    verdict-illegal c.args.trace.now c.in-IllegalAt.field-0 told.0
+returns-clause-verdict c = told-opened _ c.args.trace.now _ _ c.in_ok-kernel.ensures c.check_from.ensures.verdict
+
+pub returns-clause-legal : goal.returns-clause-legal
+returns-clause-legal c = judged-opened _ c.args.trace.now _ _ c.in_ok-kernel.ensures c.check_from.ensures.legal
