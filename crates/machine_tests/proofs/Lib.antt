@@ -1,0 +1,7 @@
+pub mod Queues
+pub mod AxisQueues
+pub mod GroupQueues
+pub mod OnLine
+pub mod Groups
+pub mod Members
+pub mod MemberLimits

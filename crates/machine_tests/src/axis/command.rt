@@ -1,0 +1,98 @@
+// Whether the active command of an axis fits its state (PLCopen Motion Control Part 1).
+
+ghost use Rattle.std.specs.Prelude.{◌≡◌, ◌↔◌, IsTrue, Some, ◌≤◌, ◌^◌, pos, ◌≤ℤ◌, ◌+ℤ◌, ◌-ℤ◌, unsigned_abs};
+ghost use Rattle.axis_core.specs.AxisKept as kept;
+ghost use Rattle.axis_core.specs.AxisKept.{IsActive, IsHomeWithin, IsReady};
+ghost use Rattle.axis_state.specs.Counts.{HasCounts};
+ghost use Rattle.command_pool.specs.declared.wanted.Wanted.{Wanted};
+ghost use Rattle.kin_core.specs.Admissible.{AreLimits};
+
+use crate::axis::numbers::{are_numbers, has_small_target, is_move_within};
+use crate::counts::has_counts;
+use crate::limits::is_within;
+use axis_core::{Axis, AxisState, BlockKind, Wanted};
+
+// Whether a command may be active in a state.
+fn fits(state: AxisState, kind: BlockKind) -> bool
+    ensures { result ≡ kept.fits state kind }
+{
+    match state {
+        AxisState::DiscreteMotion => matches!(
+            kind,
+            BlockKind::MoveAbsolute | BlockKind::MoveRelative | BlockKind::Halt
+        ),
+        AxisState::ContinuousMotion => matches!(kind, BlockKind::MoveVelocity),
+        AxisState::SynchronizedMotion => matches!(kind, BlockKind::GearIn | BlockKind::CamIn),
+        AxisState::Stopping => matches!(kind, BlockKind::Stop),
+        AxisState::Homing => matches!(kind, BlockKind::Home),
+        _ => false,
+    }
+}
+
+// The offset of an axis once a Home has set its position.
+fn offset_at(axis: &Axis, position: i64) -> i128
+    ensures value { result ≡ axis.now.offset +ℤ (position -ℤ axis.now.setpoint) }
+    ensures small { unsigned_abs result ≤ 2 ^ 66 }
+{
+    axis.offset as i128 + (position as i128 - axis.setpoint as i128)
+}
+
+// Whether the places of an axis have counts once a Home has set its position.
+fn keeps_counts(axis: &Axis, position: i64) -> bool
+    requires { pos 1 ≤ℤ axis.now.inc }
+    ensures { IsTrue result ↔ HasCounts axis.now.limits
+        (axis.now.offset +ℤ (position -ℤ axis.now.setpoint)) axis.now.inc }
+{
+    has_counts(&axis.limits, offset_at(axis, position), axis.inc)
+}
+
+// Whether a Home is to a position within the limits, where the axis has counts.
+fn is_home_within(axis: &Axis, wanted: &Wanted) -> bool
+    requires { pos 1 ≤ℤ axis.now.inc }
+    ensures { IsTrue result ↔ IsHomeWithin axis.now.limits axis.now.inc axis.now.offset
+        axis.now.setpoint wanted.now }
+{
+    match wanted.target {
+        Some(target) => is_within(&axis.limits, target) && keeps_counts(axis, target),
+        None => false,
+    }
+}
+
+// Whether a command has what an active one of its kind has besides.
+fn is_ready(axis: &Axis, wanted: &Wanted) -> bool
+    requires { pos 1 ≤ℤ axis.now.inc }
+    ensures { IsTrue result ↔ IsReady wanted.now.kind axis.now.limits axis.now.inc axis.now.offset
+        axis.now.setpoint wanted.now }
+{
+    match wanted.kind {
+        BlockKind::MoveRelative => is_move_within(&axis.limits, wanted),
+        BlockKind::Home => is_home_within(axis, wanted),
+        _ => true,
+    }
+}
+
+// Whether a command may be the active one of an axis.
+fn is_active(axis: &Axis, wanted: &Wanted) -> bool
+    requires limits { AreLimits axis.now.limits }
+    requires increment { pos 1 ≤ℤ axis.now.inc }
+    ensures { IsTrue result ↔ IsActive axis.now.state axis.now.limits axis.now.inc
+        axis.now.offset axis.now.setpoint wanted.now }
+{
+    fits(axis.state, wanted.kind)
+        && are_numbers(&axis.limits, wanted)
+        && is_ready(axis, wanted)
+        && has_small_target(wanted)
+}
+
+// Whether the active command of an axis, if there is one, may be so.
+pub fn has_command(axis: &Axis) -> bool
+    requires limits { AreLimits axis.now.limits }
+    requires increment { pos 1 ≤ℤ axis.now.inc }
+    ensures { IsTrue result ↔ ((w : Wanted) → axis.now.active ≡ Some w →
+        IsActive axis.now.state axis.now.limits axis.now.inc axis.now.offset axis.now.setpoint w) }
+{
+    match &axis.active {
+        Some(wanted) => is_active(axis, wanted),
+        None => true,
+    }
+}

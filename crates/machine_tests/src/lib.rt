@@ -1,0 +1,14 @@
+//! Whether an axis, and a whole machine, that is described by values is one that always holds, so
+//! that a kernel can go on from it. Each test is exact: it says yes of these and of no others. It
+//! stands on `motion_kernel`, whose definitions say what always holds. Begin at [`is_axis_kept`]
+//! and [`is_machine_kept`].
+#![tactic(auto)]
+
+mod axis;
+mod counts;
+mod group;
+mod limits;
+mod machine;
+
+pub use axis::is_axis_kept;
+pub use machine::is_machine_kept;
