@@ -1,0 +1,19 @@
+-- Axis by axis.
+use Rattle.std.specs.Prelude.{◌≡◌, take}
+use Rattle.std.proofs.Common.{arith}
+use Rattle.command_pool.specs.Waiting.{queue_of}
+use Rattle.piece_text.specs.Piece.{axis_records}
+use Rattle.piece_text.specs.Records.{axis_fields}
+use Rattle.piece_text.proofs.HeadLaws.{no_lines_put, objects_put, take-all}
+use Rattle.piece_text.proofs.writing.head.push_axes.Goals as goal
+
+pub loop-axis-init : goal.loop-axis-init
+loop-axis-init c = no_lines_put _
+
+pub loop-axis-preserved : goal.loop-axis-preserved
+loop-axis-preserved c =
+    objects_put axis_fields (queue_of c.args.start.now.queues) c.args.start.now.axes c.loop-axis.axis _ _ _ c.loop-axis.invariant c.in_ok-push_axis_at.ensures
+
+pub returns : goal.returns
+unfolding axis_records
+returns c = rw (take-all c.args.start.now.axes c.loop-axis.axis (omega arith)) at c.loop-axis.invariant
