@@ -23,7 +23,8 @@ use Rattle.line_text.specs.Texts.{says}
 use Rattle.line_text.proofs.Texts.{bytes-same}
 use Rattle.piece_text.specs.Fields.{owner_text, pending_text, reset_text, target_text}
 use Rattle.piece_text.specs.Held.{IsWide, IsWord}
-use Rattle.piece_text.specs.reading.Columns.{behind_number, byte_of, count_of, is_empty, owner_of, pending_of, reset_of, target_of, word_of}
+use Rattle.piece_text.specs.reading.Columns.{behind_number, byte_of, count_of, owner_of, pending_of, reset_of, target_of, word_of}
+use Rattle.trace_text.specs.reading.Rules.{is_empty}
 use Rattle.trace_columns.specs.Columns.{axis_state_of, between, flag_of, group_state_of, hex_digit_of, hex_of, number_of, unsigned_of, wide_number_of}
 use Rattle.trace_columns.specs.Fields.{axis_state_text, flag_text, group_state_text, hex_digit, hex_text}
 use Rattle.trace_columns.proofs.BackLaws.{unsigned-back, wide-back}

@@ -19,6 +19,7 @@ use Rattle.piece_text.proofs.back.Columns.{IsField, byte-back, kind-only, mode-o
 use Rattle.trace_columns.specs.Columns.{wide_number_of}
 use Rattle.trace_columns.proofs.BackLaws.{wide-back}
 use Rattle.trace_text.proofs.read.ColumnRanges.{opt-both}
+use Rattle.machine_words.proofs.Given.{if_some}
 
 -- fields are those of a value, which is held
 pub record IsFields {A : Type 0} (fields : A → List (List ℕ)) (held : A → Type 0) (all : List (List ℕ)) (x : A) : Type 0 where
@@ -29,11 +30,6 @@ pub record IsFields {A : Type 0} (fields : A → List (List ℕ)) (held : A → 
 pub record IsFront {A : Type 0} (fields : A → List (List ℕ)) (held : A → Type 0) (all : List (List ℕ)) (r : A × List (List ℕ)) : Type 0 where
   pub spelled : fields r.0 ++ r.1 ≡ all
   pub is : held r.0
-
--- what comes where a test holds
-pub if-then : {A : Type 0} (b : Bool) (m : Option A) (y : A) → cond b m None ≡ Some y → (b ≡ true) × (m ≡ Some y)
-if-then true m y h = (refl, h)
-if-then false m y h = absurd (cc h)
 
 -- ---- six numbers
 
@@ -119,7 +115,7 @@ follow-only [] f h =
     let same : follow.None ≡ f = cc h in
     subst (IsFields follow_fields IsFollow []) same (record { spelled = refl; is = tt })
 follow-only (word ∷ m ∷ t ∷ []) f h =
-    let b = if-then (bytes_eq word (codes "cam")) (cam_of m t) f h in
+    let b = if_some (bytes_eq word (codes "cam")) (cam_of m t) f h in
     let x = opt-both (byte_of m) _ f b.1 in
     let y = opt-both (word_of t) _ f x.2 in
     let same : follow.Cam x.0 y.0 ≡ f = cc y.2 in
@@ -130,7 +126,7 @@ follow-only (word ∷ m ∷ t ∷ []) f h =
       is = (p.is, q.is);
     })
 follow-only (word ∷ m ∷ n ∷ d ∷ []) f h =
-    let b = if-then (bytes_eq word (codes "gear")) (gear_of m n d) f h in
+    let b = if_some (bytes_eq word (codes "gear")) (gear_of m n d) f h in
     let x = opt-both (byte_of m) _ f b.1 in
     let y = opt-both (wide_number_of n) _ f x.2 in
     let z = opt-both (wide_number_of d) _ f y.2 in

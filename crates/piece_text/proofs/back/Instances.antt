@@ -17,11 +17,12 @@ use Rattle.piece_text.specs.Records.{instance_fields}
 use Rattle.piece_text.specs.reading.Columns.{word_of}
 use Rattle.piece_text.specs.reading.Instances.{ended_of, failed_of, finish_of, instance_of, progress_of, running_of}
 use Rattle.piece_text.proofs.back.Columns.{either-some, flag-only, same-bytes, unsigned-only, word-back}
-use Rattle.piece_text.proofs.back.Commands.{IsFields, if-then}
+use Rattle.piece_text.proofs.back.Commands.{IsFields}
 use Rattle.trace_columns.specs.Columns.{flag_of}
 use Rattle.trace_columns.specs.Fields.{flag_text}
 use Rattle.trace_columns.proofs.BackLaws.{flags-back}
 use Rattle.trace_text.proofs.read.ColumnRanges.{if-some, opt-both}
+use Rattle.machine_words.proofs.Given.{if_some}
 
 progress-back : (p : Progress) → IsProgress p → progress_of (progress_fields p) ≡ Some p
 unfolding progress_of running_of ended_of failed_of finish_of progress_fields says
@@ -75,7 +76,7 @@ progress-only (word ∷ shown ∷ []) p h =
       is = e.is s.0;
     })
 progress-only (word ∷ number ∷ shown ∷ []) p h =
-    let b = if-then (bytes_eq word (codes "error")) (word_of number >>= λ n. flag_of shown >>= λ s. Some (progress.Ended (finish.Error n) s)) p h in
+    let b = if_some (bytes_eq word (codes "error")) (word_of number >>= λ n. flag_of shown >>= λ s. Some (progress.Ended (finish.Error n) s)) p h in
     let n = opt-both (word_of number) _ p b.1 in
     let s = opt-both (flag_of shown) _ p n.2 in
     let same : progress.Ended (finish.Error n.0) s.0 ≡ p = cc s.2 in

@@ -5,6 +5,7 @@ use Rattle.buffer_modes.specs.declared.reset.PendingReset.{PendingReset}
 use Rattle.line_text.specs.Numbers.{◌>>=◌}
 use Rattle.line_text.specs.Texts.{says}
 use Rattle.trace_columns.specs.Columns.{unsigned_of, wide_number_of}
+use Rattle.trace_text.specs.reading.Rules.{is_empty}
 
 -- a value that is read off the front of the fields, and the fields behind it
 abbrev pub Front : Type 0 → Type 0
@@ -19,10 +20,6 @@ byte_of text = unsigned_of 0 255 text
 
 abbrev pub count_of : List ℕ → Option ℕ
 count_of text = unsigned_of 0 (2 ^ 63 - 1) text
-
--- whether a field is empty
-abbrev pub is_empty : List ℕ → Bool
-is_empty text = length text == 0
 
 -- the number of an instance, if there is one
 unfoldable pub owner_of : List ℕ → Option (Option ℕ)

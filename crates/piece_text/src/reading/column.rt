@@ -5,6 +5,7 @@ ghost use Rattle.std.specs.Option.{option_map};
 ghost use Rattle.line_text.specs.Texts.{texts};
 ghost use Rattle.line_text.specs.Texts.{says};
 ghost use Rattle.piece_text.specs.reading.Columns as spec;
+ghost use Rattle.trace_text.specs.reading.Rules as rules;
 
 use buffer_modes::PendingReset;
 use itoa::Buffer;
@@ -13,7 +14,7 @@ use trace_columns::{unsigned_of, wide_number_of, word_of};
 
 // Whether a field is empty.
 fn is_empty(text: &[u8]) -> bool
-    ensures { result ≡ spec.is_empty text.now }
+    ensures { result ≡ rules.is_empty text.now }
 {
     text.is_empty()
 }
