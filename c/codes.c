@@ -58,6 +58,7 @@ static void closed_handle(void)
     want("axis look", motion_axis_look(&m, 0, &axis), MOTION_CLOSED);
     want("group look", motion_group_look(&m, 0, &group), MOTION_CLOSED);
     want("trace", motion_trace(&m, enabled, 1), MOTION_CLOSED);
+    want("bank text", motion_bank_text(&m, enabled, 1), MOTION_CLOSED);
     want("trace text", motion_trace_text(&m, 0, room, 4), 0);
     want("close", motion_close(&m), MOTION_CLOSED);
     want("axis", name_of(motion_axis, &m, "X"), MOTION_NO_NUMBER);
@@ -180,6 +181,36 @@ static void two_handles(void)
     want("close", motion_close(&other), MOTION_OK);
 }
 
+/* Swaps of handles that hold no machine, or another one; and what a swap leaves. */
+static void swaps(void)
+{
+    motion m = MOTION_NONE;
+    motion spare = MOTION_NONE;
+    motion_drive_out given[2];
+    motion_refusal why;
+    want("both closed", motion_swap(&m, &spare), MOTION_CLOSED);
+    want("open m", open_text(&m, small, &why), MOTION_OK);
+    want("spare closed", motion_swap(&m, &spare), MOTION_CLOSED);
+    want("m closed", motion_swap(&spare, &m), MOTION_CLOSED);
+    want("open another", open_text(&spare, first, &why), MOTION_OK);
+    want("another machine", motion_swap(&m, &spare), MOTION_OTHER);
+    want("close another", motion_close(&spare), MOTION_OK);
+    want("open spare", open_text(&spare, small, &why), MOTION_OK);
+    want("cycle 1", motion_cycle(&m, enabled, 2, given, 2), MOTION_OK);
+    want("cycle 2", motion_cycle(&m, enabled, 2, given, 2), MOTION_OK);
+    want("no cycle left", motion_cycle(&m, enabled, 2, given, 2), MOTION_OVER);
+    want("swap", motion_swap(&m, &spare), MOTION_OK);
+    want("cycles left", motion_cycles_left(&m), 2);
+    want("room left", motion_room_left(&spare), 4);
+    want("later", motion_trace(&m, enabled, 2), MOTION_LATER);
+    want("the whole", motion_trace(&spare, enabled, 2), MOTION_OK);
+    want("length", motion_bank_text(&m, enabled, 1), MOTION_LENGTH);
+    want("an empty bank", motion_bank_text(&m, enabled, 2), MOTION_OK);
+    want("cycle 3", motion_cycle(&m, enabled, 2, given, 2), MOTION_OK);
+    want("close m", motion_close(&m), MOTION_OK);
+    want("close spare", motion_close(&spare), MOTION_OK);
+}
+
 int main(void)
 {
     motion m = MOTION_NONE;
@@ -192,5 +223,6 @@ int main(void)
     cycles(&m);
     want("close", motion_close(&m), MOTION_OK);
     two_handles();
+    swaps();
     return faults != 0;
 }

@@ -1,5 +1,6 @@
-/* A test of memory: each allocation of opening and of tracing fails in turn, and is told or borne, with
- * nothing left behind; then CYCLES cycles are made with no call of the heap at all. `memory CYCLES`. */
+/* A test of memory: each allocation of opening, of tracing and of a bank's text fails in turn, and is
+ * told or borne, with nothing left behind; then CYCLES cycles are made, a bank given out for an empty one
+ * behind each 50,000, with no call of the heap at all. `memory CYCLES`. */
 #include "drive.h"
 #include "motion.h"
 
@@ -41,14 +42,14 @@ void rattle_dealloc(void *p)
 
 static const char machine[] =
     "motion-bench 2\n"
-    "limit 200000 1000000\n"
+    "limit 50000 250000\n"
     "axis X 0 400000 500 5 5 1 0\n"
     "axis Y 0 400000 500 5 5 1 0\n"
     "task main\n"
     "block P main Power X\n"
     "block M main MoveAbsolute X\n";
 
-enum { AXES = 2, RUN = 200000 };
+enum { AXES = 2, BANK = 50000 };
 
 static motion_refusal why;
 
@@ -102,8 +103,8 @@ static uint32_t run_cycle(motion *m, drive *drives, long cycle)
     return code;
 }
 
-/* Each allocation of tracing fails in turn, behind some cycles. */
-static int tracing_fails(void)
+/* Each allocation of making a text fails in turn, behind some cycles. */
+static int text_fails(const char *name, uint32_t (*make)(motion *, const motion_drive_in *, size_t))
 {
     static drive drives[AXES];
     motion m = MOTION_NONE;
@@ -116,33 +117,36 @@ static int tracing_fails(void)
     for (fails = 1;; fails++) {
         uint32_t code;
         heap_calls = 0;
-        code = motion_trace(&m, last, AXES);
+        code = make(&m, last, AXES);
         if (code == MOTION_NO_MEMORY) told++;
         else if (code != MOTION_OK) return 3;
         else if (heap_calls < fails) break;
     }
     fails = 0;
-    fprintf(stderr, "tracing: %u failures told\n", told);
+    fprintf(stderr, "%s: %u failures told\n", name, told);
     return motion_close(&m) != MOTION_OK || live != 0 || told == 0;
 }
 
-/* So many cycles with no call of the heap. */
+/* So many cycles with no call of the heap, nor where a bank is given out. */
 static int cycles_take_none(long cycles)
 {
     static drive drives[AXES];
-    long done = 0, cycle;
-    while (done < cycles) {
-        motion m = MOTION_NONE;
-        unsigned long before;
-        memset(drives, 0, sizeof drives);
-        if (open_machine(&m) != MOTION_OK) return 1;
-        before = heap_calls;
-        for (cycle = 0; cycle < RUN && done < cycles; cycle++, done++)
-            if (run_cycle(&m, drives, cycle) != MOTION_OK) return 2;
-        if (heap_calls != before) return 3;
-        if (motion_close(&m) != MOTION_OK || live != 0) return 4;
+    motion m = MOTION_NONE;
+    motion spare = MOTION_NONE;
+    unsigned long before;
+    long cycle, swaps = 0;
+    if (open_machine(&m) != MOTION_OK || open_machine(&spare) != MOTION_OK) return 1;
+    before = heap_calls;
+    for (cycle = 0; cycle < cycles; cycle++) {
+        if (motion_cycles_left(&m) == 0) {
+            if (motion_swap(&m, &spare) != MOTION_OK) return 2;
+            swaps++;
+        }
+        if (run_cycle(&m, drives, cycle) != MOTION_OK) return 3;
     }
-    fprintf(stderr, "%ld cycles without a call of the heap\n", done);
+    if (heap_calls != before) return 4;
+    if (motion_close(&m) != MOTION_OK || motion_close(&spare) != MOTION_OK || live != 0) return 5;
+    fprintf(stderr, "%ld cycles and %ld swaps without a call of the heap\n", cycles, swaps);
     return 0;
 }
 
@@ -150,6 +154,7 @@ int main(int argc, char **argv)
 {
     long cycles = argc > 1 ? atol(argv[1]) : 1000000;
     if (opening_fails() != 0) return 1;
-    if (tracing_fails() != 0) return 2;
-    return cycles_take_none(cycles) == 0 ? 0 : 3;
+    if (text_fails("tracing", motion_trace) != 0) return 2;
+    if (text_fails("a bank's text", motion_bank_text) != 0) return 3;
+    return cycles_take_none(cycles) == 0 ? 0 : 4;
 }

@@ -16,6 +16,3 @@ pub use laws::{
     runs_end_for_their_cause,
 };
 pub use motion_history::OutOfMemory;
-
-#[cfg(test)]
-mod tests;

@@ -19,6 +19,3 @@ mod version;
 
 pub use bench::{Bench, BenchLine};
 pub use reading::read_bench;
-
-#[cfg(test)]
-mod tests;

@@ -4,7 +4,5 @@
 #![tactic(auto)]
 
 mod laws;
-#[cfg(test)]
-mod tests;
 
 pub use laws::{first_moves_end, second_targets_are_never_passed};

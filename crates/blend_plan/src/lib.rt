@@ -10,13 +10,9 @@ mod endings;
 mod laws;
 mod modes;
 mod passing;
-#[cfg(test)]
-mod plain;
 mod reaches;
 mod risen;
 mod sizes;
-#[cfg(test)]
-mod tests;
 
 pub use blended::{blend_step, blend_step_counted};
 pub use command_pool::Rates;

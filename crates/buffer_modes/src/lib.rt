@@ -7,8 +7,6 @@
 mod joining;
 mod laws;
 mod reset;
-#[cfg(test)]
-mod tests;
 
 pub use joining::{QueueFull, abort_all, admit, take_over};
 pub use laws::{ends_tell_their_owners, fates_are_of_the_active_command, owners_are_taken_away};

@@ -14,6 +14,3 @@ pub use edge::Edge;
 pub use laws::{edges_are_as_said, on_is_as_said, watches_go_on};
 pub use switch::{MOST_PLACE, MOST_SWITCHES, Switch, is_switch};
 pub use watch::Watch;
-
-#[cfg(test)]
-mod tests;

@@ -6,8 +6,6 @@
 mod fault;
 mod laws;
 mod table;
-#[cfg(test)]
-mod tests;
 
 pub use fault::CamFault;
 pub use laws::{cam_tables_are_told, points_have_one_fault};

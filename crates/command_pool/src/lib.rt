@@ -10,8 +10,6 @@ mod linking;
 mod notes;
 mod pool;
 mod rates;
-#[cfg(test)]
-mod tests;
 mod wanted;
 
 pub use ending::{Finish, Refusal};

@@ -11,6 +11,3 @@ mod words;
 pub use out_of_memory::OutOfMemory;
 pub use request::{Job, Request, asked};
 pub use words::{Words, words_from};
-
-#[cfg(test)]
-mod tests;

@@ -5,8 +5,6 @@
 
 mod drive_job;
 mod line;
-#[cfg(test)]
-mod tests;
 
 pub use drive_job::{DriveJob, DriveJobEnd, work_drive};
 pub use line::{Line, start_line};

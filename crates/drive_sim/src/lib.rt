@@ -7,8 +7,6 @@
 mod drive;
 mod laws;
 mod steps;
-#[cfg(test)]
-mod tests;
 
 pub use cia402_machine::{DriveIn, DriveOut, DriveState};
 pub use drive::Drive;

@@ -12,8 +12,6 @@ mod laws;
 mod names;
 mod outputs;
 mod reply;
-#[cfg(test)]
-mod tests;
 
 pub use command_pool::{BlockKind, BufferMode, Finish, Rates, Refusal};
 pub use flag::{Flag, flag_named, is_shown};

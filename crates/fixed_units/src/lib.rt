@@ -14,6 +14,3 @@ pub use rates::{per_cycle, per_cycle2};
 pub use reading::{UnitFault, read_units};
 pub use text::Text40;
 pub use writing::write_units;
-
-#[cfg(test)]
-mod tests;

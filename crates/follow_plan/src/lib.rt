@@ -7,8 +7,6 @@ mod cam;
 mod floor;
 mod gear;
 mod laws;
-#[cfg(test)]
-mod tests;
 
 pub use cam::cam_position;
 pub use gear::{gear_difference, gear_toward};

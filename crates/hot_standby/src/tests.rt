@@ -1,8 +1,44 @@
-// What no clause says: a standby whose first kernel is given up tells the whole history, also from
-// a thread of its own; each kind of stranger; rings that fill; kernels that are switched over.
+// What no clause says: that a second kernel really follows the first, up to the switch and no longer.
 
-mod machine;
-mod rings;
-mod strangers;
-mod switching;
-mod taking;
+use crate::PrimaryKernel;
+use command_pool::BlockKind;
+use motion_history::{Builder, Config, ConfigFault, Limits};
+use std::alloc::Global;
+use std::test::Fail;
+
+// A machine of one axis, a task and a block.
+fn machine(alloc: Global) -> Result<Config, ConfigFault> {
+    let limits = Limits {
+        lo: 0,
+        hi: 50,
+        vmax: 10,
+        amax: 4,
+        dmax: 4,
+    };
+    let mut builder = Builder::open(alloc, 40, 20)?;
+    builder.axis(b"X", &limits, 1, 0, true)?;
+    builder.task(b"main")?;
+    builder.block(b"Power", 0, BlockKind::Power, 0)?;
+    builder.finish()
+}
+
+// Makes the end of a task that is there.
+fn makes_end(primary: &mut PrimaryKernel, task: u8) -> bool {
+    if primary.room_left() == 0 || task as usize >= primary.config().tasks().len() {
+        return false;
+    }
+    primary.end(task);
+    true
+}
+
+#[test]
+fn a_standby_follows_up_to_the_switch_and_no_longer(rt: HostRuntime) -> Result<(), Fail> {
+    for (events, at_opening) in [(None, false), (Some(0), false), (Some(1), true)] {
+        let mut primary = PrimaryKernel::open(rt.alloc(), machine(rt.alloc())?, events)?;
+        let is_followed = primary.follower.is_some();
+        assert_eq!(rt; is_followed, at_opening, "{events:?}");
+        assert!(rt; makes_end(&mut primary, 0));
+        assert!(rt; primary.follower.is_none(), "{events:?}");
+    }
+    Ok(())
+}

@@ -10,8 +10,6 @@ mod kernel_turn;
 mod pass;
 mod rule;
 mod steps;
-#[cfg(test)]
-mod tests;
 mod turn;
 
 pub use kernel_turn::KernelTurn;

@@ -8,8 +8,6 @@ mod laws;
 mod limits;
 mod stopping;
 mod taking;
-#[cfg(test)]
-mod tests;
 
 pub use laws::{
     braking_steps_are_only_cut, safe_steps_are_an_interval, safe_steps_lead_on, standing_is_kept,

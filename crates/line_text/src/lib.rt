@@ -18,6 +18,3 @@ pub use number::{number_of, point_of};
 pub use reader::{LineFault, LineReader, LineRefused, LinesFault, read_lines};
 pub use rule::{broken_unless, in_range, required};
 pub use word::{is_clean, says, words_of};
-
-#[cfg(test)]
-mod tests;

@@ -10,8 +10,6 @@ mod line;
 mod on_line;
 mod part;
 mod path;
-#[cfg(test)]
-mod tests;
 
 pub use laws::steps_along_a_path_are_safe;
 pub use limits::path_limits;

@@ -11,6 +11,3 @@ mod round;
 
 pub use laws::loads_fill_their_room;
 pub use load::generate;
-
-#[cfg(test)]
-mod tests;

@@ -18,6 +18,3 @@ mod value;
 
 pub use machine::Machine;
 pub use reading::read_config;
-
-#[cfg(test)]
-mod tests;

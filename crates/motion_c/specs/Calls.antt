@@ -5,13 +5,14 @@ use Rattle.c_inputs.specs.Given.{inputs_given}
 use Rattle.c_inputs.specs.declared.given.MotionInputs.{MotionInputs}
 use Rattle.fb_outputs.specs.declared.inputs.Inputs.{Inputs}
 use Rattle.fb_outputs.specs.declared.outputs.Outputs.{Outputs}
+use Rattle.lasting_kernel.specs.Lasting.{LastingState, with_entry}
 use Rattle.motion_history.specs.Calls.{IsCall, axes_of}
 use Rattle.motion_history.specs.Entries.{call}
 use Rattle.motion_history.specs.Setup.{Setup}
 use Rattle.motion_history.specs.declared.config.BlockDef.{BlockDef}
 use Rattle.motion_kernel.specs.calls.Calls.{reply_of}
-use Rattle.motion_kernel.specs.KernelState.{KernelState, state_of}
-use Rattle.motion_kernel.specs.KernelState.{HasRoom, with_entry}
+use Rattle.motion_kernel.specs.Banks.{BankedState, machine_now}
+use Rattle.motion_c.specs.Room.{HasRoom}
 use Rattle.motion_c.specs.declared.calling.MotionOutputs.{MotionOutputs}
 use Rattle.motion_c.specs.declared.machine.Machine.{Machine}
 
@@ -44,25 +45,29 @@ abbrev pub GivesCall : Setup → ℕ → MotionInputs → Type 0
 GivesCall s n given = IsSomeAnd (inputs_for s n given) (λ i. IsCall s n i)
 
 -- which code a call answers: 0 where it is made, 5 where there is no such block, 7 where the inputs
--- are none of its kind, and else 8 where the history is full
-pub record TellsCall (k : KernelState) (n : ℕ) (given : MotionInputs) (code : ℕ) : Type 0 where
+-- are none of its kind, and else 8 where the bank is full
+pub record TellsCall (k : BankedState) (n : ℕ) (given : MotionInputs) (code : ℕ) : Type 0 where
   pub ok : (code ≡ 0) ↔ (GivesCall k.config n given × HasRoom k)
   pub unknown : (code ≡ 5) ↔ (length k.config.blocks ≤ n)
   pub range : (code ≡ 7) ↔ ((n < length k.config.blocks) × (GivesCall k.config n given → ⊥))
   pub full : (code ≡ 8) ↔ (GivesCall k.config n given × (HasRoom k → ⊥))
 
+-- what the machine replies to a call of a block
+abbrev pub reply_to : BankedState → ℕ → Inputs → Outputs
+reply_to k n inputs = reply_of k.config (machine_now k) n inputs
+
 -- a block was called with the inputs that a struct gives it: the kernel has the call's entry, and
 -- its reply is shown
-pub record IsCalled (k : KernelState) (n : ℕ) (given : MotionInputs) (after : KernelState)
+pub record IsCalled (k : LastingState) (n : ℕ) (given : MotionInputs) (after : LastingState)
     (outputs : MotionOutputs) : Type 0 where
   pub inputs : Inputs
-  pub read : inputs_for k.config n given ≡ Some inputs
-  pub entry : after ≡ with_entry k (call n inputs (reply_of k.config (state_of k) n inputs))
-  pub reply : outputs ≡ shown (reply_of k.config (state_of k) n inputs)
+  pub read : inputs_for k.kernel.config n given ≡ Some inputs
+  pub entry : after ≡ with_entry k (call n inputs (reply_to k.kernel n inputs))
+  pub reply : outputs ≡ shown (reply_to k.kernel n inputs)
 
 -- a call makes of a machine the one whose kernel was so called
 pub record MakesCall (m : Machine) (n : ℕ) (given : MotionInputs) (after : Option Machine)
     (outputs : MotionOutputs) : Type 0 where
-  pub kernel : KernelState
+  pub kernel : LastingState
   pub held : after ≡ Some (record m { kernel = kernel })
   pub called : IsCalled m.kernel n given kernel outputs

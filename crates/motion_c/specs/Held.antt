@@ -1,5 +1,5 @@
 -- What a handle holds. This project's profile.
-use Rattle.std.specs.Prelude.{ℕ, Option, None, if◌then◌else◌, nat_eq}
+use Rattle.std.specs.Prelude.{Option, None, if◌then◌else◌, nat_eq}
 use Rattle.motion_c.specs.declared.machine.Machine.{Machine}
 use Rattle.motion_c.specs.declared.motion.Motion.{Motion}
 

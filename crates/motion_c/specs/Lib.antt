@@ -1,10 +1,12 @@
 pub mod Owned
 pub mod Held
+pub mod Room
 pub mod Calls
 pub mod Cycles
 pub mod Ends
 pub mod Numbers
 pub mod Looks
 pub mod Traces
+pub mod Swaps
 pub mod Opened
 pub mod Configured

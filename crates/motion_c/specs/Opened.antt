@@ -1,7 +1,8 @@
 -- The machine that a text opens. This project's profile.
-use Rattle.std.specs.Prelude.{◌≡◌, ◌≢◌, ℕ, List, [], ◌∷◌, ◌++◌, codes, false, Option, Some, None, Ok, Err, IsOk, IsErr}
+use Rattle.std.specs.Prelude.{◌≡◌, ℕ, List, [], ◌∷◌, ◌++◌, codes, Option, Some, None, Ok, Err}
 use Rattle.bench_text.specs.BenchState.{BenchState}
 use Rattle.bench_text.specs.Reading.{bench_of}
+use Rattle.lasting_kernel.specs.Lasting as lasting
 use Rattle.motion_history.specs.Setup.{Setup}
 use Rattle.motion_history.specs.declared.refused.TextRefused.{TextRefused}
 use Rattle.motion_history.specs.declared.refused.TraceVersion.{TraceVersion}
@@ -15,7 +16,7 @@ with_go text = text ++ (10 ∷ codes "go" ++ 10 ∷ [])
 -- a machine at rest, with no trace, whose traces are of this version or of the first
 abbrev pub at_rest : Setup → TraceVersion → Machine
 at_rest s v = record {
-  kernel = record { config = s; history = []; stopped = false };
+  kernel = lasting.opened s;
   version = v;
   trace = None;
 }

@@ -12,8 +12,8 @@ use crate::code::{CLOSED, FULL, OK, RANGE, UNKNOWN};
 use crate::motion::{Motion, put, take};
 use c_inputs::{MotionInputs, inputs_given};
 use fb_outputs::{Inputs, Outputs};
+use lasting_kernel::LastingKernel;
 use motion_history::{BlockDef, Config};
-use motion_kernel::Kernel;
 use std::alloc::Global;
 
 /// What a call shows: each is 0 or 1, but for `error_id`.
@@ -43,7 +43,7 @@ pub extern "C" fn motion_call(
 ) -> u32
     ensures closed { (result ≡ 1) ↔ (held motion.old ≡ None) }
     ensures code { (m : Machine) → held motion.old ≡ Some m →
-        TellsCall m.kernel block given.now result }
+        TellsCall m.kernel.kernel block given.now result }
     ensures made { (m : Machine) → held motion.old ≡ Some m → result ≡ 0 →
         MakesCall m block given.now (held motion.new) outputs.new }
     ensures kept { result ≢ 0 → held motion.new ≡ held motion.old }
@@ -58,25 +58,29 @@ pub extern "C" fn motion_call(
 }
 
 // Calls a block where it may be.
-fn call(kernel: &mut Kernel, block: u16, given: &MotionInputs, outputs: &mut MotionOutputs) -> u32
-    ensures code { TellsCall kernel.old block given.now result }
+fn call(
+    kernel: &mut LastingKernel,
+    block: u16,
+    given: &MotionInputs,
+    outputs: &mut MotionOutputs,
+) -> u32
+    ensures code { TellsCall kernel.old.kernel block given.now result }
     ensures open { result ≢ 1 }
     ensures made { result ≡ 0 → spec.IsCalled kernel.old block given.now kernel.new outputs.new }
     ensures kept { result ≢ 0 → kernel.new ≡ kernel.old }
     ensures same { result ≢ 0 → outputs.new ≡ outputs.old }
 {
-    let config = kernel.config();
-    let Some(found) = config.blocks().get(block as usize) else {
+    let config = kernel.bank().config();
+    if block as usize >= config.blocks().len() {
         return UNKNOWN;
-    };
-    let task = found.task;
+    }
     let Some(inputs) = call_inputs(config, block, given) else {
         return RANGE;
     };
-    if kernel.room_left() == 0 {
+    if kernel.bank().room_left() == 0 {
         return FULL;
     }
-    *outputs = shown(&kernel.call(task, block, &inputs));
+    *outputs = shown(&kernel.call(block, &inputs));
     OK
 }
 

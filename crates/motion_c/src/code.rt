@@ -24,14 +24,20 @@ pub const LENGTH: u32 = 6;
 /// The inputs are none of the block's kind.
 pub const RANGE: u32 = 7;
 
-/// The history has no room for an entry.
+/// The bank has no room for an entry.
 pub const FULL: u32 = 8;
 
-/// No cycle is left.
+/// No cycle is left in the bank, or no more banks can be counted.
 pub const OVER: u32 = 9;
 
-/// No cycle was made yet.
+/// No cycle was made in the bank yet.
 pub const NO_CYCLE: u32 = 10;
+
+/// The two handles aren't machines of one configuration. C has 11 for a null pointer.
+pub const OTHER: u32 = 12;
+
+/// Earlier entries were given out.
+pub const LATER: u32 = 13;
 
 /// In place of a number where there is none.
 pub const NO_NUMBER: u32 = 0xFFFF_FFFF;

@@ -2,14 +2,14 @@
 
 ghost use Rattle.std.specs.Prelude.{◌≡◌, ◌≢◌, ◌↔◌, Some, None, length};
 ghost use Rattle.motion_c.specs.Cycles.{AreEach, HasCycle, TellsCycle, after_cycle, outputs_after};
-ghost use Rattle.motion_kernel.specs.KernelState.{HasRoom};
 ghost use Rattle.motion_c.specs.Held.{held};
+ghost use Rattle.motion_c.specs.Room.{HasRoom};
 ghost use Rattle.motion_c.specs.declared.machine.Machine.{Machine};
 
 use crate::code::{CLOSED, FULL, LENGTH, OK, OVER};
 use crate::motion::{Motion, put, take};
 use cia402_machine::{DriveIn, DriveOut};
-use motion_kernel::Kernel;
+use lasting_kernel::LastingKernel;
 use std::alloc::Global;
 
 /// Goes through a cycle with the drives' answers, and gives each drive its output.
@@ -22,11 +22,11 @@ pub extern "C" fn motion_cycle(
 ) -> u32
     ensures closed { (result ≡ 1) ↔ (held motion.old ≡ None) }
     ensures code { (m : Machine) → held motion.old ≡ Some m →
-        TellsCycle m.kernel (length answers.now) (length outputs.old) result }
+        TellsCycle m.kernel.kernel (length answers.now) (length outputs.old) result }
     ensures made { (m : Machine) → held motion.old ≡ Some m → result ≡ 0 →
         held motion.new ≡ Some (record m { kernel = after_cycle m.kernel answers.now }) }
     ensures outputs { (m : Machine) → held motion.old ≡ Some m → result ≡ 0 →
-        outputs.new ≡ outputs_after m.kernel answers.now }
+        outputs.new ≡ outputs_after m.kernel.kernel answers.now }
     ensures kept { result ≢ 0 → held motion.new ≡ held motion.old }
     ensures same { result ≢ 0 → outputs.new ≡ outputs.old }
 {
@@ -39,22 +39,22 @@ pub extern "C" fn motion_cycle(
 }
 
 // Goes through a cycle where it may.
-fn cycle(kernel: &mut Kernel, answers: &[DriveIn], outputs: &mut [DriveOut]) -> u32
-    ensures code { TellsCycle kernel.old (length answers.now) (length outputs.old) result }
+fn cycle(kernel: &mut LastingKernel, answers: &[DriveIn], outputs: &mut [DriveOut]) -> u32
+    ensures code { TellsCycle kernel.old.kernel (length answers.now) (length outputs.old) result }
     ensures open { result ≢ 1 }
     ensures made { result ≡ 0 → kernel.new ≡ after_cycle kernel.old answers.now }
-    ensures outputs { result ≡ 0 → outputs.new ≡ outputs_after kernel.old answers.now }
+    ensures outputs { result ≡ 0 → outputs.new ≡ outputs_after kernel.old.kernel answers.now }
     ensures kept { result ≢ 0 → kernel.new ≡ kernel.old }
     ensures same { result ≢ 0 → outputs.new ≡ outputs.old }
 {
-    let axes = kernel.config().axes().len();
+    let axes = kernel.bank().config().axes().len();
     if answers.len() != axes || outputs.len() != axes {
         return LENGTH;
     }
-    if kernel.cycles_left() == 0 {
+    if kernel.bank().cycles_left() == 0 {
         return OVER;
     }
-    if kernel.room_left() == 0 {
+    if kernel.bank().room_left() == 0 {
         return FULL;
     }
     kernel.cycle(answers, outputs);

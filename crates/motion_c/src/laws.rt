@@ -1,23 +1,26 @@
 // What always holds of the history behind a handle.
 
 ghost use Rattle.std.specs.Prelude.{◌≡◌, Some};
+ghost use Rattle.lasting_kernel.specs.Lasting.{HasPast, whole_of};
 ghost use Rattle.motion_c.specs.Held.{held};
 ghost use Rattle.motion_c.specs.declared.machine.Machine.{Machine};
-ghost use Rattle.motion_kernel.specs.Histories.{IsLegal};
+ghost use Rattle.motion_kernel.specs.Histories.{IsLegalFrom};
 ghost use Rattle.motion_laws.specs.Laws.{KeepsLaws};
 
 use crate::machine::Machine;
 use crate::motion::{Motion, put, take};
-use motion_laws::histories_keep_their_laws;
 use std::alloc::Global;
 
-/// After any calls, whatever they answered, the history that a handle holds is legal, and keeps all
-/// laws of the machine. Nothing but the handle's machine is looked at, and it stays as it is.
+/// After any calls, whatever they answered, what the machine behind a handle made from opening on
+/// keeps all laws of the machine, also what it made in banks that were given out: these lead to the
+/// machine with which its bank begins, and from there on the bank is a legal history. Nothing but
+/// the handle's machine is looked at, and it stays as it is.
 pub fn held_histories_keep_their_laws(alloc: Global, motion: &mut Motion)
+    ensures past { (m : Machine) → held motion.old ≡ Some m → HasPast m.kernel }
     ensures legal { (m : Machine) → held motion.old ≡ Some m →
-        IsLegal m.kernel.config m.kernel.history }
+        IsLegalFrom m.kernel.kernel.config m.kernel.kernel.start m.kernel.kernel.history }
     ensures laws { (m : Machine) → held motion.old ≡ Some m →
-        KeepsLaws m.kernel.config m.kernel.history }
+        KeepsLaws m.kernel.kernel.config (whole_of m.kernel) }
     ensures kept { held motion.new ≡ held motion.old }
 {
     if let Some(machine) = take(alloc, motion) {
@@ -26,11 +29,13 @@ pub fn held_histories_keep_their_laws(alloc: Global, motion: &mut Motion)
     }
 }
 
-// The history of a machine is legal, and keeps all laws of the machine.
+// What a machine made keeps all laws of the machine, and its bank is legal from where it begins.
 fn machines_keep_their_laws(machine: &Machine)
-    ensures legal { IsLegal machine.now.kernel.config machine.now.kernel.history }
-    ensures laws { KeepsLaws machine.now.kernel.config machine.now.kernel.history }
+    ensures past { HasPast machine.now.kernel }
+    ensures legal { IsLegalFrom machine.now.kernel.kernel.config machine.now.kernel.kernel.start
+        machine.now.kernel.kernel.history }
+    ensures laws { KeepsLaws machine.now.kernel.kernel.config (whole_of machine.now.kernel) }
 {
-    histories_keep_their_laws();
-    let _ = machine.kernel.history();
+    machine.kernel.keeps_laws();
+    let _ = machine.kernel.bank().history();
 }

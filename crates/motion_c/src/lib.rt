@@ -1,7 +1,8 @@
 //! The kernel for C and C++ programs, as a static library: `c/motion.h` declares what is exported
 //! here. A handle that C holds owns a machine, a kernel with its trace; each export takes it out,
-//! works on it and puts it back, so that the work itself is plain code over `motion_kernel`, the
-//! readers of texts and `trace_text`. Begin with `specs/Held.antt`, then `src/calling.rt`;
+//! works on it and puts it back, so that the work itself is plain code over `lasting_kernel`, the
+//! readers of texts, `trace_text` and `piece_text`. A machine that runs for days gives its bank to
+//! a second handle (`src/swapping.rt`). Begin with `specs/Held.antt`, then `src/calling.rt`;
 //! `src/laws.rt` says what always holds of the history behind a handle.
 #![tactic(auto)]
 
@@ -18,10 +19,11 @@ mod naming;
 mod opening;
 mod parts;
 mod rows;
+mod sameness;
 mod seat;
 mod sending;
-#[cfg(test)]
-mod tests;
+mod swapping;
+mod texts;
 mod tracing;
 
 pub use c_inputs::MotionInputs;
@@ -42,4 +44,5 @@ pub use naming::{
 };
 pub use opening::{MotionRefusal, motion_close, motion_open};
 pub use seat::Seat;
-pub use tracing::{motion_trace, motion_trace_text};
+pub use swapping::motion_swap;
+pub use tracing::{motion_bank_text, motion_trace, motion_trace_text};

@@ -1,4 +1,4 @@
-// Looks at a machine: the rows of its last cycle, and what is left of its history.
+// Looks at a machine: the rows of its bank's last cycle, and what is left of the bank.
 
 ghost use Rattle.std.specs.Prelude.{◌≡◌, ◌≢◌, ◌↔◌, ◌-◌, Some, None, IfSome, length};
 ghost use Rattle.motion_c.specs.Held.{held};
@@ -7,12 +7,11 @@ ghost use Rattle.motion_c.specs.Numbers.{count_in};
 ghost use Rattle.motion_c.specs.declared.machine.Machine.{Machine};
 ghost use Rattle.motion_history.specs.Entries.{cycles_of};
 ghost use Rattle.motion_history.specs.LastCycles.{axis_row_in, group_row_in, last_cycle_of};
-ghost use Rattle.motion_kernel.specs.KernelState.{room_of};
 
 use crate::code::{CLOSED, NO_CYCLE, OK, UNKNOWN};
 use crate::motion::{Motion, put, take};
 use crate::rows::{axis_row, group_row, row_of_axis, row_of_group};
-use motion_kernel::Kernel;
+use motion_kernel::BankedKernel;
 use std::alloc::Global;
 
 /// What the last cycle shows of an axis.
@@ -43,7 +42,7 @@ pub struct MotionGroupRow {
     pub error: u16,
 }
 
-/// Looks at an axis in the last cycle.
+/// Looks at an axis in the last cycle of the bank.
 #[unsafe(no_mangle)]
 pub extern "C" fn motion_axis_look(
     alloc: Global,
@@ -53,22 +52,23 @@ pub extern "C" fn motion_axis_look(
 ) -> u32
     ensures closed { (result ≡ 1) ↔ (held motion.old ≡ None) }
     ensures code { (m : Machine) → held motion.old ≡ Some m →
-        TellsLook (length m.kernel.config.axes) axis
-        (axis_row_in axis (last_cycle_of m.kernel.history)) result }
+        TellsLook (length m.kernel.kernel.config.axes) axis
+        (axis_row_in axis (last_cycle_of m.kernel.kernel.history)) result }
     ensures shown { (m : Machine) → held motion.old ≡ Some m → result ≡ 0 →
-        IfSome (axis_row_in axis (last_cycle_of m.kernel.history)) (λ r. look.new ≡ axis_shown r) }
+        IfSome (axis_row_in axis (last_cycle_of m.kernel.kernel.history))
+        (λ r. look.new ≡ axis_shown r) }
     ensures kept { held motion.new ≡ held motion.old }
     ensures same { result ≢ 0 → look.new ≡ look.old }
 {
     let Some(machine) = take(alloc, motion) else {
         return CLOSED;
     };
-    let answer = look_at_axis(&machine.kernel, axis, look);
+    let answer = look_at_axis(machine.kernel.bank(), axis, look);
     put(motion, machine);
     answer
 }
 
-/// Looks at a group in the last cycle.
+/// Looks at a group in the last cycle of the bank.
 #[unsafe(no_mangle)]
 pub extern "C" fn motion_group_look(
     alloc: Global,
@@ -78,10 +78,10 @@ pub extern "C" fn motion_group_look(
 ) -> u32
     ensures closed { (result ≡ 1) ↔ (held motion.old ≡ None) }
     ensures code { (m : Machine) → held motion.old ≡ Some m →
-        TellsLook (length m.kernel.config.groups) group
-        (group_row_in group (last_cycle_of m.kernel.history)) result }
+        TellsLook (length m.kernel.kernel.config.groups) group
+        (group_row_in group (last_cycle_of m.kernel.kernel.history)) result }
     ensures shown { (m : Machine) → held motion.old ≡ Some m → result ≡ 0 →
-        IfSome (group_row_in group (last_cycle_of m.kernel.history))
+        IfSome (group_row_in group (last_cycle_of m.kernel.kernel.history))
         (λ r. look.new ≡ group_shown r) }
     ensures kept { held motion.new ≡ held motion.old }
     ensures same { result ≢ 0 → look.new ≡ look.old }
@@ -89,12 +89,12 @@ pub extern "C" fn motion_group_look(
     let Some(machine) = take(alloc, motion) else {
         return CLOSED;
     };
-    let answer = look_at_group(&machine.kernel, group, look);
+    let answer = look_at_group(machine.kernel.bank(), group, look);
     put(motion, machine);
     answer
 }
 
-/// How many cycles more there may be: 0 where the handle is closed.
+/// How many cycles more there may be in the bank: 0 where the handle is closed.
 #[unsafe(no_mangle)]
 pub extern "C" fn motion_cycles_left(alloc: Global, motion: &mut Motion) -> u32
     ensures count { result ≡ count_in motion.old (λ k. k.config.cycles - cycles_of k.history) }
@@ -103,27 +103,27 @@ pub extern "C" fn motion_cycles_left(alloc: Global, motion: &mut Motion) -> u32
     let Some(machine) = take(alloc, motion) else {
         return 0;
     };
-    let left = machine.kernel.cycles_left();
+    let left = machine.kernel.bank().cycles_left();
     put(motion, machine);
     left
 }
 
-/// For how many entries more the history has room: 0 where the handle is closed.
+/// For how many entries more the bank has room: 0 where the handle is closed.
 #[unsafe(no_mangle)]
 pub extern "C" fn motion_room_left(alloc: Global, motion: &mut Motion) -> u64
-    ensures count { result ≡ count_in motion.old (λ k. room_of k - length k.history) }
+    ensures count { result ≡ count_in motion.old (λ k. k.config.entries - length k.history) }
     ensures kept { held motion.new ≡ held motion.old }
 {
     let Some(machine) = take(alloc, motion) else {
         return 0;
     };
-    let left = machine.kernel.room_left();
+    let left = machine.kernel.bank().room_left();
     put(motion, machine);
     left
 }
 
 // Looks at an axis.
-fn look_at_axis(kernel: &Kernel, axis: u8, look: &mut MotionAxisRow) -> u32
+fn look_at_axis(kernel: &BankedKernel, axis: u8, look: &mut MotionAxisRow) -> u32
     ensures code { TellsLook (length kernel.now.config.axes) axis
         (axis_row_in axis (last_cycle_of kernel.now.history)) result }
     ensures open { result ≢ 1 }
@@ -145,7 +145,7 @@ fn look_at_axis(kernel: &Kernel, axis: u8, look: &mut MotionAxisRow) -> u32
 }
 
 // Looks at a group.
-fn look_at_group(kernel: &Kernel, group: u8, look: &mut MotionGroupRow) -> u32
+fn look_at_group(kernel: &BankedKernel, group: u8, look: &mut MotionGroupRow) -> u32
     ensures code { TellsLook (length kernel.now.config.groups) group
         (group_row_in group (last_cycle_of kernel.now.history)) result }
     ensures open { result ≢ 1 }

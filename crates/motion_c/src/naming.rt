@@ -64,7 +64,7 @@ fn number(alloc: Global, motion: &mut Motion, item: Item, name: &[u8]) -> u32
     let Some(machine) = take(alloc, motion) else {
         return NO_NUMBER;
     };
-    let number = number_of(machine.kernel.config(), item, name);
+    let number = number_of(machine.kernel.bank().config(), item, name);
     put(motion, machine);
     number
 }
@@ -140,7 +140,7 @@ pub extern "C" fn motion_axes(alloc: Global, motion: &mut Motion) -> u32
     let Some(machine) = take(alloc, motion) else {
         return 0;
     };
-    let count = machine.kernel.config().axes().len() as u32;
+    let count = machine.kernel.bank().config().axes().len() as u32;
     put(motion, machine);
     count
 }
@@ -154,7 +154,7 @@ pub extern "C" fn motion_groups(alloc: Global, motion: &mut Motion) -> u32
     let Some(machine) = take(alloc, motion) else {
         return 0;
     };
-    let count = group_count(machine.kernel.config());
+    let count = group_count(machine.kernel.bank().config());
     put(motion, machine);
     count
 }

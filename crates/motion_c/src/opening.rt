@@ -12,8 +12,8 @@ use crate::code::{CLOSED, NO_MEMORY, OK, OPEN, REFUSED};
 use crate::machine::Machine;
 use crate::motion::{Motion, is_open, put, take};
 use bench_text::{Bench, read_bench};
+use lasting_kernel::LastingKernel;
 use motion_history::{Config, TextFault, TextRefused, TraceVersion};
-use motion_kernel::Kernel;
 use std::alloc::Global;
 
 /// Where a text is refused, and by which rule: a letter and a number, as B and 8.
@@ -28,7 +28,7 @@ pub struct MotionRefusal {
 }
 
 /// Opens a machine by the machine part of a bench, without `go`. It touches the memory of the
-/// history's whole room, so that no call and no cycle pays for its pages.
+/// bank's whole room, so that no call and no cycle pays for its pages.
 #[unsafe(no_mangle)]
 pub extern "C" fn motion_open(
     alloc: Global,
@@ -129,7 +129,7 @@ fn copied(alloc: Global, config: &Config) -> Option<Config>
     config.copy(alloc).ok()
 }
 
-/// The machine of a configuration, at rest, with the memory of its history's room touched.
+/// The machine of a configuration, at rest, with the memory of its bank's room touched.
 pub fn machine_of(
     alloc: Global,
     config: Config,
@@ -148,7 +148,7 @@ pub fn machine_of(
 fn boxed(alloc: Global, config: Config, version: TraceVersion) -> Option<Box<Machine>>
     ensures { IfSome result (λ b. b.value ≡ at_rest config version) }
 {
-    let mut kernel = Kernel::open(alloc, config).ok()?;
+    let mut kernel = LastingKernel::open(alloc, config).ok()?;
     kernel.touch();
     let machine = Machine {
         kernel,

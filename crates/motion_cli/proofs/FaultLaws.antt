@@ -21,19 +21,20 @@ use Rattle.motion_cli.proofs.PlanLaws.{by-plan, not-told}
 use Rattle.motion_cli.proofs.ReportLaws.{no-report, report-unread, report-unwritten}
 use Rattle.motion_cli.specs.Causes.{Asks, AsksInVain, AsksRun, AsksTasks, LacksNone, RunsInVain, TasksInVain}
 use Rattle.motion_cli.specs.Ends.{EndsByFound, EndsByRequest}
-use Rattle.motion_cli.specs.Plans.{most_of, plan_of_text, usage_plan}
+use Rattle.motion_cli.specs.Plans.{most_of, usage_plan}
 use Rattle.motion_cli.specs.Reports.{AsksWithAll, LacksFor, ReportsInVain}
 use Rattle.command_words.specs.Requests.{FileJob, Report, Request, RunFiles, file_of, files_of, load_of, of_file, of_load, of_report, of_run, of_tasks, tasks_of, told_report}
 use Rattle.command_words.specs.declared.request.Job.{Job}
 
 -- Usage
-no-usage : (r : FileJob) (found : Found) (old new : Output) (s : Status) →
-    EndsByFound r found old new s → (plan_of r found).status ≢ status.Usage
+no-usage : (r : FileJob) (found : Found) (old new : Output) (s : Status)
+    (e : EndsByFound r found old new s) →
+    (plan_of r found old new s e).status ≢ status.Usage
 no-usage r Unread old new s e h = absurd (cc)
 no-usage r Longer old new s e h = absurd (cc)
 no-usage r (Content text) old new s e h =
-    not-told (plan_of_text r.job r.name text).status status.Usage
-    (ends-for r.job r.name text old new s e).told refl h
+    let for = ends-for r.job r.name text old new s e in
+    not-told for.plan.status status.Usage for.by.told refl h
 
 pub usage-comes : FollowPlans → (told : Option FileMap) (rose refused : Type 0)
     (Started : ℕ → Type 0) (asked : Option Request) (old new : Output) (s : Status) →
@@ -45,7 +46,7 @@ usage-comes follow told rose refused Started None old new s e =
     record { only = λ h. (refl, refl, refl, refl, refl); always = λ h. by-plan follow old new usage_plan s e }
 usage-comes follow told rose refused Started (Some (of_file r)) old new s (inl e) = record {
   only = λ h. absurd (no-usage r e.found old new s e.ends
-      (follow.only old new (plan_of r e.found) s status.Usage
+      (follow.only old new (plan_of r e.found old new s e.ends) s status.Usage
       (ends-by r e.found old new s e.ends) h (λ x. absurd (cc)) (λ x. absurd (cc))));
   always = λ h. absurd (let bad : Some r ≡ None = h.0 in cc);
 }
@@ -117,8 +118,8 @@ found-unread follow told rose r old new s word Longer is e h =
     (λ x. absurd (cc)) (λ x. absurd (cc)) in cc)
 found-unread follow told rose r old new s word (Content text) is e h =
     let for = ends-for r.job r.name text old new s e in
-    absurd (not-told (plan_of_text r.job r.name text).status (status.ReadFault word) for.told refl
-    (follow.only old new (plan_of_text r.job r.name text) s (status.ReadFault word) for.ends h
+    absurd (not-told for.plan.status (status.ReadFault word) for.by.told refl
+    (follow.only old new for.plan s (status.ReadFault word) for.by.ends h
     (λ x. absurd (cc)) (λ x. absurd (cc))))
 
 -- it failed for a file, or for one of a run or of a report
@@ -180,13 +181,14 @@ unread-why follow told rose refused Started (Some (of_report r)) old new s word 
     report-vain told rose r word (report-unread told rose r old new s word e h)
 
 -- ThreadRefused
-never-refused : (r : FileJob) (found : Found) (old new : Output) (s : Status) →
-    EndsByFound r found old new s → (plan_of r found).status ≢ status.ThreadRefused
+never-refused : (r : FileJob) (found : Found) (old new : Output) (s : Status)
+    (e : EndsByFound r found old new s) →
+    (plan_of r found old new s e).status ≢ status.ThreadRefused
 never-refused r Unread old new s e h = absurd (cc)
 never-refused r Longer old new s e h = absurd (cc)
 never-refused r (Content text) old new s e h =
-    not-told (plan_of_text r.job r.name text).status status.ThreadRefused
-    (ends-for r.job r.name text old new s e).told refl h
+    let for = ends-for r.job r.name text old new s e in
+    not-told for.plan.status status.ThreadRefused for.by.told refl h
 
 pub refused-why : FollowPlans → (told : Option FileMap) (rose refused : Type 0)
     (Started : ℕ → Type 0) (asked : Option Request) (old new : Output) (s : Status) →
@@ -197,7 +199,7 @@ refused-why follow told rose refused Started None old new s e h =
     (λ x. absurd (cc)) (λ x. absurd (cc)) in cc)
 refused-why follow told rose refused Started (Some (of_file r)) old new s (inl e) h =
     absurd (never-refused r e.found old new s e.ends
-    (follow.only old new (plan_of r e.found) s status.ThreadRefused
+    (follow.only old new (plan_of r e.found old new s e.ends) s status.ThreadRefused
     (ends-by r e.found old new s e.ends) h (λ x. absurd (cc)) (λ x. absurd (cc))))
 refused-why follow told rose refused Started (Some (of_file r)) old new s (inr e) h =
     absurd (let bad : status.OutOfMemory ≡ status.ThreadRefused = sym e.status ∙ h in cc)
@@ -212,13 +214,14 @@ refused-why follow told rose refused Started (Some (of_report r)) old new s e h 
     absurd (no-report told rose r old new s status.ThreadRefused e refl h)
 
 -- WriteFault
-no-write : (r : FileJob) (found : Found) (old new : Output) (s : Status) →
-    EndsByFound r found old new s → (plan_of r found).status ≢ status.WriteFault
+no-write : (r : FileJob) (found : Found) (old new : Output) (s : Status)
+    (e : EndsByFound r found old new s) →
+    (plan_of r found old new s e).status ≢ status.WriteFault
 no-write r Unread old new s e h = absurd (cc)
 no-write r Longer old new s e h = absurd (cc)
 no-write r (Content text) old new s e h =
-    not-told (plan_of_text r.job r.name text).status status.WriteFault
-    (ends-for r.job r.name text old new s e).told refl h
+    let for = ends-for r.job r.name text old new s e in
+    not-told for.plan.status status.WriteFault for.by.told refl h
 
 pub write-why : FollowPlans → (told : Option FileMap) (rose refused : Type 0)
     (Started : ℕ → Type 0) (asked : Option Request) (old new : Output) (s : Status) →
@@ -227,7 +230,7 @@ pub write-why : FollowPlans → (told : Option FileMap) (rose refused : Type 0)
 write-why follow told rose refused Started None old new s e h =
     follow.write old new usage_plan s e (λ x. absurd (cc)) h
 write-why follow told rose refused Started (Some (of_file r)) old new s (inl e) h =
-    follow.write old new (plan_of r e.found) s (ends-by r e.found old new s e.ends)
+    follow.write old new (plan_of r e.found old new s e.ends) s (ends-by r e.found old new s e.ends)
     (no-write r e.found old new s e.ends) h
 write-why follow told rose refused Started (Some (of_file r)) old new s (inr e) h =
     absurd (let bad : status.OutOfMemory ≡ status.WriteFault = sym e.status ∙ h in cc)

@@ -1,6 +1,7 @@
 -- How the program ends by what a read of the file found.
-use Rattle.std.specs.Prelude.{◌≡◌, ◌⊎◌, ◌≤◌, ◌<◌, refl, ℕ, true, false, Option, Some, None, IsSomeAnd, List, length}
+use Rattle.std.specs.Prelude.{◌≡◌, ◌⊎◌, ◌≤◌, ◌<◌, refl, ℕ, Bool, true, false, Option, Some, None, IsSomeAnd, List, length}
 use Rattle.std.proofs.Common.{◌∙◌, inl, inr, sym, ap, subst, arith}
+use Rattle.bench_job.specs.Plans.{bench_plan}
 use Rattle.job_ends.specs.Causes.{EndsFor, is_fault, is_told}
 use Rattle.job_ends.specs.Ends.{Content, EndsBy, EndsEarly, EndsUnread, Found, IsFound, Longer, Unread}
 use Rattle.job_ends.specs.Follows.{FollowPlans}
@@ -10,12 +11,14 @@ use Rattle.job_ends.specs.declared.status.Status.TheVariants as status
 use Rattle.outside.specs.Told.{FileMap, IsLonger, LacksFile}
 use Rattle.outside.specs.declared.files.FilesFault.{FilesFault}
 use Rattle.outside.specs.declared.files.FilesFault.TheVariants as files
+use Rattle.piece_job.specs.Begins.{begins_as_piece}
+use Rattle.trace_jobs.specs.Plans.{check_plan, migrate_plan}
 use Rattle.trace_text.specs.writing.Writes.{Output}
 use Rattle.motion_cli.proofs.PlanLaws.{by-plan, comes, faulted, not-told, same-cause, told-unfaulted}
 use Rattle.job_ends.specs.Causes.{ComesExactly}
-use Rattle.motion_cli.specs.Causes.{CauseOf, IsTooLong, LeadsTo}
-use Rattle.motion_cli.specs.Ends.{EndsByFile, EndsByFound, EndsByText}
-use Rattle.motion_cli.specs.Plans.{most_of, plan_of_text}
+use Rattle.motion_cli.specs.Causes.{CauseOf, IsTooLong, JudgingCause, LeadsTo}
+use Rattle.motion_cli.specs.Ends.{EndsByFile, EndsByFound, EndsByJudging, EndsByText}
+use Rattle.motion_cli.specs.Plans.{most_of}
 use Rattle.command_words.specs.Requests.{FileJob}
 use Rattle.command_words.specs.declared.request.Job.{Job}
 use Rattle.command_words.specs.declared.request.Job.TheVariants.{Bench, Check, Migrate}
@@ -35,25 +38,41 @@ unread-ends told rose r most old new s files.TooLong is failed longer e = inl (r
 })
 unread-ends told rose r most old new s files.OutOfMemory is failed longer e = inr e
 
--- a job with a text ends by its plan, for its cause
+-- it ended by some plan, for its cause
+pub record EndsBySome (old new : Output) (Cause : Status → Type 0) (s : Status) : Type 0 where
+  pub plan : Plan
+  pub by : EndsFor old new plan Cause s
+
+-- a text is judged as it begins
+pub judged-as : (is piece : Bool) (name text : List ℕ) (old new : Output) (s : Status) →
+    is ≡ piece → EndsByJudging is name text old new s → EndsByJudging piece name text old new s
+judged-as is piece name text old new s e = subst (λ b. EndsByJudging b name text old new s) e
+
+judged-for : (piece : Bool) (name text : List ℕ) (old new : Output) (s : Status) →
+    EndsByJudging piece name text old new s → EndsBySome old new (JudgingCause piece text) s
+judged-for true name text old new s e = record { plan = e.plan; by = e.by }
+judged-for false name text old new s e = record { plan = check_plan name text; by = e.by }
+
+-- a job with a text ends by a plan, for its cause
 pub ends-for : (job : Job) (name text : List ℕ) (old new : Output) (s : Status) →
-    EndsByText job name text old new s →
-    EndsFor old new (plan_of_text job name text) (CauseOf job text) s
-ends-for Bench name text old new s e = e.by
-ends-for Check name text old new s e = e.by
-ends-for Migrate name text old new s e = e.by
+    EndsByText job name text old new s → EndsBySome old new (CauseOf job text) s
+ends-for Bench name text old new s e = record { plan = bench_plan name text; by = e.by }
+ends-for Check name text old new s e =
+    judged-for (begins_as_piece text) name text old new s e
+ends-for Migrate name text old new s e = record { plan = migrate_plan name text; by = e.by }
 
--- what a file leads to by what a read of it found
-abbrev pub plan_of : FileJob → Found → Plan
-plan_of r Unread = unread_plan 1 r.name
-plan_of r Longer = too_long_plan 1 r.name
-plan_of r (Content text) = plan_of_text r.job r.name text
+-- the plan by which it ended, by what a read of the file found
+abbrev pub plan_of : (r : FileJob) (found : Found) (old new : Output) (s : Status) →
+    EndsByFound r found old new s → Plan
+plan_of r Unread old new s e = unread_plan 1 r.name
+plan_of r Longer old new s e = too_long_plan 1 r.name
+plan_of r (Content text) old new s e = (ends-for r.job r.name text old new s e).plan
 
-pub ends-by : (r : FileJob) (found : Found) (old new : Output) (s : Status) →
-    EndsByFound r found old new s → EndsBy old new (plan_of r found) s
+pub ends-by : (r : FileJob) (found : Found) (old new : Output) (s : Status)
+    (e : EndsByFound r found old new s) → EndsBy old new (plan_of r found old new s e) s
 ends-by r Unread old new s e = e
 ends-by r Longer old new s e = e
-ends-by r (Content text) old new s e = (ends-for r.job r.name text old new s e).ends
+ends-by r (Content text) old new s e = (ends-for r.job r.name text old new s e).by.ends
 
 -- ---- what is told of a text
 
@@ -103,11 +122,11 @@ found-comes follow files rose r old new s wanted t Longer is e =
     (λ h. absurd (no-longer r.job (files r.name) (LeadsTo wanted r.job) (λ text l. l.within) is h))
     (follow.comes old new (too_long_plan 1 r.name) s wanted e f)
 found-comes follow files rose r old new s wanted t (Content text) is e =
+    let for = ends-for r.job r.name text old new s e in
     same-cause s wanted (CauseOf r.job text wanted) _
     (content-cause r (files r.name) text wanted is.0 is.1)
     (cause-content r (files r.name) text wanted is.0)
-    (comes follow old new (plan_of_text r.job r.name text) (CauseOf r.job text) s
-    (ends-for r.job r.name text old new s e) wanted (told-unfaulted wanted t))
+    (comes follow old new for.plan (CauseOf r.job text) s for.by wanted (told-unfaulted wanted t))
 
 -- ---- TooLong
 
@@ -128,11 +147,9 @@ found-long follow files rose r old new s word Longer is e =
     (follow.comes old new (too_long_plan 1 r.name) s (status.TooLong word) e refl)
 found-long follow files rose r old new s word (Content text) is e =
     let for = ends-for r.job r.name text old new s e in
-    let other = not-told (plan_of_text r.job r.name text).status (status.TooLong word) for.told refl
-    in
-    same-cause s (status.TooLong word)
-    ((plan_of_text r.job r.name text).status ≡ status.TooLong word) _
+    let other = not-told for.plan.status (status.TooLong word) for.by.told refl in
+    same-cause s (status.TooLong word) (for.plan.status ≡ status.TooLong word) _
     (λ h. absurd (other h)) (λ h. absurd (no-longer r.job (files r.name)
     (λ x. length x ≤ most_of r.job) (λ x w. w) h.1
     (subst (λ x. IsSomeAnd x (λ y. length y ≤ most_of r.job)) (sym is.0) is.1)))
-    (follow.comes old new (plan_of_text r.job r.name text) s (status.TooLong word) for.ends refl)
+    (follow.comes old new for.plan s (status.TooLong word) for.by.ends refl)

@@ -1,11 +1,13 @@
 -- How the program ends. This project's profile.
-use Rattle.std.specs.Prelude.{◌⊎◌, ℕ, Option, Some, None, List}
+use Rattle.std.specs.Prelude.{◌⊎◌, ℕ, Bool, true, false, Option, Some, None, List}
 use Rattle.bench_job.specs.Ends.{EndsByBench}
 use Rattle.job_ends.specs.Ends.{Content, EndsBy, EndsEarly, Found, IsFound, Longer, Unread}
 use Rattle.job_ends.specs.Plans.{too_long_plan, unread_plan}
 use Rattle.job_ends.specs.declared.status.Status.{Status}
 use Rattle.load_job.specs.Ends.{EndsByLoad}
 use Rattle.outside.specs.Told.{FileMap}
+use Rattle.piece_job.specs.Begins.{begins_as_piece}
+use Rattle.piece_job.specs.Ends.{EndsByPiece}
 use Rattle.run_job.specs.Ends.{EndsByRun}
 use Rattle.st_job.specs.Ends.{EndsBySt}
 use Rattle.trace_jobs.specs.Ends.{EndsByCheck, EndsByMigrate}
@@ -16,10 +18,16 @@ use Rattle.command_words.specs.Requests.{FileJob, Request, asked_of, of_file, of
 use Rattle.command_words.specs.declared.request.Job.{Job}
 use Rattle.command_words.specs.declared.request.Job.TheVariants.{Bench, Check, Migrate}
 
+-- it ended as the check of a text leads to: of a piece where it begins as one, else of a trace
+abbrev pub EndsByJudging : Bool → List ℕ → List ℕ → Output → Output → Status → Type 0
+EndsByJudging true name text old new s = EndsByPiece name text old new s
+EndsByJudging false name text old new s = EndsByCheck name text old new s
+
 -- it ended as the job leads to with a text
 abbrev pub EndsByText : Job → List ℕ → List ℕ → Output → Output → Status → Type 0
 EndsByText Bench name text old new s = EndsByBench name text old new s
-EndsByText Check name text old new s = EndsByCheck name text old new s
+EndsByText Check name text old new s =
+    EndsByJudging (begins_as_piece text) name text old new s
 EndsByText Migrate name text old new s = EndsByMigrate name text old new s
 
 -- it ended as what a read of the file found leads to

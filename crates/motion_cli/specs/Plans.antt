@@ -1,10 +1,8 @@
 -- What the words lead to. This project's profile.
 use Rattle.std.specs.Prelude.{ℕ, ◌^◌, codes, List, [], ◌∷◌}
 use Rattle.std.specs.List.{concat}
-use Rattle.bench_job.specs.Plans.{bench_plan}
 use Rattle.job_ends.specs.Plans.{Plan}
 use Rattle.job_ends.specs.declared.status.Status.TheVariants as status
-use Rattle.trace_jobs.specs.Plans.{check_plan, migrate_plan}
 use Rattle.command_words.specs.declared.request.Job.{Job}
 use Rattle.command_words.specs.declared.request.Job.TheVariants.{Bench, Check, Migrate}
 
@@ -23,9 +21,3 @@ abbrev pub most_of : Job → ℕ
 most_of Bench = 2 ^ 24
 most_of Check = 2 ^ 28
 most_of Migrate = 2 ^ 28
-
--- what the text of a file leads to, by what is to be done with it
-abbrev pub plan_of_text : Job → List ℕ → List ℕ → Plan
-plan_of_text Bench name text = bench_plan name text
-plan_of_text Check name text = check_plan name text
-plan_of_text Migrate name text = migrate_plan name text

@@ -108,7 +108,10 @@ fn top_of_words<F: Files, K: Sink, H: Host + Wait + Sync, G: Gate + Drop + Send 
 /// trace of a bench or of a run, as the headlines say, and `standby` is as `bench`; where it answers
 /// Ok to `migrate`, the trace that was read, in version 2; to `gen`, the line of the load that the
 /// seed generates; to `switches`, the edges of the switches in a legal trace; to `scope`, the report
-/// of the trace. Each status comes of its cause; and where the files are there and no count of faults
+/// of the trace. Where it answers Legal to `check`, the text is a legal trace; or it begins with
+/// `piece,` and is a piece of one, a machine may begin as its head tells, the trace behind the head
+/// is legal from that machine on, and behind the line stands the head with which the next piece must
+/// begin. Each status comes of its cause; and where the files are there and no count of faults
 /// rose, no fault comes but want of memory. A run waits for its threads, so that it may never
 /// return.
 pub fn top<F: Files, K: Sink, H: Host + Wait + Sync, G: Gate + Drop + Send + 'static>(

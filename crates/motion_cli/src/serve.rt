@@ -15,6 +15,7 @@ use command_words::{Job, Request};
 use job_ends::{Status, say_unread};
 use load_job::run_load;
 use outside::{Files, Gate, Host, MOST_JOBS, Sink, Spawner};
+use piece_job::{check_piece_text, is_piece};
 use run_job::{PlantJob, RunNames, run_files};
 use scope_job::scope_file;
 use st_job::st_files;
@@ -160,7 +161,20 @@ fn do_job<K: Sink>(alloc: Global, work: Work, name: &str, text: Vec<u8>, out: &m
 {
     match work.job {
         Job::Bench => run_text(alloc, name, text.as_slice(), work.cut, out),
-        Job::Check => check_text(alloc, name, text, out),
+        Job::Check => judge_text(alloc, name, text, out),
         Job::Migrate => migrate_text(alloc, name, text, out),
+    }
+}
+
+// Judges a text: as a piece of a trace where it begins as one, else as a trace.
+fn judge_text<K: Sink>(alloc: Global, name: &str, text: Vec<u8>, out: &mut K) -> Status
+    ensures { EndsByText Job.Check name.now text.items
+        (record { count = K.count out.old; told = K.told out.old })
+        (record { count = K.count out.new; told = K.told out.new }) result }
+{
+    if is_piece(text.as_slice()) {
+        check_piece_text(alloc, name, text, out)
+    } else {
+        check_text(alloc, name, text, out)
     }
 }

@@ -14,7 +14,7 @@ ghost use Rattle.motion_kernel.specs.Banks.{at_opening, machine_now};
 ghost use Rattle.motion_kernel.specs.calls.Calls.{reply_of};
 ghost use Rattle.motion_kernel.specs.cycles.Cycles.{cycled};
 ghost use Rattle.motion_kernel.specs.Histories.{IsLegalFrom};
-ghost use Rattle.motion_kernel.specs.kept.Machine.{AreWhole};
+ghost use Rattle.motion_kernel.specs.kept.Machine.{AreWhole, IsSized};
 
 use crate::bank::{Bank, Before};
 use crate::block_calls::call_block;
@@ -24,6 +24,7 @@ use crate::layout::Layout;
 use crate::machine_cycle::{Aside, cycle_machine};
 use crate::opening::open_parts;
 use crate::parts::Parts;
+use crate::start::Start;
 use cia402_machine::{DriveIn, DriveOut};
 use fb_outputs::{Inputs, Outputs};
 use motion_history::{
@@ -157,6 +158,14 @@ impl BankedKernel {
         ensures { result ≡ self.now.before }
     {
         self.bank.before
+    }
+
+    /// The machine with which the bank begins.
+    pub fn start(&self) -> &Start
+        ensures machine { result.now ≡ self.now.start }
+        ensures sized { IsSized self.now.config self.now.start }
+    {
+        &self.bank.start
     }
 
     /// How many entries more the bank has room for.

@@ -16,8 +16,6 @@ mod plant_job;
 mod rooms;
 mod starts;
 mod task_job;
-#[cfg(test)]
-mod tests;
 
 pub use ending::{RunEnding, ending_of};
 pub use fault::PlantFault;

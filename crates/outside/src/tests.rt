@@ -1,99 +1,11 @@
-// What no clause says: the calls in memory, on the host's files and on its output, one by one.
+// What no clause says and no run of the program shows: reads and writes that a signal interrupts or that
+// fail in the midst, an output that takes nothing, starts that are refused, and gates.
 mod threads;
 
 use crate::*;
+use std::fmt;
 use std::io::{self, ErrorKind, Read, Write};
 use std::test::Fail;
-use std::{fmt, fs};
-
-#[test]
-fn reads_the_files_in_memory(rt: HostRuntime) -> Result<(), Fail> {
-    let mut files = MemoryFiles::new(rt.alloc(), &[2])?;
-    files.put("three", b"xyz")?;
-    files.put("none", b"")?;
-    files.put("three", b"abc")?;
-    let mut into = Vec::new(rt.alloc());
-    let cases: [(&str, u64, Result<(), FilesFault>, &[u8]); 7] = [
-        ("three", 3, Ok(()), b"abc"),
-        ("three", 3, Err(FilesFault::Failed), b""),
-        ("three", 2, Err(FilesFault::TooLong), b"abc"),
-        ("three", 0, Err(FilesFault::TooLong), b"a"),
-        ("four", 3, Err(FilesFault::Failed), b""),
-        ("none", 0, Ok(()), b""),
-        ("three", u64::MAX, Ok(()), b"abc"),
-    ];
-    for (name, budget, result, bytes) in cases {
-        assert_eq!(rt;
-            files.read_all(name, &mut into, budget),
-            result,
-            "{name} within {budget}"
-        );
-        assert_eq!(rt; into.as_slice(), bytes, "{name} within {budget}");
-    }
-    Ok(())
-}
-
-#[test]
-fn writes_to_the_sink_in_memory(rt: HostRuntime) -> Result<(), Fail> {
-    let mut sink = MemorySink::new(rt.alloc(), &[2], 2)?;
-    assert_eq!(rt; sink.reserve(3), Ok(()));
-    let cases: [(&[u8], Result<usize, SinkFailed>, &[u8]); 5] = [
-        (b"", Ok(0), b""),
-        (b"abc", Ok(2), b"ab"),
-        (b"c", Err(SinkFailed), b"ab"),
-        (b"", Ok(0), b"ab"),
-        (b"c", Ok(1), b"abc"),
-    ];
-    for (piece, result, bytes) in cases {
-        assert_eq!(rt; sink.write(piece), result, "{piece:?}");
-        assert_eq!(rt; sink.bytes(), bytes, "{piece:?}");
-    }
-    Ok(())
-}
-
-#[test]
-fn writes_all_in_pieces(rt: HostRuntime) -> Result<(), Fail> {
-    let cases: [(u32, &[u64], Result<(), SinkFailed>, &[u8]); 4] = [
-        (1, &[], Ok(()), b"hello"),
-        (2, &[], Ok(()), b"hello"),
-        (9, &[2], Ok(()), b"hello"),
-        (2, &[3], Err(SinkFailed), b"hell"),
-    ];
-    for (most, fails, result, bytes) in cases {
-        assert!(rt; 0 < most);
-        let mut sink = MemorySink::new(rt.alloc(), fails, most)?;
-        assert_eq!(rt; write_all(&mut sink, b"hello"), result, "{most} at once");
-        assert_eq!(rt; sink.bytes(), bytes, "{most} at once");
-    }
-    Ok(())
-}
-
-#[test]
-fn reads_the_files_of_the_host(rt: HostRuntime) -> Result<(), Fail> {
-    fs::write(&rt, "three_bytes.txt", "abc")?;
-    fs::write(&rt, "other_bytes.txt", "xyz")?;
-    let mut files = HostFiles::new(&rt);
-    let mut into = Vec::new(rt.alloc());
-    let cases: [(&str, u64, Result<(), FilesFault>, &[u8]); 6] = [
-        ("three_bytes.txt", 3, Ok(()), b"abc"),
-        ("other_bytes.txt", 3, Ok(()), b"xyz"),
-        ("three_bytes.txt", 2, Err(FilesFault::TooLong), b"abc"),
-        ("three_bytes.txt", 0, Err(FilesFault::TooLong), b"a"),
-        ("no_such_file.txt", 3, Err(FilesFault::Failed), b""),
-        (".", 3, Err(FilesFault::Failed), b""),
-    ];
-    for (name, budget, result, bytes) in cases {
-        assert_eq!(rt;
-            files.read_all(name, &mut into, budget),
-            result,
-            "{name} within {budget}"
-        );
-        assert_eq!(rt; into.as_slice(), bytes, "{name} within {budget}");
-    }
-    fs::remove_file(&rt, "three_bytes.txt")?;
-    fs::remove_file(&rt, "other_bytes.txt")?;
-    Ok(())
-}
 
 // A reader that a signal interrupts before each byte, and that ends by an error, if it has one.
 #[derive(Drop)]
@@ -151,13 +63,6 @@ fn reads_no_shorter_file_where_a_read_fails(rt: HostRuntime) -> Result<(), Fail>
         assert_eq!(rt; into.as_slice(), b"abc".as_slice(), "within {budget}");
     }
     Ok(())
-}
-
-#[test]
-fn writes_to_the_output_of_the_process(rt: HostRuntime) {
-    let mut sink = StdSink::new(&rt);
-    assert_eq!(rt; sink.write(b""), Ok(0));
-    assert_eq!(rt; write_all(&mut sink, b"written\n"), Ok(()));
 }
 
 // A writer that takes one byte of a piece and keeps it, and that fails once it has so many. A signal

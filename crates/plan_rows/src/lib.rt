@@ -1,6 +1,6 @@
-//! Worked runs of axes of which one follows another, made by the plans and the safe steps alone.
-//! There are only tests. It stands on `trapezoid_plan`, `follow_plan`, `linear_path` and
-//! `kin_core`. Begin at the tests.
+//! Worked values of units, plans, cams and lines, each at its place among the plans, and axes of
+//! which one follows another, made by the plans and the safe steps alone. There are only tests, so
+//! that none of the crates below is proved twice. Begin at the tests.
 #![tactic(auto)]
 
 #[cfg(test)]

@@ -16,6 +16,3 @@ mod wait;
 pub use fb_outputs::Flag;
 pub use program::{Instruction, MOST_INSTRUCTIONS, MOST_TIMES, Program};
 pub use reading::read_program;
-
-#[cfg(test)]
-mod tests;

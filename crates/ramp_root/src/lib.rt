@@ -7,8 +7,6 @@ mod counts;
 mod reaches;
 mod roots;
 mod steps;
-#[cfg(test)]
-mod tests;
 
 pub use counts::{
     fits, greatest_count, greatest_count_counted, sums_in_closed_form, sums_of_ramps,

@@ -3,8 +3,6 @@
 #![tactic(auto)]
 
 mod scoping;
-#[cfg(test)]
-mod tests;
 
 pub use job_ends::Status;
 pub use outside::{Files, Sink};

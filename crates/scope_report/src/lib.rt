@@ -12,8 +12,6 @@ mod part;
 mod piece;
 mod pieces;
 mod report;
-#[cfg(test)]
-mod tests;
 mod writing;
 
 pub use laws::reports_say_what_is_asked;

@@ -1,14 +1,15 @@
-// What no clause says: rings that fill, empty and end, and threads that have their ends.
-mod threads;
+// What no clause says: that no output is left where the end is right behind it.
 
 ghost use Rattle.std.specs.Prelude.{◌≡◌, ◌≤◌, ◌+◌, ◌^◌, ◌<◌, [], length, false};
 
 use crate::{
-    DriveEnd, DriveIn, DriveOut, KernelEnd, MOST_OUTPUTS, MOST_ROOM, Numbered, OutOfMemory, beside,
-    ring,
+    DriveEnd, DriveOut, KernelEnd, MOST_OUTPUTS, MOST_ROOM, Numbered, OutOfMemory, beside, ring,
 };
 use std::alloc::Global;
+use std::process::Abort;
+use std::sync::Wait;
 use std::test::Fail;
+use std::thread;
 
 // The output of this number, by which each is told from the others.
 fn output(number: u32) -> Numbered<DriveOut>
@@ -20,20 +21,6 @@ fn output(number: u32) -> Numbered<DriveOut>
             controlword: (number % 65_536) as u16,
             mode: 8,
             target: (number % 1_000_000) as i32,
-        },
-    }
-}
-
-// The answer of this number.
-fn answer(number: u32) -> Numbered<DriveIn>
-    ensures { result.number ≡ number }
-{
-    Numbered {
-        number,
-        item: DriveIn {
-            statusword: (number % 65_536) as u16,
-            mode_display: 8,
-            actual: (number % 1_000_000) as i32,
         },
     }
 }
@@ -62,43 +49,31 @@ impl Kernel {
         sent
     }
 
-    fn take(&mut self) -> Option<Numbered<DriveIn>>
-        ensures { self.new.end.ring ≡ self.old.end.ring }
+    // Sends so many outputs, and the end right behind the last of them.
+    fn send_all<R: Wait>(mut self, rt: &R, count: u32) -> KernelEnd
+        ensures { result.ring ≡ self.end.ring }
     {
-        self.end.take()
-    }
-
-    fn beside(&mut self, drive: &mut Drive) -> (u32, u32)
-        requires { self.old.end.ring ≡ drive.old.end.ring }
-        ensures { (self.new.end.ring ≡ self.old.end.ring) × (drive.new.end.ring ≡ drive.old.end.ring) }
-    {
-        beside(&mut self.end, &mut drive.end)
+        for _ in rt.forever() {
+            if self.sent >= count {
+                break;
+            }
+            if !self.send() {
+                thread::yield_now();
+            }
+        }
+        let mut end = self.end;
+        end.end();
+        end
     }
 }
 
-// A drive's end that numbers what it sends.
+// A drive's end.
 #[derive(Drop)]
 struct Drive {
     end: DriveEnd,
-    sent: u32,
-    ghost counted: { sent ≡ length end.sent },
 }
 
 impl Drive {
-    // Sends the next answer, where a slot is free.
-    fn send(&mut self) -> bool
-        ensures { self.new.end.ring ≡ self.old.end.ring }
-    {
-        if self.sent >= MOST_OUTPUTS {
-            return false;
-        }
-        let sent = self.end.push(answer(self.sent + 1)).is_ok();
-        if sent {
-            self.sent += 1;
-        }
-        sent
-    }
-
     fn take(&mut self) -> Option<Numbered<DriveOut>>
         ensures { self.new.end.ring ≡ self.old.end.ring }
     {
@@ -109,6 +84,22 @@ impl Drive {
         ensures { self.new.end.ring ≡ self.old.end.ring }
     {
         self.end.ended()
+    }
+
+    // Takes the outputs, which come in their order and once, until the end.
+    fn take_all<R: Wait + Abort>(mut self, rt: &R) -> Drive
+        ensures { result.end.ring ≡ self.end.ring }
+    {
+        let mut number = 0u32;
+        for _ in rt.forever() {
+            if let Some(next) = self.take() {
+                number = number.wrapping_add(1);
+                assert_eq!(rt; next, output(number));
+            } else if self.has_ended() {
+                return self;
+            }
+        }
+        unreachable!()
     }
 }
 
@@ -130,91 +121,32 @@ impl Pair {
                 end: kernel,
                 sent: 0,
             },
-            drive: Drive {
-                end: drive,
-                sent: 0,
-            },
+            drive: Drive { end: drive },
         })
     }
-
-    // Sends so many outputs and answers, as far as slots are free, and tells how many each in all.
-    fn send(&mut self, outputs: u32, answers: u32) -> (u32, u32) {
-        for _ in 0..outputs {
-            self.kernel.send();
-        }
-        for _ in 0..answers {
-            self.drive.send();
-        }
-        (self.kernel.sent, self.drive.sent)
-    }
-
-    fn take_output(&mut self) -> Option<Numbered<DriveOut>> {
-        self.drive.take()
-    }
-
-    fn take_answer(&mut self) -> Option<Numbered<DriveIn>> {
-        self.kernel.take()
-    }
-
-    fn beside(&mut self) -> (u32, u32) {
-        self.kernel.beside(&mut self.drive)
-    }
 }
 
 #[test]
-fn has_as_many_slots_each_way_as_its_room(rt: HostRuntime) -> Result<(), Fail> {
-    for room in [1, 2, 3, 64, MOST_ROOM] {
-        assert!(rt; 0 < room && room <= MOST_ROOM);
-        let mut pair = Pair::new(rt.alloc(), room)?;
-        assert_eq!(rt; pair.send(room + 1, room + 1), (room, room));
-        assert_eq!(rt; pair.beside(), (room, room));
-        assert_eq!(rt; pair.take_output(), Some(output(1)), "room {room}");
-        assert_eq!(rt; pair.take_answer(), Some(answer(1)), "room {room}");
-        assert_eq!(rt; pair.beside(), (room - 1, room - 1));
-        assert_eq!(rt; pair.send(2, 2), (room + 1, room + 1));
+fn leaves_no_output_where_the_end_is_right_behind_it(rt: HostRuntime) -> Result<(), Fail> {
+    for round in 0..2_000 {
+        let count = round % 4 + 1;
+        let Pair { kernel, drive, .. } = Pair::new(rt.alloc(), 2)?;
+        let shared = &rt;
+        let (mut kernel, mut drive) = thread::join(
+            &rt,
+            move || -> KernelEnd
+                ensures { result.ring ≡ kernel.end.ring }
+            { kernel.send_all(shared, count) },
+            move || -> Drive
+                ensures { result.end.ring ≡ drive.end.ring }
+            { drive.take_all(shared) },
+        );
+        assert_eq!(rt;
+            beside(&mut kernel, &mut drive.end),
+            (0, 0),
+            "round {round}"
+        );
+        assert_eq!(rt; kernel.finish().sent, count, "round {round}");
     }
-    Ok(())
-}
-
-#[test]
-fn looks_again_where_it_knows_of_none(rt: HostRuntime) -> Result<(), Fail> {
-    let mut pair = Pair::new(rt.alloc(), 1)?;
-    for number in [1, 2, 3] {
-        assert_eq!(rt; pair.send(1, 1), (number, number));
-        assert_eq!(rt; pair.take_output(), Some(output(number)));
-        assert_eq!(rt; pair.take_answer(), Some(answer(number)));
-    }
-    Ok(())
-}
-
-#[test]
-fn gives_back_what_finds_no_slot(rt: HostRuntime) -> Result<(), Fail> {
-    let (mut kernel, mut drive) = ring(rt.alloc(), 1)?;
-    if kernel.push(output(1)).is_err() || drive.push(answer(1)).is_err() {
-        return Err(Fail::new("a new ring has no slot"));
-    }
-    assert_eq!(rt; kernel.push(output(2)), Err(output(2)));
-    assert_eq!(rt; drive.push(answer(2)), Err(answer(2)));
-    Ok(())
-}
-
-#[test]
-fn tells_the_end_once_all_is_taken(rt: HostRuntime) -> Result<(), Fail> {
-    let mut pair = Pair::new(rt.alloc(), 2)?;
-    assert_eq!(rt; pair.send(2, 0), (2, 0));
-    let Pair {
-        kernel,
-        mut drive,
-        ..
-    } = pair;
-    assert!(rt; !drive.has_ended());
-    let mut end = kernel.end;
-    end.end();
-    for number in [1, 2] {
-        assert!(rt; !drive.has_ended(), "before output {number}");
-        assert_eq!(rt; drive.take(), Some(output(number)));
-    }
-    assert!(rt; drive.has_ended());
-    assert_eq!(rt; drive.take(), None);
     Ok(())
 }

@@ -21,6 +21,3 @@ pub use laws::{rounds_are_in_step, rounds_end_for_their_cause, tasks_make_their_
 pub use outside::{Files, Sink};
 pub use run::run_rounds;
 pub use st::st_files;
-
-#[cfg(test)]
-mod tests;

@@ -8,6 +8,3 @@ mod fitting;
 mod reading;
 
 pub use reading::read_st;
-
-#[cfg(test)]
-mod tests;

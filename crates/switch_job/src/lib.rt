@@ -9,6 +9,3 @@ mod switches;
 pub use job_ends::Status;
 pub use outside::{Files, Sink};
 pub use switches::switch_files;
-
-#[cfg(test)]
-mod tests;

@@ -16,6 +16,3 @@ pub use reading::read_switches;
 pub use switches::Switches;
 pub use trace_text::{Trace, TraceFault};
 pub use writing::write_edges;
-
-#[cfg(test)]
-mod tests;

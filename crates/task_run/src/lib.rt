@@ -13,6 +13,3 @@ mod runner;
 pub use caller::{Caller, LoggedCall};
 pub use run::{Next, TaskRun};
 pub use runner::{run_task, tasks_have_their_own_lines};
-
-#[cfg(test)]
-mod tests;

@@ -2,16 +2,12 @@
 use Rattle.std.proofs.Common.{rules, ◌≡◌, Bool, true, int_eq}
 use Rattle.std.specs.Prelude.{◌==◌, ◌&&◌}
 use Rattle.std.specs.Cmp.{booleans_Decides}
-use Rattle.std.specs.Cmp.Rules.{signed_items}
 use Rattle.std.proofs.lemmas.Bool.Decides.{Decides-eqb, Decides-int_eq}
 use Rattle.std.proofs.lemmas.Bool.{and_parts}
 use denote.Enum.Bare.{same_true, sameb}
 use mathlib.Core.Bool.{beq}
-use lib.Pointwise.{pointwise}
 use Rattle.axis_state.specs.declared.definition.AxisRow.{AxisRow}
 use Rattle.axis_state.specs.contracts.state.AxisState as axis_state
-use Rattle.command_pool.specs.contracts.kind.BufferMode as mode
-use Rattle.fb_outputs.specs.declared.inputs.Inputs.{Inputs}
 use Rattle.fb_outputs.specs.declared.outputs.Outputs.{Outputs}
 
 pub same-outputs : (a b : Outputs) → (beq a.busy b.busy && (beq a.active b.active && (beq a.done b.done && (beq a.aborted b.aborted && (beq a.error b.error && ((a.error_id == b.error_id) && beq a.reached b.reached)))))) ≡ true → a ≡ b
@@ -30,31 +26,6 @@ same-outputs a b h =
     let e5 : a.error_id ≡ b.error_id = (Decides-eqb a.error_id b.error_id).0 u.0 in
     let e6 : a.reached ≡ b.reached = (booleans_Decides a.reached b.reached).0 u.1 in
     λ i. record { busy = e0 i; active = e1 i; done = e2 i; aborted = e3 i; error = e4 i; error_id = e5 i; reached = e6 i }
-
-pub same-inputs : (a b : Inputs) → (beq a.execute b.execute && (pointwise int_eq a.positions b.positions && (int_eq a.velocity b.velocity && (int_eq a.acceleration b.acceleration && (int_eq a.deceleration b.deceleration && (int_eq a.jerk b.jerk && (sameb mode.the_type a.mode b.mode && ((a.master == b.master) && (int_eq a.numerator b.numerator && (int_eq a.denominator b.denominator && (a.table == b.table))))))))))) ≡ true → a ≡ b
-same-inputs a b h =
-    let p = and_parts _ _ h in
-    let q = and_parts _ _ p.1 in
-    let r = and_parts _ _ q.1 in
-    let s = and_parts _ _ r.1 in
-    let t = and_parts _ _ s.1 in
-    let u = and_parts _ _ t.1 in
-    let v = and_parts _ _ u.1 in
-    let w = and_parts _ _ v.1 in
-    let x = and_parts _ _ w.1 in
-    let y = and_parts _ _ x.1 in
-    let e0 : a.execute ≡ b.execute = (booleans_Decides a.execute b.execute).0 p.0 in
-    let e1 : a.positions ≡ b.positions = (signed_items a.positions b.positions).0 q.0 in
-    let e2 : a.velocity ≡ b.velocity = (Decides-int_eq a.velocity b.velocity).0 r.0 in
-    let e3 : a.acceleration ≡ b.acceleration = (Decides-int_eq a.acceleration b.acceleration).0 s.0 in
-    let e4 : a.deceleration ≡ b.deceleration = (Decides-int_eq a.deceleration b.deceleration).0 t.0 in
-    let e5 : a.jerk ≡ b.jerk = (Decides-int_eq a.jerk b.jerk).0 u.0 in
-    let e6 : a.mode ≡ b.mode = same_true mode.the_type (search rules) _ _ v.0 in
-    let e7 : a.master ≡ b.master = (Decides-eqb a.master b.master).0 w.0 in
-    let e8 : a.numerator ≡ b.numerator = (Decides-int_eq a.numerator b.numerator).0 x.0 in
-    let e9 : a.denominator ≡ b.denominator = (Decides-int_eq a.denominator b.denominator).0 y.0 in
-    let e10 : a.table ≡ b.table = (Decides-eqb a.table b.table).0 y.1 in
-    λ i. record { execute = e0 i; positions = e1 i; velocity = e2 i; acceleration = e3 i; deceleration = e4 i; jerk = e5 i; mode = e6 i; master = e7 i; numerator = e8 i; denominator = e9 i; table = e10 i }
 
 pub same-row : (a b : AxisRow) → ((int_eq a.input.actual b.input.actual && ((a.input.statusword == b.input.statusword) && int_eq a.input.mode_display b.input.mode_display)) && (sameb axis_state.the_type a.state b.state && ((a.error == b.error) && (beq a.driven b.driven && (int_eq a.setpoint b.setpoint && (int_eq a.offset b.offset && (int_eq a.output.target b.output.target && ((a.output.controlword == b.output.controlword) && int_eq a.output.mode b.output.mode)))))))) ≡ true → a ≡ b
 same-row a b h =

@@ -12,8 +12,6 @@ mod making;
 mod record;
 mod replaying;
 mod rows;
-#[cfg(test)]
-mod tests;
 mod texts;
 mod verdict;
 

@@ -16,7 +16,7 @@ use axis_state::{AxisDef, AxisRow};
 use fb_outputs::{Inputs, Outputs};
 use group_state::GroupRow;
 use motion_history::{EntryLook, TraceVersion};
-use trace_text::{Trace, reported_place};
+use trace_text::{Trace, are_same_inputs, reported_place};
 
 // Whether the place that a drive reports in a row is the one found, in version 2.
 fn is_reported(version: TraceVersion, axis: &AxisDef, row: &AxisRow, place: Option<i64>) -> bool
@@ -41,13 +41,6 @@ fn is_same_row(row: &AxisRow, other: &AxisRow) -> bool
     ensures { IsTrue result → row.now ≡ other.now }
 {
     *row == *other
-}
-
-// Whether inputs are others.
-fn are_same_inputs(inputs: &Inputs, others: &Inputs) -> bool
-    ensures { IsTrue result → inputs.now ≡ others.now }
-{
-    *inputs == *others
 }
 
 // Whether a reply is another.

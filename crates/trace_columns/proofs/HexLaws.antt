@@ -29,7 +29,7 @@ if-some : (t : Bool) (m w : ℕ) → cond t (Some m) None ≡ Some w → (t ≡ 
 if-some true m w e = (refl, cc e)
 if-some false m w e = absurd (cc e)
 
-digit-range : (b w : ℕ) → hex_digit_of b ≡ Some w → w < 16
+pub digit-range : (b w : ℕ) → hex_digit_of b ≡ Some w → w < 16
 unfolding hex_digit_of
 digit-range b w h = elim (cases_Bool (nat_le 48 b && nat_le b 57)) [
   | inl digit ↦

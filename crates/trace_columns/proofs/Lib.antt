@@ -1,5 +1,5 @@
 pub mod NumberLaws
 pub mod BackLaws
 pub mod ShortLaws
-mod HexLaws
+pub mod HexLaws
 mod WordLaws

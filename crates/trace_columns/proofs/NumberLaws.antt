@@ -19,7 +19,7 @@ pub record IsSpelled (text : List ℕ) (z : ℤ) : Type 0 where
   pub wide : FitsSigned w64 z
   pub spelled : signed_decimal z ≡ text
 
-wide-fits : (z : ℤ) → is_wide z ≡ true → FitsSigned w64 z
+pub wide-fits : (z : ℤ) → is_wide z ≡ true → FitsSigned w64 z
 wide-fits z e =
     let p = and_parts (int_le (neg_ℤ (pos (2 ^ 63))) z) (int_le z (pos (2 ^ 63 - 1))) e in
     omega (arith, ints, p.0, p.1)
@@ -31,7 +31,7 @@ pub fits-wide : (z : ℤ) → FitsSigned w64 z → is_wide z ≡ true
 fits-wide z f =
     both-hold _ _ (true_from_ne_false (int_le (neg_ℤ (pos (2 ^ 63))) z) (λ e. omega (arith, ints, e))) (true_from_ne_false (int_le z (pos (2 ^ 63 - 1))) (λ e. omega (arith, ints, e)))
 
-same-bytes : (xs ys : List ℕ) → bytes_eq xs ys ≡ true → xs ≡ ys
+pub same-bytes : (xs ys : List ℕ) → bytes_eq xs ys ≡ true → xs ≡ ys
 same-bytes xs ys e = (bytes_eq-Decides xs ys).0 e
 
 pub wide-parts : (text : List ℕ) (z : ℤ) → wide_number_of text ≡ Some z → IsSpelled text z

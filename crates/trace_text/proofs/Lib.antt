@@ -4,3 +4,6 @@
 pub mod written
 pub mod read
 pub mod back
+-- the entries that were found rest on FoundLists, and whether inputs are others on SameInputs
+pub mod FoundLists
+pub mod SameInputs

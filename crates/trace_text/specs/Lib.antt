@@ -3,6 +3,7 @@ pub mod Records
 pub mod Trace
 pub mod Found
 pub mod TraceState
+pub mod FoundLists
 pub mod RowRanges
 pub mod Writable
 pub mod TraceKept

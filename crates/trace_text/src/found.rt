@@ -2,13 +2,11 @@
 
 ghost use Rattle.std.specs.Prelude.{◌≡◌, ◌++◌, ◌∷◌, [], IfErr, IfOk, OnOk, length};
 ghost use Rattle.std.specs.Option.{option_to_list};
-ghost use Rattle.motion_history.specs.Looks.{told};
-ghost use Rattle.trace_text.specs.TraceState as spec;
 
 use axis_state::AxisRow;
 use fb_outputs::{Inputs, Outputs};
 use group_state::GroupRow;
-use motion_history::{EntryLook, OutOfMemory};
+use motion_history::OutOfMemory;
 use std::alloc::Global;
 use std::marker::Model;
 
@@ -85,6 +83,34 @@ impl FoundCycle {
         })
     }
 
+    /// Its number.
+    pub fn number(&self) -> u32
+        ensures { result ≡ self.now.number }
+    {
+        self.number
+    }
+
+    /// Its rows of axes.
+    pub fn rows(&self) -> &[AxisRow]
+        ensures { result.now ≡ self.now.axes }
+    {
+        self.axes.as_slice()
+    }
+
+    /// Its rows of groups.
+    pub fn group_rows(&self) -> &[GroupRow]
+        ensures { result.now ≡ self.now.groups }
+    {
+        self.groups.as_slice()
+    }
+
+    /// The places that its drives reported.
+    pub fn places(&self) -> &[i64]
+        ensures { result.now ≡ self.now.places }
+    {
+        self.places.as_slice()
+    }
+
     /// How many rows of axes it has.
     pub fn axes(&self) -> usize
         ensures { result ≡ length self.now.axes }
@@ -127,40 +153,5 @@ impl FoundCycle {
             return Err(OutOfMemory);
         };
         Ok(())
-    }
-}
-
-impl FoundEntry {
-    /// The entry, as it is looked at.
-    pub fn look(&self) -> EntryLook<'_>
-        ensures { told result ≡ spec.entry_of self.now }
-    {
-        match self {
-            FoundEntry::Call {
-                instance,
-                inputs,
-                reply,
-            } => EntryLook::Call {
-                instance: *instance,
-                inputs,
-                reply,
-            },
-            FoundEntry::Cycle(cycle) => EntryLook::Cycle {
-                number: cycle.number,
-                axes: cycle.axes.as_slice(),
-                groups: cycle.groups.as_slice(),
-            },
-            FoundEntry::End { task } => EntryLook::End { task: *task },
-        }
-    }
-
-    /// The places that the drives reported in it.
-    pub fn places(&self) -> &[i64]
-        ensures { result.now ≡ spec.places_of self.now }
-    {
-        match self {
-            FoundEntry::Cycle(cycle) => cycle.places.as_slice(),
-            _ => &[],
-        }
     }
 }

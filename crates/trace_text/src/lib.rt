@@ -8,9 +8,12 @@
 mod command;
 mod drive_end;
 mod found;
+mod found_list;
+mod found_rooms;
 mod laws;
 mod reading;
 mod records;
+mod same;
 mod trace;
 mod writing;
 
@@ -21,6 +24,7 @@ pub use laws::{
 };
 pub use motion_history::{Config, History, OutOfMemory, TextFault, TextRefused, TraceVersion};
 pub use reading::read::read_trace;
+pub use same::are_same_inputs;
 pub use trace::Trace;
 pub use writing::cycle_rows::reported_place;
 pub use writing::pieces::entry_piece;

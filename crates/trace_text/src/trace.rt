@@ -8,7 +8,7 @@ ghost use Rattle.trace_text.specs.TraceState.{entries_of, place_at};
 
 use crate::command::Command;
 use crate::drive_end::DriveEndRow;
-use crate::found::FoundEntry;
+use crate::found_list::FoundList;
 use motion_history::{Config, EntryLook, TraceVersion};
 use std::marker::Model;
 
@@ -18,7 +18,7 @@ pub struct Trace {
     pub(crate) version: TraceVersion,
     pub(crate) command: Command,
     pub(crate) config: Config,
-    pub(crate) found: Vec<FoundEntry>,
+    pub(crate) found: FoundList,
     pub(crate) drives: Vec<DriveEndRow>,
 }
 
@@ -31,7 +31,7 @@ impl Model for Trace {
       version = t.version;
       command = t.command;
       config = t.config;
-      found = t.found.items;
+      found = t.found;
       drives = t.drives.items;
     } };
 
@@ -41,7 +41,7 @@ impl Model for Trace {
       version = t.version;
       command = t.command;
       config = t.config;
-      found = t.found.items;
+      found = t.found;
       drives = t.drives.items;
     }) };
 }
@@ -81,10 +81,7 @@ impl Trace {
     pub fn look(&self, place: u64) -> Option<EntryLook<'_>>
         ensures { option_map told result ≡ slice_get (entries_of self.now) place }
     {
-        match self.found.as_slice().get(place as usize) {
-            Some(entry) => Some(entry.look()),
-            None => None,
-        }
+        self.found.look(place as usize)
     }
 
     /// What the drives took, in the order of their axes.
@@ -100,9 +97,7 @@ impl Trace {
     pub fn actual_of(&self, place: u64, axis: u8) -> Option<i64>
         ensures { result ≡ place_at self.now place axis }
     {
-        match self.found.as_slice().get(place as usize) {
-            Some(entry) => entry.places().get(axis as usize).copied(),
-            None => None,
-        }
+        let places = self.found.places(place as usize)?;
+        places.get(axis as usize).copied()
     }
 }

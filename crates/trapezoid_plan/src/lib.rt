@@ -8,10 +8,6 @@ mod cycles;
 mod halts;
 mod laws;
 mod moves;
-#[cfg(test)]
-mod plain;
-#[cfg(test)]
-mod tests;
 mod velocities;
 
 pub use command_pool::Rates;

@@ -1,7 +1,7 @@
 // Banks given out, taken in and handed over.
 
 ghost use Rattle.std.specs.Prelude.{◌≡◌, [], IfOk};
-ghost use Rattle.motion_kernel.specs.Banks.{IsEarly, IsSpare, after_bank, IsHeldBank, machine_now};
+ghost use Rattle.motion_kernel.specs.Banks.{IsEarly, IsHeldBank, IsSpare, IsUnused, after_bank, machine_now};
 ghost use Rattle.motion_kernel.specs.kept.Machine.{IsMachineKept};
 
 use super::BankedKernel;
@@ -12,9 +12,10 @@ use std::alloc::Global;
 use std::mem::swap;
 
 impl BankedKernel {
-    /// An empty bank for `swap`, with its whole room reserved.
+    /// An empty bank for `swap`, with its whole room reserved. It begins at opening.
     pub fn spare(&self, alloc: Global) -> Result<Bank, OutOfMemory>
-        ensures { IfOk result (IsSpare self.now.config) }
+        ensures spare { IfOk result (IsSpare self.now.config) }
+        ensures unused { IfOk result (IsUnused self.now.config) }
     {
         // law: a machine at opening has the sizes of its configuration
         machines_stay_kept();

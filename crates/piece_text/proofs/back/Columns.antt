@@ -12,7 +12,6 @@ use Rattle.command_pool.specs.declared.kind.BlockKind.TheVariants as kind
 use Rattle.command_pool.specs.declared.kind.BufferMode.TheVariants as mode
 use Rattle.group_state.specs.declared.state.GroupState.TheVariants as group
 use Rattle.std.proofs.lemmas.Int.{ints}
-use Rattle.std.proofs.lemmas.Slice.Eq.{bytes_eq-Decides}
 use Rattle.axis_state.specs.declared.state.AxisState.{AxisState}
 use Rattle.buffer_modes.specs.declared.reset.PendingReset.{PendingReset}
 use Rattle.command_pool.specs.declared.kind.BlockKind.{BlockKind}
@@ -28,7 +27,7 @@ use Rattle.trace_text.specs.reading.Rules.{is_empty}
 use Rattle.trace_columns.specs.Columns.{axis_state_of, between, flag_of, group_state_of, hex_digit_of, hex_of, number_of, unsigned_of, wide_number_of}
 use Rattle.trace_columns.specs.Fields.{axis_state_text, flag_text, group_state_text, hex_digit, hex_text}
 use Rattle.trace_columns.proofs.BackLaws.{unsigned-back, wide-back}
-use Rattle.trace_columns.proofs.NumberLaws.{wide-parts}
+use Rattle.trace_columns.proofs.NumberLaws.{same-bytes, wide-parts}
 use Rattle.trace_text.proofs.read.ColumnRanges.{hex-range, if-some, number-range, opt-both, unsigned-range, wide-range}
 
 -- a field is spelled as a value is written, and the value is held
@@ -40,9 +39,6 @@ pub record IsField {A : Type 0} (text : A → List ℕ) (held : A → Type 0) (f
 pub either-some : {A P : Type 0} (b : Bool) (x : A) (m : Option A) (y : A) → cond b (Some x) m ≡ Some y → (b ≡ true → x ≡ y → P) → (b ≡ false → m ≡ Some y → P) → P
 either-some true x m y h f g = f refl (cc h)
 either-some false x m y h f g = g refl h
-
-pub same-bytes : (xs ys : List ℕ) → bytes_eq xs ys ≡ true → xs ≡ ys
-same-bytes xs ys e = (bytes_eq-Decides xs ys).0 e
 
 empty-is : (field : List ℕ) → is_empty field ≡ true → field ≡ []
 empty-is [] h = refl

@@ -15,7 +15,8 @@ use Rattle.piece_text.specs.Held.{AreRates, AreSix, IsFollow, IsWanted, IsWide}
 use Rattle.piece_text.specs.WantedFields.{active_fields, numbers_fields, rates_fields, wanted_fields}
 use Rattle.piece_text.specs.reading.Columns.{byte_of, owner_of, target_of, word_of}
 use Rattle.piece_text.specs.reading.Commands.{active_of, cam_of, follow_of, gear_of, numbers_of, rates_of, six_of, wanted_of}
-use Rattle.piece_text.proofs.back.Columns.{IsField, byte-back, kind-only, mode-only, owner-back, owner-only, same-bytes, target-back, target-only, unsigned-only, wide-only, word-back}
+use Rattle.trace_columns.proofs.NumberLaws.{same-bytes}
+use Rattle.piece_text.proofs.back.Columns.{IsField, byte-back, kind-only, mode-only, owner-back, owner-only, target-back, target-only, unsigned-only, wide-only, word-back}
 use Rattle.trace_columns.specs.Columns.{wide_number_of}
 use Rattle.trace_columns.proofs.BackLaws.{wide-back}
 use Rattle.trace_text.proofs.read.ColumnRanges.{opt-both}

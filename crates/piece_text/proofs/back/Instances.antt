@@ -16,7 +16,8 @@ use Rattle.piece_text.specs.Held.{IsInstanceOf, IsProgress}
 use Rattle.piece_text.specs.Records.{instance_fields}
 use Rattle.piece_text.specs.reading.Columns.{word_of}
 use Rattle.piece_text.specs.reading.Instances.{ended_of, failed_of, finish_of, instance_of, progress_of, running_of}
-use Rattle.piece_text.proofs.back.Columns.{either-some, flag-only, same-bytes, unsigned-only, word-back}
+use Rattle.trace_columns.proofs.NumberLaws.{same-bytes}
+use Rattle.piece_text.proofs.back.Columns.{either-some, flag-only, unsigned-only, word-back}
 use Rattle.piece_text.proofs.back.Commands.{IsFields}
 use Rattle.trace_columns.specs.Columns.{flag_of}
 use Rattle.trace_columns.specs.Fields.{flag_text}

@@ -18,7 +18,8 @@ use Rattle.piece_text.specs.WantedFields.{active_fields, numbers_fields, wanted_
 use Rattle.piece_text.specs.reading.Columns.{byte_of}
 use Rattle.piece_text.specs.reading.Commands.{six_of}
 use Rattle.piece_text.specs.reading.Groups.{are_places, limits_of, motion_by, motion_of, on_path_of, path_of, way_by, way_of}
-use Rattle.piece_text.proofs.back.Columns.{byte-back, either-some, same-bytes, unsigned-only, wide-only}
+use Rattle.trace_columns.proofs.NumberLaws.{same-bytes}
+use Rattle.piece_text.proofs.back.Columns.{byte-back, either-some, unsigned-only, wide-only}
 use Rattle.piece_text.proofs.back.Commands.{IsFields, IsFront, six-back, six-only}
 use Rattle.trace_columns.specs.Columns.{wide_number_of}
 use Rattle.trace_columns.proofs.BackLaws.{wide-back}

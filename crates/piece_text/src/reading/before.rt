@@ -13,13 +13,10 @@ use motion_kernel::Before;
 fn counts_of(banks: &[u8], entries: &[u8], cycles: &[u8]) -> Option<Before>
     ensures { result ≡ spec.counts_of banks.now entries.now cycles.now }
 {
-    let banks = count_of(banks)?;
-    let entries = count_of(entries)?;
-    let cycles = count_of(cycles)?;
     Some(Before {
-        banks,
-        entries,
-        cycles,
+        banks: count_of(banks)?,
+        entries: count_of(entries)?,
+        cycles: count_of(cycles)?,
     })
 }
 

@@ -59,10 +59,8 @@ fn pending_of(text: &[u8]) -> Option<PendingReset>
     if says(text, b"-") {
         return Some(PendingReset { owner: None });
     }
-    let instance = word_of(text)?;
-    Some(PendingReset {
-        owner: Some(instance),
-    })
+    let owner = Some(word_of(text)?);
+    Some(PendingReset { owner })
 }
 
 /// A pending reset, if a field is not empty.

@@ -33,10 +33,8 @@ fn finish_of(word: &[u8]) -> Option<Finish>
 {
     if says(word, b"done") {
         Some(Finish::Done)
-    } else if says(word, b"aborted") {
-        Some(Finish::Aborted)
     } else {
-        None
+        says(word, b"aborted").then_some(Finish::Aborted)
     }
 }
 

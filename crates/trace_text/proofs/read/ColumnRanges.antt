@@ -1,14 +1,16 @@
 -- The ranges of the columns: what is read of a field lies in those of its column.
-use Rattle.std.proofs.Common.{◌≡◌, ℕ, ◌+◌, ◌*◌, ◌-◌, ◌^◌, ◌<◌, ◌≤◌, ℤ, Bool, true, false, Option, Some, None, List, [], ◌∷◌, refl, subst, arith, inl, inr, FitsSigned, w64}
-use Rattle.std.specs.Prelude.{pos, neg_ℤ, int_le, ◌≤ℤ◌, ◌&&◌, cond, nat_le, option_and_then, unsigned_abs}
+use Rattle.std.proofs.Common.{◌≡◌, ℕ, ◌+◌, ◌*◌, ◌-◌, ◌<◌, ◌≤◌, ℤ, Bool, true, false, Option, Some, None, List, [], ◌∷◌, refl, subst, arith, FitsSigned, w64}
+use Rattle.std.specs.Prelude.{pos, int_le, ◌≤ℤ◌, ◌&&◌, cond, option_and_then, unsigned_abs}
 use Rattle.std.specs.Fmt.{signed_decimal}
 use Rattle.std.specs.Str.{bytes_eq}
 use Rattle.std.specs.Str.Parse.{signed_digits_value}
-use Rattle.std.proofs.lemmas.Bool.{and_parts, cases_Bool, leb-true}
+use Rattle.std.proofs.lemmas.Bool.{and_parts}
 use Rattle.std.proofs.lemmas.Int.{ints}
 use Rattle.fb_outputs.specs.declared.outputs.Outputs.{Outputs}
 use Rattle.trace_columns.specs.Columns.{between, hex_digit_of, hex_of, is_wide, letters_of, number_of, outputs_of, unsigned_of, wide_number_of}
 use Rattle.trace_columns.specs.Fields.{outputs_text}
+use Rattle.trace_columns.proofs.HexLaws.{digit-range}
+use Rattle.trace_columns.proofs.NumberLaws.{wide-fits}
 
 -- a value in two steps
 pub opt-both : {A B : Type 0} (o : Option A) (f : A → Option B) (y : B) → option_and_then f o ≡ Some y → (x : A) × (o ≡ Some x) × (f x ≡ Some y)
@@ -20,18 +22,13 @@ pub if-some : {A : Type 0} (b : Bool) (x y : A) → cond b (Some x) None ≡ Som
 if-some true x y h = (refl, cc h)
 if-some false x y h = absurd (cc h)
 
-wide-test : (z : ℤ) → is_wide z ≡ true → FitsSigned w64 z
-wide-test z h =
-    let p = and_parts (int_le (neg_ℤ (pos (2 ^ 63))) z) (int_le z (pos (2 ^ 63 - 1))) h in
-    omega (arith, ints, p.0, p.1)
-
 -- a number of 64 bits
 pub wide-range : (text : List ℕ) (z : ℤ) → wide_number_of text ≡ Some z → FitsSigned w64 z
 unfolding wide_number_of
 wide-range text z h =
     let w : ℤ = signed_digits_value 10 text in
     let t = if-some (is_wide w && bytes_eq (signed_decimal w) text) w z h in
-    subst (FitsSigned w64) t.1 (wide-test w (and_parts (is_wide w) (bytes_eq (signed_decimal w) text) t.0).0)
+    subst (FitsSigned w64) t.1 (wide-fits w (and_parts (is_wide w) (bytes_eq (signed_decimal w) text) t.0).0)
 
 between-test : (least most z : ℤ) → int_le least z ≡ true → int_le z most ≡ true → (least ≤ℤ z) × (z ≤ℤ most)
 between-test least most z low high = (omega (arith, ints, low), omega (arith, ints, high))
@@ -56,23 +53,6 @@ unsigned-range least most text n h =
     let r = number-range (pos least) (pos most) text z.0 z.1 in
     let is : unsigned_abs z.0 ≡ n = cc z.2 in
     subst (λ x. (least ≤ x) × (x ≤ most)) is (size-between least most z.0 r.0 r.1)
-
--- a hexadecimal digit
-digit-range : (b w : ℕ) → hex_digit_of b ≡ Some w → w < 16
-unfolding hex_digit_of
-digit-range b w h = elim (cases_Bool (nat_le 48 b && nat_le b 57)) [
-  | inl digit ↦
-      let e : Some (b - 48) ≡ Some w = rw digit at h in
-      let is : b - 48 ≡ w = cc e in
-      let most : b ≤ 57 = leb-true b 57 (and_parts (nat_le 48 b) (nat_le b 57) digit).1 in
-      omega (arith, is, most)
-  | inr none ↦
-      let e : cond (nat_le 97 b && nat_le b 102) (Some (b - 87)) None ≡ Some w = rw none at h in
-      let t = if-some (nat_le 97 b && nat_le b 102) (b - 87) w e in
-      let most : b ≤ 102 = leb-true b 102 (and_parts (nat_le 97 b) (nat_le b 102) t.0).1 in
-      let is : b - 87 ≡ w = t.1 in
-      omega (arith, is, most)
-]
 
 digits-fit : (w x y z : ℕ) → w < 16 → x < 16 → y < 16 → z < 16 → w * 4096 + x * 256 + y * 16 + z < 65536
 digits-fit w x y z a b c d = omega arith

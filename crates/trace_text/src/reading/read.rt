@@ -14,6 +14,7 @@ ghost use Rattle.trace_text.specs.TraceState.{TraceState};
 
 use crate::command::Command;
 use crate::found::FoundCycle;
+use crate::found_list::FoundList;
 use crate::reading::kind::{Kind, Stage, is_stage};
 use crate::reading::reader::TraceReader;
 use crate::reading::rule::{NOT_TWELVE, TOO_SHORT};
@@ -67,7 +68,7 @@ fn opened(alloc: Global) -> Result<TraceReader, TextFault>
         machine,
         known: KnownBlocks::new(alloc),
         cycle: FoundCycle::new(alloc, 0),
-        found: Vec::new(alloc),
+        found: FoundList::new(alloc),
         drives: Vec::new(alloc),
     })
 }

@@ -11,6 +11,7 @@ ghost use Rattle.trace_text.specs.declared.found.FoundEntry.{FoundEntry};
 use crate::command::Command;
 use crate::drive_end::DriveEndRow;
 use crate::found::{FoundCycle, FoundEntry};
+use crate::found_list::FoundList;
 use crate::reading::events::{begun, call_of, cycle_of, end_of};
 use crate::reading::head::{command_of, is_header, version_of};
 use crate::reading::item::{set_room, whole};
@@ -35,7 +36,7 @@ pub struct TraceReader {
     pub(crate) machine: Builder,
     pub(crate) known: KnownBlocks,
     pub(crate) cycle: FoundCycle,
-    pub(crate) found: Vec<FoundEntry>,
+    pub(crate) found: FoundList,
     pub(crate) drives: Vec<DriveEndRow>,
 }
 
@@ -51,14 +52,13 @@ impl Model for TraceReader {
       command = r.command;
       setup = r.machine;
       cycle = r.cycle;
-      found = r.found.items;
+      found = r.found;
       drives = r.drives.items;
     } };
 }
 
 impl TraceReader {
-    /// Takes the twelve fields of a record. Where a rule is broken or memory runs out, the reader
-    /// is given up.
+    /// Takes the twelve fields of a record. Where it answers an error, the reader is given up.
     #[tactic(auto, unfolding(crate::specs::reading::Reading::twelve_meaning))]
     pub fn read_fields(&mut self, fields: &[&[u8]]) -> Result<(), LineFault>
         ensures { Takes (spec.twelve_meaning self.old (texts fields.now)) self.new result }

@@ -11,7 +11,7 @@ returns-clause-made c = λ m is done.
     let back = c.deref_mut.ensures.writes_back in
     let kept = c.put.ensures in
     let same : c.deref_mut.result.now ≡ m = cc in
-    let there : held c.put.new.motion ≡ Some c.make-answer.new.machine = cc in
+    let there : held c.put.new.motion ≡ Some c.make_trace-answer.new.machine = cc in
     subst (λ x. MakesTrace x c.args.answers.now (held c.put.new.motion)) same
     (subst (λ o. MakesTrace c.deref_mut.result.now c.args.answers.now o) (sym there)
-    (c.make-answer.ensures.made done))
+    (c.make_trace-answer.ensures.made done))

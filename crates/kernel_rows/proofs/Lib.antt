@@ -1,1 +1,0 @@
--- The node of the crate's proofs.

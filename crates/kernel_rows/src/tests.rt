@@ -1,6 +1,0 @@
-mod answers;
-mod history;
-mod machine;
-mod play;
-mod traces;
-mod turns;

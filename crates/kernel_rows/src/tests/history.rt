@@ -1,5 +1,0 @@
-// Configurations, their faults, and histories.
-
-mod edges;
-mod entries;
-mod items;

@@ -1,0 +1,2 @@
+-- what the kernel's methods keep: Pasts
+pub mod Pasts

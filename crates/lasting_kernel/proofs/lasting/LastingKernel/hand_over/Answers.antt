@@ -1,0 +1,16 @@
+-- All entries so far are the past of the kernel that goes on.
+use Rattle.std.proofs.Common.{◌≡◌, ◌∙◌, ap, subst, sym}
+use Rattle.lasting_kernel.specs.Lasting.{HasPast, LastingState, whole_of}
+use Rattle.lasting_kernel.specs.declared.past.Past.{Past}
+use Rattle.lasting_kernel.proofs.Pasts.{hand-over-has, legal-behind, machine-behind}
+use Rattle.lasting_kernel.proofs.lasting.LastingKernel.hand_over.Goals as goal
+
+pub invariant_of-self : goal.invariant_of-self
+invariant_of-self c =
+    let k : LastingState = record { kernel = c.self.inside.roll.kernel; past = c.self.inside.roll.past.entries } in
+    let s = k.kernel.config in
+    let has : HasPast k = c.self.invariant in
+    let past = c.banks_keep_their_laws.ensures.past s k.past k.kernel.history has.past (legal-behind k has c.history.ensures.legal) in
+    let machine = machine-behind k has (c.banks_keep_their_laws.ensures.machine s k.past k.kernel.history) in
+    let joined : c.replace.new.dest.entries ≡ whole_of k = ap (λ (p : Past). p.entries) c.replace.ensures.after ∙ c.joined-joined.ensures in
+    subst HasPast (λ i. record { kernel = sym c.hand_over.ensures.kernel i; past = sym joined i }) (hand-over-has k has past machine)

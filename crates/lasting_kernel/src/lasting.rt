@@ -1,0 +1,142 @@
+// The kernel that runs for as long as one likes.
+
+ghost use Rattle.std.specs.Prelude.{◌≡◌, ◌<◌, ◌+◌, IfOk, length, map};
+ghost use Rattle.axis_state.specs.declared.definition.AxisRow.{AxisRow};
+ghost use Rattle.lasting_kernel.specs.Lasting.{HasPast, after_hand_over, opened, whole_of, with_entry};
+ghost use Rattle.motion_history.specs.Calls.{IsCall};
+ghost use Rattle.motion_history.specs.Entries.{call, cycle, cycles_of, end_of};
+ghost use Rattle.motion_history.specs.Setup.{IsSetup};
+ghost use Rattle.motion_kernel.specs.Banks.{IsEarly, machine_now};
+ghost use Rattle.motion_kernel.specs.calls.Calls.{reply_of};
+ghost use Rattle.motion_kernel.specs.cycles.Cycles.{cycled};
+ghost use Rattle.motion_kernel.specs.Histories.{IsPast, machine_from};
+ghost use Rattle.motion_kernel.specs.kept.Machine.{AreWhole};
+ghost use Rattle.motion_kernel.specs.Machine.{machine_at_opening};
+ghost use Rattle.motion_laws.specs.Laws.{KeepsLaws};
+
+use crate::past::Past;
+use crate::roll::Roll;
+use motion_history::{Config, DriveIn, DriveOut, Inputs, OutOfMemory, Outputs};
+use motion_kernel::BankedKernel;
+use motion_laws::banks_keep_their_laws;
+use std::alloc::Global;
+use std::marker::Model;
+use std::mem::replace;
+
+/// A kernel that runs for as long as one likes: it holds the last bank of its history, and hands it
+/// over when that is full. Contracts see it as a kernel with all that was before its bank, which is
+/// the machine's from opening on and leads to the machine with which the bank begins.
+#[derive(Drop)]
+pub struct LastingKernel {
+    roll: Roll,
+}
+
+impl Model for LastingKernel {
+    ghost use Rattle.lasting_kernel.specs.Lasting.{HasPast, LastingState};
+
+    ghost Value = { LastingState };
+
+    ghost view = { λ k. record { kernel = k.roll.kernel; past = k.roll.past.entries } };
+
+    ghost invariant = { λ k.
+        HasPast (record { kernel = k.roll.kernel; past = k.roll.past.entries }) };
+}
+
+impl LastingKernel {
+    /// A kernel at rest, with the whole room of its bank reserved.
+    pub fn open(alloc: Global, config: Config) -> Result<LastingKernel, OutOfMemory>
+        ensures { IfOk result (λ k. k ≡ opened config) }
+    {
+        let kernel = BankedKernel::open(alloc, config)?;
+        let past = Past::none(&kernel);
+        Ok(LastingKernel {
+            roll: Roll { past, kernel },
+        })
+    }
+
+    /// Touches the memory of the bank's whole room, so that no call and no cycle pays for its
+    /// pages.
+    pub fn touch(&mut self)
+        ensures { self.new ≡ self.old }
+    {
+        self.roll.kernel.touch();
+    }
+
+    /// Calls a block, and answers its outputs.
+    pub fn call(&mut self, instance: u16, inputs: &Inputs) -> Outputs
+        requires room { length self.old.kernel.history < self.old.kernel.config.entries }
+        requires call { IsCall self.old.kernel.config instance inputs.now }
+        ensures reply { result ≡ reply_of self.old.kernel.config (machine_now self.old.kernel)
+            instance inputs.now }
+        ensures after { self.new ≡ with_entry self.old (call instance inputs.now result) }
+    {
+        self.roll.kernel.call(instance, inputs)
+    }
+
+    /// Goes through a cycle with the drives' answers, and gives each drive its controlword, mode
+    /// and target.
+    pub fn cycle(&mut self, ins: &[DriveIn], outs: &mut [DriveOut])
+        requires room { length self.old.kernel.history < self.old.kernel.config.entries }
+        requires cycle { cycles_of self.old.kernel.history < self.old.kernel.config.cycles }
+        requires ins { length ins.now ≡ length self.old.kernel.config.axes }
+        requires outs { length outs.old ≡ length self.old.kernel.config.axes }
+        ensures outs { outs.new ≡ map (λ (r : AxisRow). r.output) (cycled
+            self.old.kernel.config (machine_now self.old.kernel) ins.now).axes }
+        ensures after { self.new ≡ with_entry self.old (cycle
+            (cycles_of self.old.kernel.history + 1)
+            (cycled self.old.kernel.config (machine_now self.old.kernel) ins.now).axes
+            (cycled self.old.kernel.config (machine_now self.old.kernel) ins.now).groups) }
+    {
+        self.roll.kernel.cycle(ins, outs);
+    }
+
+    /// Ends a task. A second end of a task makes an entry and changes nothing else.
+    pub fn end(&mut self, task: u8)
+        requires room { length self.old.kernel.history < self.old.kernel.config.entries }
+        requires task { task < length self.old.kernel.config.tasks }
+        ensures { self.new ≡ with_entry self.old (end_of task) }
+    {
+        self.roll.kernel.end(task);
+    }
+
+    /// The kernel with its bank, to look at: its configuration, its history and the room that is
+    /// left, what was before the bank and the machine with which that begins.
+    pub fn bank(&self) -> &BankedKernel
+        ensures { result.now ≡ self.now.kernel }
+    {
+        &self.roll.kernel
+    }
+
+    /// Hands its bank over to another kernel of the same configuration, which then is what this one
+    /// was, and goes on with an empty one. It takes no memory, and as long whatever the banks hold.
+    /// What was before must be early ([`motion_kernel::Before::is_early`]).
+    pub fn hand_over(&mut self, other: &mut LastingKernel)
+        requires early { IsEarly self.old.kernel.before }
+        requires same { other.old.kernel.config ≡ self.old.kernel.config }
+        ensures other { other.new ≡ self.old }
+        ensures kernel { self.new ≡ after_hand_over self.old }
+    {
+        // law: the bank behind the entries before it is one past, since it is legal
+        banks_keep_their_laws();
+        let _ = self.roll.kernel.history();
+        let joined = Past::joined(&self.roll);
+        self.roll.kernel.hand_over(&mut other.roll.kernel);
+        other.roll.past = replace(&mut self.roll.past, joined);
+    }
+
+    /// All entries so far, from opening on, keep the laws of motion, and the kernel is the machine
+    /// to which they lead. It does nothing.
+    pub fn keeps_laws(&self)
+        ensures past { HasPast self.now }
+        ensures whole_past { IsPast self.now.kernel.config (whole_of self.now) }
+        ensures machine { machine_now self.now.kernel ≡ machine_from self.now.kernel.config
+            (machine_at_opening self.now.kernel.config) (whole_of self.now) }
+        ensures laws { KeepsLaws self.now.kernel.config (whole_of self.now) }
+        ensures setup { IsSetup self.now.kernel.config }
+        ensures whole { AreWhole self.now.kernel.config }
+    {
+        // law: banks that follow each other are one past
+        banks_keep_their_laws();
+        let _ = self.roll.kernel.history();
+    }
+}

@@ -1,0 +1,107 @@
+// The kernel that begins where a piece does.
+
+ghost use Rattle.std.specs.Prelude.{◌≡◌, ◌↔◌, IfOk, IsTrue};
+ghost use Rattle.motion_kernel.specs.Banks.{at_opening};
+ghost use Rattle.motion_kernel.specs.Machine.{machine_at_opening};
+ghost use Rattle.motion_kernel.specs.kept.Machine.{IsMachineKept, IsSized};
+ghost use Rattle.piece_check.specs.Begun.{Begins, IsFirstOrLater, MayBegin};
+
+use crate::filling::{set_axes, set_groups, set_instances, set_waiting};
+use machine_tests::is_machine_kept;
+use motion_history::Config;
+use motion_kernel::{BankedKernel, Before, Start};
+use piece_text::{MachineText, Piece, head_text};
+use std::alloc::Global;
+use trace_check::OutOfMemory;
+
+/// The kernel that begins where a piece does, exactly where a machine of its configuration may
+/// begin so. It takes the memory of a kernel and of a second bank, and where the piece is the first
+/// that of two heads.
+pub fn kernel_of(alloc: Global, piece: &Piece) -> Result<Option<BankedKernel>, OutOfMemory>
+    ensures { IfOk result (Begins piece.now) }
+{
+    let config = piece.trace.config().copy(alloc)?;
+    let mut kernel = BankedKernel::open(alloc, config)?;
+    let mut bank = kernel.spare(alloc)?;
+    if may_begin(alloc, &kernel, piece, &mut bank.start)? {
+        bank.before = piece.before;
+        kernel.resume(bank);
+        Ok(Some(kernel))
+    } else {
+        Ok(None)
+    }
+}
+
+// Makes of a machine at opening that with which a piece begins, and tells whether a machine may
+// begin so.
+fn may_begin(
+    alloc: Global,
+    opened: &BankedKernel,
+    piece: &Piece,
+    start: &mut Start,
+) -> Result<bool, OutOfMemory>
+    requires opened { opened.now ≡ at_opening piece.now.trace.config }
+    requires start { start.old ≡ machine_at_opening piece.now.trace.config }
+    ensures told { IfOk result (λ may. IsTrue may ↔ MayBegin piece.now) }
+    ensures made { IfOk result (λ may. IsTrue may → start.new ≡ piece.now.machine) }
+{
+    if !piece.before.is_early() || !begin(opened.config(), &piece.machine, start) {
+        return Ok(false);
+    }
+    is_first_or_later(alloc, opened, &piece.before, start)
+}
+
+// Whether something was before a machine, or it has the head of the machine at opening, as which a
+// kernel begins.
+fn is_first_or_later(
+    alloc: Global,
+    opened: &BankedKernel,
+    before: &Before,
+    start: &Start,
+) -> Result<bool, OutOfMemory>
+    requires opened { opened.now ≡ at_opening opened.now.config }
+    requires sized { IsSized opened.now.config start.now }
+    ensures { IfOk result (λ is. IsTrue is ↔
+        IsFirstOrLater opened.now.config before.now start.now) }
+{
+    if before.banks != 0 {
+        return Ok(true);
+    }
+    let own = head_text(alloc, opened.config(), before, start)?;
+    let first = head_text(alloc, opened.config(), &opened.before(), opened.start())?;
+    Ok(own.as_slice() == first.as_slice())
+}
+
+// Makes of a machine at opening one that was read, and tells whether it is one that always holds.
+fn begin(config: &Config, machine: &MachineText, start: &mut Start) -> bool
+    requires { start.old ≡ machine_at_opening config.now }
+    ensures kept { IsTrue result ↔ IsMachineKept config.now machine.now }
+    ensures made { IsTrue result → start.new ≡ machine.now }
+{
+    is_sized(config, machine) && fill(config, machine, start) && is_machine_kept(config, start)
+}
+
+// Whether a machine that was read has the sizes of a configuration.
+fn is_sized(config: &Config, machine: &MachineText) -> bool
+    ensures { IsTrue result ↔ IsSized config.now machine.now }
+{
+    let lists = config.axes().len() + config.groups().len();
+    machine.axes.len() == config.axes().len()
+        && machine.groups.len() == config.groups().len()
+        && machine.waiting.lists() as usize == lists
+        && machine.instances.len() == config.blocks().len()
+}
+
+// Makes of a machine at opening one that was read, unless one of its axes is none that always
+// holds.
+fn fill(config: &Config, machine: &MachineText, start: &mut Start) -> bool
+    requires opened { start.old ≡ machine_at_opening config.now }
+    requires sized { IsSized config.now machine.now }
+    ensures made { IsTrue result → start.new ≡ machine.now }
+    ensures axes { IsMachineKept config.now machine.now → IsTrue result }
+{
+    set_groups(start, machine.groups.as_slice());
+    set_waiting(start, &machine.waiting);
+    set_instances(start, machine.instances.as_slice());
+    set_axes(start, machine.axes.as_slice())
+}

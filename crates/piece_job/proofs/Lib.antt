@@ -1,0 +1,4 @@
+pub mod CauseLaws
+pub mod EndLaws
+pub mod PieceBegins
+pub mod TraceBegins

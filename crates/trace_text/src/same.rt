@@ -1,0 +1,13 @@
+// Whether inputs of calls are the same.
+
+ghost use Rattle.std.specs.Prelude.{◌≡◌, IsTrue};
+
+use fb_outputs::Inputs;
+
+/// Whether inputs are others.
+pub fn are_same_inputs(inputs: &Inputs, others: &Inputs) -> bool
+    ensures same { IsTrue result → inputs.now ≡ others.now }
+    ensures exact { inputs.now ≡ others.now → IsTrue result }
+{
+    *inputs == *others
+}
