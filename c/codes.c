@@ -194,6 +194,8 @@ static void swaps(void)
     want("m closed", motion_swap(&spare, &m), MOTION_CLOSED);
     want("open another", open_text(&spare, first, &why), MOTION_OK);
     want("another machine", motion_swap(&m, &spare), MOTION_OTHER);
+    want("no handle", motion_swap_tested(NULL, &spare), MOTION_NULL);
+    want("one handle", motion_swap_tested(&m, &m), MOTION_OTHER);
     want("close another", motion_close(&spare), MOTION_OK);
     want("open spare", open_text(&spare, small, &why), MOTION_OK);
     want("cycle 1", motion_cycle(&m, enabled, 2, given, 2), MOTION_OK);

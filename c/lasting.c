@@ -14,7 +14,8 @@
 #include <string.h>
 
 /* The room of a bank, and how many entries a cycle makes at most: a Power and a move of each axis, and
- * the cycle. A real bank is as long as the writer may be late: up to 200,000 cycles. */
+ * the cycle. A real bank is as long as the writer may be late: up to 200,000
+ * cycles or 1,000,000 entries, whichever comes first; `motion check` takes a piece of 256 MiB at most. */
 enum { AXES = 16, BANK_CYCLES = 4000, BANK_ENTRIES = 80000, MOST_A_CYCLE = 2 * AXES + 1 };
 
 /* What the two threads share. It is the cycle thread's behind a wait for `empty`, and the writer's behind
@@ -155,16 +156,16 @@ static uint32_t make_room(loop *l)
 
 static uint32_t run_cycles(loop *l, long cycles)
 {
-    uint32_t code = MOTION_OK;
+    uint32_t code = MOTION_OK, handed;
     long cycle;
     for (cycle = 0; code == MOTION_OK && cycle < cycles; cycle++) {
         code = make_room(l);
         if (code == MOTION_OK) code = run_cycle(l);
     }
-    /* the last bank is given out as the others are */
+    /* the last bank is given out as the others are, also behind a call or a cycle that wasn't made */
     wait_for(&l->with->empty);
-    if (code != MOTION_OK) l->with->code = code;
-    return hand_over(l, 1);
+    handed = hand_over(l, 1);
+    return code != MOTION_OK ? code : handed;
 }
 
 /* The text of the machine: 16 axes, each with a Power and a MoveAbsolute. */

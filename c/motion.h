@@ -66,10 +66,10 @@ enum motion_code {
     MOTION_LENGTH = 6,    /* an array has more or fewer items than there are axes */
     MOTION_RANGE = 7,     /* the inputs are none of the block's kind: see motion_call */
     MOTION_FULL = 8,      /* the bank has no room for an entry */
-    MOTION_OVER = 9,      /* the bank has no cycle left, or no more banks can be counted */
+    MOTION_OVER = 9,      /* the bank has no cycle left; of a swap: its counts are over */
     MOTION_NO_CYCLE = 10, /* no cycle was made in the bank yet */
     MOTION_NULL = 11,     /* a pointer is null: the inline functions alone */
-    MOTION_OTHER = 12,    /* the two handles aren't machines of one configuration */
+    MOTION_OTHER = 12,    /* the two handles aren't machines of one configuration; tested: or are one */
     MOTION_LATER = 13     /* earlier entries were given out by motion_swap: use motion_bank_text */
 };
 
@@ -263,8 +263,8 @@ uint32_t motion_group_look(motion *m, uint8_t group, motion_group_row *row);
  * write that first. Each keeps the trace that was made of it last.
  *
  * It takes no memory. It copies the machine, and compares the two configurations: a time that doesn't
- * grow with what the banks hold, so a loop calls it between two cycles. Nothing but the room limits how
- * often: 2^63 banks, entries and cycles are counted.
+ * grow with what the banks hold, so a loop calls it between two cycles. Nothing limits how often but
+ * the counts of banks, entries and cycles, which end at 2^63.
  *
  * `m` and `spare` are two handles, never one. One thread at a time uses each: behind the call the spare
  * one may go to a thread that writes, and comes back before the next swap.
@@ -407,6 +407,13 @@ static inline uint32_t motion_cycle_tested(motion *m, const motion_drive_in *in,
                                            motion_drive_out *out, size_t out_len)
 {
     return m && in && out ? motion_cycle(m, in, in_len, out, out_len) : (uint32_t)MOTION_NULL;
+}
+
+/* Of a swap also MOTION_OTHER where the two are one handle. */
+static inline uint32_t motion_swap_tested(motion *m, motion *spare)
+{
+    if (!m || !spare) return (uint32_t)MOTION_NULL;
+    return m != spare ? motion_swap(m, spare) : (uint32_t)MOTION_OTHER;
 }
 
 #ifdef __cplusplus
