@@ -22,6 +22,12 @@ static const char first[] =
     "task main\n"
     "block M main MoveAbsolute X";
 
+static const char config[] =
+    "cycle_us = 1000\ncycles = 20\nentries = 40\n"
+    "[[axis]]\nname = \"X\"\nlo = 0\nhi = 50\nvmax = 100\namax = 1000\nincrement = 1\nstart = 0\n";
+
+static const char program[] = "motion-program 1\ntask main\nblock M MoveAbsolute X\n";
+
 static const motion_inputs nothing = { { 0, 0, 0, 0, 0, 0 }, 0, 0, 0, 0, 0, 0, 0, 0, 0, 0 };
 static const motion_drive_in enabled[2] = { { 0, 0x0037, 8 }, { 0, 0x0037, 8 } };
 static int faults;
@@ -36,6 +42,12 @@ static void want(const char *what, uint64_t found, uint64_t wanted)
 static uint32_t open_text(motion *m, const char *text, motion_refusal *why)
 {
     return motion_open(m, (const uint8_t *)text, strlen(text), why);
+}
+
+static uint32_t open_config(motion *m, const char *text, const char *blocks, motion_refusal *why)
+{
+    return motion_open_config(m, (const uint8_t *)text, strlen(text), (const uint8_t *)blocks,
+                              strlen(blocks), why);
 }
 
 static uint32_t name_of(uint32_t (*find)(motion *, const uint8_t *, size_t), motion *m, const char *name)
@@ -87,6 +99,56 @@ static void opening(void)
     want("still first", motion_axes(&m), 1);
     want("close", motion_close(&m), MOTION_OK);
     want("closed", motion_close(&m), MOTION_CLOSED);
+}
+
+/* Of two texts the one that is refused is told, at its place, by its rule. */
+static void configurations(void)
+{
+    motion m = MOTION_NONE;
+    motion_refusal why = { 9, 0, 0 };
+    want("no configuration", open_config(&m, "", program, &why), MOTION_REFUSED);
+    want("its rule", why.line * 100000 + why.letter * 100 + why.number, 'C' * 100 + 2);
+    want("no program", open_config(&m, config, "motion-program 1\ntask main\nblock M Fly X\n", &why),
+         MOTION_REFUSED);
+    want("its line", why.line * 100000 + why.letter * 100, 300000 + 'P' * 100);
+    want("both", open_config(&m, config, program, &why), MOTION_OK);
+    want("open", open_config(&m, "", "", &why), MOTION_OPEN);
+    want("block M", name_of(motion_block, &m, "M"), 0);
+    want("close", motion_close(&m), MOTION_OK);
+}
+
+/* A trace in parts: none before it is made, none behind its end, and the same however it is cut. */
+static void parts(void)
+{
+    static uint8_t whole[4096], cut[4096];
+    motion m = MOTION_NONE;
+    motion_refusal why;
+    uint64_t len, at;
+    want("open", open_text(&m, first, &why), MOTION_OK);
+    want("no trace", motion_trace_text(&m, 0, whole, sizeof whole), 0);
+    want("trace", motion_trace(&m, enabled, 1), MOTION_OK);
+    len = motion_trace_text(&m, 0, whole, sizeof whole);
+    want("some", len > 100 && len < sizeof whole, 1);
+    for (at = 0; at < len; at += 7)
+        want("part", motion_trace_text(&m, at, cut + at, 7), len - at < 7 ? len - at : 7);
+    want("the same", (uint64_t)memcmp(whole, cut, (size_t)len), 0);
+    want("at the end", motion_trace_text(&m, len, cut, 7), 0);
+    want("behind it", motion_trace_text(&m, UINT64_MAX, cut, 7), 0);
+    want("close", motion_close(&m), MOTION_OK);
+}
+
+/* The calls that test their pointers. */
+static void pointers(motion *m)
+{
+    motion_outputs out;
+    motion_drive_out given[2];
+    want("no handle", motion_call_tested(NULL, 0, &nothing, &out), MOTION_NULL);
+    want("no inputs", motion_call_tested(m, 0, NULL, &out), MOTION_NULL);
+    want("no outputs", motion_call_tested(m, 0, &nothing, NULL), MOTION_NULL);
+    want("no block", motion_call_tested(m, 9, &nothing, &out), MOTION_UNKNOWN);
+    want("no answers", motion_cycle_tested(m, NULL, 2, given, 2), MOTION_NULL);
+    want("no room", motion_cycle_tested(m, enabled, 2, NULL, 2), MOTION_NULL);
+    want("one answer", motion_cycle_tested(m, enabled, 1, given, 2), MOTION_LENGTH);
 }
 
 static void names(motion *m)
@@ -221,9 +283,12 @@ int main(void)
     opening();
     want("open", open_text(&m, small, &why), MOTION_OK);
     names(&m);
+    pointers(&m);
     calls(&m);
     cycles(&m);
     want("close", motion_close(&m), MOTION_OK);
+    configurations();
+    parts();
     two_handles();
     swaps();
     return faults != 0;

@@ -1,6 +1,7 @@
-// What no clause says: that a second kernel really follows the first, up to the switch and no longer.
+// What no clause says: that a second kernel really follows the first, up to the switch and no longer,
+// and that an event is taken though nobody looked at both ends of the ring.
 
-use crate::PrimaryKernel;
+use crate::{Fed, FedEvent, PrimaryKernel, open_standby};
 use command_pool::BlockKind;
 use motion_history::{Builder, Config, ConfigFault, Limits};
 use std::alloc::Global;
@@ -39,6 +40,17 @@ fn a_standby_follows_up_to_the_switch_and_no_longer(rt: HostRuntime) -> Result<(
         assert_eq!(rt; is_followed, at_opening, "{events:?}");
         assert!(rt; makes_end(&mut primary, 0));
         assert!(rt; primary.follower.is_none(), "{events:?}");
+    }
+    Ok(())
+}
+
+#[test]
+fn an_event_is_taken_though_nobody_looked(rt: HostRuntime) -> Result<(), Fail> {
+    let (mut feed, mut standby) = open_standby(rt.alloc(), machine(rt.alloc())?, 1)?;
+    for _round in 0..3 {
+        assert!(rt; feed.push(FedEvent::End { task: 0 }).is_ok());
+        assert_eq!(rt; standby.take(), Fed::Applied);
+        assert_eq!(rt; standby.take(), Fed::Empty);
     }
     Ok(())
 }
