@@ -33,10 +33,10 @@ by_replay p k r is = subst (λ (x : BankedState). IsReplayedFrom x.start p.trace
 
 -- a piece that was found legal
 pub found_legal : (p : Piece) (k : BankedState) (n : ℕ) (head : List ℕ) → MayBegin p → IsReplayedFrom p.machine p.trace (replay.Legal k) → n ≡ length (entries_of p.trace) →
-    IsHeadBehind (record k { before = p.before }) head → IsFoundLegal p n head
-found_legal p k n head may told count behind =
+    k.before ≡ p.before → IsHeadBehind k head → IsFoundLegal p n head
+found_legal p k n head may told count before behind =
     let is = told.1 in
-    let same : (record k { before = p.before }) ≡ ended p k.history = λ i. record { config = is.config i; before = p.before; start = is.start i; history = k.history } in
+    let same : k ≡ ended p k.history = λ i. record { config = is.config i; before = before i; start = is.start i; history = k.history } in
     record {
       count = count;
       piece = record { begins = may; trace = record { history = k.history; legal = is.legal; is = is.is } };

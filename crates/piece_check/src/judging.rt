@@ -46,7 +46,7 @@ fn replay_piece(alloc: Global, piece: &Piece, kernel: BankedKernel) -> Result<Ve
     match replay_from(alloc, &piece.trace, kernel)? {
         Replayed::Legal(kernel) => Ok(Verdict::Legal {
             entries: piece.trace.entries(),
-            next: head_behind(alloc, &piece.before, kernel)?,
+            next: head_behind(alloc, kernel)?,
         }),
         Replayed::IllegalAt(difference) => Ok(Verdict::IllegalAt(difference)),
     }

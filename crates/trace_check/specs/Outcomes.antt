@@ -3,6 +3,7 @@ use Rattle.std.specs.Prelude.{◌≡◌, Some, None, Result, Ok, Err}
 use Rattle.motion_kernel.specs.Banks.{BankedState}
 use Rattle.motion_kernel.specs.Histories.{IsLegalFrom}
 use Rattle.motion_kernel.specs.Machine.{Machine, machine_at_opening}
+use Rattle.motion_kernel.specs.declared.bank.Before.{Before}
 use Rattle.trace_text.specs.TraceState.{TraceState}
 use Rattle.trace_check.specs.Legal.{IsLegalTraceFrom, IsTraceOf}
 use Rattle.trace_check.specs.Progress.{difference_from}
@@ -25,6 +26,11 @@ abbrev pub IsReplayedFrom : Machine → TraceState → Replayed → Type 0
 IsReplayedFrom m t (replay.Legal kernel) = (difference_from m t ≡ None) × IsKernelFrom m t kernel
 IsReplayedFrom m t (replay.IllegalAt d) =
     (difference_from m t ≡ Some d) × ¬ IsLegalTraceFrom m t
+
+-- and what was before the kernel's bank is this still
+abbrev pub IsBehind : Before → Replayed → Type 0
+IsBehind b (replay.Legal kernel) = kernel.before ≡ b
+IsBehind b (replay.IllegalAt d) = Unit {0}
 
 -- a trace was replayed from opening on
 abbrev pub IsReplayed : TraceState → Replayed → Type 0

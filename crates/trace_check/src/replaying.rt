@@ -7,7 +7,7 @@ ghost use Rattle.motion_history.specs.declared.refused.TraceVersion.{TraceVersio
 ghost use Rattle.motion_kernel.specs.Banks.{at_opening};
 ghost use Rattle.trace_text.specs.TraceKept.{IsTraceKept};
 ghost use Rattle.trace_check.specs.Progress.{EntriesReplay};
-ghost use Rattle.trace_check.specs.Outcomes.{IsReplayed, IsReplayedFrom, Judges};
+ghost use Rattle.trace_check.specs.Outcomes.{IsBehind, IsReplayed, IsReplayedFrom, Judges};
 
 use crate::difference::{Difference, Stop};
 use crate::drives::check_drives;
@@ -45,7 +45,8 @@ fn replay_entries(alloc: Global, trace: &Trace, kernel: &mut BankedKernel) -> Re
     requires kept { IsTraceKept trace.now }
     requires config { kernel.old.config ≡ trace.now.config }
     requires empty { kernel.old.history ≡ [] }
-    ensures { EntriesReplay trace.now kernel.old.start kernel.new result }
+    ensures replay { EntriesReplay trace.now kernel.old.start kernel.new result }
+    ensures before { IfOk result (λ place. kernel.new.before ≡ kernel.old.before) }
 {
     let mut place = first_place(trace.config());
     for entry in 0..trace.entries() {
@@ -61,7 +62,8 @@ fn replay_entries(alloc: Global, trace: &Trace, kernel: &mut BankedKernel) -> Re
 fn kernel_of(alloc: Global, trace: &Trace, mut kernel: BankedKernel) -> Result<BankedKernel, Stop>
     requires config { kernel.config ≡ trace.now.config }
     requires empty { kernel.history ≡ [] }
-    ensures { Judges kernel.start trace.now result }
+    ensures judges { Judges kernel.start trace.now result }
+    ensures before { IfOk result (λ k. k.before ≡ kernel.before) }
 {
     // Its entries are as they are read.
     let _ = trace.entries();
@@ -85,7 +87,8 @@ pub fn replay_from(
 ) -> Result<Replayed, OutOfMemory>
     requires config { kernel.config ≡ trace.now.config }
     requires empty { kernel.history ≡ [] }
-    ensures { IfOk result (IsReplayedFrom kernel.start trace.now) }
+    ensures replay { IfOk result (IsReplayedFrom kernel.start trace.now) }
+    ensures before { IfOk result (IsBehind kernel.before) }
 {
     match kernel_of(alloc, trace, kernel) {
         Ok(kernel) => Ok(Replayed::Legal(kernel)),

@@ -1,16 +1,20 @@
 -- The verdict by the replay.
+use Rattle.std.proofs.Common.{◌∙◌, ap}
+use Rattle.motion_kernel.specs.Banks.{BankedState}
 use Rattle.trace_check.specs.declared.replaying.Replayed.TheVariants as replay
 use Rattle.piece_check.proofs.Heads.{by_replay, found_legal}
 use Rattle.piece_check.proofs.judging.replay_piece.Goals as goal
 
 pub returns-in_ok-head_behind-in-Legal : goal.returns-in_ok-head_behind-in-Legal
 returns-in_ok-head_behind-in-Legal c =
-    let told = rw c.in-Legal.is at c.in_ok-kernel.ensures in
+    let told = rw c.in-Legal.is at c.in_ok-kernel.ensures.replay in
+    let before = rw c.in-Legal.is at c.in_ok-kernel.ensures.before in
     let by = by_replay c.args.piece.now c.args.kernel (replay.Legal c.in-Legal.kernel) c.requires.begun told in
-    found_legal c.args.piece.now c.in-Legal.kernel c.entries.result _ c.requires.may by c.entries.ensures.count c.in_ok-head_behind-in-Legal.ensures
+    found_legal c.args.piece.now c.in-Legal.kernel c.entries.result _ c.requires.may by c.entries.ensures.count
+    (before ∙ ap (λ (k : BankedState). k.before) c.requires.begun) c.in_ok-head_behind-in-Legal.ensures
 
 pub returns-in-IllegalAt : goal.returns-in-IllegalAt
 returns-in-IllegalAt c =
-    let told = rw c.in-IllegalAt.is at c.in_ok-kernel.ensures in
+    let told = rw c.in-IllegalAt.is at c.in_ok-kernel.ensures.replay in
     let by = by_replay c.args.piece.now c.args.kernel (replay.IllegalAt c.in-IllegalAt.difference) c.requires.begun told in
     (c.requires.may, by.0, by.1)
