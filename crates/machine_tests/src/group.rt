@@ -1,4 +1,5 @@
-// Whether a group with its path and the commands that wait is one that always holds.
+// Whether a group with its path and the commands that wait is one of which what always holds is
+// true.
 
 ghost use Rattle.std.specs.Prelude.{◌≡◌, ◌↔◌, ◌⊎◌, IsTrue, ◌<◌, ◌≤◌, [], length, slice_get, Some};
 ghost use Rattle.command_pool.specs.Waiting.{queue_of};

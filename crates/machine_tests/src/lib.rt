@@ -1,7 +1,7 @@
-//! Whether an axis, and a whole machine, that is described by values is one that always holds, so
-//! that a kernel can go on from it. Each test is exact: it says yes of these and of no others. It
-//! stands on `motion_kernel`, whose definitions say what always holds. Begin at [`is_axis_kept`]
-//! and [`is_machine_kept`].
+//! Whether an axis, and a whole machine, that is described by values is one of which what always
+//! holds is true, so that a kernel can go on from it. Each test is exact: it says yes of these and
+//! of no others. It stands on `motion_kernel`, whose definitions say what always holds. Begin at
+//! [`is_axis_kept`] and [`is_machine_kept`].
 #![tactic(auto)]
 
 mod axis;

@@ -72,7 +72,8 @@ fn is_first_or_later(
     Ok(own.as_slice() == first.as_slice())
 }
 
-// Makes of a machine at opening one that was read, and tells whether it is one that always holds.
+// Makes of a machine at opening one that was read, and tells whether it is one of which what always
+// holds is true.
 fn begin(config: &Config, machine: &MachineText, start: &mut Start) -> bool
     requires { start.old ≡ machine_at_opening config.now }
     ensures kept { IsTrue result ↔ IsMachineKept config.now machine.now }
@@ -92,8 +93,8 @@ fn is_sized(config: &Config, machine: &MachineText) -> bool
         && machine.instances.len() == config.blocks().len()
 }
 
-// Makes of a machine at opening one that was read, unless one of its axes is none that always
-// holds.
+// Makes of a machine at opening one that was read, unless of one of its axes what always
+// holds isn't true.
 fn fill(config: &Config, machine: &MachineText, start: &mut Start) -> bool
     requires opened { start.old ≡ machine_at_opening config.now }
     requires sized { IsSized config.now machine.now }

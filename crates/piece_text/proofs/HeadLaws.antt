@@ -2,7 +2,7 @@
 use Rattle.std.specs.Prelude.{◌≡◌, refl, ℕ, zero, suc, ◌+◌, ◌≤◌, Option, Some, None, Result, Ok, Err, OnOk, List, [], ◌∷◌, ◌++◌, length, map, take, slice_get}
 use Rattle.std.proofs.Common.{◌∙◌, add-one, ap, append_assoc, arith, sym}
 use Rattle.std.proofs.lemmas.Grind.{flat_map-append}
-use Rattle.std.proofs.lemmas.List.{append-nil, map-append}
+use Rattle.std.proofs.lemmas.List.{append-nil, map-append, take_all}
 use Rattle.command_pool.specs.declared.wanted.Wanted.{Wanted}
 use Rattle.piece_text.specs.Parts.{object_at, record_at}
 use Rattle.piece_text.specs.Piece.{lines_text, object_records}
@@ -67,6 +67,11 @@ waiting_put o a new queue i w e p q =
 pub all_put : (o a : List ℕ) (queue : List Wanted) (i : ℕ) → slice_get queue i ≡ None → a ≡ o ++ lines_text (map waiting_fields (take i queue)) →
     a ≡ o ++ lines_text (map waiting_fields queue)
 all_put o a queue i e p = rw (take-none queue i e) at p
+
+-- so are they where none is left
+pub none_left : (o a : List ℕ) (queue : List Wanted) (i : ℕ) → length queue ≤ i → a ≡ o ++ lines_text (map waiting_fields (take i queue)) →
+    a ≡ o ++ lines_text (map waiting_fields queue)
+none_left o a queue i l p = rw (take_all i queue l) at p
 
 objects-next : {X : Type 0} (f : ℕ → X → List (List ℕ)) (q : ℕ → List Wanted) (n : ℕ) (xs : List X) (i k : ℕ) → k ≡ n + i →
     object_records f q n (take (suc i) xs) ≡ object_records f q n (take i xs) ++ object_at f q k (slice_get xs i)

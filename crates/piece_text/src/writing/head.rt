@@ -44,13 +44,13 @@ fn push_list(out: &mut Vec<u8>, start: &Start, list: u8) -> Result<(), OutOfMemo
     ensures { OnOk result (out.new.items ≡ out.old.items ++
         lines_text (map waiting_fields (queue_of start.now.queues list))) }
 {
-    for place in 0..u8::MAX {
+    for place in 0..start.waiting_count(list) {
         match start.waiting(list, place) {
             Some(wanted) => push_waiting(out, wanted)?,
             None => return Ok(()),
         }
     }
-    Err(OutOfMemory)
+    Ok(())
 }
 
 // Puts an axis, if it is there, with the commands that wait for it.
