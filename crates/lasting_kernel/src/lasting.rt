@@ -24,7 +24,7 @@ use std::marker::Model;
 use std::mem::replace;
 
 /// A kernel that runs for as long as one likes: it holds the last bank of its history, and hands it
-/// over when that is full. Contracts see it as a kernel with all that was before its bank, which is
+/// over, full or not, where its caller says so. Contracts see it as a kernel with all that was before its bank, which is
 /// the machine's from opening on and leads to the machine with which the bank begins.
 #[derive(Drop)]
 pub struct LastingKernel {

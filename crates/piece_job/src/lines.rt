@@ -3,18 +3,15 @@
 ghost use Rattle.std.specs.Prelude.{◌≡◌, IfOk, ◌++◌};
 ghost use Rattle.trace_jobs.specs.Lines as spec;
 
-use itoa::Buffer;
 use std::alloc::{AllocError, Global};
+use trace_jobs::legal_line;
 
 /// The line that tells that a piece is legal, with so many entries, and the head with which the next
 /// must begin.
 pub fn legal_text(alloc: Global, entries: u64, next: &[u8]) -> Result<Vec<u8>, AllocError>
     ensures { IfOk result (λ text. text.items ≡ spec.legal_line entries ++ next.now) }
 {
-    let mut count = Buffer::new();
-    let mut text = Vec::from_slice(alloc, b"legal ")?;
-    text.extend_from_slice(count.format(entries).as_bytes())?;
-    text.extend_from_slice(b"\n")?;
+    let mut text = legal_line(alloc, entries)?;
     text.extend_from_slice(next)?;
     Ok(text)
 }

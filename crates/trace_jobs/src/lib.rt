@@ -7,6 +7,7 @@ mod lines;
 mod traces;
 
 pub use job_ends::Status;
+pub use lines::legal_line;
 pub use outside::Sink;
 pub use trace_check::Difference;
 pub use traces::{check_text, migrate_text, say_difference};
