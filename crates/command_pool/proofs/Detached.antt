@@ -1,13 +1,16 @@
--- Commands that lose their owner, in the records of all lists.
-use Rattle.std.proofs.Common.{add-one, ◌≡◌, refl, sym, ap, ◌∙◌, ℕ, zero, suc, ◌+◌, ◌-◌, ◌<◌, ◌≤◌, Option, Some, None, inl, inr, List, [], ◌∷◌, length, map, set, get_or, drop, arith}
+-- Commands that lose their owner, in the records of a list.
+use Rattle.std.proofs.Common.{◌≡◌, refl, sym, ap, ◌∙◌, ℕ, zero, suc, ◌+◌, ◌-◌, ◌<◌, ◌≤◌, Option, Some, None, inl, inr, List, [], ◌∷◌, length, map, set, get_or, arith}
+use Rattle.std.specs.Prelude.{Bool, true, false, nat_lt, if◌then◌else◌}
 use Rattle.std.proofs.lemmas.Bool.{cases_eq, eq-eqb, ne_eqb}
-use Rattle.std.proofs.lemmas.List.{drop_all, get_or-set_other}
+use Rattle.std.proofs.lemmas.List.{get_or-set_other}
 use Rattle.command_pool.specs.declared.linking.Queue.{Queue}
 use Rattle.command_pool.specs.declared.linking.Record.{Record}
 use Rattle.command_pool.specs.declared.wanted.Wanted.{Wanted}
-use Rattle.command_pool.specs.Layout.{chain, chains, command_at, commands_of, links_of, detached_in, detached_in_all, lists_of, places, queue_at, times, times_in_all, unused}
-use Rattle.command_pool.specs.Waiting.{detached, without}
-use Rattle.command_pool.proofs.Chains.{get_or-chains, length-chains}
+use Rattle.command_pool.specs.Kept.{IsLinked}
+use Rattle.command_pool.specs.Layout.{chain, chains, command_at, commands_of, links_of, detached_in, lists_of, places, queue_at, times, times_in_all, unused}
+use Rattle.command_pool.specs.Waiting.{detached, queue_of, without}
+use Rattle.command_pool.proofs.Chains.{get_or-chains}
+use Rattle.command_pool.proofs.Lists.{queue_of-lists_of}
 use Rattle.command_pool.proofs.Records.{command_read, commands_of-set, link_read, links_of-filled}
 use Rattle.command_pool.proofs.Times.{counted, not_first, not_later, times_first, times_in_all-get, times_other}
 
@@ -73,31 +76,6 @@ in-these owner k (p ∷ c) ws h =
           later ∙ ap (detached owner) (written-other ws p k (detached owner (command_at ws p)) ne)
     ]
 
--- those in the records of no list stay
-in-none : (owner k : ℕ) (cs : List (List ℕ)) (ws : List Wanted) → times_in_all k cs ≡ 0 →
-    command_at (detached_in_all owner cs ws) k ≡ command_at ws k
-unfolding detached_in_all times_in_all
-in-none owner k [] ws h = refl
-in-none owner k (c ∷ cs) ws h =
-    in-none owner k cs (detached_in owner c ws) (omega arith) ∙ in-other owner k c ws (omega arith)
-
--- those in the records of all lists have lost the owner
-in-all : (owner k : ℕ) (cs : List (List ℕ)) (ws : List Wanted) → 0 < times_in_all k cs →
-    command_at (detached_in_all owner cs ws) k ≡ detached owner (command_at ws k)
-unfolding detached_in_all times_in_all
-in-all owner k [] ws h = absurd (omega arith)
-in-all owner k (c ∷ cs) ws h =
-    let v = detached_in owner c ws in
-    elim (cases_eq (times_in_all k cs) 0) [
-      | inl none ↦ in-none owner k cs v none ∙ in-these owner k c ws (omega arith)
-      | inr some ↦
-          let later : command_at (detached_in_all owner cs v) k ≡ detached owner (command_at v k) = in-all owner k cs v (omega arith) in
-          elim (cases_eq (times k c) 0) [
-            | inl other ↦ later ∙ ap (detached owner) (in-other owner k c ws other)
-            | inr here ↦ later ∙ (ap (detached owner) (in-these owner k c ws (omega arith)) ∙ detached-twice owner (command_at ws k))
-          ]
-    ]
-
 -- the commands of a list whose records have lost the owner
 one-list : (owner : ℕ) (ws after : List Wanted) (c : List ℕ) →
     ((k : ℕ) → 0 < times k c → command_at after k ≡ detached owner (command_at ws k)) →
@@ -110,39 +88,59 @@ one-list owner ws after (p ∷ c) h =
     one-list owner ws after c (λ k some. h k (omega arith)) in
     rw (first, others) refl
 
-all-lists : (owner : ℕ) (ws after : List Wanted) (cs : List (List ℕ)) →
-    ((k : ℕ) → 0 < times_in_all k cs → command_at after k ≡ detached owner (command_at ws k)) →
-    map (map (command_at after)) cs ≡ map (map (detached owner)) (map (map (command_at ws)) cs)
-unfolding times_in_all
-all-lists owner ws after [] h = refl
-all-lists owner ws after (c ∷ cs) h =
-    let first : map (command_at after) c ≡ map (detached owner) (map (command_at ws) c) =
-    one-list owner ws after c (λ k some. h k (omega arith)) in
-    let others : map (map (command_at after)) cs ≡ map (map (detached owner)) (map (map (command_at ws)) cs) =
-    all-lists owner ws after cs (λ k some. h k (omega arith)) in
+-- and of one none of whose records is among those
+other-list : (owner : ℕ) (ws : List Wanted) (d c : List ℕ) → ((k : ℕ) → 0 < times k c → times k d ≡ 0) →
+    map (command_at (detached_in owner d ws)) c ≡ map (command_at ws) c
+unfolding times
+other-list owner ws d [] h = refl
+other-list owner ws d (p ∷ c) h =
+    let first : command_at (detached_in owner d ws) p ≡ command_at ws p = in-other owner p d ws (h p (rw (times_first p p c refl) (omega arith))) in
+    let others : map (command_at (detached_in owner d ws)) c ≡ map (command_at ws) c = other-list owner ws d c (λ k some. h k (omega arith)) in
     rw (first, others) refl
 
--- the lists of a pool in whose records the commands have lost the owner
-pub lists_of-detached : (links : List ℕ) (ws : List Wanted) (queues : List Queue) (owner : ℕ) →
-    lists_of links (detached_in_all owner (chains links queues) ws) queues ≡ map (map (detached owner)) (lists_of links ws queues)
+other-lists : (owner : ℕ) (ws : List Wanted) (d : List ℕ) (cs : List (List ℕ)) → ((k : ℕ) → 0 < times_in_all k cs → times k d ≡ 0) →
+    map (map (command_at (detached_in owner d ws))) cs ≡ map (map (command_at ws)) cs
+unfolding times_in_all
+other-lists owner ws d [] h = refl
+other-lists owner ws d (c ∷ cs) h =
+    let first : map (command_at (detached_in owner d ws)) c ≡ map (command_at ws) c = other-list owner ws d c (λ k some. h k (omega arith)) in
+    let others : map (map (command_at (detached_in owner d ws))) cs ≡ map (map (command_at ws)) cs = other-lists owner ws d cs (λ k some. h k (omega arith)) in
+    rw (first, others) refl
+
+-- where each place stands in one list alone
+one-of-lists : (owner : ℕ) (ws : List Wanted) (cs : List (List ℕ)) (i : ℕ) → ((k : ℕ) → times_in_all k cs ≤ 1) →
+    map (map (command_at (detached_in owner (get_or cs i []) ws))) cs
+    ≡ set (map (map (command_at ws)) cs) i (map (detached owner) (map (command_at ws) (get_or cs i [])))
+unfolding times_in_all
+one-of-lists owner ws [] i few = refl
+one-of-lists owner ws (c ∷ cs) zero few =
+    let first : map (command_at (detached_in owner c ws)) c ≡ map (detached owner) (map (command_at ws) c) =
+    one-list owner ws (detached_in owner c ws) c (λ k some. in-these owner k c ws some) in
+    let others : map (map (command_at (detached_in owner c ws))) cs ≡ map (map (command_at ws)) cs =
+    other-lists owner ws c cs (λ k some. let f = few k in omega arith) in
+    rw (first, others) refl
+one-of-lists owner ws (c ∷ cs) (suc i) few =
+    let d = get_or cs i [] in
+    let first : map (command_at (detached_in owner d ws)) c ≡ map (command_at ws) c =
+    other-list owner ws d c (λ k some. let f = few k in let l = times_in_all-get k cs i in omega arith) in
+    rw first (ap (λ ls. map (command_at ws) c ∷ ls) (one-of-lists owner ws cs i (λ k. let f = few k in omega arith)))
+
+most-one : (b : Bool) → (if b then 1 else 0) ≤ 1
+most-one true = omega arith
+most-one false = omega arith
+
+-- the lists of a pool in whose records the commands of one list have lost the owner
+pub lists_of-detached : (links : List ℕ) (ws : List Wanted) (queues : List Queue) (free count list owner : ℕ) → IsLinked links queues free count →
+    lists_of links (detached_in owner (chain links (queue_at queues list)) ws) queues
+    ≡ set (lists_of links ws queues) list (map (detached owner) (queue_of (lists_of links ws queues) list))
 unfolding lists_of
-lists_of-detached links ws queues owner =
-    all-lists owner ws (detached_in_all owner (chains links queues) ws) (chains links queues) (λ k some. in-all owner k (chains links queues) ws some)
-
--- the next of the lists that are left is passed
-next-list : (owner i : ℕ) (cs : List (List ℕ)) (ws : List Wanted) → i < length cs →
-    detached_in_all owner (drop i cs) ws ≡ detached_in_all owner (drop (suc i) cs) (detached_in owner (get_or cs i []) ws)
-unfolding detached_in_all
-next-list owner i [] ws h = absurd (omega arith)
-next-list owner zero (c ∷ cs) ws h = refl
-next-list owner (suc i) (c ∷ cs) ws h = next-list owner i cs ws (omega arith)
-
-pub next_list : (owner i : ℕ) (links : List ℕ) (queues : List Queue) (ws : List Wanted) → i < length queues →
-    detached_in_all owner (drop i (chains links queues)) ws
-    ≡ detached_in_all owner (drop (i + 1) (chains links queues)) (detached_in owner (chain links (queue_at queues i)) ws)
-next_list owner i links queues ws h =
-    let l = length-chains links queues in
-    rw (add-one i, ← get_or-chains links queues i) (next-list owner i (chains links queues) ws (omega arith))
+lists_of-detached links ws queues free count list owner h =
+    let e = get_or-chains links queues list in
+    let few : (k : ℕ) → times_in_all k (chains links queues) ≤ 1 = λ k.
+    let o = h.once k in let m = most-one (nat_lt k (length links)) in omega arith in
+    ap (λ c. lists_of links (detached_in owner c ws) queues) (sym e)
+    ∙ (one-of-lists owner ws (chains links queues) list few
+    ∙ ap (λ vs. set (lists_of links ws queues) list (map (detached owner) vs)) (ap (map (command_at ws)) e ∙ sym (queue_of-lists_of links ws queues list)))
 
 -- a list's place that is passed: the command in its record has lost the owner, and the links stay
 pub record PassesPlace (linked : List ℕ) (owner next left more : ℕ) (before after : List Record) (place most : ℕ) : Type 0 where
@@ -186,11 +184,3 @@ pub none_left : (owner : ℕ) (links : List ℕ) (place i end : ℕ) (ws : List 
     detached_in owner (places links place (end - i)) ws ≡ ws
 unfolding detached_in places
 none_left owner links place i end ws le = let z : end - i ≡ 0 = omega arith in rw z refl
-
-pub no_list_left : (owner i : ℕ) (links : List ℕ) (queues : List Queue) (ws : List Wanted) → length queues ≤ i →
-    detached_in_all owner (drop i (chains links queues)) ws ≡ ws
-unfolding detached_in_all
-no_list_left owner i links queues ws le =
-    let l = length-chains links queues in
-    let none : drop i (chains links queues) ≡ [] = drop_all i (chains links queues) (omega arith) in
-    rw none refl

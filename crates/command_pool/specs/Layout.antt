@@ -95,11 +95,6 @@ unfoldable pub detached_in : ℕ → List ℕ → List Wanted → List Wanted
 detached_in owner [] commands = commands
 detached_in owner (p ∷ ps) commands = detached_in owner ps (slice_set commands p (detached owner (command_at commands p)))
 
--- the same, with the places of several lists. This project's profile
-unfoldable pub detached_in_all : ℕ → List (List ℕ) → List Wanted → List Wanted
-detached_in_all owner [] commands = commands
-detached_in_all owner (c ∷ cs) commands = detached_in_all owner cs (detached_in owner c commands)
-
 -- so many places in the array's order, from one on. This project's profile
 unfoldable pub rising : ℕ → ℕ → List ℕ
 rising place zero = []

@@ -2,7 +2,7 @@
 
 ghost use Rattle.std.specs.Prelude.{◌≡◌, ℕ, ◌<◌, ◌+◌, ◌-◌, ◌^◌, Some, length, slice_get, slice_set, slice_index, IfOk, vec_len};
 ghost use Rattle.command_pool.specs.Layout as spec;
-ghost use Rattle.command_pool.specs.Layout.{chain, chains, links_of, commands_of, command_at, detached_in, detached_in_all, rising, times, times_in_all};
+ghost use Rattle.command_pool.specs.Layout.{chain, links_of, commands_of, command_at, detached_in, rising, times};
 
 use crate::wanted::{UNUSED, Wanted, detach_from};
 use std::alloc::{AllocError, Global};
@@ -106,30 +106,17 @@ pub(crate) fn append(records: &mut Vec<Record>, queue: Queue, place: u16) -> Que
 }
 
 /// Takes the owner away from the commands in the records of a list.
-pub(crate) fn detach_in(records: &mut Vec<Record>, queue: &Queue, owner: u16)
-    requires places { (place : ℕ) → 0 < times place (chain (links_of records.old.items) queue.now) → place < vec_len records.old }
+pub(crate) fn detach_in(records: &mut Vec<Record>, queue: Queue, owner: u16)
+    requires places { (place : ℕ) → 0 < times place (chain (links_of records.old.items) queue) → place < vec_len records.old }
     ensures links { links_of records.new.items ≡ links_of records.old.items }
     ensures commands { commands_of records.new.items
-        ≡ detached_in owner (chain (links_of records.old.items) queue.now) (commands_of records.old.items) }
+        ≡ detached_in owner (chain (links_of records.old.items) queue) (commands_of records.old.items) }
     ensures len { vec_len records.new ≡ vec_len records.old }
 {
     let mut place = queue.first;
     for _passed in 0..queue.count {
         detach_from(&mut records[place as usize].wanted, owner);
         place = next_of(records, place);
-    }
-}
-
-/// Takes the owner away from the commands in the records of all lists.
-pub(crate) fn detach_in_all(records: &mut Vec<Record>, queues: &Vec<Queue>, owner: u16)
-    requires places { (place : ℕ) → 0 < times_in_all place (chains (links_of records.old.items) queues.now.items)
-        → place < vec_len records.old }
-    ensures links { links_of records.new.items ≡ links_of records.old.items }
-    ensures commands { commands_of records.new.items
-        ≡ detached_in_all owner (chains (links_of records.old.items) queues.now.items) (commands_of records.old.items) }
-{
-    for queue in queues.iter() {
-        detach_in(records, queue, owner);
     }
 }
 

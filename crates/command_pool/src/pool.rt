@@ -7,8 +7,7 @@ ghost use Rattle.command_pool.specs.declared.ending.Finish.TheVariants as finish
 
 use crate::ending::Finish;
 use crate::linking::{
-    EMPTY, Queue, Record, append, command, detach_in_all, fill, free_records, link, next_of,
-    record_at,
+    EMPTY, Queue, Record, append, command, detach_in, fill, free_records, link, next_of, record_at,
 };
 use crate::notes::Notes;
 use crate::wanted::Wanted;
@@ -139,11 +138,13 @@ impl CommandPool {
         }
     }
 
-    /// Takes the owner away from each of its commands that wait. They go on waiting in their order.
-    pub fn detach(&mut self, owner: u16)
-        ensures { self.new ≡ map (map (detached owner)) self.old }
+    /// Takes the owner away from each of its commands that wait in a list. They go on waiting in their order.
+    pub fn detach(&mut self, list: u8, owner: u16)
+        requires { list < length self.old }
+        ensures { self.new ≡ slice_set self.old list (map (detached owner) (queue_of self.old list)) }
     {
-        detach_in_all(&mut self.records, &self.queues, owner);
+        let queue = self.queues[list as usize];
+        detach_in(&mut self.records, queue, owner);
     }
 
     /// How many lists it has.

@@ -7,18 +7,18 @@ use Rattle.command_pool.proofs.linking.detach_in.Goals as goal
 pub loop-passed-init : goal.loop-passed-init
 unfolding chain
 loop-passed-init c =
-    let whole : c.args.queue.now.count - 0 ≡ c.args.queue.now.count = omega arith in
+    let whole : c.args.queue.count - 0 ≡ c.args.queue.count = omega arith in
     record { links = refl; len = refl; within = rw whole c.requires.places; commands = rw whole refl }
 
 pub index_mut-requires : goal.index_mut-requires
 index_mut-requires c =
-    let h = first_within (links_of c.args.records.now.items) c.loop-passed.place c.loop-passed._passed c.args.queue.now.count
+    let h = first_within (links_of c.args.records.now.items) c.loop-passed.place c.loop-passed._passed c.args.queue.count
     (vec_len c.args.records.now) c.loop-passed-test.true c.loop-passed.invariant.within in
     omega (arith, h, c.loop-passed.invariant.len)
 
 pub next_of-place-requires : goal.next_of-place-requires
 next_of-place-requires c =
-    let h = first_within (links_of c.args.records.now.items) c.loop-passed.place c.loop-passed._passed c.args.queue.now.count
+    let h = first_within (links_of c.args.records.now.items) c.loop-passed.place c.loop-passed._passed c.args.queue.count
     (vec_len c.args.records.now) c.loop-passed-test.true c.loop-passed.invariant.within in
     omega (arith, h, c.loop-passed.invariant.len)
 
@@ -26,10 +26,10 @@ pub loop-passed-preserved : goal.loop-passed-preserved
 loop-passed-preserved c =
     let links = links_of c.args.records.now.items in
     let rs = c.loop-passed.records.items in
-    let below = first_within links c.loop-passed.place c.loop-passed._passed c.args.queue.now.count
+    let below = first_within links c.loop-passed.place c.loop-passed._passed c.args.queue.count
     (vec_len c.args.records.now) c.loop-passed-test.true c.loop-passed.invariant.within in
     let there : c.loop-passed.place < length rs = omega (arith, below, c.loop-passed.invariant.len, c.loop-passed.records.ok.0) in
-    let h = passes_place c.args.owner c.loop-passed.place c.loop-passed._passed c.args.queue.now.count (vec_len c.args.records.now) links
+    let h = passes_place c.args.owner c.loop-passed.place c.loop-passed._passed c.args.queue.count (vec_len c.args.records.now) links
     rs c.index_mut.result.now c.detach_from.new.wanted c.loop-passed-test.true c.loop-passed.invariant.links there
     c.index_mut.ensures.value c.detach_from.ensures in
     let after = set rs c.loop-passed.place (record { wanted = c.detach_from.new.wanted; next = c.index_mut.result.now.next }) in
@@ -47,5 +47,5 @@ returns-clause-links c = c.loop-passed.invariant.links
 
 pub returns-clause-commands : goal.returns-clause-commands
 returns-clause-commands c =
-    sym (none_left c.args.owner (links_of c.args.records.now.items) c.loop-passed.place c.loop-passed._passed c.args.queue.now.count
+    sym (none_left c.args.owner (links_of c.args.records.now.items) c.loop-passed.place c.loop-passed._passed c.args.queue.count
     (commands_of c.loop-passed.records.items) c.loop-passed-test.false) ∙ c.loop-passed.invariant.commands

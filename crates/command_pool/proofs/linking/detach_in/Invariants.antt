@@ -9,5 +9,5 @@ invariant-loop-passed l = record {
   len : vec_len l.records ≡ vec_len l.fn.records;
   within : (k : ℕ) → 0 < times k (places (links_of l.fn.records.items) l.place (l._passed-end - l._passed)) → k < vec_len l.fn.records;
   commands : detached_in l.owner (places (links_of l.fn.records.items) l.place (l._passed-end - l._passed)) (commands_of l.records.items)
-      ≡ detached_in l.owner (chain (links_of l.fn.records.items) l.queue) (commands_of l.fn.records.items);
+      ≡ detached_in l.owner (chain (links_of l.fn.records.items) l.fn.queue) (commands_of l.fn.records.items);
 }
