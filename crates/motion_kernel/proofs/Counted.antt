@@ -1,4 +1,4 @@
--- The rows of a legal history are counted.
+-- The rows of a past are counted.
 use Rattle.std.specs.Prelude.{◌≡◌, refl, ℕ, pos, zero, suc, ◌+◌, ◌*◌, ◌^◌, ◌<◌, ◌≤◌, ℤ, neg_ℤ, ◌-ℤ◌, ◌≤ℤ◌, unsigned_abs, List, [], ◌∷◌, ◌++◌, length, slice_index_or, FitsSigned}
 use Rattle.std.specs.Int.{w64}
 use Rattle.std.specs.List.{AllZip}
@@ -26,7 +26,7 @@ use Rattle.motion_kernel.specs.cycles.Cycles.{look_of_axis, after_cycle, cycled}
 use Rattle.motion_kernel.specs.calls.Calls.{after_call}
 use Rattle.motion_kernel.specs.Counted.{IsCounted, RowsAreCounted}
 use Rattle.motion_kernel.specs.looks.DriveAnswers.{no_answer}
-use Rattle.motion_kernel.specs.Histories.{Follows, IsCycleOf, IsLegal, inputs_of}
+use Rattle.motion_kernel.specs.Histories.{Follows, IsCycleOf, IsPast, inputs_of}
 use Rattle.motion_kernel.specs.Machine.{Machine, axis_at, axis_core_at, machine_at_opening, no_axis}
 use Rattle.motion_kernel.specs.kept.Machine.{AreWhole, IsMachineKept, limits_of, no_def}
 use Rattle.motion_kernel.proofs.kept.Laws.{AxesKeepDefinitions}
@@ -173,8 +173,8 @@ counted_from laws s cycles m (cycle c rs gs ∷ made) more n rows grows setup wh
 counted_from laws s cycles m (end_of task ∷ made) more n rows grows setup whole kept h f =
     counted_from laws s (cycles + cycle_count (end_of task)) m made more n rows grows setup whole kept h f.1
 
--- in a legal history each row is counted
-pub all_counted : CountLaws → (s : Setup) (es : List Entry) → IsSetup s → AreWhole s → IsLegal s es → RowsAreCounted s es
-all_counted laws s es setup whole legal made more n rows grows is =
+-- in a past each row is counted
+pub all_counted : CountLaws → (s : Setup) (es : List Entry) → IsSetup s → AreWhole s → IsPast s es → RowsAreCounted s es
+all_counted laws s es setup whole past made more n rows grows is =
     counted_from laws s 0 (machine_at_opening s) made more n rows grows setup whole (laws.machines.opened s setup whole) (configured_at_opening s)
-    (subst (Follows s 0 (machine_at_opening s)) is legal.follows)
+    (subst (Follows s 0 (machine_at_opening s)) is past.follows)

@@ -1,5 +1,5 @@
 -- A group among the kernel's parts, as the machine has it.
-use Rattle.std.specs.Prelude.{◌≡◌, refl, ℕ, ◌<◌, [], ◌∷◌, List, Option, Some, None, is_some, length, map, slice_index_or, slice_set}
+use Rattle.std.specs.Prelude.{◌≡◌, refl, ℕ, ◌<◌, [], List, Option, Some, None, is_some, length, map, slice_index_or, slice_set}
 use Rattle.std.proofs.Common.{ap, sym, ◌∙◌}
 use Rattle.std.proofs.lemmas.List.{map-set, get_or-map, set-get_or}
 use Rattle.command_pool.specs.Waiting.{queue_of}
@@ -14,9 +14,8 @@ use Rattle.group_core.specs.Seen.{core_at, on_path}
 use Rattle.group_core.specs.declared.group.GroupOnPath.{GroupOnPath}
 use Rattle.linear_path.specs.declared.line.LinePath.{LinePath}
 use Rattle.motion_kernel.specs.calls.Calls.{with_group_core}
-use Rattle.motion_kernel.specs.Machine.{Machine, PlacedGroup, group_at, group_core_at, list_of, no_group}
-use Rattle.group_core.specs.Calls.{group_without}
-use Rattle.motion_kernel.specs.Seen.{group_without_owner, placed}
+use Rattle.motion_kernel.specs.Machine.{Machine, group_at, group_core_at, list_of, no_group}
+use Rattle.motion_kernel.specs.Seen.{placed}
 use Rattle.motion_kernel.specs.calls.Telling.{told_notes}
 
 -- a group of the parts, with what waits for it
@@ -53,9 +52,3 @@ reset_as look old new queues list notes group track told =
 -- a group that leaves its list as it is
 pub same_queue : (queues : List (List Wanted)) (list : ℕ) → queues ≡ slice_set queues list (queue_of queues list)
 same_queue queues list = sym (set-get_or queues list [])
-
--- the groups of which one instance has no command, as the machine has them
-pub without_placed : (owner : ℕ) (gs : List (GroupOnPath LinePath)) → map placed (map (group_without_owner owner) gs) ≡
-    map (λ (g : PlacedGroup). record g { group = group_without owner g.group }) (map placed gs)
-without_placed owner [] = refl
-without_placed owner (g ∷ gs) = ap (λ rest. record { group = group_without owner g.group; path = on_path g.track } ∷ rest) (without_placed owner gs)

@@ -10,6 +10,8 @@ pub mod members
 pub mod looks
 pub mod calls
 pub mod cycles
+pub mod owners
+pub mod walk
 pub mod kept
 pub mod Marked
 pub mod Banks

@@ -1,4 +1,4 @@
--- Which counts the rows of legal histories have.
+-- Which counts the rows of pasts have.
 use Rattle.std.specs.Prelude.{◌≡◌, ℕ, pos, List, ◌∷◌, ◌++◌, FitsSigned}
 use Rattle.std.specs.Int.{w64}
 use Rattle.std.specs.List.{AllZip}

@@ -3,6 +3,7 @@ pub mod members
 pub mod calls
 pub mod looks
 pub mod cycles
+pub mod owners
 pub mod Seen
 pub mod Histories
 pub mod Tasks

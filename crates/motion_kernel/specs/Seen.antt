@@ -1,6 +1,5 @@
 -- The machine that the kernel's parts are.
-use Rattle.std.specs.Prelude.{ℕ, map}
-use Rattle.group_core.specs.Calls.{group_without}
+use Rattle.std.specs.Prelude.{map}
 use Rattle.group_core.specs.Seen.{on_path}
 use Rattle.group_core.specs.declared.group.GroupOnPath.{GroupOnPath}
 use Rattle.linear_path.specs.declared.line.LinePath.{LinePath}
@@ -10,10 +9,6 @@ use Rattle.motion_kernel.specs.declared.parts.Parts.{Parts}
 -- a group with its path
 abbrev pub placed : GroupOnPath LinePath → PlacedGroup
 placed g = record { group = g.group; path = on_path g.track }
-
--- a group whose commands this instance has no longer
-abbrev pub group_without_owner : ℕ → GroupOnPath LinePath → GroupOnPath LinePath
-group_without_owner owner g = record g { group = group_without owner g.group }
 
 -- the machine of these parts
 abbrev pub machine_of : Parts → Machine

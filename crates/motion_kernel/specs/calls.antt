@@ -2,3 +2,4 @@
 pub mod Telling
 pub mod Asking
 pub mod Calls
+pub mod Requests

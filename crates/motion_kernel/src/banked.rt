@@ -23,6 +23,7 @@ use crate::laws::machines_stay_kept;
 use crate::layout::Layout;
 use crate::machine_cycle::{Aside, cycle_machine};
 use crate::opening::open_parts;
+use crate::owner_laws::owners_have_blocks;
 use crate::parts::Parts;
 use crate::start::Start;
 use cia402_machine::{DriveIn, DriveOut};
@@ -64,6 +65,7 @@ impl BankedKernel {
     {
         // law: what always holds of a machine holds at opening
         machines_stay_kept();
+        owners_have_blocks();
         let layout = Layout::open(alloc, config)?;
         let parts = open_parts(alloc, &layout)?;
         let aside = Aside::open(alloc, &layout)?;
@@ -97,6 +99,7 @@ impl BankedKernel {
         // law: it holds after a call
         cycles_add_up();
         machines_stay_kept();
+        owners_have_blocks();
         configurations_are_sound();
         let reply = call_block(instance, inputs, &self.layout, &mut self.parts);
         self.bank.history.record_call(instance, inputs, &reply);
@@ -122,6 +125,7 @@ impl BankedKernel {
         // law: it holds after a cycle, since the counts have 32 bits
         cycles_add_up();
         machines_stay_kept();
+        owners_have_blocks();
         counts_have_32_bits(ins);
         let history = &mut self.bank.history;
         cycle_machine(

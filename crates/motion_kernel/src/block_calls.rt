@@ -8,6 +8,7 @@ ghost use Rattle.motion_kernel.specs.calls.Calls as spec;
 ghost use Rattle.motion_kernel.specs.Machine.{instance_at};
 ghost use Rattle.motion_kernel.specs.kept.Machine.{IsSized};
 ghost use Rattle.motion_kernel.specs.kept.Ready.{MayCall, MayRise};
+ghost use Rattle.motion_kernel.specs.owners.Blocks.{OwnersHaveBlocks};
 ghost use Rattle.motion_kernel.specs.Seen.{machine_of};
 
 use crate::axis_calls::{call_axis, call_power};
@@ -34,11 +35,12 @@ fn rise(instance: u16, block: &BlockDef, inputs: &Inputs, layout: &Layout, parts
     requires object { block.now.object < (if acts_on_group block.now.kind then length
         layout.now.groups else length layout.now.axes) }
     requires may { MayRise layout.now instance block.now inputs.now (machine_of parts.old) }
-    requires instance { instance < length layout.now.blocks }
+    requires block { slice_get layout.now.blocks instance ≡ Some block.now }
+    requires owners { OwnersHaveBlocks layout.now (machine_of parts.old) }
     ensures { machine_of parts.new ≡ spec.after_rising layout.now instance block.now inputs.now
         (machine_of parts.old) }
 {
-    detach(instance, parts);
+    detach(instance, block, layout, parts);
     if block.kind.acts_on_group() {
         call_group(instance, block, inputs, layout, parts);
     } else {
@@ -51,7 +53,8 @@ fn ask(edge: Edge, call: &Call, layout: &Layout, parts: &mut Parts)
     requires sized { IsSized layout.now (machine_of parts.old) }
     requires may { MayCall layout.now call.now.instance call.now.block.now call.now.inputs.now
         (machine_of parts.old) }
-    requires instance { call.now.instance < length layout.now.blocks }
+    requires block { slice_get layout.now.blocks call.now.instance ≡ Some call.now.block.now }
+    requires owners { OwnersHaveBlocks layout.now (machine_of parts.old) }
     ensures { machine_of parts.new ≡ spec.after_asking layout.now call.now.block.now.kind edge
         call.now.instance call.now.block.now call.now.inputs.now (machine_of parts.old) }
 {
@@ -67,7 +70,8 @@ fn make(call: &Call, layout: &Layout, parts: &mut Parts)
     requires sized { IsSized layout.now (machine_of parts.old) }
     requires may { MayCall layout.now call.now.instance call.now.block.now call.now.inputs.now
         (spec.with_execute call.now.instance call.now.inputs.now (machine_of parts.old)) }
-    requires instance { call.now.instance < length layout.now.blocks }
+    requires block { slice_get layout.now.blocks call.now.instance ≡ Some call.now.block.now }
+    requires owners { OwnersHaveBlocks layout.now (machine_of parts.old) }
     ensures { machine_of parts.new ≡ spec.called_block layout.now call.now.instance
         call.now.block.now call.now.inputs.now (machine_of parts.old) }
 {
@@ -91,6 +95,7 @@ fn reply(instance: u16, parts: &mut Parts) -> Outputs
 pub fn call_block(instance: u16, inputs: &Inputs, layout: &Layout, parts: &mut Parts) -> Outputs
     requires sized { IsSized layout.now (machine_of parts.old) }
     requires there { instance < length layout.now.blocks }
+    requires owners { OwnersHaveBlocks layout.now (machine_of parts.old) }
     requires may { (b : BlockDef) → slice_get layout.now.blocks instance ≡ Some b →
         MayCall layout.now instance b inputs.now
         (spec.with_execute instance inputs.now (machine_of parts.old)) }

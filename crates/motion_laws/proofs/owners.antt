@@ -1,5 +1,4 @@
 -- Where the commands of instances are.
-pub mod Counts
 pub mod commands
 pub mod active
 pub mod Events

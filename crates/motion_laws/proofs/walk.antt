@@ -1,12 +1,5 @@
--- The walk through calls, cycles and histories, by the changes of commands; and through a call by the
--- core of one axis and of one group.
-pub mod Keeps
-pub mod Events
-pub mod Asked
-pub mod Calls
-pub mod Cycles
+-- The walk through histories, by that of motion_kernel through calls and cycles; and through a call
+-- by the core of one axis and of one group.
 pub mod Histories
-pub mod ByTest
-pub mod Requests
 pub mod AxisCalls
 pub mod GroupCalls

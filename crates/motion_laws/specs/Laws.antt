@@ -3,6 +3,7 @@ use Rattle.std.specs.Prelude.{◌≡◌, List, ◌++◌}
 use Rattle.motion_history.specs.Columns.{KeepTheirLimits}
 use Rattle.motion_history.specs.Entries.{Entry}
 use Rattle.motion_history.specs.Setup.{Setup}
+use Rattle.motion_kernel.specs.Counted.{RowsAreCounted}
 use Rattle.motion_kernel.specs.Histories.{machine_after}
 use Rattle.motion_laws.specs.arrivals.Moves.{MovesArrive}
 use Rattle.motion_laws.specs.arrivals.Rows.{RowsStand}
@@ -18,7 +19,8 @@ use Rattle.motion_laws.specs.limits.Safe.{IsSafe}
 -- laws of entries; the commands that lead an axis or a group to an end come there in time; each
 -- entry makes of each instance what its commands tell, and each end is told; each result comes of
 -- such an end, stays while Execute is true, and goes with it; commands end by their kinds; a move
--- is Done at its target; and rows show that moves arrive in time
+-- is Done at its target; rows show that moves arrive in time; and the places of each row's axis
+-- have counts
 pub record KeepsLaws (s : Setup) (es : List Entry) : Type 0 where
   pub limits : KeepTheirLimits s es
   pub safe : (made more : List Entry) → es ≡ made ++ more → IsSafe s (machine_after s made)
@@ -32,3 +34,4 @@ pub record KeepsLaws (s : Setup) (es : List Entry) : Type 0 where
   pub kinds : EndByKinds s es
   pub targets : MovesEndThere s es
   pub rows : RowsStand s es
+  pub counts : RowsAreCounted s es

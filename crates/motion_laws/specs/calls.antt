@@ -1,4 +1,3 @@
 -- What a call asks for, and what that asks of an axis and of a group.
-pub mod Requests
 pub mod Axis
 pub mod Group

@@ -18,7 +18,7 @@ use crate::result_laws::{
     done_moves_are_at_their_targets, results_are_told, results_come_of_ends, results_stay_shown,
 };
 use crate::row_laws::rows_show_that_moves_arrive;
-use motion_kernel::banks_join;
+use motion_kernel::{banks_join, rows_are_counted};
 
 /// In every past each row keeps its axis's limits; and after every entry each axis that is
 /// driven and each path can be stopped within its limits, and at most eight commands wait for each
@@ -30,7 +30,8 @@ use motion_kernel::banks_join;
 /// its end in time, and no blended move hangs; each end, be it a refusal, is told to the instance
 /// whose command it was, and to no other; each result that a reply tells comes of such an end,
 /// stays while Execute is true, and goes with it; commands end by their kinds; a move is Done at
-/// its target; and rows show that moves arrive in time.
+/// its target; rows show that moves arrive in time; and no Home moves an axis out of the counts of
+/// its drive.
 pub fn pasts_keep_their_laws()
     ensures { (s : Setup) (es : List Entry) → IsSetup s → AreWhole s → IsPast s es →
         KeepsLaws s es }
@@ -47,6 +48,7 @@ pub fn pasts_keep_their_laws()
     commands_end_by_their_kinds();
     done_moves_are_at_their_targets();
     rows_show_that_moves_arrive();
+    rows_are_counted();
 }
 
 /// Every legal history is a past, and so keeps its laws.

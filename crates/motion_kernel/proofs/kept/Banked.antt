@@ -11,6 +11,7 @@ use Rattle.motion_kernel.specs.kept.Banked.{IsBankedKept}
 use Rattle.motion_kernel.specs.Machine.{Machine}
 use Rattle.motion_kernel.specs.kept.Machine.{AreWhole, IsMachineKept, IsSized}
 use Rattle.motion_kernel.specs.kept.Rooms.{HasRoom}
+use Rattle.motion_kernel.specs.owners.Blocks.{OwnersHaveBlocks}
 use Rattle.motion_kernel.specs.Seen.{machine_of}
 use Rattle.motion_kernel.specs.declared.banked.BankedKernel.TheInside.{Inside}
 
@@ -62,14 +63,15 @@ cleared_room s t h same room =
 
 -- a kernel whose bank has no entry yet
 pub banked_begun : (k : Inside) → machine_of k.parts ≡ k.bank.start → k.bank.history ≡ empty_history k.layout → IsMachineKept k.layout (machine_of k.parts) →
-    IsSized k.layout k.bank.start → AreWhole k.layout → HasPlaces k.layout k.aside → IsBankedKept k
+    OwnersHaveBlocks k.layout (machine_of k.parts) → IsSized k.layout k.bank.start → AreWhole k.layout → HasPlaces k.layout k.aside → IsBankedKept k
 unfolding machine_from
-banked_begun k machine history kept sized whole places =
+banked_begun k machine history kept owners sized whole places =
     let none : k.bank.history.entries ≡ [] = ap (λ (h : HistoryState). h.entries) history in
     record {
       replayed = machine ∙ ap (replay k.layout k.bank.start) (sym none);
       legal = rw none (record { entries = omega arith; cycles = omega arith; follows = tt });
       machine = kept;
+      owners = owners;
       start = sized;
       whole = whole;
       room = empty_room k.layout k.bank.history history;
@@ -80,10 +82,10 @@ banked_begun k machine history kept sized whole places =
 pub banked_more : CyclesAddUp → (k next : Inside) (e : Entry) → IsBankedKept k → next.layout ≡ k.layout → next.bank.start ≡ k.bank.start →
     next.bank.history ≡ record k.bank.history { entries = k.bank.history.entries ++ e ∷ [] } → HasPlaces k.layout next.aside →
     machine_of next.parts ≡ after k.layout (machine_of k.parts) e → IsOf k.layout (cycles_of k.bank.history.entries) (machine_of k.parts) e →
-    IsMachineKept k.layout (machine_of next.parts) →
+    IsMachineKept k.layout (machine_of next.parts) → OwnersHaveBlocks k.layout (machine_of next.parts) →
     length k.bank.history.entries < k.layout.entries → cycles_of k.bank.history.entries + cycle_count e ≤ k.layout.cycles → IsBankedKept next
 unfolding machine_from
-banked_more add k next e kept layout start history places step is machine room cycles =
+banked_more add k next e kept layout start history places step is machine owners room cycles =
     let s = k.layout in
     let m = k.bank.start in
     let es = k.bank.history.entries in
@@ -95,6 +97,7 @@ banked_more add k next e kept layout start history places step is machine room c
       replayed = replayed ∙ (λ i. replay (sym layout i) (sym start i) (sym entries i));
       legal = rw (entries, layout, start) legal;
       machine = rw layout machine;
+      owners = rw layout owners;
       start = rw (layout, start) kept.start;
       whole = rw layout kept.whole;
       room = record {

@@ -6,6 +6,7 @@ use Rattle.motion_kernel.specs.cycles.Asides.{HasPlaces}
 use Rattle.motion_kernel.specs.Histories.{IsLegalFrom}
 use Rattle.motion_kernel.specs.kept.Machine.{AreWhole, IsMachineKept, IsSized}
 use Rattle.motion_kernel.specs.kept.Rooms.{HasRoom}
+use Rattle.motion_kernel.specs.owners.Blocks.{OwnersHaveBlocks}
 use Rattle.motion_kernel.specs.Seen.{machine_of}
 use Rattle.motion_kernel.specs.declared.banked.BankedKernel.TheInside.{Inside}
 
@@ -24,6 +25,7 @@ pub record IsBankedKept (k : Inside) : Type 0 where
   pub replayed : machine_of k.parts ≡ machine_now (seen_of k)
   pub legal : IsLegalFrom k.layout k.bank.start k.bank.history.entries
   pub machine : IsMachineKept k.layout (machine_of k.parts)
+  pub owners : OwnersHaveBlocks k.layout (machine_of k.parts)
   pub start : IsSized k.layout k.bank.start
   pub whole : AreWhole k.layout
   pub room : HasRoom k.layout k.bank.history

@@ -3,6 +3,7 @@
 ghost use Rattle.std.specs.Prelude.{◌≡◌, [], IfOk};
 ghost use Rattle.motion_kernel.specs.Banks.{IsEarly, IsHeldBank, IsSpare, IsUnused, after_bank, machine_now};
 ghost use Rattle.motion_kernel.specs.kept.Machine.{IsMachineKept};
+ghost use Rattle.motion_kernel.specs.owners.Blocks.{OwnersHaveBlocks};
 
 use super::BankedKernel;
 use crate::bank::{Bank, Before};
@@ -63,6 +64,7 @@ impl BankedKernel {
     pub fn resume(&mut self, bank: Bank)
         requires spare { IsSpare self.old.config bank }
         requires kept { IsMachineKept self.old.config bank.start }
+        requires owners { OwnersHaveBlocks self.old.config bank.start }
         ensures { self.new ≡ record self.old {
           before = bank.before;
           start = bank.start;

@@ -16,12 +16,12 @@ use Rattle.motion_kernel.specs.Machine.{Machine, list_of, machine_at_opening}
 use Rattle.motion_kernel.specs.calls.Calls.{after_reply, with_execute}
 use Rattle.motion_kernel.specs.cycles.Showing.{with_found}
 use Rattle.motion_kernel.specs.kept.Machine.{AreWhole, IsSized}
-use Rattle.motion_laws.specs.owners.Objects.{a_group, an_axis, IsThere, Object, is_same}
+use Rattle.motion_kernel.specs.owners.Objects.{a_group, an_axis, IsThere, Object, is_same}
 use Rattle.motion_laws.proofs.Histories.{past_kept}
-use Rattle.motion_laws.proofs.owners.commands.Events.{same_object}
-use Rattle.motion_laws.proofs.walk.Events.{executed_alike, found_alike, freed_at, freed_there, replied_alike}
+use Rattle.motion_kernel.proofs.owners.commands.Events.{same_object}
+use Rattle.motion_kernel.proofs.walk.Events.{executed_alike, found_alike, freed_at, freed_there, replied_alike}
 use Rattle.motion_laws.proofs.walk.Histories.{by_history}
-use Rattle.motion_laws.proofs.walk.Keeps.{Alike, Anyone, Asks, CoresKept, Event, Keeps, WalkLaws, charge_at, freed}
+use Rattle.motion_kernel.proofs.walk.Keeps.{Alike, Anyone, Asks, CoresKept, Event, Keeps, WalkLaws, charge_at, freed}
 
 -- at most eight commands wait for each axis and each group
 abbrev FewWait : Machine → Type 0

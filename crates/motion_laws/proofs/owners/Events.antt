@@ -18,14 +18,15 @@ use Rattle.motion_kernel.specs.Machine.{Machine, axis_core_at, group_core_at, in
 use Rattle.motion_kernel.specs.calls.Calls.{with_axis_core, with_group_core, with_instance}
 use Rattle.motion_kernel.specs.kept.Machine.{IsSized}
 use Rattle.motion_kernel.proofs.Sizes.{sized_instance, sized_without}
-use Rattle.motion_laws.specs.owners.Commands.{active_at, active_shown, commands_at, commands_shown}
-use Rattle.motion_laws.specs.owners.Objects.{a_group, an_axis, IsThere, Object, has_commands_on}
+use Rattle.motion_kernel.specs.owners.Commands.{active_at, active_shown, commands_at, commands_shown}
+use Rattle.motion_kernel.specs.owners.Objects.{a_group, an_axis, IsThere, Object, has_commands_on}
 use Rattle.motion_laws.proofs.owners.active.Events.{ActiveOf, KeepsActive}
 use Rattle.motion_laws.proofs.owners.active.Waiting.{KeepsWaiting}
-use Rattle.motion_laws.proofs.owners.commands.Events.{Changes, IsGood, OwnerLaws, ShownOf}
-use Rattle.motion_laws.proofs.owners.commands.Freed.{IsAsking, instances_without}
-use Rattle.motion_laws.proofs.walk.Events.{axis_event, freed_at, freed_there, group_event}
-use Rattle.motion_laws.proofs.walk.Keeps.{Event, charge_at, freed}
+use Rattle.motion_kernel.proofs.owners.commands.Events.{Changes, IsGood, OwnerLaws, ShownOf}
+use Rattle.motion_kernel.proofs.owners.commands.Freed.{IsAsking, instances_without}
+use Rattle.motion_kernel.proofs.walk.Events.{axis_event, freed_at, freed_there, group_event}
+use Rattle.motion_kernel.proofs.owners.Blocks.{untold}
+use Rattle.motion_kernel.proofs.walk.Keeps.{Event, charge_at, freed}
 
 -- an instance's commands by those of the object
 pub commands_of : (m : Machine) (k : ℕ) (o : Object) → commands_at m k o ≡ owns k (charge_at m o)
@@ -35,11 +36,6 @@ commands_of m k (a_group j) = omega arith
 pub active_in : (m : Machine) (k : ℕ) (o : Object) → active_at m k o ≡ active_of k (charge_at m o)
 active_in m k (an_axis n) = refl
 active_in m k (a_group j) = refl
-
--- nothing is told yet
-pub untold : (m : Machine) (o : Object) → (charge_at m o).notes ≡ []
-untold m (an_axis n) = refl
-untold m (a_group j) = refl
 
 -- the other instances, where one asks
 pub free_same : (k j : ℕ) (i : InstanceState) (m : Machine) → nat_eq k j ≡ false →

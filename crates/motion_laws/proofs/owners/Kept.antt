@@ -26,23 +26,24 @@ use Rattle.motion_kernel.specs.cycles.GroupSteps.{groups_stepped}
 use Rattle.motion_kernel.specs.kept.Machine.{AreWhole, IsMachineKept}
 use Rattle.motion_kernel.specs.looks.AxisLooks.{Surroundings}
 use Rattle.motion_kernel.proofs.Sizes.{sized_axis, told_length}
-use Rattle.motion_laws.specs.owners.Commands.{ActiveAreShown, CommandsAreShown, active_at, active_shown, commands_at, commands_shown}
-use Rattle.motion_laws.specs.owners.Objects.{an_axis, IsThere, Object, has_commands_on, is_same}
-use Rattle.motion_laws.proofs.owners.Counts.{shown_by}
-use Rattle.motion_laws.proofs.owners.Events.{active_in, axis_changes, commands_of, event_changes, event_keeps, event_keeps_waiting, free_active, free_none, free_shown, untold}
+use Rattle.motion_kernel.specs.owners.Commands.{ActiveAreShown, CommandsAreShown, active_at, active_shown, commands_at, commands_shown}
+use Rattle.motion_kernel.specs.owners.Objects.{an_axis, IsThere, Object, has_commands_on, is_same}
+use Rattle.motion_kernel.proofs.owners.Counts.{shown_by}
+use Rattle.motion_laws.proofs.owners.Events.{active_in, axis_changes, commands_of, event_changes, event_keeps, event_keeps_waiting, free_active, free_none, free_shown}
+use Rattle.motion_kernel.proofs.owners.Blocks.{untold}
 use Rattle.motion_laws.proofs.owners.active.Calls.{executed_active, instance_active, reply_active}
 use Rattle.motion_laws.proofs.owners.active.Cycles.{found_truly, opening_truly_shown}
 use Rattle.motion_laws.proofs.owners.active.Events.{all_active, ActiveOf, AreTrulyShown, active_by, event_active}
 use Rattle.motion_laws.proofs.owners.active.Waiting.{WaitsOf, event_waits, waits_first}
-use Rattle.motion_laws.proofs.owners.commands.Asked.{all_shown, own_at, set_at}
+use Rattle.motion_kernel.proofs.owners.commands.Asked.{all_shown, own_at, set_at}
 use Rattle.motion_laws.proofs.owners.commands.Calls.{executed_shown, instance_shown, reply_shown}
 use Rattle.motion_laws.proofs.owners.commands.Cycles.{found_shown}
-use Rattle.motion_laws.proofs.owners.commands.Events.{IsGood, OwnerLaws, ShownOf, event_shown}
-use Rattle.motion_laws.proofs.owners.commands.Freed.{instances_without}
-use Rattle.motion_laws.proofs.walk.Calls.{by_call}
-use Rattle.motion_laws.proofs.walk.Cycles.{Good, by_axes, by_cycle, by_resets, by_steps}
+use Rattle.motion_kernel.proofs.owners.commands.Events.{IsGood, OwnerLaws, ShownOf, event_shown}
+use Rattle.motion_kernel.proofs.owners.commands.Freed.{instances_without}
+use Rattle.motion_kernel.proofs.walk.Calls.{by_call}
+use Rattle.motion_kernel.proofs.walk.Cycles.{Good, by_axes, by_cycle, by_resets, by_steps}
 use Rattle.motion_laws.proofs.walk.Histories.{by_history}
-use Rattle.motion_laws.proofs.walk.Keeps.{Anyone, Asks, Keeps, charge_at, freed}
+use Rattle.motion_kernel.proofs.walk.Keeps.{Anyone, Asks, Keeps, charge_at, freed}
 
 -- within a cycle an instance that shows Active has no command that waits
 record AreWaiting (s : Setup) (m : Machine) : Type 0 where

@@ -15,7 +15,7 @@ use Rattle.motion_laws.specs.owners.Shown.{AreWhereShown}
 use Rattle.motion_laws.proofs.owners.Holders.{call_holders, cycle_holders, past_holders, opening_holders}
 use Rattle.motion_laws.proofs.owners.Kept.{call_truly_shown, cycle_truly_shown, past_truly_shown}
 use Rattle.motion_laws.proofs.owners.active.Cycles.{opening_truly_shown}
-use Rattle.motion_laws.proofs.owners.commands.Events.{OwnerLaws}
+use Rattle.motion_kernel.proofs.owners.commands.Events.{OwnerLaws}
 
 pub opening_all_shown : (s : Setup) → AreWhereShown s (machine_at_opening s)
 opening_all_shown s =

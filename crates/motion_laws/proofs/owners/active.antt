@@ -1,6 +1,4 @@
 -- An instance shows Active exactly while its command is the active one.
-pub mod AxisCounts
-pub mod GroupCounts
 pub mod Events
 pub mod Calls
 pub mod Waiting

@@ -1,7 +1,4 @@
 -- An instance has a command exactly while it shows one.
-pub mod Events
-pub mod Freed
-pub mod Asked
 pub mod Calls
 pub mod Cycles
 pub mod Opening

@@ -1,4 +1,2 @@
 -- Commands are of the kinds of their instances' blocks.
-pub mod Changes
-pub mod Tables
 pub mod Kept

@@ -21,7 +21,7 @@ use Rattle.motion_kernel.specs.calls.Asking.{is_done_at_once}
 use Rattle.motion_kernel.specs.calls.Calls.{reply_of, with_execute}
 use Rattle.motion_kernel.specs.kept.Machine.{IsSized}
 use Rattle.motion_laws.specs.entries.Replies.{AreOfBlocks}
-use Rattle.motion_laws.specs.owners.Objects.{object_of}
+use Rattle.motion_kernel.specs.owners.Objects.{object_of}
 use Rattle.motion_laws.specs.results.Outcomes.{answer_in, end_answered, end_by_edge, end_of_command, finish_in, progress_answered, progress_at, progress_by_edge}
 use Rattle.motion_laws.specs.results.Results.{Tells}
 use Rattle.motion_laws.proofs.results.Outputs.{reply_tells}

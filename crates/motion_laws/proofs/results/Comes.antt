@@ -22,7 +22,7 @@ use Rattle.motion_kernel.specs.Histories.{after, machine_after, replay}
 use Rattle.motion_kernel.specs.Machine.{Machine, instance_at, instance_at_opening_of, machine_at_opening}
 use Rattle.motion_kernel.specs.calls.Asking.{is_done_at_once}
 use Rattle.motion_kernel.specs.calls.Calls.{with_execute}
-use Rattle.motion_laws.specs.owners.Objects.{object_of}
+use Rattle.motion_kernel.specs.owners.Objects.{object_of}
 use Rattle.motion_laws.specs.results.Comes.{AreNoEdges, ComesOf}
 use Rattle.motion_laws.specs.results.Outcomes.{IsOutcome, answer_in, begins_command, end_answered, end_by_edge, end_of_command, finish_in, progress_answered, progress_at, progress_beside, progress_by, progress_by_call, progress_by_edge, progress_in}
 use Rattle.motion_laws.specs.results.Results.{Tells, is_rising, takes_away}

@@ -11,7 +11,7 @@ use Rattle.motion_history.specs.declared.config.BlockDef.{BlockDef}
 use Rattle.motion_kernel.specs.cycles.Showing.{axes_shown, found_by, groups_shown, instance_found, instances_found, told_found, with_found}
 use Rattle.motion_kernel.specs.Machine.{Machine, PlacedGroup, axis_at, group_at, instance_at, no_instance}
 use Rattle.motion_kernel.specs.calls.Telling.{shown_active}
-use Rattle.motion_laws.specs.owners.Commands.{CommandsAreShown, commands_shown}
+use Rattle.motion_kernel.specs.owners.Commands.{CommandsAreShown, commands_shown}
 use Rattle.motion_laws.proofs.owners.commands.Cycles.{axis_active_shown, group_active_shown}
 use Rattle.motion_laws.proofs.results.Events.{progress_in}
 

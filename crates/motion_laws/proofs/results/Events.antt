@@ -11,10 +11,10 @@ use Rattle.fb_outputs.specs.declared.instance.Progress.TheVariants.{Ended}
 use Rattle.motion_history.specs.Setup.{Setup}
 use Rattle.motion_kernel.specs.Machine.{Machine, instance_at, no_instance}
 use Rattle.motion_kernel.specs.calls.Calls.{with_instance}
-use Rattle.motion_laws.specs.owners.Objects.{IsThere, Object, has_commands_on}
-use Rattle.motion_laws.specs.owners.Commands.{commands_at, commands_shown}
-use Rattle.motion_laws.proofs.owners.Counts.{untold_stays}
-use Rattle.motion_laws.proofs.owners.commands.Events.{Changes, ShownOf, most_one}
+use Rattle.motion_kernel.specs.owners.Objects.{IsThere, Object, has_commands_on}
+use Rattle.motion_kernel.specs.owners.Commands.{commands_at, commands_shown}
+use Rattle.motion_kernel.proofs.owners.Counts.{untold_stays}
+use Rattle.motion_kernel.proofs.owners.commands.Events.{Changes, ShownOf, most_one}
 
 -- how far an instance's command is
 abbrev pub progress_in : List InstanceState → ℕ → Progress

@@ -53,10 +53,10 @@ use Rattle.motion_kernel.specs.kept.Machine.{AreWhole, IsMachineKept}
 use Rattle.motion_kernel.proofs.Sizes.{by_if}
 use Rattle.motion_kernel.proofs.kept.Calls.{axis_object, group_object}
 use Rattle.motion_kernel.proofs.kept.Laws.{ConfigurationsAreSound}
-use Rattle.motion_laws.specs.owners.Commands.{active_at}
-use Rattle.motion_laws.specs.owners.Kinds.{AreOfTheirBlocks, is_reset}
-use Rattle.motion_laws.specs.owners.Objects.{IsThere, Object, a_group, an_axis, object_of}
-use Rattle.motion_laws.specs.results.Effects.{charge_at}
+use Rattle.motion_kernel.specs.owners.Commands.{active_at}
+use Rattle.motion_kernel.specs.owners.Kinds.{AreOfTheirBlocks, is_reset}
+use Rattle.motion_kernel.specs.owners.Objects.{IsThere, Object, a_group, an_axis, object_of}
+use Rattle.motion_kernel.specs.owners.Blocks.{charge_at}
 use Rattle.motion_laws.specs.results.KindEnds.{EndByKinds, GivesWay, may_be_done, may_give_way}
 use Rattle.motion_laws.specs.results.Outcomes.{answer_in, end_answered, end_by_edge, end_of_command, finish_in}
 use Rattle.motion_laws.specs.results.Results.{KeepsResults, ResultsAreTold, end_in}
@@ -64,11 +64,11 @@ use Rattle.motion_laws.proofs.Histories.{past_so_far}
 use Rattle.motion_laws.proofs.entries.numbers.Groups.{OnlyDone, path_done}
 use Rattle.motion_laws.proofs.owners.active.Cycles.{found_in}
 use Rattle.motion_laws.proofs.owners.Events.{active_in}
-use Rattle.motion_laws.proofs.owners.commands.Events.{there_where}
+use Rattle.motion_kernel.proofs.owners.commands.Events.{there_where}
 use Rattle.motion_laws.proofs.owners.kinds.Kept.{kinds_match}
 use Rattle.motion_laws.proofs.results.Stays.{machine_kept}
 use Rattle.motion_laws.proofs.results.outcomes.DoneBy.{call_not_done}
-use Rattle.motion_laws.proofs.walk.Keeps.{WalkLaws}
+use Rattle.motion_kernel.proofs.walk.Keeps.{WalkLaws}
 
 -- how a command of a kind may end by a step, with the one that waits first
 abbrev EndsRight : BlockKind → Option Wanted → Option Finish → Type 0

@@ -19,7 +19,7 @@ use Rattle.motion_laws.specs.results.Outcomes.{progress_at, progress_by_edge}
 use Rattle.motion_laws.specs.results.Results.{Tells}
 use Rattle.motion_laws.proofs.entries.replies.Entries.{called_of_blocks}
 use Rattle.motion_laws.proofs.entries.replies.Histories.{kind_after}
-use Rattle.motion_laws.proofs.owners.commands.Events.{there_where}
+use Rattle.motion_kernel.proofs.owners.commands.Events.{there_where}
 use Rattle.motion_laws.proofs.results.outcomes.Own.{called_progress}
 
 -- a result tells its end

@@ -14,16 +14,16 @@ use Rattle.motion_kernel.specs.Machine.{Machine, instance_at}
 use Rattle.motion_kernel.specs.calls.Calls.{after_call}
 use Rattle.motion_kernel.specs.cycles.Cycles.{after_cycle}
 use Rattle.motion_kernel.specs.kept.Machine.{AreWhole, IsMachineKept}
-use Rattle.motion_laws.specs.owners.Commands.{CommandsAreShown, commands_shown}
-use Rattle.motion_laws.specs.owners.Objects.{Object}
+use Rattle.motion_kernel.specs.owners.Commands.{CommandsAreShown, commands_shown}
+use Rattle.motion_kernel.specs.owners.Objects.{Object}
 use Rattle.motion_laws.proofs.owners.Events.{event_changes, free_same, free_shown}
 use Rattle.motion_laws.proofs.owners.Kept.{answered_other, commands_kept}
-use Rattle.motion_laws.proofs.owners.commands.Events.{OwnerLaws, ShownOf}
+use Rattle.motion_kernel.proofs.owners.commands.Events.{OwnerLaws, ShownOf}
 use Rattle.motion_laws.proofs.results.Cycles.{found_spares}
 use Rattle.motion_laws.proofs.results.Events.{beside, event_spares, none_spared, progress_in}
-use Rattle.motion_laws.proofs.walk.Calls.{by_call}
-use Rattle.motion_laws.proofs.walk.Cycles.{by_cycle}
-use Rattle.motion_laws.proofs.walk.Keeps.{Asks, Event, Keeps, freed}
+use Rattle.motion_kernel.proofs.walk.Calls.{by_call}
+use Rattle.motion_kernel.proofs.walk.Cycles.{by_cycle}
+use Rattle.motion_kernel.proofs.walk.Keeps.{Asks, Event, Keeps, freed}
 
 -- all are where they show, and this instance is as far as before
 record IsAsFar (s : Setup) (k : ℕ) (p : Progress) (m : Machine) : Type 0 where

@@ -15,7 +15,7 @@ use Rattle.motion_kernel.specs.Histories.{IsPast, machine_after}
 use Rattle.motion_kernel.specs.Machine.{Machine, instance_at}
 use Rattle.motion_kernel.specs.calls.Calls.{reply_of, with_execute}
 use Rattle.motion_kernel.specs.kept.Machine.{AreWhole, IsMachineKept}
-use Rattle.motion_laws.specs.owners.Commands.{commands_shown}
+use Rattle.motion_kernel.specs.owners.Commands.{commands_shown}
 use Rattle.motion_laws.specs.results.Comes.{ResultsGo, ResultsStay}
 use Rattle.motion_laws.specs.results.Outcomes.{progress_at, progress_by_edge}
 use Rattle.motion_laws.specs.results.Results.{AreNoCalls, ResultsAreTold, Tells}

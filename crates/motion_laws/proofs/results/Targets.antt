@@ -25,20 +25,20 @@ use Rattle.motion_kernel.specs.kept.Machine.{AreWhole}
 use Rattle.motion_kernel.proofs.kept.Calls.{axis_object}
 use Rattle.motion_kernel.proofs.kept.Laws.{ConfigurationsAreSound}
 use Rattle.motion_laws.specs.arrivals.Moves.{KeepsMotion, MovesArrive}
-use Rattle.motion_laws.specs.owners.Commands.{active_at}
-use Rattle.motion_laws.specs.owners.Kinds.{AreOfTheirBlocks, is_reset}
-use Rattle.motion_laws.specs.owners.Objects.{a_group, an_axis, object_of}
-use Rattle.motion_laws.specs.results.Effects.{charge_at}
+use Rattle.motion_kernel.specs.owners.Commands.{active_at}
+use Rattle.motion_kernel.specs.owners.Kinds.{AreOfTheirBlocks, is_reset}
+use Rattle.motion_kernel.specs.owners.Objects.{a_group, an_axis, object_of}
+use Rattle.motion_kernel.specs.owners.Blocks.{charge_at}
 use Rattle.motion_laws.specs.results.Outcomes.{answer_in, end_answered, end_by_edge, end_of_command, finish_in}
 use Rattle.motion_laws.specs.results.Results.{KeepsResults, ResultsAreTold, end_in}
 use Rattle.motion_laws.specs.results.Targets.{IsDoneThere, MovesEndThere}
 use Rattle.motion_laws.proofs.Histories.{past_so_far}
 use Rattle.motion_laws.proofs.owners.active.Cycles.{found_in}
-use Rattle.motion_laws.proofs.owners.commands.Events.{there_where}
+use Rattle.motion_kernel.proofs.owners.commands.Events.{there_where}
 use Rattle.motion_laws.proofs.owners.kinds.Kept.{kinds_match}
 use Rattle.motion_laws.proofs.results.Stays.{machine_kept}
 use Rattle.motion_laws.proofs.results.outcomes.DoneBy.{call_not_done}
-use Rattle.motion_laws.proofs.walk.Keeps.{WalkLaws}
+use Rattle.motion_kernel.proofs.walk.Keeps.{WalkLaws}
 
 -- a move acts on an axis, resets nothing, and is not Done in its call
 on_axis : (x : BlockKind) → is_move x ≡ true → acts_on_group x ≡ false

@@ -16,15 +16,15 @@ use Rattle.motion_kernel.specs.Histories.{Follows, IsPast, IsOf, after, inputs_o
 use Rattle.motion_kernel.specs.Machine.{Machine, instance_at, machine_at_opening}
 use Rattle.motion_kernel.specs.kept.Machine.{AreWhole, IsMachineKept}
 use Rattle.motion_laws.specs.owners.Shown.{AreWhereShown}
-use Rattle.motion_laws.specs.owners.Objects.{IsThere, Object, has_commands_on, a_group, an_axis, object_of}
-use Rattle.motion_laws.specs.owners.Commands.{active_at, active_shown, commands_shown}
+use Rattle.motion_kernel.specs.owners.Objects.{IsThere, Object, has_commands_on, a_group, an_axis, object_of}
+use Rattle.motion_kernel.specs.owners.Commands.{active_at, active_shown, commands_shown}
 use Rattle.motion_laws.specs.entries.Replies.{AreOfBlocks}
 use Rattle.motion_laws.specs.results.Outcomes.{IsOutcome, begins_command, end_of_command, finish_in, progress_at, progress_beside, progress_by, progress_by_call, progress_by_edge}
 use Rattle.motion_laws.specs.results.Results.{AreNoCalls, KeepsResults, ResultsAreTold, Tells, TellsNext, end_in, is_call_of, is_rising}
 use Rattle.motion_laws.proofs.arrivals.Moves.{behind}
 use Rattle.motion_laws.proofs.owners.Shown.{call_all_shown, cycle_all_shown, past_all_shown}
 use Rattle.motion_kernel.proofs.kept.Machine.{kept_by_cycle}
-use Rattle.motion_laws.proofs.owners.commands.Events.{shown_where}
+use Rattle.motion_kernel.proofs.owners.commands.Events.{shown_where}
 use Rattle.motion_laws.proofs.entries.replies.Entries.{call_of_blocks, cycle_of_blocks, opening_of_blocks}
 use Rattle.motion_laws.proofs.entries.replies.Histories.{replay_of_blocks}
 use Rattle.motion_laws.proofs.Histories.{past_kept, past_so_far}

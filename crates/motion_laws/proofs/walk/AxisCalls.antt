@@ -26,7 +26,7 @@ use Rattle.motion_kernel.specs.calls.Asking.{wanted_of}
 use Rattle.motion_laws.specs.arrivals.AxisFates.{call_fate}
 use Rattle.motion_laws.specs.calls.Axis as on_axis
 use Rattle.motion_laws.specs.calls.Axis.{AxisCall, by_group_command, led_by}
-use Rattle.motion_laws.specs.calls.Requests.{Request, machine_asked}
+use Rattle.motion_kernel.specs.calls.Requests.{Request, machine_asked}
 use Rattle.motion_kernel.specs.calls.Calls.{after_axis_command, after_call, after_group_command, after_power, asked_of_axis, axes_led, axis_led, enters_path, group_without_power, leaves_path, members_led, with_axis_core, with_execute, with_group_core, without_owner}
 use Rattle.motion_kernel.specs.looks.GroupLooks.{group_look}
 use Rattle.motion_kernel.specs.Machine.{Machine, axis_among, axis_at, axis_core_at, group_core_at, no_axis}
@@ -36,9 +36,9 @@ use Rattle.motion_kernel.proofs.kept.Detached.{disowned_size}
 use Rattle.motion_kernel.proofs.kept.Events.{axis_beside_axis, axis_beside_group, axis_written}
 use Rattle.motion_kernel.proofs.kept.LedAxes.{led_twice}
 use Rattle.motion_kernel.proofs.Sizes.{by_if}
-use Rattle.motion_laws.proofs.owners.commands.Freed.{axis_disowned}
-use Rattle.motion_laws.proofs.walk.ByTest.{both, one}
-use Rattle.motion_laws.proofs.walk.Requests.{by_request}
+use Rattle.motion_kernel.proofs.owners.commands.Freed.{axis_disowned}
+use Rattle.motion_kernel.proofs.walk.ByTest.{both, one}
+use Rattle.motion_kernel.proofs.walk.Requests.{by_request}
 
 -- whatever is asked, or only what is made as it should
 abbrev pub AnyAsked : Asked → cores.Core → Type 0

@@ -24,7 +24,7 @@ use Rattle.motion_kernel.specs.calls.Calls.{after_axis_command, after_call, afte
 use Rattle.motion_laws.specs.arrivals.GroupFates.{call_fate}
 use Rattle.motion_laws.specs.calls.Group as on_group
 use Rattle.motion_laws.specs.calls.Group.{GroupCall, by_power_off}
-use Rattle.motion_laws.specs.calls.Requests.{Request, machine_asked}
+use Rattle.motion_kernel.specs.calls.Requests.{Request, machine_asked}
 use Rattle.motion_kernel.specs.looks.GroupLooks.{group_look}
 use Rattle.motion_kernel.specs.Machine.{Machine, axis_at, axis_core_at, group_at, group_core_at, list_of}
 use Rattle.motion_kernel.specs.kept.Machine.{IsMachineKept}
@@ -34,8 +34,8 @@ use Rattle.motion_kernel.specs.declared.memberships.Membership.{Membership}
 use Rattle.motion_kernel.proofs.kept.Events.{group_beside_axis, group_beside_group, group_written}
 use Rattle.motion_kernel.proofs.kept.Detached.{disowned_size, group_disowned}
 use Rattle.motion_kernel.proofs.Sizes.{by_if}
-use Rattle.motion_laws.proofs.walk.ByTest.{both, one}
-use Rattle.motion_laws.proofs.walk.Requests.{by_request}
+use Rattle.motion_kernel.proofs.walk.ByTest.{both, one}
+use Rattle.motion_kernel.proofs.walk.Requests.{by_request}
 
 -- a property of a group after a call, by what the call says of it, that every event of the group
 -- gives it

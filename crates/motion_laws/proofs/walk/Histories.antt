@@ -8,9 +8,9 @@ use Rattle.motion_kernel.specs.calls.Calls.{after_call}
 use Rattle.motion_kernel.specs.cycles.Cycles.{after_cycle}
 use Rattle.motion_kernel.specs.kept.Machine.{AreWhole, IsMachineKept}
 use Rattle.motion_kernel.proofs.kept.Machine.{kept_by_cycle}
-use Rattle.motion_laws.proofs.walk.Calls.{by_call}
-use Rattle.motion_laws.proofs.walk.Cycles.{by_cycle}
-use Rattle.motion_laws.proofs.walk.Keeps.{Keeps, WalkLaws}
+use Rattle.motion_kernel.proofs.walk.Calls.{by_call}
+use Rattle.motion_kernel.proofs.walk.Cycles.{by_cycle}
+use Rattle.motion_kernel.proofs.walk.Keeps.{Keeps, WalkLaws}
 
 module _ (laws : WalkLaws) (s : Setup) (May : ℕ → Type 0) (P Q : Machine → Type 0) (keeps : Keeps s May P Q) (free : (k : ℕ) → May k) where
   by_replay : (cycles : ℕ) (m : Machine) (es : List Entry) → AreWhole s → IsMachineKept s m → P m → Follows s cycles m es → P (replay s m es)

@@ -14,7 +14,7 @@ use Rattle.motion_kernel.specs.calls.Asking.{wanted_of}
 use Rattle.motion_kernel.specs.calls.Calls.{asked_of_axis, enters_path, leaves_path}
 use Rattle.motion_kernel.specs.looks.GroupLooks.{group_look}
 use Rattle.motion_kernel.specs.members.Members.{members_at}
-use Rattle.motion_laws.specs.calls.Requests.{Request, for_axis_command, for_group_command, for_nothing, for_power, machine_asked, request_of}
+use Rattle.motion_kernel.specs.calls.Requests.{Request, for_axis_command, for_group_command, for_nothing, for_power, machine_asked, request_of}
 
 -- what is asked of an axis
 pub data AxisCall : Type 0 where

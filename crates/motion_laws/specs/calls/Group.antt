@@ -11,7 +11,7 @@ use Rattle.motion_kernel.specs.calls.Asking.{wanted_of}
 use Rattle.motion_kernel.specs.declared.memberships.Membership.{Membership}
 use Rattle.motion_kernel.specs.looks.GroupLooks.{group_look}
 use Rattle.motion_kernel.specs.members.Members.{membership_of}
-use Rattle.motion_laws.specs.calls.Requests.{Request, for_axis_command, for_group_command, for_nothing, for_power, machine_asked, request_of}
+use Rattle.motion_kernel.specs.calls.Requests.{Request, for_axis_command, for_group_command, for_nothing, for_power, machine_asked, request_of}
 
 -- what is asked of a group
 pub data GroupCall : Type 0 where

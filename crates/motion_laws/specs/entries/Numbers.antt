@@ -12,8 +12,8 @@ use Rattle.motion_history.specs.Setup.{Setup}
 use Rattle.motion_kernel.specs.Histories.{after}
 use Rattle.motion_kernel.specs.Machine.{Machine, axis_at, group_at}
 use Rattle.motion_kernel.specs.members.Members.{member_at, members_at}
-use Rattle.motion_laws.specs.owners.Objects.{IsThere, Object, a_group, an_axis}
-use Rattle.motion_laws.specs.results.Effects.{charge_at}
+use Rattle.motion_kernel.specs.owners.Objects.{IsThere, Object, a_group, an_axis}
+use Rattle.motion_kernel.specs.owners.Blocks.{charge_at}
 use Rattle.motion_laws.specs.results.Outcomes.{end_of_command}
 
 -- the error of an axis or a group, 0 where it has none

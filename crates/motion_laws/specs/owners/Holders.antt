@@ -2,7 +2,7 @@
 use Rattle.std.specs.Prelude.{◌≡◌, ℕ, true, Option, Some, slice_get}
 use Rattle.motion_history.specs.Setup.{Setup}
 use Rattle.motion_kernel.specs.Machine.{Machine, axis_at, group_at}
-use Rattle.motion_laws.specs.owners.Objects.{an_axis, a_group, Object, IsThere, has_commands_on}
+use Rattle.motion_kernel.specs.owners.Objects.{an_axis, a_group, Object, IsThere, has_commands_on}
 
 -- who holds an axis in Stopping or a group in GroupStopping, if an instance does
 abbrev pub holder_at : Machine → Object → Option ℕ

@@ -6,9 +6,9 @@ use Rattle.fb_outputs.specs.declared.outputs.Outputs.{Outputs}
 use Rattle.motion_history.specs.Setup.{Setup}
 use Rattle.motion_history.specs.declared.config.BlockDef.{BlockDef}
 use Rattle.motion_kernel.specs.Machine.{Machine}
-use Rattle.motion_laws.specs.owners.Commands.{ActiveAreShown, CommandsAreShown, active_at, commands_at}
+use Rattle.motion_kernel.specs.owners.Commands.{ActiveAreShown, CommandsAreShown, active_at, commands_at}
 use Rattle.motion_laws.specs.owners.Holders.{HoldersHaveBlocks}
-use Rattle.motion_laws.specs.owners.Objects.{object_of}
+use Rattle.motion_kernel.specs.owners.Objects.{object_of}
 
 -- commands are where their instances show: none where an instance is Idle or Ended, one that waits,
 -- or is a pending reset, where it is Waiting, and the active one where it is Active

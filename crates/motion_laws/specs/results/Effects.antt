@@ -16,19 +16,15 @@ use Rattle.motion_history.specs.Entries.{Entry, call, cycle, end_of}
 use Rattle.motion_history.specs.Setup.{Setup}
 use Rattle.motion_kernel.specs.Histories.{inputs_of}
 use Rattle.motion_kernel.specs.Machine.{Machine, axis_core_at, group_core_at}
+use Rattle.motion_kernel.specs.owners.Blocks.{charge_at}
 use Rattle.motion_kernel.specs.cycles.Cycles.{look_of_axis, look_of_group}
 use Rattle.motion_laws.specs.calls.Axis as on_axis
 use Rattle.motion_laws.specs.calls.Axis.{AxisCall}
 use Rattle.motion_laws.specs.calls.Group as on_group
 use Rattle.motion_laws.specs.calls.Group.{GroupCall}
-use Rattle.motion_laws.specs.calls.Requests.{Request, machine_asked, request_of}
+use Rattle.motion_kernel.specs.calls.Requests.{Request, machine_asked, request_of}
 use Rattle.motion_laws.specs.entries.GroupEvents.{moved_in}
-use Rattle.motion_laws.specs.owners.Objects.{a_group, an_axis, Object}
-
--- the commands of an axis or a group
-abbrev pub charge_at : Machine → Object → Charge
-charge_at m (an_axis n) = axis.charge_of (axis_core_at m n)
-charge_at m (a_group j) = group.charge_of (group_core_at m j)
+use Rattle.motion_kernel.specs.owners.Objects.{a_group, an_axis, Object}
 
 -- what happens to the commands of an axis or a group: those that are there, and how they change
 pub record Effect : Type 0 where

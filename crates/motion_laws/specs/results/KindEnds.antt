@@ -9,9 +9,9 @@ use Rattle.motion_history.specs.Setup.{Setup}
 use Rattle.motion_history.specs.declared.config.BlockDef.{BlockDef}
 use Rattle.motion_kernel.specs.Histories.{machine_after}
 use Rattle.motion_kernel.specs.Machine.{Machine}
-use Rattle.motion_laws.specs.owners.Commands.{active_at}
-use Rattle.motion_laws.specs.owners.Objects.{object_of}
-use Rattle.motion_laws.specs.results.Effects.{charge_at}
+use Rattle.motion_kernel.specs.owners.Commands.{active_at}
+use Rattle.motion_kernel.specs.owners.Objects.{object_of}
+use Rattle.motion_kernel.specs.owners.Blocks.{charge_at}
 use Rattle.motion_laws.specs.results.Outcomes.{finish_in}
 
 -- whether a command may be Done: not a Power, nor one that goes on until another one takes over;

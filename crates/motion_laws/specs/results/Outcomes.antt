@@ -25,7 +25,7 @@ use Rattle.motion_kernel.specs.calls.Asking.{is_done_at_once, wanted_of}
 use Rattle.motion_kernel.specs.calls.Calls.{asked_of_axis, with_execute, without_owner}
 use Rattle.motion_kernel.specs.calls.Telling.{is_holder}
 use Rattle.motion_kernel.specs.looks.GroupLooks.{group_look}
-use Rattle.motion_laws.specs.owners.Objects.{Object, object_of}
+use Rattle.motion_kernel.specs.owners.Objects.{Object, object_of}
 use Rattle.motion_laws.specs.results.Effects.{effect_in, fate_by, notes_by}
 
 -- how far the command of an instance is

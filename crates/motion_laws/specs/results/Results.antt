@@ -14,9 +14,9 @@ use Rattle.motion_laws.specs.arrivals.AxisFates.{axis_fate}
 use Rattle.motion_laws.specs.arrivals.GroupFates.{group_fate}
 use Rattle.motion_kernel.specs.Histories.{after, machine_after, replay}
 use Rattle.motion_kernel.specs.Machine.{Machine, instance_at}
-use Rattle.motion_laws.specs.owners.Objects.{IsThere, Object, a_group, an_axis, object_of}
-use Rattle.motion_laws.specs.owners.Commands.{active_at, commands_shown}
-use Rattle.motion_laws.specs.results.Effects.{charge_at}
+use Rattle.motion_kernel.specs.owners.Objects.{IsThere, Object, a_group, an_axis, object_of}
+use Rattle.motion_kernel.specs.owners.Commands.{active_at, commands_shown}
+use Rattle.motion_kernel.specs.owners.Blocks.{charge_at}
 use Rattle.motion_laws.specs.results.Outcomes.{IsOutcome, end_of_command, finish_in}
 
 -- how the active command of an axis or a group ends in an entry, if it does

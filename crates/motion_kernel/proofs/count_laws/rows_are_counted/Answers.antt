@@ -1,4 +1,4 @@
--- Every row of a legal history is counted, by the laws of the machine and of its axes.
+-- Every row of a past is counted, by the laws of the machine and of its axes.
 use Rattle.motion_kernel.proofs.Counted.{all_counted}
 use Rattle.motion_kernel.proofs.count_laws.rows_are_counted.Goals as goal
 

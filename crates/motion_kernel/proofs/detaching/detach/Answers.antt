@@ -1,28 +1,24 @@
--- All axes, groups and lists have no command of this instance.
-use Rattle.std.proofs.Common.{◌≡◌, ◌∙◌, ap, sym, map, length}
-use Rattle.std.proofs.lemmas.List.{length-map, with_items_is}
-use Rattle.axis_core.specs.Calls.{axis_without_owner}
-use Rattle.motion_kernel.specs.calls.Calls.{without_owner}
-use Rattle.motion_kernel.specs.Seen.{group_without_owner, machine_of, placed}
-use Rattle.motion_kernel.proofs.Sizes.{sized_without}
-use Rattle.motion_kernel.proofs.GroupParts.{without_placed}
+-- The instance has nothing elsewhere.
+use Rattle.std.proofs.Common.{◌≡◌, ◌∙◌, arith, sym, true, false}
+use Rattle.command_pool.specs.Kinds.{acts_on_group}
+use Rattle.motion_kernel.specs.Seen.{machine_of}
+use Rattle.motion_kernel.proofs.owners.Own.{axis_freed, group_freed, where_it_acts}
 use Rattle.motion_kernel.proofs.detaching.detach.Goals as goal
 
-pub returns-clause-after : goal.returns-clause-after
-unfolding without_owner
-returns-clause-after c =
-    let m = machine_of c.args.parts.now in
-    let owner = c.args.owner in
-    let axes = c.args.parts.now.axes in
-    let groups = c.args.parts.now.groups in
-    let a = c.detach_axes.ensures ∙ ap (map (axis_without_owner owner)) c.as_mut_slice.ensures.value in
-    let g = c.detach_groups.ensures ∙ ap (map (group_without_owner owner)) c.as_mut_slice-2.ensures.value in
-    let al : length c.detach_axes.new.axes ≡ axes.len = ap length a ∙ length-map axes.items _ ∙ sym axes.ok.0 in
-    let gl : length c.detach_groups.new.groups ≡ groups.len = ap length g ∙ length-map groups.items _ ∙ sym groups.ok.0 in
-    let alls = with_items_is axes c.detach_axes.new.axes al ∙ a in
-    let gs = ap (map placed) (with_items_is groups c.detach_groups.new.groups gl ∙ g) ∙ without_placed owner groups.items in
-    λ i. record { axes = alls i; groups = gs i; queues = c.detach.ensures i; instances = m.instances }
+pub returns-then-acts_on_group-clause-after : goal.returns-then-acts_on_group-clause-after
+returns-then-acts_on_group-clause-after c =
+    let b = c.args.block.now in
+    let on : acts_on_group b.kind ≡ true = sym c.acts_on_group.ensures ∙ c.if-acts_on_group.true in
+    let size = c.requires.sized.groups in
+    let there = where_it_acts b.object _ _ (acts_on_group b.kind) true on c.requires.object in
+    c.detach_group.ensures
+    ∙ group_freed c.args.layout.now c.args.instance (machine_of c.args.parts.now) c.requires.sized b c.requires.block c.requires.owners on (omega (arith, there))
 
-pub returns-clause-sized : goal.returns-clause-sized
-unfolding without_owner
-returns-clause-sized c s h = rw (returns-clause-after c) (sized_without s c.args.owner (machine_of c.args.parts.now) h)
+pub returns-else-acts_on_group-clause-after : goal.returns-else-acts_on_group-clause-after
+returns-else-acts_on_group-clause-after c =
+    let b = c.args.block.now in
+    let off : acts_on_group b.kind ≡ false = sym c.acts_on_group.ensures ∙ c.if-acts_on_group.false in
+    let size = c.requires.sized.axes in
+    let there = where_it_acts b.object _ _ (acts_on_group b.kind) false off c.requires.object in
+    c.detach_axis.ensures
+    ∙ axis_freed c.args.layout.now c.args.instance (machine_of c.args.parts.now) c.requires.sized b c.requires.block c.requires.owners off (omega (arith, there))

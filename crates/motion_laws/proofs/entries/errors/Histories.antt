@@ -26,7 +26,7 @@ use Rattle.motion_laws.proofs.entries.errors.Cycles.{cycle_shown}
 use Rattle.motion_laws.proofs.entries.errors.Laws.{AreAllShown, AxisErrors, ErrorLaws, GroupErrors, ShowsTruly}
 use Rattle.motion_laws.proofs.entries.events.Histories.{IsEntry, entry_in}
 use Rattle.motion_laws.proofs.entries.rows.Cycles.{cycle_shows}
-use Rattle.motion_laws.proofs.owners.commands.Events.{there_where}
+use Rattle.motion_kernel.proofs.owners.commands.Events.{there_where}
 use Rattle.motion_laws.specs.entries.Errors.{ErrorsShow, ShowErrors, ShowsAxisError, ShowsGroupError}
 use Rattle.motion_laws.specs.entries.Rows.{ShowsAxis, ShowsGroup}
 

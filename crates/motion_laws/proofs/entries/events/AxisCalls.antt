@@ -26,7 +26,7 @@ use Rattle.motion_kernel.proofs.kept.Events.{instance_kept}
 use Rattle.motion_laws.specs.calls.Axis.{by_call}
 use Rattle.motion_laws.specs.entries.AxisEvents.{call_events, led_events}
 use Rattle.motion_laws.proofs.entries.events.Laws.{EventLaws}
-use Rattle.motion_laws.proofs.walk.ByTest.{both}
+use Rattle.motion_kernel.proofs.walk.ByTest.{both}
 use Rattle.motion_laws.proofs.walk.AxisCalls.{AsksWell, IsSaid, said_by_call}
 use Rattle.state_events.specs.Axis.{Lead, command_events, power_events}
 use Rattle.state_events.specs.Laws.{AreAxisEvents}

@@ -39,19 +39,20 @@ use Rattle.motion_kernel.specs.kept.Machine.{AreWhole, IsMachineKept}
 use Rattle.motion_kernel.proofs.Sizes.{by_if}
 use Rattle.motion_laws.specs.calls.Axis as on_axis
 use Rattle.motion_laws.specs.calls.Group.{by_call}
-use Rattle.motion_laws.specs.calls.Requests.{machine_asked, request_of}
+use Rattle.motion_kernel.specs.calls.Requests.{machine_asked, request_of}
 use Rattle.motion_laws.specs.entries.Numbers.{TellsErrors}
-use Rattle.motion_laws.specs.owners.Objects.{a_group, an_axis}
-use Rattle.motion_laws.specs.results.Effects.{changes_by_request, charge_at, effect_by_request, group_changes}
+use Rattle.motion_kernel.specs.owners.Objects.{a_group, an_axis}
+use Rattle.motion_laws.specs.results.Effects.{changes_by_request, effect_by_request, group_changes}
+use Rattle.motion_kernel.specs.owners.Blocks.{charge_at}
 use Rattle.motion_laws.specs.results.Outcomes.{end_of_command}
 use Rattle.motion_laws.proofs.entries.numbers.Groups.{KeepsError, command_keeps, off_same}
 use Rattle.motion_laws.proofs.entries.numbers.Notes.{AllTell, Nothing, Shows, all_told, more, told_in, untold}
 use Rattle.motion_laws.proofs.entries.numbers.Quiet.{TellNone, axis_none, group_command, group_request, none_told}
-use Rattle.motion_laws.proofs.owners.Events.{untold as nothing_told}
+use Rattle.motion_kernel.proofs.owners.Blocks.{untold as nothing_told}
 use Rattle.motion_laws.proofs.walk.AxisCalls as axes
-use Rattle.motion_laws.proofs.walk.ByTest.{both}
+use Rattle.motion_kernel.proofs.walk.ByTest.{both}
 use Rattle.motion_laws.proofs.walk.GroupCalls as groups
-use Rattle.motion_laws.proofs.walk.Keeps.{WalkLaws}
+use Rattle.motion_kernel.proofs.walk.Keeps.{WalkLaws}
 
 -- a call leaves the error of an axis
 joined_error : (w : Wanted) (c : axis.Core) →

@@ -34,12 +34,12 @@ use Rattle.motion_kernel.proofs.kept.GroupSteps.{have_stepped}
 use Rattle.motion_kernel.proofs.kept.Ready.{member_there}
 use Rattle.motion_laws.specs.entries.GroupEvents.{moved_in}
 use Rattle.motion_laws.specs.entries.Numbers.{IsOfAnAxis, TellsErrors, error_at, is_stopped_at}
-use Rattle.motion_laws.specs.owners.Objects.{a_group, an_axis}
+use Rattle.motion_kernel.specs.owners.Objects.{a_group, an_axis}
 use Rattle.motion_laws.proofs.entries.events.Cycles.{groups_moved, resets_count}
 use Rattle.motion_laws.proofs.entries.numbers.Axes as axes
 use Rattle.motion_laws.proofs.entries.numbers.Groups.{IsLeft, cycle_error, cycle_tells, has_failed, reset_left, resets_plain}
 use Rattle.motion_laws.proofs.entries.numbers.Notes.{AllTell, Shows, told_in}
-use Rattle.motion_laws.proofs.walk.Keeps.{WalkLaws}
+use Rattle.motion_kernel.proofs.walk.Keeps.{WalkLaws}
 
 -- an axis
 pub axis_cycled : WalkLaws → (s : Setup) (m : Machine) (c : ℕ) (rows : List AxisRow)

@@ -7,12 +7,12 @@ use Rattle.motion_kernel.specs.Histories.{IsPast, machine_after, replay}
 use Rattle.motion_kernel.specs.Machine.{Machine, machine_at_opening}
 use Rattle.motion_kernel.specs.kept.Machine.{AreWhole, IsMachineKept}
 use Rattle.motion_laws.specs.entries.Numbers.{ErrorsAreTold}
-use Rattle.motion_laws.specs.owners.Objects.{a_group, an_axis}
+use Rattle.motion_kernel.specs.owners.Objects.{a_group, an_axis}
 use Rattle.motion_laws.proofs.Histories.{past_kept, past_so_far}
 use Rattle.motion_laws.proofs.entries.events.Histories.{IsEntry, entry_in}
 use Rattle.motion_laws.proofs.entries.numbers.Calls.{axis_called, group_called}
 use Rattle.motion_laws.proofs.entries.numbers.Cycles.{axis_cycled, group_cycled}
-use Rattle.motion_laws.proofs.walk.Keeps.{WalkLaws}
+use Rattle.motion_kernel.proofs.walk.Keeps.{WalkLaws}
 
 entry_tells : WalkLaws → (s : Setup) (m : Machine) (e : Entry) → AreWhole s → IsMachineKept s m →
     IsEntry s m e → ErrorsAreTold s m e

@@ -38,9 +38,10 @@ use Rattle.motion_laws.specs.calls.Axis as on_axis
 use Rattle.motion_laws.specs.calls.Axis.{AxisCall}
 use Rattle.motion_laws.specs.calls.Group as on_group
 use Rattle.motion_laws.specs.calls.Group.{GroupCall, by_power_off}
-use Rattle.motion_laws.specs.calls.Requests.{Request, for_axis_command, for_group_command, for_nothing, for_power}
-use Rattle.motion_laws.specs.owners.Objects.{a_group}
-use Rattle.motion_laws.specs.results.Effects.{Effect, axis_changes, charge_at, effect_by_request, group_changes}
+use Rattle.motion_kernel.specs.calls.Requests.{Request, for_axis_command, for_group_command, for_nothing, for_power}
+use Rattle.motion_kernel.specs.owners.Objects.{a_group}
+use Rattle.motion_laws.specs.results.Effects.{Effect, axis_changes, effect_by_request, group_changes}
+use Rattle.motion_kernel.specs.owners.Blocks.{charge_at}
 use Rattle.motion_laws.proofs.entries.numbers.Notes.{AllTell, aborts_plain, all_plain, more, plain}
 
 -- changes by which no command ends by an error

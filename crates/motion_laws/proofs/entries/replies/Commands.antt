@@ -31,8 +31,8 @@ use Rattle.motion_kernel.specs.calls.Telling.{told_end, told_notes}
 use Rattle.motion_kernel.specs.declared.memberships.Membership.{Membership}
 use Rattle.motion_kernel.proofs.kept.Machine.{MachinesStayKept}
 use Rattle.motion_kernel.proofs.Sizes.{by_if}
-use Rattle.motion_laws.proofs.walk.Events.{members_instances}
-use Rattle.motion_laws.proofs.walk.Requests.{by_request}
+use Rattle.motion_kernel.proofs.walk.Events.{members_instances}
+use Rattle.motion_kernel.proofs.walk.Requests.{by_request}
 use Rattle.motion_laws.proofs.entries.replies.AxisNumbers.{AreNumbered, axis_numbered, command_told, group_numbered, power_told}
 use Rattle.motion_laws.proofs.entries.replies.GroupNumbers.{group_command_told, group_power_told}
 

@@ -21,8 +21,8 @@ use Rattle.motion_kernel.specs.kept.Machine.{AreWhole, IsMachineKept}
 use Rattle.motion_kernel.proofs.kept.Laws.{ConfigurationsAreSound}
 use Rattle.motion_kernel.proofs.kept.Machine.{MachinesStayKept}
 use Rattle.motion_laws.specs.entries.Replies.{AreOfBlocks}
-use Rattle.motion_laws.specs.owners.Commands.{active_at, active_shown, commands_at, commands_shown}
-use Rattle.motion_laws.specs.owners.Objects.{IsThere, object_of}
+use Rattle.motion_kernel.specs.owners.Commands.{active_at, active_shown, commands_at, commands_shown}
+use Rattle.motion_kernel.specs.owners.Objects.{IsThere, object_of}
 use Rattle.motion_laws.specs.owners.Shown.{AreWhereShown, ShowsCommand}
 use Rattle.motion_laws.proofs.Histories.{past_kept, past_so_far}
 use Rattle.motion_laws.proofs.owners.active.Calls.{reply_active}

@@ -22,7 +22,7 @@ use Rattle.motion_kernel.specs.cycles.GroupResets.{core_after_reset, groups_rese
 use Rattle.motion_kernel.specs.kept.Machine.{IsMachineKept}
 use Rattle.motion_laws.specs.entries.GroupEvents.{moved_in}
 use Rattle.motion_laws.proofs.entries.events.Cycles.{groups_moved, resets_count}
-use Rattle.motion_laws.proofs.owners.commands.Events.{there_where}
+use Rattle.motion_kernel.proofs.owners.commands.Events.{there_where}
 use Rattle.motion_laws.specs.entries.Rows.{ShowMachine, ShowsAxis, ShowsGroup}
 
 -- what is found at a place of a list

@@ -24,4 +24,5 @@ returns c s es setup whole past = record {
   kinds = c.commands_end_by_their_kinds.ensures.kinds s es setup whole past;
   targets = c.done_moves_are_at_their_targets.ensures.targets s es setup whole past;
   rows = c.rows_show_that_moves_arrive.ensures.rows s es setup whole past;
+  counts = c.rows_are_counted.ensures s es setup whole past;
 }

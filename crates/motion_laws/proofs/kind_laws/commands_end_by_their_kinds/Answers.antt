@@ -1,7 +1,7 @@
 -- Commands end by their kinds, by what is told and what the kinds do.
 use Rattle.motion_kernel.proofs.kept.Machine.{MachinesStayKept}
 use Rattle.motion_laws.proofs.results.KindEnds.{end_by_kinds}
-use Rattle.motion_laws.proofs.walk.Keeps.{WalkLaws}
+use Rattle.motion_kernel.proofs.walk.Keeps.{WalkLaws}
 use Rattle.motion_laws.proofs.kind_laws.commands_end_by_their_kinds.Goals as goal
 
 walk : (c : goal.After-group_changes_are_made) → WalkLaws

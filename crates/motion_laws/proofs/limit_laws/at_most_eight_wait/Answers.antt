@@ -1,6 +1,6 @@
 -- At most eight commands wait in each list, by the laws of the machine, its axes and its groups.
 use Rattle.motion_laws.proofs.limits.Waiting.{past_short}
-use Rattle.motion_laws.proofs.walk.Keeps.{CoresKept, WalkLaws}
+use Rattle.motion_kernel.proofs.walk.Keeps.{CoresKept, WalkLaws}
 use Rattle.motion_laws.proofs.limit_laws.at_most_eight_wait.Goals as goal
 
 walk : (c : goal.After-at_most_eight_wait) → WalkLaws

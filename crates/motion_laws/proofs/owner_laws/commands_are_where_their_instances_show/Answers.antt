@@ -1,7 +1,7 @@
 -- Commands are where their instances show, by the laws of the machine, its axes and its groups.
 use Rattle.motion_laws.proofs.owners.Shown.{call_all_shown, cycle_all_shown, past_all_shown, opening_all_shown}
 use Rattle.motion_kernel.proofs.kept.Machine.{MachinesStayKept}
-use Rattle.motion_laws.proofs.owners.commands.Events.{OwnerLaws}
+use Rattle.motion_kernel.proofs.owners.commands.Events.{OwnerLaws}
 use Rattle.motion_laws.proofs.owner_laws.commands_are_where_their_instances_show.Goals as goal
 
 laws : (c : goal.After-holders_have_commands) → OwnerLaws

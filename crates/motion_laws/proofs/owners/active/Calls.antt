@@ -14,12 +14,12 @@ use Rattle.motion_history.specs.Setup.{Setup}
 use Rattle.motion_history.specs.declared.config.BlockDef.{BlockDef}
 use Rattle.motion_kernel.specs.calls.Calls.{with_execute, with_instance}
 use Rattle.motion_kernel.specs.Machine.{Machine, instance_at}
-use Rattle.motion_laws.specs.owners.Commands.{ActiveAreShown, active_shown}
-use Rattle.motion_laws.specs.owners.Objects.{has_commands_on}
-use Rattle.motion_laws.proofs.owners.commands.Events.{none_beside, not_shown}
+use Rattle.motion_kernel.specs.owners.Commands.{ActiveAreShown, active_shown}
+use Rattle.motion_kernel.specs.owners.Objects.{has_commands_on}
+use Rattle.motion_kernel.proofs.owners.commands.Events.{none_beside, not_shown}
 use Rattle.motion_laws.proofs.owners.commands.Calls.{power_has_none}
 use Rattle.motion_laws.proofs.owners.active.Events.{active_same, all_active, active_by, instances_active, beside_active}
-use Rattle.motion_laws.proofs.walk.Events.{there_same}
+use Rattle.motion_kernel.proofs.walk.Events.{there_same}
 
 -- an instance that changes so that it shows the same
 pub one_active : (is : List InstanceState) (j k : ℕ) (v : InstanceState) → active_shown v.progress

@@ -11,18 +11,18 @@ use Rattle.motion_history.specs.Setup.{Setup}
 use Rattle.motion_history.specs.declared.config.BlockDef.{BlockDef}
 use Rattle.motion_kernel.specs.cycles.Showing.{axes_shown, found_by, groups_shown, instance_found, instances_found, told_found, with_found}
 use Rattle.motion_kernel.specs.Machine.{Machine, PlacedGroup, axis_at, group_at, instance_at, machine_at_opening}
-use Rattle.motion_laws.specs.owners.Commands.{ActiveAreShown, CommandsAreShown, active_at, commands_at}
-use Rattle.motion_laws.specs.owners.Objects.{IsThere, Object, has_commands_on, is_same, a_group, an_axis}
+use Rattle.motion_kernel.specs.owners.Commands.{ActiveAreShown, CommandsAreShown, active_at, commands_at}
+use Rattle.motion_kernel.specs.owners.Objects.{IsThere, Object, has_commands_on, is_same, a_group, an_axis}
 use Rattle.buffer_modes.proofs.Owners.{nobody}
-use Rattle.motion_laws.proofs.owners.Counts.{other_owner, shown_by}
+use Rattle.motion_kernel.proofs.owners.Counts.{other_owner, shown_by}
 use Rattle.motion_laws.proofs.owners.commands.Cycles.{axes_told}
-use Rattle.motion_laws.proofs.owners.commands.Events.{beside_none, most_one, none_beside, none_if, same_object, shown_if, shown_where}
+use Rattle.motion_kernel.proofs.owners.commands.Events.{beside_none, most_one, none_beside, none_if, same_object, shown_if, shown_where}
 use Rattle.motion_laws.proofs.owners.commands.Opening.{opening_shown, shows_none}
 use Rattle.motion_laws.proofs.owners.active.Calls.{one_active}
 use Rattle.motion_laws.proofs.owners.active.Events.{active_same, AreTrulyShown, active_by, all_are, no_more_than_shown, none_is_active}
 use Rattle.motion_laws.proofs.owners.active.Told.{IsTold, most_active, axes_are_told, groups_are_told, groups_grow, axes_done, groups_done}
 use Rattle.motion_laws.proofs.owners.active.Waiting.{WaitsOf, at_most}
-use Rattle.motion_laws.proofs.walk.Events.{there_same}
+use Rattle.motion_kernel.proofs.walk.Events.{there_same}
 
 -- an owner by its count
 pub found_in : (k : ℕ) (o : Option ℕ) → 0 < is_owner k o → o ≡ Some k

@@ -11,12 +11,12 @@ use Rattle.fb_outputs.specs.declared.instance.Progress.TheVariants.{Idle, Waitin
 use Rattle.motion_history.specs.Setup.{Setup}
 use Rattle.motion_kernel.specs.calls.Calls.{with_instance}
 use Rattle.motion_kernel.specs.Machine.{Machine, instance_at, no_instance}
-use Rattle.motion_laws.specs.owners.Commands.{ActiveAreShown, CommandsAreShown, active_at, active_shown, commands_at, commands_shown}
-use Rattle.motion_laws.specs.owners.Objects.{IsThere, Object, has_commands_on, is_same, a_group, an_axis}
+use Rattle.motion_kernel.specs.owners.Commands.{ActiveAreShown, CommandsAreShown, active_at, active_shown, commands_at, commands_shown}
+use Rattle.motion_kernel.specs.owners.Objects.{IsThere, Object, has_commands_on, is_same, a_group, an_axis}
 use Rattle.command_core.specs.Charge.{waiting_of}
-use Rattle.motion_laws.proofs.walk.Keeps.{charge_at}
-use Rattle.motion_laws.proofs.owners.Counts.{told_shows_none, shown_by, untold_stays}
-use Rattle.motion_laws.proofs.owners.commands.Events.{Changes, ShownOf, event_shown, none_if, same_object}
+use Rattle.motion_kernel.proofs.walk.Keeps.{charge_at}
+use Rattle.motion_kernel.proofs.owners.Counts.{told_shows_none, shown_by, untold_stays}
+use Rattle.motion_kernel.proofs.owners.commands.Events.{Changes, ShownOf, event_shown, none_if, same_object}
 
 -- commands are where their instances show, apart from holds
 pub record AreTrulyShown (s : Setup) (m : Machine) : Type 0 where

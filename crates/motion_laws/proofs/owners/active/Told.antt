@@ -12,9 +12,9 @@ use Rattle.motion_history.specs.Setup.{Setup}
 use Rattle.motion_kernel.specs.cycles.Showing.{axes_shown, groups_shown}
 use Rattle.motion_kernel.specs.Machine.{Machine, PlacedGroup, axis_at, group_among, group_at, instance_at, no_instance}
 use Rattle.motion_kernel.specs.calls.Telling.{shown_active, shown_at}
-use Rattle.motion_laws.specs.owners.Commands.{CommandsAreShown, active_at, active_shown}
-use Rattle.motion_laws.specs.owners.Objects.{IsThere, Object, a_group, an_axis}
-use Rattle.motion_laws.proofs.owners.Counts.{shown_by}
+use Rattle.motion_kernel.specs.owners.Commands.{CommandsAreShown, active_at, active_shown}
+use Rattle.motion_kernel.specs.owners.Objects.{IsThere, Object, a_group, an_axis}
+use Rattle.motion_kernel.proofs.owners.Counts.{shown_by}
 use Rattle.motion_laws.proofs.owners.commands.Cycles.{told_active, active_owner, AsShown, axes_told, axis_active_shown, group_active_shown, groups_told}
 use Rattle.motion_laws.proofs.owners.active.Events.{active_by}
 

@@ -7,10 +7,10 @@ use Rattle.command_pool.specs.declared.notes.Note.{Note}
 use Rattle.fb_outputs.specs.InstanceState.{InstanceState}
 use Rattle.motion_history.specs.Setup.{Setup}
 use Rattle.motion_kernel.specs.Machine.{Machine, instance_at}
-use Rattle.motion_laws.specs.owners.Commands.{ActiveAreShown, CommandsAreShown, active_at, active_shown, commands_at}
-use Rattle.motion_laws.specs.owners.Objects.{IsThere, Object, has_commands_on, is_same}
-use Rattle.motion_laws.proofs.owners.Counts.{told_shows_none, shown_by, untold_stays}
-use Rattle.motion_laws.proofs.owners.commands.Events.{Changes, ShownOf, event_shown, most_one, same_object}
+use Rattle.motion_kernel.specs.owners.Commands.{ActiveAreShown, CommandsAreShown, active_at, active_shown, commands_at}
+use Rattle.motion_kernel.specs.owners.Objects.{IsThere, Object, has_commands_on, is_same}
+use Rattle.motion_kernel.proofs.owners.Counts.{told_shows_none, shown_by, untold_stays}
+use Rattle.motion_kernel.proofs.owners.commands.Events.{Changes, ShownOf, event_shown, most_one, same_object}
 use Rattle.motion_laws.proofs.owners.active.Events.{active_by, waits_at, all_are, no_more_than_shown}
 
 -- in a cycle, who shows Active has no command that waits

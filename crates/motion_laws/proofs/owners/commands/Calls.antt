@@ -15,13 +15,13 @@ use Rattle.motion_history.specs.declared.config.BlockDef.{BlockDef}
 use Rattle.motion_kernel.specs.calls.Calls.{with_execute, with_instance}
 use Rattle.motion_kernel.specs.Machine.{Machine, instance_at}
 use Rattle.motion_kernel.proofs.Sizes.{sized_instance}
-use Rattle.motion_laws.specs.owners.Commands.{CommandsAreShown, commands_shown}
-use Rattle.motion_laws.specs.owners.Objects.{Object, has_commands_on, is_same, object_of}
-use Rattle.motion_laws.proofs.owners.Counts.{shown_by}
-use Rattle.motion_laws.proofs.owners.commands.Asked.{same_commands, all_shown}
-use Rattle.motion_laws.proofs.owners.commands.Events.{not_shown, none_beside, instances_shown, IsGood}
-use Rattle.motion_laws.proofs.owners.commands.Freed.{beside_own}
-use Rattle.motion_laws.proofs.walk.Events.{there_same}
+use Rattle.motion_kernel.specs.owners.Commands.{CommandsAreShown, commands_shown}
+use Rattle.motion_kernel.specs.owners.Objects.{Object, has_commands_on, is_same, object_of}
+use Rattle.motion_kernel.proofs.owners.Counts.{shown_by}
+use Rattle.motion_kernel.proofs.owners.commands.Asked.{same_commands, all_shown}
+use Rattle.motion_kernel.proofs.owners.commands.Events.{not_shown, none_beside, instances_shown, IsGood}
+use Rattle.motion_kernel.proofs.owners.commands.Freed.{beside_own}
+use Rattle.motion_kernel.proofs.walk.Events.{there_same}
 
 -- an instance that changes so that it shows as many commands
 pub one_shown : (is : List InstanceState) (j k : ℕ) (v : InstanceState) → commands_shown v.progress

@@ -10,11 +10,11 @@ use Rattle.motion_history.specs.declared.config.BlockDef.{BlockDef}
 use Rattle.motion_kernel.specs.cycles.Showing.{axes_shown, found_by, groups_shown, instance_found, instances_found, told_found, with_found}
 use Rattle.motion_kernel.specs.Machine.{Machine, axis_at, group_at, instance_at}
 use Rattle.motion_kernel.specs.calls.Telling.{shown_active}
-use Rattle.motion_laws.specs.owners.Commands.{CommandsAreShown, commands_at}
-use Rattle.motion_laws.specs.owners.Objects.{a_group, an_axis}
-use Rattle.motion_laws.proofs.owners.Counts.{owner_is, shown_by}
+use Rattle.motion_kernel.specs.owners.Commands.{CommandsAreShown, commands_at}
+use Rattle.motion_kernel.specs.owners.Objects.{a_group, an_axis}
+use Rattle.motion_kernel.proofs.owners.Counts.{owner_is, shown_by}
 use Rattle.motion_laws.proofs.owners.commands.Calls.{one_shown}
-use Rattle.motion_laws.proofs.owners.commands.Events.{most_one, instances_shown}
+use Rattle.motion_kernel.proofs.owners.commands.Events.{most_one, instances_shown}
 
 -- what the instances are told at its end: an active command's instance shows one already
 pub at_least : (b : Bool) (n c : ℕ) → 1 ≤ c → c ≡ (if b then n else 0) → n ≤ 1 → n ≡ 1

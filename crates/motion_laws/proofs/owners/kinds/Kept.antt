@@ -15,13 +15,13 @@ use Rattle.motion_kernel.specs.Histories.{IsPast, machine_after}
 use Rattle.motion_kernel.specs.Machine.{Machine, axis_among, group_among, group_at_opening, list_of, machine_at_opening}
 use Rattle.motion_kernel.specs.kept.Machine.{AreWhole}
 use Rattle.motion_kernel.proofs.kept.Opening.{none_waits}
-use Rattle.motion_laws.specs.owners.Kinds.{AreOfTheirBlocks, IsOfItsBlock}
-use Rattle.motion_laws.specs.owners.Objects.{a_group, an_axis, IsThere, Object, is_same}
-use Rattle.motion_laws.proofs.owners.commands.Events.{same_object}
-use Rattle.motion_laws.proofs.owners.kinds.Changes.{BringOwn, all_none_own, all_own, disowned_own}
-use Rattle.motion_laws.proofs.walk.Events.{executed_alike, found_alike, freed_at, freed_there, replied_alike}
+use Rattle.motion_kernel.specs.owners.Kinds.{AreOfTheirBlocks, IsOfItsBlock}
+use Rattle.motion_kernel.specs.owners.Objects.{a_group, an_axis, IsThere, Object, is_same}
+use Rattle.motion_kernel.proofs.owners.commands.Events.{same_object}
+use Rattle.motion_kernel.proofs.owners.kinds.Changes.{BringOwn, all_none_own, all_own, disowned_own}
+use Rattle.motion_kernel.proofs.walk.Events.{executed_alike, found_alike, freed_at, freed_there, replied_alike}
 use Rattle.motion_laws.proofs.walk.Histories.{by_history}
-use Rattle.motion_laws.proofs.walk.Keeps.{Alike, Anyone, Asks, Event, Keeps, WalkLaws, charge_at, freed}
+use Rattle.motion_kernel.proofs.walk.Keeps.{Alike, Anyone, Asks, Event, Keeps, WalkLaws, charge_at, freed}
 
 -- of each axis and each group
 abbrev pub KindsMatch : Setup → Machine → Type 0

@@ -1,7 +1,7 @@
 -- Done moves are at their targets, by what is told and where moves arrive.
 use Rattle.motion_kernel.proofs.kept.Machine.{MachinesStayKept}
 use Rattle.motion_laws.proofs.results.Targets.{moves_end_there}
-use Rattle.motion_laws.proofs.walk.Keeps.{WalkLaws}
+use Rattle.motion_kernel.proofs.walk.Keeps.{WalkLaws}
 use Rattle.motion_laws.proofs.result_laws.done_moves_are_at_their_targets.Goals as goal
 
 walk : (c : goal.After-group_changes_are_made) → WalkLaws

@@ -21,13 +21,13 @@ use Rattle.motion_kernel.proofs.cycles.OneAxis.{not_yet}
 use Rattle.motion_kernel.proofs.kept.Events.{group_beside_group}
 use Rattle.motion_kernel.proofs.kept.GroupSteps.{have_stepped}
 use Rattle.motion_laws.specs.entries.GroupEvents.{moved_in}
-use Rattle.motion_laws.specs.owners.Objects.{a_group, an_axis, IsThere, Object, has_commands_on}
+use Rattle.motion_kernel.specs.owners.Objects.{a_group, an_axis, IsThere, Object, has_commands_on}
 use Rattle.motion_laws.specs.results.Effects.{changes_in_cycle}
 use Rattle.motion_laws.proofs.owners.Kept.{axes_good, resets_good, steps_good}
-use Rattle.motion_laws.proofs.owners.commands.Events.{IsGood, OwnerLaws, block_there}
+use Rattle.motion_kernel.proofs.owners.commands.Events.{IsGood, OwnerLaws, block_there}
 use Rattle.motion_laws.proofs.results.outcomes.Leaves.{Folds, Leaves, fold_at, fold_beside, leaves_before, leaves_behind, leaves_more}
 use Rattle.command_core.specs.Laws.{AreInOrder}
-use Rattle.motion_laws.proofs.walk.Events.{axis_event, group_event}
+use Rattle.motion_kernel.proofs.walk.Events.{axis_event, group_event}
 
 -- numbers that differ
 pub apart : (i j : ℕ) → i ≢ j → nat_eq i j ≡ false

@@ -15,14 +15,16 @@ use Rattle.motion_kernel.specs.Machine.{Machine, axis_core_at, group_core_at}
 use Rattle.motion_kernel.specs.cycles.Cycles.{look_of_axis, look_of_group}
 use Rattle.motion_laws.specs.calls.Axis as on_axis
 use Rattle.motion_laws.specs.calls.Group as on_group
-use Rattle.motion_laws.specs.calls.Requests.{Request, machine_asked, request_of}
+use Rattle.motion_kernel.specs.calls.Requests.{Request, machine_asked, request_of}
 use Rattle.motion_laws.specs.entries.GroupEvents.{moved_in}
-use Rattle.motion_laws.specs.owners.Commands.{active_at}
-use Rattle.motion_laws.specs.owners.Objects.{a_group, an_axis, IsThere, Object}
+use Rattle.motion_kernel.specs.owners.Commands.{active_at}
+use Rattle.motion_kernel.specs.owners.Objects.{a_group, an_axis, IsThere, Object}
 use Rattle.motion_laws.specs.owners.Shown.{AreWhereShown}
-use Rattle.motion_laws.specs.results.Effects.{changes_by_request, changes_in_cycle, charge_at}
+use Rattle.motion_laws.specs.results.Effects.{changes_by_request, changes_in_cycle}
+use Rattle.motion_kernel.specs.owners.Blocks.{charge_at}
 use Rattle.motion_laws.specs.results.Outcomes.{end_of_command}
-use Rattle.motion_laws.proofs.owners.Events.{active_in, commands_of, untold}
+use Rattle.motion_laws.proofs.owners.Events.{active_in, commands_of}
+use Rattle.motion_kernel.proofs.owners.Blocks.{untold}
 use Rattle.motion_laws.proofs.owners.active.Cycles.{found_in}
 use Rattle.motion_laws.proofs.results.Events.{one_there}
 use Rattle.motion_laws.proofs.results.outcomes.Doing.{axis_cycle, group_cycle, group_reset}

@@ -13,10 +13,10 @@ use Rattle.motion_kernel.specs.calls.Calls.{after_call}
 use Rattle.motion_kernel.specs.kept.Machine.{AreWhole, IsMachineKept, IsSized}
 use Rattle.motion_kernel.proofs.kept.Calls as calls
 use Rattle.motion_kernel.proofs.kept.Laws.{ConfigurationsAreSound}
-use Rattle.motion_laws.specs.owners.Objects.{a_group, an_axis, IsThere, has_commands_on, is_same, object_of}
+use Rattle.motion_kernel.specs.owners.Objects.{a_group, an_axis, IsThere, has_commands_on, is_same, object_of}
 use Rattle.motion_laws.specs.owners.Shown.{AreWhereShown}
 use Rattle.motion_laws.specs.results.Outcomes.{IsOutcome, progress_at, progress_beside, progress_by_call}
-use Rattle.motion_laws.proofs.owners.commands.Events.{is_itself, there_where}
+use Rattle.motion_kernel.proofs.owners.commands.Events.{is_itself, there_where}
 use Rattle.motion_laws.proofs.results.outcomes.Final.{OutcomeLaws}
 use Rattle.motion_laws.proofs.results.outcomes.Others.{call_outcome}
 use Rattle.motion_laws.proofs.results.outcomes.Own.{own_outcome}

@@ -26,10 +26,11 @@ use Rattle.motion_laws.specs.calls.Axis as on_axis
 use Rattle.motion_laws.specs.calls.Axis.{AxisCall}
 use Rattle.motion_laws.specs.calls.Group as on_group
 use Rattle.motion_laws.specs.calls.Group.{GroupCall}
-use Rattle.motion_laws.specs.calls.Requests.{machine_asked, request_of}
+use Rattle.motion_kernel.specs.calls.Requests.{machine_asked, request_of}
 use Rattle.motion_laws.specs.entries.GroupEvents.{moved_in}
-use Rattle.motion_laws.specs.owners.Objects.{a_group, an_axis, Object}
-use Rattle.motion_laws.specs.results.Effects.{axis_changes, charge_at, effect_in, fate_by, group_changes}
+use Rattle.motion_kernel.specs.owners.Objects.{a_group, an_axis, Object}
+use Rattle.motion_laws.specs.results.Effects.{axis_changes, effect_in, fate_by, group_changes}
+use Rattle.motion_kernel.specs.owners.Blocks.{charge_at}
 use Rattle.motion_laws.specs.results.Results.{end_in}
 
 -- a reset that is done ends no active command

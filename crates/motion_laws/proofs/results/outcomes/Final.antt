@@ -16,10 +16,10 @@ use Rattle.command_pool.specs.declared.wanted.Wanted.{Wanted}
 use Rattle.fb_outputs.specs.declared.instance.Progress.{Progress}
 use Rattle.fb_outputs.specs.declared.instance.Progress.TheVariants.{Idle, Waiting, Active, Ended}
 use Rattle.motion_kernel.specs.calls.Telling.{is_holder}
-use Rattle.motion_laws.specs.owners.Commands.{active_shown, commands_shown}
+use Rattle.motion_kernel.specs.owners.Commands.{active_shown, commands_shown}
 use Rattle.motion_laws.specs.results.Outcomes.{progress_by}
-use Rattle.motion_laws.proofs.owners.Counts.{other_owner, owner_is}
-use Rattle.motion_laws.proofs.owners.commands.Events.{OwnerLaws, most_one}
+use Rattle.motion_kernel.proofs.owners.Counts.{other_owner, owner_is}
+use Rattle.motion_kernel.proofs.owners.commands.Events.{OwnerLaws, most_one}
 use Rattle.motion_laws.proofs.results.outcomes.Notes.{none_told, progress_told, some_among, told_once}
 
 -- the laws on which outcomes rest

@@ -10,13 +10,14 @@ use Rattle.command_core.specs.Laws.{AreInOrder}
 use Rattle.fb_outputs.specs.InstanceState.{InstanceState}
 use Rattle.motion_history.specs.Setup.{Setup}
 use Rattle.motion_kernel.specs.Machine.{Machine}
-use Rattle.motion_laws.specs.owners.Commands.{commands_shown}
-use Rattle.motion_laws.specs.owners.Objects.{a_group, an_axis, IsThere, Object, has_commands_on, is_same}
-use Rattle.motion_laws.proofs.owners.Events.{event_changes, untold}
-use Rattle.motion_laws.proofs.owners.commands.Events.{OwnerLaws, ShownOf, beside_none, is_itself, same_object}
+use Rattle.motion_kernel.specs.owners.Commands.{commands_shown}
+use Rattle.motion_kernel.specs.owners.Objects.{a_group, an_axis, IsThere, Object, has_commands_on, is_same}
+use Rattle.motion_laws.proofs.owners.Events.{event_changes}
+use Rattle.motion_kernel.proofs.owners.Blocks.{untold}
+use Rattle.motion_kernel.proofs.owners.commands.Events.{OwnerLaws, ShownOf, beside_none, is_itself, same_object}
 use Rattle.motion_laws.proofs.results.Events.{IsSpared, event_spares, progress_in}
 use Rattle.motion_laws.proofs.results.outcomes.Notes.{progress_told, told_exact, told_more}
-use Rattle.motion_laws.proofs.walk.Keeps.{Event, charge_at}
+use Rattle.motion_kernel.proofs.walk.Keeps.{Event, charge_at}
 
 -- both are as they were
 pub record Spares (k : ℕ) (o : Object) (m x : Machine) : Type 0 where

@@ -24,7 +24,7 @@ use Rattle.motion_laws.specs.calls.Axis as on_axis
 use Rattle.motion_laws.specs.calls.Axis.{AxisCall}
 use Rattle.motion_laws.specs.calls.Group as on_group
 use Rattle.motion_laws.specs.calls.Group.{GroupCall}
-use Rattle.motion_laws.specs.calls.Requests.{machine_asked, request_of}
+use Rattle.motion_kernel.specs.calls.Requests.{machine_asked, request_of}
 use Rattle.motion_laws.specs.results.Effects.{axis_changes, group_changes}
 use Rattle.motion_laws.proofs.results.outcomes.Doing.{axis_command, axis_power, group_command, group_off}
 use Rattle.motion_laws.proofs.results.outcomes.Done.{EndsNoneDone}

@@ -15,7 +15,7 @@ use Rattle.fb_outputs.specs.declared.instance.Progress.TheVariants.{Ended}
 use Rattle.motion_kernel.specs.Machine.{instance_at, no_instance}
 use Rattle.motion_kernel.specs.calls.Telling.{told_end, told_notes}
 use Rattle.motion_laws.specs.results.Outcomes.{progress_by}
-use Rattle.motion_laws.proofs.owners.commands.Asked.{set_at}
+use Rattle.motion_kernel.proofs.owners.commands.Asked.{set_at}
 use Rattle.motion_laws.proofs.results.Events.{progress_in}
 
 -- one note after another

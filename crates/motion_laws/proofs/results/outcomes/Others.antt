@@ -37,25 +37,26 @@ use Rattle.motion_laws.specs.calls.Axis as on_axis
 use Rattle.motion_laws.specs.calls.Axis.{AxisCall, by_group_command, led_by}
 use Rattle.motion_laws.specs.calls.Group as on_group
 use Rattle.motion_laws.specs.calls.Group.{by_power_off}
-use Rattle.motion_laws.specs.calls.Requests.{for_axis_command, for_group_command, for_nothing, for_power, request_of}
-use Rattle.motion_laws.specs.owners.Objects.{a_group, an_axis, IsThere, Object, has_commands_on}
+use Rattle.motion_kernel.specs.calls.Requests.{for_axis_command, for_group_command, for_nothing, for_power, request_of}
+use Rattle.motion_kernel.specs.owners.Objects.{a_group, an_axis, IsThere, Object, has_commands_on}
 use Rattle.motion_laws.specs.owners.Shown.{AreWhereShown}
 use Rattle.motion_laws.specs.results.Effects.{axis_changes, changes_by_request, effect_by_request, group_changes}
 use Rattle.motion_laws.specs.results.Outcomes.{progress_at, progress_beside}
-use Rattle.motion_laws.proofs.owners.Events.{event_changes, free_same, free_shown, untold}
+use Rattle.motion_laws.proofs.owners.Events.{event_changes, free_same, free_shown}
+use Rattle.motion_kernel.proofs.owners.Blocks.{untold}
 use Rattle.motion_laws.proofs.owners.Shown.{call_all_shown}
-use Rattle.motion_laws.proofs.owners.commands.Asked.{other_brings, other_brings_group}
-use Rattle.motion_laws.proofs.owners.commands.Events.{IsGood, OwnerLaws, ShownOf, event_shown}
-use Rattle.motion_laws.proofs.owners.commands.Freed.{beside_own}
+use Rattle.motion_kernel.proofs.owners.commands.Asked.{other_brings, other_brings_group}
+use Rattle.motion_kernel.proofs.owners.commands.Events.{IsGood, OwnerLaws, ShownOf, event_shown}
+use Rattle.motion_kernel.proofs.owners.commands.Freed.{beside_own}
 use Rattle.motion_laws.proofs.results.Events.{beside, progress_in}
 use Rattle.motion_laws.proofs.results.outcomes.Cycles.{place_sized, there_sized}
 use Rattle.motion_laws.proofs.results.outcomes.Final.{OutcomeLaws, outcome}
 use Rattle.motion_laws.proofs.results.outcomes.Leaves.{IsWhere, Leaves, Spares, axis_where, elsewhere, event_where, group_where, leaves_before, leaves_behind, leaves_none, spares_more, spares_none, spares_of, where_brings}
 use Rattle.motion_laws.proofs.results.outcomes.Notes.{progress_told}
 use Rattle.motion_laws.proofs.results.outcomes.Shown.{Affects, shown_by}
-use Rattle.motion_laws.proofs.walk.Events.{axis_event, charge_same, freed_at, group_event, members_alike, members_instances}
-use Rattle.motion_laws.proofs.walk.Keeps.{Event, charge_at}
-use Rattle.motion_laws.proofs.walk.Requests.{by_request}
+use Rattle.motion_kernel.proofs.walk.Events.{axis_event, charge_same, freed_at, group_event, members_alike, members_instances}
+use Rattle.motion_kernel.proofs.walk.Keeps.{Event, charge_at}
+use Rattle.motion_kernel.proofs.walk.Requests.{by_request}
 
 -- another instance is set
 set_spares : (k j : ℕ) (o : Object) (m : Machine) (i : InstanceState) → nat_eq j k ≡ false → Spares k o m (with_instance m j i)

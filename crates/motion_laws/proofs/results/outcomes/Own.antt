@@ -27,9 +27,9 @@ use Rattle.motion_kernel.specs.kept.Machine.{IsSized}
 use Rattle.motion_kernel.specs.looks.GroupLooks.{group_look}
 use Rattle.motion_kernel.proofs.Sizes.{sized_axis, sized_group, sized_instance, sized_members, sized_without}
 use Rattle.motion_laws.specs.results.Outcomes.{progress_answered, progress_at, progress_by_call, progress_by_edge}
-use Rattle.motion_laws.proofs.owners.commands.Asked.{set_at}
+use Rattle.motion_kernel.proofs.owners.commands.Asked.{set_at}
 use Rattle.motion_laws.proofs.results.Events.{progress_in}
-use Rattle.motion_laws.proofs.walk.Requests.{by_request, edge_in}
+use Rattle.motion_kernel.proofs.walk.Requests.{by_request, edge_in}
 
 -- an instance that is answered
 answered : (x : BlockKind) (answer : Result Bool Refusal) (i : InstanceState) → (answered_instance x answer i).progress ≡ progress_answered x answer

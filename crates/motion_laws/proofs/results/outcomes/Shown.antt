@@ -14,21 +14,22 @@ use Rattle.motion_kernel.specs.Histories.{inputs_of}
 use Rattle.motion_kernel.specs.Machine.{Machine}
 use Rattle.motion_kernel.specs.cycles.Cycles.{after_cycle, cycled}
 use Rattle.motion_kernel.specs.kept.Machine.{IsMachineKept}
-use Rattle.motion_laws.specs.owners.Commands.{active_at, commands_at, commands_shown}
-use Rattle.motion_laws.specs.owners.Objects.{IsThere, Object, has_commands_on}
+use Rattle.motion_kernel.specs.owners.Commands.{active_at, commands_at, commands_shown}
+use Rattle.motion_kernel.specs.owners.Objects.{IsThere, Object, has_commands_on}
 use Rattle.motion_laws.specs.owners.Shown.{AreWhereShown}
 use Rattle.motion_laws.specs.results.Effects.{Effect, changes_in_cycle, fate_by, notes_by}
 use Rattle.motion_laws.specs.results.Outcomes.{progress_at, progress_beside}
-use Rattle.motion_laws.proofs.owners.Events.{active_in, commands_of, untold}
+use Rattle.motion_laws.proofs.owners.Events.{active_in, commands_of}
+use Rattle.motion_kernel.proofs.owners.Blocks.{untold}
 use Rattle.motion_laws.proofs.owners.Shown.{cycle_all_shown}
-use Rattle.motion_laws.proofs.owners.commands.Events.{IsGood, shown_if}
+use Rattle.motion_kernel.proofs.owners.commands.Events.{IsGood, shown_if}
 use Rattle.motion_laws.proofs.results.Cycles.{found_spares}
 use Rattle.motion_laws.proofs.results.Events.{one_there, progress_in}
 use Rattle.motion_laws.proofs.results.outcomes.Cycles.{cycle_brings, cycle_leaves, cycled_good, there_in}
 use Rattle.motion_laws.proofs.results.outcomes.Final.{IsShownBy, OutcomeLaws, outcome}
 use Rattle.motion_laws.proofs.results.outcomes.Notes.{progress_told}
-use Rattle.motion_laws.proofs.walk.Events.{found_alike}
-use Rattle.motion_laws.proofs.walk.Keeps.{charge_at}
+use Rattle.motion_kernel.proofs.walk.Events.{found_alike}
+use Rattle.motion_kernel.proofs.walk.Keeps.{charge_at}
 
 -- what happens to the commands of an axis or a group, and to an instance that has its commands there
 pub record Affects (k : ℕ) (o : Object) (x : Effect) (m after : Machine) : Type 0 where

@@ -5,6 +5,7 @@ use Rattle.motion_history.specs.Calls.{IsCall}
 use Rattle.motion_history.specs.Entries.{call}
 use Rattle.motion_kernel.specs.Banks.{BankedState}
 use Rattle.motion_kernel.specs.kept.Machine.{IsMachineKept}
+use Rattle.motion_kernel.specs.owners.Blocks.{OwnersHaveBlocks}
 use Rattle.motion_kernel.specs.Seen.{machine_of}
 use Rattle.motion_kernel.proofs.kept.Banked.{banked_more}
 use Rattle.motion_kernel.proofs.banked.BankedKernel.call.Goals as goal
@@ -30,6 +31,8 @@ invariant_of-self c =
     let is : IsCall s c.args.instance i = subst (λ (x : BankedState). IsCall x.config c.args.instance i) (sym c.self.view_is) c.requires.call in
     let room = subst (λ (x : BankedState). length x.history < x.config.entries) (sym c.self.view_is) c.requires.room in
     let kept = c.machines_stay_kept.ensures.call s m c.args.instance i c.self.invariant.whole is c.self.invariant.machine in
+    let owners = c.owners_have_blocks.ensures.call s m c.args.instance i c.self.invariant.whole is c.self.invariant.machine c.self.invariant.owners in
     banked_more c.cycles_add_up.ensures.more k (record k { parts = c.call_block-reply.new.parts; bank = record k.bank { history = c.record_call.new.self } }) (call c.args.instance i c.call_block-reply.result)
     c.self.invariant refl refl c.record_call.ensures c.self.invariant.places c.call_block-reply.ensures.after (is, c.call_block-reply.ensures.reply)
-    (subst (IsMachineKept s) (sym c.call_block-reply.ensures.after) kept) room (let h = c.self.invariant.legal.cycles in omega arith)
+    (subst (IsMachineKept s) (sym c.call_block-reply.ensures.after) kept)
+    (subst (OwnersHaveBlocks s) (sym c.call_block-reply.ensures.after) owners) room (let h = c.self.invariant.legal.cycles in omega arith)

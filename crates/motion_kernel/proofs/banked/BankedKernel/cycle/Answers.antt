@@ -7,6 +7,7 @@ use Rattle.motion_kernel.specs.looks.DriveAnswers.{no_answer}
 use Rattle.motion_kernel.specs.Banks.{BankedState}
 use Rattle.motion_kernel.specs.Histories.{after}
 use Rattle.motion_kernel.specs.kept.Machine.{IsMachineKept}
+use Rattle.motion_kernel.specs.owners.Blocks.{OwnersHaveBlocks}
 use Rattle.motion_kernel.specs.Seen.{machine_of}
 use Rattle.motion_kernel.proofs.cycles.Entries.{after_is, is_cycle}
 use Rattle.motion_kernel.proofs.cycles.Rows.{grow_count, row_count, row_inputs}
@@ -62,4 +63,5 @@ invariant_of-self c =
     let kept = c.machines_stay_kept.ensures.cycle s m ins c.self.invariant.machine (λ j l. counted j no_answer (omega arith)) in
     banked_more c.cycles_add_up.ensures.more k
     (record k { parts = c.cycle_machine.new.parts; aside = c.cycle_machine.new.aside; bank = record k.bank { history = c.record_cycle.new.self } }) e c.self.invariant refl refl
-    history c.cycle_machine.ensures.places step (refl, is_cycle s m ins shown (row_count s m ins) counted) (subst (IsMachineKept s) (sym c.cycle_machine.ensures.after) kept) room (omega arith)
+    history c.cycle_machine.ensures.places step (refl, is_cycle s m ins shown (row_count s m ins) counted) (subst (IsMachineKept s) (sym c.cycle_machine.ensures.after) kept)
+    (subst (OwnersHaveBlocks s) (sym c.cycle_machine.ensures.after) (c.owners_have_blocks.ensures.cycle s m ins c.self.invariant.machine c.self.invariant.owners)) room (omega arith)

@@ -12,4 +12,4 @@ invariant_of-self c =
     let room = subst (λ (x : BankedState). length x.history < x.config.entries) (sym c.self.view_is) c.requires.room in
     let task = subst (λ (x : BankedState). c.args.task < length x.config.tasks) (sym c.self.view_is) c.requires.task in
     banked_more c.cycles_add_up.ensures.more k (record k { bank = record k.bank { history = c.record_end.new.self } }) (end_of c.args.task) c.self.invariant refl refl
-    c.record_end.ensures c.self.invariant.places refl task c.self.invariant.machine room (let h = c.self.invariant.legal.cycles in omega arith)
+    c.record_end.ensures c.self.invariant.places refl task c.self.invariant.machine c.self.invariant.owners room (let h = c.self.invariant.legal.cycles in omega arith)

@@ -16,4 +16,4 @@ invariant_of-self c =
     ∙ ap (λ (b : Bank). record b.history { entries = []; rows = []; group_rows = [] }) c.swap.ensures.x_after
     ∙ cleared_room k.layout o.layout o.bank.history same c.other.invariant.room in
     let sized = subst (IsSized k.layout) (sym c.copy_from-2.ensures) c.self.invariant.machine.sized in
-    banked_begun (record k { bank = _ }) (sym c.copy_from-2.ensures) history c.self.invariant.machine sized c.self.invariant.whole c.self.invariant.places
+    banked_begun (record k { bank = _ }) (sym c.copy_from-2.ensures) history c.self.invariant.machine c.self.invariant.owners sized c.self.invariant.whole c.self.invariant.places

@@ -1,8 +1,8 @@
 -- The kernel stands at its opening.
-use Rattle.std.proofs.Common.{◌∙◌, ap, sym, subst}
-use Rattle.motion_history.specs.Setup.{IsSetup, Setup}
-use Rattle.motion_kernel.specs.Banks.{empty_history}
+use Rattle.std.proofs.Common.{◌∙◌, sym, subst}
+use Rattle.motion_history.specs.Setup.{IsSetup}
 use Rattle.motion_kernel.specs.kept.Machine.{IsMachineKept, IsSized}
+use Rattle.motion_kernel.specs.owners.Blocks.{OwnersHaveBlocks}
 use Rattle.motion_kernel.proofs.kept.Banked.{banked_begun}
 use Rattle.motion_kernel.proofs.banked.BankedKernel.open.Goals as goal
 
@@ -14,5 +14,6 @@ invariant_of-result c =
     let whole = c.in_ok-parts.ensures.whole in
     let opened = c.machines_stay_kept.ensures.opened s setup whole in
     let kept = subst (IsMachineKept s) (sym c.in_ok-parts.ensures.opened) opened in
+    let owners = subst (OwnersHaveBlocks s) (sym c.in_ok-parts.ensures.opened) (c.owners_have_blocks.ensures.opened s) in
     let sized = subst (IsSized s) (sym c.in_ok-bank.ensures.start) opened.sized in
-    banked_begun _ (c.in_ok-parts.ensures.opened ∙ sym c.in_ok-bank.ensures.start) history kept sized whole c.in_ok-aside.ensures
+    banked_begun _ (c.in_ok-parts.ensures.opened ∙ sym c.in_ok-bank.ensures.start) history kept owners sized whole c.in_ok-aside.ensures

@@ -13,4 +13,4 @@ invariant_of-self c =
     let history = c.requires.spare.history ∙ ap (λ (x : BankedState). empty_history x.config) (sym c.self.view_is) in
     let sized = subst (IsSized k.layout) (sym c.copy_from.ensures) c.self.invariant.machine.sized in
     subst (λ (b : Bank). IsBankedKept (record k { bank = b })) (sym c.swap.ensures.x_after)
-    (banked_begun (record k { bank = _ }) (sym c.copy_from.ensures) history c.self.invariant.machine sized c.self.invariant.whole c.self.invariant.places)
+    (banked_begun (record k { bank = _ }) (sym c.copy_from.ensures) history c.self.invariant.machine c.self.invariant.owners sized c.self.invariant.whole c.self.invariant.places)

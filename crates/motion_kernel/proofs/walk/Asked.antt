@@ -27,15 +27,15 @@ use Rattle.motion_kernel.specs.members.Members.{membership_of}
 use Rattle.motion_kernel.proofs.Sizes.{sized_without}
 use Rattle.motion_kernel.proofs.kept.Detached.{disowned_kept}
 use Rattle.motion_kernel.proofs.kept.Events.{axis_written, group_written}
-use Rattle.motion_laws.specs.owners.Objects.{a_group, an_axis, Object, has_commands_on, is_same, object_of}
-use Rattle.motion_laws.proofs.owners.Counts.{answer_shows, group_answer_shows}
-use Rattle.motion_laws.proofs.owners.active.AxisCounts.{own_active}
-use Rattle.motion_laws.proofs.owners.active.GroupCounts.{group_own_active}
-use Rattle.motion_laws.proofs.owners.commands.Asked.{other_brings, other_brings_group}
-use Rattle.motion_laws.proofs.owners.kinds.Tables.{axis_own, group_own}
-use Rattle.motion_laws.proofs.owners.commands.Events.{group_list, is_itself, lists_there}
-use Rattle.motion_laws.proofs.walk.Events.{axis_event, group_event, instances_alike, members_alike, members_instances, then_alike}
-use Rattle.motion_laws.proofs.walk.Keeps.{Asks, WalkLaws}
+use Rattle.motion_kernel.specs.owners.Objects.{a_group, an_axis, Object, has_commands_on, is_same, object_of}
+use Rattle.motion_kernel.proofs.owners.Counts.{answer_shows, group_answer_shows}
+use Rattle.motion_kernel.proofs.owners.active.AxisCounts.{own_active}
+use Rattle.motion_kernel.proofs.owners.active.GroupCounts.{group_own_active}
+use Rattle.motion_kernel.proofs.owners.commands.Asked.{other_brings, other_brings_group}
+use Rattle.motion_kernel.proofs.owners.kinds.Tables.{axis_own, group_own}
+use Rattle.motion_kernel.proofs.owners.commands.Events.{group_list, is_itself, lists_there}
+use Rattle.motion_kernel.proofs.walk.Events.{axis_event, group_event, instances_alike, members_alike, members_instances, then_alike}
+use Rattle.motion_kernel.proofs.walk.Keeps.{Asks, WalkLaws}
 
 -- a command is asked by an instance whose block is there
 own_block : (s : Setup) (k : ℕ) (b : BlockDef) (o : Object) → slice_get s.blocks k ≡ Some b → is_power b.kind ≡ false → object_of b ≡ o →

@@ -18,7 +18,7 @@ use Rattle.fb_outputs.specs.InstanceState.{InstanceState}
 use Rattle.motion_kernel.specs.calls.Asking.{is_done_at_once}
 use Rattle.motion_kernel.specs.calls.Calls.{answered_instance}
 use Rattle.motion_kernel.proofs.Sizes.{by_if}
-use Rattle.motion_laws.specs.owners.Commands.{active_shown}
+use Rattle.motion_kernel.specs.owners.Commands.{active_shown}
 use Rattle.buffer_modes.proofs.Owners.{nobody}
 use Rattle.command_core.proofs.Holders.{owner_counts}
 

@@ -30,7 +30,7 @@ use Rattle.group_core.specs.declared.reason.Reason.TheVariants as group_reasons
 use Rattle.motion_kernel.specs.calls.Asking.{is_done_at_once}
 use Rattle.motion_kernel.specs.calls.Calls.{answered_instance}
 use Rattle.motion_kernel.specs.Machine.{instance_at, no_instance}
-use Rattle.motion_laws.specs.owners.Commands.{commands_shown}
+use Rattle.motion_kernel.specs.owners.Commands.{commands_shown}
 use Rattle.motion_kernel.specs.calls.Telling.{told_end, told_notes}
 
 -- an instance is its own

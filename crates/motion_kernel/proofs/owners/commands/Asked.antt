@@ -15,11 +15,11 @@ use Rattle.group_core.specs.Owners as group
 use Rattle.group_core.specs.declared.reason.Reason as group_reasons
 use Rattle.motion_history.specs.Setup.{Setup}
 use Rattle.motion_kernel.specs.Machine.{Machine, instance_at, no_instance}
-use Rattle.motion_laws.specs.owners.Commands.{CommandsAreShown, commands_at}
-use Rattle.motion_laws.specs.owners.Objects.{Object, has_commands_on, is_same, a_group, an_axis}
+use Rattle.motion_kernel.specs.owners.Commands.{CommandsAreShown, commands_at}
+use Rattle.motion_kernel.specs.owners.Objects.{Object, has_commands_on, is_same, a_group, an_axis}
 use Rattle.buffer_modes.proofs.Owners.{nobody}
-use Rattle.motion_laws.proofs.owners.Counts.{other_owner}
-use Rattle.motion_laws.proofs.owners.commands.Events.{ShownOf, beside_none, none_beside, same_object}
+use Rattle.motion_kernel.proofs.owners.Counts.{other_owner}
+use Rattle.motion_kernel.proofs.owners.commands.Events.{ShownOf, beside_none, none_beside, same_object}
 
 -- a command that is asked of an axis
 pub other_brings : (j k : ℕ) (o : Option axis_reasons.Reason) (w : Wanted) → nat_eq k j ≡ false →

@@ -8,7 +8,7 @@ use Rattle.fb_outputs.specs.declared.instance.Progress.TheVariants.{Idle, Waitin
 use Rattle.group_core.specs.Owners as group
 use Rattle.motion_history.specs.Setup.{Setup}
 use Rattle.motion_kernel.specs.Machine.{Machine, axis_at, axis_core_at, group_at, group_core_at, instance_at}
-use Rattle.motion_laws.specs.owners.Objects.{an_axis, a_group, Object, IsThere, has_commands_on}
+use Rattle.motion_kernel.specs.owners.Objects.{an_axis, a_group, Object, IsThere, has_commands_on}
 
 -- how many of its commands an instance has: the active one, those that wait and a pending reset
 abbrev pub commands_at : Machine → ℕ → Object → ℕ

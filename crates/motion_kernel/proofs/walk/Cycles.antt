@@ -16,9 +16,9 @@ use Rattle.motion_kernel.specs.kept.Machine.{IsMachineKept, IsSized}
 use Rattle.motion_kernel.specs.looks.AxisLooks.{Surroundings, axis_look}
 use Rattle.motion_kernel.specs.looks.GroupLooks.{group_look}
 use Rattle.motion_kernel.proofs.Sizes.{sized_axis, sized_group}
-use Rattle.motion_laws.specs.owners.Objects.{a_group, an_axis}
-use Rattle.motion_laws.proofs.walk.Events.{axis_event, group_event}
-use Rattle.motion_laws.proofs.walk.Keeps.{Keeps, WalkLaws}
+use Rattle.motion_kernel.specs.owners.Objects.{a_group, an_axis}
+use Rattle.motion_kernel.proofs.walk.Events.{axis_event, group_event}
+use Rattle.motion_kernel.proofs.walk.Keeps.{Keeps, WalkLaws}
 
 -- what is kept, and the sizes
 pub record Good (s : Setup) (Q : Machine → Type 0) (m : Machine) : Type 0 where

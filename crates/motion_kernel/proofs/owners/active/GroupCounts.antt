@@ -15,8 +15,8 @@ use Rattle.group_core.specs.declared.reason.Reason as group_reason
 use Rattle.motion_kernel.specs.calls.Calls.{answered_instance}
 use Rattle.command_changes.proofs.group.Brought.{nobody_brakes}
 use Rattle.command_core.proofs.Holders.{owner_counts}
-use Rattle.motion_laws.specs.owners.Commands.{active_shown}
-use Rattle.motion_laws.proofs.owners.active.AxisCounts.{not_at_once, active_by}
+use Rattle.motion_kernel.specs.owners.Commands.{active_shown}
+use Rattle.motion_kernel.proofs.owners.active.AxisCounts.{not_at_once, active_by}
 
 abbrev pub group_active_of : ℕ → groups.Core → ℕ
 group_active_of k c = is_owner k (owner_by c.group.active)

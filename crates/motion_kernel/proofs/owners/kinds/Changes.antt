@@ -10,7 +10,7 @@ use Rattle.command_core.specs.Charge.{Charge, disowned}
 use Rattle.command_pool.specs.Waiting.{detached, without}
 use Rattle.command_pool.specs.declared.wanted.Wanted.{Wanted}
 use Rattle.motion_history.specs.Setup.{Setup}
-use Rattle.motion_laws.specs.owners.Kinds.{AreOfTheirBlocks, IsOfAReset, IsOfItsBlock}
+use Rattle.motion_kernel.specs.owners.Kinds.{AreOfTheirBlocks, IsOfAReset, IsOfItsBlock}
 
 -- the command that may be there
 abbrev pub IsOwn : Setup → Option Wanted → Type 0

@@ -27,10 +27,10 @@ use Rattle.motion_kernel.specs.members.Members.{members_at}
 use Rattle.motion_kernel.proofs.Sizes.{by_if}
 use Rattle.motion_kernel.proofs.calls.Leading.{one_led}
 use Rattle.motion_kernel.proofs.kept.Events.{axis_beside_axis, axis_beside_group, axis_written, group_beside_axis, group_beside_group, group_written}
-use Rattle.motion_laws.specs.owners.Objects.{a_group, an_axis, IsThere, Object, is_same}
-use Rattle.motion_laws.proofs.owners.commands.Events.{axis_as_many, group_as_many, group_list, lists_there}
-use Rattle.motion_laws.proofs.owners.commands.Freed.{as_many_without, axis_disowned, group_disowned}
-use Rattle.motion_laws.proofs.walk.Keeps.{Alike, Event, WalkLaws, charge_at, freed}
+use Rattle.motion_kernel.specs.owners.Objects.{a_group, an_axis, IsThere, Object, is_same}
+use Rattle.motion_kernel.proofs.owners.commands.Events.{axis_as_many, group_as_many, group_list, lists_there}
+use Rattle.motion_kernel.proofs.owners.commands.Freed.{as_many_without, axis_disowned, group_disowned}
+use Rattle.motion_kernel.proofs.walk.Keeps.{Alike, Event, WalkLaws, charge_at, freed}
 
 -- an event of an axis
 pub axis_event : (s : Setup) (n : ℕ) (m : Machine) (c : cores.Core) (xs : List Change) → IsSized s m → n < length m.axes →

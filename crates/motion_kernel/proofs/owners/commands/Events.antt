@@ -18,10 +18,10 @@ use Rattle.motion_kernel.specs.calls.Calls.{with_axis_core, with_group_core}
 use Rattle.motion_kernel.specs.Machine.{Machine, instance_at, list_of}
 use Rattle.motion_kernel.specs.kept.Machine.{IsSized}
 use Rattle.motion_kernel.specs.calls.Telling.{told_notes}
-use Rattle.motion_laws.specs.owners.Commands.{CommandsAreShown, commands_at, commands_shown}
-use Rattle.motion_laws.specs.owners.Objects.{IsThere, Object, has_commands_on, is_same, object_of, a_group, an_axis}
-use Rattle.motion_laws.proofs.owners.Counts.{shown_by, told_shows_none, untold_stays}
-use Rattle.motion_laws.proofs.walk.Keeps.{WalkLaws}
+use Rattle.motion_kernel.specs.owners.Commands.{CommandsAreShown, commands_at, commands_shown}
+use Rattle.motion_kernel.specs.owners.Objects.{IsThere, Object, has_commands_on, is_same, object_of, a_group, an_axis}
+use Rattle.motion_kernel.proofs.owners.Counts.{shown_by, told_shows_none, untold_stays}
+use Rattle.motion_kernel.proofs.walk.Keeps.{WalkLaws}
 
 -- the laws on which it rests that commands are where their instances show
 pub record OwnerLaws : Type 0 where

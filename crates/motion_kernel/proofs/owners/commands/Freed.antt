@@ -13,9 +13,9 @@ use Rattle.motion_history.specs.Setup.{Setup}
 use Rattle.motion_kernel.specs.calls.Calls.{with_instance, without_owner}
 use Rattle.motion_kernel.specs.Machine.{Machine, PlacedGroup, axis_core_at, group_core_at, list_of, no_axis, no_group, no_instance}
 use Rattle.motion_kernel.specs.kept.Machine.{IsSized}
-use Rattle.motion_laws.specs.owners.Commands.{commands_at, commands_shown}
-use Rattle.motion_laws.specs.owners.Objects.{IsThere, Object, a_group, an_axis}
-use Rattle.motion_laws.proofs.owners.commands.Events.{ShownOf, instances_shown}
+use Rattle.motion_kernel.specs.owners.Commands.{commands_at, commands_shown}
+use Rattle.motion_kernel.specs.owners.Objects.{IsThere, Object, a_group, an_axis}
+use Rattle.motion_kernel.proofs.owners.commands.Events.{ShownOf, instances_shown}
 
 -- an owner that is taken away
 pub list_without : (k : ℕ) (queues : List (List Wanted)) (list : ℕ) → queue_of

@@ -20,10 +20,10 @@ use Rattle.motion_kernel.specs.kept.Machine.{AreWhole, IsMachineKept, IsSized}
 use Rattle.motion_kernel.specs.kept.Ready.{MayCall}
 use Rattle.motion_kernel.proofs.kept.Laws.{AxesKeepDefinitions, AxesStayKept, GroupsKeepAxes, GroupsStayKept}
 use Rattle.motion_kernel.proofs.kept.Machine.{MachinesStayKept}
-use Rattle.motion_laws.specs.owners.Commands.{active_shown, commands_shown}
-use Rattle.motion_laws.proofs.owners.kinds.Changes.{BringOwn}
-pub use Rattle.motion_laws.specs.results.Effects.{charge_at}
-use Rattle.motion_laws.specs.owners.Objects.{IsThere, Object, has_commands_on, is_same}
+use Rattle.motion_kernel.specs.owners.Commands.{active_shown, commands_shown}
+use Rattle.motion_kernel.proofs.owners.kinds.Changes.{BringOwn}
+pub use Rattle.motion_kernel.specs.owners.Blocks.{charge_at}
+use Rattle.motion_kernel.specs.owners.Objects.{IsThere, Object, has_commands_on, is_same}
 
 -- the commands are the same
 pub record Alike (m x : Machine) : Type 0 where

@@ -12,8 +12,8 @@ use Rattle.motion_history.specs.Setup.{Setup}
 use Rattle.motion_history.specs.declared.config.BlockDef.{BlockDef}
 use Rattle.motion_kernel.specs.Machine.{Machine, instance_at}
 use Rattle.motion_kernel.specs.calls.Calls.{after_asking, after_axis_command, after_edge, after_group_command, after_power, called, called_where, with_execute, without_owner}
-use Rattle.motion_laws.specs.calls.Requests.{Request, for_axis_command, for_group_command, for_nothing, for_power, request_by_edge, request_by_kind, request_of}
-use Rattle.motion_laws.proofs.walk.ByTest.{both}
+use Rattle.motion_kernel.specs.calls.Requests.{Request, for_axis_command, for_group_command, for_nothing, for_power, request_by_edge, request_by_kind, request_of}
+use Rattle.motion_kernel.proofs.walk.ByTest.{both}
 
 -- the edge of a call's Execute
 abbrev pub edge_in : ℕ → Inputs → Machine → Edge

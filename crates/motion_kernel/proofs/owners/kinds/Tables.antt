@@ -24,8 +24,8 @@ use Rattle.group_core.specs.declared.look.GroupLook.{GroupLook}
 use Rattle.group_core.specs.declared.reason.Reason as group_reason
 use Rattle.motion_history.specs.Setup.{Setup}
 use Rattle.motion_kernel.proofs.Sizes.{by_if}
-use Rattle.motion_laws.specs.owners.Kinds.{IsOfAReset, IsOfItsBlock, is_reset}
-use Rattle.motion_laws.proofs.owners.kinds.Changes.{BringOwn, IsOwn, nobody_own, ownerless, some_own}
+use Rattle.motion_kernel.specs.owners.Kinds.{IsOfAReset, IsOfItsBlock, is_reset}
+use Rattle.motion_kernel.proofs.owners.kinds.Changes.{BringOwn, IsOwn, nobody_own, ownerless, some_own}
 
 module _ (s : Setup) where
   -- a reset

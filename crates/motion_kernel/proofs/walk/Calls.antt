@@ -22,11 +22,11 @@ use Rattle.motion_kernel.specs.declared.memberships.Membership.{Membership}
 use Rattle.motion_kernel.proofs.Sizes.{by_if, sized_axis}
 use Rattle.motion_kernel.proofs.kept.Events.{instance_kept}
 use Rattle.motion_kernel.proofs.members.Places.{membership_is}
-use Rattle.motion_laws.specs.owners.Objects.{a_group, an_axis}
-use Rattle.motion_laws.proofs.walk.Asked.{axis_asks, group_asks}
-use Rattle.motion_laws.proofs.walk.Events.{axis_event, group_event}
-use Rattle.motion_laws.proofs.walk.Keeps.{Keeps, WalkLaws}
-use Rattle.motion_laws.proofs.walk.Requests.{by_request}
+use Rattle.motion_kernel.specs.owners.Objects.{a_group, an_axis}
+use Rattle.motion_kernel.proofs.walk.Asked.{axis_asks, group_asks}
+use Rattle.motion_kernel.proofs.walk.Events.{axis_event, group_event}
+use Rattle.motion_kernel.proofs.walk.Keeps.{Keeps, WalkLaws}
+use Rattle.motion_kernel.proofs.walk.Requests.{by_request}
 
 module _ (laws : WalkLaws) (s : Setup) (May : ℕ → Type 0) (P Q : Machine → Type 0) (keeps : Keeps s May P Q) (k : ℕ) (free : May k) where
   -- a Power

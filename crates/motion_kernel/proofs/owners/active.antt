@@ -1,0 +1,3 @@
+-- An instance shows Active exactly while its command is the active one.
+pub mod AxisCounts
+pub mod GroupCounts

@@ -1,0 +1,3 @@
+-- Commands are of the kinds of their instances' blocks.
+pub mod Changes
+pub mod Tables
