@@ -80,7 +80,7 @@ pub fn step_groups(layout: &Layout, ins: &[DriveIn], parts: &mut Parts, steps: &
 // A pending GroupReset is done, where it may be; the row shows the group after it. It is out of line
 // as the group's step is.
 #[inline(never)]
-fn reset_group(layout: &Layout, group: u8, parts: &mut Parts) -> GroupRow
+fn reset_pending(layout: &Layout, group: u8, parts: &mut Parts) -> GroupRow
     requires sized { IsSized layout.now (machine_of parts.old) }
     requires there { group < length layout.now.groups }
     ensures row { result ≡ group_spec.row_of (resets.core_after_reset layout.now group
@@ -94,6 +94,25 @@ fn reset_group(layout: &Layout, group: u8, parts: &mut Parts) -> GroupRow
     let row = core.reset_cycle(&look, &mut notes);
     tell(&notes, parts);
     row
+}
+
+// The same, and of a group without a pending GroupReset the row alone.
+fn reset_group(layout: &Layout, group: u8, parts: &mut Parts) -> GroupRow
+    requires sized { IsSized layout.now (machine_of parts.old) }
+    requires there { group < length layout.now.groups }
+    ensures row { result ≡ group_spec.row_of (resets.core_after_reset layout.now group
+        (machine_of parts.old)).group }
+    ensures after { machine_of parts.new ≡ resets.after_group_reset layout.now group
+        (machine_of parts.old) }
+{
+    let stays = &parts.groups[group as usize].group().group;
+    if stays.reset.is_none() {
+        return GroupRow {
+            state: stays.state,
+            error: stays.error,
+        };
+    }
+    reset_pending(layout, group, parts)
 }
 
 /// All groups' pending GroupResets, one after another: their rows are the history's.

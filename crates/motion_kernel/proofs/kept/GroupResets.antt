@@ -7,7 +7,6 @@ use Rattle.group_core.specs.Cycles.{reset_where}
 use Rattle.group_core.specs.GroupKept.{is_within}
 use Rattle.group_core.specs.Refusals.{states_in}
 use Rattle.group_core.specs.States.{is_error_stop}
-use Rattle.group_core.specs.Tracks.{OnPath}
 use Rattle.group_core.specs.blocks.Reset.{after_reset, may_reset, reset_by, reset_from}
 use Rattle.group_core.specs.declared.group.Group.{Group}
 use Rattle.buffer_modes.specs.declared.reset.PendingReset.{PendingReset}
@@ -20,6 +19,7 @@ use Rattle.motion_kernel.specs.looks.GroupLooks.{group_look}
 use Rattle.motion_kernel.specs.Machine.{Machine, axis_core_at, group_core_at}
 use Rattle.motion_kernel.specs.kept.Machine.{IsMachineKept, limits_of}
 use Rattle.motion_kernel.specs.members.Members.{member_at, members_at}
+use Rattle.motion_kernel.proofs.GroupParts.{none_where}
 use Rattle.motion_kernel.proofs.kept.AxisCycles.{CycleLaws}
 use Rattle.motion_kernel.proofs.kept.Events.{group_event_kept}
 use Rattle.motion_kernel.proofs.kept.AxesUnled.{led_standing}
@@ -50,10 +50,6 @@ off_path : (members : GroupLook) (on_path : Bool) (g : Group) → is_within g.st
 unfolding reset_where
 off_path members on_path g out within = reset_clears g.reset (states_in members) on_path g out within
 
-no_path_there : (p : Option OnPath) → is_some p ≡ false → p ≡ None
-no_path_there None e = refl
-no_path_there (Some p) e = absurd (cc)
-
 -- a machine is kept by a pending GroupReset
 pub reset_kept : CycleLaws → (s : Setup) (m : Machine) (j : ℕ) → IsMachineKept s m → j < length m.groups → IsMachineKept s (after_group_reset s j m)
 reset_kept laws s m j h l =
@@ -72,7 +68,7 @@ reset_kept laws s m j h l =
         | inr out ↦ elim (laws.alive.reset look (is_some c.path) c.group e) [
           | inl within ↦ absurd (cc)
           | inr none ↦ led_standing d core a.kept (none_moved s m j 0 place (few_members s m j h l) b none)
-              (no_path_there c.path (off_path look (is_some c.path) c.group out e))
+              (none_where c.path (off_path look (is_some c.path) c.group out e))
         ]
       ];
     })
