@@ -1,8 +1,9 @@
 -- machines_stay_kept: kept/, by calls in kept/Calls and kept/MayCall, by cycles in kept/Cycles
+-- owners_have_blocks: owners/Blocks and Opening, by the walk; what a rising edge makes of it: owners/Own
 -- rows_are_counted: Counted, over calls/AxesLeft and cycles/OneAxis
 -- the kernels' own answers: kept/Banked and Kernel, Marked, cycles/Entries
 -- banks_join: Banks
--- what motion_laws cites: Sizes, calls/, cycles/OneAxis and Rows, kept/, looks/Shown, members/Places
+-- what motion_laws cites: Sizes, the walk, owners/, calls/, cycles/OneAxis and Rows, kept/, looks/Shown, members/Places
 pub mod Lists
 pub mod Sizes
 pub mod GroupParts
