@@ -1,13 +1,14 @@
 // The wanted step of a move.
-ghost use Rattle.std.specs.Prelude.{◌≡◌, ◌+◌, ◌≤◌, ◌<◌};
+ghost use Rattle.std.specs.Prelude.{◌≡◌, IsTrue, ◌+◌, ◌≤◌, ◌<◌};
 ghost use Rattle.command_pool.specs.Rates.{AreRates};
 ghost use Rattle.trapezoid_plan.specs.MoveStep.{IsMoveStep, move_step_of, step_ahead_of};
 ghost use Rattle.motion_numbers.specs.Ranges.{IsStep, IsWay};
+ghost use Rattle.motion_numbers.specs.Run.{run_of};
 
 use crate::halts::halt_step;
 use command_pool::Rates;
 use kin_core::steps_fall_toward_zero;
-use motion_numbers::{MOST_STEP, MOST_WAY, searches_find_the_greatest, way_fits, ways_to_rest};
+use motion_numbers::{MOST_STEP, MOST_WAY, ramp_sum, searches_find_the_greatest, ways_to_rest};
 use ramp_root::{Steps, reach};
 use std::marker::Brand;
 use std::sync::ledger::{Blank, Ledger};
@@ -81,11 +82,23 @@ fn step_ahead<L: Ledger>(way: u64, speed: u64, rates: &Rates, steps: &mut Steps<
     let d = rates.d as u64;
     let fastest = (rates.v as u64).min(speed + rates.a as u64);
     let slowest = speed.saturating_sub(d);
-    if way_fits(fastest, d, way) {
+    if surely_fits(fastest, d, way) {
         fastest.max(slowest)
-    } else if !way_fits(slowest + 1, d, way) {
+    } else if ramp_sum(slowest + 1, d) > way as u128 {
         slowest
     } else {
         fastest.min(reach(way, d, steps)).max(slowest)
     }
+}
+
+// Whether the way to rest surely fits, told without a division: twice the fall times that way is at
+// most the square of the step and the fall together.
+fn surely_fits(step: u64, d: u64, way: u64) -> bool
+    requires step { step ≤ MOST_STEP }
+    requires fall { 1 ≤ d }
+    requires most_fall { d ≤ MOST_STEP }
+    ensures { IsTrue result → run_of step d ≤ way }
+{
+    let whole = (step + d) as u128;
+    whole * whole <= (2 * d) as u128 * way as u128
 }
