@@ -83,9 +83,8 @@ pub fn hold_by(kind: BlockKind, owner: Option<u16>) -> Option<u16>
 pub fn leave_stopping(look: &AxisLook, axis: &mut Axis)
     ensures { axis.new ≡ spec.axis_after_stop look.now axis.old }
 {
-    let released = axis.hold.is_none() || !look.stop_held;
     let stopped = matches!(axis.state, AxisState::Stopping) && axis.active.is_none();
-    if stopped && axis.setpoint == axis.previous && released {
+    if stopped && axis.setpoint == axis.previous && (axis.hold.is_none() || !look.stop_held) {
         axis.state = axis_next(axis.state, AxisEvent::StopReleased);
         axis.hold = None;
     }
