@@ -6,6 +6,7 @@ ghost use Rattle.axis_core.specs.Cycles as cycles;
 ghost use Rattle.axis_core.specs.Kept.{IsBlendable, IsCarried, IsMoving, IsNear};
 ghost use Rattle.axis_core.specs.Kinds as spec;
 ghost use Rattle.axis_core.specs.Steps.{taken_step_in};
+ghost use Rattle.axis_core.specs.blocks.Moves as moves_spec;
 ghost use Rattle.motion_numbers.specs.Ranges.{IsStep};
 
 use crate::axis::Axis;
@@ -65,8 +66,15 @@ fn resting(axis: &Axis, ending: Option<Finish>) -> Progress
     }
 }
 
-/// What the active command does in a cycle, with the command that waits first; or
-/// its error.
+// Whether a command of this kind is a move.
+fn is_move(kind: BlockKind) -> bool
+    ensures { result ≡ moves_spec.is_move kind }
+{
+    matches!(kind, BlockKind::MoveAbsolute | BlockKind::MoveRelative)
+}
+
+/// What the active command does in a cycle, with the command that waits first; or its error. Moves
+/// come first, since most commands are moves.
 pub fn progress(
     axis: &Axis,
     wanted: &Wanted,
@@ -81,10 +89,10 @@ pub fn progress(
         (option_copied next.entry) look.now }
     ensures small { IfOk result (λ p. IsStep p.step) }
 {
+    if is_move(wanted.kind) {
+        return Ok(moves::progress(axis, wanted, next));
+    }
     match wanted.kind {
-        BlockKind::MoveAbsolute | BlockKind::MoveRelative => Ok(moves::progress(
-            axis, wanted, next,
-        )),
         BlockKind::Halt | BlockKind::Stop => Ok(halts::progress(axis, wanted)),
         BlockKind::MoveVelocity => velocity::progress(axis, wanted, next, look),
         BlockKind::GearIn => gear::progress(axis, wanted, next, look),
