@@ -1,5 +1,5 @@
 -- What the lines of the machine part leave.
-use Rattle.std.proofs.Common.{◌≡◌, ℕ, ◌≤◌, ℤ, Bool, true, false, Some, Ok, Err, List, [], ◌∷◌, ◌++◌, length, refl, sym, ap, subst, lit≤, ◌<◌}
+use Rattle.std.proofs.Common.{◌≡◌, ℕ, Ok, List, [], ◌∷◌, ◌++◌, refl, sym, ap, subst, lit≤}
 use Rattle.axis_state.specs.declared.definition.AxisDef.{AxisDef}
 use Rattle.kin_core.specs.declared.limits.Limits.{Limits}
 use Rattle.line_text.specs.Reading.{each_of}

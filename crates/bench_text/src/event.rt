@@ -13,15 +13,14 @@ use motion_history::{Builder, MOST_CYCLES};
 
 /// The cycles of a line.
 #[tactic(auto, unfolding(crate::specs::Events::cycle_meaning))]
-pub fn cycles_of(words: &[&[u8]]) -> Result<BenchLine, LineFault>
-    ensures { Gives (λ l. l) (spec.cycle_meaning (texts words.now)) result }
+pub fn cycles_of(words: &[&[u8]]) -> Result<u32, LineFault>
+    ensures { Gives (λ count. BenchLine.Cycles count) (spec.cycle_meaning (texts words.now)) result }
 {
     match words {
-        [] => Ok(BenchLine::Cycles { count: 1 }),
+        [] => Ok(1),
         [count] => {
             let count = number(count)?;
-            let count = in_range(1, MOST_CYCLES, OUT_OF_RANGE, count)?;
-            Ok(BenchLine::Cycles { count })
+            in_range(1, MOST_CYCLES, OUT_OF_RANGE, count)
         }
         _ => Err(LineFault::Rule(WRONG_COUNT)),
     }
@@ -29,12 +28,12 @@ pub fn cycles_of(words: &[&[u8]]) -> Result<BenchLine, LineFault>
 
 /// The end of a task that a line makes.
 #[tactic(auto, unfolding(crate::specs::Events::end_meaning))]
-pub fn end_of(machine: &Builder, words: &[&[u8]]) -> Result<BenchLine, LineFault>
-    ensures { Gives (λ l. l) (spec.end_meaning machine.now (texts words.now)) result }
+pub fn end_of(machine: &Builder, words: &[&[u8]]) -> Result<u8, LineFault>
+    ensures { Gives (λ task. BenchLine.End task) (spec.end_meaning machine.now (texts words.now))
+        result }
 {
     let [name] = words else {
         return Err(LineFault::Rule(WRONG_COUNT));
     };
-    let task = task_named(machine, name)?;
-    Ok(BenchLine::End { task })
+    task_named(machine, name)
 }

@@ -1,6 +1,6 @@
 // A bench as far as it was read, and how its lines lead it on.
 
-ghost use Rattle.std.specs.Prelude.{◌≡◌, ℕ, Result};
+ghost use Rattle.std.specs.Prelude.{◌≡◌, Ok};
 ghost use Rattle.line_text.specs.Reading.{Gives, Takes};
 ghost use Rattle.line_text.specs.Texts.{texts};
 ghost use Rattle.bench_text.specs.Calls as calls;
@@ -211,7 +211,7 @@ impl BenchReader {
             (spec.with_line self.old (calls.call_meaning self.old.setup (texts words.now)))
             self.new result }
     {
-        let line = call_of(self.alloc, &mut self.known, &self.machine, words);
+        let line = call_of(self.alloc, &mut self.known, &self.machine, words)?;
         self.push(line)
     }
 
@@ -220,8 +220,8 @@ impl BenchReader {
         ensures { Takes (spec.with_line self.old (events.cycle_meaning (texts words.now)))
             self.new result }
     {
-        let line = cycles_of(words);
-        self.push(line)
+        let count = cycles_of(words)?;
+        self.push(BenchLine::Cycles { count })
     }
 
     // Takes a line of a task's end.
@@ -230,16 +230,14 @@ impl BenchReader {
             (spec.with_line self.old (events.end_meaning self.old.setup (texts words.now)))
             self.new result }
     {
-        let line = end_of(&self.machine, words);
-        self.push(line)
+        let task = end_of(&self.machine, words)?;
+        self.push(BenchLine::End { task })
     }
 
-    // Takes a line of events.
-    fn push(&mut self, line: Result<BenchLine, LineFault>) -> Result<(), LineFault>
-        ensures { (read : Result BenchLine ℕ) → Gives (λ l. l) read line →
-            Takes (spec.with_line self.old read) self.new result }
+    // Puts a line of events behind those before.
+    fn push(&mut self, line: BenchLine) -> Result<(), LineFault>
+        ensures { Takes (spec.with_line self.old (Ok line)) self.new result }
     {
-        let line = line?;
         let Ok(()) = self.lines.push(line) else {
             return Err(LineFault::OutOfMemory);
         };

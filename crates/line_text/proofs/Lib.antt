@@ -5,6 +5,7 @@ pub mod Results
 pub mod Texts
 pub mod Each
 pub mod Leading
+pub mod Parts
 pub mod Places
 pub mod Numerals
 pub mod Behind

@@ -4,10 +4,9 @@ use Rattle.std.specs.Prelude.{nat_lt, suc}
 use Rattle.std.proofs.Common.{eqb}
 use Rattle.std.specs.List.{filter, position, position_or_len, slice_split}
 use Rattle.std.proofs.lemmas.Bool.{cases_Bool, ltb-true, ltb-false, ne_eqb}
-use Rattle.std.proofs.lemmas.List.{append_assoc}
 use Rattle.std.proofs.lemmas.List.Splits.{length-slice_split, slice_split_first}
 use Rattle.line_text.specs.Lines.{is_end, lines_of, without_empty_end}
-use Rattle.line_text.specs.Words.{is_blank, is_word}
+use Rattle.line_text.specs.Words.{is_word}
 
 -- where the first one that passes stands
 pub record IsFirstAt (p : ℕ → Bool) (xs : List ℕ) (i : ℕ) : Type 0 where
@@ -80,26 +79,9 @@ is_nil (b ∷ bs) h = let f : true ≡ false = h ∙ eqb_suc (length bs) in absu
 -- ---- words
 
 -- a part before others
-word-first : (part : List ℕ) (parts : List (List ℕ)) → filter is_word (part ∷ parts) ≡ filter is_word (part ∷ []) ++ filter is_word parts
+pub word-first : (part : List ℕ) (parts : List (List ℕ)) → filter is_word (part ∷ parts) ≡ filter is_word (part ∷ []) ++ filter is_word parts
 word-first part parts =
     elim (cases_Bool (is_word part)) [
       | inl yet ↦ rw yet refl
       | inr none ↦ rw none refl
     ]
-
--- a blank ends the first part, and the others stand behind it
-pub words-first : (bs : List ℕ) (i : ℕ) → position is_blank bs ≡ Some i →
-    filter is_word (slice_split is_blank bs) ≡ filter is_word (take i bs ∷ []) ++ filter is_word (slice_split is_blank (drop (i + 1) bs))
-words-first bs i h =
-    let first = first_at is_blank bs i h in
-    let split : slice_split is_blank bs ≡ take i bs ∷ slice_split is_blank (drop (i + 1) bs) =
-    rw (first.is) at (slice_split_first is_blank bs 0 (let a = first.is in let b = first.there in omega arith)) in
-    rw split (word-first (take i bs) (slice_split is_blank (drop (i + 1) bs)))
-
--- without a blank there is one part
-pub words-last : (bs : List ℕ) → position is_blank bs ≡ None → slice_split is_blank bs ≡ bs ∷ []
-words-last bs h = split_whole is_blank bs (none_at is_blank bs h)
-
--- words that are put behind others stand no longer before those that are left
-pub words-kept : (new old part rest behind all : List (List ℕ)) → new ≡ old ++ part → rest ≡ part ++ behind → old ++ rest ≡ all → new ++ behind ≡ all
-words-kept new old part rest behind all n r k = rw (n, ← k, r) (append_assoc old part behind)

@@ -12,7 +12,7 @@ use Rattle.line_text.proofs.LineLaws.{one_part, without_empty_end-cons}
 -- ---- parts
 
 -- items that all fail a test, and one behind them that passes
-split-at : (p : ℕ → Bool) (xs : List ℕ) (y : ℕ) (ys : List ℕ) → list_all (λ b. not (p b)) xs ≡ true → p y ≡ true →
+pub split-at : (p : ℕ → Bool) (xs : List ℕ) (y : ℕ) (ys : List ℕ) → list_all (λ b. not (p b)) xs ≡ true → p y ≡ true →
     slice_split p (xs ++ y ∷ ys) ≡ xs ∷ slice_split p ys
 split-at p [] y ys h here = slice_split-cons_yes p y ys here
 split-at p (x ∷ xs) y ys h here =
@@ -20,7 +20,7 @@ split-at p (x ∷ xs) y ys h here =
     slice_split-cons_no p x (xs ++ y ∷ ys) (not-true (p x) parts.0) ∙ ap (onto_first x) (split-at p xs y ys parts.1 here)
 
 -- items that all fail a test
-split-whole : (p : ℕ → Bool) (xs : List ℕ) → list_all (λ b. not (p b)) xs ≡ true → slice_split p xs ≡ xs ∷ []
+pub split-whole : (p : ℕ → Bool) (xs : List ℕ) → list_all (λ b. not (p b)) xs ≡ true → slice_split p xs ≡ xs ∷ []
 split-whole p [] h = refl
 split-whole p (x ∷ xs) h =
     let parts = and_parts (not (p x)) (list_all (λ b. not (p b)) xs) h in
@@ -60,17 +60,17 @@ spelled-lines (b ∷ text) =
 -- ---- words
 
 -- a byte before the first comment
-before-no : (b : ℕ) (line : List ℕ) → is_comment b ≡ false → before_first is_comment (b ∷ line) ≡ b ∷ before_first is_comment line
+pub before-no : (b : ℕ) (line : List ℕ) → is_comment b ≡ false → before_first is_comment (b ∷ line) ≡ b ∷ before_first is_comment line
 before-no b line h =
     let n = position_or_len is_comment line in
     let e : 1 + n ≡ suc n = omega arith in
     rw (h, e) refl
 
-before-here : (b : ℕ) (line : List ℕ) → is_comment b ≡ true → before_first is_comment (b ∷ line) ≡ []
+pub before-here : (b : ℕ) (line : List ℕ) → is_comment b ≡ true → before_first is_comment (b ∷ line) ≡ []
 before-here b line h = rw h refl
 
 -- a blank begins no comment
-blank-plain : (b : ℕ) → is_blank b ≡ true → is_comment b ≡ false
+pub blank-plain : (b : ℕ) → is_blank b ≡ true → is_comment b ≡ false
 blank-plain b h =
     elim (cases_Bool (is_comment b)) [
       | inl here ↦
@@ -86,14 +86,14 @@ words-blank b line h =
     ∙ ap (filter is_word) (slice_split-cons_yes is_blank b (before_first is_comment line) h)
 
 -- what stands before the comment of a word and more is the word and more
-before-word : (w line : List ℕ) → list_all is_plain w ≡ true → before_first is_comment (w ++ line) ≡ w ++ before_first is_comment line
+pub before-word : (w line : List ℕ) → list_all is_plain w ≡ true → before_first is_comment (w ++ line) ≡ w ++ before_first is_comment line
 before-word [] line h = refl
 before-word (b ∷ w) line h =
     let parts = and_parts (is_plain b) (list_all is_plain w) h in
     let none = (or_parts (is_blank b) (is_comment b) (not-true (is_blank b || is_comment b) parts.0)).1 in
     before-no b (w ++ line) none ∙ ap (λ xs. b ∷ xs) (before-word w line parts.1)
 
-no-blanks : (w : List ℕ) → list_all is_plain w ≡ true → list_all (λ b. not (is_blank b)) w ≡ true
+pub no-blanks : (w : List ℕ) → list_all is_plain w ≡ true → list_all (λ b. not (is_blank b)) w ≡ true
 no-blanks [] h = refl
 no-blanks (b ∷ w) h =
     let parts = and_parts (is_plain b) (list_all is_plain w) h in
@@ -104,7 +104,7 @@ kept-word : (w : List ℕ) (words : List (List ℕ)) → 1 ≤ length w → filt
 kept-word [] words h = absurd (omega arith)
 kept-word (b ∷ w) words h = rw (ne_eqb (suc (length w)) 0 (omega arith)) refl
 
-append-nil : (w : List ℕ) → w ++ [] ≡ w
+pub append-nil : (w : List ℕ) → w ++ [] ≡ w
 append-nil [] = refl
 append-nil (b ∷ w) = ap (λ xs. b ∷ xs) (append-nil w)
 

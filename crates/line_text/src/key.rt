@@ -27,15 +27,13 @@ fn text_behind<'a>(key: &[u8], word: &'a [u8]) -> Option<&'a [u8]>
     ensures { option_map (λ v. v.now) result ≡ (if starts_with nat_eq word.now key.now
         then Some (drop (length key.now) word.now) else None) }
 {
-    let mut rest = word;
-    for byte in key {
-        let [first, behind @ ..] = rest else {
-            return None;
-        };
-        if first != byte {
+    if word.len() < key.len() {
+        return None;
+    }
+    for (place, byte) in key.iter().enumerate() {
+        if word[place] != *byte {
             return None;
         }
-        rest = behind;
     }
-    Some(rest)
+    Some(&word[key.len()..])
 }

@@ -13,6 +13,8 @@ use motion_numbers::MOST_NUMBER;
 const MOST_DIGITS: usize = 19;
 
 /// The number that a word is: an optional `-` and 1 to 19 digits, at most 10^18 in size.
+// Out of line it leaves those short that read many numbers.
+#[inline(never)]
 #[tactic(auto, unfolding(crate::specs::Numbers::number_of))]
 pub fn number_of(word: &[u8]) -> Option<i64>
     ensures value { result ≡ spec.number_of word.now }

@@ -6,7 +6,7 @@ ghost use Rattle.line_text.specs.Reading.{Meaning, Takes, TakesText, line_meanin
 ghost use Rattle.line_text.specs.Texts.{texts};
 
 use crate::line::first_line;
-use crate::word::{is_clean, read_words};
+use crate::word::read_words;
 use std::alloc::Global;
 
 /// Why a line is not taken.
@@ -82,12 +82,12 @@ fn take_line<'a, R: LineReader>(
 ) -> Result<(), LineFault>
     ensures { Takes (line_meaning R.meaning reader.old line.now) reader.new result }
 {
-    if !is_clean(line) {
-        return Err(LineFault::Rule(1));
-    }
-    let Ok(()) = read_words(line, words) else {
+    let Ok(clean) = read_words(line, words) else {
         return Err(LineFault::OutOfMemory);
     };
+    if !clean {
+        return Err(LineFault::Rule(1));
+    }
     if words.is_empty() {
         return Ok(());
     }

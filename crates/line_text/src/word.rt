@@ -1,7 +1,8 @@
 // The bytes and the words of a line.
 
-ghost use Rattle.std.specs.Prelude.{◌≡◌, ◌==◌, ◌<◌, ◌∷◌, ◌++◌, [], IfNone, IfOk, IfSome, OnOk, length};
-ghost use Rattle.std.specs.List.{before_first, filter, position, slice_split};
+ghost use Rattle.std.specs.Prelude.{◌≡◌, ◌==◌, ◌<◌, ◌∷◌, ◌++◌, [], IfOk, IfSome, IsTrue, OnOk, length};
+ghost use Rattle.std.specs.List.{filter, position};
+ghost use Rattle.line_text.specs.Spelling.{is_plain};
 ghost use Rattle.line_text.specs.Texts as shown;
 ghost use Rattle.line_text.specs.Texts.{texts};
 ghost use Rattle.line_text.specs.Words as spec;
@@ -46,17 +47,31 @@ pub fn words_of(alloc: Global, line: &[u8]) -> Result<Vec<&[u8]>, AllocError>
     Ok(words)
 }
 
-/// Puts the words of a line in place of those before.
-pub(crate) fn read_words<'a>(line: &'a [u8], words: &mut Vec<&'a [u8]>) -> Result<(), AllocError>
-    ensures { OnOk result (texts words.new.items ≡ spec.words_of line.now) }
+/// Puts the words of a line in place of those before, and tells whether the line is clean.
+pub(crate) fn read_words<'a>(line: &'a [u8], words: &mut Vec<&'a [u8]>) -> Result<bool, AllocError>
+    ensures clean { IfOk result (λ clean. clean ≡ spec.is_clean line.now) }
+    ensures words { OnOk result (texts words.new.items ≡ spec.words_of line.now) }
 {
     words.clear();
-    let mut rest = without_comment(line);
-    while let Some((part, behind)) = first_part(rest) {
-        push_part(part, words)?;
-        rest = behind;
+    let mut clean = true;
+    let mut start = 0;
+    let mut end = line.len();
+    for (place, byte) in line.iter().enumerate() {
+        if is_common(*byte) {
+            continue;
+        }
+        if is_blank(*byte) {
+            push_part(&line[start..place], words)?;
+            start = place + 1;
+        } else if is_comment(*byte) {
+            end = place;
+            break;
+        } else {
+            clean = clean & is_line_byte(*byte);
+        }
     }
-    push_part(rest, words)
+    push_part(&line[start..end], words)?;
+    Ok(clean & is_clean(&line[end..]))
 }
 
 // Puts a part of a line behind the words, where it has a byte.
@@ -70,26 +85,12 @@ fn push_part<'a>(part: &'a [u8], words: &mut Vec<&'a [u8]>) -> Result<(), AllocE
     Ok(())
 }
 
-// What stands before the first blank, and what stands behind it, where there is a blank.
-fn first_part(line: &[u8]) -> Option<(&[u8], &[u8])>
-    ensures words { IfSome result (λ p. filter spec.is_word (slice_split spec.is_blank line.now) ≡
-        filter spec.is_word (p.0.now ∷ []) ++
-        filter spec.is_word (slice_split spec.is_blank p.1.now)) }
-    ensures shorter { IfSome result (λ p. length p.1.now < length line.now) }
-    ensures last { IfNone result (slice_split spec.is_blank line.now ≡ line.now ∷ []) }
+// Whether a byte is one of those that stand in words most often, from `$` to `~`.
+fn is_common(b: u8) -> bool
+    ensures line { IsTrue result → IsTrue (spec.is_line_byte b) }
+    ensures plain { IsTrue result → IsTrue (is_plain b) }
 {
-    match blank_in(line) {
-        Some(blank) => Some((&line[..blank], &line[blank + 1..])),
-        None => None,
-    }
-}
-
-// Where the first blank stands.
-fn blank_in(bytes: &[u8]) -> Option<usize>
-    ensures place { result ≡ position spec.is_blank bytes.now }
-    ensures within { IfSome result (λ place. place < length bytes.now) }
-{
-    bytes.iter().position(|b| is_blank(*b))
+    b'$' <= b && b <= b'~'
 }
 
 // Whether a line may have the byte.
@@ -106,12 +107,9 @@ fn is_blank(b: u8) -> bool
     b == b' ' || b == b'\t' || b == b'\r'
 }
 
-// What stands before the comment of a line.
-fn without_comment(line: &[u8]) -> &[u8]
-    ensures { result.now ≡ before_first spec.is_comment line.now }
+// Whether a byte begins a comment.
+fn is_comment(b: u8) -> bool
+    ensures { result ≡ spec.is_comment b }
 {
-    match place_of(b'#', line) {
-        Some(place) => &line[..place],
-        None => line,
-    }
+    b == b'#'
 }

@@ -1,7 +1,7 @@
 // The inputs of a call.
 
 ghost use Rattle.std.specs.Prelude.{◌≡◌, pos};
-ghost use Rattle.line_text.specs.Reading.{Gives};
+ghost use Rattle.line_text.specs.Reading.{Gives, Takes};
 ghost use Rattle.line_text.specs.Texts.{texts};
 ghost use Rattle.motion_history.specs.Calls.{axes_of};
 ghost use Rattle.machine_words.specs.Given.{given_of, text_of};
@@ -52,23 +52,25 @@ pub fn inputs_by(
         callee.now.block.now state.now (texts words.now)) result }
 {
     if is_off(state) {
-        Ok(INPUTS_OFF)
-    } else {
-        inputs_on(alloc, callee, state, words)
+        return Ok(INPUTS_OFF);
     }
+    let mut inputs = INPUTS_OFF;
+    take_inputs(alloc, callee, state, words, &mut inputs)?;
+    Ok(inputs)
 }
 
-// The inputs of a call with Execute true.
+// Puts the inputs of a call with Execute true in place of others.
 #[tactic(auto, unfolding(crate::specs::Inputs::inputs_on))]
-fn inputs_on(
+fn take_inputs(
     alloc: Global,
     callee: &Callee<'_>,
     state: &[u8],
     words: &[&[u8]],
-) -> Result<Inputs, LineFault>
+    inputs: &mut Inputs,
+) -> Result<(), LineFault>
     requires { IsUnits callee.now.units }
-    ensures { Gives (λ i. i) (spec.inputs_on callee.now.units callee.now.machine.now
-        callee.now.block.now state.now (texts words.now)) result }
+    ensures { Takes (spec.inputs_on callee.now.units callee.now.machine.now callee.now.block.now
+        state.now (texts words.now)) inputs.new result }
 {
     let kind = callee.block.kind;
     broken_unless(are_masters_there(callee.machine, kind, words), WRONG_NAME)?;
@@ -76,42 +78,37 @@ fn inputs_on(
     let Some(given) = texts_given(kind, words) else {
         return Err(LineFault::Rule(NO_VALUE));
     };
-    inputs_of(alloc, callee, &given)
+    read_inputs(alloc, callee, &given, inputs)
 }
 
-// The inputs of a call, by their texts.
+// Puts the inputs of a call in place of others, by their texts.
 #[tactic(auto, unfolding(crate::specs::Inputs::inputs_of))]
-fn inputs_of(alloc: Global, callee: &Callee<'_>, given: &Given<'_>) -> Result<Inputs, LineFault>
+fn read_inputs(
+    alloc: Global,
+    callee: &Callee<'_>,
+    given: &Given<'_>,
+    inputs: &mut Inputs,
+) -> Result<(), LineFault>
     requires { IsUnits callee.now.units }
-    ensures { Gives (λ i. i) (spec.inputs_of callee.now.units callee.now.machine.now
-        (axes_of callee.now.machine.now callee.now.block.now) (given_of given.now)) result }
+    ensures { Takes (spec.inputs_of callee.now.units callee.now.machine.now
+        (axes_of callee.now.machine.now callee.now.block.now) (given_of given.now))
+        inputs.new result }
 {
     let units = callee.units;
     let axes = axes_of(callee.machine, callee.block);
-    let positions = positions_or_none(alloc, units, axes, given.position)?;
-    let velocity = velocity_or_none(units, given.velocity)?;
-    let acceleration = acceleration_or_none(units, given.acceleration)?;
-    let deceleration = acceleration_or_none(units, given.deceleration)?;
-    let jerk = place_or_none(units, given.jerk)?;
-    let mode = mode_or_aborting(given.mode)?;
-    let master = master_or_first(callee.machine, given.master)?;
-    let numerator = number_or(1, given.numerator)?;
-    let denominator = number_or(1, given.denominator)?;
+    inputs.execute = true;
+    inputs.positions = positions_or_none(alloc, units, axes, given.position)?;
+    inputs.velocity = velocity_or_none(units, given.velocity)?;
+    inputs.acceleration = acceleration_or_none(units, given.acceleration)?;
+    inputs.deceleration = acceleration_or_none(units, given.deceleration)?;
+    inputs.jerk = place_or_none(units, given.jerk)?;
+    inputs.mode = mode_or_aborting(given.mode)?;
+    inputs.master = master_or_first(callee.machine, given.master)?;
+    inputs.numerator = number_or(1, given.numerator)?;
+    inputs.denominator = number_or(1, given.denominator)?;
     let table = number_or(0, given.table)?;
-    let table = in_range(0, MOST_TABLE_NUMBER, OUT_OF_RANGE, table)? as u16;
-    Ok(Inputs {
-        execute: true,
-        positions,
-        velocity,
-        acceleration,
-        deceleration,
-        jerk,
-        mode,
-        master,
-        numerator,
-        denominator,
-        table,
-    })
+    inputs.table = in_range(0, MOST_TABLE_NUMBER, OUT_OF_RANGE, table)? as u16;
+    Ok(())
 }
 
 // The velocity of a text, or 0.

@@ -1,6 +1,6 @@
--- The key so far stands before what is left of the word.
-use Rattle.std.proofs.Common.{◌≡◌, ◌++◌, take}
+-- The word begins with the key so far.
+use Rattle.std.proofs.Common.{◌≡◌, take}
 use Rattle.line_text.proofs.key.text_behind.Given as goal
 
-abbrev pub invariant-loop-byte : goal.invariant-loop-byte
-invariant-loop-byte l = l.fn.word ≡ take l.byte-index l.key ++ l.rest
+abbrev pub invariant-loop-place : goal.invariant-loop-place
+invariant-loop-place l = take l.place l.word ≡ take l.place l.key

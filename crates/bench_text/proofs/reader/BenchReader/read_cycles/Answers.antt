@@ -1,5 +1,0 @@
--- The line is read, and then its event is added.
-use Rattle.bench_text.proofs.reader.BenchReader.read_cycles.Goals as goal
-
-pub returns : goal.returns
-returns c = c.push.ensures _ c.cycles_of-line.ensures
