@@ -5,3 +5,4 @@ pub mod OnLine
 pub mod Groups
 pub mod Members
 pub mod MemberLimits
+pub mod OwnedParts

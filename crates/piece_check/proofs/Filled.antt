@@ -15,6 +15,7 @@ use Rattle.motion_history.specs.Setup.{Setup}
 use Rattle.motion_kernel.specs.Machine.{Machine, axis_at, no_axis}
 use Rattle.motion_kernel.specs.kept.Machine.{IsMachineKept}
 use Rattle.motion_kernel.specs.Banks.{IsEarly}
+use Rattle.motion_kernel.specs.owners.Blocks.{OwnersHaveBlocks}
 use Rattle.piece_check.specs.Begun.{IsFirstOrLater, MayBegin}
 use Rattle.piece_text.specs.declared.piece.Piece.{Piece}
 
@@ -54,9 +55,9 @@ with_groups m axes queues instances a q k = λ i. record { axes = a i; groups = 
 
 -- a machine may begin where a piece does, by whether it is the first or a later one
 pub may_by : {E : Type 0} (p : Piece) (m : Machine) (r : Result Bool E) → m ≡ p.machine → IsEarly p.before → IsMachineKept p.trace.config p.machine →
-    IfOk r (λ is. IsTrue is ↔ IsFirstOrLater p.trace.config p.before m) → IfOk r (λ may. IsTrue may ↔ MayBegin p)
-may_by p m (Ok is) same early kept h = (
-  λ yes. record { early = early; machine = kept; first = subst (IsFirstOrLater p.trace.config p.before) same (h.0 yes) },
+    OwnersHaveBlocks p.trace.config p.machine → IfOk r (λ is. IsTrue is ↔ IsFirstOrLater p.trace.config p.before m) → IfOk r (λ may. IsTrue may ↔ MayBegin p)
+may_by p m (Ok is) same early kept owners h = (
+  λ yes. record { early = early; machine = kept; owners = owners; first = subst (IsFirstOrLater p.trace.config p.before) same (h.0 yes) },
   λ may. h.1 (subst (IsFirstOrLater p.trace.config p.before) (sym same) may.first),
 )
-may_by p m (Err e) same early kept h = tt
+may_by p m (Err e) same early kept owners h = tt

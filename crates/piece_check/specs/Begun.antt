@@ -5,6 +5,7 @@ use Rattle.motion_kernel.specs.Banks.{BankedState, IsEarly, nothing_before}
 use Rattle.motion_kernel.specs.Machine.{Machine, machine_at_opening}
 use Rattle.motion_kernel.specs.declared.bank.Before.{Before}
 use Rattle.motion_kernel.specs.kept.Machine.{IsMachineKept}
+use Rattle.motion_kernel.specs.owners.Blocks.{OwnersHaveBlocks}
 use Rattle.piece_text.specs.Piece.{head_text}
 use Rattle.piece_text.specs.declared.piece.Piece.{Piece}
 
@@ -23,10 +24,12 @@ IsFirstOrLater s b m =
     b.banks ≡ 0 → head_text b m ≡ head_text nothing_before (machine_at_opening s)
 
 -- a machine may begin so: what was before can be counted, the machine is one that always holds of
--- the piece's configuration, and is at opening where nothing was before
+-- the piece's configuration, whoever has a command in it is an instance whose block acts there, and
+-- it is at opening where nothing was before
 pub record MayBegin (p : Piece) : Type 0 where
   pub early : IsEarly p.before
   pub machine : IsMachineKept p.trace.config p.machine
+  pub owners : OwnersHaveBlocks p.trace.config p.machine
   pub first : IsFirstOrLater p.trace.config p.before p.machine
 
 -- the kernel that begins there, exactly where a machine may begin so

@@ -4,10 +4,11 @@ ghost use Rattle.std.specs.Prelude.{◌≡◌, ◌↔◌, IfOk, IsTrue};
 ghost use Rattle.motion_kernel.specs.Banks.{at_opening};
 ghost use Rattle.motion_kernel.specs.Machine.{machine_at_opening};
 ghost use Rattle.motion_kernel.specs.kept.Machine.{IsMachineKept, IsSized};
+ghost use Rattle.motion_kernel.specs.owners.Blocks.{OwnersHaveBlocks};
 ghost use Rattle.piece_check.specs.Begun.{Begins, IsFirstOrLater, MayBegin};
 
 use crate::filling::{set_axes, set_groups, set_instances, set_waiting};
-use machine_tests::is_machine_kept;
+use machine_tests::{have_owners_blocks, is_machine_kept};
 use motion_history::Config;
 use motion_kernel::{BankedKernel, Before, Start};
 use piece_text::{MachineText, Piece, head_text};
@@ -73,13 +74,17 @@ fn is_first_or_later(
 }
 
 // Makes of a machine at opening one that was read, and tells whether it is one of which what always
-// holds is true.
+// holds is true, and in which whoever has a command is an instance whose block acts there.
 fn begin(config: &Config, machine: &MachineText, start: &mut Start) -> bool
     requires { start.old ≡ machine_at_opening config.now }
-    ensures kept { IsTrue result ↔ IsMachineKept config.now machine.now }
+    ensures kept { IsTrue result ↔
+        (IsMachineKept config.now machine.now × OwnersHaveBlocks config.now machine.now) }
     ensures made { IsTrue result → start.new ≡ machine.now }
 {
-    is_sized(config, machine) && fill(config, machine, start) && is_machine_kept(config, start)
+    is_sized(config, machine)
+        && fill(config, machine, start)
+        && is_machine_kept(config, start)
+        && have_owners_blocks(config, start)
 }
 
 // Whether a machine that was read has the sizes of a configuration.
