@@ -1,9 +1,9 @@
 // The wanted step of a move.
-ghost use Rattle.std.specs.Prelude.{◌≡◌, IsTrue, ◌+◌, ◌≤◌, ◌<◌};
+ghost use Rattle.std.specs.Prelude.{◌≡◌, IsTrue, ◌+◌, ◌≤◌, ◌<◌, max, min};
 ghost use Rattle.command_pool.specs.Rates.{AreRates};
 ghost use Rattle.trapezoid_plan.specs.MoveStep.{IsMoveStep, move_step_of, step_ahead_of};
 ghost use Rattle.motion_numbers.specs.Ranges.{IsStep, IsWay};
-ghost use Rattle.motion_numbers.specs.Run.{run_of};
+ghost use Rattle.motion_numbers.specs.Run.{reach_of, run_of};
 
 use crate::halts::halt_step;
 use command_pool::Rates;
@@ -87,8 +87,27 @@ fn step_ahead<L: Ledger>(way: u64, speed: u64, rates: &Rates, steps: &mut Steps<
     } else if ramp_sum(slowest + 1, d) > way as u128 {
         slowest
     } else {
-        fastest.min(reach(way, d, steps)).max(slowest)
+        step_between(fastest, slowest, way, d, steps)
     }
+}
+
+// The step where the way allows neither the fastest one nor only the slowest: by a root. Out of line
+// it leaves the other cycles short.
+#[inline(never)]
+fn step_between<L: Ledger>(
+    fastest: u64,
+    slowest: u64,
+    way: u64,
+    d: u64,
+    steps: &mut Steps<L>,
+) -> u64
+    requires fall { 1 ≤ d }
+    requires most_fall { d ≤ MOST_STEP }
+    requires way { way ≤ MOST_WAY }
+    ensures value { result ≡ max (min fastest (reach_of way d)) slowest }
+    ensures cost { steps.new ≤ steps.old + 64 }
+{
+    fastest.min(reach(way, d, steps)).max(slowest)
 }
 
 // Whether the way to rest surely fits, told without a division: twice the fall times that way is at

@@ -39,10 +39,10 @@ returns-else-ramp_sum-way-clause-value g c =
     (unsigned_abs (to_z w64 (of_z w64 c.args.rates.now.v)))
     (unsigned_abs (to_z w64 (of_z w64 c.args.rates.now.a)))
     (unsigned_abs (to_z w64 (of_z w64 c.args.rates.now.d)))
-    c.args.way c.args.speed c.min-fastest.result c.max-else-ramp_sum-way.result
+    c.args.way c.args.speed c.min-fastest.result c.step_between.result
     (omega (arith, ints))
     (omega (arith, ints))
     (omega (arith, ints))
     (omega (arith, ints))
     c.min-fastest.ensures
-    (omega (arith, c.max-else-ramp_sum-way.ensures, c.saturating_sub-slowest.ensures, c.min.ensures, c.reach.ensures.value))
+    (omega (arith, c.step_between.ensures.value, c.saturating_sub-slowest.ensures))
