@@ -12,14 +12,21 @@ ghost use Rattle.motion_kernel.specs.Seen.{machine_of};
 use crate::axis_looks::{Around, axis_look};
 use crate::layout::Layout;
 use crate::parts::Parts;
-use crate::telling::tell;
+use crate::telling::tell_out;
 use axis_state::AxisRow;
 use cia402_machine::DriveOut;
 use command_pool::Notes;
 use motion_history::History;
 
-// An axis goes through the cycle.
-fn cycle_axis(layout: &Layout, around: &Around, axis: u8, parts: &mut Parts) -> AxisRow
+// An axis goes through the cycle: there are no notes before it, and none after it.
+fn cycle_axis(
+    layout: &Layout,
+    around: &Around,
+    axis: u8,
+    parts: &mut Parts,
+    notes: &mut Notes,
+) -> AxisRow
+    requires none { notes.old ≡ [] }
     requires sized { IsSized layout.now (machine_of parts.old) }
     requires there { axis < length layout.now.axes }
     requires may { MayCycle layout.now (around_of around.now) (machine_of parts.old) axis }
@@ -27,12 +34,12 @@ fn cycle_axis(layout: &Layout, around: &Around, axis: u8, parts: &mut Parts) -> 
         (machine_of parts.old) }
     ensures after { machine_of parts.new ≡ spec.after_axis_cycle layout.now
         (around_of around.now) axis (machine_of parts.old) }
+    ensures none { notes.new ≡ [] }
 {
     let look = axis_look(layout, around, axis, parts);
-    let mut notes = Notes::new();
     let core = &mut parts.axes[axis as usize];
-    let row = core.cycle(&mut parts.pool, axis, &look, &mut notes);
-    tell(&notes, parts);
+    let row = core.cycle(&mut parts.pool, axis, &look, notes);
+    tell_out(notes, parts);
     row
 }
 
@@ -73,8 +80,9 @@ pub fn cycle_axes(
         (machine_of parts.old).axes) (around_of around.now) (machine_of parts.old)).rows }
     ensures sized { IsSized layout.now (machine_of parts.new) }
 {
+    let mut notes = Notes::new();
     for axis in 0..parts.axes.len() {
-        let row = cycle_axis(layout, around, axis as u8, parts);
+        let row = cycle_axis(layout, around, axis as u8, parts, &mut notes);
         put_row(row, axis, history, outs);
     }
 }

@@ -80,8 +80,8 @@ fn end_asked(at: Option<Membership>, steps: &[GroupStep]) -> bool
 fn follow_of(axis: &AxisCore) -> Follow
     ensures { result ≡ masters.follow_of axis.now.active }
 {
-    match axis.active() {
-        Some(active) => active.follow,
+    match &axis.axis().active {
+        Some(wanted) => wanted.follow,
         None => Follow::None,
     }
 }

@@ -22,8 +22,9 @@ fn show_axis(axis: &AxisCore, instances: &mut [Instance])
     ensures told { instances.new ≡ spec.axis_shown axis.now instances.old }
     ensures long { length instances.new ≡ length instances.old }
 {
-    if let Some(active) = axis.active() {
-        show_active(active.owner, active.reached, instances);
+    let axis = axis.axis();
+    if let Some(wanted) = &axis.active {
+        show_active(wanted.owner, axis.reached, instances);
     }
 }
 

@@ -1,6 +1,6 @@
 // What the instances of blocks are told.
 
-ghost use Rattle.std.specs.Prelude.{◌≡◌, length};
+ghost use Rattle.std.specs.Prelude.{◌≡◌, [], length};
 ghost use Rattle.motion_kernel.specs.Seen.{machine_of};
 ghost use Rattle.motion_kernel.specs.calls.Telling as spec;
 
@@ -39,6 +39,19 @@ pub fn tell(notes: &Notes, parts: &mut Parts)
     ensures pool { parts.new.pool ≡ parts.old.pool }
 {
     finish_all(notes.as_slice(), parts.instances.as_mut_slice());
+}
+
+/// Tells them the same, and leaves no notes.
+pub fn tell_out(notes: &mut Notes, parts: &mut Parts)
+    ensures told { machine_of parts.new ≡ record (machine_of parts.old) {
+      instances = spec.told_notes notes.old (machine_of parts.old).instances;
+    } }
+    ensures none { notes.new ≡ [] }
+{
+    if !notes.as_slice().is_empty() {
+        tell(notes, parts);
+        *notes = Notes::new();
+    }
 }
 
 // Shows an instance, where it is there, that its command is active, and what that has reached.

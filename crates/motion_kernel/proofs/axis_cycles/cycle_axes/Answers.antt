@@ -21,6 +21,7 @@ loop-axis-init c =
       outs = ap (map (λ (r : AxisRow). r.output)) none;
       long = omega arith;
       sized = c.requires.sized;
+      none = c.new-notes.ensures;
     }
 
 pub put_row-requires-clause-cycle : goal.put_row-requires-clause-cycle
@@ -66,6 +67,7 @@ loop-axis-preserved c =
           ∙ ap (map (λ (r : AxisRow). r.output)) rows;
       long = ap length c.put_row.ensures.out ∙ length-set c.loop-axis.outs _ _ ∙ v.long;
       sized = rw c.cycle_axis-row.ensures.after (sized_axis s before n (core_in_cycle s around n before) v.sized);
+      none = c.cycle_axis-row.ensures.none;
     }
 
 pub returns-clause-outs : goal.returns-clause-outs

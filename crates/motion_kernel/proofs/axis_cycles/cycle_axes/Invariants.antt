@@ -1,4 +1,4 @@
-use Rattle.std.proofs.Common.{◌≡◌, length, map, take}
+use Rattle.std.proofs.Common.{◌≡◌, [], length, map, take}
 use Rattle.axis_state.specs.declared.definition.AxisRow.{AxisRow}
 use Rattle.motion_kernel.specs.looks.Around.{around_of}
 use Rattle.motion_kernel.specs.cycles.AxisCycles as spec
@@ -13,4 +13,5 @@ invariant-loop-axis l = record {
   outs : take l.axis l.outs ≡ map (λ (r : AxisRow). r.output) (spec.axes_cycled l.layout l.axis (around_of l.around) (machine_of l.fn.parts)).rows;
   long : length l.outs ≡ length l.fn.outs;
   sized : IsSized l.layout (machine_of l.parts);
+  none : l.notes ≡ [];
 }
