@@ -1,14 +1,17 @@
 -- Entries that are kept stay as they are where more is put behind what they hold.
 use Rattle.std.specs.Prelude.{◌≡◌, refl, ℕ, zero, suc, ◌+◌, ◌-◌, ◌<◌, ◌≤◌, ◌++◌, List, [], ◌∷◌, drop, length, map, slice_get}
 use Rattle.std.specs.List.{AllByRecursion}
-use Rattle.std.proofs.Common.{◌∙◌, ap, arith}
-use Rattle.std.proofs.lemmas.List.{drop-append-le, length-append, length-drop, take-append-le}
+use Rattle.std.proofs.Common.{◌∙◌, sym, ap, arith}
+use Rattle.std.proofs.lemmas.List.{drop-append-le, length-append, length-drop, map-append, take-append-le}
+use Rattle.motion_history.specs.Entries.{CyclesAddUp, cycle_count, cycles_of}
+use Rattle.trace_text.specs.TraceState.{entry_of}
+use Rattle.trace_text.specs.declared.found_list.FoundList.TheInside.{Inside}
 use Rattle.trace_text.specs.declared.found.FoundEntry.{FoundEntry}
 use Rattle.trace_text.specs.declared.found.FoundEntry.TheVariants as found
 use Rattle.trace_text.specs.declared.found_rooms.Kept.{Kept}
 use Rattle.trace_text.specs.declared.found_rooms.Kept.TheVariants as kept
 use Rattle.trace_text.specs.declared.found_rooms.Rooms.{Rooms}
-use Rattle.trace_text.specs.FoundLists.{Grows, IsKeptSo, IsThere, Leads, called, entry_in, part_of}
+use Rattle.trace_text.specs.FoundLists.{AreKept, Grows, IsKeptSo, IsThere, Leads, called, entries_of, entry_in, part_of}
 
 -- items that are there stay where more stand behind
 pub part-stays : {X : Type 0} (xs ys : List X) (from count : ℕ) → Leads xs ys → from + count ≤ length xs → part_of ys from count ≡ part_of xs from count
@@ -74,3 +77,25 @@ one-more r (x ∷ ks) k e so = ap (λ xs. entry_in r x ∷ xs) (one-more r ks k 
 pub one-more-there : (r : Rooms) (ks : List Kept) (k : Kept) → AllByRecursion (IsThere r) ks → IsThere r k → AllByRecursion (IsThere r) (ks ++ k ∷ [])
 one-more-there r [] k all there = (there, all)
 one-more-there r (x ∷ ks) k all there = (all.0, one-more-there r ks k all.1 there)
+
+-- ---- the whole list
+
+-- it is kept where more is put behind what its entries hold
+pub stay-kept : (l m : Inside) → AreKept l → Grows l.rooms m.rooms → m.kept.items ≡ l.kept.items → m.cycles ≡ l.cycles → AreKept m
+stay-kept l m k g is n = record {
+  there = rw is (all-there l.rooms m.rooms l.kept.items g k.there);
+  cycles = n ∙ k.cycles ∙ ap (λ es. cycles_of (map entry_of es)) (sym (ap (map (entry_in m.rooms)) is ∙ entries-stay l.rooms m.rooms l.kept.items g k.there));
+}
+
+-- so it is with an entry more
+pub more-is : (l m : Inside) (k : Kept) (e : FoundEntry) → AreKept l → Grows l.rooms m.rooms → m.kept.items ≡ l.kept.items ++ k ∷ [] → IsKeptSo m.rooms e k → entries_of m ≡ entries_of l ++ e ∷ []
+more-is l m k e kept' g is so =
+    ap (map (entry_in m.rooms)) is ∙ one-more m.rooms l.kept.items k e so ∙ ap (λ es. es ++ e ∷ []) (entries-stay l.rooms m.rooms l.kept.items g kept'.there)
+
+pub more-kept : (l m : Inside) (k : Kept) (e : FoundEntry) → CyclesAddUp → AreKept l → Grows l.rooms m.rooms → m.kept.items ≡ l.kept.items ++ k ∷ [] → IsKeptSo m.rooms e k → m.cycles ≡ l.cycles + cycle_count (entry_of e) → AreKept m
+more-kept l m k e adds kept' g is so n = record {
+  there = rw is (one-more-there m.rooms l.kept.items k (all-there l.rooms m.rooms l.kept.items g kept'.there) so.there);
+  cycles =
+      n ∙ ap (λ c. c + cycle_count (entry_of e)) kept'.cycles ∙ sym (adds (map entry_of (entries_of l)) (entry_of e)) ∙
+      ap cycles_of (sym (map-append entry_of (entries_of l) (e ∷ []))) ∙ ap (λ es. cycles_of (map entry_of es)) (sym (more-is l m k e kept' g is so));
+}

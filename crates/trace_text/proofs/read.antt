@@ -8,3 +8,5 @@ pub mod ItemsKept
 pub mod RowsKept
 pub mod InputsKept
 pub mod ReadingKept
+pub mod Alike
+pub mod Apart

@@ -2,7 +2,9 @@
 -- cycles and the places in three others. This project's profile.
 use Rattle.std.specs.Prelude.{◌≡◌, ◌+◌, ◌<◌, ◌≤◌, ◌++◌, ℕ, List, Option, Some, None, drop, length, map, slice_get, take}
 use Rattle.std.specs.List.{AllByRecursion}
+use Rattle.motion_history.specs.Entries.{cycles_of}
 use Rattle.trace_text.specs.Found.{CycleFound}
+use Rattle.trace_text.specs.TraceState.{entry_of}
 use Rattle.trace_text.specs.declared.found.FoundEntry.{FoundEntry}
 use Rattle.trace_text.specs.declared.found.FoundEntry.TheVariants as found
 use Rattle.trace_text.specs.declared.found_rooms.CyclePlace.{CyclePlace}
@@ -77,6 +79,7 @@ pub record Grows (old new : Rooms) : Type 0 where
 abbrev pub entries_of : Inside → List FoundEntry
 entries_of l = map (entry_in l.rooms) l.kept.items
 
--- what each entry holds is there
-abbrev pub AreThere : Inside → Type 0
-AreThere l = AllByRecursion (IsThere l.rooms) l.kept.items
+-- what each entry holds is there, and the cycles are counted
+pub record AreKept (l : Inside) : Type 0 where
+  pub there : AllByRecursion (IsThere l.rooms) l.kept.items
+  pub cycles : l.cycles ≡ cycles_of (map entry_of (entries_of l))

@@ -7,6 +7,7 @@ pub mod FoundLists
 pub mod RowRanges
 pub mod Writable
 pub mod TraceKept
+pub mod Held
 pub mod reading
 pub mod writing
 pub mod ReadBack

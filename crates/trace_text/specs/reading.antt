@@ -10,3 +10,4 @@ pub mod Rows
 pub mod SoFar
 pub mod Kinds
 pub mod Reading
+pub mod Holding

@@ -1,13 +1,15 @@
 // The entries that were found, each in as little room as it takes.
 
-ghost use Rattle.std.specs.Prelude.{◌≡◌, ◌++◌, ◌∷◌, [], OnOk, length, slice_get};
+ghost use Rattle.std.specs.Prelude.{◌≡◌, ◌+◌, ◌++◌, ◌∷◌, [], IfOk, OnOk, length, slice_get};
 ghost use Rattle.std.specs.Option.{option_map};
+ghost use Rattle.motion_history.specs.Entries.{cycle_count};
 ghost use Rattle.motion_history.specs.Looks.{told};
+ghost use Rattle.trace_text.specs.Held as held;
 ghost use Rattle.trace_text.specs.TraceState as entries;
 
 use crate::found::FoundEntry;
 use crate::found_rooms::{Kept, Rooms};
-use motion_history::{EntryLook, OutOfMemory};
+use motion_history::{EntryLook, OutOfMemory, cycles_add_up};
 use std::alloc::Global;
 use std::marker::Model;
 
@@ -16,6 +18,7 @@ use std::marker::Model;
 pub struct FoundList {
     kept: Vec<Kept>,
     rooms: Rooms,
+    cycles: u32,
 }
 
 impl Model for FoundList {
@@ -24,11 +27,24 @@ impl Model for FoundList {
 
     ghost Value = { List FoundEntry };
 
-    ghost use Rattle.trace_text.specs.FoundLists.{AreThere, entries_of};
+    ghost use Rattle.trace_text.specs.FoundLists.{AreKept, entries_of};
 
     ghost view = { entries_of };
 
-    ghost invariant = { AreThere };
+    ghost invariant = { AreKept };
+}
+
+// So many cycles, and one more where an entry is one.
+fn cycles_with(cycles: u32, entry: &FoundEntry) -> Result<u32, OutOfMemory>
+    ensures { IfOk result (λ n. n ≡ cycles + cycle_count (entries.entry_of entry.now)) }
+{
+    let FoundEntry::Cycle(_) = entry else {
+        return Ok(cycles);
+    };
+    match cycles.checked_add(1) {
+        Some(more) => Ok(more),
+        None => Err(OutOfMemory),
+    }
 }
 
 impl FoundList {
@@ -39,6 +55,7 @@ impl FoundList {
         FoundList {
             kept: Vec::new(alloc),
             rooms: Rooms::new(alloc),
+            cycles: 0,
         }
     }
 
@@ -49,14 +66,25 @@ impl FoundList {
         self.kept.len()
     }
 
+    /// Whether they keep within so many entries and cycles.
+    pub fn are_within(&self, entries: u32, cycles: u32) -> bool
+        ensures { result ≡ held.are_within entries cycles self.now }
+    {
+        self.kept.len() <= entries as usize && self.cycles <= cycles
+    }
+
     /// Adds an entry.
     pub fn push(&mut self, entry: FoundEntry) -> Result<(), OutOfMemory>
         ensures { OnOk result (self.new ≡ self.old ++ entry ∷ []) }
     {
+        // law: one entry more adds its own cycles
+        cycles_add_up();
+        let cycles = cycles_with(self.cycles, &entry)?;
         let kept = self.rooms.put_entry(entry)?;
         let Ok(()) = self.kept.push(kept) else {
             return Err(OutOfMemory);
         };
+        self.cycles = cycles;
         Ok(())
     }
 

@@ -23,7 +23,7 @@ pub use laws::{
     parts_are_beginnings, records_are_read_back, rows_are_read_back, traces_are_read_back,
 };
 pub use motion_history::{Config, History, OutOfMemory, TextFault, TextRefused, TraceVersion};
-pub use reading::read::read_trace;
+pub use reading::read::{read_trace, read_within_room};
 pub use same::are_same_inputs;
 pub use trace::Trace;
 pub use writing::cycle_rows::reported_place;

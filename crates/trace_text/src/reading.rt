@@ -3,6 +3,7 @@
 pub mod events;
 pub mod follow;
 pub mod head;
+pub mod held;
 pub mod inputs;
 pub mod item;
 pub mod item_reader;

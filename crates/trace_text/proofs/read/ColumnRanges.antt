@@ -1,5 +1,5 @@
 -- The ranges of the columns: what is read of a field lies in those of its column.
-use Rattle.std.proofs.Common.{◌≡◌, ℕ, ◌+◌, ◌*◌, ◌-◌, ◌<◌, ◌≤◌, ℤ, Bool, true, false, Option, Some, None, List, [], ◌∷◌, refl, subst, arith, FitsSigned, w64}
+use Rattle.std.proofs.Common.{◌≡◌, ℕ, ◌+◌, ◌*◌, ◌<◌, ◌≤◌, ℤ, Bool, true, false, Option, Some, None, List, [], ◌∷◌, refl, subst, arith, FitsSigned, w64}
 use Rattle.std.specs.Prelude.{pos, int_le, ◌≤ℤ◌, ◌&&◌, cond, option_and_then, unsigned_abs}
 use Rattle.std.specs.Fmt.{signed_decimal}
 use Rattle.std.specs.Str.{bytes_eq}

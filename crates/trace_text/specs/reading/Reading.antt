@@ -6,8 +6,6 @@ use Rattle.line_text.specs.Reading.{◌>>=◌, at_line}
 use Rattle.line_text.specs.Rules.{broken_unless}
 use Rattle.line_text.specs.Texts.{says}
 use Rattle.line_text.specs.declared.reader.LineRefused.{LineRefused}
-use Rattle.line_text.specs.declared.reader.LinesFault.{LinesFault}
-use Rattle.line_text.specs.declared.reader.LinesFault.TheVariants as lines
 use Rattle.machine_words.specs.Rules.{refused_by}
 use Rattle.motion_history.specs.Setup.{Setup}
 use Rattle.motion_history.specs.declared.refused.TextFault.{TextFault}
@@ -195,14 +193,6 @@ records_meaning before s (first ∷ more) =
 -- whether each drive has told what it took
 abbrev pub is_ended : SoFar → Bool
 is_ended s = is_stage s.stage stage.Drives && (length s.drives == length s.setup.axes)
-
--- records are taken: by what they mean the reader stands now there, and their number is told; or
--- the first that breaks a rule is told; or memory ran out
-abbrev pub TakesRecords : List (List (List ℕ)) → SoFar → SoFar → Result ℕ LinesFault → Type 0
-TakesRecords records old new (Ok last) =
-    (records_meaning 0 old records ≡ Ok new) × (last ≡ length records)
-TakesRecords records old new (Err (lines.Refused place)) = records_meaning 0 old records ≡ Err place
-TakesRecords records old new (Err lines.OutOfMemory) = Unit {0}
 
 -- the trace at the end of the text
 unfoldable pub ending : SoFar → Result TraceState ℕ

@@ -1,6 +1,6 @@
 // Reading a trace.
 
-ghost use Rattle.std.specs.Prelude.{◌≡◌, IfErr, IfOk, Ok, length};
+ghost use Rattle.std.specs.Prelude.{◌≡◌, IfErr, IfOk, None, Ok, false, length};
 ghost use Rattle.csv.specs.Records.{fields_of};
 ghost use Rattle.csv_records.specs.Records.{records_of};
 ghost use Rattle.line_text.specs.Reading.{Takes, at_line};
@@ -8,13 +8,17 @@ ghost use Rattle.line_text.specs.Texts.{texts};
 ghost use Rattle.machine_words.specs.Rules.{refused_by, told_as};
 ghost use Rattle.motion_history.specs.Setup.{IsSetup};
 ghost use Rattle.trace_text.specs.reading.Reading as spec;
-ghost use Rattle.trace_text.specs.reading.Reading.{ReadsBy, TakesRecords};
+ghost use Rattle.trace_text.specs.reading.Reading.{ReadsBy};
+ghost use Rattle.trace_text.specs.reading.Holding.{HoldsRecords, StandsAt, TakesApart, TakesRecords};
+ghost use Rattle.trace_text.specs.reading.SoFar.{SoFar};
+ghost use Rattle.trace_text.specs.Held.{ReadsHeld};
 ghost use Rattle.trace_text.specs.TraceKept.{IsTraceKept};
 ghost use Rattle.trace_text.specs.TraceState.{TraceState};
 
 use crate::command::Command;
 use crate::found::FoundCycle;
 use crate::found_list::FoundList;
+use crate::reading::held::{give_back, set_apart};
 use crate::reading::kind::{Kind, Stage, is_stage};
 use crate::reading::reader::TraceReader;
 use crate::reading::rule::{NOT_TWELVE, TOO_SHORT};
@@ -24,19 +28,37 @@ use csv::ByteRecord;
 use csv_records::{field, next_record, open_records};
 use line_text::{LineFault, LineRefused, LinesFault};
 use machine_words::{KnownBlocks, refused_by};
-use motion_history::{Builder, TextFault, TraceVersion};
+use motion_history::{Builder, OutOfMemory, TextFault, TraceVersion};
 use std::alloc::Global;
 
 /// The trace that a text is. A text that is none is refused at its first record that breaks a rule,
 /// counted from 1, by the first rule that it breaks: T1 to T6. It takes memory for one record at a
 /// time, besides the trace.
-#[tactic(auto, unfolding(crate::specs::reading::Reading::trace_of, crate::specs::reading::Reading::reading_of))]
 pub fn read_trace(alloc: Global, text: &[u8]) -> Result<Trace, TextFault>
     ensures reading { ReadsBy (spec.trace_of text.now) result }
     ensures kept { IfOk result (λ t. IsTraceKept t) }
 {
+    read_held(alloc, text, false)
+}
+
+/// The same for one who judges the trace, and wants no entry behind the first for which its machine
+/// has no room: of these none is in memory, but their text is read as that of the others.
+pub fn read_within_room(alloc: Global, text: &[u8]) -> Result<Trace, TextFault>
+    ensures reading { ReadsHeld (spec.trace_of text.now) result }
+    ensures kept { IfOk result (λ t. IsTraceKept t) }
+{
+    read_held(alloc, text, true)
+}
+
+// The trace that a text is: all of it, or what of it keeps within its room, and one entry more.
+#[tactic(auto, unfolding(crate::specs::reading::Reading::trace_of, crate::specs::reading::Reading::reading_of))]
+fn read_held(alloc: Global, text: &[u8], within_room: bool) -> Result<Trace, TextFault>
+    ensures held { ReadsHeld (spec.trace_of text.now) result }
+    ensures all { within_room ≡ false → ReadsBy (spec.trace_of text.now) result }
+    ensures kept { IfOk result (λ t. IsTraceKept t) }
+{
     let mut reader = opened(alloc)?;
-    match read_records(alloc, text, &mut reader) {
+    match hold_records(alloc, text, within_room, &mut reader) {
         Ok(last) => trace_of(reader, last),
         Err(LinesFault::Refused(refused)) => Err(refusal(refused)),
         Err(LinesFault::OutOfMemory) => Err(TextFault::OutOfMemory),
@@ -74,8 +96,36 @@ fn opened(alloc: Global) -> Result<TraceReader, TextFault>
 }
 
 // Takes the records of a text, and answers how many there are.
-fn read_records(alloc: Global, text: &[u8], reader: &mut TraceReader) -> Result<u64, LinesFault>
-    ensures { TakesRecords (records_of text.now) reader.old reader.new result }
+fn hold_records(
+    alloc: Global,
+    text: &[u8],
+    within_room: bool,
+    reader: &mut TraceReader,
+) -> Result<u64, LinesFault>
+    ensures { HoldsRecords within_room (records_of text.now) reader.old reader.new result }
+{
+    let mut first = None;
+    let last = match read_records(alloc, text, within_room, reader, &mut first) {
+        Ok(last) => last,
+        Err(fault) => return Err(fault),
+    };
+    match give_back(reader, first) {
+        Ok(()) => Ok(last),
+        Err(OutOfMemory) => Err(LinesFault::OutOfMemory),
+    }
+}
+
+// Takes them, with the first entries apart, where the others aren't wanted.
+fn read_records(
+    alloc: Global,
+    text: &[u8],
+    within_room: bool,
+    reader: &mut TraceReader,
+    first: &mut Option<FoundList>,
+) -> Result<u64, LinesFault>
+    requires { first.old ≡ None }
+    ensures taken { TakesRecords (records_of text.now) reader.old reader.new first.new result }
+    ensures all { within_room ≡ false → first.new ≡ None }
 {
     let mut rdr = open_records(alloc, text);
     let mut row = ByteRecord::new(alloc);
@@ -86,7 +136,7 @@ fn read_records(alloc: Global, text: &[u8], reader: &mut TraceReader) -> Result<
         if !found {
             return Ok(place);
         }
-        match read_record(reader, &row) {
+        match take_record(within_room, reader, first, &row) {
             Ok(()) => {}
             Err(LineFault::Rule(rule)) => {
                 let line = place + 1;
@@ -96,6 +146,24 @@ fn read_records(alloc: Global, text: &[u8], reader: &mut TraceReader) -> Result<
         }
     }
     Err(LinesFault::OutOfMemory)
+}
+
+// Takes a record, with the first entries apart.
+fn take_record(
+    within_room: bool,
+    reader: &mut TraceReader,
+    first: &mut Option<FoundList>,
+    row: &ByteRecord,
+) -> Result<(), LineFault>
+    ensures taken { (whole : SoFar) → StandsAt whole reader.old first.old →
+        TakesApart (spec.meaning whole (fields_of row.now)) reader.new first.new result }
+    ensures all { within_room ≡ false → first.new ≡ first.old }
+{
+    let taken = read_record(reader, row);
+    if within_room {
+        set_apart(reader, first);
+    }
+    taken
 }
 
 // Takes a record.
