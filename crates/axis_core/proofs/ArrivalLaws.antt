@@ -56,7 +56,7 @@ use Rattle.axis_core.proofs.KeptCycles.{all-three, driven-without-error}
 use Rattle.buffer_modes.proofs.Queue.{later_active}
 use Rattle.axis_core.proofs.KeptMoves.{eq-of, kept-of}
 use Rattle.axis_core.proofs.KeptRows.{Place, place-ended_by}
-use Rattle.axis_core.proofs.KeptRanges.{rates-of}
+use Rattle.axis_core.proofs.KeptRanges.{move-within, rates-of}
 
 -- two axes that are alike in limits, setpoints and command
 pub record AreAlike (a b : Axis) : Type 0 where
@@ -524,12 +524,6 @@ pub record PlansEnd : Type 0 where
   pub halts : (limits : Limits) (d before now : ℤ) →
       AreLimits limits → pos 1 ≤ℤ d → d ≤ℤ limits.dmax → IsKept limits before now →
       IsAtRestWithin (unsigned_abs (now -ℤ before) / unsigned_abs d + 1) limits d before now
-
--- an active move has a target and rates within the limits
-pub move-within : (k : BlockKind) (l : Limits) (inc offset setpoint : ℤ) (w : Wanted) → is_move k ≡ true → AreNumbers k l w → IsReady k l inc offset setpoint w → IsMoveWithin l w
-move-within kind.MoveAbsolute l inc offset setpoint w h n r = n
-move-within kind.MoveRelative l inc offset setpoint w h n r = r
-move-within _ l inc offset setpoint w h n r = absurd (cc)
 
 halt-within : (k : BlockKind) (l : Limits) (w : Wanted) → is_slowing k ≡ true → AreNumbers k l w → IsBetween (pos 1) w.rates.d l.dmax
 halt-within kind.Halt l w h n = n

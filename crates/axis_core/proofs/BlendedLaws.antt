@@ -40,12 +40,12 @@ use Rattle.axis_core.specs.declared.axis.Axis.{Axis}
 use Rattle.axis_core.specs.declared.blocks.moves.SecondMove.{SecondMove}
 use Rattle.axis_core.specs.declared.look.AxisLook.{AxisLook}
 use Rattle.axis_core.specs.declared.reason.Reason.{Reason}
-use Rattle.axis_core.proofs.ArrivalLaws.{AreAlike, active-runs, advances-by, ending-move, followed-move, move-within, progress_at, same-int}
+use Rattle.axis_core.proofs.ArrivalLaws.{AreAlike, active-runs, advances-by, ending-move, followed-move, progress_at, same-int}
 use Rattle.axis_core.proofs.DoneLaws.{IsTested, by-cycle, takes-step, where-applies}
 use Rattle.buffer_modes.proofs.Queue.{later_active}
 use Rattle.axis_core.proofs.KeptMoves.{kept-of}
 use Rattle.axis_core.proofs.KeptCycles.{on-place}
-use Rattle.axis_core.proofs.KeptRanges.{rates-of}
+use Rattle.axis_core.proofs.KeptRanges.{move-within, rates-of}
 
 -- the second move is the same by whomever the two commands are owned
 second-owned : (w v next other : Wanted) (b : Option Blend) (t : Option ℤ) → v.rates ≡ w.rates → other.rates ≡ next.rates →

@@ -1,6 +1,7 @@
 -- What a kept axis says of the numbers that a cycle works with.
 use Rattle.std.specs.Prelude.{◌≡◌, refl, ◌⊎◌, ◌≤◌, Bool, true, ℤ, pos, ◌≤ℤ◌, unsigned_abs, Option, Some, None, IfSome, List, [], ◌∷◌, slice_get, unwrap_or, if◌then◌else◌}
-use Rattle.std.proofs.Common.{ap, subst, arith, inl, inr}
+use Rattle.std.proofs.Common.{ap, subst, sym, arith, inl, inr}
+use Rattle.trapezoid_plan.specs.MoveRun as plan
 use Rattle.std.proofs.lemmas.Int.{ints}
 use Rattle.axis_state.specs.Diagram.{TakesMotion}
 use Rattle.axis_state.specs.declared.state.AxisState.{AxisState}
@@ -14,7 +15,7 @@ use Rattle.command_pool.specs.Rates.{AreRates, AreRamps}
 use Rattle.axis_core.specs.declared.look.AxisLook.{AxisLook}
 use Rattle.axis_core.specs.AxisKept.{AreNumbers, AreRampsWithin, AreRatesWithin, AreWaiting, IsActive, IsAxisKept, IsCoreKept, IsHomeWithin, IsMoveWithin, IsReady, IsSet, IsWaiting, MayQueue}
 use Rattle.axis_core.specs.Cores.{Core, MayTakeOver}
-use Rattle.axis_core.specs.Kept.{IsBlendable, IsCarried, IsMoving, IsNear, MayGoOn}
+use Rattle.axis_core.specs.Kept.{IsBlendable, IsCarried, IsMoving, IsNear, MayGoOn, StaysWithin}
 use Rattle.axis_core.specs.Ranges.{IsBetween}
 use Rattle.axis_core.specs.blocks.Moves.{is_move, target_of}
 use Rattle.axis_core.specs.declared.axis.Axis.{Axis}
@@ -91,6 +92,33 @@ carried-of a k = elim a.active as (λ o. ((w : Wanted) → o ≡ Some w → IsAc
   | Some w ↦ λ h. let i = h w refl in carried-by w.kind a.limits a.inc a.offset a.setpoint w k.base.limits k.base.top i.numbers i.ready
 ] k.active
 
+-- an active move has a target and rates within the limits
+pub move-within : (k : BlockKind) (l : Limits) (inc offset setpoint : ℤ) (w : Wanted) → is_move k ≡ true → AreNumbers k l w → IsReady k l inc offset setpoint w → IsMoveWithin l w
+move-within kind.MoveAbsolute l inc offset setpoint w h n r = n
+move-within kind.MoveRelative l inc offset setpoint w h n r = r
+move-within _ l inc offset setpoint w h n r = absurd (cc)
+
+stays-within : (l : Limits) (inc offset setpoint : ℤ) (w : Wanted) → AreNumbers w.kind l w → IsReady w.kind l inc offset setpoint w →
+    StaysWithin l w
+stays-within l inc offset setpoint w n r move =
+    let m = move-within w.kind l inc offset setpoint w move n r in
+    let fixed : m.target ≡ target_of w = sym (ap (λ o. unwrap_or o (pos 0)) m.fixed) in
+    let P : ℤ → Type 0 = plan.IsMoveWithin l w.rates in
+    subst P fixed (record {
+      above = m.within.above;
+      below = m.within.below;
+      velocity = m.rates.velocity.below;
+      acceleration = m.rates.ramps.acceleration.below;
+      deceleration = m.rates.ramps.deceleration.below;
+    })
+
+-- so an active move stays within them
+pub within-of : (a : Axis) → IsAxisKept a → IfSome a.active (StaysWithin a.limits)
+within-of a k = elim a.active as (λ o. ((w : Wanted) → o ≡ Some w → IsActive a.state a.limits a.inc a.offset a.setpoint w) → IfSome o (StaysWithin a.limits)) [
+  | None ↦ λ h. tt
+  | Some w ↦ λ h. let i = h w refl in stays-within a.limits a.inc a.offset a.setpoint w i.numbers i.ready
+] k.active
+
 -- the first command that waits may be blended into
 blendable-by : (k : BlockKind) (l : Limits) (w : Wanted) → AreLimits l → l.hi ≤ℤ pos 1000000000000000 → w.kind ≡ k → AreNumbers k l w →
     (t : ℤ) → (if is_move k then w.target else None) ≡ Some t → IsNear t × AreRates w.rates
@@ -131,6 +159,7 @@ go-on-of look c cam k d o = record {
   advance = record {
     moving = moving-of c.axis k.axis d;
     active = carried-of c.axis k.axis;
+    within = within-of c.axis k.axis;
     next = next-of c.axis.limits c.waiting k.axis.base.limits k.axis.base.top k.waiting;
     cam = cam;
     offset = o;

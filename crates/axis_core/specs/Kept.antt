@@ -1,5 +1,5 @@
 -- The ranges of the numbers that a cycle works with.
-use Rattle.std.specs.Prelude.{◌≡◌, ◌≤◌, ℤ, pos, ◌≤ℤ◌, ◌-ℤ◌, unsigned_abs, false, Option, Some, None, IfSome, slice_get, List, [], ◌∷◌}
+use Rattle.std.specs.Prelude.{◌≡◌, ◌≤◌, ℤ, pos, ◌≤ℤ◌, ◌-ℤ◌, unsigned_abs, true, false, Option, Some, None, IfSome, slice_get, List, [], ◌∷◌}
 use Rattle.axis_state.specs.declared.count.TheConstants.{MOST_OFFSET, MOST_REPORTED}
 use Rattle.axis_core.specs.declared.axis.TheConstants.{MOST_TARGET}
 use Rattle.motion_numbers.specs.declared.TheConstants.{MOST_INCREMENT, MOST_PLACE, MOST_RATIO, MOST_STEP}
@@ -8,13 +8,15 @@ use Rattle.command_pool.specs.declared.kind.BlockKind.{BlockKind}
 use Rattle.command_pool.specs.declared.kind.BlockKind.TheVariants as kind
 use Rattle.command_pool.specs.declared.wanted.Wanted.{Wanted}
 use Rattle.kin_core.specs.Admissible.{AreLimits, IsKept}
+use Rattle.kin_core.specs.declared.limits.Limits.{Limits}
 use Rattle.axis_state.specs.Diagram.{IsFrom}
 use Rattle.axis_state.specs.declared.diagram.AxisEvent.TheVariants as event
 use Rattle.buffer_modes.specs.Queue.{is_full}
 use Rattle.axis_core.specs.Cores.{Core, MayBegin, MayTakeOver}
 use Rattle.axis_core.specs.Ranges.{IsBetween}
 use Rattle.axis_state.specs.States.{is_error_stop}
-use Rattle.axis_core.specs.blocks.Moves.{move_target_of, target_of}
+use Rattle.axis_core.specs.blocks.Moves.{is_move, move_target_of, target_of}
+use Rattle.trapezoid_plan.specs.MoveRun.{IsMoveWithin}
 use Rattle.command_pool.specs.declared.wanted.Follow.{Follow}
 use Rattle.command_pool.specs.declared.wanted.Follow.TheVariants as follow
 use Rattle.command_pool.specs.Rates.{AreRates, AreRamps}
@@ -104,11 +106,16 @@ pub record HasDrive (a : Axis) : Type 0 where
   pub lowest : IsNear a.limits.lo
   pub offset : unsigned_abs a.offset ≤ MOST_OFFSET
 
+-- a move is to a target within the limits, by rates within them. This project's profile
+abbrev pub StaysWithin : Limits → Wanted → Type 0
+StaysWithin l w = is_move w.kind ≡ true → IsMoveWithin l w.rates (target_of w)
+
 -- an axis whose driven spell goes on may advance, with the command that waits first: the numbers
 -- are in their ranges. This project's profile
 pub record MayAdvance (a : Axis) (first : Option Wanted) (look : AxisLook) : Type 0 where
   pub moving : IsMoving a
   pub active : IfSome a.active (λ w. IsCarried w.kind w)
+  pub within : IfSome a.active (StaysWithin a.limits)
   pub next : IfSome first IsBlendable
   pub cam : IsNear look.cam
   pub offset : unsigned_abs a.offset ≤ MOST_OFFSET

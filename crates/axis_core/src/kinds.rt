@@ -3,7 +3,7 @@
 ghost use Rattle.std.specs.Prelude.{◌≡◌, false, pos, IfOk, IfSome};
 ghost use Rattle.std.specs.Option.{option_copied};
 ghost use Rattle.axis_core.specs.Cycles as cycles;
-ghost use Rattle.axis_core.specs.Kept.{IsBlendable, IsCarried, IsMoving, IsNear};
+ghost use Rattle.axis_core.specs.Kept.{IsBlendable, IsCarried, IsMoving, IsNear, StaysWithin};
 ghost use Rattle.axis_core.specs.Kinds as spec;
 ghost use Rattle.axis_core.specs.Steps.{taken_step_in};
 ghost use Rattle.axis_core.specs.blocks.Moves as moves_spec;
@@ -83,6 +83,7 @@ pub fn progress(
 ) -> Result<Progress, u16>
     requires moving { IsMoving axis.now }
     requires carried { IsCarried wanted.now.kind wanted.now }
+    requires within { StaysWithin axis.now.limits wanted.now }
     requires next { IfSome (option_copied next) IsBlendable }
     requires cam { IsNear look.now.cam }
     ensures value { result ≡ cycles.progress_in_cycle axis.now wanted.now

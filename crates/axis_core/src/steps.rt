@@ -8,12 +8,13 @@ ghost use Rattle.axis_core.specs.Kept.{IsMoving, IsNear};
 ghost use Rattle.axis_core.specs.Steps as spec;
 ghost use Rattle.axis_core.specs.Steps.{wish_within_limits, old_step_of, step_for_wish, taken_step_in};
 ghost use Rattle.motion_numbers.specs.Ranges.{IsPlace, IsStep, IsWay};
+ghost use Rattle.trapezoid_plan.specs.MoveRun.{IsMoveWithin};
 
 use crate::axis::Axis;
 use command_pool::{Finish, Wanted};
 use kin_core::nearest_safe;
 use motion_numbers::MOST_WAY;
-use trapezoid_plan::move_step;
+use trapezoid_plan::{move_step, move_steps_are_safe, planned_step};
 
 /// SoftLimit: a step is not safe and brakes not.
 const SOFT_LIMIT: u16 = 103;
@@ -83,6 +84,25 @@ pub fn step_toward(axis: &Axis, place: i64, wanted: &Wanted) -> i64
     ensures small { IsStep result }
 {
     move_step(way(axis.setpoint, place), old_step(axis), &wanted.rates)
+}
+
+/// The taken step of a move toward a place within the limits, by rates within them: one that may
+/// follow is safe, so that it is taken as it is.
+pub fn taken_toward(axis: &Axis, place: i64, wanted: &Wanted) -> i64
+    requires moving { IsMoving axis.now }
+    requires place { IsNear place }
+    requires rates { AreRates wanted.now.rates }
+    requires within { IsMoveWithin axis.now.limits wanted.now.rates place }
+    ensures value { result ≡ taken_step_in axis.now (spec.step_toward axis.now place wanted.now) }
+    ensures small { IsStep result }
+{
+    move_steps_are_safe();
+    let planned = planned_step(way(axis.setpoint, place), old_step(axis), &wanted.rates);
+    if planned.follows {
+        planned.step
+    } else {
+        taken(axis, planned.step)
+    }
 }
 
 /// Where a step leads.

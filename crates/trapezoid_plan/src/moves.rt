@@ -1,7 +1,7 @@
 // The wanted step of a move.
-ghost use Rattle.std.specs.Prelude.{◌≡◌, IsTrue, ◌+◌, ◌≤◌, ◌<◌, max, min};
+ghost use Rattle.std.specs.Prelude.{◌≡◌, IsTrue, ◌+◌, ◌≤◌, ◌<◌, max, min, true, pos, neg_ℤ};
 ghost use Rattle.command_pool.specs.Rates.{AreRates};
-ghost use Rattle.trapezoid_plan.specs.MoveStep.{IsMoveStep, move_step_of, step_ahead_of};
+ghost use Rattle.trapezoid_plan.specs.MoveStep.{IsMoveStep, HasMoveStep, MayFollow, move_step_of, step_ahead_of};
 ghost use Rattle.motion_numbers.specs.Ranges.{IsStep, IsWay};
 ghost use Rattle.motion_numbers.specs.Run.{reach_of, run_of};
 
@@ -12,6 +12,15 @@ use motion_numbers::{MOST_STEP, MOST_WAY, ramp_sum, searches_find_the_greatest, 
 use ramp_root::{Steps, reach};
 use std::marker::Brand;
 use std::sync::ledger::{Blank, Ledger};
+
+/// The wanted step of a move, and whether it surely may follow the step of the last cycle.
+#[derive(Clone, Copy, Debug, PartialEq, Eq)]
+pub struct PlannedStep {
+    /// The step, in internal units per cycle.
+    pub step: i64,
+    /// Whether it is one that may follow: such a step is safe.
+    pub follows: bool,
+}
 
 /// The wanted step of a move, in internal units per cycle: `distance` leads from the setpoint to
 /// the target, `old` is the step of the last cycle.
@@ -26,25 +35,38 @@ pub fn move_step(distance: i64, old: i64, rates: &Rates) -> i64
     ways_to_rest();
     searches_find_the_greatest();
     steps_fall_toward_zero();
-    move_from::<Brand>(distance, old, rates, Blank::new(1))
+    planned_step(distance, old, rates).step
+}
+
+/// The same step, and whether it surely may follow.
+pub fn planned_step(distance: i64, old: i64, rates: &Rates) -> PlannedStep
+    requires rates { AreRates rates.now }
+    requires distance { IsWay distance }
+    requires old { IsStep old }
+    ensures value { result.step ≡ move_step_of distance old rates.now }
+    ensures follows { result.follows ≡ true → HasMoveStep rates.now distance old }
+    ensures small { IsStep result.step }
+{
+    planned_from::<Brand>(distance, old, rates, Blank::new(1))
 }
 
 // The same for any ledger, whose counter nobody reads.
-fn move_from<L: Ledger>(distance: i64, old: i64, rates: &Rates, blank: Blank) -> i64
+fn planned_from<L: Ledger>(distance: i64, old: i64, rates: &Rates, blank: Blank) -> PlannedStep
     requires name { blank.name ≡ L.name }
     requires parts { blank.parts ≡ L.parts }
     requires some { 0 < blank.parts }
     requires rates { AreRates rates.now }
     requires distance { IsWay distance }
     requires old { IsStep old }
-    ensures value { result ≡ move_step_of distance old rates.now }
-    ensures small { IsStep result }
+    ensures value { result.step ≡ move_step_of distance old rates.now }
+    ensures follows { result.follows ≡ true → HasMoveStep rates.now distance old }
+    ensures small { IsStep result.step }
 {
     let mut steps = Steps::<L>::open(blank);
-    move_step_counted(distance, old, rates, &mut steps)
+    planned_step_counted(distance, old, rates, &mut steps)
 }
 
-/// The same step, with its calls of fits counted.
+/// The wanted step, with its calls of fits counted.
 pub fn move_step_counted<L: Ledger>(
     distance: i64,
     old: i64,
@@ -58,23 +80,57 @@ pub fn move_step_counted<L: Ledger>(
     ensures small { IsStep result }
     ensures cost { steps.new ≤ steps.old + 128 }
 {
+    planned_step_counted(distance, old, rates, steps).step
+}
+
+// The planned step, with the same counted.
+fn planned_step_counted<L: Ledger>(
+    distance: i64,
+    old: i64,
+    rates: &Rates,
+    steps: &mut Steps<L>,
+) -> PlannedStep
+    requires rates { AreRates rates.now }
+    requires distance { IsWay distance }
+    requires old { IsStep old }
+    ensures value { result.step ≡ move_step_of distance old rates.now }
+    ensures follows { result.follows ≡ true → HasMoveStep rates.now distance old }
+    ensures small { IsStep result.step }
+    ensures cost { steps.new ≤ steps.old + 128 }
+{
     if 0 < distance && 0 <= old {
-        step_ahead(distance.unsigned_abs(), old.unsigned_abs(), rates, steps) as i64
+        step_ahead(distance.unsigned_abs(), old.unsigned_abs(), rates, steps)
     } else if distance < 0 && old <= 0 {
-        -(step_ahead(distance.unsigned_abs(), old.unsigned_abs(), rates, steps) as i64)
+        turned(step_ahead(distance.unsigned_abs(), old.unsigned_abs(), rates, steps))
     } else {
-        halt_step(old, rates.d)
+        PlannedStep {
+            step: halt_step(old, rates.d),
+            follows: false,
+        }
     }
 }
 
-// The size of the step toward a target ahead. While the axis speeds up or cruises the first test
-// decides, and while it brakes onto the target the second.
-fn step_ahead<L: Ledger>(way: u64, speed: u64, rates: &Rates, steps: &mut Steps<L>) -> u64
+// The same step the other way.
+fn turned(planned: PlannedStep) -> PlannedStep
+    requires { IsStep planned.step }
+    ensures step { result.step ≡ neg_ℤ planned.step }
+    ensures follows { result.follows ≡ planned.follows }
+{
+    PlannedStep {
+        step: -planned.step,
+        ..planned
+    }
+}
+
+// The step toward a target ahead. While the axis speeds up or cruises the first test decides, and
+// while it brakes onto the target the second.
+fn step_ahead<L: Ledger>(way: u64, speed: u64, rates: &Rates, steps: &mut Steps<L>) -> PlannedStep
     requires rates { AreRates rates.now }
     requires speed { speed ≤ MOST_STEP }
     requires way { way ≤ MOST_WAY }
-    ensures value { result ≡ step_ahead_of way speed rates.now }
-    ensures small { result ≤ MOST_STEP }
+    ensures value { result.step ≡ pos (step_ahead_of way speed rates.now) }
+    ensures follows { result.follows ≡ true → MayFollow rates.now (pos way) (pos speed) result.step }
+    ensures small { IsStep result.step }
     ensures cost { steps.new ≤ steps.old + 64 }
 {
     ways_to_rest();
@@ -83,11 +139,20 @@ fn step_ahead<L: Ledger>(way: u64, speed: u64, rates: &Rates, steps: &mut Steps<
     let fastest = (rates.v as u64).min(speed + rates.a as u64);
     let slowest = speed.saturating_sub(d);
     if surely_fits(fastest, d, way) {
-        fastest.max(slowest)
+        PlannedStep {
+            step: fastest.max(slowest) as i64,
+            follows: slowest <= fastest,
+        }
     } else if ramp_sum(slowest + 1, d) > way as u128 {
-        slowest
+        PlannedStep {
+            step: slowest as i64,
+            follows: false,
+        }
     } else {
-        step_between(fastest, slowest, way, d, steps)
+        PlannedStep {
+            step: step_between(fastest, slowest, way, d, steps) as i64,
+            follows: false,
+        }
     }
 }
 

@@ -1,18 +1,19 @@
 // MC_MoveAbsolute and MC_MoveRelative (PLCopen Motion Control Part 1).
 
-ghost use Rattle.std.specs.Prelude.{◌≡◌, ◌≤ℤ◌, ◌<ℤ◌, false, IfSome};
+ghost use Rattle.std.specs.Prelude.{◌≡◌, ◌≤ℤ◌, ◌<ℤ◌, false, IfSome, Some};
 ghost use Rattle.std.specs.Option.{option_copied};
 ghost use Rattle.axis_core.specs.Kept.{IsBlend, IsBlendable, IsCarriedMove, IsMoving};
 ghost use Rattle.axis_core.specs.Steps.{taken_step_in};
 ghost use Rattle.axis_core.specs.blocks.Moves as spec;
 ghost use Rattle.motion_numbers.specs.Ranges.{IsStep};
+ghost use Rattle.trapezoid_plan.specs.MoveRun.{IsMoveWithin};
 
 use crate::axis::Axis;
 use crate::blocks::blends::{blended_with, crosses_down, crosses_up, step_down, step_up};
 use crate::blocks::targets::target_of;
 use crate::progress::Progress;
 use crate::reason::Reason::{self, *};
-use crate::steps::{ends_where, place_after, step_toward, taken};
+use crate::steps::{ends_where, place_after, taken, taken_toward};
 use command_pool::{Finish, Rates, Wanted};
 
 /// The reasons against which a move is tested, in their order.
@@ -44,6 +45,7 @@ pub struct SecondMove {
 pub fn progress(axis: &Axis, wanted: &Wanted, next: Option<&Wanted>) -> Progress
     requires moving { IsMoving axis.now }
     requires wanted { IsCarriedMove wanted.now }
+    requires within { IsMoveWithin axis.now.limits wanted.now.rates (spec.target_of wanted.now) }
     requires next { IfSome (option_copied next) IsBlendable }
     ensures step { result.step ≡ taken_step_in axis.now
         (spec.move_step_with (spec.blended_with axis.now wanted.now (option_copied next.entry))
@@ -54,7 +56,7 @@ pub fn progress(axis: &Axis, wanted: &Wanted, next: Option<&Wanted>) -> Progress
     ensures small { IsStep result.step }
 {
     let second = blended_with(axis, wanted, next);
-    let step = taken(axis, wanted_step(axis, wanted, &second));
+    let step = taken_step(axis, wanted, &second);
     Progress {
         step,
         reached: false,
@@ -62,18 +64,34 @@ pub fn progress(axis: &Axis, wanted: &Wanted, next: Option<&Wanted>) -> Progress
     }
 }
 
-// The wanted step of a move: that of its blend, else the move step toward its target.
-fn wanted_step(axis: &Axis, wanted: &Wanted, second: &Option<SecondMove>) -> i64
+// The taken step of a move: that of its blend, else the one toward its target.
+fn taken_step(axis: &Axis, wanted: &Wanted, second: &Option<SecondMove>) -> i64
     requires moving { IsMoving axis.now }
     requires wanted { IsCarriedMove wanted.now }
+    requires within { IsMoveWithin axis.now.limits wanted.now.rates (spec.target_of wanted.now) }
     requires second { IfSome second.now (IsBlend axis.now (spec.target_of wanted.now)) }
-    ensures value { result ≡ spec.move_step_with second.now axis.now wanted.now }
+    ensures value { result ≡ taken_step_in axis.now
+        (spec.move_step_with second.now axis.now wanted.now) }
     ensures small { IsStep result }
 {
     match second {
-        None => step_toward(axis, target_of(wanted), wanted),
-        Some(second) if target_of(wanted) < second.target => step_up(axis, wanted, second),
-        Some(second) => step_down(axis, wanted, second),
+        None => taken_toward(axis, target_of(wanted), wanted),
+        Some(second) => taken(axis, blended_step(axis, wanted, second)),
+    }
+}
+
+// The wanted step of a blend, up or down to its targets.
+fn blended_step(axis: &Axis, wanted: &Wanted, second: &SecondMove) -> i64
+    requires moving { IsMoving axis.now }
+    requires wanted { IsCarriedMove wanted.now }
+    requires second { IsBlend axis.now (spec.target_of wanted.now) second.now }
+    ensures value { result ≡ spec.move_step_with (Some second.now) axis.now wanted.now }
+    ensures small { IsStep result }
+{
+    if target_of(wanted) < second.target {
+        step_up(axis, wanted, second)
+    } else {
+        step_down(axis, wanted, second)
     }
 }
 

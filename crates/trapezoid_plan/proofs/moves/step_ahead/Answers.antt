@@ -1,12 +1,33 @@
--- Three cases of the step ahead in closed form.
-use Rattle.std.proofs.Common.{arith, unsigned_abs, to_z, of_z, w64}
+-- Three cases of the step ahead in closed form; in the first one it follows, unless the old step
+-- slowed is faster.
+use Rattle.std.proofs.Common.{◌≡◌, ◌∙◌, ap, ℕ, ◌+◌, ◌-◌, ◌≤◌, ℤ, pos, ◌≤ℤ◌, arith, unsigned_abs, to_z, of_z, w64}
+use Rattle.std.proofs.lemmas.Bool.{leb-true}
 use Rattle.std.proofs.lemmas.Int.{ints}
+use Rattle.command_pool.specs.declared.rates.Rates.{Rates}
+use Rattle.motion_numbers.specs.Run.{run_of}
+use Rattle.trapezoid_plan.specs.MoveStep.{MayFollow}
 use Rattle.trapezoid_plan.proofs.StepsAhead.{step_ahead-fastest, step_ahead-slowest, step_ahead-reached}
 use Rattle.trapezoid_plan.proofs.moves.step_ahead.Goals as goal
 
+-- a size in its ranges may follow
+follows-by : (rates : Rates) (v a d way speed u : ℕ) (step : ℤ) → step ≡ pos u → v ≡ unsigned_abs rates.v →
+    a ≡ unsigned_abs rates.a → d ≡ unsigned_abs rates.d → pos 0 ≤ℤ rates.v → pos 0 ≤ℤ rates.a → pos 0 ≤ℤ rates.d →
+    u ≤ v → speed - d ≤ u → u ≤ speed + a → run_of u d ≤ way → MayFollow rates (pos way) (pos speed) step
+follows-by rates v a d way speed u step is p q t some_v some_a some_d slow smooth near fits =
+    let size : unsigned_abs step ≡ u = omega (arith, ints) in
+    let run : run_of (unsigned_abs step) (unsigned_abs rates.d) ≤ way = rw (size, ← t) fits in
+    record {
+      ahead = omega (arith, ints);
+      velocity = omega (arith, ints);
+      deceleration = omega (arith, ints);
+      acceleration = omega (arith, ints);
+      run = omega (arith, ints, run);
+    }
+
 pub returns-then-surely_fits-clause-value : goal.returns-then-surely_fits-clause-value
 returns-then-surely_fits-clause-value g c =
-    step_ahead-fastest c.ways_to_rest.ensures c.searches_find_the_greatest.ensures c.args.rates.now
+    let fits : to_z w64 c.max.result ≡ pos c.max.result = omega (arith, ints) in
+    fits ∙ ap pos (step_ahead-fastest c.ways_to_rest.ensures c.searches_find_the_greatest.ensures c.args.rates.now
     (unsigned_abs (to_z w64 (of_z w64 c.args.rates.now.v)))
     (unsigned_abs (to_z w64 (of_z w64 c.args.rates.now.a)))
     (unsigned_abs (to_z w64 (of_z w64 c.args.rates.now.d)))
@@ -17,11 +38,33 @@ returns-then-surely_fits-clause-value g c =
     (omega (arith, ints))
     c.min-fastest.ensures
     (c.surely_fits.ensures c.if-surely_fits.true)
-    (omega (arith, c.max.ensures, c.saturating_sub-slowest.ensures))
+    (omega (arith, c.max.ensures, c.saturating_sub-slowest.ensures)))
+
+pub returns-then-surely_fits-clause-follows : goal.returns-then-surely_fits-clause-follows
+returns-then-surely_fits-clause-follows g c = λ h.
+    let under : c.saturating_sub-slowest.result ≤ c.min-fastest.result = leb-true _ _ h in
+    let size : c.max.result ≡ c.min-fastest.result = omega (arith, c.max.ensures, under) in
+    follows-by c.args.rates.now
+    (unsigned_abs (to_z w64 (of_z w64 c.args.rates.now.v)))
+    (unsigned_abs (to_z w64 (of_z w64 c.args.rates.now.a)))
+    (unsigned_abs (to_z w64 (of_z w64 c.args.rates.now.d)))
+    c.args.way c.args.speed c.min-fastest.result _
+    (omega (arith, ints, size))
+    (omega (arith, ints))
+    (omega (arith, ints))
+    (omega (arith, ints))
+    (omega (arith, ints))
+    (omega (arith, ints))
+    (omega (arith, ints))
+    (omega (arith, c.min-fastest.ensures))
+    (omega (arith, c.saturating_sub-slowest.ensures, under))
+    (omega (arith, c.min-fastest.ensures))
+    (c.surely_fits.ensures c.if-surely_fits.true)
 
 pub returns-then-ramp_sum-way-clause-value : goal.returns-then-ramp_sum-way-clause-value
 returns-then-ramp_sum-way-clause-value g c =
-    step_ahead-slowest c.ways_to_rest.ensures c.searches_find_the_greatest.ensures c.args.rates.now
+    let fits : to_z w64 c.saturating_sub-slowest.result ≡ pos c.saturating_sub-slowest.result = omega (arith, ints) in
+    fits ∙ ap pos (step_ahead-slowest c.ways_to_rest.ensures c.searches_find_the_greatest.ensures c.args.rates.now
     (unsigned_abs (to_z w64 (of_z w64 c.args.rates.now.v)))
     (unsigned_abs (to_z w64 (of_z w64 c.args.rates.now.a)))
     (unsigned_abs (to_z w64 (of_z w64 c.args.rates.now.d)))
@@ -31,11 +74,12 @@ returns-then-ramp_sum-way-clause-value g c =
     (omega (arith, ints))
     (omega (arith, ints))
     (rw (← c.saturating_sub-slowest.ensures, ← c.ramp_sum.ensures.value) (omega (arith, c.if-ramp_sum-way.true)))
-    c.saturating_sub-slowest.ensures
+    c.saturating_sub-slowest.ensures)
 
 pub returns-else-ramp_sum-way-clause-value : goal.returns-else-ramp_sum-way-clause-value
 returns-else-ramp_sum-way-clause-value g c =
-    step_ahead-reached c.ways_to_rest.ensures c.searches_find_the_greatest.ensures c.args.rates.now
+    let fits : to_z w64 c.step_between.result ≡ pos c.step_between.result = omega (arith, ints, c.step_between.ensures.value) in
+    fits ∙ ap pos (step_ahead-reached c.ways_to_rest.ensures c.searches_find_the_greatest.ensures c.args.rates.now
     (unsigned_abs (to_z w64 (of_z w64 c.args.rates.now.v)))
     (unsigned_abs (to_z w64 (of_z w64 c.args.rates.now.a)))
     (unsigned_abs (to_z w64 (of_z w64 c.args.rates.now.d)))
@@ -45,4 +89,4 @@ returns-else-ramp_sum-way-clause-value g c =
     (omega (arith, ints))
     (omega (arith, ints))
     c.min-fastest.ensures
-    (omega (arith, c.step_between.ensures.value, c.saturating_sub-slowest.ensures))
+    (omega (arith, c.step_between.ensures.value, c.saturating_sub-slowest.ensures)))
