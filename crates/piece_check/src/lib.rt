@@ -1,7 +1,8 @@
 //! Judges a piece of a trace by itself: whether of the machine with which it begins what always
-//! holds is true, and its trace is legal from there on; and tells the head with which the next
-//! piece must begin. It stands on `piece_text`, which reads, on `machine_tests`, which tests the
-//! machine, and on `trace_check`, which replays. Begin at [`check_piece`] and [`Verdict`].
+//! holds is true, whoever has a command in it has a block there, and its trace is legal from there
+//! on; and tells the head with which the next piece must begin. It stands on `piece_text`, which
+//! reads, on `machine_tests`, which tests the machine, and on `trace_check`, which replays. Begin
+//! at [`check_piece`] and [`Verdict`].
 #![tactic(auto)]
 
 mod filling;

@@ -23,8 +23,8 @@ pub struct Owners {
     pub hold: Option<u16>,
 }
 
-// What nobody has.
-const NOBODYS: Owners = Owners {
+// What an axis or a group that is not there would have.
+const NOBODY: Owners = Owners {
     active: None,
     reset: None,
     hold: None,
@@ -72,7 +72,7 @@ fn axis_owners(start: &Start, number: u8) -> Owners
             reset: reset_owner(&axis.reset),
             hold: axis.hold,
         },
-        None => NOBODYS,
+        None => NOBODY,
     }
 }
 
@@ -87,7 +87,7 @@ fn group_owners(start: &Start, number: u8) -> Owners
             reset: reset_owner(&on.group.reset),
             hold: on.group.hold,
         },
-        None => NOBODYS,
+        None => NOBODY,
     }
 }
 
