@@ -1,5 +1,5 @@
 -- What a comparison of two values has told.
-use Rattle.std.proofs.Common.{rules, ◌≡◌, Bool, true, int_eq}
+use Rattle.std.proofs.Common.{rules, ◌≡◌, true, int_eq}
 use Rattle.std.specs.Prelude.{◌==◌, ◌&&◌}
 use Rattle.std.specs.Cmp.{booleans_Decides}
 use Rattle.std.proofs.lemmas.Bool.Decides.{Decides-eqb, Decides-int_eq}

@@ -80,13 +80,12 @@ goes-on t m k new count place n e u at replayed =
           ap (λ h. first_difference (place + n) (expected_from t.version t.config m h (drop (count + 1) (entries_of t)) ++ xs) (flat_map (found_entry_records t.config) (drop (count + 1) t.found) ++ ys)) (sym history);
     }
 
--- a stop in an entry is the trace's
+-- a stop in an entry is the trace's, whatever stands behind the entries
 pub stops-here : (t : TraceState) (m : Machine) (k new : BankedState) (count place : ℕ) (e : FoundEntry) (s : Stop) → IsUnderWay t m k count place → slice_get t.found count ≡ Some e →
     StopsAt place (expected_of t.version t.config k.start k.history (entry_of e)) (found_entry_records t.config e) s → EntriesReplay t m new (Err s)
-unfolding difference_from expected_records found_records
-stops-here t m k new count place e (stop.Differs d) u at h =
+stops-here t m k new count place e (stop.Differs d) u at h = λ xs ys.
     let here = subst (λ x. StopsAt place (expected_of t.version t.config x k.history (entry_of e)) (found_entry_records t.config e) (stop.Differs d)) u.start h in
-    next-rest t m k count place e (drive_records t.config (map (with_taken (cycles_of (entries_of t))) t.drives)) (drive_records t.config t.drives) u at ∙
+    next-rest t m k count place e xs ys u at ∙
     first-stop place (expected_of t.version t.config m k.history (entry_of e)) (found_entry_records t.config e) _ _ d here
 stops-here t m k new count place e stop.OutOfMemory u at h = tt
 

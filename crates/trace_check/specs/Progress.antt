@@ -43,9 +43,16 @@ pub record IsUnderWay (t : TraceState) (m : Machine) (k : BankedState) (count pl
       (expected_from t.version t.config m k.history (drop count (entries_of t)) ++ xs)
       (flat_map (found_entry_records t.config) (drop count t.found) ++ ys)
 
+-- this record of a trace differs first, whatever stands behind the entries
+abbrev pub DiffersAmong : TraceState → Machine → Difference → Type 0
+DiffersAmong t m d = (xs ys : List (List (List ℕ))) →
+    first_difference (first_place t)
+    (expected_from t.version t.config m [] (entries_of t) ++ xs)
+    (flat_map (found_entry_records t.config) t.found ++ ys) ≡ Some d
+
 -- all entries were replayed, and the number of the record behind them is told; or the first record
 -- that differs is; or memory ran out
 abbrev pub EntriesReplay : TraceState → Machine → BankedState → Result ℕ Stop → Type 0
 EntriesReplay t m k (Ok place) = IsUnderWay t m k (length t.found) place
-EntriesReplay t m k (Err (stop.Differs d)) = difference_from m t ≡ Some d
+EntriesReplay t m k (Err (stop.Differs d)) = DiffersAmong t m d
 EntriesReplay t m k (Err stop.OutOfMemory) = Unit {0}

@@ -1,7 +1,8 @@
 -- The verdict on a trace. This project's profile.
-use Rattle.std.specs.Prelude.{ℕ, Option, Some, None, length}
+use Rattle.std.specs.Prelude.{◌≡◌, ◌↔◌, ℕ, Option, Some, None, length}
 use Rattle.motion_kernel.specs.Machine.{Machine}
 use Rattle.trace_text.specs.TraceState.{TraceState, entries_of}
+use Rattle.trace_check.specs.Legal.{IsLegalTrace, IsLegalTraceFrom}
 use Rattle.trace_check.specs.Progress.{difference_from, difference_in}
 use Rattle.trace_check.specs.declared.difference.Difference.{Difference}
 use Rattle.trace_check.specs.declared.verdict.Verdict.{Verdict}
@@ -19,3 +20,14 @@ verdict_from m t = verdict_by (length (entries_of t)) (difference_from m t)
 -- the verdict from opening on
 unfoldable pub verdict_of : TraceState → Verdict
 verdict_of t = verdict_by (length (entries_of t)) (difference_in t)
+
+-- a verdict judges a trace from a machine on: it tells the first record that differs, and that the
+-- trace is legal exactly where it is
+pub record JudgesFrom (m : Machine) (t : TraceState) (v : Verdict) : Type 0 where
+  pub is : v ≡ verdict_from m t
+  pub legal : (v ≡ verdict.Legal (length (entries_of t))) ↔ IsLegalTraceFrom m t
+
+-- it judges a trace from opening on
+pub record Judges (t : TraceState) (v : Verdict) : Type 0 where
+  pub is : v ≡ verdict_of t
+  pub legal : (v ≡ verdict.Legal (length (entries_of t))) ↔ IsLegalTrace t

@@ -5,7 +5,9 @@ ghost use Rattle.trace_text.specs.Trace.{machine_records};
 ghost use Rattle.trace_text.specs.declared.command.Command.{Command};
 ghost use Rattle.motion_history.specs.declared.refused.TraceVersion.{TraceVersion};
 ghost use Rattle.motion_kernel.specs.Banks.{at_opening};
+ghost use Rattle.trace_text.specs.Held.{IsHeldOf};
 ghost use Rattle.trace_text.specs.TraceKept.{IsTraceKept};
+ghost use Rattle.trace_text.specs.TraceState.{TraceState};
 ghost use Rattle.trace_check.specs.Progress.{EntriesReplay};
 ghost use Rattle.trace_check.specs.Outcomes.{IsBehind, IsReplayed, IsReplayedFrom, Judges};
 
@@ -62,7 +64,8 @@ fn replay_entries(alloc: Global, trace: &Trace, kernel: &mut BankedKernel) -> Re
 fn kernel_of(alloc: Global, trace: &Trace, mut kernel: BankedKernel) -> Result<BankedKernel, Stop>
     requires config { kernel.config ≡ trace.now.config }
     requires empty { kernel.history ≡ [] }
-    ensures judges { Judges kernel.start trace.now result }
+    ensures judges { (whole : TraceState) → IsHeldOf whole trace.now →
+        Judges kernel.start whole result }
     ensures before { IfOk result (λ k. k.before ≡ kernel.before) }
 {
     // Its entries are as they are read.
@@ -79,7 +82,8 @@ fn kernel_of(alloc: Global, trace: &Trace, mut kernel: BankedKernel) -> Result<B
 }
 
 /// Replays a trace from where a kernel of its configuration begins, one entry at a time, the
-/// answers of the drives being given. It takes memory for two records where they differ.
+/// answers of the drives being given. It takes memory for two records where they differ. What is
+/// told of a trace is so of each of which no more than that is held.
 pub fn replay_from(
     alloc: Global,
     trace: &Trace,
@@ -88,6 +92,8 @@ pub fn replay_from(
     requires config { kernel.config ≡ trace.now.config }
     requires empty { kernel.history ≡ [] }
     ensures replay { IfOk result (IsReplayedFrom kernel.start trace.now) }
+    ensures held { (whole : TraceState) → IsHeldOf whole trace.now →
+        IfOk result (IsReplayedFrom kernel.start whole) }
     ensures before { IfOk result (IsBehind kernel.before) }
 {
     match kernel_of(alloc, trace, kernel) {

@@ -1,7 +1,8 @@
 // The verdict on a trace.
 
 ghost use Rattle.std.specs.Prelude.{◌≡◌, ◌↔◌, [], IfOk, length};
-ghost use Rattle.trace_text.specs.TraceState.{entries_of};
+ghost use Rattle.trace_text.specs.Held.{IsHeldOf};
+ghost use Rattle.trace_text.specs.TraceState.{TraceState, entries_of};
 ghost use Rattle.trace_check.specs.Legal.{IsLegalTrace, IsLegalTraceFrom};
 ghost use Rattle.trace_check.specs.Verdicts as spec;
 
@@ -42,6 +43,8 @@ pub fn check_from(
     ensures legal { IfOk result (λ v.
         (v ≡ Verdict.Legal (length (entries_of trace.now))) ↔
         IsLegalTraceFrom kernel.start trace.now) }
+    ensures held { (whole : TraceState) → IsHeldOf whole trace.now →
+        IfOk result (spec.JudgesFrom kernel.start whole) }
 {
     match replay_from(alloc, trace, kernel)? {
         Replayed::Legal(_) => Ok(Verdict::Legal {
@@ -62,11 +65,14 @@ pub fn check_from(
 }
 
 /// Judges a trace: legal exactly where it is that of a legal history of its machine, each drive
-/// having taken a setpoint in every cycle; else the first record that differs.
+/// having taken a setpoint in every cycle; else the first record that differs. What lies behind the
+/// first entry for which there is no room changes no verdict, and needn't be held.
 pub fn check(alloc: Global, trace: &Trace) -> Result<Verdict, OutOfMemory>
     ensures verdict { IfOk result (λ v. v ≡ spec.verdict_of trace.now) }
     ensures legal { IfOk result (λ v.
         (v ≡ Verdict.Legal (length (entries_of trace.now))) ↔ IsLegalTrace trace.now) }
+    ensures held { (whole : TraceState) → IsHeldOf whole trace.now →
+        IfOk result (spec.Judges whole) }
 {
     let kernel = open_kernel(alloc, trace)?;
     check_from(alloc, trace, kernel)
