@@ -114,7 +114,9 @@ pub fn open_kernel(alloc: Global, trace: &Trace) -> Result<BankedKernel, OutOfMe
 /// Replays a trace on a kernel of its configuration, from opening on. It takes memory for the
 /// kernel, and for two records where they differ.
 pub fn replay(alloc: Global, trace: &Trace) -> Result<Replayed, OutOfMemory>
-    ensures { IfOk result (IsReplayed trace.now) }
+    ensures replay { IfOk result (IsReplayed trace.now) }
+    ensures held { (whole : TraceState) → IsHeldOf whole trace.now →
+        IfOk result (IsReplayed whole) }
 {
     let kernel = open_kernel(alloc, trace)?;
     replay_from(alloc, trace, kernel)

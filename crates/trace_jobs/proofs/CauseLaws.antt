@@ -15,7 +15,7 @@ use Rattle.trace_check.specs.declared.difference.Difference.{Difference}
 use Rattle.trace_text.specs.reading.Reading.{trace_of}
 use Rattle.trace_text.specs.TraceState.{TraceState, entries_of}
 use Rattle.trace_text.specs.writing.Writes.{Output}
-use Rattle.trace_jobs.specs.Causes.{CheckCause, DiffersAt, IsLegalText, MigrateCause}
+use Rattle.trace_jobs.specs.Causes.{CheckCause, MigrateCause}
 use Rattle.trace_jobs.specs.Judged.{IsJudged, JudgesBy, tells_illegal, tells_legal}
 use Rattle.trace_jobs.specs.Plans.{check_plan, judged_plan, migrate_plan, migrated_plan, plan_of_check, plan_of_migrate}
 

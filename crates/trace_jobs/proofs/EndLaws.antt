@@ -16,7 +16,8 @@ use Rattle.trace_check.specs.Verdicts.{verdict_by, verdict_of}
 use Rattle.trace_check.specs.declared.difference.Difference.{Difference}
 use Rattle.trace_check.specs.declared.verdict.Verdict.{Verdict}
 use Rattle.trace_check.specs.declared.verdict.Verdict.TheVariants as verdict
-use Rattle.trace_text.specs.reading.Reading.{ReadsBy, trace_of}
+use Rattle.trace_text.specs.Held.{ReadsHeld}
+use Rattle.trace_text.specs.reading.Reading.{trace_of}
 use Rattle.trace_text.specs.TraceState.{TraceState, entries_of}
 use Rattle.trace_text.specs.writing.Writes.{Output}
 use Rattle.trace_text.specs.declared.writing.write.TraceFault.{TraceFault}
@@ -103,6 +104,23 @@ judges-legal t v entries s is e legal again n =
     let fair : IsLegalTrace t = legal.0 (is ∙ ap verdict.Legal count) in
     judges-fair t s fair again n
 
+-- a trace that is not legal is not told to be
+pub judges-unfair : (t : TraceState) (s : Status) → ¬ IsLegalTrace t → tells_legal s ≡ false →
+    JudgesBy (λ x. x ≡ t) s
+judges-unfair t s unfair n = λ u same. record {
+  legal = λ h. absurd (let bad : true ≡ false = sym h ∙ n in cc);
+  again = λ h. absurd (let bad : true ≡ false = sym h ∙ n in cc);
+  illegal = λ h l. unfair (subst IsLegalTrace same l);
+}
+
+-- a trace that was found not to be legal
+pub judges-illegal : (t : TraceState) (v : Verdict) (place : ℕ) (x y : List (List ℕ)) (s : Status) →
+    v ≡ verdict.IllegalAt place x y →
+    ((v ≡ verdict.Legal (length (entries_of t))) ↔ IsLegalTrace t) → tells_legal s ≡ false →
+    JudgesBy (λ u. u ≡ t) s
+judges-illegal t v place x y s is legal n =
+    judges-unfair t s (λ l. let bad = sym is ∙ legal.1 l in absurd (cc bad)) n
+
 -- a text that is refused ends by its reading's plan
 pub refused-ends : (old new : Output) (plan : TraceState → Plan) (name : List ℕ)
     (reading : Result TraceState TextRefused) (r : TextRefused) (s : Status) → reading ≡ Err r →
@@ -111,11 +129,19 @@ pub refused-ends : (old new : Output) (plan : TraceState → Plan) (name : List 
 refused-ends old new plan name reading r s e =
     subst (λ p. EndsBy old new p s) (sym (ap (plan_of_reading plan 1 name) e))
 
+-- a trace that is held ends by its reading's plan, and is judged
+pub read-ends : (old new : Output) (plan : TraceState → Plan) (name : List ℕ)
+    (reading : Result TraceState TextRefused) (whole : TraceState) (s : Status) →
+    reading ≡ Ok whole → EndsBy old new (plan whole) s →
+    EndsBy old new (plan_of_reading plan 1 name reading) s
+read-ends old new plan name reading whole s e =
+    subst (λ p. EndsBy old new p s) (sym (ap (plan_of_reading plan 1 name) e))
+
 -- why a text is refused
 pub refused-why : (reading : Result TraceState TextRefused) (f : TextFault) (r : TextRefused) →
-    f ≡ Refused r → ReadsBy reading (Err f) → reading ≡ Err r
+    f ≡ Refused r → ReadsHeld reading (Err f) → reading ≡ Err r
 refused-why reading f r e why =
-    let P : TextFault → Type 0 = λ x. ReadsBy reading (Err x) in subst P e why
+    let P : TextFault → Type 0 = λ x. ReadsHeld reading (Err x) in subst P e why
 
 -- a text that is refused is no trace
 pub judges-none : (reading : Result TraceState TextRefused) (r : TextRefused) (s : Status) →

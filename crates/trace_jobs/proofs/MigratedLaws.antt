@@ -1,5 +1,5 @@
 -- What a trace that was migrated stands for.
-use Rattle.std.specs.Prelude.{◌≡◌, refl, ℕ, true, false, Option, Some, None, Result, Ok, Err, List}
+use Rattle.std.specs.Prelude.{◌≡◌, refl, ℕ, Option, Some, None, Result, Ok, Err, List}
 use Rattle.std.specs.Io.KnownBytes.{Appends}
 use Rattle.std.proofs.Common.{◌∙◌, sym, ap, subst}
 use Rattle.job_ends.specs.Causes.{is_fault}

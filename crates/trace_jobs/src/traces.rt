@@ -6,8 +6,9 @@ ghost use Rattle.trace_jobs.specs.Ends.{EndsByCheck, EndsByMigrate};
 ghost use Rattle.trace_jobs.specs.Judged.{JudgesBy, tells_illegal, tells_legal};
 ghost use Rattle.trace_jobs.specs.Plans.{illegal_plan, judged_plan, plan_of_check, plan_of_migrate};
 ghost use Rattle.trace_text.specs.TraceKept.{IsTraceKept};
+ghost use Rattle.trace_text.specs.Held.{IsHeldOf, ReadsHeld};
+ghost use Rattle.trace_text.specs.TraceState.{TraceState};
 ghost use Rattle.trace_text.specs.reading.Reading as read;
-ghost use Rattle.trace_text.specs.reading.Reading.{ReadsBy};
 
 use crate::lines::{illegal_lines, legal_line};
 use job_ends::{Status, ends_follow_plans, say, say_refused, status_by};
@@ -15,7 +16,7 @@ use motion_history::{OutOfMemory, TextFault, TraceVersion};
 use outside::Sink;
 use std::alloc::Global;
 use trace_check::{Difference, Replayed, Trace, Verdict, check, migrated_traces_are_legal, replay};
-use trace_text::{read_trace, write_trace};
+use trace_text::{read_within_room, write_trace};
 
 /// Tells whether the trace that a text is is legal. The text is given up before it is judged.
 pub fn check_text<K: Sink>(alloc: Global, name: &str, text: Vec<u8>, out: &mut K) -> Status
@@ -31,21 +32,23 @@ pub fn check_text<K: Sink>(alloc: Global, name: &str, text: Vec<u8>, out: &mut K
     }
 }
 
-// The trace that a text is; only the trace stays in memory.
+// The trace that a text is, as far as a judge of it wants it; only that stays in memory.
 fn trace_of(alloc: Global, text: Vec<u8>) -> Result<Trace, TextFault>
-    ensures reading { ReadsBy (read.trace_of text.items) result }
+    ensures reading { ReadsHeld (read.trace_of text.items) result }
     ensures kept { IfOk result (λ t. IsTraceKept t) }
 {
-    read_trace(alloc, text.as_slice())
+    read_within_room(alloc, text.as_slice())
 }
 
 // Tells whether a trace is legal.
 fn check_trace<K: Sink>(alloc: Global, trace: &Trace, out: &mut K) -> Status
     requires { IsTraceKept trace.now }
-    ensures judged { JudgesBy (λ t. t ≡ trace.now) result }
-    ensures ends { EndsBy (record { count = K.count out.old; told = K.told out.old })
+    ensures judged { (whole : TraceState) → IsHeldOf whole trace.now →
+        JudgesBy (λ t. t ≡ whole) result }
+    ensures ends { (whole : TraceState) → IsHeldOf whole trace.now →
+        EndsBy (record { count = K.count out.old; told = K.told out.old })
         (record { count = K.count out.new; told = K.told out.new })
-        (plan_of_check trace.now) result }
+        (plan_of_check whole) result }
 {
     ends_follow_plans();
     migrated_traces_are_legal();
@@ -87,10 +90,12 @@ pub fn migrate_text<K: Sink>(alloc: Global, name: &str, text: Vec<u8>, out: &mut
 // Writes a trace in version 2, if it is legal.
 fn migrate_trace<K: Sink>(alloc: Global, trace: &Trace, out: &mut K) -> Status
     requires { IsTraceKept trace.now }
-    ensures judged { JudgesBy (λ t. t ≡ trace.now) result }
-    ensures ends { EndsBy (record { count = K.count out.old; told = K.told out.old })
+    ensures judged { (whole : TraceState) → IsHeldOf whole trace.now →
+        JudgesBy (λ t. t ≡ whole) result }
+    ensures ends { (whole : TraceState) → IsHeldOf whole trace.now →
+        EndsBy (record { count = K.count out.old; told = K.told out.old })
         (record { count = K.count out.new; told = K.told out.new })
-        (plan_of_migrate trace.now) result }
+        (plan_of_migrate whole) result }
 {
     ends_follow_plans();
     migrated_traces_are_legal();

@@ -1,18 +1,15 @@
 -- The trace was judged, its text is refused, or there was no memory for it.
-use Rattle.std.proofs.Common.{ap, refl, sym}
-use Rattle.job_ends.specs.Plans.{plan_of_reading}
+use Rattle.std.proofs.Common.{refl}
 use Rattle.trace_jobs.specs.Plans.{plan_of_check}
-use Rattle.job_ends.proofs.Statuses.{same-plan}
-use Rattle.trace_jobs.proofs.EndLaws.{check-ended, judges-none, judges-other, judges-read, refused-ends, refused-why}
+use Rattle.trace_jobs.proofs.EndLaws.{check-ended, judges-none, judges-other, judges-read, read-ends, refused-ends, refused-why}
 use Rattle.trace_jobs.proofs.traces.check_text.Goals as goal
 
 pub returns-in-Ok : goal.returns-in-Ok
 returns-in-Ok g c =
+    let r = c.in-Ok.ensures.reading in
     check-ended c.ends_follow_plans.ensures _ _ _ _ _
-    (same-plan _ _ _ _ _
-    (sym (ap (plan_of_reading plan_of_check 1 c.args.name.now) c.in-Ok.ensures.reading))
-    c.check_trace.ensures.ends)
-    (judges-read _ _ _ c.in-Ok.ensures.reading c.check_trace.ensures.judged)
+    (read-ends _ _ plan_of_check c.args.name.now _ r.0 _ r.1 (c.check_trace.ensures.ends r.0 r.2))
+    (judges-read _ _ _ r.1 (c.check_trace.ensures.judged r.0 r.2))
 
 pub returns-in-Err-Refused : goal.returns-in-Err-Refused
 returns-in-Err-Refused g c =

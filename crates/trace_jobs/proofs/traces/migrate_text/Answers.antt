@@ -1,18 +1,15 @@
 -- The trace was judged, its text is refused, or there was no memory for it.
-use Rattle.std.proofs.Common.{ap, refl, sym}
-use Rattle.job_ends.specs.Plans.{plan_of_reading}
+use Rattle.std.proofs.Common.{refl}
 use Rattle.trace_jobs.specs.Plans.{plan_of_migrate}
-use Rattle.job_ends.proofs.Statuses.{same-plan}
-use Rattle.trace_jobs.proofs.EndLaws.{judges-none, judges-other, judges-read, migrate-ended, refused-ends, refused-why}
+use Rattle.trace_jobs.proofs.EndLaws.{judges-none, judges-other, judges-read, read-ends, migrate-ended, refused-ends, refused-why}
 use Rattle.trace_jobs.proofs.traces.migrate_text.Goals as goal
 
 pub returns-in-Ok : goal.returns-in-Ok
 returns-in-Ok g c =
+    let r = c.in-Ok.ensures.reading in
     migrate-ended c.ends_follow_plans.ensures _ _ _ _ _
-    (same-plan _ _ _ _ _
-    (sym (ap (plan_of_reading plan_of_migrate 1 c.args.name.now) c.in-Ok.ensures.reading))
-    c.migrate_trace.ensures.ends)
-    (judges-read _ _ _ c.in-Ok.ensures.reading c.migrate_trace.ensures.judged)
+    (read-ends _ _ plan_of_migrate c.args.name.now _ r.0 _ r.1 (c.migrate_trace.ensures.ends r.0 r.2))
+    (judges-read _ _ _ r.1 (c.migrate_trace.ensures.judged r.0 r.2))
 
 pub returns-in-Err-Refused : goal.returns-in-Err-Refused
 returns-in-Err-Refused g c =

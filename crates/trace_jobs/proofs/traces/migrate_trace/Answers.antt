@@ -1,16 +1,21 @@
 -- A trace was written in version 2, or there was no memory for it.
 use Rattle.std.specs.Prelude.{None, length}
-use Rattle.std.proofs.Common.{◌∙◌, ap, refl, subst, sym}
+use Rattle.std.proofs.Common.{◌≡◌, ◌∙◌, ap, refl, subst, sym}
 use Rattle.motion_history.specs.Setup.{Setup}
 use Rattle.motion_history.specs.declared.refused.TraceVersion.TheVariants.{Two}
 use Rattle.trace_check.specs.Legal.{IsLegalTrace}
 use Rattle.trace_check.specs.Outcomes.{IsReplayed}
+use Rattle.trace_check.specs.declared.replaying.Replayed.TheVariants as replay
+use Rattle.trace_check.proofs.LegalLaws.{legal-held}
+use Rattle.trace_text.specs.TraceKept.{IsTraceKept}
+use Rattle.trace_jobs.specs.Plans.{plan_of_migrate}
 use Rattle.trace_text.specs.Trace.{trace_text}
 use Rattle.trace_text.specs.writing.Writes.{Output, Writes}
 use Rattle.job_ends.specs.Ends.{EndsBy}
+use Rattle.job_ends.proofs.Statuses.{same-plan}
 use Rattle.trace_jobs.specs.Judged.{tells_illegal}
 use Rattle.job_ends.specs.declared.status.Status.TheVariants as status
-use Rattle.trace_jobs.proofs.EndLaws.{judges-fair, migrating, not-by}
+use Rattle.trace_jobs.proofs.EndLaws.{judges-fair, judges-other, judges-unfair, migrating, not-by}
 use Rattle.trace_jobs.proofs.HistoryLaws.{history_is}
 use Rattle.trace_jobs.proofs.traces.migrate_trace.Goals as goal
 
@@ -20,24 +25,34 @@ write_trace-written-requires-clause-drives g c =
     ∙ ap (λ (s : Setup). length s.axes) (sym c.config.ensures)
 
 pub returns-in-Ok-Legal-clause-judged : goal.returns-in-Ok-Legal-clause-judged
-returns-in-Ok-Legal-clause-judged g c =
-    let t = c.args.trace.now in
-    let is = subst (IsReplayed t) c.in-Ok-Legal.field-0-is c.in-Ok-Legal.ensures in
-    let fair : IsLegalTrace t = record {
+returns-in-Ok-Legal-clause-judged g c = λ whole held.
+    let is = subst (IsReplayed whole) c.in-Ok-Legal.field-0-is (c.in-Ok-Legal.ensures.held whole held) in
+    let fair : IsLegalTrace whole = record {
       history = c.in-Ok-Legal.kernel.history;
       legal = is.1.legal;
       is = is.1.is;
     } in
-    judges-fair t c.status_by.result fair (λ es. c.migrated_traces_are_legal.ensures t es c.requires)
+    let all = legal-held whole c.args.trace.now _ held fair in
+    let kept : IsTraceKept whole = subst IsTraceKept (sym all) c.requires in
+    judges-fair whole c.status_by.result fair
+    (λ es. c.migrated_traces_are_legal.ensures whole es kept)
     (not-by tells_illegal refl refl status.Ok c.status_by.result c.write_trace-written.result refl
     c.status_by.ensures)
 
 pub returns-in-Ok-Legal-clause-ends : goal.returns-in-Ok-Legal-clause-ends
-returns-in-Ok-Legal-clause-ends g c =
+returns-in-Ok-Legal-clause-ends g c = λ whole held.
+    let is = subst (IsReplayed whole) c.in-Ok-Legal.field-0-is (c.in-Ok-Legal.ensures.held whole held) in
+    let fair : IsLegalTrace whole = record {
+      history = c.in-Ok-Legal.kernel.history;
+      legal = is.1.legal;
+      is = is.1.is;
+    } in
     let t = c.args.trace.now in
-    let is = subst (IsReplayed t) c.in-Ok-Legal.field-0-is c.in-Ok-Legal.ensures in
+    let all : whole ≡ t = legal-held whole t _ held fair in
+    let told : IsReplayed t (replay.Legal c.in-Ok-Legal.kernel) =
+    subst (IsReplayed t) c.in-Ok-Legal.field-0-is c.in-Ok-Legal.ensures.replay in
     let history = c.history.ensures.entries
-    ∙ history_is t c.in-Ok-Legal.kernel.history is.1.legal is.1.is in
+    ∙ history_is t c.in-Ok-Legal.kernel.history told.1.legal told.1.is in
     let old : Output = record {
       count = g.K.Sink.count c.args.out.now;
       told = g.K.Sink.told c.args.out.now;
@@ -46,7 +61,8 @@ returns-in-Ok-Legal-clause-ends g c =
       count = g.K.Sink.count c.write_trace-written.new.out;
       told = g.K.Sink.told c.write_trace-written.new.out;
     } in
-    subst (λ p. EndsBy old new p c.status_by.result) (sym (migrating t None is.0))
+    subst (λ p. EndsBy old new p c.status_by.result)
+    (sym (ap plan_of_migrate all ∙ migrating t None told.0))
     (record {
       written = c.write_trace-written.result;
       writes = subst (λ x. Writes old new x c.write_trace-written.result)
@@ -55,6 +71,19 @@ returns-in-Ok-Legal-clause-ends g c =
       status = c.status_by.ensures;
     })
 
+pub returns-in-Ok-IllegalAt-clause-judged : goal.returns-in-Ok-IllegalAt-clause-judged
+returns-in-Ok-IllegalAt-clause-judged g c = λ whole held.
+    let is = subst (IsReplayed whole) c.in-Ok-IllegalAt.field-0-is (c.in-Ok-IllegalAt.ensures.held whole held) in
+    judges-unfair whole c.say_difference.result is.1 c.say_difference.ensures.legal
+
+pub returns-in-Ok-IllegalAt-clause-ends : goal.returns-in-Ok-IllegalAt-clause-ends
+returns-in-Ok-IllegalAt-clause-ends g c = λ whole held.
+    let is = subst (IsReplayed whole) c.in-Ok-IllegalAt.field-0-is (c.in-Ok-IllegalAt.ensures.held whole held) in
+    same-plan _ _ _ _ _ (sym (migrating whole _ is.0)) c.say_difference.ensures.ends
+
+pub returns-in-Err-clause-judged : goal.returns-in-Err-clause-judged
+returns-in-Err-clause-judged g c = λ whole held. judges-other (λ t. t ≡ whole) _ refl refl
+
 pub returns-in-Err-clause-ends : goal.returns-in-Err-clause-ends
-returns-in-Err-clause-ends g c =
+returns-in-Err-clause-ends g c = λ whole held.
     c.ends_follow_plans.ensures.early _ _ _ _ (record { status = refl; output = refl })
