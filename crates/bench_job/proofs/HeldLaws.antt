@@ -21,7 +21,7 @@ use Rattle.motion_history.specs.declared.sizes.TheConstants.{MOST_MEMBERS}
 use Rattle.motion_kernel.proofs.cycles.Rows.{grow_count}
 use Rattle.motion_kernel.proofs.kept.Machine.{MachinesStayKept, kept_by_cycle}
 use Rattle.motion_kernel.specs.Counted.{IsCounted, RowsAreCounted}
-use Rattle.motion_kernel.specs.Histories.{Follows, IsCycleOf, IsLegal, inputs_of}
+use Rattle.motion_kernel.specs.Histories.{Follows, IsCycleOf, IsLegal, IsPast, inputs_of}
 use Rattle.motion_kernel.specs.calls.Calls.{after_call}
 use Rattle.motion_kernel.specs.cycles.Cycles.{after_cycle}
 use Rattle.motion_kernel.specs.KernelState.{KernelState}
@@ -37,7 +37,7 @@ use Rattle.bench_job.proofs.EndLaws.{can-hold}
 
 -- the laws of the layers below
 pub record Laws : Type 0 where
-  pub counted : (s : Setup) (es : List Entry) → IsSetup s → AreWhole s → IsLegal s es →
+  pub counted : (s : Setup) (es : List Entry) → IsSetup s → AreWhole s → IsPast s es →
       RowsAreCounted s es
   pub machines : MachinesStayKept
 
@@ -193,7 +193,7 @@ run-held g v s es drives told version many bits =
           (entries-held g s 0 (machine_at_opening s) es told.whole
           (g.machines.opened s told.setup told.whole) told.legal.follows
           (recursion_from_All HasBits es told.bits)
-          (g.counted s es told.setup told.whole told.legal) (omega (arith, bounded)));
+          (g.counted s es told.setup told.whole (record { follows = told.legal.follows })) (omega (arith, bounded)));
       as_many = length-map drives (drive_end (cycles_of es)) ∙ many;
       drives = All-from_recursion IsDriveEnd (map (drive_end (cycles_of es)) drives)
           (ends-held (cycles_of es) drives bounded

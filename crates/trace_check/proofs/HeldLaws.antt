@@ -13,7 +13,7 @@ use Rattle.motion_history.specs.Members.{IsGroup, members_of}
 use Rattle.motion_history.specs.declared.config.GroupDef.{GroupDef}
 use Rattle.motion_history.specs.declared.sizes.TheConstants.{MOST_MEMBERS}
 use Rattle.motion_kernel.specs.Counted.{IsCounted, RowsAreCounted}
-use Rattle.motion_kernel.specs.Histories.{IsLegal}
+use Rattle.motion_kernel.specs.Histories.{IsLegal, IsPast}
 use Rattle.motion_kernel.specs.kept.Machine.{AreWhole}
 use Rattle.trace_text.specs.RowRanges.{IsGroupRow, IsRow, found_row}
 use Rattle.trace_text.specs.TraceKept.{IsEntryRead, IsRowRead, IsTraceKept}
@@ -29,7 +29,7 @@ IsEntryCounted s (end_of task) = Unit {0}
 
 -- the laws of the layers below
 pub record Laws : Type 0 where
-  pub counted : (s : Setup) (es : List Entry) → IsSetup s → AreWhole s → IsLegal s es → RowsAreCounted s es
+  pub counted : (s : Setup) (es : List Entry) → IsSetup s → AreWhole s → IsPast s es → RowsAreCounted s es
 
 -- a row whose offset was left out
 row-held : (d : AxisDef) (r : AxisRow) → IsRow (found_row r) → IsCounted d r → IsRowOf d r
@@ -98,7 +98,7 @@ pub trace-held : Laws → (t : TraceState) (es : List Entry) → IsTraceKept t �
 trace-held g t es kept legal is =
     let setup = kept.machine.setup in
     let read : AllByRecursion (IsEntryRead t.version t.config) (map (found_entry t.version t.config) es) = subst (AllByRecursion (IsEntryRead t.version t.config)) is.found kept.entries in
-    let counted : RowsAreCounted t.config es = g.counted t.config es setup (machine-whole t.config kept.machine) legal in
+    let counted : RowsAreCounted t.config es = g.counted t.config es setup (machine-whole t.config kept.machine) (record { follows = legal.follows }) in
     record {
       machine = kept.machine;
       version = tt;
