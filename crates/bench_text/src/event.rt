@@ -11,7 +11,7 @@ use line_text::{LineFault, in_range};
 use machine_words::{OUT_OF_RANGE, WRONG_COUNT, number};
 use motion_history::{Builder, MOST_CYCLES};
 
-/// The cycles of a line.
+/// How many cycles a line asks for.
 #[tactic(auto, unfolding(crate::specs::Events::cycle_meaning))]
 pub fn cycles_of(words: &[&[u8]]) -> Result<u32, LineFault>
     ensures { Gives (λ count. BenchLine.Cycles count) (spec.cycle_meaning (texts words.now)) result }
@@ -26,7 +26,7 @@ pub fn cycles_of(words: &[&[u8]]) -> Result<u32, LineFault>
     }
 }
 
-/// The end of a task that a line makes.
+/// The task that a line ends.
 #[tactic(auto, unfolding(crate::specs::Events::end_meaning))]
 pub fn end_of(machine: &Builder, words: &[&[u8]]) -> Result<u8, LineFault>
     ensures { Gives (λ task. BenchLine.End task) (spec.end_meaning machine.now (texts words.now))

@@ -1,9 +1,9 @@
 -- Who has commands of an axis or a group, by its commands.
-use Rattle.std.specs.Prelude.{◌≡◌, ◌↔◌, refl, ℕ, zero, suc, ◌<◌, Bool, true, false, IsTrue, nat_eq, Option, Some, None, List, [], ◌∷◌, slice_get}
+use Rattle.std.specs.Prelude.{◌≡◌, ◌↔◌, refl, ℕ, zero, suc, ◌<◌, Bool, true, false, IsTrue, Option, Some, None, List, [], ◌∷◌, slice_get}
 use Rattle.std.proofs.Common.{arith, ap, sym, subst, inl, inr, ◌∙◌}
-use Rattle.std.proofs.lemmas.Bool.{cases_eq, eqb-true}
-use Rattle.std.proofs.lemmas.Bool.Decides.{Decides-eqb}
-use Rattle.buffer_modes.specs.Owners.{is_owner, one_of, owner_by, waits_of}
+use Rattle.std.proofs.lemmas.Bool.{cases_eq}
+use Rattle.buffer_modes.specs.Owners.{is_owner, owner_by, waits_of}
+use Rattle.command_core.proofs.Holders.{owner_counts}
 use Rattle.command_core.specs.Charge.{Charge}
 use Rattle.command_pool.specs.declared.wanted.Wanted.{Wanted}
 use Rattle.machine_tests.specs.Owned.{HasBlock, HaveAllBlocks, HaveBlocks, owners_of}
@@ -11,21 +11,7 @@ use Rattle.machine_tests.specs.declared.owners.commands.Owners.{Owners}
 use Rattle.motion_history.specs.Setup.{Setup}
 use Rattle.motion_kernel.specs.owners.Blocks.{HasOnly}
 use Rattle.motion_kernel.specs.owners.Objects.{Object, has_commands_on}
-
--- an owner that is counted is the instance
-owner_is : (k : ℕ) (o : Option ℕ) → 0 < is_owner k o → o ≡ Some k
-unfolding is_owner
-owner_is k None l = absurd (omega arith)
-owner_is k (Some j) l = by (nat_eq j k) refl l
-  where
-    by : (b : Bool) → nat_eq j k ≡ b → 0 < one_of b → Some j ≡ Some k
-    by true e l = ap Some (eqb-true j k e)
-    by false e l = absurd (omega arith)
-
-is_counted : (k : ℕ) (o : Option ℕ) → o ≡ Some k → is_owner k o ≡ 1
-unfolding is_owner
-is_counted k None e = absurd (cc)
-is_counted k (Some j) e = let same : j ≡ k = cc in rw (same, (Decides-eqb k k).1 refl) refl
+use Rattle.motion_kernel.proofs.owners.Counts.{found_in}
 
 -- what holds of whoever has one that waits holds of whoever has many
 waits_has : (k : ℕ) (ws : List Wanted) (X : Type 0) → ((n : ℕ) (w : Wanted) → slice_get ws n ≡ Some w → w.owner ≡ Some k → X) →
@@ -33,18 +19,18 @@ waits_has : (k : ℕ) (ws : List Wanted) (X : Type 0) → ((n : ℕ) (w : Wanted
 waits_has k [] X h l = absurd (omega arith)
 waits_has k (w ∷ ws) X h l = elim (cases_eq (is_owner k w.owner) 0) [
   | inl none ↦ waits_has k ws X (λ n v at is. h (suc n) v at is) (omega arith)
-  | inr one ↦ h 0 w refl (owner_is k w.owner (omega arith))
+  | inr one ↦ h 0 w refl (found_in k w.owner (omega arith))
 ]
 
 waits_there : (k : ℕ) (ws : List Wanted) (n : ℕ) (w : Wanted) → slice_get ws n ≡ Some w → w.owner ≡ Some k → 0 < waits_of k ws
 waits_there k [] n w at is = absurd (cc)
 waits_there k (v ∷ ws) zero w at is =
     let same : v ≡ w = cc in
-    let one = is_counted k v.owner (ap (λ (x : Wanted). x.owner) same ∙ is) in
+    let one = owner_counts k v.owner (ap (λ (x : Wanted). x.owner) same ∙ is) in
     omega arith
 waits_there k (v ∷ ws) (suc n) w at is = let more = waits_there k ws n w at is in omega arith
 
--- an owner that is there is an instance whose block acts there
+-- an owner that is there is an instance whose block has its commands there
 block_of : (s : Setup) (o : Object) (owner : Option ℕ) (k : ℕ) → HasBlock s o owner → owner ≡ Some k → has_commands_on (slice_get s.blocks k) o ≡ true
 block_of s o None k h is = absurd (cc)
 block_of s o (Some j) k h is = let same : j ≡ k = cc in rw (← same) h
@@ -61,17 +47,17 @@ whole_of s o c own waiting k = record {
   commands = λ l. elim (cases_eq (is_owner k (owner_by c.active)) 0) [
     | inl none ↦ elim (cases_eq (is_owner k c.reset) 0) [
       | inl nothing ↦ waits_has k c.waiting _ (λ n w at is. block_of s o w.owner k (waiting n w at) is) (omega arith)
-      | inr reset ↦ block_of s o c.reset k own.reset (owner_is k c.reset (omega arith))
+      | inr reset ↦ block_of s o c.reset k own.reset (found_in k c.reset (omega arith))
     ]
-    | inr active ↦ block_of s o (owner_by c.active) k own.active (owner_is k (owner_by c.active) (omega arith))
+    | inr active ↦ block_of s o (owner_by c.active) k own.active (found_in k (owner_by c.active) (omega arith))
   ];
   holds = λ e. block_of s o c.hold k own.hold e;
 }
 
 own_of : (s : Setup) (o : Object) (c : Charge) → IsWhole s o c → HaveBlocks s o (owners_of c)
 own_of s o c h = record {
-  active = has_block s o (owner_by c.active) (λ k e. (h k).commands (let one = is_counted k (owner_by c.active) e in omega arith));
-  reset = has_block s o c.reset (λ k e. (h k).commands (let one = is_counted k c.reset e in omega arith));
+  active = has_block s o (owner_by c.active) (λ k e. (h k).commands (let one = owner_counts k (owner_by c.active) e in omega arith));
+  reset = has_block s o c.reset (λ k e. (h k).commands (let one = owner_counts k c.reset e in omega arith));
   hold = has_block s o c.hold (λ k e. (h k).holds e);
 }
 

@@ -8,24 +8,22 @@ use Rattle.machine_tests.specs.declared.owners.blocks.Object as code
 use Rattle.machine_tests.specs.declared.owners.blocks.Object.TheVariants.{Axis, Group}
 use Rattle.machine_tests.specs.declared.owners.commands.Owners.{Owners}
 use Rattle.motion_history.specs.Setup.{Setup}
-use Rattle.motion_kernel.specs.Machine.{Machine}
-use Rattle.motion_kernel.specs.owners.Blocks.{HasOnly, charge_at}
 use Rattle.motion_kernel.specs.owners.Objects.{a_group, an_axis, Object, has_commands_on}
 
 -- the axis or group that the code names
-abbrev pub named : code.Object → Object
-named (Axis n) = an_axis n
-named (Group j) = a_group j
+abbrev pub object_by : code.Object → Object
+object_by (Axis n) = an_axis n
+object_by (Group j) = a_group j
 
 -- who has the active command and the pending reset, and who holds it in stopping
 abbrev pub owners_of : Charge → Owners
 owners_of c = record { active = owner_by c.active; reset = c.reset; hold = c.hold }
 
--- an owner, if there is one, is an instance whose block acts on an axis or a group
+-- an owner, if there is one, is an instance whose block has its commands on an axis or a group
 abbrev pub HasBlock : Setup → Object → Option ℕ → Type 0
 HasBlock s o owner = IfSome owner (λ k. has_commands_on (slice_get s.blocks k) o ≡ true)
 
--- so are these
+-- each of these three owners, if there is one, is such an instance
 pub record HaveBlocks (s : Setup) (o : Object) (owners : Owners) : Type 0 where
   pub active : HasBlock s o owners.active
   pub reset : HasBlock s o owners.reset
@@ -34,8 +32,3 @@ pub record HaveBlocks (s : Setup) (o : Object) (owners : Owners) : Type 0 where
 -- so are the owners of these commands
 abbrev pub HaveAllBlocks : Setup → Object → List Wanted → Type 0
 HaveAllBlocks s o ws = (n : ℕ) (w : Wanted) → slice_get ws n ≡ Some w → HasBlock s o w.owner
-
--- whoever has a command of an axis or a group, or holds it in stopping, is an instance whose block
--- acts on it
-abbrev pub IsOwned : Setup → Machine → Object → Type 0
-IsOwned s m o = (k : ℕ) → HasOnly k (charge_at m o) (has_commands_on (slice_get s.blocks k) o ≡ true)

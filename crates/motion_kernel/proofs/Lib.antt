@@ -1,5 +1,5 @@
 -- machines_stay_kept: kept/, by calls in kept/Calls and kept/MayCall, by cycles in kept/Cycles
--- owners_have_blocks: owners/Blocks and Opening, by the walk; what a rising edge makes of it: owners/Own
+-- owners_have_blocks: owners/Blocks and Opening, by the walk; what a rising edge makes of it: owners/Alone
 -- rows_are_counted: Counted, over calls/AxesLeft and cycles/OneAxis
 -- the kernels' own answers: kept/Banked and Kernel, Marked, cycles/Entries
 -- banks_join: Banks

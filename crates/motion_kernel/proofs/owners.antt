@@ -5,4 +5,4 @@ pub mod active
 pub mod kinds
 pub mod Opening
 pub mod Blocks
-pub mod Own
+pub mod Alone

@@ -1,4 +1,4 @@
--- What a block call makes of the machine.
+-- What a block call asks for, and what it makes of the machine.
 pub mod Telling
 pub mod Asking
 pub mod Calls

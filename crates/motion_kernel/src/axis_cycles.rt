@@ -12,7 +12,7 @@ ghost use Rattle.motion_kernel.specs.Seen.{machine_of};
 use crate::axis_looks::{Around, axis_look};
 use crate::layout::Layout;
 use crate::parts::Parts;
-use crate::telling::tell_out;
+use crate::telling::tell_and_clear;
 use axis_state::AxisRow;
 use cia402_machine::DriveOut;
 use command_pool::Notes;
@@ -39,7 +39,7 @@ fn cycle_axis(
     let look = axis_look(layout, around, axis, parts);
     let core = &mut parts.axes[axis as usize];
     let row = core.cycle(&mut parts.pool, axis, &look, notes);
-    tell_out(notes, parts);
+    tell_and_clear(notes, parts);
     row
 }
 

@@ -105,11 +105,11 @@ fn reset_group(layout: &Layout, group: u8, parts: &mut Parts) -> GroupRow
     ensures after { machine_of parts.new ≡ resets.after_group_reset layout.now group
         (machine_of parts.old) }
 {
-    let stays = &parts.groups[group as usize].group().group;
-    if stays.reset.is_none() {
+    let found = &parts.groups[group as usize].group().group;
+    if found.reset.is_none() {
         return GroupRow {
-            state: stays.state,
-            error: stays.error,
+            state: found.state,
+            error: found.error,
         };
     }
     reset_pending(layout, group, parts)

@@ -41,8 +41,8 @@ pub fn tell(notes: &Notes, parts: &mut Parts)
     finish_all(notes.as_slice(), parts.instances.as_mut_slice());
 }
 
-/// Tells them the same, and leaves no notes.
-pub fn tell_out(notes: &mut Notes, parts: &mut Parts)
+/// Tells the instances of the machine the same, and leaves no notes.
+pub fn tell_and_clear(notes: &mut Notes, parts: &mut Parts)
     ensures told { machine_of parts.new ≡ record (machine_of parts.old) {
       instances = spec.told_notes notes.old (machine_of parts.old).instances;
     } }

@@ -1,3 +1,3 @@
--- What a call asks for, and what that asks of an axis and of a group.
+-- What a call asks of an axis, and of a group.
 pub mod Axis
 pub mod Group

@@ -1,3 +1,3 @@
--- Where the commands of instances are.
+-- Who holds an axis or a group in stopping, and that commands are where they are shown.
 pub mod Holders
 pub mod Shown

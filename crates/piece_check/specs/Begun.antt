@@ -24,8 +24,8 @@ IsFirstOrLater s b m =
     b.banks ≡ 0 → head_text b m ≡ head_text nothing_before (machine_at_opening s)
 
 -- a machine may begin so: what was before can be counted, the machine is one that always holds of
--- the piece's configuration, whoever has a command in it is an instance whose block acts there, and
--- it is at opening where nothing was before
+-- the piece's configuration, whoever has a command in it, or holds stopping, is an instance whose
+-- block has its commands there, and it is at opening where nothing was before
 pub record MayBegin (p : Piece) : Type 0 where
   pub early : IsEarly p.before
   pub machine : IsMachineKept p.trace.config p.machine

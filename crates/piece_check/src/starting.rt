@@ -74,7 +74,8 @@ fn is_first_or_later(
 }
 
 // Makes of a machine at opening one that was read, and tells whether it is one of which what always
-// holds is true, and in which whoever has a command is an instance whose block acts there.
+// holds is true, and in which whoever has a command is an instance whose block has its commands
+// there.
 fn begin(config: &Config, machine: &MachineText, start: &mut Start) -> bool
     requires { start.old ≡ machine_at_opening config.now }
     ensures kept { IsTrue result ↔

@@ -8,7 +8,7 @@ use Rattle.trace_text.specs.TraceState.{TraceState, entries_of}
 use Rattle.trace_check.specs.Legal.{IsLegalTrace, IsLegalTraceFrom}
 use Rattle.trace_check.specs.Outcomes.{IsReplayed, IsReplayedFrom}
 use Rattle.trace_check.specs.Progress.{difference_from}
-use Rattle.trace_check.specs.Verdicts.{Judges, JudgesFrom, verdict_from, verdict_of}
+use Rattle.trace_check.specs.Verdicts.{IsVerdictOn, IsVerdictFrom, verdict_from, verdict_of}
 use Rattle.trace_check.specs.declared.difference.Difference.{Difference}
 use Rattle.trace_check.specs.declared.replaying.Replayed.{Replayed}
 use Rattle.trace_check.specs.declared.replaying.Replayed.TheVariants as replay
@@ -26,14 +26,14 @@ verdict-illegal t m d h = rw h refl
 
 -- ---- what is judged of a trace of which a part is held
 
-pub judged-legal : (whole t : TraceState) (m : Machine) (k : BankedState) (n : ℕ) → IsHeldOf whole t → IsReplayedFrom m whole (replay.Legal k) → n ≡ length (entries_of t) → JudgesFrom m whole (verdict.Legal n)
+pub judged-legal : (whole t : TraceState) (m : Machine) (k : BankedState) (n : ℕ) → IsHeldOf whole t → IsReplayedFrom m whole (replay.Legal k) → n ≡ length (entries_of t) → IsVerdictFrom m whole (verdict.Legal n)
 judged-legal whole t m k n h r e =
     let fair : IsLegalTraceFrom m whole = record { history = k.history; legal = r.1.legal; is = r.1.is } in
     let all = legal-held whole t m h fair in
     let count : n ≡ length (entries_of whole) = e ∙ ap (λ (x : TraceState). length (entries_of x)) (sym all) in
     record { is = verdict-legal whole m n r.0 count; legal = (λ x. fair, λ l. ap verdict.Legal count) }
 
-pub judged-illegal : (t : TraceState) (m : Machine) (d : Difference) → IsReplayedFrom m t (replay.IllegalAt d) → JudgesFrom m t (verdict.IllegalAt d.place d.expected d.found)
+pub judged-illegal : (t : TraceState) (m : Machine) (d : Difference) → IsReplayedFrom m t (replay.IllegalAt d) → IsVerdictFrom m t (verdict.IllegalAt d.place d.expected d.found)
 judged-illegal t m d r = record { is = verdict-illegal t m d r.0; legal = (λ x. absurd (cc x), λ l. absurd (r.1 l)) }
 
 -- ---- from opening on
@@ -56,7 +56,7 @@ pub judged-opened : (E : Type 0) (t : TraceState) (k : BankedState) (r : Result 
     IfOk r (λ v. (v ≡ verdict.Legal (length (entries_of t))) ↔ IsLegalTrace t)
 judged-opened E t k r is h = subst (λ (x : BankedState). IfOk r (λ v. (v ≡ verdict.Legal (length (entries_of t))) ↔ IsLegalTraceFrom x.start t)) is h
 
-pub judges-opened : (E : Type 0) (t : TraceState) (k : BankedState) (r : Result Verdict E) → k ≡ at_opening t.config → IfOk r (JudgesFrom k.start t) → IfOk r (Judges t)
+pub judges-opened : (E : Type 0) (t : TraceState) (k : BankedState) (r : Result Verdict E) → k ≡ at_opening t.config → IfOk r (IsVerdictFrom k.start t) → IfOk r (IsVerdictOn t)
 judges-opened E t k (Ok v) is j = record {
   is = j.is ∙ verdict-opened t k is;
   legal = subst (λ (x : BankedState). (v ≡ verdict.Legal (length (entries_of t))) ↔ IsLegalTraceFrom x.start t) is j.legal;

@@ -23,11 +23,11 @@ verdict_of t = verdict_by (length (entries_of t)) (difference_in t)
 
 -- a verdict judges a trace from a machine on: it tells the first record that differs, and that the
 -- trace is legal exactly where it is
-pub record JudgesFrom (m : Machine) (t : TraceState) (v : Verdict) : Type 0 where
+pub record IsVerdictFrom (m : Machine) (t : TraceState) (v : Verdict) : Type 0 where
   pub is : v ≡ verdict_from m t
   pub legal : (v ≡ verdict.Legal (length (entries_of t))) ↔ IsLegalTraceFrom m t
 
 -- it judges a trace from opening on
-pub record Judges (t : TraceState) (v : Verdict) : Type 0 where
+pub record IsVerdictOn (t : TraceState) (v : Verdict) : Type 0 where
   pub is : v ≡ verdict_of t
   pub legal : (v ≡ verdict.Legal (length (entries_of t))) ↔ IsLegalTrace t

@@ -83,7 +83,7 @@ fn kernel_of(alloc: Global, trace: &Trace, mut kernel: BankedKernel) -> Result<B
 
 /// Replays a trace from where a kernel of its configuration begins, one entry at a time, the
 /// answers of the drives being given. It takes memory for two records where they differ. What is
-/// told of a trace is so of each of which no more than that is held.
+/// told is so of each trace of which this is what is held.
 pub fn replay_from(
     alloc: Global,
     trace: &Trace,

@@ -44,7 +44,7 @@ pub fn check_from(
         (v ≡ Verdict.Legal (length (entries_of trace.now))) ↔
         IsLegalTraceFrom kernel.start trace.now) }
     ensures held { (whole : TraceState) → IsHeldOf whole trace.now →
-        IfOk result (spec.JudgesFrom kernel.start whole) }
+        IfOk result (spec.IsVerdictFrom kernel.start whole) }
 {
     match replay_from(alloc, trace, kernel)? {
         Replayed::Legal(_) => Ok(Verdict::Legal {
@@ -72,7 +72,7 @@ pub fn check(alloc: Global, trace: &Trace) -> Result<Verdict, OutOfMemory>
     ensures legal { IfOk result (λ v.
         (v ≡ Verdict.Legal (length (entries_of trace.now))) ↔ IsLegalTrace trace.now) }
     ensures held { (whole : TraceState) → IsHeldOf whole trace.now →
-        IfOk result (spec.Judges whole) }
+        IfOk result (spec.IsVerdictOn whole) }
 {
     let kernel = open_kernel(alloc, trace)?;
     check_from(alloc, trace, kernel)

@@ -34,7 +34,7 @@ impl Model for FoundList {
     ghost invariant = { AreKept };
 }
 
-// So many cycles, and one more where an entry is one.
+// So many cycles, and one more where an entry is one; beyond 2^32 - 1 that is want of memory.
 fn cycles_with(cycles: u32, entry: &FoundEntry) -> Result<u32, OutOfMemory>
     ensures { IfOk result (λ n. n ≡ cycles + cycle_count (entries.entry_of entry.now)) }
 {

@@ -2,7 +2,7 @@
 
 ghost use Rattle.std.specs.Prelude.{◌≡◌, ◌↔◌, IsTrue, slice_get};
 ghost use Rattle.fb_outputs.specs.Steps as step;
-ghost use Rattle.machine_tests.specs.Owned.{HasBlock, named};
+ghost use Rattle.machine_tests.specs.Owned.{HasBlock, object_by};
 ghost use Rattle.motion_kernel.specs.owners.Objects as objects;
 ghost use Rattle.motion_kernel.specs.owners.Objects.{has_commands_on};
 
@@ -17,7 +17,7 @@ pub enum Object {
 
 // On which a block acts.
 fn object_of(block: &BlockDef) -> Object
-    ensures { named result ≡ objects.object_of block.now }
+    ensures { object_by result ≡ objects.object_of block.now }
 {
     if block.kind.acts_on_group() {
         Object::Group(block.object)
@@ -28,7 +28,7 @@ fn object_of(block: &BlockDef) -> Object
 
 // Whether two are the same.
 fn is_same(one: Object, other: Object) -> bool
-    ensures { result ≡ objects.is_same (named one) (named other) }
+    ensures { result ≡ objects.is_same (object_by one) (object_by other) }
 {
     match (one, other) {
         (Object::Axis(one), Object::Axis(other)) => one == other,
@@ -46,7 +46,7 @@ fn is_power(block: &BlockDef) -> bool
 
 // Whether there is an instance of this number, and its block has its commands there.
 fn has_commands(config: &Config, instance: u16, object: Object) -> bool
-    ensures { result ≡ has_commands_on (slice_get config.now.blocks instance) (named object) }
+    ensures { result ≡ has_commands_on (slice_get config.now.blocks instance) (object_by object) }
 {
     match config.blocks().get(instance as usize) {
         Some(block) => !is_power(block) && is_same(object_of(block), object),
@@ -54,9 +54,9 @@ fn has_commands(config: &Config, instance: u16, object: Object) -> bool
     }
 }
 
-/// Whether an owner, if there is one, is an instance whose block acts there.
+/// Whether an owner, if there is one, is an instance whose block has its commands there.
 pub fn has_block(config: &Config, owner: Option<u16>, object: Object) -> bool
-    ensures { IsTrue result ↔ HasBlock config.now (named object) owner }
+    ensures { IsTrue result ↔ HasBlock config.now (object_by object) owner }
 {
     match owner {
         Some(instance) => has_commands(config, instance, object),

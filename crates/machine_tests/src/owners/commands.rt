@@ -1,12 +1,12 @@
-// Whether the commands of an axis or a group are of instances whose blocks act on it.
+// Whether the commands of an axis or a group are of instances whose blocks have theirs there.
 
 ghost use Rattle.std.specs.Prelude.{◌≡◌, ◌↔◌, IsTrue, ◌<◌, length, slice_get};
 ghost use Rattle.buffer_modes.specs.Owners.{owner_by};
 ghost use Rattle.buffer_modes.specs.Resets as resets;
 ghost use Rattle.command_pool.specs.Waiting.{queue_of};
-ghost use Rattle.machine_tests.specs.Owned.{HaveAllBlocks, HaveBlocks, IsOwned, named, owners_of};
+ghost use Rattle.machine_tests.specs.Owned.{HaveAllBlocks, HaveBlocks, object_by, owners_of};
 ghost use Rattle.motion_kernel.specs.kept.Machine.{IsSized};
-ghost use Rattle.motion_kernel.specs.owners.Blocks.{charge_at};
+ghost use Rattle.motion_kernel.specs.owners.Blocks.{OwnersHaveBlocksOn, charge_at};
 ghost use Rattle.motion_kernel.specs.owners.Objects.{a_group, an_axis};
 
 use crate::owners::blocks::{Object, has_block};
@@ -91,9 +91,9 @@ fn group_owners(start: &Start, number: u8) -> Owners
     }
 }
 
-// Whether all of these are instances whose blocks act there.
+// Whether all of these are instances whose blocks have their commands there.
 fn have_blocks(config: &Config, owners: &Owners, object: Object) -> bool
-    ensures { IsTrue result ↔ HaveBlocks config.now (named object) owners.now }
+    ensures { IsTrue result ↔ HaveBlocks config.now (object_by object) owners.now }
 {
     has_block(config, owners.active, object)
         && has_block(config, owners.reset, object)
@@ -104,7 +104,7 @@ fn have_blocks(config: &Config, owners: &Owners, object: Object) -> bool
 fn have_all_blocks(config: &Config, start: &Start, list: u8, object: Object) -> bool
     requires { list < length start.now.queues }
     ensures { IsTrue result ↔
-        HaveAllBlocks config.now (named object) (queue_of start.now.queues list) }
+        HaveAllBlocks config.now (object_by object) (queue_of start.now.queues list) }
 {
     for place in 0..start.waiting_count(list) {
         if !has_block(config, owner_at(start, list, place), object) {
@@ -114,22 +114,24 @@ fn have_all_blocks(config: &Config, start: &Start, list: u8, object: Object) -> 
     true
 }
 
-/// Whether whoever has a command of an axis, or holds it, is an instance whose block acts on it.
-pub fn is_axis_owned(config: &Config, start: &Start, number: u8) -> bool
+/// Whether whoever has a command of an axis, or holds it, is an instance whose block has its
+/// commands there.
+pub fn axis_owners_have_blocks(config: &Config, start: &Start, number: u8) -> bool
     requires sized { IsSized config.now start.now }
     requires there { number < length start.now.axes }
-    ensures { IsTrue result ↔ IsOwned config.now start.now (an_axis number) }
+    ensures { IsTrue result ↔ OwnersHaveBlocksOn config.now start.now (an_axis number) }
 {
     let axis = Object::Axis(number);
     have_blocks(config, &axis_owners(start, number), axis)
         && have_all_blocks(config, start, number, axis)
 }
 
-/// Whether whoever has a command of a group, or holds it, is an instance whose block acts on it.
-pub fn is_group_owned(config: &Config, start: &Start, number: u8) -> bool
+/// Whether whoever has a command of a group, or holds it, is an instance whose block has its
+/// commands there.
+pub fn group_owners_have_blocks(config: &Config, start: &Start, number: u8) -> bool
     requires sized { IsSized config.now start.now }
     requires there { number < length start.now.groups }
-    ensures { IsTrue result ↔ IsOwned config.now start.now (a_group number) }
+    ensures { IsTrue result ↔ OwnersHaveBlocksOn config.now start.now (a_group number) }
 {
     let group = Object::Group(number);
     let list = config.axes().len() as u8 + number;

@@ -27,7 +27,7 @@ use Rattle.motion_kernel.proofs.kept.Laws.{AxesKeepDefinitions, AxesStayKept, Gr
 use Rattle.motion_kernel.proofs.members.Places.{membership_is}
 
 -- a group with its path, whose commands an instance has no longer
-abbrev placed_without : ℕ → PlacedGroup → PlacedGroup
+abbrev pub placed_without : ℕ → PlacedGroup → PlacedGroup
 placed_without k g = record g { group = group_without k g.group }
 
 pub disowned_size : (k : ℕ) (m : Machine) → IsAsLarge m (without_owner k m)

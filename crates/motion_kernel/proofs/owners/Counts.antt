@@ -1,7 +1,7 @@
 -- How many commands an instance has, how many it brings, and of how many ends it is told.
 use Rattle.std.specs.Prelude.{◌≡◌, refl, ℕ, zero, suc, ◌<◌, Bool, true, false, nat_eq, if◌then◌else◌, Option, Some, None, Ok, List, [], ◌∷◌, ◌++◌}
 use Rattle.std.proofs.Common.{arith, ap, sym, subst, ◌∙◌, inl, inr}
-use Rattle.std.proofs.lemmas.Bool.{cases_eq, eq-eqb, eqb-false, ne_eqb}
+use Rattle.std.proofs.lemmas.Bool.{cases_Bool, cases_eq, eq-eqb, eqb-false, eqb-true, ne_eqb}
 use Rattle.std.proofs.lemmas.List.{get_or-set_other}
 use Rattle.axis_core.specs.Calls as axis_calls
 use Rattle.axis_core.specs.Cores.{Core}
@@ -45,6 +45,14 @@ one_zero false e = refl
 pub owner_not : (k j : ℕ) → is_owner k (Some j) ≡ 0 → nat_eq j k ≡ false
 unfolding is_owner
 owner_not k j e = one_zero (nat_eq j k) e
+
+-- an owner by its count
+pub found_in : (k : ℕ) (o : Option ℕ) → 0 < is_owner k o → o ≡ Some k
+found_in k None l = let n = nobody k in absurd (omega arith)
+found_in k (Some j) l = elim (cases_Bool (nat_eq j k)) [
+  | inl e ↦ ap Some (eqb-true j k e)
+  | inr d ↦ let n = other_owner k j d in absurd (omega arith)
+]
 
 -- an instance that is told nothing is as it was
 pub untold_stays : (k : ℕ) (ns : List Note) (is : List InstanceState) → told k ns ≡ 0 →

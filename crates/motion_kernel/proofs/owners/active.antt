@@ -1,3 +1,3 @@
--- An instance shows Active exactly while its command is the active one.
+-- How many commands of an instance are active, by each call.
 pub mod AxisCounts
 pub mod GroupCounts

@@ -1,4 +1,4 @@
--- An instance has a command exactly while it shows one.
+-- What events and calls leave of the commands that instances show.
 pub mod Events
 pub mod Freed
 pub mod Asked

@@ -1,3 +1,3 @@
--- Commands are of the kinds of their instances' blocks.
+-- Of which kinds the commands are that changes leave and calls bring.
 pub mod Changes
 pub mod Tables

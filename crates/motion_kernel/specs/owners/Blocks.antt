@@ -18,7 +18,11 @@ pub record HasOnly (k : ℕ) (c : Charge) (there : Type 0) : Type 0 where
   pub holds : c.hold ≡ Some k → there
 
 -- whoever has a command of an axis or a group, or holds it in stopping, is an instance whose block
--- acts on it
-abbrev pub OwnersHaveBlocks : Setup → Machine → Type 0
-OwnersHaveBlocks s m = (o : Object) → IsThere m o → (k : ℕ) →
+-- has its commands there
+abbrev pub OwnersHaveBlocksOn : Setup → Machine → Object → Type 0
+OwnersHaveBlocksOn s m o = (k : ℕ) →
     HasOnly k (charge_at m o) (has_commands_on (slice_get s.blocks k) o ≡ true)
+
+-- so it is of all axes and groups
+abbrev pub OwnersHaveBlocks : Setup → Machine → Type 0
+OwnersHaveBlocks s m = (o : Object) → IsThere m o → OwnersHaveBlocksOn s m o

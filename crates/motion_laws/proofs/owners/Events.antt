@@ -1,5 +1,5 @@
 -- What an event makes of the commands that an instance has, by its changes.
-use Rattle.std.specs.Prelude.{◌≡◌, refl, ℕ, ◌<◌, false, nat_eq, if◌then◌else◌, List, [], length, slice_get}
+use Rattle.std.specs.Prelude.{◌≡◌, refl, ℕ, ◌<◌, false, nat_eq, if◌then◌else◌, List, length, slice_get}
 use Rattle.std.proofs.Common.{arith, ap, sym, subst, ◌∙◌}
 use Rattle.std.proofs.lemmas.Bool.{eqb-false}
 use Rattle.std.proofs.lemmas.List.{get_or-set_other}

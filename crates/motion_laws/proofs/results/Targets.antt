@@ -33,7 +33,7 @@ use Rattle.motion_laws.specs.results.Outcomes.{answer_in, end_answered, end_by_e
 use Rattle.motion_laws.specs.results.Results.{KeepsResults, ResultsAreTold, end_in}
 use Rattle.motion_laws.specs.results.Targets.{IsDoneThere, MovesEndThere}
 use Rattle.motion_laws.proofs.Histories.{past_so_far}
-use Rattle.motion_laws.proofs.owners.active.Cycles.{found_in}
+use Rattle.motion_kernel.proofs.owners.Counts.{found_in}
 use Rattle.motion_kernel.proofs.owners.commands.Events.{there_where}
 use Rattle.motion_laws.proofs.owners.kinds.Kept.{kinds_match}
 use Rattle.motion_laws.proofs.results.Stays.{machine_kept}

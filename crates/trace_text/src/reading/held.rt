@@ -32,8 +32,9 @@ pub fn set_apart(reader: &mut TraceReader, first: &mut Option<FoundList>)
     }
 }
 
-/// Gives a reader the first entries back that were set apart. They don't keep within the room, which
-/// has stood since the first of them; else they would be given up.
+/// Gives a reader the first entries back that were set apart. The room has stood since the machine
+/// part, so they don't keep within it; if they did, which no text brings about, the answer would be
+/// want of memory.
 pub fn give_back(reader: &mut TraceReader, first: Option<FoundList>) -> Result<(), OutOfMemory>
     ensures held { (within_room : Bool) (whole : SoFar) → (within_room ≡ false → first ≡ None) →
         StandsAt whole reader.old first → OnOk result (IsHeldSoFar within_room whole reader.new) }

@@ -41,8 +41,9 @@ pub fn read_trace(alloc: Global, text: &[u8]) -> Result<Trace, TextFault>
     read_held(alloc, text, false)
 }
 
-/// The same for one who judges the trace, and wants no entry behind the first for which its machine
-/// has no room: of these none is in memory, but their text is read as that of the others.
+/// The same for one who judges the trace: entries behind the first for which its machine has no
+/// room needn't be kept, though their text is read as that of the others. How few are kept no clause
+/// says.
 pub fn read_within_room(alloc: Global, text: &[u8]) -> Result<Trace, TextFault>
     ensures reading { ReadsHeld (spec.trace_of text.now) result }
     ensures kept { IfOk result (λ t. IsTraceKept t) }
@@ -50,7 +51,8 @@ pub fn read_within_room(alloc: Global, text: &[u8]) -> Result<Trace, TextFault>
     read_held(alloc, text, true)
 }
 
-// The trace that a text is: all of it, or what of it keeps within its room, and one entry more.
+// The trace that a text is: all of it, or all but entries behind some that don't keep within its
+// room.
 #[tactic(auto, unfolding(crate::specs::reading::Reading::trace_of, crate::specs::reading::Reading::reading_of))]
 fn read_held(alloc: Global, text: &[u8], within_room: bool) -> Result<Trace, TextFault>
     ensures held { ReadsHeld (spec.trace_of text.now) result }
@@ -105,10 +107,7 @@ fn hold_records(
     ensures { HoldsRecords within_room (records_of text.now) reader.old reader.new result }
 {
     let mut first = None;
-    let last = match read_records(alloc, text, within_room, reader, &mut first) {
-        Ok(last) => last,
-        Err(fault) => return Err(fault),
-    };
+    let last = read_records(alloc, text, within_room, reader, &mut first)?;
     match give_back(reader, first) {
         Ok(()) => Ok(last),
         Err(OutOfMemory) => Err(LinesFault::OutOfMemory),

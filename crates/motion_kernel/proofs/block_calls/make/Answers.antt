@@ -2,7 +2,7 @@
 use Rattle.std.proofs.Common.{arith}
 use Rattle.std.specs.Prelude.{slice_set}
 use Rattle.motion_kernel.specs.Seen.{machine_of}
-use Rattle.motion_kernel.proofs.owners.Own.{other_instances}
+use Rattle.motion_kernel.proofs.owners.Alone.{other_instances}
 use Rattle.motion_kernel.proofs.owners.commands.Events.{there_where}
 use Rattle.motion_kernel.proofs.block_calls.make.Goals as goal
 

@@ -1,7 +1,7 @@
 -- Active commands are where they are shown after a cycle, and at opening.
-use Rattle.std.specs.Prelude.{◌≡◌, refl, ℕ, zero, suc, ◌<◌, Bool, true, false, nat_eq, if◌then◌else◌, Option, Some, None, List, length, slice_get}
+use Rattle.std.specs.Prelude.{◌≡◌, refl, ℕ, zero, suc, ◌<◌, Bool, true, false, if◌then◌else◌, Option, Some, None, List, length, slice_get}
 use Rattle.std.proofs.Common.{arith, ap, sym, subst, ◌∙◌, inl, inr}
-use Rattle.std.proofs.lemmas.Bool.{cases_Bool, cases_eq, eqb-true}
+use Rattle.std.proofs.lemmas.Bool.{cases_Bool, cases_eq}
 use Rattle.axis_core.specs.declared.axis.Axis.{Axis}
 use Rattle.buffer_modes.specs.Owners.{is_owner, owner_by}
 use Rattle.command_pool.specs.declared.wanted.Wanted.{Wanted}
@@ -14,7 +14,7 @@ use Rattle.motion_kernel.specs.Machine.{Machine, PlacedGroup, axis_at, group_at,
 use Rattle.motion_kernel.specs.owners.Commands.{ActiveAreShown, CommandsAreShown, active_at, commands_at}
 use Rattle.motion_kernel.specs.owners.Objects.{IsThere, Object, has_commands_on, is_same, a_group, an_axis}
 use Rattle.buffer_modes.proofs.Owners.{nobody}
-use Rattle.motion_kernel.proofs.owners.Counts.{other_owner, shown_by}
+use Rattle.motion_kernel.proofs.owners.Counts.{found_in, shown_by}
 use Rattle.motion_laws.proofs.owners.commands.Cycles.{axes_told}
 use Rattle.motion_kernel.proofs.owners.commands.Events.{beside_none, most_one, none_beside, none_if, same_object, shown_if, shown_where}
 use Rattle.motion_laws.proofs.owners.commands.Opening.{opening_shown, shows_none}
@@ -23,14 +23,6 @@ use Rattle.motion_laws.proofs.owners.active.Events.{active_same, AreTrulyShown, 
 use Rattle.motion_laws.proofs.owners.active.Told.{IsTold, most_active, axes_are_told, groups_are_told, groups_grow, axes_done, groups_done}
 use Rattle.motion_laws.proofs.owners.active.Waiting.{WaitsOf, at_most}
 use Rattle.motion_kernel.proofs.walk.Events.{there_same}
-
--- an owner by its count
-pub found_in : (k : ℕ) (o : Option ℕ) → 0 < is_owner k o → o ≡ Some k
-found_in k None l = let n = nobody k in absurd (omega arith)
-found_in k (Some j) l = elim (cases_Bool (nat_eq j k)) [
-  | inl e ↦ ap Some (eqb-true j k e)
-  | inr d ↦ let n = other_owner k j d in absurd (omega arith)
-]
 
 owner_found : (k : ℕ) (active : Option Wanted) → 0 < is_owner k (owner_by active) →
     owner_by active ≡ Some k

@@ -25,7 +25,7 @@ use Rattle.motion_kernel.specs.owners.Blocks.{charge_at}
 use Rattle.motion_laws.specs.results.Outcomes.{end_of_command}
 use Rattle.motion_laws.proofs.owners.Events.{active_in, commands_of}
 use Rattle.motion_kernel.proofs.owners.Blocks.{untold}
-use Rattle.motion_laws.proofs.owners.active.Cycles.{found_in}
+use Rattle.motion_kernel.proofs.owners.Counts.{found_in}
 use Rattle.motion_laws.proofs.results.Events.{one_there}
 use Rattle.motion_laws.proofs.results.outcomes.Doing.{axis_cycle, group_cycle, group_reset}
 use Rattle.motion_laws.proofs.results.outcomes.Done.{EndsNoneDone, HasOneEnd, NoDone, all_none, end_more, none_done, one_end}

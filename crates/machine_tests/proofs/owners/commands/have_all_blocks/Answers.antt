@@ -6,7 +6,7 @@ use Rattle.command_pool.specs.Layout.{unused}
 use Rattle.command_pool.specs.Waiting.{queue_of}
 use Rattle.command_pool.specs.declared.wanted.Wanted.{Wanted}
 use Rattle.motion_kernel.proofs.Lists.{get_is}
-use Rattle.machine_tests.specs.Owned.{HasBlock, named}
+use Rattle.machine_tests.specs.Owned.{HasBlock, object_by}
 use Rattle.machine_tests.proofs.Queues.{one_more}
 use Rattle.machine_tests.proofs.owners.commands.have_all_blocks.Goals as goal
 
@@ -16,7 +16,7 @@ loop-place-preserved c =
     let yes : c.has_block.result ≡ true = cc in
     let told = c.owner_at.ensures in
     let has = c.has_block.ensures.0 yes in
-    one_more (λ (w : Wanted). HasBlock c.args.config.now (named c.args.object) w.owner) (queue_of c.args.start.now.queues c.args.list) c.loop-place.place
+    one_more (λ (w : Wanted). HasBlock c.args.config.now (object_by c.args.object) w.owner) (queue_of c.args.start.now.queues c.args.list) c.loop-place.place
     c.has_block.result c.loop-place.invariant
     (λ w at. (λ ok. rw (← ap owner_by at, ← told) has, λ h. yes)) yes
 

@@ -3,7 +3,7 @@ use Rattle.std.proofs.Common.{refl}
 use Rattle.machine_tests.proofs.OwnedParts.{not_whole, whole_by_parts}
 use Rattle.motion_kernel.specs.owners.Blocks.{charge_at}
 use Rattle.motion_kernel.specs.owners.Objects.{an_axis}
-use Rattle.machine_tests.proofs.owners.commands.is_axis_owned.Goals as goal
+use Rattle.machine_tests.proofs.owners.commands.axis_owners_have_blocks.Goals as goal
 
 pub returns-then-have_blocks : goal.returns-then-have_blocks
 returns-then-have_blocks c =

@@ -4,7 +4,7 @@ use Rattle.command_pool.specs.Waiting.{queue_of}
 use Rattle.machine_tests.proofs.OwnedParts.{not_whole, whole_by_parts}
 use Rattle.motion_kernel.specs.owners.Blocks.{charge_at}
 use Rattle.motion_kernel.specs.owners.Objects.{a_group}
-use Rattle.machine_tests.proofs.owners.commands.is_group_owned.Goals as goal
+use Rattle.machine_tests.proofs.owners.commands.group_owners_have_blocks.Goals as goal
 
 pub returns-then-have_blocks : goal.returns-then-have_blocks
 returns-then-have_blocks c =

@@ -1,5 +1,5 @@
--- An instance has its commands where its block acts alone, so that who takes them away there takes
--- them away.
+-- An instance has commands on the axis or group of its block alone, so that taking them away there
+-- takes all away.
 use Rattle.std.specs.Prelude.{◌≡◌, refl, ℕ, zero, suc, ◌+◌, ◌-◌, ◌<◌, Bool, true, false, not, nat_eq, if◌then◌else◌, Option, Some, None, List, [], ◌∷◌, length, map, slice_get, slice_index_or, slice_set}
 use Rattle.std.proofs.Common.{arith, ap, sym, subst, inl, inr, ◌∙◌}
 use Rattle.std.proofs.lemmas.Bool.{and_parts, cases_eq, cases_lt, ne_eqb}
@@ -18,10 +18,11 @@ use Rattle.group_core.specs.Calls.{disowned, group_without}
 use Rattle.motion_history.specs.Setup.{Setup}
 use Rattle.motion_history.specs.declared.config.BlockDef.{BlockDef}
 use Rattle.motion_kernel.specs.calls.Calls.{with_axis_core, with_group_core, without_owner}
-use Rattle.motion_kernel.specs.Machine.{Machine, PlacedGroup, axis_at, axis_core_at, group_at, group_core_at, list_of, no_axis, no_group}
+use Rattle.motion_kernel.specs.Machine.{Machine, axis_at, axis_core_at, group_at, group_core_at, list_of, no_axis, no_group}
 use Rattle.motion_kernel.specs.kept.Machine.{IsSized}
 use Rattle.motion_kernel.specs.owners.Blocks.{OwnersHaveBlocks, charge_at}
 use Rattle.motion_kernel.specs.owners.Objects.{a_group, an_axis, IsThere, Object, has_commands_on, is_same, object_of}
+use Rattle.motion_kernel.proofs.kept.Detached.{placed_without}
 
 -- where nothing is an instance's, taking its own away changes nothing
 owner_stays : (k : ℕ) (o : Option ℕ) → is_owner k o ≡ 0 → without k o ≡ o
@@ -69,9 +70,6 @@ axis_stays k m n h =
     let reset = reset_stays k a.reset (omega arith) in
     let hold = hold_stays k a.hold h.free in
     λ i. record a { active = active i; reset = reset i; hold = hold i }
-
-abbrev placed_without : ℕ → PlacedGroup → PlacedGroup
-placed_without k g = record g { group = group_without k g.group }
 
 group_stays : (k : ℕ) (m : Machine) (j : ℕ) → IsNobodys k (charge_at m (a_group j)) → placed_without k (group_at m j) ≡ group_at m j
 unfolding group_without
