@@ -5,7 +5,6 @@ use Rattle.job_ends.specs.Readings.{reading_in, text_in}
 use Rattle.job_ends.specs.declared.status.Status.{Status}
 use Rattle.job_ends.specs.declared.status.Status.TheVariants as status
 use Rattle.line_text.specs.Reading.{◌>>=◌}
-use Rattle.motion_history.specs.declared.refused.TextRefused.{TextRefused}
 use Rattle.outside.specs.Told.{FileMap}
 use Rattle.switch_text.specs.Reading.{switches_of}
 use Rattle.trace_check.specs.Legal.{IsLegalTrace}

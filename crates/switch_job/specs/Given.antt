@@ -8,6 +8,7 @@ use Rattle.switch_text.specs.Reading.{switches_of}
 use Rattle.switch_text.specs.Spelled.{IsSwitchText}
 use Rattle.trace_check.specs.Legal.{IsLegalTrace}
 use Rattle.trace_check.specs.Progress.{difference_in}
+use Rattle.trace_text.specs.Held.{IsHeldOf}
 use Rattle.trace_text.specs.reading.Reading.{trace_of}
 use Rattle.trace_text.specs.TraceState.{TraceState}
 use Rattle.trace_text.specs.writing.Writes.{Output}
@@ -46,6 +47,18 @@ NoSwitches told rose name t old new s =
 pub record GivesBoth (told : Option FileMap) (trace file : List ℕ) (both : Both) : Type 0 where
   pub gives : GivesTrace told trace both.trace
   pub switches : GivesSwitches told file both.trace both.switches
+
+-- the first file is a trace that is held so
+pub record HoldsTrace (told : Option FileMap) (name : List ℕ) (held : TraceState) : Type 0 where
+  pub whole : TraceState
+  pub gives : GivesTrace told name whole
+  pub held_so : IsHeldOf whole held
+
+-- the files give a trace that is held so, and switches on its axes
+pub record HoldsBoth (told : Option FileMap) (trace file : List ℕ) (held : Both) : Type 0 where
+  pub whole : TraceState
+  pub gives : GivesBoth told trace file (record held { trace = whole })
+  pub held_so : IsHeldOf whole held.trace
 
 -- they don't: the first gives no trace, or it gives one on whose axes the second gives no switches
 abbrev pub NoBoth : Option FileMap → Type 0 → List ℕ → List ℕ → Output → Output → Status → Type 0

@@ -4,15 +4,16 @@ ghost use Rattle.std.specs.Prelude.{◌≡◌, IfErr, IfOk, OnOk};
 ghost use Rattle.outside.specs.Faults.{Rose};
 ghost use Rattle.switch_text.specs.Reading as switches;
 ghost use Rattle.switch_text.specs.Spelled.{IsSwitchText};
+ghost use Rattle.trace_text.specs.Held.{ReadsHeld};
 ghost use Rattle.trace_text.specs.reading.Reading as traces;
-ghost use Rattle.switch_job.specs.Given.{GivesBoth, GivesSwitches, GivesTrace, NoBoth, NoSwitches, NoTrace};
+ghost use Rattle.switch_job.specs.Given.{GivesSwitches, HoldsBoth, HoldsTrace, NoBoth, NoSwitches, NoTrace};
 
 use job_ends::{Status, read_text, say_refused};
 use motion_history::TextFault;
 use outside::{Files, Sink};
 use std::alloc::Global;
 use switch_text::{Switches, read_switches};
-use trace_text::{Trace, read_trace};
+use trace_text::{Trace, read_within_room};
 
 /// The most bytes of a trace: 256 MiB.
 const MOST_TRACE: u64 = 268_435_456;
@@ -20,7 +21,7 @@ const MOST_TRACE: u64 = 268_435_456;
 /// The most bytes of a switch file: 16 MiB.
 const MOST_SWITCHES: u64 = 16_777_216;
 
-/// A trace, and switches on its axes.
+/// A trace, as far as a judge of it wants it, and switches on its axes.
 #[derive(Drop)]
 pub struct Both {
     pub trace: Trace,
@@ -36,7 +37,7 @@ pub fn read_both<F: Files, K: Sink>(
     files: &mut F,
     out: &mut K,
 ) -> Result<Both, Status>
-    ensures both { IfOk result (GivesBoth (F.told files.old) trace_name.now file_name.now) }
+    ensures both { IfOk result (HoldsBoth (F.told files.old) trace_name.now file_name.now) }
     ensures none { IfErr result (NoBoth (F.told files.old)
         (Rose (F.count files.old) (F.count files.new)) trace_name.now file_name.now
         (record { count = K.count out.old; told = K.told out.old })
@@ -50,14 +51,14 @@ pub fn read_both<F: Files, K: Sink>(
     }
 }
 
-// The trace that the first file is.
+// The trace that the first file is, as far as a judge of it wants it.
 fn read_traced<F: Files, K: Sink>(
     alloc: Global,
     name: &str,
     files: &mut F,
     out: &mut K,
 ) -> Result<Trace, Status>
-    ensures trace { IfOk result (GivesTrace (F.told files.old) name.now) }
+    ensures trace { IfOk result (HoldsTrace (F.told files.old) name.now) }
     ensures none { IfErr result (NoTrace (F.told files.old)
         (Rose (F.count files.old) (F.count files.new)) name.now
         (record { count = K.count out.old; told = K.told out.old })
@@ -74,11 +75,11 @@ fn read_traced<F: Files, K: Sink>(
     }
 }
 
-// The trace that a text is, which is given up.
+// The trace that a text is, as far as a judge of it wants it; only that stays in memory.
 fn trace_of(alloc: Global, text: Vec<u8>) -> Result<Trace, TextFault>
-    ensures { traces.ReadsBy (traces.trace_of text.items) result }
+    ensures { ReadsHeld (traces.trace_of text.items) result }
 {
-    read_trace(alloc, text.as_slice())
+    read_within_room(alloc, text.as_slice())
 }
 
 // The switches that the second file is, on the axes of a trace.

@@ -7,6 +7,8 @@ ghost use Rattle.outside.specs.Faults.{Rose};
 ghost use Rattle.switch_job.specs.Ends.{EndsBySwitches};
 ghost use Rattle.switch_job.specs.Given.{TellsLegal};
 ghost use Rattle.switch_job.specs.Plans.{plan_of_switches};
+ghost use Rattle.trace_text.specs.Held.{IsHeldOf};
+ghost use Rattle.trace_text.specs.TraceState.{TraceState};
 
 use crate::reading::read_both;
 use job_ends::{Status, ends_follow_plans, status_by};
@@ -42,10 +44,12 @@ pub fn switch_files<F: Files, K: Sink>(
 
 // Writes the edges of switches in a trace, if it is legal.
 fn write_both<K: Sink>(alloc: Global, trace: &Trace, switches: &Switches, out: &mut K) -> Status
-    ensures ends { EndsBy (record { count = K.count out.old; told = K.told out.old })
+    ensures ends { (whole : TraceState) → IsHeldOf whole trace.now →
+        EndsBy (record { count = K.count out.old; told = K.told out.old })
         (record { count = K.count out.new; told = K.told out.new })
-        (plan_of_switches trace.now switches.now) result }
-    ensures legal { is_fault result ≡ false → TellsLegal trace.now }
+        (plan_of_switches whole switches.now) result }
+    ensures legal { (whole : TraceState) → IsHeldOf whole trace.now →
+        is_fault result ≡ false → TellsLegal whole }
 {
     ends_follow_plans();
     match check(alloc, trace) {
