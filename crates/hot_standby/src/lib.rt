@@ -13,8 +13,6 @@ mod making;
 mod opening;
 mod primary;
 mod standby;
-#[cfg(test)]
-mod tests;
 
 pub use event::{Fed, FedEvent};
 pub use feed::{Feed, FeedLog};

@@ -26,8 +26,8 @@ impl<'a, R: rt::Files> HostFiles<'a, R> {
         HostFiles { rt, faults: 0 }
     }
 
-    // Reads what was opened, whole or up to the budget and one byte more.
-    pub(crate) fn read_opened<F: Read + Drop>(
+    /// Reads what was opened, whole or up to the budget and one byte more.
+    pub fn read_opened<F: Read + Drop>(
         &mut self,
         opened: io::Result<F>,
         into: &mut Vec<u8>,

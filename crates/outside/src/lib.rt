@@ -29,6 +29,3 @@ pub use writer_sink::{StdSink, WriterSink};
 
 /// How many jobs a spawner starts at most.
 pub const MOST_JOBS: u32 = 1_000_000_000;
-
-#[cfg(test)]
-mod tests;

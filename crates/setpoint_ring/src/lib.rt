@@ -11,8 +11,6 @@ mod logs;
 mod numbered;
 mod outputs;
 mod pair;
-#[cfg(test)]
-mod tests;
 
 pub use cia402_machine::{DriveIn, DriveOut};
 pub use drive_end::DriveEnd;
