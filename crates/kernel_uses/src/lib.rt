@@ -7,8 +7,6 @@ mod drive_fault;
 mod full_history;
 mod group_line;
 mod one_axis;
-#[cfg(test)]
-mod tests;
 mod written_trace;
 
 pub use drive_fault::{error_of_axis, reset_axis};

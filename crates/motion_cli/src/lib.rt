@@ -15,5 +15,3 @@ pub use outside::{Files, Gate, Host, OutOfMemory, Sink, Spawner};
 pub use program::{top, top_of_args};
 pub use run_job::PlantJob;
 
-#[cfg(test)]
-mod tests;

@@ -1,0 +1,1 @@
+--cycle-us 1000 --scale 1e-9mm
