@@ -1,13 +1,11 @@
 // A bench is run, and its trace written.
 
-ghost use Rattle.std.specs.Prelude.{◌≡◌, All, IfOk, length, map};
-ghost use Rattle.axis_state.specs.Counts.{IsCount};
+ghost use Rattle.std.specs.Prelude.{◌≡◌, IfOk, length, map};
 ghost use Rattle.bench_job.specs.Again.{ReadsAgain};
 ghost use Rattle.bench_job.specs.Ends.{EndsByBench};
 ghost use Rattle.bench_job.specs.Headline.{RunsBy};
 ghost use Rattle.bench_job.specs.Plans as plans;
 ghost use Rattle.bench_job.specs.Plans.{plan_of_bench};
-ghost use Rattle.drive_sim.specs.Sim.{DriveSim};
 ghost use Rattle.job_ends.specs.Ends.{EndsBy};
 ghost use Rattle.machine_drives.specs.Drives.{drive_end};
 ghost use Rattle.motion_history.specs.Entries.{cycles_of};
@@ -16,15 +14,14 @@ ghost use Rattle.trace_text.specs.writing.Writes.{Writes};
 
 use bench_run::{Ran, RunFault, run, runs_are_in_step};
 use bench_text::{Bench, read_bench};
-use drive_sim::Drive;
 use job_ends::{Status, ends_follow_plans, say_refused, status_by};
-use machine_drives::end_rows;
+use machine_drives::{end_rows, positions_have_32_bits};
 use motion_history::TextFault;
-use motion_kernel::{machines_stay_kept, rows_are_counted};
 use outside::Sink;
 use std::alloc::{AllocError, Global};
+use trace_check::kept_histories_are_read_back;
 use trace_text::{
-    Command, DriveEndRow, TraceFault, parts_are_beginnings, traces_are_read_back, write_trace,
+    Command, DriveEndRow, TraceFault, parts_are_beginnings, write_trace,
 };
 
 /// Runs the bench that a text is, and writes its trace. Where a number of events is told, a standby
@@ -72,30 +69,11 @@ fn trace_is_read_again(bench: &Bench, ran: &Ran)
     ensures { ReadsAgain bench.now ran.now.kernel.history
         (map (drive_end (cycles_of ran.now.kernel.history)) ran.now.drives.items) }
 {
-    // law: the text of what a trace can hold is read back
-    traces_are_read_back();
-    rows_are_counted();
-    machines_stay_kept();
+    // law: the trace of a history that a kernel keeps is read back
+    kept_histories_are_read_back();
     let _ = bench.config();
     let _ = ran.kernel.history();
     positions_have_32_bits(ran.drives.as_slice());
-}
-
-// The position of a drive: it has 32 bits.
-fn position_of(drive: &Drive) -> i32
-    ensures position { result ≡ drive.now.actual }
-    ensures bits { IsCount result }
-{
-    drive.answer().actual
-}
-
-// The positions of the drives have 32 bits each.
-fn positions_have_32_bits(drives: &[Drive])
-    ensures { All (λ (d : DriveSim). IsCount d.actual) drives.now }
-{
-    for drive in drives {
-        let _ = position_of(drive);
-    }
 }
 
 // The status that a run ends with.

@@ -1,2 +1,3 @@
 pub mod DriveLaws
 pub mod Opening
+pub mod EndsHeld

@@ -2,6 +2,7 @@
 
 ghost use Rattle.std.specs.Prelude.{◌≡◌, IsTrue, IfOk, length, map};
 ghost use Rattle.std.specs.List.{All, list_all};
+ghost use Rattle.axis_state.specs.Counts.{IsCount};
 ghost use Rattle.drive_sim.specs.Sim.{DriveSim};
 ghost use Rattle.drive_sim.specs.Steps.{answer_of};
 ghost use Rattle.motion_history.specs.Ranges.{is_axis};
@@ -96,4 +97,21 @@ pub fn end_rows(
         .iter()
         .map(|drive| end_row(cycles, drive))
         .collect(alloc)
+}
+
+// The position of a drive: it has 32 bits.
+fn position_of(drive: &Drive) -> i32
+    ensures position { result ≡ drive.now.actual }
+    ensures bits { IsCount result }
+{
+    drive.answer().actual
+}
+
+/// The positions of the drives have 32 bits each, so that a trace can hold them. Nothing changes.
+pub fn positions_have_32_bits(drives: &[Drive])
+    ensures { All (λ (d : DriveSim). IsCount d.actual) drives.now }
+{
+    for drive in drives {
+        let _ = position_of(drive);
+    }
 }

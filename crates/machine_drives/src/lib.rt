@@ -6,6 +6,8 @@
 mod drives;
 mod laws;
 
-pub use drives::{answer_all, end_row, end_rows, open_drive, open_drives, step_all};
+pub use drives::{
+    answer_all, end_row, end_rows, open_drive, open_drives, positions_have_32_bits, step_all,
+};
 pub use laws::{drives_can_be_opened, drives_follow_their_outputs};
 pub use motion_history::OutOfMemory;

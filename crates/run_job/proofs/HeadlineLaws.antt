@@ -62,6 +62,7 @@ ran-headline follow back told refuses Started config program old new s b w t =
       taken = rows-same back w.history 0 drives w.logs w.ran.logged meets;
       ended = subst (λ x. HasEnded x setup w.history) (sym whole.0) w.writes.ended;
       written = whole.1;
+      again = w.writes.again t;
     }
 
 both-headline : FollowPlans → AreReadBack → (told : Option FileMap) (refuses : Type 0)

@@ -1,8 +1,9 @@
 -- How a run and its trace end, from what their parts did.
-use Rattle.std.specs.Prelude.{◌≡◌, ◌≢◌, ◌↔◌, ◌⊎◌, ◌+◌, refl, ℕ, Option, Result, List, [], ◌∷◌, length, map}
+use Rattle.std.specs.Prelude.{true, false, ◌≡◌, ◌≢◌, ◌↔◌, ◌⊎◌, ◌+◌, refl, ℕ, Option, Result, List, [], ◌∷◌, length, map}
 use Rattle.std.specs.Arc.{arc_value}
 use Rattle.std.proofs.Common.{◌∙◌, inl, inr, sym, ap, subst, arith}
 use Rattle.axis_state.specs.declared.definition.AxisDef.{AxisDef}
+use Rattle.job_ends.specs.Causes.{is_traced}
 use Rattle.job_ends.specs.Ends.{EndsBy, EndsEarly, status_by}
 use Rattle.job_ends.specs.Follows.{FollowPlans}
 use Rattle.job_ends.specs.declared.status.Status.{Status}
@@ -20,6 +21,7 @@ use Rattle.outside.specs.Told.{FileMap}
 use Rattle.plc_program.specs.Programs.{IsProgramOf}
 use Rattle.plc_program.specs.declared.program.Instruction.{Instruction}
 use Rattle.setpoint_ring.specs.declared.logs.DriveLog.{DriveLog}
+use Rattle.trace_check.specs.KeptHistories.{IsReadBack}
 use Rattle.trace_text.specs.Trace.{trace_text}
 use Rattle.trace_text.specs.writing.Writes.{Output, Writes}
 use Rattle.trace_text.specs.declared.command.Command.TheVariants.{Run}
@@ -45,9 +47,9 @@ ended-so s h ending.HistoryFull ok over full room =
 pub wrote : (s : Setup) (h : List Entry) (logs : List DriveLog) (old new : Output) (e : RunEnding)
     (rows : List DriveEndRow) (given r : Status) (written : Result (Unit {0}) TraceFault) →
     HasEnded (status_of e) s h → given ≡ status_of e → rows ≡ map end_row logs →
-    Writes old new (trace_text Two Run s h rows) written → r ≡ status_by given written →
-    WritesTrace s h logs old new r
-wrote s h logs old new e rows given r written has is same writes by = record {
+    Writes old new (trace_text Two Run s h rows) written → IsReadBack Two Run s h rows →
+    r ≡ status_by given written → WritesTrace s h logs old new r
+wrote s h logs old new e rows given r written has is same writes back by = record {
   status = status_of e;
   ended = has;
   ends = record {
@@ -55,6 +57,7 @@ wrote s h logs old new e rows given r written has is same writes by = record {
     writes = subst (λ ds. Writes old new (trace_text Two Run s h ds) written) same writes;
     status = by ∙ ap (λ x. status_by x written) is;
   };
+  again = λ t. subst (λ ds. IsReadBack Two Run s h ds) same back;
 }
 
 -- nothing was written, for want of memory
@@ -65,6 +68,7 @@ wrote-none follow s h logs old new e r has early = record {
   status = status_of e;
   ended = has;
   ends = follow.early old new (run_plan (status_of e) s h (map end_row logs)) r early;
+  again = λ t. absurd (let bad : true ≡ false = sym t ∙ ap is_traced early.status in cc);
 }
 
 -- there is a drive for each axis

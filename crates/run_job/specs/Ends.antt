@@ -11,6 +11,7 @@ use Rattle.machine_drives.specs.Drives.{drives_at_opening}
 use Rattle.motion_history.specs.Entries.{Entry}
 use Rattle.motion_history.specs.Setup.{Setup}
 use Rattle.motion_history.specs.declared.drives.DriveDef.{DriveDef}
+use Rattle.motion_history.specs.declared.refused.TraceVersion.TheVariants.{Two}
 use Rattle.motion_plant.specs.Ran.{PlantRan}
 use Rattle.outside.specs.Faults.{Rose}
 use Rattle.outside.specs.Told.{FileMap}
@@ -18,6 +19,8 @@ use Rattle.plc_program.specs.Programs.{IsProgramOf}
 use Rattle.plc_program.specs.Reading.{Outcome}
 use Rattle.plc_program.specs.declared.program.Instruction.{Instruction}
 use Rattle.setpoint_ring.specs.declared.logs.DriveLog.{DriveLog}
+use Rattle.trace_check.specs.KeptHistories.{IsReadBack}
+use Rattle.trace_text.specs.declared.command.Command.TheVariants.{Run}
 use Rattle.trace_text.specs.writing.Writes.{Output}
 use Rattle.run_job.specs.Causes.{is_of_run, plant_in}
 use Rattle.run_job.specs.Headline.{HasEnded, RunHeadline}
@@ -30,6 +33,8 @@ pub record WritesTrace (setup : Setup) (h : List Entry) (logs : List DriveLog) (
   pub status : Status
   pub ended : HasEnded status setup h
   pub ends : EndsBy old new (run_plan status setup h (map end_row logs)) s
+  -- where the status stands for a trace, its text is read as that of all this
+  pub again : is_traced s ≡ true → IsReadBack Two Run setup h (map end_row logs)
 
 -- a plant ran, and the trace of its history was written
 pub record WritesRun (Started : ℕ → Type 0) (setup : Setup) (program : List (List Instruction))

@@ -20,6 +20,7 @@ use Rattle.outside.specs.Told.{FileMap, HasFile}
 use Rattle.plc_program.specs.Programs.{IsProgramOf}
 use Rattle.plc_program.specs.Spelled.{IsProgramText}
 use Rattle.plc_program.specs.declared.program.Instruction.{Instruction}
+use Rattle.trace_check.specs.KeptHistories.{IsReadBack}
 use Rattle.trace_text.specs.Trace.{trace_text}
 use Rattle.trace_text.specs.declared.command.Command.TheVariants.{Run}
 use Rattle.trace_text.specs.declared.drive_end.DriveEndRow.{DriveEndRow}
@@ -76,3 +77,5 @@ pub record RunHeadline (files : Option FileMap) (config program : List ℕ)
   pub ended : HasEnded s setup history
   -- what was written is the text of all this, in version 2
   pub written : Appends old new (trace_text Two Run setup history drives)
+  -- and that text is read as the trace of all this
+  pub again : IsReadBack Two Run setup history drives

@@ -1,9 +1,11 @@
 // The trace of a run is written.
 
-ghost use Rattle.std.specs.Prelude.{◌≡◌, IfOk, length, map};
+ghost use Rattle.std.specs.Prelude.{◌≡◌, All, IfOk, length, map};
 ghost use Rattle.motion_plant.specs.Ran.{EndsSo};
 ghost use Rattle.run_job.specs.Ends.{WritesTrace};
 ghost use Rattle.run_job.specs.Plans as plans;
+ghost use Rattle.trace_check.specs.KeptHistories.{IsReadBack};
+ghost use Rattle.trace_text.specs.RowRanges.{IsDriveEnd};
 ghost use Rattle.trace_text.specs.Trace.{trace_text};
 ghost use Rattle.trace_text.specs.writing.Writes.{Writes};
 
@@ -14,6 +16,7 @@ use motion_plant::{PlantEnd, RunEnding, ending_of};
 use outside::Sink;
 use setpoint_ring::DriveLog;
 use std::alloc::{AllocError, Global};
+use trace_check::kept_histories_are_read_back;
 use trace_text::{Command, DriveEndRow, TraceFault, write_trace};
 
 /// Writes the trace of a plant's run, and answers how the run ended.
@@ -29,8 +32,39 @@ pub fn write_run<K: Sink>(alloc: Global, end: &PlantEnd, out: &mut K) -> Status
     let Ok(rows) = end_rows(alloc, end.drives.as_slice()) else {
         return Status::OutOfMemory;
     };
+    trace_is_read_back(end, rows.as_slice());
     let written = write_rows(alloc, end, rows.as_slice(), out);
     status_by(status, written)
+}
+
+// The trace of a run is read as that of its machine, its history and its drives: the kernel keeps of
+// its history, and a row of what its drive took, what a trace asks for. Nothing else runs.
+fn trace_is_read_back(end: &PlantEnd, rows: &[DriveEndRow])
+    requires each { length rows.now ≡ length end.now.kernel.config.axes }
+    ensures { IsReadBack TraceVersion.Two Command.Run end.now.kernel.config end.now.kernel.history
+        rows.now }
+{
+    // law: the trace of a history that a kernel keeps is read back
+    kept_histories_are_read_back();
+    let _ = end.kernel.history();
+    rows_have_their_bits(rows);
+}
+
+// What a drive took and where it is: numbers of the bits of their types.
+fn numbers_of(row: &DriveEndRow) -> (u32, i32)
+    ensures same { (result.0 ≡ row.now.taken) × (result.1 ≡ row.now.actual) }
+    ensures bits { IsDriveEnd row.now }
+{
+    (row.taken, row.actual)
+}
+
+// What the drives took has numbers of the bits of their types.
+fn rows_have_their_bits(rows: &[DriveEndRow])
+    ensures { All IsDriveEnd rows.now }
+{
+    for row in rows {
+        let _ = numbers_of(row);
+    }
 }
 
 // Writes the trace of a run with what its drives took.

@@ -11,7 +11,7 @@ use Rattle.trace_text.specs.writing.Writes.{Output}
 use Rattle.st_job.specs.Controllers.{cell_of}
 use Rattle.st_job.specs.Ends.{Course}
 use Rattle.st_job.specs.Given.{GivesController, GivesMachine, GivesProgram, NoController, NoProgram}
-use Rattle.st_job.specs.LegalRun.{IsLegalRun}
+use Rattle.st_job.specs.LegalRun.{IsTracedRun}
 use Rattle.st_job.specs.Plans.{plan_of}
 use Rattle.st_job.specs.declared.cell.Controller.{Controller}
 
@@ -45,10 +45,10 @@ with-tasks told told1 config program m (Ok p) e g h = record {
 pub by-both : (told : Option FileMap) (rose : Type 0) (config program : List ℕ)
     (old old1 new : Output) (s : Status) (p : Controller) → old1 ≡ old →
     GivesController told config program p → EndsBy old1 new (plan_of (cell_of p)) s →
-    (is_traced s ≡ true → IsLegalRun (cell_of p)) → Course told rose config program old new s
+    (is_traced s ≡ true → IsTracedRun (cell_of p)) → Course told rose config program old new s
 by-both told rose config program old old1 new s p same gives ends legal = inr (record {
   cell = p;
   gives = gives;
   ends = subst (λ o. EndsBy o new (plan_of (cell_of p)) s) same ends;
-  legal = legal;
+  traced = legal;
 })

@@ -43,7 +43,7 @@ both-headline follow laws told config program old new s b t =
     let cell = cell_of b.cell in
     let whole = follow.traces old new (plan_of cell) s b.ends t in
     let in-step = laws.step cell in
-    let legal = b.legal t in
+    let traced = b.traced t in
     record {
       config_text = b.gives.gives.text;
       machine = b.gives.machine;
@@ -61,12 +61,13 @@ both-headline follow laws told config program old new s b t =
       made = refl;
       scans = λ n t there. laws.scans cell b.gives.tasks.is.ready n t there;
       answers = in-step.takes;
-      legal = legal.legal;
-      laws = legal.laws;
+      legal = traced.legal.legal;
+      laws = traced.legal.laws;
       drives = drive_ends (run_of cell);
       taken = ap (map (drive_end (cycles_of (run_of cell).history))) in-step.drives;
       ended = whole.0;
       written = whole.1;
+      again = traced.again;
     }
 
 pub headline-of : FollowPlans → RunLaws → (told : Option FileMap) (rose : Type 0)

@@ -1,6 +1,8 @@
 -- The trace of a run that was written.
-use Rattle.std.specs.Prelude.{◌≡◌, true, false, Result, List, map}
-use Rattle.std.proofs.Common.{◌∙◌, sym, ap, subst}
+use Rattle.std.specs.Prelude.{◌≡◌, ◌<◌, All, true, false, Result, List, length, map}
+use Rattle.std.proofs.Common.{◌∙◌, sym, ap, subst, arith}
+use Rattle.std.proofs.lemmas.List.{length-map}
+use Rattle.axis_state.specs.Counts.{IsCount}
 use Rattle.bench_run.specs.Going.{run_at}
 use Rattle.bench_run.specs.Run.{Run, drive_ends}
 use Rattle.bench_run.specs.declared.bench.RunFault.{RunFault}
@@ -8,16 +10,19 @@ use Rattle.drive_sim.specs.Sim.{DriveSim}
 use Rattle.job_ends.specs.Causes.{is_traced}
 use Rattle.job_ends.specs.Ends.{EndsBy, status_by}
 use Rattle.job_ends.specs.declared.status.Status.{Status}
+use Rattle.machine_drives.proofs.EndsHeld.{ends-held}
 use Rattle.machine_drives.specs.Drives.{drive_end}
 use Rattle.motion_history.specs.Entries.{cycles_of}
+use Rattle.motion_history.specs.Setup.{Setup}
 use Rattle.motion_history.specs.declared.refused.TraceVersion.TheVariants.{Two}
 use Rattle.motion_kernel.specs.KernelState.{KernelState}
+use Rattle.trace_check.specs.KeptHistories.{IsKeptHistory, IsReadBack, KeptHistoriesAreReadBack}
 use Rattle.trace_text.specs.Trace.{trace_text}
 use Rattle.trace_text.specs.writing.Writes.{Output, Writes}
 use Rattle.trace_text.specs.declared.command.Command.TheVariants as command
 use Rattle.trace_text.specs.declared.writing.write.TraceFault.{TraceFault}
 use Rattle.st_job.specs.Cell.{Cell}
-use Rattle.st_job.specs.LegalRun.{IsLegalRun}
+use Rattle.st_job.specs.LegalRun.{IsLegalRun, IsTracedRun}
 use Rattle.st_job.specs.Plans.{plan_of, status_of}
 use Rattle.st_job.specs.Rounds.{run_of}
 
@@ -35,7 +40,28 @@ wrote old new c k drives ending written e w = record {
   status = ap (λ (r : Run). status_by (status_of r.ending) written) e;
 }
 
+-- a run is traced by its kernel and its drives
+pub traced-run : (c : Cell) (k : KernelState) (drives : List DriveSim)
+    (ending : Result (Unit {0}) RunFault) → run_at k drives ending ≡ run_of c → IsLegalRun c →
+    IsReadBack Two command.Run c.setup k.history (map (drive_end (cycles_of k.history)) drives) →
+    IsTracedRun c
+traced-run c k drives ending e legal back = record {
+  legal = legal;
+  again = subst (λ (r : Run). IsReadBack Two command.Run c.setup r.history (drive_ends r)) e back;
+}
+
 -- where there is no trace nothing is said of the run
-pub untraced-legal : (c : Cell) (s : Status) → is_traced s ≡ false → is_traced s ≡ true →
-    IsLegalRun c
-untraced-legal c s e t = absurd (let bad : true ≡ false = sym t ∙ e in cc)
+pub untraced : (c : Cell) (s : Status) → is_traced s ≡ false → is_traced s ≡ true → IsTracedRun c
+untraced c s e t = absurd (let bad : true ≡ false = sym t ∙ e in cc)
+
+-- what a kernel keeps is read back
+pub read-again : KeptHistoriesAreReadBack → (s : Setup) (k : KernelState) (drives : List DriveSim) →
+    k.config ≡ s → length drives ≡ length s.axes → IsKeptHistory k.config k.history →
+    All (λ (d : DriveSim). IsCount d.actual) drives →
+    IsReadBack Two command.Run s k.history (map (drive_end (cycles_of k.history)) drives)
+read-again read s k drives config many kept_by bits =
+    let kept = subst (λ (x : Setup). IsKeptHistory x k.history) config kept_by in
+    let few : cycles_of k.history < 4294967296 = omega (arith, kept.setup.within.sizes.cycles, kept.legal.cycles) in
+    read Two command.Run s k.history (map (drive_end (cycles_of k.history)) drives) kept tt
+    (length-map drives (drive_end (cycles_of k.history)) ∙ many)
+    (ends-held (cycles_of k.history) drives few bits)

@@ -13,18 +13,18 @@ use Rattle.st_job.specs.Causes.{both_in, is_of_st}
 use Rattle.st_job.specs.Controllers.{cell_of}
 use Rattle.st_job.specs.Given.{GivesController, NoController}
 use Rattle.st_job.specs.Headline.{StHeadline}
-use Rattle.st_job.specs.LegalRun.{IsLegalRun}
+use Rattle.st_job.specs.LegalRun.{IsTracedRun}
 use Rattle.st_job.specs.Plans.{plan_of}
 use Rattle.st_job.specs.declared.cell.Controller.{Controller}
 
 -- how it ends where the files give a machine and its program: by the plan of its run, and where
--- there is a trace the run is legal
+-- there is a trace the run is legal, and its trace is read back
 pub record EndsByBoth (told : Option FileMap) (config program : List ℕ) (old new : Output)
     (s : Status) : Type 0 where
   pub cell : Controller
   pub gives : GivesController told config program cell
   pub ends : EndsBy old new (plan_of (cell_of cell)) s
-  pub legal : is_traced s ≡ true → IsLegalRun (cell_of cell)
+  pub traced : is_traced s ≡ true → IsTracedRun (cell_of cell)
 
 -- how it ends: the files give no controller, or they give one
 abbrev pub Course : Option FileMap → Type 0 → List ℕ → List ℕ → Output → Output → Status → Type 0

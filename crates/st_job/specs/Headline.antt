@@ -13,6 +13,7 @@ use Rattle.motion_laws.specs.Laws.{KeepsLaws}
 use Rattle.outside.specs.Told.{FileMap, HasFile}
 use Rattle.st_lang.specs.Spelled.{IsStText}
 use Rattle.st_tree.specs.declared.program.Task.{Task}
+use Rattle.trace_check.specs.KeptHistories.{IsReadBack}
 use Rattle.trace_text.specs.Trace.{trace_text}
 use Rattle.trace_text.specs.declared.command.Command.TheVariants.{Run}
 use Rattle.trace_text.specs.declared.drive_end.DriveEndRow.{DriveEndRow}
@@ -60,3 +61,5 @@ pub record StHeadline (files : Option FileMap) (config program : List ℕ)
   pub ended : s ≡ status_of (run_of cell).ending
   -- what was written is the text of all this, in version 2
   pub written : Appends old new (trace_text Two Run cell.setup history drives)
+  -- and that text is read as the trace of all this
+  pub again : IsReadBack Two Run cell.setup history drives

@@ -6,9 +6,10 @@ ghost use Rattle.job_ends.specs.Ends.{EndsBy};
 ghost use Rattle.machine_drives.specs.Drives.{drive_end};
 ghost use Rattle.motion_history.specs.Entries.{cycles_of};
 ghost use Rattle.st_job.specs.Controllers.{cell_of};
-ghost use Rattle.st_job.specs.LegalRun.{IsLegalRun};
+ghost use Rattle.st_job.specs.LegalRun.{IsTracedRun};
 ghost use Rattle.st_job.specs.Plans as plans;
 ghost use Rattle.st_job.specs.Ready.{AreReady};
+ghost use Rattle.trace_check.specs.KeptHistories.{IsReadBack};
 ghost use Rattle.trace_text.specs.Trace.{trace_text};
 ghost use Rattle.trace_text.specs.writing.Writes.{Writes};
 
@@ -16,10 +17,11 @@ use crate::cell::Controller;
 use crate::run::run_rounds;
 use bench_run::{Ran, RunFault};
 use job_ends::{Status, ends_follow_plans, status_by};
-use machine_drives::end_rows;
+use machine_drives::{end_rows, positions_have_32_bits};
 use motion_history::TraceVersion;
 use outside::Sink;
 use std::alloc::{AllocError, Global};
+use trace_check::kept_histories_are_read_back;
 use trace_text::{Command, DriveEndRow, TraceFault, parts_are_beginnings, write_trace};
 
 /// Runs a machine with its tasks, and writes its trace.
@@ -28,13 +30,28 @@ pub fn run_cell<K: Sink>(alloc: Global, cell: &Controller, out: &mut K) -> Statu
     ensures ends { EndsBy (record { count = K.count out.old; told = K.told out.old })
         (record { count = K.count out.new; told = K.told out.new })
         (plans.plan_of (cell_of cell.now)) result }
-    ensures legal { is_traced result ≡ true → IsLegalRun (cell_of cell.now) }
+    ensures traced { is_traced result ≡ true → IsTracedRun (cell_of cell.now) }
 {
     ends_follow_plans();
     let Ok(ran) = run_rounds(alloc, cell) else {
         return Status::OutOfMemory;
     };
+    trace_is_read_back(cell, &ran);
     status_by(status_of(ran.ending), write_run(alloc, cell, &ran, out))
+}
+
+// The trace of a run is read as that of its machine, its history and its drives: the kernel keeps of
+// its history, and each drive of its position, what a trace asks for. Nothing else runs.
+fn trace_is_read_back(cell: &Controller, ran: &Ran)
+    requires config { ran.now.kernel.config ≡ cell.now.config }
+    requires each { length ran.now.drives.items ≡ length cell.now.config.axes }
+    ensures { IsReadBack TraceVersion.Two Command.Run cell.now.config ran.now.kernel.history
+        (map (drive_end (cycles_of ran.now.kernel.history)) ran.now.drives.items) }
+{
+    // law: the trace of a history that a kernel keeps is read back
+    kept_histories_are_read_back();
+    let _ = ran.kernel.history();
+    positions_have_32_bits(ran.drives.as_slice());
 }
 
 // The status that a run ends with.

@@ -15,3 +15,4 @@ pub mod LegalLaws
 pub mod VerdictLaws
 pub mod HeldLaws
 pub mod OneHistory
+pub mod KeptHistories

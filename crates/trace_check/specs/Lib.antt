@@ -9,3 +9,4 @@ pub mod Progress
 pub mod Outcomes
 pub mod Verdicts
 pub mod Laws
+pub mod KeptHistories

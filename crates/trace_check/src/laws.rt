@@ -1,8 +1,9 @@
 // Laws of legal traces: each is the contract of a function that does nothing.
 
+ghost use Rattle.trace_check.specs.KeptHistories.{KeptHistoriesAreReadBack};
 ghost use Rattle.trace_check.specs.Laws.{MigratedTracesAreLegal, TextsTellHistories, TracesTellHistories};
 
-use motion_kernel::rows_are_counted;
+use motion_kernel::{machines_stay_kept, rows_are_counted};
 use trace_text::traces_are_read_back;
 
 /// A trace is that of at most one legal history, offsets too. So two legal histories of one
@@ -21,4 +22,14 @@ pub fn migrated_traces_are_legal()
 {
     traces_are_read_back();
     rows_are_counted();
+}
+
+/// The trace of a history that a kernel keeps, and of what the drives took, is read as that of its
+/// machine, this history and these drives, in each version that can hold the machine. Nothing runs.
+pub fn kept_histories_are_read_back()
+    ensures { KeptHistoriesAreReadBack }
+{
+    traces_are_read_back();
+    rows_are_counted();
+    machines_stay_kept();
 }

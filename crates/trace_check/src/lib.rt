@@ -16,7 +16,9 @@ mod texts;
 mod verdict;
 
 pub use difference::Difference;
-pub use laws::{migrated_traces_are_legal, traces_tell_their_history};
+pub use laws::{
+    kept_histories_are_read_back, migrated_traces_are_legal, traces_tell_their_history,
+};
 pub use motion_kernel::BankedKernel;
 pub use record::Record;
 pub use replaying::{Replayed, replay, replay_from};

@@ -2,7 +2,7 @@
 use Rattle.std.proofs.Common.{◌↔◌, IsTrue, FitsSigned, w64, to_z-of_z, arith}
 use Rattle.std.proofs.lemmas.Int.{ints}
 use Rattle.kin_core.specs.Admissible.{IsStoppable}
-use Rattle.plan_rows.proofs.tests.can_stop.Goals as goal
+use Rattle.motion_tests.proofs.tests.can_stop.Goals as goal
 
 pub returns : goal.returns
 returns g c = λ yes.

@@ -19,4 +19,4 @@ returns g c =
     c.ending_of.ensures.entries)
     c.status_of-status.ensures
     (c.as_slice-2.ensures.value ∙ c.in-Ok.ensures ∙ ap (map end_row) c.as_slice.ensures.value)
-    c.write_rows-written.ensures c.status_by.ensures
+    c.write_rows-written.ensures c.trace_is_read_back.ensures c.status_by.ensures

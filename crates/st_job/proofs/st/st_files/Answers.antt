@@ -11,7 +11,7 @@ returns-in-Ok g c =
     _ _ _ _ _ _ _
     (by-both _ _ _ _ _ _ _ _ c.in-Ok.cell
     (ap (λ o. record { count = g.K.Sink.count o; told = g.K.Sink.told o }) c.in-Ok.ensures.silent)
-    c.in-Ok.ensures.controller c.run_cell.ensures.ends c.run_cell.ensures.legal)
+    c.in-Ok.ensures.controller c.run_cell.ensures.ends c.run_cell.ensures.traced)
 
 pub returns-in-Err : goal.returns-in-Err
 returns-in-Err g c =

@@ -1,7 +1,7 @@
 -- The coordinates so far are in range.
 use Rattle.std.proofs.Common.{ℕ, ◌<◌, ◌≤◌, unsigned_abs}
 use Rattle.linear_path.specs.Line.{coordinate_of}
-use Rattle.plan_rows.proofs.tests.lines.expect_in_range.Given as goal
+use Rattle.motion_tests.proofs.tests.lines.expect_in_range.Given as goal
 
 abbrev pub invariant-loop-coordinate : goal.invariant-loop-coordinate
 invariant-loop-coordinate g l =

@@ -1,7 +1,7 @@
 use Rattle.std.proofs.Common.{ℕ, ◌<◌, slice_index_or}
 use Rattle.axis_state.specs.Counts.{IsCount}
 use Rattle.drive_sim.specs.Sim.{DriveSim}
-use Rattle.bench_job.proofs.bench.positions_have_32_bits.Given as goal
+use Rattle.machine_drives.proofs.drives.positions_have_32_bits.Given as goal
 
 abbrev pub invariant-loop-drive : goal.invariant-loop-drive
 invariant-loop-drive l = record {

@@ -4,7 +4,7 @@ use Rattle.std.proofs.lemmas.Bool.{cases_lt}
 use Rattle.std.proofs.lemmas.List.{get_or_default}
 use Rattle.axis_state.specs.Counts.{IsCount}
 use Rattle.drive_sim.specs.Sim.{DriveSim}
-use Rattle.bench_job.proofs.bench.positions_have_32_bits.Goals as goal
+use Rattle.machine_drives.proofs.drives.positions_have_32_bits.Goals as goal
 
 pub loop-drive-preserved : goal.loop-drive-preserved
 loop-drive-preserved c =

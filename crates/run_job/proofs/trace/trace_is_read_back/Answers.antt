@@ -1,0 +1,12 @@
+-- What the kernel and the rows keep is read back.
+use Rattle.motion_history.specs.declared.refused.TraceVersion.TheVariants.{Two}
+use Rattle.trace_text.specs.declared.command.Command.TheVariants.{Run}
+use Rattle.run_job.proofs.trace.trace_is_read_back.Goals as goal
+
+pub returns : goal.returns
+returns c =
+    let kept = c.history.ensures in
+    c.kept_histories_are_read_back.ensures Two Run c.args.end.now.kernel.config
+    c.args.end.now.kernel.history c.args.rows.now
+    (record { setup = kept.setup; whole = kept.whole; legal = kept.legal; bits = kept.bits }) tt
+    c.requires.each c.rows_have_their_bits.ensures
