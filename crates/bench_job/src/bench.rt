@@ -20,9 +20,7 @@ use motion_history::TextFault;
 use outside::Sink;
 use std::alloc::{AllocError, Global};
 use trace_check::kept_histories_are_read_back;
-use trace_text::{
-    Command, DriveEndRow, TraceFault, parts_are_beginnings, write_trace,
-};
+use trace_text::{Command, DriveEndRow, TraceFault, parts_are_beginnings, write_trace};
 
 /// Runs the bench that a text is, and writes its trace. Where a number of events is told, a standby
 /// follows the kernel for so many and then takes its place: the status and the trace are the same.
