@@ -226,6 +226,7 @@ static void outputs(void)
     out = call(&m, H, &in);
     want_outputs("a Home's end", &out, "D");
     in.mode = MOTION_ABORTING;
+    in.positions[0] = 2;
     in.execute = 0;
     call(&m, N, &in);
     in.execute = 1;
