@@ -1,5 +1,6 @@
 /* A machine of 16 axes that runs for as long as one likes, in two threads. The cycle thread moves all
- * axes to and fro; when its bank of the history is nearly full it gives that to a spare handle, and goes
+ * axes to and fro, the first by two moves of which one always waits, and the last two as a group along a
+ * line; when its bank of the history is nearly full it gives that to a spare handle, and goes
  * on with an empty one. The writer thread makes of each bank a piece of a trace, a file of its own. No
  * memory grows with the cycles. `lasting [CYCLES [FOLDER]]` tells on the error output what became of it;
  * without a folder the pieces are made and not kept. */
@@ -13,10 +14,14 @@
 #include <stdlib.h>
 #include <string.h>
 
-/* The room of a bank, and how many entries a cycle makes at most: a Power and a move of each axis, and
- * the cycle. A real bank is as long as the writer may be late: up to 200,000
+/* The axes that move alone come first, and the group's behind them. Blocks count from 0: the Powers of
+ * all axes, the moves of those alone and a second one of the first axis, and the group's two. */
+enum { AXES = 16, ALONE = 14, MOVES = ALONE + 1, ENABLE = AXES + MOVES, LINE };
+
+/* The room of a bank, and how many entries a cycle makes at most: a call of each block, and the cycle. A
+ * real bank is as long as the writer may be late: up to 200,000
  * cycles or 1,000,000 entries, whichever comes first; `motion check` takes a piece of 256 MiB at most. */
-enum { AXES = 16, BANK_CYCLES = 4000, BANK_ENTRIES = 80000, MOST_A_CYCLE = 2 * AXES + 1 };
+enum { BANK_CYCLES = 4000, BANK_ENTRIES = 80000, MOST_A_CYCLE = LINE + 2 };
 
 /* What the two threads share. It is the cycle thread's behind a wait for `empty`, and the writer's behind
  * one for `full`: so never more than one thread uses the spare handle. */
@@ -33,8 +38,8 @@ typedef struct shared {
 typedef struct loop {
     motion m;
     drive drives[AXES]; /* the bus and the drives stand here in a real loop */
-    motion_outputs powers[AXES], moves[AXES];
-    int64_t targets[AXES];
+    motion_outputs powers[AXES], moves[MOVES], enable, line;
+    int64_t targets[MOVES], line_target;
     long dones;
     shared *with;
 } loop;
@@ -83,32 +88,80 @@ static void *write_pieces(void *given)
 
 /* The cycle thread. */
 
-/* The other end of an axis's move. */
-static int64_t far_end(int axis)
+/* The other end of a move. */
+static int64_t far_end(int move)
 {
-    return 50000 + 10000 * axis;
+    return 50000 + 10000 * move;
 }
 
-/* What the task calls in a cycle: the Power of each axis until it is on, and behind each Done a move to
- * the other end. */
-static uint32_t call_axis(loop *l, int axis)
+static motion_inputs nothing(void)
 {
     motion_inputs in;
-    motion_outputs before = l->moves[axis];
-    uint32_t code;
     memset(&in, 0, sizeof in);
     in.execute = 1;
-    if (!l->powers[axis].reached)
-        return motion_call(&l->m, (uint16_t)axis, &in, &l->powers[axis]);
-    if (before.done) l->targets[axis] = l->targets[axis] ? 0 : far_end(axis);
-    in.execute = !before.done; /* a new edge for a new move */
-    in.positions[0] = l->targets[axis];
+    return in;
+}
+
+/* The inputs of a move or a line to this position, of the group's both axes. With no command before it,
+ * a buffered one begins at once. */
+static motion_inputs inputs_to(int64_t target)
+{
+    motion_inputs in = nothing();
+    in.positions[0] = target;
+    in.positions[1] = target / 2;
     in.velocity = 400;
     in.acceleration = 4;
-    in.deceleration = 4;
-    code = motion_call(&l->m, (uint16_t)(AXES + axis), &in, &l->moves[axis]);
-    if (l->moves[axis].done && !before.done) l->dones++;
+    in.deceleration = 3;
+    in.mode = MOTION_BUFFERED;
+    return in;
+}
+
+/* Calls a move or a line, which goes to the other end behind each Done. */
+static uint32_t call_to_and_fro(loop *l, int block, int64_t end, int64_t *target, motion_outputs *shown)
+{
+    int was_done = shown->done;
+    motion_inputs in;
+    uint32_t code;
+    if (was_done) *target = *target ? 0 : end;
+    in = inputs_to(*target);
+    in.execute = !was_done; /* a new edge for a new move */
+    code = motion_call(&l->m, (uint16_t)block, &in, shown);
+    if (shown->done && !was_done) l->dones++;
     return code;
+}
+
+/* The Power of an axis, until it is on. */
+static uint32_t call_power(loop *l, int axis)
+{
+    motion_inputs in = nothing();
+    if (l->powers[axis].reached) return MOTION_OK;
+    return motion_call(&l->m, (uint16_t)axis, &in, &l->powers[axis]);
+}
+
+/* A move of an axis that is on; the last one is the first axis's second. */
+static uint32_t call_move(loop *l, int move)
+{
+    if (!l->powers[move % ALONE].reached) return MOTION_OK;
+    return call_to_and_fro(l, AXES + move, far_end(move), &l->targets[move], &l->moves[move]);
+}
+
+/* The group, once its axes are on: it is enabled, and goes along its line. */
+static uint32_t call_group(loop *l)
+{
+    motion_inputs in = nothing();
+    if (!l->powers[ALONE].reached || !l->powers[ALONE + 1].reached) return MOTION_OK;
+    if (!l->enable.done) return motion_call(&l->m, ENABLE, &in, &l->enable);
+    return call_to_and_fro(l, LINE, far_end(ALONE), &l->line_target, &l->line);
+}
+
+/* What the task calls in a cycle. */
+static uint32_t call_all(loop *l)
+{
+    uint32_t code = MOTION_OK;
+    int i;
+    for (i = 0; code == MOTION_OK && i < AXES; i++) code = call_power(l, i);
+    for (i = 0; code == MOTION_OK && i < MOVES; i++) code = call_move(l, i);
+    return code == MOTION_OK ? call_group(l) : code;
 }
 
 /* One cycle. With any code but MOTION_OK a real loop quick-stops the drives, as loop.c does. */
@@ -116,9 +169,8 @@ static uint32_t run_cycle(loop *l)
 {
     motion_drive_in answers[AXES];
     motion_drive_out given[AXES];
-    uint32_t code = MOTION_OK;
+    uint32_t code = call_all(l);
     int i;
-    for (i = 0; code == MOTION_OK && i < AXES; i++) code = call_axis(l, i);
     for (i = 0; i < AXES; i++) answers[i] = drive_answer(&l->drives[i]);
     if (code == MOTION_OK) code = motion_cycle(&l->m, answers, AXES, given, AXES);
     for (i = 0; code == MOTION_OK && i < AXES; i++) drive_step(&l->drives[i], &given[i]);
@@ -168,19 +220,26 @@ static uint32_t run_cycles(loop *l, long cycles)
     return code != MOTION_OK ? code : handed;
 }
 
-/* The text of the machine: 16 axes, each with a Power and a MoveAbsolute. */
+/* One more line of the machine's text. */
+static size_t put_line(char *text, size_t room, size_t len, const char *name, int number, const char *kind,
+                       const char *object, int axis)
+{
+    return len + (size_t)snprintf(text + len, room - len, "block %s%02d main %s %s%02d\n", name, number,
+                                  kind, object, axis);
+}
+
+/* The text of the machine: 16 axes, and the blocks in their order. */
 static size_t machine_text(char *text, size_t room)
 {
     size_t len = (size_t)snprintf(text, room, "motion-bench 2\nlimit %d %d\n", BANK_CYCLES, BANK_ENTRIES);
     int i;
     for (i = 0; i < AXES; i++)
-        len += (size_t)snprintf(text + len, room - len, "axis A%02d 0 400000 500 5 5 1 0\n", i);
-    len += (size_t)snprintf(text + len, room - len, "task main\n");
-    for (i = 0; i < 2 * AXES; i++)
-        len += (size_t)snprintf(text + len, room - len, "block %c%02d main %s A%02d\n",
-                                i < AXES ? 'P' : 'M', i % AXES, i < AXES ? "Power" : "MoveAbsolute",
-                                i % AXES);
-    return len;
+        len += (size_t)snprintf(text + len, room - len, "axis A%02d 0 400000 500 5 6 1 0\n", i);
+    len += (size_t)snprintf(text + len, room - len, "group G00 A%02d A%02d\ntask main\n", ALONE, ALONE + 1);
+    for (i = 0; i < AXES; i++) len = put_line(text, room, len, "P", i, "Power", "A", i);
+    for (i = 0; i < MOVES; i++) len = put_line(text, room, len, "M", i, "MoveAbsolute", "A", i % ALONE);
+    len = put_line(text, room, len, "E", 0, "GroupEnable", "G", 0);
+    return put_line(text, room, len, "L", 0, "MoveLinearAbsolute", "G", 0);
 }
 
 /* Opens both handles by the same text. */
@@ -213,7 +272,8 @@ int main(int argc, char **argv)
     long cycles = argc > 1 ? atol(argv[1]) : 20000;
     uint32_t code;
     int i;
-    for (i = 0; i < AXES; i++) l.targets[i] = far_end(i);
+    for (i = 0; i < MOVES; i++) l.targets[i] = far_end(i);
+    l.line_target = far_end(ALONE);
     l.with = &with;
     with.folder = argc > 2 ? argv[2] : NULL;
     code = open_both(&l);

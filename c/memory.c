@@ -1,12 +1,15 @@
 /* A test of memory: each allocation of opening, of tracing and of a bank's text fails in turn, and is
  * told or borne, with nothing left behind; then CYCLES cycles are made, a bank given out for an empty one
- * behind each 50,000, with no call of the heap at all. `memory CYCLES`. */
+ * behind each 50,000, with no call of the heap at all, and with their pages there, since opening has
+ * touched them. `memory CYCLES` tells of each on the error output. */
+#define _DEFAULT_SOURCE
 #include "drive.h"
 #include "motion.h"
 
 #include <stdio.h>
 #include <stdlib.h>
 #include <string.h>
+#include <sys/resource.h>
 
 static unsigned long heap_calls, fails;
 static long live;
@@ -127,6 +130,13 @@ static int text_fails(const char *name, uint32_t (*make)(motion *, const motion_
     return motion_close(&m) != MOTION_OK || live != 0 || told == 0;
 }
 
+/* How many pages the process has touched for the first time. */
+static long first_touches(void)
+{
+    struct rusage used;
+    return getrusage(RUSAGE_SELF, &used) == 0 ? used.ru_minflt : -1;
+}
+
 /* So many cycles with no call of the heap, nor where a bank is given out. */
 static int cycles_take_none(long cycles)
 {
@@ -134,9 +144,10 @@ static int cycles_take_none(long cycles)
     motion m = MOTION_NONE;
     motion spare = MOTION_NONE;
     unsigned long before;
-    long cycle, swaps = 0;
+    long cycle, touched, swaps = 0;
     if (open_machine(&m) != MOTION_OK || open_machine(&spare) != MOTION_OK) return 1;
     before = heap_calls;
+    touched = first_touches();
     for (cycle = 0; cycle < cycles; cycle++) {
         if (motion_cycles_left(&m) == 0) {
             if (motion_swap(&m, &spare) != MOTION_OK) return 2;
@@ -145,8 +156,10 @@ static int cycles_take_none(long cycles)
         if (run_cycle(&m, drives, cycle) != MOTION_OK) return 3;
     }
     if (heap_calls != before) return 4;
+    touched = first_touches() - touched;
     if (motion_close(&m) != MOTION_OK || motion_close(&spare) != MOTION_OK || live != 0) return 5;
     fprintf(stderr, "%ld cycles and %ld swaps without a call of the heap\n", cycles, swaps);
+    fprintf(stderr, "%ld pages touched first\n", touched);
     return 0;
 }
 

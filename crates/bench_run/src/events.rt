@@ -37,11 +37,11 @@ const NO_OUTPUT: DriveOut = DriveOut {
 // Whether there is room for an event: for a cycle, cycles first, then entries.
 #[tactic(auto, unfolding(crate::specs::Run::room_for))]
 fn room_for(kernel: &PrimaryKernel, is_cycle: bool) -> Result<(), RunFault>
-    requires { kernel.now.stopped ≡ false }
-    ensures value { result ≡ spec.room_for kernel.now.config kernel.now.history is_cycle }
-    ensures room { OnOk result (length kernel.now.history < kernel.now.config.entries) }
+    requires { kernel.now.kernel.stopped ≡ false }
+    ensures value { result ≡ spec.room_for kernel.now.kernel.config kernel.now.kernel.history is_cycle }
+    ensures room { OnOk result (length kernel.now.kernel.history < kernel.now.kernel.config.entries) }
     ensures cycle { OnOk result (IsTrue is_cycle →
-        cycles_of kernel.now.history < kernel.now.config.cycles) }
+        cycles_of kernel.now.kernel.history < kernel.now.kernel.config.cycles) }
 {
     if is_cycle && kernel.cycles_left() == 0 {
         Err(RunFault::CyclesOver)
@@ -55,13 +55,13 @@ fn room_for(kernel: &PrimaryKernel, is_cycle: bool) -> Result<(), RunFault>
 // A cycle of the kernel and the drives, for which there is room.
 #[tactic(auto, unfolding(crate::specs::Run::cycled))]
 fn cycle(kernel: &mut PrimaryKernel, drives: &mut [Drive])
-    requires room { length kernel.old.history < kernel.old.config.entries }
-    requires cycle { cycles_of kernel.old.history < kernel.old.config.cycles }
-    requires going { IsGoing kernel.old drives.old }
-    ensures config { kernel.new.config ≡ kernel.old.config }
-    ensures made { run_at kernel.new drives.new (Ok tt) ≡
-        spec.cycled kernel.old.config (run_at kernel.old drives.old (Ok tt)) }
-    ensures going { IsGoing kernel.new drives.new }
+    requires room { length kernel.old.kernel.history < kernel.old.kernel.config.entries }
+    requires cycle { cycles_of kernel.old.kernel.history < kernel.old.kernel.config.cycles }
+    requires going { IsGoing kernel.old.kernel drives.old }
+    ensures config { kernel.new.kernel.config ≡ kernel.old.kernel.config }
+    ensures made { run_at kernel.new.kernel drives.new (Ok tt) ≡
+        spec.cycled kernel.old.kernel.config (run_at kernel.old.kernel drives.old (Ok tt)) }
+    ensures going { IsGoing kernel.new.kernel drives.new }
 {
     let mut answers = [NO_ANSWER; MOST_AXES];
     let answers = &mut answers[..drives.len()];
@@ -74,11 +74,11 @@ fn cycle(kernel: &mut PrimaryKernel, drives: &mut [Drive])
 
 /// A cycle, where one is left and there is room for it: each drive makes a step with its output.
 pub fn make_cycle(kernel: &mut PrimaryKernel, drives: &mut [Drive]) -> Result<(), RunFault>
-    requires going { IsGoing kernel.old drives.old }
-    ensures config { kernel.new.config ≡ kernel.old.config }
-    ensures made { run_at kernel.new drives.new result ≡
-        spec.made kernel.old.config spec.a_cycle (run_at kernel.old drives.old (Ok tt)) }
-    ensures going { IsGoing kernel.new drives.new }
+    requires going { IsGoing kernel.old.kernel drives.old }
+    ensures config { kernel.new.kernel.config ≡ kernel.old.kernel.config }
+    ensures made { run_at kernel.new.kernel drives.new result ≡
+        spec.made kernel.old.kernel.config spec.a_cycle (run_at kernel.old.kernel drives.old (Ok tt)) }
+    ensures going { IsGoing kernel.new.kernel drives.new }
 {
     room_for(kernel, true)?;
     cycle(kernel, drives);
@@ -88,12 +88,12 @@ pub fn make_cycle(kernel: &mut PrimaryKernel, drives: &mut [Drive]) -> Result<()
 // So many cycles.
 #[tactic(auto, unfolding(crate::specs::Run::made_all))]
 fn make_cycles(kernel: &mut PrimaryKernel, drives: &mut [Drive], count: u32) -> Result<(), RunFault>
-    requires going { IsGoing kernel.old drives.old }
-    ensures config { kernel.new.config ≡ kernel.old.config }
-    ensures made { run_at kernel.new drives.new result ≡
-        spec.made_all kernel.old.config (replicate count spec.a_cycle)
-        (run_at kernel.old drives.old (Ok tt)) }
-    ensures going { IsGoing kernel.new drives.new }
+    requires going { IsGoing kernel.old.kernel drives.old }
+    ensures config { kernel.new.kernel.config ≡ kernel.old.kernel.config }
+    ensures made { run_at kernel.new.kernel drives.new result ≡
+        spec.made_all kernel.old.kernel.config (replicate count spec.a_cycle)
+        (run_at kernel.old.kernel drives.old (Ok tt)) }
+    ensures going { IsGoing kernel.new.kernel drives.new }
 {
     for _ in 0..count {
         make_cycle(kernel, drives)?;
@@ -107,15 +107,15 @@ pub fn make_call(
     instance: u16,
     inputs: &Inputs,
 ) -> Result<Outputs, RunFault>
-    requires runs { kernel.old.stopped ≡ false }
-    requires call { IsCall kernel.old.config instance inputs.now }
-    ensures config { kernel.new.config ≡ kernel.old.config }
-    ensures runs { kernel.new.stopped ≡ false }
-    ensures made { (drives : List DriveSim) → run_at kernel.new drives (ending_of result) ≡
-        spec.made kernel.old.config (spec.a_call instance inputs.now)
-        (run_at kernel.old drives (Ok tt)) }
+    requires runs { kernel.old.kernel.stopped ≡ false }
+    requires call { IsCall kernel.old.kernel.config instance inputs.now }
+    ensures config { kernel.new.kernel.config ≡ kernel.old.kernel.config }
+    ensures runs { kernel.new.kernel.stopped ≡ false }
+    ensures made { (drives : List DriveSim) → run_at kernel.new.kernel drives (ending_of result) ≡
+        spec.made kernel.old.kernel.config (spec.a_call instance inputs.now)
+        (run_at kernel.old.kernel drives (Ok tt)) }
     ensures reply { IfOk result (λ o. o ≡
-        reply_of kernel.old.config (state_of kernel.old) instance inputs.now) }
+        reply_of kernel.old.kernel.config (state_of kernel.old.kernel) instance inputs.now) }
 {
     room_for(kernel, false)?;
     let task = kernel.config().blocks()[instance as usize].task;
@@ -124,13 +124,13 @@ pub fn make_call(
 
 /// The end of a task, where there is room for it.
 pub fn make_end(kernel: &mut PrimaryKernel, task: u8) -> Result<(), RunFault>
-    requires runs { kernel.old.stopped ≡ false }
-    requires task { task < length kernel.old.config.tasks }
-    ensures config { kernel.new.config ≡ kernel.old.config }
-    ensures runs { kernel.new.stopped ≡ false }
-    ensures made { (drives : List DriveSim) → run_at kernel.new drives result ≡
-        spec.made kernel.old.config (spec.an_end task)
-        (run_at kernel.old drives (Ok tt)) }
+    requires runs { kernel.old.kernel.stopped ≡ false }
+    requires task { task < length kernel.old.kernel.config.tasks }
+    ensures config { kernel.new.kernel.config ≡ kernel.old.kernel.config }
+    ensures runs { kernel.new.kernel.stopped ≡ false }
+    ensures made { (drives : List DriveSim) → run_at kernel.new.kernel drives result ≡
+        spec.made kernel.old.kernel.config (spec.an_end task)
+        (run_at kernel.old.kernel drives (Ok tt)) }
 {
     room_for(kernel, false)?;
     kernel.end(task);
@@ -144,13 +144,13 @@ fn make_line(
     drives: &mut [Drive],
     line: &BenchLine,
 ) -> Result<(), RunFault>
-    requires line { IsLineOf kernel.old.config line.now }
-    requires going { IsGoing kernel.old drives.old }
-    ensures config { kernel.new.config ≡ kernel.old.config }
-    ensures made { run_at kernel.new drives.new result ≡
-        spec.made_all kernel.old.config (spec.events_of line.now)
-        (run_at kernel.old drives.old (Ok tt)) }
-    ensures going { IsGoing kernel.new drives.new }
+    requires line { IsLineOf kernel.old.kernel.config line.now }
+    requires going { IsGoing kernel.old.kernel drives.old }
+    ensures config { kernel.new.kernel.config ≡ kernel.old.kernel.config }
+    ensures made { run_at kernel.new.kernel drives.new result ≡
+        spec.made_all kernel.old.kernel.config (spec.events_of line.now)
+        (run_at kernel.old.kernel drives.old (Ok tt)) }
+    ensures going { IsGoing kernel.new.kernel drives.new }
 {
     match line {
         BenchLine::Call { instance, inputs } => {
@@ -169,13 +169,13 @@ pub fn make_all(
     drives: &mut [Drive],
     lines: &[BenchLine],
 ) -> Result<(), RunFault>
-    requires lines { All (IsLineOf kernel.old.config) lines.now }
-    requires going { IsGoing kernel.old drives.old }
-    ensures config { kernel.new.config ≡ kernel.old.config }
-    ensures made { run_at kernel.new drives.new result ≡
-        spec.made_all kernel.old.config (flat_map spec.events_of lines.now)
-        (run_at kernel.old drives.old (Ok tt)) }
-    ensures going { IsGoing kernel.new drives.new }
+    requires lines { All (IsLineOf kernel.old.kernel.config) lines.now }
+    requires going { IsGoing kernel.old.kernel drives.old }
+    ensures config { kernel.new.kernel.config ≡ kernel.old.kernel.config }
+    ensures made { run_at kernel.new.kernel drives.new result ≡
+        spec.made_all kernel.old.kernel.config (flat_map spec.events_of lines.now)
+        (run_at kernel.old.kernel drives.old (Ok tt)) }
+    ensures going { IsGoing kernel.new.kernel drives.new }
 {
     for line in lines {
         make_line(kernel, drives, line)?;

@@ -1,13 +1,12 @@
 -- The inputs that a C program's struct gives a call of a block. This project's profile.
-use Rattle.std.specs.Prelude.{ℕ, ℤ, pos, Bool, not, if◌then◌else◌, nat_eq, Option, Some, None, List, take, slice_get}
+use Rattle.std.specs.Prelude.{ℕ, ℤ, pos, Bool, not, if◌then◌else◌, nat_eq, Option, Some, None, List, [], ◌∷◌, take, slice_get}
 use Rattle.std.specs.Option.{option_map}
 use Rattle.command_pool.specs.declared.kind.BlockKind.{BlockKind}
 use Rattle.command_pool.specs.declared.kind.BufferMode.{BufferMode}
-use Rattle.command_pool.specs.declared.kind.BufferMode.TheVariants.{Aborting}
+use Rattle.command_pool.specs.declared.kind.BufferMode.TheVariants.{Aborting, Buffered, BlendingLow, BlendingPrevious, BlendingNext, BlendingHigh}
 use Rattle.fb_outputs.specs.Inputs.{takes}
 use Rattle.fb_outputs.specs.declared.inputs.Input.TheVariants.{Position, Velocity, Acceleration, Deceleration, Jerk, Mode, Master, Numerator, Denominator, Table}
 use Rattle.fb_outputs.specs.declared.inputs.Inputs.{Inputs}
-use Rattle.fb_outputs.specs.declared.names.TheConstants.{MODES}
 use Rattle.machine_words.specs.Positions.{no_positions, positions_from}
 use Rattle.c_inputs.specs.declared.given.MotionInputs.{MotionInputs}
 
@@ -16,9 +15,13 @@ abbrev pub positions_in : Bool → ℕ → List ℤ → List ℤ
 positions_in taken axes positions =
     if taken then positions_from (take axes positions) else no_positions
 
--- the mode of a number, in the order of PLCopen's MC_BUFFER_MODE, where the kind takes a mode
+-- the modes by their numbers, from 0 to 5: PLCopen's MC_BUFFER_MODE
+abbrev pub modes : List BufferMode
+modes = Aborting ∷ Buffered ∷ BlendingLow ∷ BlendingPrevious ∷ BlendingNext ∷ BlendingHigh ∷ []
+
+-- the mode of a number, where the kind takes a mode
 abbrev pub mode_given : BlockKind → ℕ → Option BufferMode
-mode_given kind number = if takes kind Mode then slice_get MODES number else Some Aborting
+mode_given kind number = if takes kind Mode then slice_get modes number else Some Aborting
 
 -- the inputs in a struct: what the kind takes is the field of its name, and what it doesn't take is
 -- its default

@@ -6,4 +6,5 @@ pub mod Takes
 pub mod Followers
 pub mod Inside
 pub mod Alike
+pub mod Primaries
 pub mod Primary

@@ -1,15 +1,16 @@
 // A standby that follows a kernel, for so many events.
 
-ghost use Rattle.std.specs.Prelude.{◌≡◌};
+ghost use Rattle.std.specs.Prelude.{◌≡◌, ◌<◌, ◌-◌, IfSome};
 ghost use Rattle.hot_standby.specs.Alike.{AreAlike, IsBehindIfAny, IsLike, IsLikeIfAny};
 ghost use Rattle.hot_standby.specs.Events.{IsFit, kernel_after};
+ghost use Rattle.hot_standby.specs.Primary.{events_left};
 
 use crate::event::FedEvent;
 use crate::feed::Feed;
 use crate::standby::Standby;
 use motion_kernel::Kernel;
 
-/// A standby with its feed, that follows for so many events more.
+/// A standby with its feed, that follows for that many events more.
 #[derive(Drop)]
 pub struct Follower {
     pub(crate) feed: Feed,
@@ -20,9 +21,12 @@ pub struct Follower {
 // Feeds an event that the kernel made to its follower, if it has one. Behind the last event the
 // standby's kernel takes the place of the kernel, which is given up.
 pub(crate) fn follow(follower: &mut Option<Follower>, kernel: &mut Kernel, event: &FedEvent)
-    requires { IsBehindIfAny follower.old kernel.old event.now }
+    requires behind { IsBehindIfAny follower.old kernel.old event.now }
+    requires some { IfSome follower.old (λ f. 0 < f.left) }
     ensures same { kernel.new ≡ kernel.old }
     ensures like { IsLikeIfAny follower.new kernel.new }
+    ensures left { events_left follower.new ≡ events_left follower.old - 1 }
+    ensures some { IfSome follower.new (λ f. 0 < f.left) }
 {
     let Some(present) = follower else {
         return;

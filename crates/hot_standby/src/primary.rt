@@ -4,11 +4,12 @@ ghost use Rattle.std.specs.Prelude.{◌≡◌, ◌<◌, ◌≤◌, ◌+◌, ◌-
 ghost use Rattle.axis_state.specs.declared.definition.AxisRow.{AxisRow};
 ghost use Rattle.hot_standby.specs.Alike.{IsCycleWith};
 ghost use Rattle.hot_standby.specs.Events.{opened};
+ghost use Rattle.hot_standby.specs.Primaries.{cut_of};
 ghost use Rattle.motion_history.specs.Calls.{IsCall};
 ghost use Rattle.motion_history.specs.Entries.{call, cycle, end_of, cycles_of};
 ghost use Rattle.motion_kernel.specs.calls.Calls.{reply_of};
 ghost use Rattle.motion_kernel.specs.cycles.Cycles.{cycled};
-ghost use Rattle.motion_kernel.specs.KernelState.{KernelState, room_of, state_of};
+ghost use Rattle.motion_kernel.specs.KernelState.{room_of, state_of};
 
 use crate::event::FedEvent;
 use crate::follower::{Follower, follow, switch_over};
@@ -26,34 +27,36 @@ const NO_ANSWER: DriveIn = DriveIn {
     actual: 0,
 };
 
-/// A kernel that a standby may follow. Contracts see it as the kernel, whichever of the two it is.
+/// A kernel that a standby may follow. Contracts see it as the kernel, whichever of the two it is, and
+/// as the number of events behind which the standby takes its place.
 #[derive(Drop)]
 pub struct PrimaryKernel {
     kernel: Kernel,
     pub(crate) follower: Option<Follower>,
+    cut: u32,
 }
 
 impl Model for PrimaryKernel {
-    ghost use Rattle.motion_kernel.specs.KernelState.{KernelState};
+    ghost use Rattle.hot_standby.specs.Primaries.{Primary};
 
-    ghost Value = { KernelState };
+    ghost Value = { Primary };
 
-    ghost use Rattle.hot_standby.specs.Primary.{kernel_of, IsPrimary};
+    ghost use Rattle.hot_standby.specs.Primary.{primary_of, IsPrimary};
 
-    ghost view = { kernel_of };
+    ghost view = { primary_of };
 
     ghost invariant = { IsPrimary };
 }
 
 impl PrimaryKernel {
-    /// A kernel at rest. Where a number of events is told, a standby follows it for so many, or
+    /// A kernel at rest. Where a number of events is given, a standby follows it for as many, or
     /// until it is finished, and then takes its place.
     pub fn open(
         alloc: Global,
         config: Config,
         events: Option<u32>,
     ) -> Result<PrimaryKernel, OutOfMemory>
-        ensures { IfOk result (λ k. k ≡ opened config) }
+        ensures { IfOk result (λ k. k ≡ record { kernel = opened config; cut = cut_of events }) }
     {
         match events {
             None => alone(alloc, config),
@@ -63,13 +66,13 @@ impl PrimaryKernel {
 
     /// Calls a block, as `Kernel::call` does.
     pub fn call(&mut self, task: u8, instance: u16, inputs: &Inputs) -> Outputs
-        requires room { length self.old.history < room_of self.old }
-        requires task { IsSomeAnd (slice_get self.old.config.blocks instance) (λ b. b.task ≡ task) }
-        requires call { IsCall self.old.config instance inputs.now }
-        ensures reply { result ≡ reply_of self.old.config (state_of self.old) instance inputs.now }
-        ensures after { self.new ≡ record self.old {
-          history = self.old.history ++ call instance inputs.now result ∷ [];
-        } }
+        requires room { length self.old.kernel.history < room_of self.old.kernel }
+        requires task { IsSomeAnd (slice_get self.old.kernel.config.blocks instance) (λ b. b.task ≡ task) }
+        requires call { IsCall self.old.kernel.config instance inputs.now }
+        ensures reply { result ≡ reply_of self.old.kernel.config (state_of self.old.kernel) instance inputs.now }
+        ensures after { self.new ≡ record self.old { kernel = record self.old.kernel {
+          history = self.old.kernel.history ++ call instance inputs.now result ∷ [];
+        } } }
     {
         let reply = self.kernel.call(task, instance, inputs);
         let event = FedEvent::Call {
@@ -83,18 +86,18 @@ impl PrimaryKernel {
 
     /// Goes through a cycle, as `Kernel::cycle` does.
     pub fn cycle(&mut self, ins: &[DriveIn], outs: &mut [DriveOut])
-        requires room { length self.old.history < room_of self.old }
-        requires cycle { cycles_of self.old.history < self.old.config.cycles }
-        requires ins { length ins.now ≡ length self.old.config.axes }
-        requires outs { length outs.old ≡ length self.old.config.axes }
-        ensures outs { outs.new ≡ map (λ (r : AxisRow). r.output) (cycled self.old.config
-            (state_of self.old) ins.now).axes }
-        ensures after { self.new ≡ record self.old {
-          history = self.old.history ++
-              cycle (cycles_of self.old.history + 1) (cycled self.old.config
-              (state_of self.old) ins.now).axes
-              (cycled self.old.config (state_of self.old) ins.now).groups ∷ [];
-        } }
+        requires room { length self.old.kernel.history < room_of self.old.kernel }
+        requires cycle { cycles_of self.old.kernel.history < self.old.kernel.config.cycles }
+        requires ins { length ins.now ≡ length self.old.kernel.config.axes }
+        requires outs { length outs.old ≡ length self.old.kernel.config.axes }
+        ensures outs { outs.new ≡ map (λ (r : AxisRow). r.output) (cycled self.old.kernel.config
+            (state_of self.old.kernel) ins.now).axes }
+        ensures after { self.new ≡ record self.old { kernel = record self.old.kernel {
+          history = self.old.kernel.history ++
+              cycle (cycles_of self.old.kernel.history + 1) (cycled self.old.kernel.config
+              (state_of self.old.kernel) ins.now).axes
+              (cycled self.old.kernel.config (state_of self.old.kernel) ins.now).groups ∷ [];
+        } } }
     {
         // a sound configuration has at most sixteen axes
         let _ = self.kernel.config().axes();
@@ -105,9 +108,11 @@ impl PrimaryKernel {
 
     /// Ends a task, as `Kernel::end` does.
     pub fn end(&mut self, task: u8)
-        requires room { length self.old.history < room_of self.old }
-        requires task { task < length self.old.config.tasks }
-        ensures { self.new ≡ record self.old { history = self.old.history ++ end_of task ∷ [] } }
+        requires room { length self.old.kernel.history < room_of self.old.kernel }
+        requires task { task < length self.old.kernel.config.tasks }
+        ensures { self.new ≡ record self.old { kernel = record self.old.kernel {
+          history = self.old.kernel.history ++ end_of task ∷ [];
+        } } }
     {
         self.kernel.end(task);
         let event = FedEvent::End { task };
@@ -116,32 +121,33 @@ impl PrimaryKernel {
 
     /// The configuration.
     pub fn config(&self) -> &Config
-        ensures { result.now ≡ self.now.config }
+        ensures { result.now ≡ self.now.kernel.config }
     {
         self.kernel.config()
     }
 
     /// How many entries more the history has room for.
     pub fn room_left(&self) -> u64
-        ensures { result ≡ room_of self.now - length self.now.history }
+        ensures { result ≡ room_of self.now.kernel - length self.now.kernel.history }
     {
         self.kernel.room_left()
     }
 
     /// How many cycles more there may be.
     pub fn cycles_left(&self) -> u32
-        ensures { result ≡ self.now.config.cycles - cycles_of self.now.history }
+        ensures { result ≡ self.now.kernel.config.cycles - cycles_of self.now.kernel.history }
     {
         self.kernel.cycles_left()
     }
 
     /// The kernel: the standby's, where one was to follow.
     pub fn finish(self) -> Kernel
-        ensures { result ≡ self }
+        ensures { result ≡ self.kernel }
     {
         let PrimaryKernel {
             mut kernel,
             follower,
+            ..
         } = self;
         match follower {
             Some(follower) => switch_over(follower, &mut kernel),
@@ -153,34 +159,42 @@ impl PrimaryKernel {
 
 // A kernel at rest that no standby follows.
 fn alone(alloc: Global, config: Config) -> Result<PrimaryKernel, OutOfMemory>
-    ensures { IfOk result (λ k. k ≡ opened config) }
+    ensures { IfOk result (λ k. k ≡ record { kernel = opened config; cut = 0 }) }
 {
     match Kernel::open(alloc, config) {
         Ok(kernel) => Ok(PrimaryKernel {
             kernel,
             follower: None,
+            cut: 0,
         }),
         Err(_) => Err(OutOfMemory),
     }
 }
 
-// A kernel at rest that a standby follows for so many events; the standby's own where it is none.
+// A kernel at rest that a standby follows for as many events; the standby's own where it is none.
 fn followed(alloc: Global, config: Config, events: u32) -> Result<PrimaryKernel, OutOfMemory>
-    ensures { IfOk result (λ k. k ≡ opened config) }
+    ensures { IfOk result (λ k. k ≡ record { kernel = opened config; cut = events }) }
 {
     let (feed, standby) = open_standby(alloc, config.copy(alloc)?, 1)?;
-    let mut primary = alone(alloc, config)?;
+    let Ok(mut kernel) = Kernel::open(alloc, config) else {
+        return Err(OutOfMemory);
+    };
     let follower = Follower {
         feed,
         standby,
         left: events,
     };
-    if events == 0 {
-        switch_over(follower, &mut primary.kernel);
+    let follower = if events == 0 {
+        switch_over(follower, &mut kernel);
+        None
     } else {
-        primary.follower = Some(follower);
-    }
-    Ok(primary)
+        Some(follower)
+    };
+    Ok(PrimaryKernel {
+        kernel,
+        follower,
+        cut: events,
+    })
 }
 
 // The event of a cycle with these answers.

@@ -1,6 +1,6 @@
 // Who makes the calls of a task: a pass of the kernel's turns.
 
-ghost use Rattle.std.specs.Prelude.{◌≡◌, ◌≤◌, ◌+◌, ◌++◌, ◌∷◌, [], IfNone, IfSome, IsSomeAnd, List, slice_get, true};
+ghost use Rattle.std.specs.Prelude.{◌≡◌, ◌≤◌, ◌+◌, ◌++◌, ◌∷◌, [], IfNone, IfSome, IsSomeAnd, List, false, slice_get, true};
 ghost use Rattle.motion_history.specs.Calls.{IsCall};
 ghost use Rattle.motion_history.specs.Entries.{Entry, call, cycles_of};
 ghost use Rattle.motion_history.specs.declared.sizes.TheConstants.{MOST_CYCLES};
@@ -91,10 +91,11 @@ impl<'a, G: Gate + Drop> Caller for TurnCaller<'a, G> {
     }
 }
 
-// From which cycle on the next call may come: behind a rest a later one than the last.
+// From which cycle on the next call may come: after a rest a later one than the last, else any.
 fn first_cycle(rests: bool, last: u32) -> u32
     requires few { last ≤ MOST_CYCLES }
     ensures value { rests ≡ true → result ≡ last + 1 }
+    ensures at_once { rests ≡ false → result ≡ 0 }
 {
     if rests { last + 1 } else { 0 }
 }

@@ -1,6 +1,6 @@
 // Why a plant doesn't run.
 
-ghost use Rattle.std.specs.Prelude.{◌≡◌};
+ghost use Rattle.std.specs.Prelude.{◌≡◌, ◌↔◌};
 ghost use Rattle.motion_plant.specs.declared.fault.PlantFault.TheVariants.{ThreadRefused};
 
 use outside::StartFault;
@@ -16,7 +16,7 @@ pub enum PlantFault {
 
 /// The fault of a plant whose job wasn't started.
 pub fn fault_of(fault: StartFault) -> PlantFault
-    ensures refused { result ≡ ThreadRefused → fault ≡ StartFault.Refused }
+    ensures refused { (result ≡ ThreadRefused) ↔ (fault ≡ StartFault.Refused) }
 {
     match fault {
         StartFault::Refused => PlantFault::ThreadRefused,

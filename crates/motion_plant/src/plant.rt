@@ -7,7 +7,7 @@ ghost use Rattle.kernel_turn.specs.Turns.{opening_pass};
 ghost use Rattle.machine_drives.specs.Drives.{drives_at_opening};
 ghost use Rattle.motion_history.specs.Drives.{IsDrive};
 ghost use Rattle.motion_plant.specs.Ran.{PlantRan};
-ghost use Rattle.motion_plant.specs.declared.fault.PlantFault.TheVariants.{ThreadRefused};
+ghost use Rattle.motion_plant.specs.declared.fault.PlantFault.TheVariants.{OutOfMemory, ThreadRefused};
 ghost use Rattle.outside.specs.Faults.{Rose};
 ghost use Rattle.plc_program.specs.Programs.{IsProgramOf};
 
@@ -75,6 +75,8 @@ pub fn run_plant<H: Host + Wait, G: Gate + Drop + Send + 'static>(
         length setup.now.config.axes + length setup.now.config.tasks) }
     ensures refused { IfErr result (λ e. e ≡ ThreadRefused →
         Rose spawner.old.faults spawner.new.faults) }
+    ensures memory { IfErr result (λ e. e ≡ OutOfMemory →
+        spawner.new.faults ≡ spawner.old.faults) }
     ensures joined { (k : ℕ) × (spawner.new.jobs ≡ spawner.old.jobs ++ replicate k None) }
 {
     let axes = setup.config.axes();

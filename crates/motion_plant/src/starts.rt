@@ -12,7 +12,7 @@ ghost use Rattle.motion_history.specs.declared.sizes.TheConstants.{MOST_CYCLES, 
 ghost use Rattle.motion_plant.specs.Jobs.{IsSeat, line_job, seat_job};
 ghost use Rattle.motion_plant.specs.Lines.{IsNewLine};
 ghost use Rattle.motion_plant.specs.Places.{Each};
-ghost use Rattle.motion_plant.specs.declared.fault.PlantFault.TheVariants.{ThreadRefused};
+ghost use Rattle.motion_plant.specs.declared.fault.PlantFault.TheVariants.{OutOfMemory, ThreadRefused};
 ghost use Rattle.outside.specs.Faults.{Rose};
 ghost use Rattle.plc_program.specs.Programs.{IsProgramOf};
 
@@ -47,6 +47,8 @@ fn start_drive<H: Host + Wait, G: Gate + Drop + Send + 'static>(
     ensures faults { OnOk result (spawner.new.faults ≡ spawner.old.faults) }
     ensures refused { IfErr result (λ e. e ≡ ThreadRefused →
         Rose spawner.old.faults spawner.new.faults) }
+    ensures memory { IfErr result (λ e. e ≡ OutOfMemory →
+        spawner.new.faults ≡ spawner.old.faults) }
 {
     let Ok((line, job)) = start_line(alloc, drive) else {
         return Err(PlantFault::OutOfMemory);
@@ -78,6 +80,8 @@ pub fn start_drives<H: Host + Wait, G: Gate + Drop + Send + 'static>(
         Each (IsNewLine axes.now defs.now) lines.new.items) }
     ensures refused { IfErr result (λ e. e ≡ ThreadRefused →
         Rose spawner.old.faults spawner.new.faults) }
+    ensures memory { IfErr result (λ e. e ≡ OutOfMemory →
+        spawner.new.faults ≡ spawner.old.faults) }
     ensures faults { OnOk result (spawner.new.faults ≡ spawner.old.faults) }
 {
     drives_can_be_opened();
@@ -122,6 +126,8 @@ fn start_task<H: Host + Wait, G: Gate + Drop + Send + 'static>(
     ensures own { pass.new.table ≡ pass.old.table }
     ensures refused { IfErr result (λ e. e ≡ ThreadRefused →
         Rose spawner.old.faults spawner.new.faults) }
+    ensures memory { IfErr result (λ e. e ≡ OutOfMemory →
+        spawner.new.faults ≡ spawner.old.faults) }
 {
     let (Ok(turn), Ok(program), Ok(gate)) = (
         Arc::try_clone(shared.turn),
@@ -172,6 +178,8 @@ pub fn start_tasks<H: Host + Wait, G: Gate + Drop + Send + 'static>(
     ensures own { pass.new.table ≡ pass.old.table }
     ensures refused { IfErr result (λ e. e ≡ ThreadRefused →
         Rose spawner.old.faults spawner.new.faults) }
+    ensures memory { IfErr result (λ e. e ≡ OutOfMemory →
+        spawner.new.faults ≡ spawner.old.faults) }
     ensures faults { OnOk result (spawner.new.faults ≡ spawner.old.faults) }
 {
     for i in 0..shared.program.tasks() {

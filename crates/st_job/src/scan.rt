@@ -22,17 +22,17 @@ pub fn make_scan(
     number: u8,
     task: &mut StTask,
 ) -> Result<bool, RunFault>
-    requires runs { kernel.old.stopped ≡ false }
-    requires config { kernel.old.config ≡ cell.now.config }
+    requires runs { kernel.old.kernel.stopped ≡ false }
+    requires config { kernel.old.kernel.config ≡ cell.now.config }
     requires ready { AreReady cell.now.config cell.now.code.us cell.now.program.tasks.items }
     requires task { IsBetween cell.now.code number task.old }
-    ensures config { kernel.new.config ≡ kernel.old.config }
-    ensures runs { kernel.new.stopped ≡ false }
+    ensures config { kernel.new.kernel.config ≡ kernel.old.kernel.config }
+    ensures runs { kernel.new.kernel.stopped ≡ false }
     ensures made { (t : Task) → slice_get cell.now.program.tasks.items number ≡ Some t →
         (drives : List DriveSim) → HasScanned
         (spec.scan (cell_of cell.now) number t (stand_at task.old true)
-        (run_at kernel.old drives (Ok tt)))
-        kernel.new drives result task.new }
+        (run_at kernel.old.kernel drives (Ok tt)))
+        kernel.new.kernel drives result task.new }
     ensures task { OnOk result (IsBetween cell.now.code number task.new) }
 {
     loop {

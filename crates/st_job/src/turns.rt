@@ -27,17 +27,17 @@ fn make_turn(
     number: u8,
     player: &mut Player,
 ) -> Result<(), RunFault>
-    requires runs { kernel.old.stopped ≡ false }
-    requires config { kernel.old.config ≡ cell.now.config }
+    requires runs { kernel.old.kernel.stopped ≡ false }
+    requires config { kernel.old.kernel.config ≡ cell.now.config }
     requires ready { AreReady cell.now.config cell.now.code.us cell.now.program.tasks.items }
     requires task { IsBetween cell.now.code number player.old.task }
-    ensures config { kernel.new.config ≡ kernel.old.config }
-    ensures runs { kernel.new.stopped ≡ false }
+    ensures config { kernel.new.kernel.config ≡ kernel.old.kernel.config }
+    ensures runs { kernel.new.kernel.stopped ≡ false }
     ensures made { (t : Task) → slice_get cell.now.program.tasks.items number ≡ Some t →
         (drives : List DriveSim) → HasTurned
         (spec.turn (cell_of cell.now) number t (stand_of player.old)
-        (run_at kernel.old drives (Ok tt)))
-        kernel.new drives result player.new }
+        (run_at kernel.old.kernel drives (Ok tt)))
+        kernel.new.kernel drives result player.new }
     ensures task { OnOk result (IsBetween cell.now.code number player.new.task) }
 {
     if player.lives {
@@ -52,17 +52,17 @@ fn make_turns(
     cell: &Controller,
     players: &mut [Player],
 ) -> Result<(), RunFault>
-    requires runs { kernel.old.stopped ≡ false }
-    requires config { kernel.old.config ≡ cell.now.config }
+    requires runs { kernel.old.kernel.stopped ≡ false }
+    requires config { kernel.old.kernel.config ≡ cell.now.config }
     requires ready { AreReady cell.now.config cell.now.code.us cell.now.program.tasks.items }
     requires players { ArePlaying cell.now.code 0 players.old }
     requires each { length players.old ≡ length cell.now.program.tasks.items }
-    ensures config { kernel.new.config ≡ kernel.old.config }
-    ensures runs { kernel.new.stopped ≡ false }
+    ensures config { kernel.new.kernel.config ≡ kernel.old.kernel.config }
+    ensures runs { kernel.new.kernel.stopped ≡ false }
     ensures made { (drives : List DriveSim) → HasMade
         (spec.turns (cell_of cell.now) 0 cell.now.program.tasks.items (map stand_of players.old)
-        (run_at kernel.old drives (Ok tt)))
-        kernel.new drives result players.new }
+        (run_at kernel.old.kernel drives (Ok tt)))
+        kernel.new.kernel drives result players.new }
     ensures players { OnOk result (ArePlaying cell.now.code 0 players.new) }
 {
     for (number, player) in players.iter_mut().enumerate() {
@@ -86,16 +86,16 @@ pub fn make_rounds(
     cell: &Controller,
     players: &mut [Player],
 ) -> Result<(), RunFault>
-    requires going { IsGoing kernel.old drives.old }
-    requires config { kernel.old.config ≡ cell.now.config }
+    requires going { IsGoing kernel.old.kernel drives.old }
+    requires config { kernel.old.kernel.config ≡ cell.now.config }
     requires ready { AreReady cell.now.config cell.now.code.us cell.now.program.tasks.items }
     requires players { ArePlaying cell.now.code 0 players.old }
     requires each { length players.old ≡ length cell.now.program.tasks.items }
-    ensures config { kernel.new.config ≡ kernel.old.config }
-    ensures going { IsGoing kernel.new drives.new }
-    ensures made { run_at kernel.new drives.new result ≡
+    ensures config { kernel.new.kernel.config ≡ kernel.old.kernel.config }
+    ensures going { IsGoing kernel.new.kernel drives.new }
+    ensures made { run_at kernel.new.kernel drives.new result ≡
         spec.rounds (cell.now.config.cycles + 1) (cell_of cell.now) (map stand_of players.old)
-        (run_at kernel.old drives.old (Ok tt)) }
+        (run_at kernel.old.kernel drives.old (Ok tt)) }
 {
     cycles_add_up();
     loop {

@@ -1,10 +1,10 @@
 -- What a comparison of two values has told.
-use Rattle.std.proofs.Common.{rules, ◌≡◌, true, int_eq}
+use Rattle.std.proofs.Common.{rules, ◌≡◌, true, refl, int_eq}
 use Rattle.std.specs.Prelude.{◌==◌, ◌&&◌}
 use Rattle.std.specs.Cmp.{booleans_Decides}
 use Rattle.std.proofs.lemmas.Bool.Decides.{Decides-eqb, Decides-int_eq}
 use Rattle.std.proofs.lemmas.Bool.{and_parts}
-use denote.Enum.Bare.{same_true, sameb}
+use denote.Enum.Bare.{same_true, sameb, true_same}
 use mathlib.Core.Bool.{beq}
 use Rattle.axis_state.specs.declared.definition.AxisRow.{AxisRow}
 use Rattle.axis_state.specs.contracts.state.AxisState as axis_state
@@ -59,3 +59,31 @@ same-row a b h =
       offset = e7 i;
       output = record { controlword = e8 i; mode = e9 i; target = e10 i };
     }
+
+-- a reply is itself
+pub alike-outputs : (a : Outputs) → (beq a.busy a.busy && (beq a.active a.active && (beq a.done a.done && (beq a.aborted a.aborted && (beq a.error a.error && ((a.error_id == a.error_id) && beq a.reached a.reached)))))) ≡ true
+alike-outputs a =
+    let e0 = (booleans_Decides a.busy a.busy).1 refl in
+    let e1 = (booleans_Decides a.active a.active).1 refl in
+    let e2 = (booleans_Decides a.done a.done).1 refl in
+    let e3 = (booleans_Decides a.aborted a.aborted).1 refl in
+    let e4 = (booleans_Decides a.error a.error).1 refl in
+    let e5 = (Decides-eqb a.error_id a.error_id).1 refl in
+    let e6 = (booleans_Decides a.reached a.reached).1 refl in
+    rw (e0, e1, e2, e3, e4, e5, e6) refl
+
+-- a row is itself
+pub alike-row : (a : AxisRow) → ((int_eq a.input.actual a.input.actual && ((a.input.statusword == a.input.statusword) && int_eq a.input.mode_display a.input.mode_display)) && (sameb axis_state.the_type a.state a.state && ((a.error == a.error) && (beq a.driven a.driven && (int_eq a.setpoint a.setpoint && (int_eq a.offset a.offset && (int_eq a.output.target a.output.target && ((a.output.controlword == a.output.controlword) && int_eq a.output.mode a.output.mode)))))))) ≡ true
+alike-row a =
+    let e0 = (Decides-int_eq a.input.actual a.input.actual).1 refl in
+    let e1 = (Decides-eqb a.input.statusword a.input.statusword).1 refl in
+    let e2 = (Decides-int_eq a.input.mode_display a.input.mode_display).1 refl in
+    let e3 : sameb axis_state.the_type a.state a.state ≡ true = true_same axis_state.the_type a.state a.state refl in
+    let e4 = (Decides-eqb a.error a.error).1 refl in
+    let e5 = (booleans_Decides a.driven a.driven).1 refl in
+    let e6 = (Decides-int_eq a.setpoint a.setpoint).1 refl in
+    let e7 = (Decides-int_eq a.offset a.offset).1 refl in
+    let e8 = (Decides-int_eq a.output.target a.output.target).1 refl in
+    let e9 = (Decides-eqb a.output.controlword a.output.controlword).1 refl in
+    let e10 = (Decides-int_eq a.output.mode a.output.mode).1 refl in
+    rw (e0, e1, e2, e3, e4, e5, e6, e7, e8, e9, e10) refl

@@ -1,6 +1,6 @@
 // Entries that are compared with those found, value by value.
 
-ghost use Rattle.std.specs.Prelude.{◌≡◌, ◌<◌, ◌≤◌, ℕ, IfNone, IfSome, IsTrue, Some, true, length, slice_get, take};
+ghost use Rattle.std.specs.Prelude.{◌≡◌, ◌↔◌, ◌<◌, ◌≤◌, ℕ, IfNone, IfSome, IsTrue, Some, true, length, slice_get, take};
 ghost use Rattle.motion_history.specs.Entries.{call, cycle_count, end_of};
 ghost use Rattle.motion_history.specs.Looks.{told};
 ghost use Rattle.trace_text.specs.RowRanges.{found_place, found_row};
@@ -20,7 +20,7 @@ use trace_text::{Trace, are_same_inputs, reported_place};
 
 // Whether the place that a drive reports in a row is the one found, in version 2.
 fn is_reported(version: TraceVersion, axis: &AxisDef, row: &AxisRow, place: Option<i64>) -> bool
-    ensures { IsTrue result → found_place version axis.now row.now ≡ place }
+    ensures { IsTrue result ↔ (found_place version axis.now row.now ≡ place) }
 {
     match (version, place) {
         (TraceVersion::One, None) => true,
@@ -38,14 +38,14 @@ fn without_offset(row: &AxisRow) -> AxisRow
 
 // Whether a row is another.
 fn is_same_row(row: &AxisRow, other: &AxisRow) -> bool
-    ensures { IsTrue result → row.now ≡ other.now }
+    ensures { IsTrue result ↔ (row.now ≡ other.now) }
 {
     *row == *other
 }
 
 // Whether a reply is another.
 fn is_same_reply(reply: &Outputs, other: &Outputs) -> bool
-    ensures { IsTrue result → reply.now ≡ other.now }
+    ensures { IsTrue result ↔ (reply.now ≡ other.now) }
 {
     *reply == *other
 }
@@ -58,7 +58,7 @@ fn is_found_as(
     found: &AxisRow,
     place: Option<i64>,
 ) -> bool
-    ensures { IsTrue result → IsFoundAs version axis.now row.now found.now place }
+    ensures { IsTrue result ↔ IsFoundAs version axis.now row.now found.now place }
 {
     is_same_row(&without_offset(row), found) && is_reported(version, axis, row, place)
 }
@@ -75,6 +75,9 @@ fn wrong_row(trace: &Trace, entry: u64, expected: &[AxisRow], found: &[AxisRow])
         (place_at trace.now entry) n) }
     ensures within { IfSome result (λ k. k ≤ length found.now) }
     ensures many { IfSome result (λ k. 0 < k → length expected.now ≡ length found.now) }
+    ensures wrong { IfSome result (λ k. length expected.now ≡ length found.now →
+        IsFoundAt trace.now.version trace.now.config.axes expected.now found.now
+        (place_at trace.now entry) k → ⊥) }
 {
     if expected.len() != found.len() {
         return Some(0);
@@ -94,6 +97,8 @@ fn wrong_group_row(expected: &[GroupRow], found: &[GroupRow]) -> Option<usize>
     ensures same { IfNone result (expected.now ≡ found.now) }
     ensures before { IfSome result (λ k. take k expected.now ≡ take k found.now) }
     ensures within { IfSome result (λ k. k ≤ length found.now) }
+    ensures wrong { IfSome result (λ k. length expected.now ≡ length found.now →
+        slice_get expected.now k ≡ slice_get found.now k → ⊥) }
 {
     if expected.len() != found.len() {
         return Some(0);
@@ -158,7 +163,7 @@ fn wrong_in_cycle(
 
 // Whether an entry is this call with this reply.
 fn is_call(found: &EntryLook<'_>, instance: u16, inputs: &Inputs, reply: &Outputs) -> bool
-    ensures { IsTrue result → told found.now ≡ call instance inputs.now reply.now }
+    ensures { IsTrue result ↔ (told found.now ≡ call instance inputs.now reply.now) }
 {
     match found {
         EntryLook::Call {
@@ -174,7 +179,7 @@ fn is_call(found: &EntryLook<'_>, instance: u16, inputs: &Inputs, reply: &Output
 
 // Whether an entry is the end of this task.
 fn is_end(found: &EntryLook<'_>, task: u8) -> bool
-    ensures { IsTrue result → told found.now ≡ end_of task }
+    ensures { IsTrue result ↔ (told found.now ≡ end_of task) }
 {
     match found {
         EntryLook::End { task: found } => *found == task,

@@ -8,6 +8,6 @@ use Rattle.bench_run.proofs.events.make_all.Given as goal
 
 abbrev pub invariant-loop-line : goal.invariant-loop-line
 invariant-loop-line l =
-    let s = l.initial.kernel.config in
-    IsUnderWay s l.kernel l.drives (flat_map events_of (drop l.line-index l.lines))
-    (made_all s (flat_map events_of l.lines) (run_at l.initial.kernel l.initial.drives (Ok tt)))
+    let s = l.initial.kernel.kernel.config in
+    IsUnderWay s l.kernel.kernel l.drives (flat_map events_of (drop l.line-index l.lines))
+    (made_all s (flat_map events_of l.lines) (run_at l.initial.kernel.kernel l.initial.drives (Ok tt)))

@@ -7,6 +7,6 @@ use Rattle.bench_run.proofs.events.make_cycles.Given as goal
 
 abbrev pub invariant-loop : goal.invariant-loop
 invariant-loop l =
-    let s = l.initial.kernel.config in
-    IsUnderWay s l.kernel l.drives (replicate (l.count - l.counter) a_cycle)
-    (made_all s (replicate l.count a_cycle) (run_at l.initial.kernel l.initial.drives (Ok tt)))
+    let s = l.initial.kernel.kernel.config in
+    IsUnderWay s l.kernel.kernel l.drives (replicate (l.count - l.counter) a_cycle)
+    (made_all s (replicate l.count a_cycle) (run_at l.initial.kernel.kernel l.initial.drives (Ok tt)))

@@ -4,6 +4,7 @@ use Rattle.std.proofs.Common.{◌∙◌, ap, subst, sym}
 use Rattle.bench_run.specs.Going.{run_at}
 use Rattle.drive_sim.specs.Sim.{DriveSim}
 use Rattle.hot_standby.specs.Events.{opened}
+use Rattle.hot_standby.specs.Primaries.{Primary}
 use Rattle.machine_drives.specs.Drives.{drives_at_opening}
 use Rattle.motion_kernel.specs.KernelState.{KernelState}
 use Rattle.st_job.specs.Controllers.{cell_of}
@@ -24,9 +25,9 @@ returns-clause-made c =
     (slice-back c.in_ok-drives.drives.len new c.in_ok-drives.drives.items fits
     c.in_ok-drives.drives.ok.0)
     ∙ ap (λ (k : KernelState). run_at k new w) c.finish-kernel.ensures
-    ∙ run-is p c.in_ok-primary.primary c.make_rounds-ending.new.kernel c.as_mut_slice.result.now new
+    ∙ run-is p c.in_ok-primary.primary.kernel c.make_rounds-ending.new.kernel.kernel c.as_mut_slice.result.now new
     c.as_mut_slice-2.result.now w
-    (c.in_ok-primary.ensures ∙ ap opened c.in_ok-copy.ensures)
+    (ap (λ (q : Primary). q.kernel) c.in_ok-primary.ensures ∙ ap opened c.in_ok-copy.ensures)
     (c.as_mut_slice.ensures.value ∙ c.in_ok-drives.ensures.opened
     ∙ ap (λ xs. drives_at_opening xs c.as_slice.result.now) c.axes.ensures.axes
     ∙ ap (drives_at_opening p.config.axes) c.as_slice.ensures)
@@ -40,11 +41,11 @@ returns-clause-legal c =
     legal-run (cell_of p) c.finish-kernel.result new c.make_rounds-ending.result
     (ap (λ (k : KernelState). k.config) c.finish-kernel.ensures
     ∙ c.make_rounds-ending.ensures.config
-    ∙ ap (λ (k : KernelState). k.config) c.in_ok-primary.ensures ∙ c.in_ok-copy.ensures)
+    ∙ ap (λ (q : Primary). q.kernel.config) c.in_ok-primary.ensures ∙ c.in_ok-copy.ensures)
     (ap (λ (k : KernelState). run_at k new c.make_rounds-ending.result) c.finish-kernel.ensures
-    ∙ run-is p c.in_ok-primary.primary c.make_rounds-ending.new.kernel c.as_mut_slice.result.now new
+    ∙ run-is p c.in_ok-primary.primary.kernel c.make_rounds-ending.new.kernel.kernel c.as_mut_slice.result.now new
     c.as_mut_slice-2.result.now c.make_rounds-ending.result
-    (c.in_ok-primary.ensures ∙ ap opened c.in_ok-copy.ensures)
+    (ap (λ (q : Primary). q.kernel) c.in_ok-primary.ensures ∙ ap opened c.in_ok-copy.ensures)
     (c.as_mut_slice.ensures.value ∙ c.in_ok-drives.ensures.opened
     ∙ ap (λ xs. drives_at_opening xs c.as_slice.result.now) c.axes.ensures.axes
     ∙ ap (drives_at_opening p.config.axes) c.as_slice.ensures)

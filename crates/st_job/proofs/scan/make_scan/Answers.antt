@@ -7,12 +7,12 @@ use Rattle.st_job.proofs.scan.make_scan.Goals as goal
 
 pub loop-instance-init : goal.loop-instance-init
 loop-instance-init c =
-    scanning-begins c.args.cell.now c.args.number c.args.kernel.now c.args.task.now
+    scanning-begins c.args.cell.now c.args.number c.args.kernel.now.kernel c.args.task.now
     c.requires.config c.requires.runs c.requires.task
 
 pub make_call-requires-clause-call : goal.make_call-requires-clause-call
 make_call-requires-clause-call c =
-    kernel-takes-call c.args.cell.now c.args.number c.loop-instance.kernel c.loop-instance.task
+    kernel-takes-call c.args.cell.now c.args.number c.loop-instance.kernel.kernel c.loop-instance.task
     c.next.new.self c.in-Call.instance c.in-Call.inputs c.requires.ready
     c.loop-instance.invariant.config c.loop-instance.invariant.number
     c.loop-instance.invariant.follows c.in-Call.ensures.says
@@ -20,8 +20,8 @@ make_call-requires-clause-call c =
 pub returns-in_err-reply-in-Call-clause-made : goal.returns-in_err-reply-in-Call-clause-made
 returns-in_err-reply-in-Call-clause-made c = λ t there drives.
     let p = err_from_is_err_and c.from_residual.result c.from_residual.ensures.1 in
-    rw (p.1, p.2) (stops c.args.cell.now c.args.number c.loop-instance.kernel
-    c.make_call.new.kernel c.args.kernel.now c.loop-instance.task c.args.task.now
+    rw (p.1, p.2) (stops c.args.cell.now c.args.number c.loop-instance.kernel.kernel
+    c.make_call.new.kernel.kernel c.args.kernel.now.kernel c.loop-instance.task c.args.task.now
     c.in_err-reply-in-Call.field-0.0 c.loop-instance.invariant
     (record {
       instance = c.in-Call.instance;
@@ -33,13 +33,13 @@ returns-in_err-reply-in-Call-clause-made c = λ t there drives.
 
 pub loop-instance-smaller : goal.loop-instance-smaller
 loop-instance-smaller c =
-    less-room c.loop-instance.kernel c.make_call.new.kernel c.in-Call.instance c.in-Call.inputs
+    less-room c.loop-instance.kernel.kernel c.make_call.new.kernel.kernel c.in-Call.instance c.in-Call.inputs
     c.make_call.ensures.config (c.in_ok-reply-in-Call.ensures.made [])
 
 pub loop-instance-preserved : goal.loop-instance-preserved
 loop-instance-preserved c =
-    goes-on c.args.cell.now c.args.number c.loop-instance.kernel c.make_call.new.kernel
-    c.args.kernel.now c.loop-instance.task c.answered.new.self c.args.task.now
+    goes-on c.args.cell.now c.args.number c.loop-instance.kernel.kernel c.make_call.new.kernel.kernel
+    c.args.kernel.now.kernel c.loop-instance.task c.answered.new.self c.args.task.now
     c.loop-instance.invariant
     (record {
       instance = c.in-Call.instance;
@@ -57,7 +57,7 @@ loop-instance-preserved c =
 
 pub returns-in-ScanDone-clause-made : goal.returns-in-ScanDone-clause-made
 returns-in-ScanDone-clause-made c =
-    goes-over c.args.cell.now c.args.number c.loop-instance.kernel c.args.kernel.now
+    goes-over c.args.cell.now c.args.number c.loop-instance.kernel.kernel c.args.kernel.now.kernel
     c.loop-instance.task c.next.new.self c.args.task.now c.loop-instance.invariant
     c.in-ScanDone.ensures.says
 
@@ -71,15 +71,15 @@ pub returns-in_err-make_end-in-End-clause-made : goal.returns-in_err-make_end-in
 returns-in_err-make_end-in-End-clause-made c = λ t there drives.
     let p = err_from_is_err_and c.from_residual-in_err-make_end-in-End.result
     c.from_residual-in_err-make_end-in-End.ensures.1 in
-    rw (p.1, p.2) (ends-full c.args.cell.now c.args.number c.loop-instance.kernel
-    c.make_end.new.kernel c.args.kernel.now c.loop-instance.task c.next.new.self c.args.task.now
+    rw (p.1, p.2) (ends-full c.args.cell.now c.args.number c.loop-instance.kernel.kernel
+    c.make_end.new.kernel.kernel c.args.kernel.now.kernel c.loop-instance.task c.next.new.self c.args.task.now
     c.in_err-make_end-in-End.field-0.0 c.loop-instance.invariant c.in-End.ensures.says
     c.in_err-make_end-in-End.ensures.made t there drives)
 
 pub returns-in-End-clause-made : goal.returns-in-End-clause-made
 returns-in-End-clause-made c =
-    ends-over c.args.cell.now c.args.number c.loop-instance.kernel c.make_end.new.kernel
-    c.args.kernel.now c.loop-instance.task c.next.new.self c.args.task.now
+    ends-over c.args.cell.now c.args.number c.loop-instance.kernel.kernel c.make_end.new.kernel.kernel
+    c.args.kernel.now.kernel c.loop-instance.task c.next.new.self c.args.task.now
     c.loop-instance.invariant c.in-End.ensures.says c.in_ok-make_end-in-End.ensures.made
 
 pub returns-in-End-clause-task : goal.returns-in-End-clause-task

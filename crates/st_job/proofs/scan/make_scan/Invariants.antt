@@ -4,7 +4,7 @@ use Rattle.st_job.proofs.scan.make_scan.Given as goal
 
 abbrev pub invariant-loop-instance : goal.invariant-loop-instance
 invariant-loop-instance l =
-    IsScanning l.cell l.number l.kernel l.task l.initial.kernel l.initial.task
+    IsScanning l.cell l.number l.kernel.kernel l.task l.initial.kernel.kernel l.initial.task
 
 abbrev pub decreases-loop-instance : goal.decreases-loop-instance
-decreases-loop-instance l = l.kernel.config.entries - length l.kernel.history
+decreases-loop-instance l = l.kernel.kernel.config.entries - length l.kernel.kernel.history

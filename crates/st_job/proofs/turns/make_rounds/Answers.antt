@@ -6,20 +6,20 @@ use Rattle.st_job.proofs.turns.make_rounds.Goals as goal
 
 pub loop-players-init : goal.loop-players-init
 loop-players-init c =
-    rounds-begin c.args.cell.now c.args.kernel.now c.args.drives.now c.args.players.now
+    rounds-begin c.args.cell.now c.args.kernel.now.kernel c.args.drives.now c.args.players.now
     c.requires.config c.requires.going c.requires.each c.requires.players
 
 pub returns-in_err-make_turns-clause-made : goal.returns-in_err-make_turns-clause-made
 returns-in_err-make_turns-clause-made c =
     let p = err_from_is_err_and c.from_residual.result c.from_residual.ensures.1 in
-    rw (p.1, p.2) (round-stops c.args.cell.now c.loop-players.kernel c.make_turns.new.kernel
-    c.args.kernel.now c.loop-players.drives c.args.drives.now c.loop-players.players
+    rw (p.1, p.2) (round-stops c.args.cell.now c.loop-players.kernel.kernel c.make_turns.new.kernel.kernel
+    c.args.kernel.now.kernel c.loop-players.drives c.args.drives.now c.loop-players.players
     c.make_turns.new.players c.args.players.now c.in_err-make_turns.field-0.0
     c.loop-players.invariant c.in_err-make_turns.ensures.made)
 
 pub returns-then-not-any_lives-clause-made : goal.returns-then-not-any_lives-clause-made
 returns-then-not-any_lives-clause-made c =
-    round-ends c.args.cell.now c.loop-players.kernel c.make_turns.new.kernel c.args.kernel.now
+    round-ends c.args.cell.now c.loop-players.kernel.kernel c.make_turns.new.kernel.kernel c.args.kernel.now.kernel
     c.loop-players.drives c.args.drives.now c.loop-players.players c.make_turns.new.players
     c.args.players.now c.loop-players.invariant
     (record {
@@ -34,8 +34,8 @@ returns-then-not-any_lives-clause-made c =
 
 pub loop-players-smaller : goal.loop-players-smaller
 loop-players-smaller c =
-    fewer-left c.cycles_add_up.ensures.more c.args.cell.now c.loop-players.kernel
-    c.make_turns.new.kernel c.make_cycle.new.kernel c.loop-players.drives c.make_cycle.new.drives
+    fewer-left c.cycles_add_up.ensures.more c.args.cell.now c.loop-players.kernel.kernel
+    c.make_turns.new.kernel.kernel c.make_cycle.new.kernel.kernel c.loop-players.drives c.make_cycle.new.drives
     c.loop-players.players c.make_turns.new.players
     (record {
       config = c.make_turns.ensures.config;
@@ -48,8 +48,8 @@ loop-players-smaller c =
 
 pub loop-players-preserved : goal.loop-players-preserved
 loop-players-preserved c =
-    round-goes-on c.cycles_add_up.ensures.more c.args.cell.now c.loop-players.kernel
-    c.make_turns.new.kernel c.make_cycle.new.kernel c.args.kernel.now c.loop-players.drives
+    round-goes-on c.cycles_add_up.ensures.more c.args.cell.now c.loop-players.kernel.kernel
+    c.make_turns.new.kernel.kernel c.make_cycle.new.kernel.kernel c.args.kernel.now.kernel c.loop-players.drives
     c.make_cycle.new.drives c.args.drives.now c.loop-players.players c.make_turns.new.players
     c.args.players.now c.loop-players.invariant
     (record {
@@ -67,8 +67,8 @@ pub returns-in_err-make_cycle-clause-made : goal.returns-in_err-make_cycle-claus
 returns-in_err-make_cycle-clause-made c =
     let p = err_from_is_err_and c.from_residual-in_err-make_cycle.result
     c.from_residual-in_err-make_cycle.ensures.1 in
-    rw (p.1, p.2) (cycle-stops c.args.cell.now c.loop-players.kernel c.make_turns.new.kernel
-    c.make_cycle.new.kernel c.args.kernel.now c.loop-players.drives c.make_cycle.new.drives
+    rw (p.1, p.2) (cycle-stops c.args.cell.now c.loop-players.kernel.kernel c.make_turns.new.kernel.kernel
+    c.make_cycle.new.kernel.kernel c.args.kernel.now.kernel c.loop-players.drives c.make_cycle.new.drives
     c.args.drives.now c.loop-players.players c.make_turns.new.players c.args.players.now
     c.in_err-make_cycle.field-0.0 c.loop-players.invariant
     (record {

@@ -15,8 +15,8 @@ make_turn-requires-clause-task c =
 pub returns-in_err-make_turn-clause-made : goal.returns-in_err-make_turn-clause-made
 returns-in_err-make_turn-clause-made c = λ drives.
     let p = err_from_is_err_and c.from_residual.result c.from_residual.ensures.1 in
-    rw (p.1, p.2) (turn-stops c.args.cell.now c.loop-number.number c.loop-number.kernel
-    c.make_turn.new.kernel c.args.kernel.now c.loop-number.players c.args.players.now
+    rw (p.1, p.2) (turn-stops c.args.cell.now c.loop-number.number c.loop-number.kernel.kernel
+    c.make_turn.new.kernel.kernel c.args.kernel.now.kernel c.loop-number.players c.args.players.now
     (slice_set c.loop-number.players c.loop-number.number c.make_turn.new.player)
     c.index-players-number.result c.make_turn.new.player c.in_err-make_turn.field-0.0
     (within _ _ _ _ c.loop-number-test.true c.loop-number.invariant.each c.requires.each)
@@ -24,8 +24,8 @@ returns-in_err-make_turn-clause-made c = λ drives.
 
 pub loop-number-preserved : goal.loop-number-preserved
 loop-number-preserved c =
-    one-turned c.args.cell.now c.loop-number.number c.loop-number.kernel c.make_turn.new.kernel
-    c.args.kernel.now c.loop-number.players c.args.players.now c.index-players-number.result
+    one-turned c.args.cell.now c.loop-number.number c.loop-number.kernel.kernel c.make_turn.new.kernel.kernel
+    c.args.kernel.now.kernel c.loop-number.players c.args.players.now c.index-players-number.result
     c.make_turn.new.player
     (within _ _ _ _ c.loop-number-test.true c.loop-number.invariant.each c.requires.each)
     c.loop-number.invariant
@@ -35,5 +35,5 @@ loop-number-preserved c =
 pub returns-clause-made : goal.returns-clause-made
 returns-clause-made c =
     let done = c.loop-number-test.false in
-    all-turned c.args.cell.now c.loop-number.number c.loop-number.kernel c.args.kernel.now
+    all-turned c.args.cell.now c.loop-number.number c.loop-number.kernel.kernel c.args.kernel.now.kernel
     c.loop-number.players c.args.players.now (omega (arith, done)) c.loop-number.invariant

@@ -18,7 +18,7 @@ loop-i-preserved c =
     rw (← axes) (slice_get-get_or c.axes-axes.result.now i c.index-axes-i.result long-axes ∙ ap Some (sym c.index-axes-i.is)) in
     record {
       same = row-more _ _ _ _ _ (place_at c.args.trace.now c.args.entry) i _ _ _ _
-          (c.is_found_as.ensures c.if-not-is_found_as.false) c.version.ensures c.actual_of-place.ensures
+          (c.is_found_as.ensures.0 c.if-not-is_found_as.false) c.version.ensures c.actual_of-place.ensures
           d-at (slice_get-get_or c.args.expected.now i _ (omega (arith, many))) (slice_get-get_or c.args.found.now i _ long)
           c.loop-i.invariant.same;
       many = many;

@@ -1,0 +1,272 @@
+/* A test of fields: each stands where the library reads or writes it. A call gives each input a value of
+ * its own, which the trace's record of the call then has in its column; each mode, by its number, is the
+ * one of its name; outputs and rows have their values. Silent where all is as expected. A program of C11,
+ * for the offsets; sizes are those of a machine of 64 bits. */
+#include "motion.h"
+
+#include <stdio.h>
+#include <string.h>
+
+#define AT(type, field, offset) \
+    _Static_assert(offsetof(type, field) == (offset), #type "." #field " isn't at " #offset)
+#define SIZE(type, size) _Static_assert(sizeof(type) == (size), #type " hasn't " #size " bytes")
+
+AT(motion_inputs, positions, 0);
+AT(motion_inputs, velocity, 48);
+AT(motion_inputs, acceleration, 56);
+AT(motion_inputs, deceleration, 64);
+AT(motion_inputs, jerk, 72);
+AT(motion_inputs, numerator, 80);
+AT(motion_inputs, denominator, 88);
+AT(motion_inputs, mode, 96);
+AT(motion_inputs, table, 100);
+AT(motion_inputs, master, 102);
+AT(motion_inputs, execute, 103);
+SIZE(motion_inputs, 104);
+
+AT(motion_outputs, error_id, 0);
+AT(motion_outputs, busy, 2);
+AT(motion_outputs, active, 3);
+AT(motion_outputs, done, 4);
+AT(motion_outputs, aborted, 5);
+AT(motion_outputs, error, 6);
+AT(motion_outputs, reached, 7);
+SIZE(motion_outputs, 8);
+
+AT(motion_drive_in, actual, 0);
+AT(motion_drive_in, statusword, 4);
+AT(motion_drive_in, mode_display, 6);
+SIZE(motion_drive_in, 8);
+
+AT(motion_drive_out, target, 0);
+AT(motion_drive_out, controlword, 4);
+AT(motion_drive_out, mode, 6);
+SIZE(motion_drive_out, 8);
+
+AT(motion_axis_row, setpoint, 0);
+AT(motion_axis_row, offset, 8);
+AT(motion_axis_row, state, 16);
+AT(motion_axis_row, error, 20);
+AT(motion_axis_row, driven, 22);
+SIZE(motion_axis_row, 24);
+
+AT(motion_group_row, state, 0);
+AT(motion_group_row, error, 4);
+SIZE(motion_group_row, 8);
+
+AT(motion_refusal, line, 0);
+AT(motion_refusal, letter, 8);
+AT(motion_refusal, number, 9);
+SIZE(motion_refusal, 16);
+
+static const char machine[] =
+    "motion-bench 2\n"
+    "limit 20 60\n"
+    "axis X 0 50 10 4 5 1 0 ready\n"
+    "axis Y 0 50 10 4 5 1 7 ready\n"
+    "axis Z -50 50 10 4 5 2 8 ready\n"
+    "group XY X Y\n"
+    "table 0:0 10:10\n"
+    "table 0:0 20:20\n"
+    "task main\n"
+    "block M main MoveAbsolute X\n"
+    "block N main MoveAbsolute X\n"
+    "block V main MoveVelocity Z\n"
+    "block G main GearIn Z\n"
+    "block C main CamIn Z\n"
+    "block L main MoveLinearAbsolute XY\n"
+    "block H main Home Z\n"
+    "block P main Power Z\n";
+
+enum { AXES = 3 };
+enum { M, N, V, G, C, L, H, P };
+
+static const motion_inputs nothing = { { 0, 0, 0, 0, 0, 0 }, 0, 0, 0, 0, 0, 0, 0, 0, 0, 0 };
+
+/* Each a number of its own, all small enough to be read. */
+static const motion_inputs all = { { 11, 12, 13, 14, 15, 16 }, 21, 22, 23, 24, 25, 26, MOTION_BUFFERED,
+                                   2, 1, 1 };
+static const motion_drive_in enabled[AXES] = { { 0, 0x0037, 8 }, { 7, 0x0037, 8 }, { 4, 0x0037, 8 } };
+static int faults;
+
+static void want(const char *what, int64_t found, int64_t wanted)
+{
+    if (found == wanted) return;
+    fprintf(stderr, "%s: %lld in place of %lld\n", what, (long long)found, (long long)wanted);
+    faults++;
+}
+
+/* Whether the outputs are those of these letters, in the trace's order BADCER. */
+static void want_outputs(const char *what, const motion_outputs *out, const char *letters)
+{
+    const uint8_t shown[] = { out->busy, out->active, out->done, out->aborted, out->error, out->reached };
+    const char *names = "BADCER";
+    int i;
+    for (i = 0; i < 6; i++)
+        if (shown[i] != (strchr(letters, names[i]) != NULL)) {
+            fprintf(stderr, "%s: %c is %u\n", what, names[i], (unsigned)shown[i]);
+            faults++;
+        }
+}
+
+static void open_machine(motion *m)
+{
+    motion_refusal why;
+    want("open", motion_open(m, (const uint8_t *)machine, sizeof machine - 1, &why), MOTION_OK);
+}
+
+static motion_outputs call(motion *m, uint16_t block, const motion_inputs *in)
+{
+    motion_outputs out = { 999, 9, 9, 9, 9, 9, 9 };
+    want("call", motion_call(m, block, in, &out), MOTION_OK);
+    return out;
+}
+
+/* Whether the trace has this line. */
+static void want_line(motion *m, const char *line)
+{
+    static char text[16384];
+    uint64_t len;
+    want("trace", motion_trace(m, enabled, AXES), MOTION_OK);
+    len = motion_trace_text(m, 0, (uint8_t *)text, sizeof text - 1);
+    text[len] = 0;
+    if (strstr(text, line) != NULL) return;
+    fprintf(stderr, "the trace lacks %s\n", line);
+    faults++;
+}
+
+/* Each input of each kind in its column of the trace. */
+static void inputs(void)
+{
+    static const char *const lines[] = {
+        "call,M,1,11,21,22,23,24,buffered,,", "call,N,1,11,21,22,23,24,buffered,,",
+        "call,V,1,,21,22,23,24,buffered,,",   "call,G,1,,,22,23,24,buffered,Y:25:26,",
+        "call,C,1,,21,22,23,24,buffered,Y:2,", "call,L,1,11;12,21,22,23,24,buffered,,",
+        "call,H,1,11,,,,,,,",                  "call,P,1,,,,,,,,",
+    };
+    motion m = MOTION_NONE;
+    uint16_t block;
+    open_machine(&m);
+    for (block = M; block <= P; block++) call(&m, block, &all);
+    for (block = M; block <= P; block++) want_line(&m, lines[block]);
+    want("close", motion_close(&m), MOTION_OK);
+}
+
+/* Each mode by its number. */
+static void modes(void)
+{
+    static const char *const lines[] = {
+        "call,M,1,0,0,0,0,0,aborting,",         "call,M,1,0,1,0,0,0,buffered,",
+        "call,M,1,0,2,0,0,0,blendingLow,",      "call,M,1,0,3,0,0,0,blendingPrevious,",
+        "call,M,1,0,4,0,0,0,blendingNext,",     "call,M,1,0,5,0,0,0,blendingHigh,",
+    };
+    static const uint32_t numbers[] = { MOTION_ABORTING,          MOTION_BUFFERED,
+                                        MOTION_BLENDING_LOW,      MOTION_BLENDING_PREVIOUS,
+                                        MOTION_BLENDING_NEXT,     MOTION_BLENDING_HIGH };
+    motion m = MOTION_NONE;
+    motion_inputs in = nothing;
+    uint32_t i;
+    open_machine(&m);
+    in.execute = 1;
+    for (i = 0; i < 6; i++) {
+        want("the mode's number", numbers[i], i);
+        in.mode = numbers[i];
+        in.velocity = i;
+        call(&m, M, &in);
+    }
+    for (i = 0; i < 6; i++) want_line(&m, lines[i]);
+    want("close", motion_close(&m), MOTION_OK);
+}
+
+/* Outputs, what the drives answer and are given, and rows. */
+static void outputs(void)
+{
+    static const motion_drive_in other[AXES] = { { 1, 0x0237, 8 }, { 7, 0x0637, 8 }, { 4, 0x1237, 8 } };
+    motion m = MOTION_NONE;
+    motion_inputs in = nothing;
+    motion_outputs out;
+    motion_drive_out given[AXES];
+    motion_axis_row row;
+    int cycle;
+    open_machine(&m);
+    in.execute = 1;
+    in.positions[0] = 9;
+    in.velocity = 6;
+    in.acceleration = 3;
+    in.deceleration = 2;
+    out = call(&m, M, &in);
+    want_outputs("an active move", &out, "BA");
+    in.mode = MOTION_BUFFERED;
+    in.positions[0] = 2;
+    out = call(&m, N, &in);
+    want_outputs("a waiting move", &out, "B");
+    out = call(&m, P, &in);
+    want_outputs("a Power that is on", &out, "BR");
+    in.positions[0] = -40;
+    out = call(&m, H, &in);
+    want_outputs("a Home", &out, "BA");
+    want("no error", out.error_id, 0);
+    want("cycle", motion_cycle(&m, other, AXES, given, AXES), MOTION_OK);
+    want("target of X", given[0].target, 3);
+    want("controlword of X", given[0].controlword, 0x000f);
+    want("mode of X", given[0].mode, 8);
+    want("target of Z, in its increments", given[2].target, 4);
+    want("axis X", motion_axis_look(&m, 0, &row), MOTION_OK);
+    want("setpoint of X", row.setpoint, 3);
+    want("offset of X", row.offset, 0);
+    want("state of X", row.state, MOTION_DISCRETE_MOTION);
+    want("axis Z", motion_axis_look(&m, 2, &row), MOTION_OK);
+    want("setpoint of Z", row.setpoint, -40);
+    want("offset of Z", row.offset, -48);
+    want("state of Z", row.state, MOTION_STANDSTILL);
+    want("driven Z", row.driven, 1);
+    want_line(&m, "row,X,0237,1,8,DiscreteMotion,0,1,3,000f,3,1\n");
+    want_line(&m, "row,Y,0637,7,8,Standstill,0,1,7,000f,7,7\n");
+    want_line(&m, "row,Z,1237,4,8,Standstill,0,1,-40,000f,4,-40\n");
+    out = call(&m, H, &in);
+    want_outputs("a Home's end", &out, "D");
+    in.mode = MOTION_ABORTING;
+    in.positions[0] = 2;
+    in.execute = 0;
+    call(&m, N, &in);
+    in.execute = 1;
+    call(&m, N, &in);
+    out = call(&m, M, &in);
+    want_outputs("an aborted move", &out, "C");
+    in.acceleration = 0;
+    out = call(&m, V, &in);
+    want_outputs("an error", &out, "E");
+    want("its number", out.error_id, 7);
+    for (cycle = 0; cycle < 2; cycle++)
+        want("cycle", motion_cycle(&m, enabled, AXES, given, AXES), MOTION_OK);
+    want("close", motion_close(&m), MOTION_OK);
+}
+
+/* What a row shows of an axis and a group whose drive has a fault. */
+static void errors(void)
+{
+    static const motion_drive_in fault[AXES] = { { 0, 0x0018, 8 }, { 7, 0x0037, 8 }, { 4, 0x0037, 8 } };
+    motion m = MOTION_NONE;
+    motion_drive_out given[AXES];
+    motion_axis_row axis;
+    motion_group_row group;
+    open_machine(&m);
+    want("cycle", motion_cycle(&m, fault, AXES, given, AXES), MOTION_OK);
+    want("axis X", motion_axis_look(&m, 0, &axis), MOTION_OK);
+    want("state of X", axis.state, MOTION_ERROR_STOP);
+    want("error of X", axis.error, 101);
+    want("driven X", axis.driven, 0);
+    want("group", motion_group_look(&m, 0, &group), MOTION_OK);
+    want("state of XY", group.state, MOTION_GROUP_DISABLED);
+    want("error of XY", group.error, 0);
+    want("close", motion_close(&m), MOTION_OK);
+}
+
+int main(void)
+{
+    inputs();
+    modes();
+    outputs();
+    errors();
+    return faults != 0;
+}
