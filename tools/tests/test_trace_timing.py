@@ -10,7 +10,7 @@ sys.path.insert(0, str(TOOLS / "tests"))
 
 from tool_runner import run  # noqa: E402
 
-from motion_trace import BLOCK_KINDS  # noqa: E402
+from motion_tools.trace import BLOCK_KINDS  # noqa: E402
 
 
 class Pictures(unittest.TestCase):

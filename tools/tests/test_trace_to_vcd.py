@@ -7,8 +7,8 @@ import tempfile
 import unittest
 
 from tool_runner import CELL, EXAMPLES, HOMED, changed, run
-from gtkwave_view import view_of
-from motion_trace import Trace
+from motion_tools.gtkwave import view_of
+from motion_tools.trace import Trace
 from vcd_checker import Dump, Fault
 
 CYCLE = 1_000_000       # nanoseconds, of a cycle of 1,000 microseconds
