@@ -1,15 +1,17 @@
 """What the tools have in common: options, units, statuses."""
 
 import argparse
+import re
 import sys
 from collections.abc import Callable, Container
-from typing import Optional, TextIO
+from typing import NamedTuple, Optional, TextIO
 
 from motion_tools.config import Config, ConfigError, read_config
 from motion_tools.trace import Machine, ReadFault, Trace, TraceError, lines_of
 from motion_tools.units import Scale, Units, scale_of
 
 READ, ILLEGAL, USAGE, REFUSED, UNREADABLE, UNWRITTEN = 0, 1, 2, 3, 4, 6   # as those of `motion`
+MOMENT = re.compile(r"([0-9]+(?:\.[0-9]+)?)(ms|s)?")
 STATUSES = """\
 ends with 0; with 2 where an option is faulty, with 3 where the text is no trace (what was read of
 it until then is written), with 4 where it can't be read, with 6 where writing fails"""
@@ -58,6 +60,54 @@ def cycle_length(text: str) -> int:
     if not (text.isascii() and text.isdigit() and int(text) > 0):
         raise argparse.ArgumentTypeError(f"{text!a} is no whole number of microseconds from 1")
     return int(text)
+
+
+class Moment(NamedTuple):
+    """A moment of a run: a number of cycles, or of seconds."""
+    number: float
+    is_time: bool
+
+    def cycle(self, cycle_us: int) -> int:
+        """The cycle at that moment. Raises LookupError where a cycle's length isn't known."""
+        if not self.is_time:
+            return int(self.number)
+        if not cycle_us:
+            raise LookupError("a time needs the length of a cycle: --config FILE or --cycle-us N")
+        return max(1, round(self.number * 1e6 / cycle_us))
+
+
+def moment(text: str) -> Moment:
+    """A cycle, or a time as 120ms or 1.5s."""
+    match = MOMENT.fullmatch(text)
+    if not match or (not match[2] and "." in match[1]):
+        raise argparse.ArgumentTypeError(f"{text!a} is no cycle from 1, and no time as 120ms or 1.5s")
+    if not match[2] and int(match[1]) < 1:
+        raise argparse.ArgumentTypeError("cycles are counted from 1")
+    return Moment(float(match[1]) * (1e-3 if match[2] == "ms" else 1), bool(match[2]))
+
+
+def add_range(parser: argparse.ArgumentParser, what: str) -> None:
+    """Adds the options --from and --to."""
+    parser.add_argument("--from", dest="first", type=moment, metavar="CYCLE",
+                        help=f"the first cycle that is {what}, or a time as 120ms or 1.5s")
+    parser.add_argument("--to", dest="last", type=moment, metavar="CYCLE", help="the last one")
+
+
+def range_of(options: argparse.Namespace) -> tuple[int, Optional[int]]:
+    """The first and the last cycle of --from and --to. Raises LookupError."""
+    cycle_us = cycle_us_of(options)
+    first = options.first.cycle(cycle_us) if options.first else 1
+    last = options.last.cycle(cycle_us) if options.last else None
+    if last is not None and last < first:
+        raise LookupError("--to lies before --from")
+    return first, last
+
+
+def cycle_us_of(options: argparse.Namespace) -> int:
+    """The length of a cycle in microseconds, 0 where it isn't known."""
+    if options.cycle_us or not options.config:
+        return options.cycle_us or 0
+    return read_config(options.config).cycle_us
 
 
 def units_for(options: argparse.Namespace, names: Container[str], text: str = "trace") -> Units:

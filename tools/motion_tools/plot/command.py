@@ -40,9 +40,7 @@ def parser() -> argparse.ArgumentParser:
                         help="the edges of digital cam switches in this trace, as `motion "
                              "switches` writes them: lanes of the SVG")
     words.add_argument("--title", help="the title; left out, the trace's axes and cycles")
-    words.add_argument("--from", dest="first", type=int, default=1, metavar="CYCLE",
-                        help="the first cycle that is drawn")
-    words.add_argument("--to", dest="last", type=int, metavar="CYCLE", help="the last one")
+    command.add_range(words, "drawn")
     words.add_argument("--width", type=int, default=1100,
                         help="of the SVG, in pixels; 500 to 8000")
     words.add_argument("--columns", type=int, default=8192,
@@ -56,22 +54,20 @@ def parser() -> argparse.ArgumentParser:
 
 def check_words(parser: argparse.ArgumentParser, given: argparse.Namespace) -> None:
     """Ends the program where a word is out of its range."""
-    if not 500 <= given.width <= 8000 or given.first < 1:
-        parser.error("--width is from 500 to 8000, and --from at least 1")
+    if not 500 <= given.width <= 8000:
+        parser.error("--width is from 500 to 8000")
     if not 256 <= given.columns <= 1_000_000:
         parser.error("--columns is from 256 to 1000000")
     if given.output is None and sys.stdout.isatty():
         parser.error("the picture wants a file, as -o picture.svg, and not a terminal")
     if given.edges is not None and given.html:
         parser.error("--edges are drawn in an SVG alone")
-    if not (given.last is None or given.last >= given.first):
-        parser.error("--to lies before --from")
 
 
 def trace_of(given: argparse.Namespace) -> Trace:
     """The trace of the words, with as many columns as the picture can use."""
     limit = given.columns if given.html else 2 * given.width
-    return read_trace(lines_of(given.trace), given.first, given.last, limit)
+    return read_trace(lines_of(given.trace), *command.range_of(given), limit)
 
 
 def title_of(trace: Trace) -> str:
