@@ -6,7 +6,7 @@ import sys
 
 from tool_runner import EXAMPLES, TOOLS  # noqa: F401
 
-import trace_plot_reader as reader
+from motion_tools.plot import reader
 
 HEAD = ["kind,a,b,c,d,e,f,g,h,i,j,k", "trace,2,bench,1000,2000,,,,,,,",
         "axis,X,-50,500,10,4,8,2,0,1,,", "task,main,,,,,,,,,,",

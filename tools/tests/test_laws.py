@@ -11,7 +11,7 @@ from pathlib import Path
 ROOT = Path(__file__).resolve().parent.parent.parent
 sys.path.insert(0, str(ROOT / "tools"))
 
-from motion_trace import Call, Trace, lines_of  # noqa: E402
+from motion_tools.trace import Call, Trace, lines_of  # noqa: E402
 
 AxisOf = namedtuple("AxisOf", "lo hi vmax amax dmax start ready")
 RowOf = namedtuple("RowOf", "setpoint state driven")

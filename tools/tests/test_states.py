@@ -10,7 +10,7 @@ from pathlib import Path
 ROOT = Path(__file__).resolve().parent.parent.parent
 sys.path.insert(0, str(ROOT / "tools"))
 
-from motion_trace import Trace, lines_of  # noqa: E402
+from motion_tools.trace import Trace, lines_of  # noqa: E402
 
 FOLDERS = os.environ.get("TRACES", f"{ROOT}/examples/*:{ROOT}/docs/timing")
 TAKES_MOTION = ("Standstill", "DiscreteMotion", "ContinuousMotion", "SynchronizedMotion")

@@ -11,8 +11,9 @@ from xml.etree import ElementTree
 
 from plot_runner import END, EXAMPLES, HEAD, TOOLS, call, plot, read, row
 
-import trace_plot_reader as reader
-import trace_plot_style as style
+from motion_tools.plot import reader
+from motion_tools.plot import style
+from motion_tools.units import Units, scale_of
 
 
 class Reading(unittest.TestCase):
@@ -159,17 +160,17 @@ class Refusals(unittest.TestCase):
             self.assertEqual(plot(cell, *words)[0], 2, words)
 
 
-class Units(unittest.TestCase):
+class Scales(unittest.TestCase):
     """Units, numbers and scales."""
 
     def test_units(self):
-        units = style.Units(1000, dict([style.read_scale("X=0.001mm"), style.read_scale("0.1°")]))
+        units = Units(dict([scale_of("X=0.001mm"), scale_of("0.1°")]), 1000)
         self.assertEqual(units.of_axis("X")["velocity"], (0.001 / 0.001, "mm/s"))
         self.assertEqual(units.of_axis("Y")["position"], (0.1, "°"))
-        self.assertEqual(style.Units(1000).of_axis("X")["velocity"], (1.0, "units/cycle"))
-        self.assertEqual(style.Units().of_axis("X")["acceleration"], (1.0, "units/cycle²"))
-        self.assertRaises(ValueError, style.read_scale, "X=")
-        self.assertRaises(ValueError, style.read_scale, "X=0mm")
+        self.assertEqual(Units(None, 1000).of_axis("X")["velocity"], (1.0, "units/cycle"))
+        self.assertEqual(Units().of_axis("X")["acceleration"], (1.0, "units/cycle²"))
+        self.assertRaises(ValueError, scale_of, "X=")
+        self.assertRaises(ValueError, scale_of, "X=0mm")
 
     def test_numbers(self):
         self.assertEqual([style.number_text(value) for value in (0, -5, 0.25, 1e6, 4e8, 123456789)],

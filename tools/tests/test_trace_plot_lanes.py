@@ -7,8 +7,8 @@ from xml.etree import ElementTree
 
 from plot_runner import END, EXAMPLES, HEAD, call, plot, read, row
 
-import trace_plot_edges as edges_of
-import trace_plot_levels as levels_of
+from motion_tools.plot import edges as edges_of
+from motion_tools.plot import levels as levels_of
 
 
 class Breaks(unittest.TestCase):

@@ -10,7 +10,7 @@ sys.path.insert(0, str(TOOLS / "tests"))
 
 from tool_runner import run  # noqa: E402
 
-from motion_trace import BLOCK_KINDS  # noqa: E402
+from motion_tools.trace import BLOCK_KINDS  # noqa: E402
 
 
 class Pictures(unittest.TestCase):
@@ -33,6 +33,27 @@ class Pictures(unittest.TestCase):
         status, picture, _ = run("trace_timing", "-", "BLOCK", text="".join(lines[:last]))
         self.assertEqual(status, 3)
         self.assertEqual(picture.splitlines()[0], whole.splitlines()[0][:-1])
+
+    def test_a_range_of_cycles_or_times(self):
+        trace = DOCS / "timing" / "halt.trace"
+        whole = run("trace_timing", trace, "BLOCK")[1].splitlines()[0]
+        status, part, _ = run("trace_timing", trace, "BLOCK", "--from", "3", "--to", "8")
+        self.assertEqual(status, 0)
+        self.assertIn("Calls ", part)
+        self.assertLess(len(part.splitlines()[0]), len(whole))
+        times = run("trace_timing", trace, "BLOCK", "--from", "3ms", "--to", "8ms", "--cycle-us",
+                    "1000")[1]
+        self.assertEqual(times.splitlines()[:-1], part.splitlines()[:-1])
+        self.assertIn(" ms", times.splitlines()[-1])
+        for words in (("--from", "3ms"), ("--from", "0"), ("--from", "9", "--to", "3"),
+                      ("--from", "1.5")):
+            self.assertEqual(run("trace_timing", trace, *words)[0], 2, words)
+
+    def test_several_blocks(self):
+        _, picture, _ = run("trace_timing", TOOLS.parent / "examples" / "cell" / "cell.trace", "GEAR",
+                            "LINE")
+        self.assertIn("GEAR (GearIn)\nExecute", picture)
+        self.assertIn("\n\nLINE (MoveLinearAbsolute)\nExecute", picture)
 
     def test_no_such_block(self):
         told = run("trace_timing", DOCS / "timing" / "halt.trace", "NONE")[2]

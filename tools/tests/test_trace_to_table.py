@@ -6,9 +6,9 @@ import os
 import unittest
 
 from tool_runner import CELL, EXAMPLES, HOMED, changed, run
-from motion_trace import Axis, Row, Trace, lines_of
-from motion_units import Motion, scale_of
-from trace_plot_reader import read_trace
+from motion_tools.trace import Axis, Row, Trace, lines_of
+from motion_tools.units import Motion, scale_of
+from motion_tools.plot.reader import read_trace
 
 
 def table_of(path, *words, text=""):

@@ -1,14 +1,16 @@
 """Tests of the dumps for waveform viewers."""
 
 import io
+import os
+import re
 import shutil
 import subprocess
 import tempfile
 import unittest
 
 from tool_runner import CELL, EXAMPLES, HOMED, changed, run
-from gtkwave_view import view_of
-from motion_trace import Trace
+from motion_tools.gtkwave import view_of
+from motion_tools.trace import Trace
 from vcd_checker import Dump, Fault
 
 CYCLE = 1_000_000       # nanoseconds, of a cycle of 1,000 microseconds
@@ -95,6 +97,43 @@ class Dumping(unittest.TestCase):
         self.assertIn("sSynchronizedMotion", back)
 
 
+class Plain(unittest.TestCase):
+    """Dumps for simple readers."""
+
+    def dump(self):
+        return run("trace_to_vcd", CELL, "--cycle-us", "1000", "--plain")[1]
+
+    def test_states_are_numbers_and_names_are_whole(self):
+        text = self.dump()
+        self.assertNotIn(" string ", text)
+        self.assertNotIn("nan", text)
+        self.assertIn("$timescale 1 us $end", text)
+        self.assertIn("$comment FEEDER_state: 0 Disabled, 1 Standstill", text)
+        names = re.findall(r"^\$var \S+ \d+ \S+ (\S+)", text, re.MULTILINE)
+        self.assertEqual(len(names), len(set(names)))
+        for name in ("FEEDER_setpoint", "FEEDER_ErrorStop", "GEAR_execute", "PORTAL_state"):
+            self.assertIn(name, names)
+
+    def test_it_is_a_dump_of_the_standard(self):
+        Dump(self.dump())
+
+    def test_a_file_has_no_view(self):
+        with tempfile.TemporaryDirectory() as folder:
+            self.assertEqual(run("trace_to_vcd", CELL, "--cycle-us", "1000", "--plain", "-o",
+                                 f"{folder}/c.vcd")[0], 0)
+            self.assertEqual(os.listdir(folder), ["c.vcd"])
+
+    @unittest.skipUnless(shutil.which("sigrok-cli"), "there is no sigrok-cli")
+    def test_sigrok_reads_it(self):
+        with tempfile.TemporaryDirectory() as folder:
+            run("trace_to_vcd", CELL, "--cycle-us", "1000", "--plain", "-o", f"{folder}/c.vcd")
+            read = subprocess.run(["sigrok-cli", "-I", "vcd", "-i", f"{folder}/c.vcd", "--show"],
+                                  capture_output=True, encoding="utf-8", check=True)
+        self.assertIn("FEEDER_ErrorStop: logic", read.stdout)
+        self.assertIn("GEAR_execute: logic", read.stdout)
+        self.assertNotIn("unknown token", read.stdout + read.stderr)
+
+
 class Viewing(unittest.TestCase):
     """The view of GTKWave beside a dump."""
 
@@ -153,7 +192,7 @@ class Refusing(unittest.TestCase):
         status, _, faults = run("trace_to_vcd", "-", "--cycle-us", "1000",
                                 text=changed("cycle,3,", "cycle,2,"))
         self.assertEqual((status, faults), (3, "trace_to_vcd: refused -: record 12: cycle 2 "
-                                               "stands behind cycle 2\n"))
+                                               "follows cycle 2\n"))
 
     def test_beginning_of_a_bad_trace_is_a_dump(self):
         status, output, _ = run("trace_to_vcd", "-", "--cycle-us", "1000",

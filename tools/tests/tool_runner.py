@@ -1,5 +1,7 @@
 """Runs the tools as a user does, and has small traces on which they are tried."""
 
+import contextlib
+import io
 import pathlib
 import subprocess
 import sys
@@ -39,11 +41,25 @@ drive,A,5,OperationEnabled,5,,,,,,,
 """
 
 
-def run(tool, *words, text=""):
+def run(tool, *words, text="", cwd=None):
     """The status, output and faults of a tool that is called with these words."""
     done = subprocess.run([sys.executable, str(TOOLS / tool), *map(str, words)], input=text,
-                          capture_output=True, encoding="utf-8", check=False)
+                          capture_output=True, encoding="utf-8", check=False, cwd=cwd)
     return done.returncode, done.stdout, done.stderr
+
+
+def call(main, *words):
+    """The same of a tool's `main`, in this process, where no standard input is read."""
+    output, faults = io.StringIO(), io.StringIO()
+    before, sys.argv = sys.argv, [main.__module__, *map(str, words)]
+    try:
+        with contextlib.redirect_stdout(output), contextlib.redirect_stderr(faults):
+            status = main()
+    except SystemExit as ended:
+        status = ended.code
+    finally:
+        sys.argv = before
+    return status, output.getvalue(), faults.getvalue()
 
 
 def changed(old, new):

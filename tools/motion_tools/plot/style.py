@@ -1,12 +1,10 @@
-"""Colours, units and scales of the pictures of trace_plot.
+"""Colours, numbers and scales of the pictures of trace_plot.
 
 The colours are those of Okabe and Ito, which colour-blind readers can tell apart; no meaning is
 told by a colour alone: states have their names, marks their shapes, errors their hatching.
 """
 
 import math
-import re
-from dataclasses import dataclass, field
 
 STATE_COLOURS = {
     "Disabled": "#b0b4ba", "Standstill": "#d6e9f5", "Homing": "#cc79a7", "Stopping": "#e69f00",
@@ -24,41 +22,6 @@ DARK = {"page": "#14181d", "panel": "#2a2f37", "band": "#171d25", "outer": "#202
         "position": "#56b4e9", "reported": "#e69f00", "velocity": "#2fc99a",
         "acceleration": "#e19cc4", "error": "#ff7a33", "Call": "#e8eaed", "Done": "#2fc99a",
         "CommandAborted": "#f0b93a", "Error": "#ff7a33"}
-SCALE = re.compile(r"(?:([A-Za-z]\w*)=)?(\d+(?:\.\d*)?(?:e-?\d+)?|\.\d+)([^\d\s.<>&]\S{0,7})?")
-
-
-@dataclass
-class Units:
-    """How numbers are told: the caller's factor and unit by axis, "" being every other one, and
-    the length of a cycle in microseconds, 0 where it isn't given."""
-
-    cycle_us: float = 0
-    scales: dict = field(default_factory=dict)
-
-    def of_axis(self, name):
-        """For positions, velocities and accelerations of an axis: the factor and the unit. An axis
-        without a scale is told in internal units per cycle, whatever the cycle's length."""
-        scale = self.scales.get(name, self.scales.get(""))
-        factor, unit = scale or (1.0, "units")
-        seconds, per = (self.cycle_us / 1e6, "s") if scale and self.cycle_us else (1.0, "cycle")
-        return {"position": (factor, unit), "velocity": (factor / seconds, f"{unit}/{per}"),
-                "acceleration": (factor / seconds / seconds, f"{unit}/{per}²")}
-
-    def of_time(self, cycles):
-        """The factor of cycles and the name of the time axis of a picture of so many."""
-        if not self.cycle_us:
-            return 1.0, "cycle"
-        if cycles * self.cycle_us < 10e6:
-            return self.cycle_us / 1e3, "time [ms]"
-        return self.cycle_us / 1e6, "time [s]"
-
-
-def read_scale(word):
-    """A scale `AXIS=FACTORUNIT` or `FACTORUNIT`; raises ValueError for any other word."""
-    found = SCALE.fullmatch(word)
-    if not found or float(found[2]) <= 0:
-        raise ValueError(f"'{word}' is no scale as X=0.001mm")
-    return found[1] or "", (float(found[2]), found[3] or "units")
 
 
 def num(value):

@@ -17,7 +17,8 @@ import os
 import re
 import sys
 import time
-from typing import Callable, NamedTuple, Optional
+from collections.abc import Callable, Iterable, Iterator
+from typing import Any, NamedTuple, Optional, TextIO
 
 LONGEST_LINE = 1 << 18      # characters; a cam table of 4,096 points has less
 SECONDS_OF_SILENCE = 2.0    # between two lines of progress
@@ -411,11 +412,11 @@ def names_told(kind, item, machine):
     return []
 
 
-def lines_of(name, progress=sys.stderr):
+def lines_of(name: str, progress: Optional[TextIO] = sys.stderr) -> Iterator[str]:
     """The lines of a file, or of the standard input where the name is `-`. Where reading takes
-    longer than two seconds, what was read so far is told on `progress` every two seconds; of a file
-    that is longer than `motion check` takes it is told at once. Raises ReadFault where the file can't
-    be read, TraceError where a line is too long for any record."""
+    longer than two seconds, what was read so far is written to `progress` every two seconds; of a
+    file that is longer than `motion check` takes that is written at once. Raises ReadFault where the
+    file can't be read, TraceError where a line is too long for any record."""
     try:
         source = 0 if name == "-" else name
         with open(source, encoding="utf-8-sig", errors="surrogateescape", newline="") as file:
@@ -424,10 +425,10 @@ def lines_of(name, progress=sys.stderr):
         raise ReadFault(f"cannot read {name}: {error.strerror}") from None
 
 
-def bounded_lines(file, name, progress):
+def bounded_lines(file: TextIO, name: str, progress: Optional[TextIO]) -> Iterator[str]:
     """The lines of an open file, with its progress."""
     total = os.fstat(file.fileno()).st_size
-    if total > MOST_CHECKED:
+    if total > MOST_CHECKED and progress:
         print(f"{name}: more than 256 MiB, which motion check refuses as too long", file=progress)
     told, read, count = time.monotonic(), 0, 0
     while line := file.readline(LONGEST_LINE):
@@ -435,7 +436,7 @@ def bounded_lines(file, name, progress):
         read += len(line)
         if len(line) == LONGEST_LINE:
             raise TraceError(count, "the line is too long")
-        if count % 4096 == 0 and time.monotonic() - told > SECONDS_OF_SILENCE:
+        if progress and count % 4096 == 0 and time.monotonic() - told > SECONDS_OF_SILENCE:
             told = time.monotonic()
             of_total = f" of {total / 1e6:.0f}" if total else ""
             print(f"{name}: {read / 1e6:.0f}{of_total} MB read", file=progress, flush=True)

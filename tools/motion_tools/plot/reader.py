@@ -1,6 +1,6 @@
 """What trace_plot takes from a trace: the machine, and its cycles and calls thinned to columns.
 
-A trace is read once, as a stream, by motion_trace, and what is kept of it doesn't grow with its
+A trace is read once, as a stream, by motion_tools.trace, and what is kept of it doesn't grow with its
 length: each axis has at most so many columns, each with the least and greatest values of its
 cycles. All numbers are integers in an axis's internal units, per cycle. A text that is no trace
 raises TraceError.
@@ -8,10 +8,10 @@ raises TraceError.
 
 from dataclasses import dataclass, field
 
-import motion_trace
-from motion_trace import TraceError
-from motion_units import Motions
-from trace_plot_levels import Levels, bits_of
+from motion_tools import trace as traces
+from motion_tools.trace import TraceError
+from motion_tools.units import Motions
+from motion_tools.plot.levels import Levels, bits_of
 
 AXIS_STATES = ("Disabled", "Standstill", "Homing", "DiscreteMotion", "ContinuousMotion",
                "SynchronizedMotion", "Stopping", "ErrorStop")
@@ -256,7 +256,7 @@ def read_trace(lines, first=1, last=None, limit=2048):
     """The trace of a text's lines, with the cycles from `first` to `last` in at most `limit`
     columns. Behind its machine it may be faulty: then it has what was read until there, and the
     fault."""
-    source = motion_trace.Trace(lines)
+    source = traces.Trace(lines)
     trace = Trace(source.machine, first, last, limit)
     try:
         for cycle in source.cycles():

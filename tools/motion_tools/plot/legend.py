@@ -2,8 +2,8 @@
 
 from xml.sax.saxutils import escape
 
-from trace_plot_reader import AXIS_STATES, GROUP_STATES, LOOSE
-from trace_plot_style import STATE_COLOURS, num
+from motion_tools.plot.reader import AXIS_STATES, GROUP_STATES, LOOSE
+from motion_tools.plot.style import STATE_COLOURS, num
 
 KINDS = ("Call", "Done", "CommandAborted", "Error")
 SHAPES = {"Call": "m-5 -4h10l-5 9z", "Done": "m-4.5 0a4.5 4.5 0 1 0 9 0a4.5 4.5 0 1 0 -9 0z",

@@ -2,9 +2,9 @@
 
 from xml.sax.saxutils import escape
 
-from trace_plot_lines import draw_lines
-from trace_plot_sheet import LEFT, RIGHT, spans
-from trace_plot_style import num, number_text, ticks, view
+from motion_tools.plot.lines import draw_lines
+from motion_tools.plot.sheet import LEFT, RIGHT, spans
+from motion_tools.plot.style import num, number_text, ticks, view
 
 GAP = 8
 PANELS = (("position", 0, 120), ("velocity", 2, 84), ("acceleration", 4, 84))

@@ -3,7 +3,7 @@
 from dataclasses import dataclass, field
 from xml.sax.saxutils import escape
 
-from trace_plot_style import num
+from motion_tools.plot.style import num
 
 LEFT, RIGHT = 112, 150
 

@@ -2,7 +2,7 @@
 
 import re
 
-from motion_trace import TraceError
+from motion_tools.trace import TraceError
 
 EDGE = re.compile(r"([A-Za-z][A-Za-z0-9_]{0,15}) ([1-9][0-9]*) (on|off)")
 COLOUR, LANE = "#009e73", 18

@@ -6,8 +6,8 @@ import unittest
 from unittest import mock
 
 from tool_runner import CELL, EXAMPLES, FIRST_MOVE, HOMED, changed
-import motion_trace
-from motion_trace import Axis, Block, Call, Drive, Group, GroupRow, Row, Trace, TraceError, lines_of
+from motion_tools import trace as motion_trace
+from motion_tools.trace import Axis, Block, Call, Drive, Group, GroupRow, Row, Trace, TraceError, lines_of
 
 
 def trace_of(text):

@@ -2,14 +2,14 @@
 
 from xml.sax.saxutils import escape
 
-from trace_plot_edges import draw_edges
-from trace_plot_legend import KINDS, draw_head, draw_shape
-from trace_plot_outputs import draw_outputs
-from trace_plot_panels import PANELS, draw_panel, draw_time
-from trace_plot_reader import AXIS_STATES, GROUP_STATES, join
-from trace_plot_sheet import LEFT, spans
-from trace_plot_style import STATE_COLOURS, num
-from trace_plot_words import told_of
+from motion_tools.plot.edges import draw_edges
+from motion_tools.plot.legend import KINDS, draw_head, draw_shape
+from motion_tools.plot.outputs import draw_outputs
+from motion_tools.plot.panels import PANELS, draw_panel, draw_time
+from motion_tools.plot.reader import AXIS_STATES, GROUP_STATES, join
+from motion_tools.plot.sheet import LEFT, spans
+from motion_tools.plot.style import STATE_COLOURS, num
+from motion_tools.plot.words import told_of
 
 ROW, STRIP = 16, 18
 LABEL_ROWS, GUIDES = 6, 40

@@ -1,7 +1,7 @@
 """The lines of a panel, and where they break."""
 
-from trace_plot_reader import BROKEN, LOOSE, MOVED
-from trace_plot_style import num
+from motion_tools.plot.reader import BROKEN, LOOSE, MOVED
+from motion_tools.plot.style import num
 
 
 def draw_lines(sheet, axis, columns, name, place, to_y):

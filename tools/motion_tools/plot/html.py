@@ -4,15 +4,15 @@ import json
 from html import escape
 from pathlib import Path
 
-from trace_plot_legend import SHAPES, seen_in, states_seen
-from trace_plot_levels import runs, seen, signals
-from trace_plot_panels import PANELS, limits_of
-from trace_plot_reader import AXIS_STATES, GROUP_STATES
-from trace_plot_sheet import spans
-from trace_plot_style import DARK, LIGHT, STATE_COLOURS
-from trace_plot_words import told_of
+from motion_tools.plot.legend import SHAPES, seen_in, states_seen
+from motion_tools.plot.levels import runs, seen, signals
+from motion_tools.plot.panels import PANELS, limits_of
+from motion_tools.plot.reader import AXIS_STATES, GROUP_STATES
+from motion_tools.plot.sheet import spans
+from motion_tools.plot.style import DARK, LIGHT, STATE_COLOURS
+from motion_tools.plot.words import told_of
 
-FOLDER = Path(__file__).parent
+FOLDER = Path(__file__).parent / "page"
 SCRIPTS = ("pen", "curves", "section", "lanes", "cursor", "plane", "moving")
 LINES = (("position", 0), ("velocity", 2), ("acceleration", 4), ("reported", 6))
 
@@ -20,8 +20,8 @@ LINES = (("position", 0), ("velocity", 2), ("acceleration", 4), ("reported", 6))
 def page(trace, units, title, whole=False, outputs=False):
     """The text of the page: the template with its script, its colours, its title and its
     numbers."""
-    text = read("trace_plot_page.html")
-    script = "\n".join(read(f"trace_plot_page_{name}.js") for name in SCRIPTS)
+    text = read("page.html")
+    script = "\n".join(read(f"{name}.js") for name in SCRIPTS)
     data = json.dumps({**page_data(trace, units, whole), "outputs": outputs},
                       separators=(",", ":"), ensure_ascii=False)
     for mark, words in (("/*SCRIPTS*/", script), ("/*LIGHT*/", variables(LIGHT)),
@@ -32,7 +32,7 @@ def page(trace, units, title, whole=False, outputs=False):
 
 
 def read(name):
-    """The text of a file beside this one."""
+    """The text of a file of the page."""
     return (FOLDER / name).read_text(encoding="utf-8")
 
 

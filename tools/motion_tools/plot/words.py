@@ -1,6 +1,6 @@
 """What a picture shows of an axis or a group, in words, for readers of screens."""
 
-from trace_plot_style import number_text
+from motion_tools.plot.style import number_text
 
 MOST = 40       # states, and calls, that are told one by one
 

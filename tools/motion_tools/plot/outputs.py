@@ -1,7 +1,7 @@
 """Lanes of Execute and the outputs of blocks, as the standard's timing figures draw them."""
 
-from trace_plot_levels import runs, seen, signals
-from trace_plot_style import num
+from motion_tools.plot.levels import runs, seen, signals
+from motion_tools.plot.style import num
 
 LANE, GAP, STUB = 17, 7, 12
 HIGH, LOW = 4, 14               # where the lines stand in a lane, from above

@@ -1,0 +1,486 @@
+"""Reads tasks in Structured Text as `motion st` does, and finds what breaks a rule and where.
+
+The program reports the first line that breaks a rule, and the rule. This reader finds the token on
+that line, and what was wanted in its position. Where the two differ the program is right.
+"""
+
+import re
+from collections.abc import Iterator
+from dataclasses import dataclass, field
+from typing import NamedTuple, NoReturn, Optional
+
+from motion_tools.blocks import FLAGS, MODES, acts_on_group, keys_of
+from motion_tools.explain.faults import Fault
+from motion_tools.trace import BLOCK_KINDS
+
+WORDS = frozenset("PROGRAM VAR END_VAR END_PROGRAM BOOL DINT TRUE FALSE IF THEN ELSE END_IF CASE OF "
+                  "END_CASE AND OR NOT execute".split()) | set(FLAGS)
+TOKEN = re.compile(r"(?P<blank>[ \t\r]+)|(?P<comment>\(\*)|(?P<word>[A-Za-z][A-Za-z0-9_]*)"
+                   r"|(?P<number>[0-9]+)|(?P<sign>:=|<>|<=|>=|[:;,.()=<>+*-])")
+ORDER = ("=", "<>", "<", "<=", ">", ">=")
+MOST = 2147483647
+
+
+class Token(NamedTuple):
+    """A word, a number or a sign of a text, or its end."""
+    kind: str           # word, number, sign or end
+    text: str
+    line: int
+    column: int
+
+
+class Stop(Exception):
+    """Reading ends at a token that breaks S1 or S2."""
+
+
+@dataclass
+class Task:
+    """A task: its variables by type, and its blocks by kind and object."""
+    name: str
+    variables: dict[str, str] = field(default_factory=dict)
+    blocks: dict[str, tuple[str, str]] = field(default_factory=dict)
+
+
+def faults_of(text: str, axes: list[str], groups: dict[str, list[str]]) -> list[Fault]:
+    """What breaks a rule, in the order of the text, up to the first break of S1 or S2."""
+    reader = Reader(text, axes, groups)
+    try:
+        reader.file()
+    except Stop:
+        pass
+    return sorted(reader.faults, key=lambda fault: (fault.line, fault.rule))
+
+
+class Reader:
+    """Goes over the tokens by the grammar of docs/formats.md, one method for each line of it."""
+
+    def __init__(self, text: str, axes: list[str], groups: dict[str, list[str]]):
+        self.axes, self.groups = axes, groups
+        self.faults: list[Fault] = []
+        self.tokens = self.lexed(text)
+        self.here = self.before = Token("end", "", 0, 0)
+        self.tasks: list[Task] = []
+        self.depth = self.statements = 0
+
+    # Tokens
+
+    def lexed(self, text: str) -> Iterator[Token]:
+        """The tokens of a text; the end is a token of its last line."""
+        lines, number, column = text.split("\n"), 1, 0
+        if len(lines) > 1 and not lines[-1]:
+            lines.pop()
+        while number <= len(lines):
+            line = lines[number - 1]
+            if column >= len(line):
+                number, column = number + 1, 0
+                continue
+            found = TOKEN.match(line, column)
+            if found is None:
+                self.fail("S1", number, column, 1, f"no token begins with {line[column]!a}",
+                          line[column])
+            if found.lastgroup == "comment":
+                number, column = self.comment_end(lines, number, column)
+                continue
+            if found.lastgroup != "blank":
+                yield self.token(found, number)
+            column = found.end()
+        yield Token("end", "the end of the text", len(lines), len(lines[-1]))
+
+    def token(self, found: "re.Match[str]", line: int) -> Token:
+        """A word, number or sign; a word has at most 16 characters, or is a kind of block."""
+        text, kind = found[0], str(found.lastgroup)
+        if kind == "word" and len(text) > 16 and text not in BLOCK_KINDS:
+            self.fail("S1", line, found.start(), len(text),
+                      f"{text} has {len(text)} characters; a name has at most 16", text)
+        return Token(kind, text, line, found.start())
+
+    def comment_end(self, lines: list[str], number: int, column: int) -> tuple[int, int]:
+        """Where a comment ends; it is ASCII."""
+        start, begun, column = number, column, column + 2
+        while number <= len(lines):
+            line = lines[number - 1]
+            end = line.find("*)", column)
+            stop = len(line) if end < 0 else end
+            for place in range(column, stop):
+                if not line[place].isascii():
+                    self.fail("S1", number, place, 1, f"a comment has {line[place]!a}, which isn't "
+                              "ASCII", line[place])
+            if end >= 0:
+                return number, end + 2
+            number, column = number + 1, 0
+        self.fail("S1", start, begun, 2, "this comment has no end", "(*")
+
+    def advance(self) -> Token:
+        """Takes a token."""
+        self.before, self.here = self.here, next(self.tokens, self.here)
+        return self.before
+
+    def is_at(self, *texts: str) -> bool:
+        """Whether one of these words or signs stands next."""
+        return self.here.kind != "end" and self.here.text in texts
+
+    def take(self, text: str, wanted: str = "") -> Token:
+        """Takes this word or sign, which has to stand next."""
+        if not self.is_at(text):
+            self.unexpected(wanted or text)
+        return self.advance()
+
+    def take_kind(self, kind: str, wanted: str) -> Token:
+        """Takes a token of a kind, which has to stand next and is no word of the grammar."""
+        if self.here.kind != kind or (kind == "word" and (
+                self.here.text in WORDS or self.here.text in BLOCK_KINDS)):
+            self.unexpected(wanted)
+        return self.advance()
+
+    # Faults
+
+    def fail(self, rule: str, line: int, column: int, length: int, says: str,
+             word: str) -> NoReturn:
+        """Reading ends here."""
+        self.faults.append(Fault(rule, line, column, length, says, word))
+        raise Stop
+
+    def unexpected(self, wanted: str) -> NoReturn:
+        """The token that stands next doesn't fit the grammar."""
+        here = self.here
+        if wanted == ";":
+            says = f"a ; is missing before {here.text}"
+        else:
+            says = f"{here.text} stands where {wanted} is expected"
+        self.fail("S2", here.line, here.column, len(here.text) if here.kind != "end" else 1, says,
+                  here.text)
+
+    def blame(self, rule: str, token: Token, says: str, line: int = 0) -> None:
+        """A rule is broken at a token; of a type it is reported at its statement's line."""
+        on_line = line in (0, token.line)
+        self.faults.append(Fault(rule, line or token.line, token.column if on_line else -1,
+                                 len(token.text), says, token.text))
+
+    # The grammar
+
+    def file(self) -> None:
+        """file = task {task}"""
+        self.advance()
+        self.task()
+        while self.here.kind != "end":
+            self.task()
+        if not any(task.blocks for task in self.tasks):
+            self.blame("S6", self.here, "the text has no block")
+
+    def task(self) -> None:
+        """task = PROGRAM name VAR {decl} END_VAR {stmt} END_PROGRAM"""
+        begin = self.take("PROGRAM")
+        if len(self.tasks) == 8:
+            self.blame("S6", begin, "it is the 9th task; there are 8 at most")
+        name = self.take_kind("word", "the name of the task")
+        self.define(name, Task(""))
+        self.tasks.append(Task(name.text))
+        self.take("VAR")
+        while not self.is_at("END_VAR"):
+            self.declaration()
+        self.advance()
+        self.statements_to("END_PROGRAM")
+        self.advance()
+
+    def declaration(self) -> None:
+        """decl = name : BOOL [:= value] ; | name : DINT [:= number] ; | name : KIND ( object ) ;"""
+        task, name = self.tasks[-1], self.take_kind("word", "a declaration, or END_VAR,")
+        self.take(":")
+        kind = self.here
+        if self.is_at("BOOL", "DINT"):
+            self.advance()
+            self.define(name, task)
+            task.variables[name.text] = kind.text
+            if self.is_at(":="):
+                self.advance()
+                self.initial(kind.text)
+        elif kind.text in BLOCK_KINDS:
+            self.advance()
+            self.block(task, name, kind)
+        else:
+            self.unexpected("BOOL, DINT or a kind of block")
+        self.take(";")
+
+    def initial(self, kind: str) -> None:
+        """The first value of a variable."""
+        if kind == "BOOL":
+            if not self.is_at("TRUE", "FALSE"):
+                self.unexpected("TRUE or FALSE")
+            self.advance()
+            return
+        if self.is_at("-"):
+            self.advance()
+        self.number()
+
+    def block(self, task: Task, name: Token, kind: Token) -> None:
+        """The object of a block."""
+        self.take("(", "( with the block's axis or group")
+        on = self.take_kind("word", "the name of an axis or a group")
+        self.take(")")
+        self.define(name, task)
+        known = self.groups if acts_on_group(kind.text) else self.axes
+        what = "group" if acts_on_group(kind.text) else "axis"
+        if on.text not in known:
+            there = ", ".join(known) or f"no {what} at all"
+            self.blame("S3", on, f"{kind.text} acts on {'a group' if what == 'group' else 'an axis'}"
+                       f", and the configuration has no {what} {on.text} but {there}")
+        if sum(len(each.blocks) for each in self.tasks) == 256:
+            self.blame("S6", name, "it is the 257th block; there are 256 at most")
+        task.blocks[name.text] = (kind.text, on.text)
+
+    def define(self, name: Token, task: Task) -> None:
+        """A name is defined in a task, which nothing else may have."""
+        used = {**{axis: "an axis" for axis in self.axes},
+                **{group: "a group" for group in self.groups},
+                **{each.name: "a task" for each in self.tasks},
+                **{block: "a block" for each in self.tasks for block in each.blocks},
+                **{variable: "a variable" for variable in task.variables}}
+        if name.text in used:
+            self.blame("S3", name, f"{name.text} is the name of {used[name.text]} already")
+
+    def statements_to(self, *ends: str) -> None:
+        """{stmt}, up to one of these words."""
+        while not self.is_at(*ends):
+            if ends[-1] == "END_CASE" and self.is_branch():
+                return
+            self.statement(" or ".join(ends))
+
+    def is_branch(self) -> bool:
+        """Whether a branch of a CASE stands next."""
+        return self.here.kind == "number" or self.is_at("-")
+
+    def statement(self, ends: str) -> None:
+        """stmt = assignment | call | IF | CASE"""
+        self.statements += 1
+        if self.statements == 10_001:
+            self.blame("S6", self.here, "it is the 10,001st statement; there are 10,000 at most")
+        if self.is_at("IF", "CASE"):
+            self.nested(self.condition if self.is_at("IF") else self.case)
+            return
+        name = self.take_kind("word", f"a statement or {ends}")
+        if self.is_at("("):
+            self.call(name)
+        elif self.is_at(":="):
+            self.assignment(name)
+        else:
+            self.no_statement(name)
+        self.take(";")
+
+    def no_statement(self, name: Token) -> None:
+        """A name begins no statement: where it is unknown and on the line it is marked itself."""
+        task = self.tasks[-1]
+        if name.line != self.here.line or name.text in task.variables or name.text in task.blocks:
+            self.unexpected(":= or (")
+        self.fail("S2", name.line, name.column, len(name.text), f"{name.text} begins no statement",
+                  name.text)
+
+    def nested(self, read: "type[None] | object") -> None:
+        """Reads what may stand in itself, up to 32 deep."""
+        self.depth += 1
+        if self.depth == 33:
+            self.blame("S6", self.here, "it is the 33rd IF, CASE or parenthesis that is open")
+            raise Stop
+        read()                                                  # type: ignore[operator]
+        self.depth -= 1
+
+    def condition(self) -> None:
+        """IF expr THEN {stmt} [ELSE {stmt}] END_IF ;"""
+        begin = self.advance()
+        self.expression("BOOL", begin, "the condition of an IF")
+        self.take("THEN")
+        self.statements_to("ELSE", "END_IF")
+        if self.is_at("ELSE"):
+            self.advance()
+            self.statements_to("END_IF")
+        self.take("END_IF")
+        self.take(";")
+
+    def case(self) -> None:
+        """CASE expr OF {[-] number : {stmt}} [ELSE {stmt}] END_CASE ;"""
+        begin = self.advance()
+        self.expression("DINT", begin, "the value of a CASE")
+        self.take("OF")
+        while self.is_branch():
+            if self.is_at("-"):
+                self.advance()
+            self.number()
+            self.take(":", ": after the number of a branch")
+            self.statements_to("ELSE", "END_CASE")
+        if self.is_at("ELSE"):
+            self.advance()
+            self.statements_to("END_CASE")
+        self.take("END_CASE", "the number of a branch, ELSE or END_CASE")
+        self.take(";")
+
+    def assignment(self, name: Token) -> None:
+        """name := expr"""
+        self.advance()
+        kind = self.tasks[-1].variables.get(name.text)
+        if kind is None:
+            self.blame("S3", name, f"there is no variable {name.text} in this task")
+        self.expression(kind, name, f"the value of {name.text}")
+
+    def call(self, name: Token) -> None:
+        """name ( execute := expr {, key := value} )"""
+        block = self.tasks[-1].blocks.get(name.text)
+        if block is None:
+            others = [task.name for task in self.tasks[:-1] if name.text in task.blocks]
+            says = (f"the block {name.text} is of the task {others[0]}" if others
+                    else f"there is no block {name.text} in this task")
+            self.blame("S3", name, says)
+        self.advance()
+        self.take("execute")
+        self.take(":=")
+        self.expression("BOOL", name, "the value of execute")
+        allowed = self.allowed_keys(block)
+        while self.is_at(","):
+            self.advance()
+            self.key(name, block, allowed)
+        self.take(")", ", or )")
+
+    def allowed_keys(self, block: Optional[tuple[str, str]]) -> list[str]:
+        """The keys of a block, in their order, of which each may still come."""
+        if block is None:
+            return []
+        kind, on = block
+        count = len(self.groups.get(on, ()))
+        return [each for key in keys_of(kind)
+                for each in ([f"pos{place + 1}" for place in range(count)]
+                             if key == "pos" and acts_on_group(kind) else [key])]
+
+    def key(self, name: Token, block: Optional[tuple[str, str]], allowed: list[str]) -> None:
+        """key := value"""
+        key = self.take_kind("word", "a key, as pos, vel or acc,")
+        self.take(":=")
+        if key.text not in allowed:
+            if block:
+                keys = " ".join(self.allowed_keys(block)) or "no key but execute"
+                self.blame("S5", key, f"{key.text} comes out of order, twice, or isn't taken by "
+                           f"{block[0]}, which has {keys}")
+            if key.text in ("mode", "master"):
+                self.take_kind("word", "a name")
+            else:
+                self.expression(None, name, "")
+            return
+        del allowed[:allowed.index(key.text) + 1]
+        if key.text in ("mode", "master"):
+            self.named(key)
+        else:
+            self.expression("DINT", name, f"the value of {key.text}")
+
+    def named(self, key: Token) -> None:
+        """The value of `mode` or `master`."""
+        value = self.take_kind("word", "a mode" if key.text == "mode" else "an axis")
+        known = MODES if key.text == "mode" else self.axes
+        if value.text not in known:
+            self.blame("S3", value, f"{value.text} is no {'mode' if key.text == 'mode' else 'axis'}"
+                       f"; there are {', '.join(known)}")
+
+    # Expressions: each gives its type, None where a name is unknown
+
+    def expression(self, wanted: Optional[str], at: Token, what: str) -> None:
+        """An expression, which has to be of a type."""
+        first = self.here
+        kind = self.disjunction(at)
+        if wanted and kind and kind != wanted:
+            shown = first if first.line == at.line else at
+            self.blame("S4", shown, f"{what} is a {kind}, and has to be a {wanted}", at.line)
+
+    def operands(self, read: "object", signs: tuple[str, ...], kind: str, at: Token,
+                 once: bool = False) -> Optional[str]:
+        """Operands of one type that signs join, and the type of what they make."""
+        first = self.here
+        found = read(at)                                        # type: ignore[operator]
+        while self.is_at(*signs):
+            sign = self.advance()
+            self.operand_type(found, kind, first, sign, at)
+            first = self.here
+            other = read(at)                                    # type: ignore[operator]
+            self.operand_type(other, kind, first, sign, at)
+            found = kind
+            if once:
+                break
+        return found
+
+    def operand_type(self, found: Optional[str], wanted: str, token: Token, sign: Token,
+                     at: Token) -> None:
+        """An operand has to be of its operator's type."""
+        if found and found != wanted:
+            shown = token if token.line == at.line else at
+            self.blame("S4", shown, f"{sign.text} takes {wanted}s, and {token.text} begins a "
+                       f"{found}", at.line)
+
+    def disjunction(self, at: Token) -> Optional[str]:
+        return self.operands(self.conjunction, ("OR",), "BOOL", at)
+
+    def conjunction(self, at: Token) -> Optional[str]:
+        return self.operands(self.comparison, ("AND",), "BOOL", at)
+
+    def comparison(self, at: Token) -> Optional[str]:
+        first = self.here
+        found = self.sum(at)
+        if not self.is_at(*ORDER):
+            return found
+        sign, second = self.advance(), self.here
+        other = self.sum(at)
+        if sign.text in ("=", "<>"):
+            if found and other and found != other:
+                self.blame("S4", second if second.line == at.line else at,
+                           f"both sides of {sign.text} have one type, and here a {found} stands "
+                           f"beside a {other}", at.line)
+        else:
+            self.operand_type(found, "DINT", first, sign, at)
+            self.operand_type(other, "DINT", second, sign, at)
+        return "BOOL"
+
+    def sum(self, at: Token) -> Optional[str]:
+        return self.operands(self.product, ("+", "-"), "DINT", at)
+
+    def product(self, at: Token) -> Optional[str]:
+        return self.operands(self.unary, ("*",), "DINT", at)
+
+    def unary(self, at: Token) -> Optional[str]:
+        """un = [- | NOT] prim"""
+        if not self.is_at("-", "NOT"):
+            return self.primary(at)
+        sign, first = self.advance(), self.here
+        found, wanted = self.primary(at), "BOOL" if sign.text == "NOT" else "DINT"
+        self.operand_type(found, wanted, first, sign, at)
+        return wanted
+
+    def primary(self, at: Token) -> Optional[str]:
+        """prim = number | TRUE | FALSE | name | name . flag | ( expr )"""
+        if self.here.kind == "number":
+            self.number()
+            return "DINT"
+        if self.is_at("TRUE", "FALSE"):
+            self.advance()
+            return "BOOL"
+        if self.is_at("("):
+            self.advance()
+            kind: list[Optional[str]] = []
+            self.nested(lambda: kind.append(self.disjunction(at)))
+            self.take(")")
+            return kind[0]
+        return self.name_or_flag()
+
+    def name_or_flag(self) -> Optional[str]:
+        """A variable, or what a block shows."""
+        task, name = self.tasks[-1], self.take_kind("word", "a value")
+        if not self.is_at("."):
+            if name.text not in task.variables:
+                self.blame("S3", name, f"there is no variable {name.text} in this task")
+            return task.variables.get(name.text)
+        self.advance()
+        if not self.is_at(*FLAGS):
+            self.unexpected("busy, active, done, aborted, error or reached")
+        self.advance()
+        if name.text not in task.blocks:
+            self.blame("S3", name, f"there is no block {name.text} in this task")
+        return "BOOL"
+
+    def number(self) -> None:
+        """A number, up to the greatest DINT."""
+        token = self.take_kind("number", "a whole number")
+        if int(token.text) > MOST:
+            self.blame("S5", token, f"{token.text} is above {MOST}, the greatest DINT")

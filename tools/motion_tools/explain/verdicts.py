@@ -1,0 +1,63 @@
+"""What `motion` writes beside traces: verdicts of check, statuses in words, reports and edges."""
+
+from motion_tools.explain import hints
+from motion_tools.explain.findings import Finding
+from motion_tools.trace import FORMS, FORMS_OF_VERSION
+
+STATUS_OF = {"usage:": 2, "cannot": 4, "too": 5, "thread": 7}
+COMMANDS = {
+    "bench": "bench FILE", "run": "run CONFIG PROGRAM", "check": "check TRACE", "gen": "gen SEED",
+    "migrate": "migrate TRACE", "st": "st CONFIG FILE", "switches": "switches TRACE FILE",
+    "standby": "standby FILE CUT", "scope": "scope TRACE WORKERS"}
+
+
+def verdict_findings(files: list[str], output: list[str]) -> tuple[list[Finding], str]:
+    """The findings of an output that is no trace."""
+    words = output[0].split()
+    first = words[0] if words else ""
+    if first == "legal":
+        return [Finding("note", "", f"the trace is legal: the replay gives all its {words[1]} calls, "
+                        "cycles and ends")], ""
+    if first == "illegal":
+        return [illegal(files, [line.rstrip("\r\n") for line in output])], ""
+    if first in STATUS_OF:
+        number = STATUS_OF[first]
+        name, means, cure = hints.status(number)
+        found = Finding("error", f"status {number}", f"{output[0].strip()} ({name}: {means})", cure)
+        if number == 2:
+            found.says = f"{means}; the forms are " + ", ".join(
+                f"motion {form}" for form in COMMANDS.values())
+        return [found], ""
+    if first in ("gen", "axis", "block") or len(words) == 3 and words[2] in ("on", "off"):
+        return [Finding("note", "", "the command did all that was asked")], "".join(output)
+    return [Finding("note", "", f"this is no output of motion: {output[0].strip()[:60]}",
+                    "give what motion run, st, bench or check wrote")], ""
+
+
+def illegal(files: list[str], output: list[str]) -> Finding:
+    """A trace that differs from its replay: the record, and which fields differ."""
+    record = output[0].split()[1]
+    expected, found = (line.split(" ", 1)[1].split(",") if " " in line else []
+                       for line in (output[1:3] + ["", ""])[:2])
+    _, _, cure = hints.status(1)
+    file = next(iter(files), "")
+    if not any(expected):
+        return Finding("error", "illegal", f"record {record} has no room in the history, or is a "
+                       "cycle too many", cure, file=file, text=",".join(found))
+    names = names_of(expected)
+    differences = [f"the {name} is {got or 'empty'}, and the replay gives {wanted or 'empty'}"
+                   for name, wanted, got in zip(names, expected, found) if wanted != got]
+    line = ",".join(found)
+    place = next((index for index, (wanted, got) in enumerate(zip(expected, found))
+                  if wanted != got), 0)
+    column = len(",".join(found[:place])) + (place > 0)
+    return Finding("error", "illegal", f"record {record} ({expected[0]}): "
+                   + ("; ".join(differences) or "it differs"), cure, "", file, 0, column + 1,
+                   max(1, len(found[place]) if found else 1), line)
+
+
+def names_of(record: list[str]) -> list[str]:
+    """The names of a record's fields."""
+    forms = {**FORMS, **FORMS_OF_VERSION[2]}
+    names = ["kind", *(name for name, _ in forms.get(record[0], []))]
+    return names + [f"field {place + 1}" for place in range(len(names), 12)]

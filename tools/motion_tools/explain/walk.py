@@ -1,0 +1,120 @@
+"""Where the tasks of a program stand: goes along its lines by the calls of a trace."""
+
+import re
+from dataclasses import dataclass, field
+from typing import Optional
+
+from motion_tools.blocks import LETTERS
+from motion_tools.trace import Call
+
+
+@dataclass
+class Instruction:
+    """A line of a task: call, wait, repeat or again."""
+    line: int
+    verb: str
+    words: list[str]
+    text: str
+
+
+@dataclass
+class Remark:
+    """Something of a call at a line: a call without a rising edge, or a wait that ended otherwise."""
+    kind: str
+    cycle: int
+    line: int
+    text: str
+    block: str
+    detail: str = ""
+
+
+@dataclass
+class Standing:
+    """A task, and where it is in its lines."""
+
+    name: str
+    instructions: list[Instruction] = field(default_factory=list)
+    blocks: dict[str, tuple[int, str]] = field(default_factory=dict)    # line and kind
+    place: int = 0
+    rounds: int = 0                 # of the repeat that is open, how many are left
+    begin: int = 0                  # where its lines begin
+    execute: dict[str, bool] = field(default_factory=dict)
+    called: dict[str, Instruction] = field(default_factory=dict)
+    last: Optional[Call] = None
+    remarks: list[Remark] = field(default_factory=list)
+
+    def here(self) -> Optional[Instruction]:
+        """The call or the wait at which the task stands; None where it has come to its end."""
+        while self.place < len(self.instructions):
+            line = self.instructions[self.place]
+            if line.verb == "repeat":
+                self.rounds, self.begin = int(line.words[1]), self.place + 1
+            elif line.verb == "again":
+                self.rounds -= 1
+                if self.rounds > 0:
+                    self.place = self.begin
+                    continue
+            else:
+                return line
+            self.place += 1
+        return None
+
+    def take(self, cycle: int, call: Call) -> None:
+        """Goes on by a call of one of the task's blocks."""
+        line = self.here()
+        if line is None or line.words[1] != call.block:
+            return
+        self.last = call
+        if line.verb == "call":
+            self.make(cycle, line, call)
+            self.place += 1
+            return
+        letter = LETTERS[line.words[2]]
+        if letter in call.outputs:
+            self.place += 1
+        elif "C" in call.outputs or "E" in call.outputs:
+            ended = f"error {call.error}" if "E" in call.outputs else "CommandAborted"
+            self.remarks.append(Remark("wait-ended", cycle, line.line, line.text, call.block, ended))
+            self.place += 1
+
+    def make(self, cycle: int, line: Instruction, call: Call) -> None:
+        """A call of a line: on again without an off before is no rising edge."""
+        kind = self.blocks.get(call.block, (0, ""))[1]
+        if call.execute and self.execute.get(call.block) and kind != "Power":
+            self.remarks.append(Remark("no-edge", cycle, line.line, line.text, call.block))
+        self.execute[call.block] = call.execute
+        self.called[call.block] = line
+
+
+class Walk:
+    """The tasks of a program, and where they stand."""
+
+    def __init__(self, text: str):
+        self.tasks: dict[str, Standing] = {}
+        self.owner: dict[str, Standing] = {}
+        task: Optional[Standing] = None
+        for number, raw in enumerate(text.splitlines(), 1):
+            words = raw.split("#")[0].split()
+            if words[:1] == ["task"] and len(words) == 2:
+                task = self.tasks.setdefault(words[1], Standing(words[1]))
+            elif task and words[:1] == ["block"] and len(words) == 4:
+                task.blocks[words[1]] = (number, words[2])
+                self.owner[words[1]] = task
+            elif task and words and words[0] in ("call", "wait", "repeat", "again"):
+                task.instructions.append(Instruction(number, words[0], words, raw.strip()))
+
+    def take(self, cycle: int, call: Call) -> None:
+        """Goes on by a call."""
+        if call.block in self.owner:
+            self.owner[call.block].take(cycle, call)
+
+    def line_of(self, block: str) -> Optional[Instruction]:
+        """The line whose call of a block was made last."""
+        return self.owner[block].called.get(block) if block in self.owner else None
+
+
+def mode_is_given(text: str, block: str) -> bool:
+    """Whether a program, a bench or a text in Structured Text gives a block the mode aborting in
+    words."""
+    return bool(re.search(rf"\bcall\s+{block}\s+on\b[^#\n]*\bmode=aborting\b", text)
+                or re.search(rf"\b{block}\s*\([^;]*\bmode\s*:=\s*aborting\b", text))

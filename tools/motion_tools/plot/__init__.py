@@ -1,0 +1,1 @@
+"""Pictures of a trace: an SVG, or a page with zoom and a cursor."""
