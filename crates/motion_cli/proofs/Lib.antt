@@ -6,4 +6,4 @@ pub mod FaultLaws
 pub mod CompleteLaws
 pub mod TraceLaws
 pub mod AskedLaws
-pub mod BenchLaws
+pub mod WrittenLaws

@@ -1,9 +1,19 @@
 // Laws of the program: each is the contract of a function that does nothing.
 
-ghost use Rattle.motion_cli.specs.Again.{BenchTracesAreLegal};
+ghost use Rattle.motion_cli.specs.Again.{BenchTracesAreLegal, RunTracesAreLegal, StTracesAreLegal};
 
 /// What is read of the trace that `motion bench` wrote is a legal trace; so `motion check` answers
 /// Legal on it. Nothing runs.
 pub fn bench_traces_are_legal()
     ensures { BenchTracesAreLegal }
+{}
+
+/// The same of the trace that `motion run` wrote. Nothing runs.
+pub fn run_traces_are_legal()
+    ensures { RunTracesAreLegal }
+{}
+
+/// The same of the trace that `motion st` wrote. Nothing runs.
+pub fn st_traces_are_legal()
+    ensures { StTracesAreLegal }
 {}

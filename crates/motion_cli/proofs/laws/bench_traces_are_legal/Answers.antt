@@ -1,6 +1,10 @@
 -- Its history is legal, and its drives took an output in each cycle.
-use Rattle.motion_cli.proofs.BenchLaws.{bench-legal}
+use Rattle.bench_run.specs.InStep.{drives_of}
+use Rattle.trace_text.specs.declared.command.Command.TheVariants.{Bench}
+use Rattle.motion_cli.proofs.WrittenLaws.{written-legal}
 use Rattle.motion_cli.proofs.laws.bench_traces_are_legal.Goals as goal
 
 pub returns : goal.returns
-returns c = bench-legal
+returns c = λ files name old new h.
+    written-legal h.bench.version Bench h.bench.config h.history h.drives (drives_of h.bench h.history)
+    h.legal h.taken
