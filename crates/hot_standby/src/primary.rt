@@ -67,9 +67,11 @@ impl PrimaryKernel {
     /// Calls a block, as `Kernel::call` does.
     pub fn call(&mut self, task: u8, instance: u16, inputs: &Inputs) -> Outputs
         requires room { length self.old.kernel.history < room_of self.old.kernel }
-        requires task { IsSomeAnd (slice_get self.old.kernel.config.blocks instance) (λ b. b.task ≡ task) }
+        requires task { IsSomeAnd (slice_get self.old.kernel.config.blocks instance)
+            (λ b. b.task ≡ task) }
         requires call { IsCall self.old.kernel.config instance inputs.now }
-        ensures reply { result ≡ reply_of self.old.kernel.config (state_of self.old.kernel) instance inputs.now }
+        ensures reply { result ≡
+            reply_of self.old.kernel.config (state_of self.old.kernel) instance inputs.now }
         ensures after { self.new ≡ record self.old {
           kernel = record self.old.kernel {
             history = self.old.kernel.history ++ call instance inputs.now result ∷ [];
