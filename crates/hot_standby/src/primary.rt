@@ -27,8 +27,8 @@ const NO_ANSWER: DriveIn = DriveIn {
     actual: 0,
 };
 
-/// A kernel that a standby may follow. Contracts see it as the kernel, whichever of the two it is, and
-/// as the number of events behind which the standby takes its place.
+/// A kernel that a standby may follow. Contracts see it as the kernel, whichever of the two it is,
+/// and as the number of events after which the standby takes its place.
 #[derive(Drop)]
 pub struct PrimaryKernel {
     kernel: Kernel,
