@@ -1,4 +1,5 @@
-/* A test of fields: each stands where the library reads or writes it. A call gives each input a value of
+/* A test of fields and numbers: each field stands where the library reads or writes it, and each name has
+ * the number that the library answers. A call gives each input a value of
  * its own, which the trace's record of the call then has in its column; each mode, by its number, is the
  * one of its name; outputs and rows have their values. Silent where all is as expected. A program of C11,
  * for the offsets; sizes are those of a machine of 64 bits. */
@@ -58,6 +59,50 @@ AT(motion_refusal, line, 0);
 AT(motion_refusal, letter, 8);
 AT(motion_refusal, number, 9);
 SIZE(motion_refusal, 16);
+
+#define IS(name, number) _Static_assert((name) == (number), #name " isn't " #number)
+
+IS(MOTION_OK, 0);
+IS(MOTION_CLOSED, 1);
+IS(MOTION_OPEN, 2);
+IS(MOTION_NO_MEMORY, 3);
+IS(MOTION_REFUSED, 4);
+IS(MOTION_UNKNOWN, 5);
+IS(MOTION_LENGTH, 6);
+IS(MOTION_RANGE, 7);
+IS(MOTION_FULL, 8);
+IS(MOTION_OVER, 9);
+IS(MOTION_NO_CYCLE, 10);
+IS(MOTION_NULL, 11);
+IS(MOTION_OTHER, 12);
+IS(MOTION_LATER, 13);
+IS(MOTION_NO_NUMBER, 4294967295);
+
+IS(MOTION_DISABLED, 0);
+IS(MOTION_STANDSTILL, 1);
+IS(MOTION_HOMING, 2);
+IS(MOTION_STOPPING, 3);
+IS(MOTION_DISCRETE_MOTION, 4);
+IS(MOTION_CONTINUOUS_MOTION, 5);
+IS(MOTION_SYNCHRONIZED_MOTION, 6);
+IS(MOTION_ERROR_STOP, 7);
+
+IS(MOTION_GROUP_DISABLED, 0);
+IS(MOTION_GROUP_STANDBY, 1);
+IS(MOTION_GROUP_MOVING, 2);
+IS(MOTION_GROUP_HOMING, 3);
+IS(MOTION_GROUP_STOPPING, 4);
+IS(MOTION_GROUP_ERROR_STOP, 5);
+
+IS(MOTION_ABORTING, 0);
+IS(MOTION_BUFFERED, 1);
+IS(MOTION_BLENDING_LOW, 2);
+IS(MOTION_BLENDING_PREVIOUS, 3);
+IS(MOTION_BLENDING_NEXT, 4);
+IS(MOTION_BLENDING_HIGH, 5);
+
+IS(MOTION_MOST_AXES, 16);
+IS(MOTION_MOST_GROUPS, 4);
 
 static const char machine[] =
     "motion-bench 2\n"
@@ -160,17 +205,13 @@ static void modes(void)
         "call,M,1,0,2,0,0,0,blendingLow,",      "call,M,1,0,3,0,0,0,blendingPrevious,",
         "call,M,1,0,4,0,0,0,blendingNext,",     "call,M,1,0,5,0,0,0,blendingHigh,",
     };
-    static const uint32_t numbers[] = { MOTION_ABORTING,          MOTION_BUFFERED,
-                                        MOTION_BLENDING_LOW,      MOTION_BLENDING_PREVIOUS,
-                                        MOTION_BLENDING_NEXT,     MOTION_BLENDING_HIGH };
     motion m = MOTION_NONE;
     motion_inputs in = nothing;
     uint32_t i;
     open_machine(&m);
     in.execute = 1;
     for (i = 0; i < 6; i++) {
-        want("the mode's number", numbers[i], i);
-        in.mode = numbers[i];
+        in.mode = i;
         in.velocity = i;
         call(&m, M, &in);
     }

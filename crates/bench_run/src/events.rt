@@ -38,8 +38,10 @@ const NO_OUTPUT: DriveOut = DriveOut {
 #[tactic(auto, unfolding(crate::specs::Run::room_for))]
 fn room_for(kernel: &PrimaryKernel, is_cycle: bool) -> Result<(), RunFault>
     requires { kernel.now.kernel.stopped ≡ false }
-    ensures value { result ≡ spec.room_for kernel.now.kernel.config kernel.now.kernel.history is_cycle }
-    ensures room { OnOk result (length kernel.now.kernel.history < kernel.now.kernel.config.entries) }
+    ensures value { result ≡
+        spec.room_for kernel.now.kernel.config kernel.now.kernel.history is_cycle }
+    ensures room { OnOk result
+        (length kernel.now.kernel.history < kernel.now.kernel.config.entries) }
     ensures cycle { OnOk result (IsTrue is_cycle →
         cycles_of kernel.now.kernel.history < kernel.now.kernel.config.cycles) }
 {
@@ -77,7 +79,8 @@ pub fn make_cycle(kernel: &mut PrimaryKernel, drives: &mut [Drive]) -> Result<()
     requires going { IsGoing kernel.old.kernel drives.old }
     ensures config { kernel.new.kernel.config ≡ kernel.old.kernel.config }
     ensures made { run_at kernel.new.kernel drives.new result ≡
-        spec.made kernel.old.kernel.config spec.a_cycle (run_at kernel.old.kernel drives.old (Ok tt)) }
+        spec.made kernel.old.kernel.config spec.a_cycle
+        (run_at kernel.old.kernel drives.old (Ok tt)) }
     ensures going { IsGoing kernel.new.kernel drives.new }
 {
     room_for(kernel, true)?;

@@ -2,8 +2,8 @@
 use Rattle.std.specs.Prelude.{ℕ, Option, Some, None}
 use Rattle.motion_kernel.specs.KernelState.{KernelState}
 
--- a kernel, and behind how many of its events a standby that followed it takes its place: 0 where none
--- follows. As long as its history is shorter, a standby follows
+-- a kernel, and after how many of its events a standby that followed it takes its place: 0 where
+-- none follows. As long as its history is shorter, a standby follows
 pub record Primary : Type 0 where
   pub kernel : KernelState
   pub cut : ℕ

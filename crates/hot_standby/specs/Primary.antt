@@ -6,7 +6,7 @@ use Rattle.hot_standby.specs.Primaries.{Primary}
 use Rattle.hot_standby.specs.declared.follower.Follower.{Follower}
 use Rattle.hot_standby.specs.declared.primary.PrimaryKernel.TheInside.{Inside}
 
--- it is seen as the kernel, and as the number of events behind which the standby takes its place
+-- it is seen as the kernel, and as the number of events after which the standby takes its place
 abbrev pub primary_of : Inside → Primary
 primary_of p = record { kernel = p.kernel; cut = p.cut }
 

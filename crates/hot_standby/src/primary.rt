@@ -27,8 +27,8 @@ const NO_ANSWER: DriveIn = DriveIn {
     actual: 0,
 };
 
-/// A kernel that a standby may follow. Contracts see it as the kernel, whichever of the two it is, and
-/// as the number of events behind which the standby takes its place.
+/// A kernel that a standby may follow. Contracts see it as the kernel, whichever of the two it is,
+/// and as the number of events after which the standby takes its place.
 #[derive(Drop)]
 pub struct PrimaryKernel {
     kernel: Kernel,
@@ -67,12 +67,16 @@ impl PrimaryKernel {
     /// Calls a block, as `Kernel::call` does.
     pub fn call(&mut self, task: u8, instance: u16, inputs: &Inputs) -> Outputs
         requires room { length self.old.kernel.history < room_of self.old.kernel }
-        requires task { IsSomeAnd (slice_get self.old.kernel.config.blocks instance) (λ b. b.task ≡ task) }
+        requires task { IsSomeAnd (slice_get self.old.kernel.config.blocks instance)
+            (λ b. b.task ≡ task) }
         requires call { IsCall self.old.kernel.config instance inputs.now }
-        ensures reply { result ≡ reply_of self.old.kernel.config (state_of self.old.kernel) instance inputs.now }
-        ensures after { self.new ≡ record self.old { kernel = record self.old.kernel {
-          history = self.old.kernel.history ++ call instance inputs.now result ∷ [];
-        } } }
+        ensures reply { result ≡
+            reply_of self.old.kernel.config (state_of self.old.kernel) instance inputs.now }
+        ensures after { self.new ≡ record self.old {
+          kernel = record self.old.kernel {
+            history = self.old.kernel.history ++ call instance inputs.now result ∷ [];
+          };
+        } }
     {
         let reply = self.kernel.call(task, instance, inputs);
         let event = FedEvent::Call {
@@ -92,12 +96,14 @@ impl PrimaryKernel {
         requires outs { length outs.old ≡ length self.old.kernel.config.axes }
         ensures outs { outs.new ≡ map (λ (r : AxisRow). r.output) (cycled self.old.kernel.config
             (state_of self.old.kernel) ins.now).axes }
-        ensures after { self.new ≡ record self.old { kernel = record self.old.kernel {
-          history = self.old.kernel.history ++
-              cycle (cycles_of self.old.kernel.history + 1) (cycled self.old.kernel.config
-              (state_of self.old.kernel) ins.now).axes
-              (cycled self.old.kernel.config (state_of self.old.kernel) ins.now).groups ∷ [];
-        } } }
+        ensures after { self.new ≡ record self.old {
+          kernel = record self.old.kernel {
+            history = self.old.kernel.history ++
+                cycle (cycles_of self.old.kernel.history + 1) (cycled self.old.kernel.config
+                (state_of self.old.kernel) ins.now).axes
+                (cycled self.old.kernel.config (state_of self.old.kernel) ins.now).groups ∷ [];
+          };
+        } }
     {
         // a sound configuration has at most sixteen axes
         let _ = self.kernel.config().axes();
@@ -110,9 +116,11 @@ impl PrimaryKernel {
     pub fn end(&mut self, task: u8)
         requires room { length self.old.kernel.history < room_of self.old.kernel }
         requires task { task < length self.old.kernel.config.tasks }
-        ensures { self.new ≡ record self.old { kernel = record self.old.kernel {
-          history = self.old.kernel.history ++ end_of task ∷ [];
-        } } }
+        ensures { self.new ≡ record self.old {
+          kernel = record self.old.kernel {
+            history = self.old.kernel.history ++ end_of task ∷ [];
+          };
+        } }
     {
         self.kernel.end(task);
         let event = FedEvent::End { task };
