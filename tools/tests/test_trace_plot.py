@@ -222,6 +222,31 @@ class Pictures(unittest.TestCase):
         self.assertEqual(data["sections"][4]["lines"]["velocity"][0][9:],
                          [1, None, None, None, None, None, None, 0])
 
+    def test_what_is_asked_for(self):
+        cell = EXAMPLES / "cell" / "cell.trace"
+        for words, wanted in ((("--following",), ["following error", "following"]),
+                              (("--bits",), ["statusword", "operation enabled", "fault reset"]),
+                              (("--together", "BELT,FEEDER"), ["BELT and FEEDER"]),
+                              (("--overlay", EXAMPLES / "gear" / "gear.trace"), ["gear"])):
+            status, text, _ = plot(cell, *words)
+            self.assertEqual(status, 0, words)
+            told = "".join(ElementTree.fromstring(text).itertext())
+            for each in wanted:
+                self.assertIn(each, told)
+        for words in (("--together", "BELT"), ("--together", "BELT,Q")):
+            self.assertEqual(plot(cell, *words)[0], 2, words)
+        self.assertEqual(plot(cell, "--overlay", "no_such_file")[0], 4)
+
+    def test_two_units_in_one_panel(self):
+        _, text, _ = plot(EXAMPLES / "cell" / "cell.trace", "--together", "BELT,FEEDER", "--scale",
+                          "BELT=0.001mm", "--scale", "FEEDER=0.1deg")
+        self.assertIn(b"FEEDER [deg]", text)
+
+    def test_following_error(self):
+        lane = read(row(1, 2, place=0), row(2, 6, place=1), row(3, 9, place=4)).axes["X"].lane
+        self.assertEqual([column[reader.FOLLOWING] for column in lane.columns], [0, 1, 2])
+        self.assertEqual([column[reader.REPORTED_VELOCITY] for column in lane.columns], [None, 1, 3])
+
     def test_long_trace(self):
         lines = HEAD + [line for cycle in range(1, 20001) for line in row(cycle, cycle % 300)] + END
         text = "\n".join(lines).encode()

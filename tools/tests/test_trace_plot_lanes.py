@@ -161,7 +161,7 @@ class Edges(unittest.TestCase):
             self.assertIn(f": line {line}: ", fault)
 
     def test_words(self):
-        self.assertEqual(self.drawn(["A 2 on"], "--html")[0], 2)
+        self.assertEqual(self.drawn(["A 2 on"], "--html")[0], 0)
         self.assertEqual(plot(self.GUN.with_suffix(".trace"), "--edges", "no_such_file")[0], 4)
 
 

@@ -7,6 +7,8 @@ import unittest
 from page_driver import BROWSER, drive, page_of
 from tool_runner import CELL, EXAMPLES, HOMED
 
+GLUE = EXAMPLES / "glue-gun" / "glue-gun.trace"
+
 
 @unittest.skipUnless(BROWSER, "there is no Chromium to drive the page in")
 class Page(unittest.TestCase):
@@ -192,6 +194,94 @@ class Page(unittest.TestCase):
               .map(text => text.textContent);""")
         self.assertEqual(len(told), 5)
         self.assertIn("ErrorStop error 101 in cycles 11 to 12", told[4])
+
+
+@unittest.skipUnless(BROWSER, "there is no Chromium to drive the page in")
+class More(unittest.TestCase):
+    """The event table, the values between the cursors, pairs of axes, overlays, switches, words."""
+
+    def test_events(self):
+        told = drive(page_of(GLUE, "--edges", GLUE.with_suffix(".edges")), """
+            const rows = () => [...document.querySelectorAll("#events tbody tr")];
+            const texts = () => rows().map(row => [...row.children].map(cell => cell.textContent));
+            const all = texts().length, kinds = [...eventKind.options].map(option => option.value);
+            eventKind.value = "Edge"; eventKind.onchange();
+            eventText.value = "lamp"; eventText.oninput();
+            const found = texts();
+            rows()[1].click();
+            await drawn();
+            return [all, kinds, found, cursorAt(), rows().map(row => row.className),
+              document.getElementById("eventCount").textContent];""")
+        self.assertEqual(told[0], 16)
+        self.assertEqual(told[1], ["", "Call", "Edge", "Done"])
+        self.assertEqual(told[2][:2], [["15", "", "LAMP", "Edge", "LAMP goes on"],
+                                       ["20", "", "LAMP", "Edge", "LAMP goes off"]])
+        self.assertEqual(told[3:], [20, ["", "now", "", ""], "4 of 16"])
+
+    def test_switches(self):
+        told = drive(page_of(GLUE, "--edges", GLUE.with_suffix(".edges")), """
+            const lanes = sections[1].lanes;
+            return [sections[1].title, lanes.map(each => each.signals[0][0]),
+              lanes.every(each => each.canvas.offsetHeight > 10), lanes[0].runs];""")
+        self.assertEqual(told[:3], ["Switches", ["GUN", "LAMP", "CAMERA"], True])
+        edges = [line.split() for line in GLUE.with_suffix(".edges").read_text().splitlines()]
+        first = next(int(cycle) for name, cycle, _ in edges if name == "GUN")
+        self.assertEqual(told[3][1][0], first - 1)
+
+    def test_least_greatest_and_mean(self):
+        told = drive(page_of(CELL), """
+            const belt = sections[3];
+            pin(4);
+            pointer("pointermove", belt, 10);
+            const text = belt.stats.textContent;
+            pin(null);
+            return [text, belt.stats.textContent];""")
+        self.assertIn("position least 18, greatest 46, mean 33", told[0])
+        self.assertIn("velocity least 3, greatest 6, mean 4.857143 units/cycle", told[0])
+        self.assertEqual(told[1], "")
+
+    def test_following_error(self):
+        told = drive(page_of(CELL), """
+            const names = () => sections[4].panels.map(panel => panel.name);
+            const before = names(), height = sections[4].canvas.offsetHeight;
+            document.getElementById("following").click();
+            await drawn();
+            pointer("pointermove", sections[4], 6);
+            return [before, names(), sections[4].canvas.offsetHeight - height,
+              sections[4].lines.following[0].slice(0, 10), sections[4].read.textContent];""")
+        self.assertEqual(told[0], ["position", "velocity", "acceleration"])
+        self.assertEqual(told[1], [*told[0], "following"])
+        self.assertGreater(told[2], 50)
+        self.assertEqual(max(value for value in told[3] if value is not None), 3)
+        self.assertIn("following ", told[4])
+
+    def test_two_axes_in_one_panel(self):
+        told = drive(page_of(CELL, "--together", "BELT,FEEDER"), """
+            const shown = [together.figure.hidden, together.head.textContent];
+            pairA.value = "";
+            pairA.onchange();
+            await drawn();
+            return [...shown, together.figure.hidden];""")
+        self.assertEqual(told, [False, "BELT and FEEDER", True])
+
+    def test_overlay(self):
+        told = drive(page_of(CELL, "--overlay", GLUE), """
+            const belt = sections[3];
+            return [belt.other.lines.position[0].length, sections[1].other,
+              belt.shownRange(belt.panels[0], false, 0, 17), document.getElementById("legend").textContent];""")
+        self.assertEqual(told[:2], [50, None])
+        self.assertGreater(told[2][1], 200)
+        self.assertIn("glue-gun", told[3])
+
+    def test_bits_of_words(self):
+        told = drive(page_of(CELL, "--bits"), """
+            const lanes = sections[4].lanes.filter(each => each.shown === "bits");
+            return lanes.map(each => [each.name, each.canvas.offsetHeight > 20,
+              each.signals.map(([name]) => name)]);""")
+        self.assertEqual([name for name, *_ in told], ["statusword", "controlword"])
+        self.assertTrue(told[0][1] and told[1][1])
+        self.assertIn("fault", told[0][2])
+        self.assertIn("fault reset", told[1][2])
 
 
 class Text(unittest.TestCase):

@@ -86,6 +86,11 @@ def rule(name: str) -> tuple[str, str]:
     return says, cure
 
 
+def commands() -> dict[str, tuple[str, str]]:
+    """The commands of motion: the words of each, and what it does."""
+    return {name: (words, does) for name, (words, does) in texts()["command"].items()}
+
+
 def status(number: int) -> tuple[str, str, str]:
     """The name of a status, what it means, and what to do."""
     name, means, cure = texts()["status"][str(number)]

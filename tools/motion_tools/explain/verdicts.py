@@ -5,10 +5,6 @@ from motion_tools.explain.findings import Finding
 from motion_tools.trace import FORMS, FORMS_OF_VERSION
 
 STATUS_OF = {"usage:": 2, "cannot": 4, "too": 5, "thread": 7}
-COMMANDS = {
-    "bench": "bench FILE", "run": "run CONFIG PROGRAM", "check": "check TRACE", "gen": "gen SEED",
-    "migrate": "migrate TRACE", "st": "st CONFIG FILE", "switches": "switches TRACE FILE",
-    "standby": "standby FILE CUT", "scope": "scope TRACE WORKERS"}
 
 
 def verdict_findings(files: list[str], output: list[str]) -> tuple[list[Finding], str]:
@@ -26,7 +22,7 @@ def verdict_findings(files: list[str], output: list[str]) -> tuple[list[Finding]
         found = Finding("error", f"status {number}", f"{output[0].strip()} ({name}: {means})", cure)
         if number == 2:
             found.says = f"{means}; the forms are " + ", ".join(
-                f"motion {form}" for form in COMMANDS.values())
+                f"motion {name} {form}" for name, (form, _) in hints.commands().items())
         return [found], ""
     if first in ("gen", "axis", "block") or len(words) == 3 and words[2] in ("on", "off"):
         return [Finding("note", "", "the command did all that was asked")], "".join(output)

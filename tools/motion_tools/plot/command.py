@@ -14,6 +14,7 @@ output that can't be written with 6, a faulty command line with 2.
 
 import argparse
 import sys
+from pathlib import Path
 
 from motion_tools import command
 from motion_tools.plot import html, svg
@@ -38,7 +39,16 @@ def parser() -> argparse.ArgumentParser:
                              "timing figures have them")
     words.add_argument("--edges", metavar="FILE",
                         help="the edges of digital cam switches in this trace, as `motion "
-                             "switches` writes them: lanes of the SVG")
+                             "switches` writes them: a lane for each")
+    words.add_argument("--following", action="store_true",
+                        help="a lane of the following error, and the velocity that the drive reports")
+    words.add_argument("--bits", action="store_true",
+                        help="lanes of the bits of statusword and controlword")
+    words.add_argument("--together", metavar="X,Y", action="append", default=[],
+                        help="two to four axes in one panel; may be given several times")
+    words.add_argument("--overlay", metavar="TRACE",
+                        help="a second trace, whose lines are drawn dotted below those of its axes of "
+                             "the same names")
     words.add_argument("--title", help="the title; left out, the trace's axes and cycles")
     command.add_range(words, "drawn")
     words.add_argument("--width", type=int, default=1100,
@@ -60,14 +70,24 @@ def check_words(parser: argparse.ArgumentParser, given: argparse.Namespace) -> N
         parser.error("--columns is from 256 to 1000000")
     if given.output is None and sys.stdout.isatty():
         parser.error("the picture wants a file, as -o picture.svg, and not a terminal")
-    if given.edges is not None and given.html:
-        parser.error("--edges are drawn in an SVG alone")
 
 
-def trace_of(given: argparse.Namespace) -> Trace:
-    """The trace of the words, with as many columns as the picture can use."""
+def trace_of(given: argparse.Namespace, name: str) -> Trace:
+    """A trace, with as many columns as the picture can use."""
     limit = given.columns if given.html else 2 * given.width
-    return read_trace(lines_of(given.trace), *command.range_of(given), limit)
+    return read_trace(lines_of(name), *command.range_of(given), limit, given.bits)
+
+
+def together_of(given: argparse.Namespace, trace: Trace) -> list[list[str]]:
+    """The axes that share panels. Raises LookupError."""
+    found = [names.split(",") for names in given.together]
+    for names in found:
+        for name in names:
+            if name not in trace.axes:
+                raise LookupError(f"--together {','.join(names)}: the trace has no axis {name}")
+        if not 2 <= len(names) <= 4:
+            raise LookupError("--together takes two to four axes, as X,Y")
+    return found
 
 
 def title_of(trace: Trace) -> str:
@@ -82,17 +102,17 @@ def title_of(trace: Trace) -> str:
 def picture_of(trace: Trace, units: Units, given: argparse.Namespace) -> str:
     """The text of the picture that is asked for."""
     title = given.title if given.title is not None else title_of(trace)
-    if given.html:
-        return html.page(trace, units, title, given.whole_limits, given.outputs)
     switches = None if given.edges is None else read_edges(lines_of(given.edges))
+    overlay = trace_of(given, given.overlay) if given.overlay else None
     sheet = Sheet(trace, units, DARK if given.dark else LIGHT, given.width, given.whole_limits,
-                  given.outputs)
-    return svg.svg(sheet, title, switches)
+                  given.outputs, given.following, given.bits, overlay,
+                  Path(given.overlay).stem if given.overlay else "", together_of(given, trace))
+    return html.page(sheet, title, switches) if given.html else svg.svg(sheet, title, switches)
 
 
 def turn(given: argparse.Namespace) -> None:
     """Reads the trace and writes its picture; a fault of the trace is raised after that."""
-    trace = trace_of(given)
+    trace = trace_of(given, given.trace)
     text = picture_of(trace, command.units_for(given, set(trace.axes)), given)
     with open(given.output or 1, "w", encoding="utf-8", newline="\n") as target:
         target.write(text)

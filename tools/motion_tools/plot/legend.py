@@ -44,7 +44,11 @@ def legend(sheet):
              "within limits": swatch(f'{frame}"{sheet.theme["band"]}"'),
              "beyond": swatch(f'{frame}"{sheet.theme["panel"]}"'),
              "error": swatch(f'{frame}"url(#hatch)"'), **{kind: shape(kind) for kind in KINDS}}
-    seen = seen_in(sheet.trace)
+    if sheet.following:
+        drawn["following error"] = line("following")
+    if sheet.overlay:
+        drawn[sheet.overlay_name] = line("overlay")
+    seen = seen_in(sheet.trace) | {"following error", sheet.overlay_name}
     return [(draw, words) for words, draw in drawn.items() if words in seen] + [
         (swatch(f'{frame}"{STATE_COLOURS[state]}"'), state) for state in states_seen(sheet.trace)]
 

@@ -3,10 +3,18 @@
 from array import array
 from dataclasses import dataclass, field
 
+from motion_tools.blocks import reached_name
+
+BITS = 0xffff
 LETTERS = "BADCER"
 OUTPUTS = ("Busy", "Active", "Done", "CommandAborted", "Error")
-REACHED = {"Power": "Status", "MoveVelocity": "InVelocity", "GearIn": "InGear", "CamIn": "InSync"}
-CHANGED = 8     # how far the bits that changed within a column stand left of those at its end
+STATUSWORD = {0: "ready to switch on", 1: "switched on", 2: "operation enabled", 3: "fault",
+              4: "voltage enabled", 5: "quick stop", 6: "switch on disabled", 7: "warning",
+              9: "remote", 10: "target reached", 11: "internal limit", 12: "follows target",
+              13: "following error"}
+CONTROLWORD = {0: "switch on", 1: "enable voltage", 2: "quick stop", 3: "enable operation",
+               7: "fault reset", 8: "halt"}
+CHANGED = 16    # how far the bits that changed within a column stand left of those at its end
 
 
 @dataclass
@@ -20,7 +28,7 @@ class Levels:
     before: int = 0
     value: int = 0
     called: bool = False
-    columns: array = field(default_factory=lambda: array("H"))
+    columns: array = field(default_factory=lambda: array("L"))
 
     def until(self, place):
         """Goes on with what the last call showed, until the cycle at a place counted from 0."""
@@ -46,10 +54,10 @@ class Levels:
 
 def paired(columns):
     """Half as many columns, each of two that stand beside each other."""
-    joined = array("H")
+    joined = array("L")
     for place in range(0, len(columns) - 1, 2):
         one, other = columns[place], columns[place + 1]
-        joined.append(other & 255 | ((one | other) >> CHANGED | (one ^ other) & 255) << CHANGED)
+        joined.append(other & BITS | ((one | other) >> CHANGED | (one ^ other) & BITS) << CHANGED)
     joined.extend(columns[2 * len(joined):])
     return joined
 
@@ -62,7 +70,12 @@ def bits_of(execute, outputs):
 def signals(block):
     """The names of the bits, for a block."""
     execute = "Enable" if block.kind == "Power" else "Execute"
-    return (execute, *OUTPUTS, REACHED.get(block.kind, "Reached"))
+    return (execute, *OUTPUTS, reached_name(block.kind))
+
+
+def bit_names(words):
+    """The names of the 16 bits of a word, by its table."""
+    return [words.get(place, f"bit {place}") for place in range(16)]
 
 
 def runs(levels, cycles):
@@ -71,10 +84,10 @@ def runs(levels, cycles):
     found = []
     for place, column in enumerate(levels.columns):
         start, end = place * levels.width, min((place + 1) * levels.width, cycles)
-        if found and found[-1][2] == column & 255 and not column >> CHANGED:
+        if found and found[-1][2] == column & BITS and not column >> CHANGED:
             found[-1][1] = end
         else:
-            found.append([start, end, column & 255, column >> CHANGED])
+            found.append([start, end, column & BITS, column >> CHANGED])
     return found
 
 

@@ -1,6 +1,7 @@
 """The lines of a panel, and where they break."""
 
-from motion_tools.plot.reader import BROKEN, LOOSE, MOVED
+from motion_tools.plot.reader import BROKEN, LOOSE, MOVED, REPORTED_VELOCITY
+from motion_tools.plot.sheet import thinned
 from motion_tools.plot.style import num
 
 
@@ -8,14 +9,25 @@ def draw_lines(sheet, axis, columns, name, place, to_y):
     """The line of a panel; positions are joined from cycle to cycle, and a velocity or an
     acceleration holds over its cycle. Where a line is broken nothing leads over the gap."""
     whole = all(end - start == 1 for start, end, _ in columns)
+    draw_overlay(sheet, axis, place, to_y)
     if name == "position" and axis.has_reported and columns:
         sheet.path(range_line(sheet, columns, 6, to_y, whole), 'class="reported"')
+    if name == "velocity" and sheet.following and axis.has_reported:
+        path = range_line(sheet, columns, REPORTED_VELOCITY, to_y, whole)
+        sheet.path(path, 'class="reported"')
     if not whole:
         sheet.path(range_line(sheet, columns, place, to_y), f'class="{name}"')
     elif name == "position":
         draw_positions(sheet, axis, columns, to_y)
     else:
         sheet.path(step_line(sheet, columns, place, to_y), f'class="{name}"')
+
+
+def draw_overlay(sheet, axis, place, to_y):
+    """The same line of the second trace, where it has such an axis."""
+    other = sheet.overlay.axes.get(axis.name) if sheet.overlay else None
+    if other and (columns := thinned(sheet, other.lane)):
+        sheet.path(range_line(sheet, columns, place, to_y), 'class="overlay"')
 
 
 def draw_positions(sheet, axis, columns, to_y):
@@ -54,14 +66,15 @@ def range_line(sheet, columns, place, to_y, whole=False):
     a drive reports it reports at the beginning of a cycle: a single cycle's value stands there.
     Where the line is broken, short level lines stand at the two."""
     parts, last = [], None
-    breaking = MOVED if place == 6 else BROKEN
+    reported = place in (6, REPORTED_VELOCITY)
+    breaking = MOVED if reported else BROKEN
     for start, end, column in columns:
         if column[place] is None:
             last = None
             continue
         at = sheet.x(start if whole else (start + end) / 2)
         ends = sorted({to_y(column[place]), to_y(column[place + 1])}, reverse=True)
-        if column[10] & breaking and not (whole and place == 6):
+        if column[10] & breaking and not (whole and reported):
             parts += [f"M{num(at - 0.5)} {num(y)}h1" for y in ends]
             last = None
             continue

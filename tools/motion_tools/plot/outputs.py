@@ -1,6 +1,6 @@
 """Lanes of Execute and the outputs of blocks, as the standard's timing figures draw them."""
 
-from motion_tools.plot.levels import runs, seen, signals
+from motion_tools.plot.levels import CONTROLWORD, STATUSWORD, bit_names, runs, seen, signals
 from motion_tools.plot.style import num
 
 LANE, GAP, STUB = 17, 7, 12
@@ -28,6 +28,23 @@ def draw_block(sheet, block):
         ends = [value >> place & 1 for value in (block.levels.before, block.levels.value)]
         draw_lane(sheet, names[place], told, ends)
     sheet.y = max(sheet.y, top + 2 * LANE)
+
+
+def draw_words(sheet, words):
+    """A lane for each bit of an axis's statusword and controlword that was ever true."""
+    for title, levels, table in (("statusword", words.status, STATUSWORD),
+                                 ("controlword", words.control, CONTROLWORD)):
+        sheet.y += GAP
+        top, names = sheet.y, bit_names(table)
+        right = sheet.x(sheet.trace.cycles) + STUB + 8
+        sheet.text(right, top + 13, title, ' style="font-weight:bold"')
+        spans = runs(levels, sheet.trace.cycles)
+        for place in seen(levels, 16):
+            told = [(start, end, at >> place & 1, changed >> place & 1)
+                    for start, end, at, changed in spans]
+            ends = [value >> place & 1 for value in (levels.before, levels.value)]
+            draw_lane(sheet, names[place], told, ends)
+        sheet.y = max(sheet.y, top + LANE)
 
 
 def draw_lane(sheet, name, spans, ends):

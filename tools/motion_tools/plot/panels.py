@@ -3,7 +3,8 @@
 from xml.sax.saxutils import escape
 
 from motion_tools.plot.lines import draw_lines
-from motion_tools.plot.sheet import LEFT, RIGHT, spans
+from motion_tools.plot.reader import REPORTED_VELOCITY
+from motion_tools.plot.sheet import LEFT, RIGHT, spans, thinned
 from motion_tools.plot.style import num, number_text, ticks, view
 
 GAP = 8
@@ -12,13 +13,17 @@ PANELS = (("position", 0, 120), ("velocity", 2, 84), ("acceleration", 4, 84))
 
 def draw_panel(sheet, axis, columns, name, place, height):
     """One panel of an axis: its bands, grid, limits and lines."""
-    factor, unit = sheet.units.of_axis(axis.name)[name]
+    factor, unit = sheet.units.of_axis(axis.name)["position" if name == "following" else name]
     limits, sheet.y = limits_of(axis, name), sheet.y + GAP
     values = [value for *_, column in columns for value in column[place:place + 2]
               if value is not None]
     values += [axis.origin] if name == "position" else [0]
+    values += [axis.increment] if name == "following" else []
     if name == "position" and axis.has_reported:
         values += [value for *_, column in columns for value in column[6:8]]
+    if name == "velocity" and sheet.following:
+        values += reported_velocities(columns)
+    values += overlay_values(sheet, axis, place)
     low, high = view(min(values), max(values),
                      [value for limit in limits for value in limit[2:]], sheet.whole)
 
@@ -35,8 +40,23 @@ def draw_panel(sheet, axis, columns, name, place, height):
     sheet.y += height
 
 
+def reported_velocities(columns):
+    """The velocities that the drive reported."""
+    return [value for *_, column in columns
+            for value in column[REPORTED_VELOCITY:REPORTED_VELOCITY + 2] if value is not None]
+
+
+def overlay_values(sheet, axis, place):
+    """The values of the second trace's line."""
+    other = sheet.overlay.axes.get(axis.name) if sheet.overlay else None
+    return [value for *_, column in (thinned(sheet, other.lane) if other else ())
+            for value in column[place:place + 2] if value is not None]
+
+
 def limits_of(axis, name):
     """The limits of a panel, from within: their names with the least and the greatest value."""
+    if name == "following":
+        return []
     if name == "position":
         return [("lo", "hi", axis.lo, axis.hi)]
     if name == "velocity":
@@ -48,7 +68,8 @@ def limits_of(axis, name):
 
 def draw_bands(sheet, limits, to_y, height):
     """What lies beyond all limits, and within each, from the widest to the narrowest."""
-    sheet.box(LEFT, sheet.y, sheet.plot, height, f'fill="{sheet.theme["panel"]}"')
+    fill = sheet.theme["panel" if limits else "band"]
+    sheet.box(LEFT, sheet.y, sheet.plot, height, f'fill="{fill}"')
     for place, (_, _, least, greatest) in reversed(list(enumerate(limits))):
         fill = sheet.theme["outer" if place else "band"]
         sheet.box(LEFT, to_y(greatest), sheet.plot, to_y(least) - to_y(greatest), f'fill="{fill}"')

@@ -6,7 +6,9 @@ cycles. All numbers are integers in an axis's internal units, per cycle. A text 
 raises TraceError.
 """
 
+from collections.abc import Iterable, Sequence
 from dataclasses import dataclass, field
+from typing import Optional
 
 from motion_tools import trace as traces
 from motion_tools.trace import TraceError
@@ -20,6 +22,8 @@ GROUP_STATES = ("GroupDisabled", "GroupStandby", "GroupHoming", "GroupMoving", "
 RESULTS = (("E", "Error"), ("C", "CommandAborted"), ("D", "Done"))
 MARKS = 256
 BROKEN, LOOSE, MOVED = 1, 2, 4  # the setpoint begins anew; the axis isn't driven; a Home moved both
+FOLLOWING, REPORTED_VELOCITY = 11, 13   # where a column has the least of these
+Values = Sequence[Optional[int]]
 
 
 @dataclass
@@ -27,20 +31,24 @@ class Lane:
     """The cycles of an axis or a group, thinned to at most `limit` columns of `width` cycles each.
 
     A column is a list: the least and greatest position, velocity, acceleration and reported place
-    of its cycles, the states seen as bits, the greatest ErrorID, and how the lines go on, as bits
-    of BROKEN, LOOSE and MOVED. A velocity and an acceleration are None where there is none.
+    of its cycles, the states seen as bits, the greatest ErrorID, how the lines go on, as bits of
+    BROKEN, LOOSE and MOVED, and the least and greatest following error and reported velocity. A
+    value is None where there is none.
     """
 
     limit: int
     width: int = 1
     columns: list = field(default_factory=list)
 
-    def add(self, place, values, state, error, breaks=0):
+    def add(self, place: int, values: Values, state: int, error: int, breaks: int = 0,
+            drive: Values = (None, None)) -> None:
         """Adds the cycle at a place counted from 0, with its position, velocity, acceleration and
-        reported place; the places come in order, none left out."""
+        reported place, and what is reckoned of its drive: the following error and the velocity; the
+        places come in order, none left out."""
         while place // self.width >= self.limit:
             self.width, self.columns = self.width * 2, paired(self.columns)
-        new = [*(value for value in values for _ in range(2)), state, error, breaks]
+        new = [*(value for value in values for _ in range(2)), state, error, breaks,
+               *(value for value in drive for _ in range(2))]
         if place // self.width == len(self.columns):
             self.columns.append(new)
         else:
@@ -49,7 +57,7 @@ class Lane:
 
 def join(column, other):
     """Takes another column into one."""
-    for least in (0, 2, 4, 6):
+    for least in (0, 2, 4, 6, FOLLOWING, REPORTED_VELOCITY):
         if other[least] is None:
             continue
         if column[least] is None or other[least] < column[least]:
@@ -118,6 +126,8 @@ class Axis:
     marks: Marks = field(default_factory=Marks)
     has_home: bool = False
     has_reported: bool = False
+    place: Optional[int] = None                 # that the drive reported in the row before
+    words: Optional["Words"] = None             # the bits of its words, where they are asked for
 
     def step(self, row):
         """The velocity and acceleration of a row, and how its lines go on."""
@@ -132,6 +142,27 @@ class Axis:
             return row.setpoint
         self.has_reported = True
         return row.actual * self.increment if row.place is None else row.place
+
+    def drive(self, before, place, breaks):
+        """The following error, the setpoint before less the place that the drive reports of it, and
+        the velocity that it reports; None where the setpoint made no step, or nothing is reported."""
+        last, self.place = self.place, place if self.has_reported else None
+        if breaks or not self.has_reported:
+            return None, None
+        return before - place, None if last is None else place - last
+
+
+@dataclass
+class Words:
+    """The bits of an axis's statusword and controlword over time."""
+
+    status: Levels
+    control: Levels
+
+    def show(self, place, row):
+        """What a row has."""
+        self.status.call(place, row.statusword)
+        self.control.call(place, row.controlword)
 
 
 @dataclass
@@ -160,7 +191,7 @@ class Trace:
     """A trace, as far as a picture tells of it; `first` is the cycle of the first column,
     `cycles` how many there are in the window, and `fault` where the text ceased to be a trace."""
 
-    def __init__(self, machine, first, last, limit):
+    def __init__(self, machine, first, last, limit, words=False):
         self.first, self.last = first, last
         self.cycle = self.cycles = 0
         self.fault = None
@@ -175,6 +206,8 @@ class Trace:
         for block in self.blocks.values():
             if block.kind == "Home":
                 block.on.has_home = True
+        for axis in self.axes.values() if words else ():
+            axis.words = Words(Levels(limit), Levels(limit))
 
     def shown(self):
         """Whether the cycle that is read lies in the window."""
@@ -241,9 +274,14 @@ class Trace:
         velocity, acceleration, breaks = axis.step(row)
         if self.cycle == self.first:
             axis.origin = row.setpoint if breaks else before
+        place = axis.reported_place(row)
+        drive = axis.drive(before, place, breaks)
         if self.shown():
-            values = (row.setpoint, velocity, acceleration, axis.reported_place(row))
-            axis.lane.add(self.cycle - self.first, values, AXIS_BITS[row.state], row.error, breaks)
+            values = (row.setpoint, velocity, acceleration, place)
+            axis.lane.add(self.cycle - self.first, values, AXIS_BITS[row.state], row.error, breaks,
+                          drive)
+            if axis.words:
+                axis.words.show(self.cycle - self.first, row)
 
 
 def axis_of(axis, limit, motion):
@@ -252,12 +290,13 @@ def axis_of(axis, limit, motion):
                 Lane(limit), motion)
 
 
-def read_trace(lines, first=1, last=None, limit=2048):
+def read_trace(lines: Iterable[str], first: int = 1, last: Optional[int] = None, limit: int = 2048,
+               words: bool = False) -> Trace:
     """The trace of a text's lines, with the cycles from `first` to `last` in at most `limit`
-    columns. Behind its machine it may be faulty: then it has what was read until there, and the
-    fault."""
+    columns, with the bits of words where they are asked for. After its machine it may be faulty: then
+    it has what was read until there, and the fault."""
     source = traces.Trace(lines)
-    trace = Trace(source.machine, first, last, limit)
+    trace = Trace(source.machine, first, last, limit, words)
     try:
         for cycle in source.cycles():
             trace.add_cycle(cycle)

@@ -1,9 +1,13 @@
 """The sheet that a picture is drawn on, from above, and what its drawers share."""
 
+from collections.abc import Callable, Sequence
 from dataclasses import dataclass, field
+from typing import Any, Optional
 from xml.sax.saxutils import escape
 
+from motion_tools.plot.reader import Lane, Trace, join
 from motion_tools.plot.style import num
+from motion_tools.units import Units
 
 LEFT, RIGHT = 112, 150
 
@@ -12,14 +16,19 @@ LEFT, RIGHT = 112, 150
 class Sheet:
     """A picture that is drawn from above; `y` is how far it is, in pixels."""
 
-    trace: object
-    units: object
-    theme: dict
+    trace: Trace
+    units: Units
+    theme: dict[str, str]
     width: int
     whole: bool
     outputs: bool = False
+    following: bool = False                     # the following error and the reported velocity
+    words: bool = False                         # the bits of statusword and controlword
+    overlay: Optional[Trace] = None             # a second trace, and its name
+    overlay_name: str = ""
+    together: Sequence[Sequence[str]] = ()      # axes that share panels
     y: float = 0
-    parts: list = field(default_factory=list)
+    parts: list[str] = field(default_factory=list)
 
     @property
     def plot(self):
@@ -49,7 +58,26 @@ class Sheet:
         self.put(f'<path d="{steps}" {style}/>')
 
 
-def spans(columns, key):
+def thinned(sheet: Sheet, lane: Lane) -> list[list[Any]]:
+    """The columns of a lane, one for each pixel: from and to which cycle, and the column."""
+    found: list[list[Any]] = []
+    last = -1
+    for place, column in enumerate(lane.columns):
+        start = place * lane.width
+        end = min(start + lane.width, sheet.trace.cycles)
+        if start >= end:
+            break
+        pixel = start if sheet.trace.cycles <= sheet.plot else int(sheet.x(start) - LEFT)
+        if pixel == last:
+            join(found[-1][2], column)
+            found[-1][1] = end
+        else:
+            found.append([start, end, list(column)])
+        last = pixel
+    return found
+
+
+def spans(columns: Sequence[Sequence[Any]], key: Callable[[Any], Any]) -> list[list[Any]]:
     """Columns beside each other with one key, as from, to and key."""
     found = []
     for start, end, column in columns:

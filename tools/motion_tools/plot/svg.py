@@ -4,11 +4,12 @@ from xml.sax.saxutils import escape
 
 from motion_tools.plot.edges import draw_edges
 from motion_tools.plot.legend import KINDS, draw_head, draw_shape
-from motion_tools.plot.outputs import draw_outputs
+from motion_tools.plot.outputs import draw_outputs, draw_words
 from motion_tools.plot.panels import PANELS, draw_panel, draw_time
-from motion_tools.plot.reader import AXIS_STATES, GROUP_STATES, join
-from motion_tools.plot.sheet import LEFT, spans
+from motion_tools.plot.reader import AXIS_STATES, FOLLOWING, GROUP_STATES
+from motion_tools.plot.sheet import LEFT, Sheet, spans, thinned
 from motion_tools.plot.style import STATE_COLOURS, num
+from motion_tools.plot.together import draw_together, together_style
 from motion_tools.plot.words import told_of
 
 ROW, STRIP = 16, 18
@@ -21,6 +22,8 @@ def svg(sheet, title, switches=None):
     are some."""
     trace, width = sheet.trace, sheet.width
     draw_head(sheet, title)
+    for names in sheet.together:
+        draw_together(sheet, names)
     for group in trace.groups.values():
         draw_section(sheet, group, GROUP_STATES, f"Group {group.name}: {', '.join(group.members)}")
     for axis in trace.axes.values():
@@ -32,7 +35,7 @@ def svg(sheet, title, switches=None):
     head = (f'<svg xmlns="http://www.w3.org/2000/svg" width="{width}" height="{height}" '
             f'viewBox="0 0 {width} {height}" role="img">\n<title>{escape(title)}</title>\n'
             f'<desc>{escape(described(sheet))}</desc>\n'
-            f'<style>{style_sheet(sheet.theme)}</style>\n'
+            f'<style>{style_sheet(sheet.theme)}{more_style(sheet)}</style>\n'
             f'<defs>{hatching(sheet.theme)}</defs>\n'
             f'<rect width="{width}" height="{height}" fill="{sheet.theme["page"]}"/>\n')
     return head + "\n".join(sheet.parts) + "\n</svg>\n"
@@ -62,6 +65,15 @@ def style_sheet(theme):
             f".frame{{fill:none;stroke:{theme['limit']}}}")
 
 
+def more_style(sheet: Sheet) -> str:
+    """The classes of what is drawn only where it is asked for."""
+    overlay = (f".overlay{{stroke:{sheet.theme['overlay']};stroke-width:1.8;stroke-dasharray:2 2}}"
+               if sheet.overlay else "")
+    following = (f".following{{stroke:{sheet.theme['reported']};stroke-width:1.6}}"
+                 if sheet.following else "")
+    return overlay + following + (together_style() if sheet.together else "")
+
+
 def hatching(theme):
     """The pattern of an error span."""
     return ('<pattern id="hatch" width="8" height="8" patternUnits="userSpaceOnUse" '
@@ -85,26 +97,14 @@ def draw_section(sheet, owner, states, title):
     if hasattr(owner, "increment"):
         for name, place, height in PANELS:
             draw_panel(sheet, owner, columns, name, place, height)
+        if sheet.following and owner.has_reported:
+            draw_panel(sheet, owner, columns, "following", FOLLOWING, 60)
+        if owner.words:
+            draw_words(sheet, owner.words)
     if len(guides) <= GUIDES and sheet.y > top:
         for x, kind in guides:
             sheet.path(f"M{num(x)} {num(top)}V{num(sheet.y)}", f'class="g{kind}"')
     draw_time(sheet)
-
-
-def thinned(sheet, lane):
-    """The columns of a lane, one for each pixel: from and to which cycle, and the column."""
-    found, last = [], -1
-    for place, column in enumerate(lane.columns):
-        start = place * lane.width
-        end = min(start + lane.width, sheet.trace.cycles)
-        pixel = start if sheet.trace.cycles <= sheet.plot else int(sheet.x(start) - LEFT)
-        if pixel == last:
-            join(found[-1][2], column)
-            found[-1][1] = end
-        else:
-            found.append([start, end, list(column)])
-        last = pixel
-    return found
 
 
 def draw_marks(sheet, owner):

@@ -28,8 +28,11 @@ function pointAnew() {
     stand(section, section.pin, pinned);
     showDots(section, at);
     section.read.textContent = at === null ? "" : reading(section, at);
+    section.stats.textContent = at === null || pinned === null ? "" : between(section, at);
   }
   plane.draw();
+  together.draw();
+  events.mark(at);
 }
 
 // Puts a cursor's line to a place, if that is shown.
@@ -44,7 +47,9 @@ function stand(section, cursor, at) {
 function showDots(section, at) {
   for (const {name, dot, panel} of section.dots) {
     const value = at === null || section.width > 1 ? null : section.lines[name][0][cycleOf(at)];
-    const x = name === "reported" ? at - 1 : at, shown = value !== null && from <= x && x <= to;
+    const x = name === "reported" ? at - 1 : at;
+    const shown = value !== null && from <= x && x <= to && panel in section.toY &&
+      (!name.startsWith("reportedV") || isChecked("following"));
     dot.style.display = shown && section.shown ? "block" : "none";
     if (!shown || !section.shown) continue;
     dot.style.left = section.x(x) + "px";
@@ -86,6 +91,24 @@ function valueAt(section, name, panel, place) {
   const between = before === null ? "" :
     ` (Δ ${exactText(+((least[place] - before) * panel.factor).toPrecision(12))})`;
   return `${name} ${low === high ? low : low + " to " + high}${between} ${panel.unit}`;
+}
+
+// The least, the greatest and the mean value of each line between the two cursors.
+function between(section, at) {
+  if (!section.lines) return "";
+  const [first, last] = [cycleOf(pinned), cycleOf(at)].sort((one, other) => one - other)
+    .map(cycle => Math.floor(cycle / section.width));
+  const parts = section.panels.map(panel => {
+    const [least, greatest = least] = section.lines[panel.name], places = [];
+    for (let place = first; place <= last; place++) if (least[place] !== null) places.push(place);
+    if (!places.length) return `no ${panel.name}`;
+    const low = places.reduce((found, place) => Math.min(found, least[place]), Infinity);
+    const high = places.reduce((found, place) => Math.max(found, greatest[place]), -Infinity);
+    const mean = places.reduce((sum, place) => sum + (least[place] + greatest[place]) / 2, 0) / places.length;
+    const told = value => exactText(+(value * panel.factor).toPrecision(7));
+    return `${panel.name} least ${told(low)}, greatest ${told(high)}, mean ${told(mean)} ${panel.unit}`;
+  });
+  return "between the cursors: " + parts.join("  ·  ");
 }
 
 // Pins a second cursor at a place, or takes it away where it stands there.

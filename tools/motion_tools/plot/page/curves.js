@@ -1,5 +1,11 @@
 // The lines of an axis, and where they break.
 
+// The colours of lines that have none of their own, and what is drawn with a line in its panel.
+const COLOUR_OF = {following: "reported", reportedVelocity: "reported"};
+const isChecked = name => document.getElementById(name).checked;
+const drawnWith = name => name === "position" ? ["reported"] :
+  name === "velocity" && isChecked("following") ? ["reportedVelocity"] : [];
+
 class Curves {
   constructor(told) {
     Object.assign(this, told);
@@ -20,7 +26,7 @@ class Curves {
   // The least and the greatest value that a panel tells of the columns from one to another.
   range(name, begin, end) {
     let low = name === "position" ? Infinity : 0, high = name === "position" ? -Infinity : 0;
-    for (const key of name === "position" ? ["position", "reported"] : [name]) {
+    for (const key of [name, ...drawnWith(name)]) {
       if (!this.lines[key]) continue;
       const [least, greatest = least] = this.lines[key];
       for (let place = begin; place < end; place++) {
@@ -38,10 +44,10 @@ class Curves {
 
   // A line from column to column: joined positions; steps of velocity and acceleration; where a
   // pixel or a column has more than a cycle, the least and the greatest value.
-  drawLine(pen, name, begin, end, toY, dashes) {
+  drawLine(pen, name, begin, end, toY, dashes, colour = theme[COLOUR_OF[name] || name]) {
     const [least, greatest = least] = this.lines[name], exact = this.width === 1;
     const pixels = (to - from) / this.across > 1 || !exact;
-    pen.strokeStyle = theme[name];
+    pen.strokeStyle = colour;
     pen.lineWidth = name === "reported" ? 1.4 : 1.6;
     pen.setLineDash(dashes);
     pen.beginPath();
@@ -94,7 +100,8 @@ class Curves {
   // The least and the greatest value of each pixel; where the line is broken, short level lines
   // stand at the two.
   rangeLine(pen, name, begin, end, toY) {
-    const [least, greatest = least] = this.lines[name], breaking = name === "reported" ? MOVED : BROKEN;
+    const [least, greatest = least] = this.lines[name];
+    const breaking = name.startsWith("reported") ? MOVED : BROKEN;
     let last = null;
     for (let place = begin; place < end;) {
       const pixel = Math.floor(this.x(place * this.width)), start = place;

@@ -7,10 +7,10 @@ class Lanes {
   }
 
   draw(placed) {
-    const on = document.getElementById("outputs").checked, head = narrow ? 18 : 0;
+    const on = this.shown === "always" || isChecked(this.shown), head = narrow && this.name ? 18 : 0;
     this.canvas.style.display = on ? "block" : "none";
     if (!on) return;
-    const rows = narrow ? this.signals.length : Math.max(this.signals.length, 2);
+    const rows = narrow || !this.kind ? this.signals.length : Math.max(this.signals.length, 2);
     const height = rows * LANE + (head || gap);
     const pen = ready(this.canvas, this.section.plot.clientWidth, height);
     this.section.drawGuides(pen, placed, head, height);
@@ -27,7 +27,7 @@ class Lanes {
   // A signal: high where it was true, with a stroke where it was both within a column, and a stub
   // behind the last cycle.
   drawLane(pen, name, place, y) {
-    const colour = theme[KINDS.includes(name) ? name : "muted"], low = y + 14, high = y + 4;
+    const colour = theme[this.shown === "always" ? "Done" : KINDS.includes(name) ? name : "muted"], low = y + 14, high = y + 4;
     const begin = this.section.x(from), end = this.section.x(to), stub = to >= data.cycles ? 8 : 0;
     words(pen, narrow && name === "CommandAborted" ? "Aborted" : name, left - 8, y + 13, theme.muted, "right");
     const spans = [...this.spans(place), [data.cycles, data.cycles, this.value >> place & 1, 0]];

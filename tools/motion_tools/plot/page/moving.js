@@ -4,12 +4,14 @@
 const LEAST = Math.min(data.width > 1 ? 8 * data.width : 4, Math.max(data.cycles, 1));
 const sections = data.sections.map(told => new Section(told));
 const plane = new Plane(sections.filter(section => section.lines));
+const together = new Together(sections.filter(section => section.lines));
+const events = new Events(sections);
 
 function drawLegend() {
   const legend = document.getElementById("legend");
   legend.replaceChildren();
-  const put = (text, draw) => {
-    if (!data.legend.includes(text)) return;
+  const put = (text, draw, always = false) => {
+    if (!always && !data.legend.includes(text)) return;
     const item = add(legend, "span"), canvas = add(item, "canvas");
     canvas.style.width = "20px";
     draw(ready(canvas, 20, 14));
@@ -27,6 +29,8 @@ function drawLegend() {
   put("reported by the drive", stroke("reported", [4, 3]));
   put("velocity", stroke("velocity"));
   put("acceleration", stroke("acceleration"));
+  if (data.overlay) put(data.overlay, stroke("overlay", [2, 2]), true);
+  if (isChecked("following")) put("following error", stroke("reported"), true);
   put("limit", stroke("limit", [6, 4]));
   put("within limits", box(theme.band));
   put("beyond", box(theme.panel));
@@ -83,11 +87,13 @@ const keys = {"+": "in", "=": "in", "-": "out", "0": "all", ArrowLeft: "left", A
   ".": "next", ",": "before"};
 
 for (const button of document.querySelectorAll("button")) button.onclick = deeds[button.dataset.do];
-for (const id of ["fit", "outputs"]) document.getElementById(id).onchange = drawSoon;
-document.getElementById("outputs").checked = data.outputs;
+for (const id of ["fit", "outputs", "following", "bits"]) document.getElementById(id).onchange = drawSoon;
+for (const id of ["outputs", "following", "bits"]) document.getElementById(id).checked = data[id];
+document.getElementById("bitsChoice").hidden = !data.bits;
+document.getElementById("followingChoice").hidden = !data.legend.includes("reported by the drive");
 addEventListener("keydown", event => {
   if (!keys[event.key] || event.ctrlKey || event.metaKey || event.altKey ||
-    event.target.tagName === "SELECT") return;
+    ["SELECT", "INPUT"].includes(event.target.tagName) && event.target.type !== "checkbox") return;
   deeds[keys[event.key]]();
   event.preventDefault();
 });

@@ -4,6 +4,8 @@ class Section extends Curves {
   constructor(told) {
     super(told);
     this.shown = true;
+    this.all = told.panels;
+    this.other = told.other ? new Curves(told.other) : null;
     this.rows = 0;
     this.element = add(document.querySelector("main"), "section");
     this.head = add(this.element, "h2", told.title);
@@ -16,6 +18,8 @@ class Section extends Curves {
     this.lanes = told.blocks.map(block => new Lanes(this, block));
     this.canvas = add(this.plot, "canvas");
     for (const name of ["cursor", "pin", "chosen"]) (this[name] = add(this.plot, "div")).className = name;
+    this.stats = add(this.element, "p");
+    this.stats.className = "stats";
     this.dots = Object.keys(told.lines || {}).map(name => this.dot(name));
   }
 
@@ -23,15 +27,22 @@ class Section extends Curves {
   dot(name) {
     const dot = add(this.plot, "div");
     dot.className = "dot";
-    dot.style.background = `var(--${name})`;
-    return {name, dot, panel: name === "reported" ? "position" : name};
+    dot.style.background = `var(--${COLOUR_OF[name] || name})`;
+    return {name, dot, panel: {reported: "position", reportedVelocity: "velocity"}[name] || name};
   }
+
+  // The panels that are asked for.
+  get panels() {
+    return this.all.filter(panel => panel.name !== "following" || isChecked("following"));
+  }
+
+  set panels(_) {}
 
   draw() {
     this.across = this.plot.clientWidth - left - right;
     const placed = this.placeMarks(), base = this.rows * ROW + 2;
-    const top = ready(this.top, this.plot.clientWidth, base + STRIP);
-    this.drawStrip(top, base);
+    const top = ready(this.top, this.plot.clientWidth, base + (this.strip.length ? STRIP : 0));
+    if (this.strip.length) this.drawStrip(top, base);
     for (const mark of placed) this.drawMark(top, mark);
     for (const lanes of this.lanes) lanes.draw(placed);
     this.drawPanels(placed);
@@ -103,8 +114,7 @@ class Section extends Curves {
   drawPanel(pen, panel, y) {
     const fit = document.getElementById("fit").checked, [begin, end] = this.window();
     const limits = panel.limits.flatMap(limit => limit.slice(2));
-    const [low, high] = viewOf(...(fit ? this.range(panel.name, begin, end) :
-      this.range(panel.name, 0, this.lines.position[0].length)), limits);
+    const [low, high] = viewOf(...this.shownRange(panel, fit, begin, end), limits);
     const clamp = value => Math.min(Math.max(value, low), high);
     const toY = value => y + panel.height * (1 - (clamp(value) - low) / (high - low));
     this.toY[panel.name] = toY;
@@ -116,8 +126,9 @@ class Section extends Curves {
     pen.beginPath();
     pen.rect(left, y - 1, this.across, panel.height + 2);
     pen.clip();
-    if (panel.name === "position" && this.lines.reported)
-      this.drawLine(pen, "reported", begin, end, toY, [4, 3]);
+    if (this.other) this.drawOther(pen, panel, toY);
+    for (const name of drawnWith(panel.name))
+      if (this.lines[name]) this.drawLine(pen, name, begin, end, toY, [4, 3]);
     this.drawLine(pen, panel.name, begin, end, toY, []);
     pen.restore();
     pen.strokeStyle = theme.limit;
@@ -125,8 +136,28 @@ class Section extends Curves {
     pen.strokeRect(left, y, this.across, panel.height);
   }
 
+  // From where to where a panel goes: with the lines of the second trace, and of a following error
+  // at least an increment.
+  shownRange(panel, fit, begin, end) {
+    let [low, high] = fit ? this.range(panel.name, begin, end) :
+      this.range(panel.name, 0, this.lines.position[0].length);
+    if (this.other && this.other.lines[panel.name]) {
+      const [least, most] = this.other.range(panel.name, ...(fit ? this.other.window() :
+        [0, this.other.lines.position[0].length]));
+      [low, high] = [Math.min(low, least), Math.max(high, most)];
+    }
+    return panel.name === "following" ? [low, Math.max(high, low + this.increment)] : [low, high];
+  }
+
+  // The same line of the second trace.
+  drawOther(pen, panel, toY) {
+    if (!this.other.lines[panel.name]) return;
+    this.other.across = this.across;
+    this.other.drawLine(pen, panel.name, ...this.other.window(), toY, [2, 2], theme.overlay);
+  }
+
   drawBands(pen, panel, y, toY) {
-    pen.fillStyle = theme.panel;
+    pen.fillStyle = panel.limits.length ? theme.panel : theme.band;
     pen.fillRect(left, y, this.across, panel.height);
     for (const [place, [, , least, greatest]] of [...panel.limits.entries()].reverse()) {
       pen.fillStyle = place ? theme.outer : theme.band;
