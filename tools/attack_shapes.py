@@ -138,7 +138,7 @@ bench("blocks", lambda n: BENCH.replace("go\n", "") + counted("block v%07d main 
 bench("faults", lambda n: BENCH.replace("go\n", "") + "drive X 0 " + filled("1,", n) + "\n")
 bench("one word", lambda n: filled("a", n))
 shape("program lines", f"run {TASKS}.toml {TEXT}", lambda n: PROGRAM + filled("again\n", n))
-shape("program comments", f"run {TASKS}.toml {TEXT}", lambda n: filled("#\n", n) + PROGRAM)
+shape("program comments", f"run {TASKS}.toml {TEXT}", lambda n: filled("#\n", n) + "again\n")
 
 
 # Traces, and segments of them.
