@@ -1,9 +1,11 @@
 -- A text's reading is the machine that it configures.
-use Rattle.std.proofs.Common.{◌≡◌, ℕ, ◌+◌, Some, Result, Ok, Err, List, [], ◌∷◌, refl, sym, ap, subst, inl, inr}
+use Rattle.std.proofs.Common.{◌≡◌, ℕ, ◌+◌, Option, Some, None, Result, Ok, Err, List, [], ◌∷◌, refl, sym, ap, subst, inl, inr}
 use Rattle.std.specs.Prelude.{IfOk}
+use Rattle.std.specs.Option.{option_map_or}
 use Rattle.std.specs.Str.{IsUtf8, is_utf8}
 use Rattle.std.proofs.lemmas.Bool.{cases_Bool}
 use Rattle.std.proofs.lemmas.Str.{IsUtf8-from_is_utf8, is_utf8-from_IsUtf8}
+use Rattle.line_text.specs.Reading.{◌>>=◌}
 use Rattle.line_text.specs.Rules.{broken_unless, in_range}
 use Rattle.motion_history.specs.declared.refused.TextFault.{TextFault}
 use Rattle.motion_history.specs.declared.refused.TextRefused.{TextRefused}
@@ -11,14 +13,15 @@ use Rattle.toml.specs.Data.{Members}
 use Rattle.toml.specs.Parse.{parse_document}
 use Rattle.machine_config.specs.Configured.{AddsItem, Configures, GivesTop, ItemsLead}
 use Rattle.machine_config.specs.Keys.{has_keys, top_keys}
-use Rattle.machine_config.specs.Reading.{Reads, at_place, document_of, document_reading, item_meaning, items_meaning, items_of, machine_of, top_reading}
+use Rattle.machine_config.specs.Marks.{crowded_line}
+use Rattle.machine_config.specs.Reading.{Reads, at_place, document_of, document_reading, item_meaning, items_meaning, items_of, machine_of, marks_reading, refused_at, top_reading}
 use Rattle.machine_config.specs.Tops.{are_counted, bare_setup, top_meaning}
 use Rattle.machine_config.specs.Values.{integer_at}
 use Rattle.machine_config.specs.declared.item.ItemKind.{ItemKind}
 use Rattle.machine_config.specs.declared.item.ItemKind.TheVariants as kind
 use Rattle.machine_config.specs.declared.key.Key.TheVariants.{Cycles, CycleUs, Entries}
 use Rattle.machine_config.specs.declared.machine.Machine.{Machine}
-use Rattle.machine_config.specs.RuleNumbers.{no_toml, out_of_range, wrong_count, wrong_key}
+use Rattle.machine_config.specs.RuleNumbers.{crowded, no_toml, out_of_range, wrong_count, wrong_key}
 use Rattle.line_text.proofs.Results.{bind_ok, found, holds, ok_is}
 use Rattle.machine_words.proofs.Tables.{AreTold}
 use Rattle.machine_config.proofs.Items.{axis-read, axis-told, group-read, group-told, table-read, table-told}
@@ -129,12 +132,19 @@ document-read : (text : List ℕ) (top : Members) → IsUtf8 text → parse_docu
 unfolding document_of
 document-read text top utf8 document = rw (is_utf8-from_IsUtf8 text utf8) document
 
+-- ---- the marks
+
+few-by : (o : Option ℕ) (u : Unit {0}) → option_map_or (λ line. Err (refused_at line crowded)) o (Ok tt) ≡ Ok u → o ≡ None
+few-by None u h = refl
+few-by (Some line) u h = absurd (cc)
+
 -- ---- the text
 
 text-told : AreSpelled → AreTold → (text : List ℕ) (m : Machine) → machine_of text ≡ Ok m → Configures text m
 unfolding machine_of
 text-told spelled told text m h =
-    let top = bind_ok (document_reading text) top_reading m h in
+    let few = bind_ok (marks_reading text) (λ u. document_reading text >>= top_reading) m h in
+    let top = bind_ok (document_reading text) top_reading m few.2 in
     let document = document-told text top.0 (found (document_of text) no_toml top.0 (place-ok _ 0 top.0 top.1)) in
     let first = bind_ok (at_place 0 (top_meaning top.0)) (λ b. items_meaning 0 b (items_of top.0)) m top.2 in
     let g = top-told top.0 first.0 (place-ok _ 0 first.0 first.1) in
@@ -144,6 +154,7 @@ text-told spelled told text m h =
       cycle_us = g.cycle_us;
       cycles = g.cycles;
       entries = g.entries;
+      few = few-by (crowded_line text) few.0 few.1;
       utf8 = document.utf8;
       document = document.document;
       gives = g.gives;
@@ -153,7 +164,7 @@ text-told spelled told text m h =
 text-read : AreSpelled → AreTold → (text : List ℕ) (m : Machine) → Configures text m → machine_of text ≡ Ok m
 unfolding machine_of
 text-read spelled told text m c =
-    rw (document-read text c.top c.utf8 c.document, top-read c.top c.cycle_us c.cycles c.entries c.gives)
+    rw (c.few, document-read text c.top c.utf8 c.document, top-read c.top c.cycle_us c.cycles c.entries c.gives)
     (items-read spelled told 0 (bare c.cycle_us c.cycles c.entries) m (items_of c.top) c.leads)
 
 -- ---- the answers

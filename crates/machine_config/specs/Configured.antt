@@ -17,6 +17,7 @@ use Rattle.motion_history.specs.declared.drives.DriveDef.{DriveDef}
 use Rattle.toml.specs.Data.{Data, integer, string, Members}
 use Rattle.toml.specs.Parse.{parse_document}
 use Rattle.machine_config.specs.Axes.{with_axis}
+use Rattle.machine_config.specs.Marks.{crowded_line}
 use Rattle.machine_config.specs.Keys.{axis_keys, group_keys, has_keys, table_keys, top_keys, value_at}
 use Rattle.machine_config.specs.Reading.{items_of}
 use Rattle.machine_config.specs.Tops.{are_counted, bare_setup}
@@ -151,13 +152,15 @@ pub record GivesTop (top : Members) (cycle_us cycles entries : ℕ) : Type 0 whe
   pub most_entries : entries ≤ 1000000
   pub counted : IsTrue (are_counted top)
 
--- a text configures this machine: it is a TOML document, whose items lead there from the machine
+-- a text configures this machine: it has at most 1,000 marks and 100,000 commas, and is a TOML
+-- document, whose items lead there from the machine
 -- that its top gives
 pub record Configures (text : List ℕ) (machine : Machine) : Type 0 where
   pub top : Members
   pub cycle_us : ℕ
   pub cycles : ℕ
   pub entries : ℕ
+  pub few : crowded_line text ≡ None
   pub utf8 : IsUtf8 text
   pub document : parse_document text ≡ Some top
   pub gives : GivesTop top cycle_us cycles entries

@@ -2,6 +2,7 @@ pub mod RuleNumbers
 pub mod Rules
 pub mod Keys
 pub mod Values
+pub mod Marks
 pub mod Quantities
 pub mod Drives
 pub mod Machines

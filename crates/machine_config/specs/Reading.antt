@@ -1,6 +1,6 @@
 -- What the text of a configuration means. This project's profile.
 use Rattle.std.specs.Prelude.{◌≡◌, ℕ, ◌+◌, if◌then◌else◌, Option, None, Result, Ok, Err, List, [], ◌∷◌, ◌++◌, map}
-use Rattle.std.specs.Option.{ok_or}
+use Rattle.std.specs.Option.{option_map_or, ok_or}
 use Rattle.std.specs.Str.{is_utf8}
 use Rattle.line_text.specs.Reading.{◌>>=◌}
 use Rattle.line_text.specs.declared.reader.LineFault.{LineFault}
@@ -12,6 +12,7 @@ use Rattle.toml.specs.Data.{Members}
 use Rattle.toml.specs.Parse.{parse_document}
 use Rattle.machine_config.specs.Axes.{axis_meaning}
 use Rattle.machine_config.specs.Groups.{group_meaning}
+use Rattle.machine_config.specs.Marks.{crowded_line}
 use Rattle.machine_config.specs.Tables.{table_meaning}
 use Rattle.machine_config.specs.Tops.{top_meaning}
 use Rattle.machine_config.specs.Values.{tables_at}
@@ -19,7 +20,7 @@ use Rattle.machine_config.specs.declared.item.ItemKind.{ItemKind}
 use Rattle.machine_config.specs.declared.item.ItemKind.TheVariants as kind
 use Rattle.machine_config.specs.declared.key.Key.TheVariants as key
 use Rattle.machine_config.specs.declared.machine.Machine.{Machine}
-use Rattle.machine_config.specs.RuleNumbers.{no_toml}
+use Rattle.machine_config.specs.RuleNumbers.{crowded, no_toml}
 
 -- tables of this kind
 abbrev pub of_kind : ItemKind → List Members → List (ItemKind × Members)
@@ -58,6 +59,11 @@ items_meaning before m (i ∷ more) =
 unfoldable pub document_of : List ℕ → Option Members
 document_of text = if is_utf8 text then parse_document text else None
 
+-- a text doesn't have too many keys and values; else its place is the line of the first too many
+abbrev pub marks_reading : List ℕ → Result (Unit {0}) TextRefused
+marks_reading text =
+    option_map_or (λ line. Err (refused_at line crowded)) (crowded_line text) (Ok tt)
+
 -- what the bytes of a text are read as: a document, or no TOML
 abbrev pub document_reading : List ℕ → Result Members TextRefused
 document_reading text = at_place 0 (ok_or (document_of text) no_toml)
@@ -71,7 +77,10 @@ top_reading top = do
 
 -- the machine that a text configures
 unfoldable pub machine_of : List ℕ → Result Machine TextRefused
-machine_of text = document_reading text >>= top_reading
+machine_of text = do
+  _ ← marks_reading text
+  top ← document_reading text
+  top_reading top
 
 -- what a function answered, seen by a view, is this reading, or its refusal; or memory ran out
 abbrev pub Reads : {X Y : Type 0} → (X → Y) → Result Y TextRefused → Result X TextFault → Type 0

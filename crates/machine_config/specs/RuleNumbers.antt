@@ -30,6 +30,10 @@ wrong_count = 6
 abbrev pub no_table : ℕ
 no_table = 7
 
+-- there are too many keys and values
+abbrev pub crowded : ℕ
+crowded = 8
+
 -- the rules that the numbers of a drive break
 abbrev pub drive_rules : ItemRules
 drive_rules = record { wrong = out_of_range; too_many = wrong_count }

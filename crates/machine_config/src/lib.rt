@@ -9,6 +9,7 @@ mod group;
 mod item;
 mod key;
 mod machine;
+mod mark;
 mod quantity;
 mod reading;
 mod rule;

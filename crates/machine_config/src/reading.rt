@@ -10,7 +10,8 @@ ghost use Rattle.machine_config.specs.Shown.{shown};
 
 use crate::item::{ItemKind, add_item, items_of};
 use crate::machine::Machine;
-use crate::rule::NO_TOML;
+use crate::mark::crowded_line;
+use crate::rule::{CROWDED, NO_TOML};
 use crate::top::bare_machine;
 use cam_table::cam_tables_are_told;
 use fixed_units::reads_what_is_spelled;
@@ -20,9 +21,9 @@ use std::alloc::Global;
 use toml::{Table, table_from_slice};
 
 /// The machine that a text configures. A text that configures none is refused at its first place
-/// that breaks a rule, by the first rule that it breaks: C1 to C7. Place 0 is the top; the axes,
-/// groups and cam tables are counted from 1, one behind the other. It takes memory for the TOML
-/// document that the text is, besides the machine.
+/// that breaks a rule, by the first rule that it breaks: C1 to C8. C8 is tested first, and its place
+/// is a line. Else place 0 is the top; the axes, groups and cam tables are counted from 1, one after
+/// the other. It takes memory for the TOML document that the text is, besides the machine.
 pub fn read_config(alloc: Global, text: &[u8]) -> Result<Machine, TextFault>
     // What is read is a machine that the text configures.
     ensures found { IfOk result (Configures text.now) }
@@ -45,8 +46,19 @@ fn read(alloc: Global, text: &[u8]) -> Result<Machine, TextFault>
     ensures exact { Reads (λ m. m) (spec.machine_of text.now) result }
     ensures kept { IfOk result IsUnderWay }
 {
+    few_marks(text)?;
     let top = document_of(alloc, text)?;
     machine_of(alloc, &top)
+}
+
+// Whether a text doesn't have too many keys and values.
+fn few_marks(text: &[u8]) -> Result<(), TextFault>
+    ensures { Reads (λ u. u) (spec.marks_reading text.now) result }
+{
+    match crowded_line(text) {
+        Some(line) => Err(told_at(line, LineFault::Rule(CROWDED))),
+        None => Ok(()),
+    }
 }
 
 // The TOML document that a text is.

@@ -29,6 +29,9 @@ pub const WRONG_COUNT: u8 = 6;
 /// Points make no cam table.
 pub const NO_TABLE: u8 = 7;
 
+/// There are too many keys and values.
+pub const CROWDED: u8 = 8;
+
 /// The rules that the numbers of a drive break.
 pub const DRIVE_RULES: ItemRules = ItemRules {
     wrong: OUT_OF_RANGE,

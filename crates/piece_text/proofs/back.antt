@@ -7,6 +7,7 @@ pub mod Groups
 pub mod Instances
 pub mod Plain
 pub mod Lines
+pub mod Shorts
 pub mod Leads
 pub mod Heads
 pub mod Whole

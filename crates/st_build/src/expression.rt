@@ -1,6 +1,8 @@
 // Expressions from their parts.
 
 ghost use Rattle.std.specs.Prelude.{◌≡◌, ◌++◌, ◌∷◌, [], IfOk, OnOk, true, if◌then◌else◌, drop, map};
+ghost use Rattle.st_build.specs.Chains as chains;
+ghost use Rattle.st_build.specs.Chains.{IsJoined};
 ghost use Rattle.st_parts.specs.Parts as spec;
 
 use crate::cursor::push;
@@ -10,7 +12,9 @@ use st_tree::{Expr, Operator, Term};
 use std::alloc::Global;
 
 // Whether two operators are of one level of the grammar that may have more than two operands.
-fn are_of_one_level(a: Operator, b: Operator) -> bool {
+fn are_of_one_level(a: Operator, b: Operator) -> bool
+    ensures { result ≡ chains.are_of_one_level a b }
+{
     match a {
         Operator::Or => matches!(b, Operator::Or),
         Operator::And => matches!(b, Operator::And),
@@ -21,7 +25,9 @@ fn are_of_one_level(a: Operator, b: Operator) -> bool {
 }
 
 // Whether an operand is a chain that may go on with an operator.
-fn goes_on(first: &Expr, operator: Operator) -> bool {
+fn goes_on(first: &Expr, operator: Operator) -> bool
+    ensures { result ≡ chains.goes_on first.now operator }
+{
     let Expr::Chain { terms, .. } = first else {
         return false;
     };
@@ -53,7 +59,9 @@ fn inverted(alloc: Global, operand: Expr) -> Result<Expr, OutOfMemory>
 
 // A chain of this operand.
 fn chain(alloc: Global, first: Expr, term: Term) -> Result<Expr, OutOfMemory>
-    ensures { IfOk result (λ e. spec.expr_parts e ≡ spec.expr_parts first ++ spec.term_parts term) }
+    ensures operand { IfOk result (λ e. chains.first_of e ≡ first) }
+    ensures terms { IfOk result (λ e. chains.terms_of e ≡ term ∷ []) }
+    ensures spelled { IfOk result (λ e. spec.expr_parts e ≡ spec.expr_parts first ++ spec.term_parts term) }
 {
     let Ok(first) = Box::new(alloc, first) else {
         return Err(OutOfMemory);
@@ -65,7 +73,9 @@ fn chain(alloc: Global, first: Expr, term: Term) -> Result<Expr, OutOfMemory>
 
 // A chain with a term more.
 fn longer(first: Box<Expr>, terms: Vec<Term>, term: Term) -> Result<Expr, OutOfMemory>
-    ensures { IfOk result (λ e. spec.expr_parts e ≡
+    ensures operand { IfOk result (λ e. chains.first_of e ≡ first.value) }
+    ensures terms { IfOk result (λ e. chains.terms_of e ≡ terms.items ++ term ∷ []) }
+    ensures spelled { IfOk result (λ e. spec.expr_parts e ≡
         (spec.expr_parts first.value ++ spec.all_of (map spec.term_parts terms.items)) ++
         spec.term_parts term) }
 {
@@ -76,7 +86,8 @@ fn longer(first: Box<Expr>, terms: Vec<Term>, term: Term) -> Result<Expr, OutOfM
 
 // Two operands, joined.
 fn joined(alloc: Global, first: Expr, term: Term) -> Result<Expr, OutOfMemory>
-    ensures { IfOk result (λ e. spec.expr_parts e ≡ spec.expr_parts first ++ spec.term_parts term) }
+    ensures joined { IfOk result (IsJoined first term) }
+    ensures spelled { IfOk result (λ e. spec.expr_parts e ≡ spec.expr_parts first ++ spec.term_parts term) }
 {
     if !goes_on(&first, term.operator) {
         return chain(alloc, first, term);

@@ -1,6 +1,7 @@
 pub mod Piles
 pub mod Checked
 pub mod Names
+pub mod Indexes
 pub mod Keys
 pub mod Typed
 pub mod Declarations

@@ -1,5 +1,5 @@
 -- What a text is read as, by its tokens. This project's profile.
-use Rattle.std.specs.Prelude.{ℕ, Bool, true, false, if◌then◌else◌, Option, Some, None, Result, Ok, Err, List, [], ◌∷◌, ◌++◌}
+use Rattle.std.specs.Prelude.{ℕ, suc, min, nat_le, Bool, true, false, if◌then◌else◌, Option, Some, None, Result, Ok, Err, List, [], ◌∷◌, ◌++◌}
 use Rattle.line_text.specs.declared.reader.LineRefused.{LineRefused}
 use Rattle.machine_words.specs.Rules.{refused_by}
 use Rattle.motion_history.specs.Setup.{Setup}
@@ -13,7 +13,7 @@ use Rattle.st_check.specs.Noted.{noted}
 use Rattle.st_parts.specs.declared.part.Part.{Part}
 use Rattle.st_tokens.specs.Tokens.{Placed, tokens_of}
 use Rattle.st_tokens.specs.declared.token.Token.{Token}
-use Rattle.st_tokens.specs.declared.token.Token.TheVariants.{Wrong}
+use Rattle.st_tokens.specs.declared.token.Token.TheVariants.{End, Wrong}
 
 -- where a reader stands: what it expects, the nearest first; what is known; and whether it has
 -- stopped
@@ -51,9 +51,25 @@ abbrev pub advanced : Placed → List Item → Checked → Stand
 advanced p [] c = refused p [] c
 advanced p (item ∷ items) c = led_by (row_of item p.token) p items c (advanced p items)
 
+-- whether a token is one too many: a text has at most 1,000,000, besides its end
+abbrev pub is_too_many : Checked → Token → Bool
+is_too_many c End = false
+is_too_many c _ = nat_le 1000000 c.tokens
+
+-- a token is one too many
+abbrev pub cut_off : ℕ → Stand → Stand
+cut_off line s = record s { checked = broken line 6 s.checked; stopped = true }
+
+-- a token is counted
+abbrev pub counted : Checked → Checked
+counted c = record c { tokens = min (suc c.tokens) 4294967295 }
+
 -- where a token leads a reader to, which hasn't stopped
 unfoldable pub step : Stand → Placed → Stand
-step s p = if s.stopped then s else advanced p s.expected s.checked
+step s p =
+    if s.stopped then s
+    else if is_too_many s.checked p.token then cut_off p.line s
+    else advanced p s.expected (counted s.checked)
 
 -- where tokens lead to, one after another
 abbrev pub run : Stand → List Placed → Stand
@@ -63,6 +79,7 @@ run s (p ∷ tokens) = run (step s p) tokens
 -- what is known before the first token, of this machine
 unfoldable pub opening_checked : Setup → Checked
 opening_checked setup = record {
+  tokens = 0;
   setup = setup;
   used = [];
   known = [];

@@ -7,7 +7,6 @@ ghost use Rattle.st_check.specs.Declarations as spec;
 
 use crate::checker::Checker;
 use crate::known::{Callee, Declaration, Known, Sort};
-use crate::pile::push;
 use axis_state::Name;
 use command_pool::BlockKind;
 use machine_words::{axes_of, object_at};
@@ -95,12 +94,12 @@ impl Checker {
     {
         let callee = self.callee_of(block);
         self.machine_with_block(block)?;
-        push(&mut self.used, block.name)?;
+        self.used.push(block.name)?;
         let known = Known {
             name: block.name,
             sort: Sort::Block(callee),
         };
-        push(&mut self.known, known)
+        self.known.push(known)
     }
 
     // What may be called of a block.

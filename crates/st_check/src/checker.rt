@@ -4,26 +4,30 @@ ghost use Rattle.std.specs.Prelude.{◌≡◌, OnOk};
 ghost use Rattle.line_text.specs.declared.reader.LineRefused.{LineRefused};
 ghost use Rattle.st_check.specs.Checked as spec;
 ghost use Rattle.st_check.specs.Names as names;
+ghost use Rattle.st_check.specs.Reading as reading;
 ghost use Rattle.st_check.specs.Typed as types;
-ghost use Rattle.std.specs.List.{list_any};
-ghost use Rattle.std.specs.Str.{bytes_eq};
 
-use crate::known::{Call, Declaration, Known, Sort, Statement, Used, ValueType};
+use crate::index::{KnownNames, UsedNames};
+use crate::known::{Call, Declaration, Sort, Statement, Used, ValueType};
 use crate::pile::{Pile, push};
 use axis_state::Name;
 use line_text::LineRefused;
-use machine_words::is_same_name;
 use motion_history::Builder;
 use out_of_memory::OutOfMemory;
 use st_parts::Part;
+use st_tokens::Token;
 use std::marker::Model;
+
+/// The most tokens of a text, besides its end.
+const MOST_TOKENS: u32 = 1_000_000;
 
 /// What is known of a text as far as it was read. Contracts see it as a `Checked`.
 #[derive(Drop)]
 pub struct Checker {
+    pub(crate) tokens: u32,
     pub(crate) machine: Builder,
-    pub(crate) used: Vec<Name>,
-    pub(crate) known: Vec<Known>,
+    pub(crate) used: UsedNames,
+    pub(crate) known: KnownNames,
     pub(crate) variables: u32,
     pub(crate) blocks_before: u16,
     pub(crate) types: Pile<ValueType>,
@@ -44,9 +48,10 @@ impl Model for Checker {
     ghost Value = { Checked };
 
     ghost view = { λ c. record {
+      tokens = c.tokens;
       setup = c.machine;
-      used = c.used.items;
-      known = c.known.items;
+      used = c.used;
+      known = c.known;
       variables = c.variables;
       blocks_before = c.blocks_before;
       types = c.types;
@@ -79,39 +84,13 @@ fn least(fault: Option<LineRefused>, line: u64, rule: u8) -> LineRefused
     }
 }
 
-// What a name of the task names.
-fn sort_among(known: &[Known], name: &[u8]) -> Option<Sort>
-    ensures { result ≡ names.sort_among known.now name.now }
-{
-    for item in known {
-        if is_same_name(&item.name, name) {
-            return Some(item.sort);
-        }
-    }
-    None
-}
-
-// Whether one of the names is this.
-fn is_among(names: &[Name], name: &[u8]) -> bool
-    ensures { result ≡ list_any (λ n. bytes_eq n name.now) names.now }
-{
-    names.iter().any(|used| is_same_name(used, name))
-}
-
-// Whether one of the names of the task is this.
-fn is_known(known: &[Known], name: &[u8]) -> bool
-    ensures { result ≡ list_any (λ k. bytes_eq k.name name.now) known.now }
-{
-    known.iter().any(|item| is_same_name(&item.name, name))
-}
-
 impl Checker {
     /// What a name names where the reader stands.
     #[tactic(auto, unfolding(crate::specs::Names::sort_of))]
     pub fn sort_of(&self, name: &[u8]) -> Option<Sort>
         ensures { result ≡ names.sort_of self.now name.now }
     {
-        sort_among(self.known.as_slice(), name)
+        self.known.sort_of(name)
     }
 
     /// Whether a name is used already.
@@ -120,8 +99,25 @@ impl Checker {
         ensures { result ≡ names.is_taken self.now name.now }
     {
         self.machine.name_fault(name.bytes()).is_some()
-            || is_among(self.used.as_slice(), name.bytes())
-            || is_known(self.known.as_slice(), name.bytes())
+            || self.used.has(name.bytes())
+            || self.known.has(name.bytes())
+    }
+
+    /// Whether a token is one too many.
+    pub fn is_too_many(&self, token: &Token) -> bool
+        ensures { result ≡ reading.is_too_many self.now token.now }
+    {
+        match token {
+            Token::End => false,
+            _ => MOST_TOKENS <= self.tokens,
+        }
+    }
+
+    /// A token is counted.
+    pub fn count(&mut self)
+        ensures { self.new ≡ reading.counted self.old }
+    {
+        self.tokens = self.tokens.saturating_add(1);
     }
 
     /// The rule is broken in this line.

@@ -77,7 +77,7 @@ impl Checker {
         ensures { OnOk result (self.new ≡ spec.with_task name.now self.old) }
     {
         self.machine_with_task(name)?;
-        push(&mut self.used, *name)?;
+        self.used.push(*name)?;
         push(&mut self.names, *name)?;
         push(&mut self.parts, Part::Task)
     }
@@ -126,7 +126,7 @@ impl Checker {
             number: self.variables,
             of: type_of(start),
         };
-        push(&mut self.known, Known { name, sort })?;
+        self.known.push(Known { name, sort })?;
         self.variables = self.variables.saturating_add(1);
         push(&mut self.names, name)?;
         push(&mut self.parts, Part::Declared(start))

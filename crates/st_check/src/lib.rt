@@ -9,6 +9,7 @@ mod calls;
 mod checker;
 mod declarations;
 mod expressions;
+mod index;
 mod keys;
 mod known;
 mod noted;

@@ -6,6 +6,7 @@ ghost use Rattle.st_check.specs.Noted.{noted};
 ghost use Rattle.st_check.specs.Reading as spec;
 
 use crate::checker::Checker;
+use crate::index::{KnownNames, UsedNames};
 use crate::known::{Call, Declaration, Statement, Used};
 use crate::pile::Pile;
 use motion_history::Builder;
@@ -37,9 +38,10 @@ fn opening_checker(alloc: Global, machine: Builder) -> Checker
     ensures { result ≡ spec.opening_checked machine }
 {
     Checker {
+        tokens: 0,
         machine,
-        used: Vec::new(alloc),
-        known: Vec::new(alloc),
+        used: UsedNames::new(alloc),
+        known: KnownNames::new(alloc),
         variables: 0,
         blocks_before: 0,
         types: Pile::new(alloc),
@@ -117,7 +119,20 @@ impl Reader {
         if self.stopped {
             return Ok(());
         }
+        if self.checker.is_too_many(token) {
+            self.cut_off(line);
+            return Ok(());
+        }
+        self.checker.count();
         self.advance(token, line)
+    }
+
+    // A token is one too many.
+    fn cut_off(&mut self, line: u64)
+        ensures { self.new ≡ spec.cut_off line self.old }
+    {
+        self.checker.break_rule(line, 6);
+        self.stopped = true;
     }
 
     // Takes a token.

@@ -22,6 +22,7 @@ use Rattle.piece_text.proofs.back.Groups.{group-back}
 use Rattle.piece_text.proofs.back.Instances.{instance-back}
 use Rattle.piece_text.proofs.back.Leads.{Leads, ReadsObjects, get-there, leads-more, leads-none, length-at, length-push}
 use Rattle.piece_text.proofs.back.Lines.{fields-back, unended}
+use Rattle.piece_text.proofs.back.Shorts.{axis-short, group-short, instance-short}
 use Rattle.piece_text.proofs.back.Plain.{axis-plain, group-plain, instance-plain}
 use Rattle.trace_text.specs.Trace.{numbered}
 
@@ -31,7 +32,7 @@ axes_at axes lists = record { axes = axes; groups = []; queues = lists; instance
 
 axis-line : (d : AxisDef) (n : ℕ) (a : Axis) → n < 2 ^ 64 → IsAxisOf d a → fields_in (unended (axis_fields n a)) ≡ axis_fields n a
 unfolding axis_fields
-axis-line d n a l is = fields-back _ _ (axis-plain d n a l is)
+axis-line d n a l is = fields-back _ _ (axis-plain d n a l is) (axis-short d n a is)
 
 axis-step : (s : Setup) (d : AxisDef) (done : List Axis) (a : Axis) (lists : List (List Wanted)) → slice_get s.axes (length done) ≡ Some d → IsAxisOf d a →
     record_meaning s (axes_at done lists) (axis_fields (length done) a) ≡ Ok (axes_at (done ++ a ∷ []) lists)
@@ -56,7 +57,7 @@ groups_at axes groups lists = record { axes = axes; groups = groups; queues = li
 
 group-line : (d : GroupDef) (n : ℕ) (g : PlacedGroup) → n < 2 ^ 64 → IsGroupOf d g → fields_in (unended (group_fields n g)) ≡ group_fields n g
 unfolding group_fields
-group-line d n g l is = fields-back _ _ (group-plain d n g l is)
+group-line d n g l is = fields-back _ _ (group-plain d n g l is) (group-short d n g is)
 
 group-step : (s : Setup) (axes : List Axis) (d : GroupDef) (done : List PlacedGroup) (g : PlacedGroup) (lists : List (List Wanted)) → slice_get s.groups (length done) ≡ Some d → IsGroupOf d g →
     record_meaning s (groups_at axes done lists) (group_fields (length done) g) ≡ Ok (groups_at axes (done ++ g ∷ []) lists)
@@ -81,7 +82,7 @@ instances_at m instances = record m { instances = instances }
 
 instance-line : (d : BlockDef) (n : ℕ) (i : InstanceState) → n < 2 ^ 64 → IsInstanceOf d i → fields_in (unended (instance_fields n i)) ≡ instance_fields n i
 unfolding instance_fields
-instance-line d n i l is = fields-back _ _ (instance-plain d n i l is)
+instance-line d n i l is = fields-back _ _ (instance-plain d n i l is) (instance-short n i)
 
 instance-step : (s : Setup) (m : Machine) (d : BlockDef) (done : List InstanceState) (i : InstanceState) → slice_get s.blocks (length done) ≡ Some d → IsInstanceOf d i →
     record_meaning s (instances_at m done) (instance_fields (length done) i) ≡ Ok (instances_at m (done ++ i ∷ []))

@@ -18,6 +18,7 @@ use Rattle.piece_text.specs.WantedFields.{waiting_fields, wanted_fields}
 use Rattle.piece_text.specs.reading.Lines.{fields_in, has_list, lines_meaning, objects_in, record_meaning, waiting_meaning}
 use Rattle.piece_text.proofs.back.Commands.{wanted-back}
 use Rattle.piece_text.proofs.back.Lines.{fields-back, unended}
+use Rattle.piece_text.proofs.back.Shorts.{waiting-short}
 use Rattle.piece_text.proofs.back.Plain.{waiting-plain}
 
 -- lines of records lead from one machine to another
@@ -107,7 +108,7 @@ waits-lead s (w ∷ ws) m before queue behind is all few =
     let more = waits-lead s ws n before (queue ++ w ∷ []) behind (stands-on m before queue (queue ++ w ∷ []) behind is) all.1 (longer queue w (length ws) few) in
     let o : Machine = record m { queues = before ++ ((queue ++ w ∷ []) ++ ws) ∷ behind } in
     rw (← append_assoc queue (w ∷ []) ws)
-    (leads-more s (waiting_fields w) (map waiting_fields ws) m n o (fields-back (codes "waiting") (wanted_fields w) (waiting-plain w all.0)) (waiting-step s m before queue behind w is all.0 (omega (arith, few))) more)
+    (leads-more s (waiting_fields w) (map waiting_fields ws) m n o (fields-back (codes "waiting") (wanted_fields w) (waiting-plain w all.0) (waiting-short w all.0)) (waiting-step s m before queue behind w is all.0 (omega (arith, few))) more)
   where
     longer : (queue : List Wanted) (w : Wanted) (k : ℕ) → length queue + suc k ≤ 8 → length (queue ++ w ∷ []) + k ≤ 8
     longer queue w k l = let n = length-append queue (w ∷ []) in omega (arith, n, l)

@@ -1,9 +1,9 @@
 -- Lines: the fields of a record's line are those of which it was made, and a line is made of its
 -- fields.
 use Rattle.std.specs.Prelude.{◌≡◌, refl, ℕ, suc, ◌+◌, ◌≤◌, ◌==◌, true, false, List, [], ◌∷◌, ◌++◌, length, map}
-use Rattle.std.specs.List.{AllByRecursion, flat_map, join_with_byte, onto_first, slice_split}
+use Rattle.std.specs.List.{AllByRecursion, count_by, flat_map, join_with_byte, onto_first, slice_split}
 use Rattle.std.proofs.Common.{◌∙◌, ap, append_assoc, arith, sym}
-use Rattle.std.proofs.lemmas.Bool.{ne_eqb}
+use Rattle.std.proofs.lemmas.Bool.{le-leb, ne_eqb}
 use Rattle.std.proofs.lemmas.List.{append-nil}
 use Rattle.std.proofs.lemmas.List.Splits.{join_with_byte-slice_split, length-slice_split, slice_split-cons_no, slice_split-cons_yes}
 use Rattle.line_text.specs.Lines.{is_end, lines_of, without_empty_end}
@@ -35,9 +35,13 @@ unfolding fields_text
 fields-split kind [] k h = ap (slice_split is_comma) (append-nil kind) ∙ split-whole 44 (omega arith) kind k
 fields-split kind (f ∷ fs) k h = split-comma kind (f ++ fields_text fs) k ∙ ap (λ t. kind ∷ t) (fields-split f fs h.0 h.1)
 
-pub fields-back : (kind : List ℕ) (fields : List (List ℕ)) → ArePlain (kind ∷ fields) → fields_in (unended (kind ∷ fields)) ≡ kind ∷ fields
+pub fields-back : (kind : List ℕ) (fields : List (List ℕ)) → ArePlain (kind ∷ fields) → length (kind ∷ fields) ≤ 64 → fields_in (unended (kind ∷ fields)) ≡ kind ∷ fields
 unfolding fields_in unended
-fields-back kind fields h = fields-split kind fields h.0 h.1
+fields-back kind fields h few =
+    let split : slice_split is_comma (kind ++ fields_text fields) ≡ kind ∷ fields = fields-split kind fields h.0 h.1 in
+    let count : count_by is_comma (kind ++ fields_text fields) + 1 ≡ length (kind ∷ fields) = sym (length-slice_split is_comma (kind ++ fields_text fields)) ∙ ap length split in
+    let low : count_by is_comma (kind ++ fields_text fields) ≤ 63 = omega (arith, count, few) in
+    rw (le-leb _ _ low) split
 
 -- a line has no line feed
 AreLow : List ℕ → Type 0

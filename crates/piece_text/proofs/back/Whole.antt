@@ -1,5 +1,5 @@
 -- The head of a piece as a whole is read as what was written.
-use Rattle.std.specs.Prelude.{◌≡◌, refl, ℕ, zero, suc, ◌+◌, ◌≤◌, ◌<◌, ◌^◌, ◌==◌, ◌&&◌, Bool, true, Some, Ok, Result, List, [], ◌∷◌, ◌++◌, codes, length, map, replicate}
+use Rattle.std.specs.Prelude.{◌≡◌, refl, ℕ, zero, suc, ◌+◌, ◌≤◌, ◌<◌, ◌^◌, ◌==◌, ◌&&◌, Bool, true, Some, Ok, Result, List, [], ◌∷◌, ◌++◌, codes, decimal, length, map, replicate}
 use Rattle.std.specs.List.{AllByRecursion, AllZip}
 use Rattle.std.proofs.Common.{◌∙◌, ap, append_assoc, arith, subst, sym}
 use Rattle.std.proofs.lemmas.List.{append-nil, map-append}
@@ -28,6 +28,7 @@ use Rattle.piece_text.proofs.back.Columns.{count-back}
 use Rattle.piece_text.proofs.back.Heads.{axes_at, groups_at, instances-lead, instances_at, reads-axes, reads-groups}
 use Rattle.piece_text.proofs.back.Leads.{Leads, empties, leads-then, lists_from, objects-lead}
 use Rattle.piece_text.proofs.back.Lines.{fields-back, lines-back, unended}
+use Rattle.piece_text.proofs.back.Shorts.{piece-short}
 use Rattle.piece_text.proofs.back.Plain.{ArePlain, axis-plain, group-plain, instance-plain, piece-plain, waiting-plain}
 use Rattle.trace_text.specs.Trace.{numbered}
 
@@ -157,7 +158,7 @@ before-back : (b : Before) → IsEarly b → before_meaning (unended (piece_fiel
 unfolding before_meaning before_of counts_of says
 before-back b is =
     rw (
-      fields-back (codes "piece") _ (piece-plain b is),
+      fields-back (codes "piece") (codes "1" ∷ decimal b.banks ∷ decimal b.entries ∷ decimal b.cycles ∷ []) (piece-plain b is) (piece-short b),
       count-back b.banks is.banks,
       count-back b.entries is.entries,
       count-back b.cycles is.cycles,

@@ -1,6 +1,6 @@
 -- What the lines of a head mean where its machine is read so far. This project's profile.
 use Rattle.std.specs.Prelude.{ℕ, ◌+◌, ◌-◌, ◌==◌, ◌&&◌, Bool, nat_le, not, if◌then◌else◌, Option, Some, None, Result, Ok, Err, List, [], ◌∷◌, ◌++◌, codes, length, replicate, slice_get, slice_set}
-use Rattle.std.specs.List.{slice_split}
+use Rattle.std.specs.List.{count_by, slice_split}
 use Rattle.std.specs.Option.{ok_or}
 use Rattle.command_pool.specs.Waiting.{queue_of}
 use Rattle.line_text.specs.Reading.{◌>>=◌, at_line}
@@ -95,9 +95,11 @@ record_meaning s m (kind ∷ fields) =
 abbrev pub is_comma : ℕ → Bool
 is_comma b = b == 44
 
--- the fields of a line
+-- the fields of a line; one with more than 64 has none. The longest record, that of a group on a path
+-- with a command that follows a gear, has 44
 unfoldable pub fields_in : List ℕ → List (List ℕ)
-fields_in line = slice_split is_comma line
+fields_in line =
+    if nat_le (count_by is_comma line) 63 then slice_split is_comma line else []
 
 -- what lines mean one after another, so many lines in: the first that breaks a rule is refused
 abbrev pub lines_meaning : Setup → ℕ → Machine → List (List ℕ) → Result Machine LineRefused

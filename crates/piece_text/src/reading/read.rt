@@ -1,6 +1,7 @@
 // Reading a piece.
 
 ghost use Rattle.std.specs.Prelude.{◌≡◌, ◌+◌, ◌<◌, ◌≤◌, IfOk, IfSome, length};
+ghost use Rattle.std.specs.List.{count_by, slice_split};
 ghost use Rattle.std.specs.Option.{option_map};
 ghost use Rattle.line_text.specs.Lines.{lines_of};
 ghost use Rattle.line_text.specs.Reading.{Takes, TakesText};
@@ -20,12 +21,33 @@ use motion_kernel::Before;
 use std::alloc::{AllocError, Global};
 use trace_text::read_trace;
 
-// The fields of a line.
+/// The most commas of a line that has fields.
+const MOST_COMMAS: usize = 63;
+
+// How many commas a line has.
+fn commas_in(line: &[u8]) -> usize
+    ensures { result ≡ count_by lines.is_comma line.now }
+{
+    line.iter().filter(|b| **b == b',').count()
+}
+
+// What stands between the commas of a line.
+fn parts_of(alloc: Global, line: &[u8]) -> Result<Vec<&[u8]>, AllocError>
+    ensures { IfOk result (λ v. texts v.items ≡ slice_split lines.is_comma line.now) }
+{
+    line.split(|b| *b == b',').collect(alloc)
+}
+
+// The fields of a line, which are collected only where they may be those of a record.
 #[tactic(auto, unfolding(crate::specs::reading::Lines::fields_in))]
 fn fields_in(alloc: Global, line: &[u8]) -> Result<Vec<&[u8]>, AllocError>
     ensures { IfOk result (λ v. texts v.items ≡ lines.fields_in line.now) }
 {
-    line.split(|b| *b == b',').collect(alloc)
+    if commas_in(line) <= MOST_COMMAS {
+        parts_of(alloc, line)
+    } else {
+        Ok(Vec::new(alloc))
+    }
 }
 
 // Takes a line.

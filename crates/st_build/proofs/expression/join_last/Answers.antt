@@ -12,5 +12,5 @@ returns-clause-spelled c =
     (operands_parts c.put.new.operands.items ≡ operands_parts c.args.operands.now.items ++ part.Join c.args.operator ∷ [])
     (last_joined c.args.operands.now.items c.pop.new.self.items c.pop-2.new.self.items c.in-Some-pop.first c.in-Some.second
     (expr_parts c.in_ok-made.made) (term_parts c.term.result) (part.Join c.args.operator ∷ []) _
-    c.in-Some.ensures.items c.in-Some-pop.ensures.items c.term.ensures c.in_ok-made.ensures)
+    c.in-Some.ensures.items c.in-Some-pop.ensures.items c.term.ensures c.in_ok-made.ensures.spelled)
     c.put.ensures.spelled

@@ -7,8 +7,8 @@ use Rattle.st_parts.specs.Parts.{Parts, expr_parts, expr_step, term_parts, term_
 use Rattle.st_build.proofs.Lists.{pushed}
 use Rattle.st_build.proofs.expression.longer.Goals as goal
 
-pub returns : goal.returns
-returns c =
+pub returns-clause-spelled : goal.returns-clause-spelled
+returns-clause-spelled c =
     ap expr_parts (sym (rolls-Chain c.args.first c.push.new.list)) ∙
     fold-roll-Expr Parts Parts expr_step term_step (Expr-F.Chain c.args.first c.push.new.list) ∙
     pushed term_parts (expr_parts c.args.first.value) c.args.terms.items c.push.new.list.items c.args.term c.in_ok-push.ensures

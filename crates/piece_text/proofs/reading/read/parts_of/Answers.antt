@@ -2,10 +2,9 @@
 use Rattle.std.proofs.Common.{rules, tests}
 use Rattle.std.proofs.lemmas.Iterator.Consumers.{map_from_collect}
 use Rattle.std.proofs.lemmas.Iterator.Splits.{YieldsList-from_slice_split}
-use Rattle.piece_text.specs.reading.Lines.{fields_in, is_comma}
-use Rattle.piece_text.proofs.reading.read.fields_in.Goals as goal
+use Rattle.piece_text.specs.reading.Lines.{is_comma}
+use Rattle.piece_text.proofs.reading.read.parts_of.Goals as goal
 
 pub returns : goal.returns
-unfolding fields_in
 returns c =
     map_from_collect _ c.collect.ensures.ran (YieldsList-from_slice_split _ is_comma c.args.line.now c.split.ensures.rest c.split.ensures.done c.split.ensures.closure (λ x r q k. search (rules, tests)))
