@@ -1,6 +1,6 @@
 // The trace of a run is written.
 
-ghost use Rattle.std.specs.Prelude.{◌≡◌, All, IfOk, length, map};
+ghost use Rattle.std.specs.Prelude.{◌≡◌, ◌≤◌, ◌-◌, ◌^◌, ◌≤ℤ◌, neg_ℤ, pos, All, IfOk, length, map};
 ghost use Rattle.motion_plant.specs.Ran.{EndsSo};
 ghost use Rattle.run_job.specs.Ends.{WritesTrace};
 ghost use Rattle.run_job.specs.Plans as plans;
@@ -32,8 +32,9 @@ pub fn write_run<K: Sink>(alloc: Global, end: &PlantEnd, out: &mut K) -> Status
     let Ok(rows) = end_rows(alloc, end.drives.as_slice()) else {
         return Status::OutOfMemory;
     };
-    trace_is_read_back(end, rows.as_slice());
-    let written = write_rows(alloc, end, rows.as_slice(), out);
+    let taken = rows.as_slice();
+    trace_is_read_back(end, taken);
+    let written = write_rows(alloc, end, taken, out);
     status_by(status, written)
 }
 
@@ -50,12 +51,29 @@ fn trace_is_read_back(end: &PlantEnd, rows: &[DriveEndRow])
     rows_have_their_bits(rows);
 }
 
-// What a drive took and where it is: numbers of the bits of their types.
-fn numbers_of(row: &DriveEndRow) -> (u32, i32)
-    ensures same { (result.0 ≡ row.now.taken) × (result.1 ≡ row.now.actual) }
-    ensures bits { IsDriveEnd row.now }
+// How many setpoints a drive took: a number of 32 bits.
+fn taken_of(row: &DriveEndRow) -> u32
+    ensures same { result ≡ row.now.taken }
+    ensures bits { row.now.taken ≤ 2 ^ 32 - 1 }
 {
-    (row.taken, row.actual)
+    row.taken
+}
+
+// Where a drive is: a position of 32 bits.
+fn position_of(row: &DriveEndRow) -> i32
+    ensures same { result ≡ row.now.actual }
+    ensures least { neg_ℤ (pos (2 ^ 31)) ≤ℤ row.now.actual }
+    ensures most { row.now.actual ≤ℤ pos (2 ^ 31 - 1) }
+{
+    row.actual
+}
+
+// A row has numbers of the bits of their types.
+fn has_its_bits(row: &DriveEndRow)
+    ensures { IsDriveEnd row.now }
+{
+    let _ = taken_of(row);
+    let _ = position_of(row);
 }
 
 // What the drives took has numbers of the bits of their types.
@@ -63,7 +81,7 @@ fn rows_have_their_bits(rows: &[DriveEndRow])
     ensures { All IsDriveEnd rows.now }
 {
     for row in rows {
-        let _ = numbers_of(row);
+        has_its_bits(row);
     }
 }
 

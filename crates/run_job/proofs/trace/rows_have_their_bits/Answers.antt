@@ -9,15 +9,14 @@ pub loop-row-preserved : goal.loop-row-preserved
 loop-row-preserved c =
     let i = c.loop-row.row-index in
     let rows = c.args.rows.now in
-    let row = c.row-item.result in
     record {
       bits = λ k d l. elim (cases_lt k i) [
         | inl b ↦ c.loop-row.invariant.bits k d b
         | inr b ↦ subst IsDriveEnd
-            (c.row-item.is ∙ get_or_default rows i row d c.loop-row-test.true
-            ∙ ap (λ j. slice_index_or rows j d) (omega arith)) c.numbers_of.ensures.bits
+            (get_or_default rows i _ d c.loop-row-test.true
+            ∙ ap (λ j. slice_index_or rows j d) (omega arith)) c.has_its_bits.ensures
       ];
     }
 
 pub returns : goal.returns
-returns c k d l = c.loop-row.invariant.bits k d (let t = c.loop-row-test.false in omega arith)
+returns c = λ k d l. c.loop-row.invariant.bits k d (let t = c.loop-row-test.false in omega arith)

@@ -18,5 +18,5 @@ returns g c =
     (ended-so _ _ _ c.ending_of.ensures.ok c.ending_of.ensures.over c.ending_of.ensures.full
     c.ending_of.ensures.entries)
     c.status_of-status.ensures
-    (c.as_slice-2.ensures.value ∙ c.in-Ok.ensures ∙ ap (map end_row) c.as_slice.ensures.value)
+    (c.as_slice-taken.ensures.value ∙ c.in-Ok.ensures ∙ ap (map end_row) c.as_slice.ensures.value)
     c.write_rows-written.ensures c.trace_is_read_back.ensures c.status_by.ensures
