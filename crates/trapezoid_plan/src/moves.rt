@@ -1,5 +1,5 @@
 // The wanted step of a move.
-ghost use Rattle.std.specs.Prelude.{◌≡◌, IsTrue, ◌+◌, ◌≤◌, ◌<◌, max, min, true, pos, neg_ℤ};
+ghost use Rattle.std.specs.Prelude.{◌≡◌, ◌↔◌, IsTrue, ◌+◌, ◌≤◌, ◌<◌, max, min, true, pos, neg_ℤ};
 ghost use Rattle.command_pool.specs.Rates.{AreRates};
 ghost use Rattle.trapezoid_plan.specs.MoveStep.{IsMoveStep, HasMoveStep, MayFollow, move_step_of, step_ahead_of};
 ghost use Rattle.motion_numbers.specs.Ranges.{IsStep, IsWay};
@@ -13,12 +13,12 @@ use ramp_root::{Steps, reach};
 use std::marker::Brand;
 use std::sync::ledger::{Blank, Ledger};
 
-/// The wanted step of a move, and whether it surely may follow the step of the last cycle.
+/// The wanted step of a move, and whether it may follow the step of the last cycle.
 #[derive(Clone, Copy, Debug, PartialEq, Eq)]
 pub struct PlannedStep {
     /// The step, in internal units per cycle.
     pub step: i64,
-    /// Whether it is one that may follow: such a step is safe.
+    /// Whether it is one that may follow. Within the limits of its axis such a step is safe.
     pub follows: bool,
 }
 
@@ -38,13 +38,13 @@ pub fn move_step(distance: i64, old: i64, rates: &Rates) -> i64
     planned_step(distance, old, rates).step
 }
 
-/// The same step, and whether it surely may follow.
+/// The same step, and whether it may follow: exactly where a step of the move may.
 pub fn planned_step(distance: i64, old: i64, rates: &Rates) -> PlannedStep
     requires rates { AreRates rates.now }
     requires distance { IsWay distance }
     requires old { IsStep old }
     ensures value { result.step ≡ move_step_of distance old rates.now }
-    ensures follows { result.follows ≡ true → HasMoveStep rates.now distance old }
+    ensures follows { (result.follows ≡ true) ↔ HasMoveStep rates.now distance old }
     ensures small { IsStep result.step }
 {
     planned_from::<Brand>(distance, old, rates, Blank::new(1))
@@ -59,7 +59,7 @@ fn planned_from<L: Ledger>(distance: i64, old: i64, rates: &Rates, blank: Blank)
     requires distance { IsWay distance }
     requires old { IsStep old }
     ensures value { result.step ≡ move_step_of distance old rates.now }
-    ensures follows { result.follows ≡ true → HasMoveStep rates.now distance old }
+    ensures follows { (result.follows ≡ true) ↔ HasMoveStep rates.now distance old }
     ensures small { IsStep result.step }
 {
     let mut steps = Steps::<L>::open(blank);
@@ -94,10 +94,12 @@ fn planned_step_counted<L: Ledger>(
     requires distance { IsWay distance }
     requires old { IsStep old }
     ensures value { result.step ≡ move_step_of distance old rates.now }
-    ensures follows { result.follows ≡ true → HasMoveStep rates.now distance old }
+    ensures follows { (result.follows ≡ true) ↔ HasMoveStep rates.now distance old }
     ensures small { IsStep result.step }
     ensures cost { steps.new ≤ steps.old + 128 }
 {
+    ways_to_rest();
+    searches_find_the_greatest();
     if 0 < distance && 0 <= old {
         step_ahead(distance.unsigned_abs(), old.unsigned_abs(), rates, steps)
     } else if distance < 0 && old <= 0 {
@@ -129,7 +131,8 @@ fn step_ahead<L: Ledger>(way: u64, speed: u64, rates: &Rates, steps: &mut Steps<
     requires speed { speed ≤ MOST_STEP }
     requires way { way ≤ MOST_WAY }
     ensures value { result.step ≡ pos (step_ahead_of way speed rates.now) }
-    ensures follows { result.follows ≡ true → MayFollow rates.now (pos way) (pos speed) result.step }
+    ensures follows { (result.follows ≡ true) ↔
+        MayFollow rates.now (pos way) (pos speed) result.step }
     ensures small { IsStep result.step }
     ensures cost { steps.new ≤ steps.old + 64 }
 {
@@ -146,14 +149,24 @@ fn step_ahead<L: Ledger>(way: u64, speed: u64, rates: &Rates, steps: &mut Steps<
     } else if ramp_sum(slowest + 1, d) > way as u128 {
         PlannedStep {
             step: slowest as i64,
-            follows: false,
+            follows: comes_to_rest(slowest, fastest, d, way),
         }
     } else {
         PlannedStep {
             step: step_between(fastest, slowest, way, d, steps) as i64,
-            follows: false,
+            follows: slowest <= fastest,
         }
     }
+}
+
+// Whether the slowest step is none above the fastest, and comes to rest within the way.
+fn comes_to_rest(slowest: u64, fastest: u64, d: u64, way: u64) -> bool
+    requires step { slowest ≤ MOST_STEP }
+    requires fall { 1 ≤ d }
+    requires most_fall { d ≤ MOST_STEP }
+    ensures { IsTrue result ↔ ((slowest ≤ fastest) × (run_of slowest d ≤ way)) }
+{
+    slowest <= fastest && ramp_sum(slowest, d) <= way as u128
 }
 
 // The step where the way allows neither the fastest one nor only the slowest: by a root. Out of line

@@ -16,7 +16,7 @@ returns-then-planned-clause-value c =
     let value : c.planned_step-planned.result.step ≡ move_step_of c.way.result c.old_step.result rates =
     simp to_z-of_z at c.planned_step-planned.ensures.value in
     let has : HasMoveStep rates c.way.result c.old_step.result =
-    simp to_z-of_z at (c.planned_step-planned.ensures.follows c.if-planned.true) in
+    simp to_z-of_z at (c.planned_step-planned.ensures.follows.0 c.if-planned.true) in
     let near = small_of a c.requires.moving in
     let place : FitsSigned w64 c.args.place = c.ranges.place in
     let setpoint : FitsSigned w64 a.setpoint = let n = near.setpoint in omega (arith, ints, n) in
