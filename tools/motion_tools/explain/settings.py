@@ -43,10 +43,16 @@ Item = tuple[str, int, dict[str, Any]]          # its kind, its number from 0 am
 
 def fault_at(text: str, place: int, rule: str) -> Optional[Fault]:
     """What breaks a rule at a place, where this reader finds it."""
+    if rule == "C8":
+        # Its place is the line of the first sign too many; the text isn't read as TOML.
+        return Fault("C8", place, -1, 1, "there are more signs than any machine needs")
     try:
         data = tomllib.loads(text.removeprefix("\ufeff"))
     except tomllib.TOMLDecodeError as error:
         return syntax_fault(text, str(error)) if rule == "C1" else None
+    except RecursionError:
+        return Fault("C1", len(text.splitlines()) or 1, -1, 1, "brackets are nested too deep") \
+            if rule == "C1" else None
     for kind, number, key, says in broken(data, place, rule):
         return placed(text, rule, kind, number, key, says)
     return None
