@@ -31,6 +31,15 @@ row-more v w axes expected rows places i d r row p h same-version same-place a b
   | inr other ↦ before n (omega (arith, other, l))
 ]
 
+-- a row that is found so at its place is found so
+pub row-there : (v w : TraceVersion) (axes : List AxisDef) (expected rows : List AxisRow)
+    (places : ℕ → Option ℤ) (i : ℕ) (d : AxisDef) (r row : AxisRow) (p : Option ℤ) → w ≡ v →
+    p ≡ places i → slice_get axes i ≡ Some d → slice_get expected i ≡ Some r →
+    slice_get rows i ≡ Some row → IsFoundAt v axes expected rows places i → IsFoundAs w d r row p
+row-there v w axes expected rows places i d r row p same-version same-place a b c at =
+    let h = at d r row a b c in
+    record { row = h.row; place = rw same-version (h.place ∙ sym same-place) }
+
 place-same : (v : TraceVersion) (s : Setup) (n : ℕ) (places : List ℤ) (d : AxisDef) (r : AxisRow) → slice_get s.axes n ≡ Some d → found_place v d r ≡ slice_get places n →
     reported_text v s n r ≡ place_text places n
 unfolding reported_text
