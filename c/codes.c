@@ -55,13 +55,36 @@ static uint32_t name_of(uint32_t (*find)(motion *, const uint8_t *, size_t), mot
     return find(m, (const uint8_t *)name, strlen(name));
 }
 
+/* Outputs and rows that no call writes, by which a call that changed nothing is known. */
+static const motion_outputs untold = { 999, 9, 9, 9, 9, 9, 9 };
+static const motion_drive_out ungiven = { -1, 0xffff, -1 };
+static const motion_axis_row unseen = { -1, -1, 99, 999, 9 };
+static const motion_refusal unread = { 77, 7, 7 };
+
+static void want_untold(const char *what, const motion_outputs *out)
+{
+    want(what, out->error_id == 999 && out->busy == 9 && out->active == 9 && out->done == 9
+                   && out->aborted == 9 && out->error == 9 && out->reached == 9, 1);
+}
+
+static void want_unseen(const char *what, const motion_axis_row *row)
+{
+    want(what, row->setpoint == -1 && row->offset == -1 && row->state == 99 && row->error == 999
+                   && row->driven == 9, 1);
+}
+
+static void want_unread(const char *what, const motion_refusal *why)
+{
+    want(what, why->line == 77 && why->letter == 7 && why->number == 7, 1);
+}
+
 /* Nothing but CLOSED, 0 and no number comes of a closed handle. */
 static void closed_handle(void)
 {
     motion m = MOTION_NONE;
-    motion_outputs out = { 999, 9, 9, 9, 9, 9, 9 };
+    motion_outputs out = untold;
     motion_drive_out given[1] = { { -1, 0xffff, -1 } };
-    motion_axis_row axis = { -1, -1, 99, 999, 9 };
+    motion_axis_row axis = unseen;
     motion_group_row group = { 99, 999 };
     uint8_t room[4] = { 7, 7, 7, 7 };
     want("call", motion_call(&m, 0, &nothing, &out), MOTION_CLOSED);
@@ -79,8 +102,9 @@ static void closed_handle(void)
     want("block", name_of(motion_block, &m, "G"), MOTION_NO_NUMBER);
     want("counts", motion_axes(&m) + motion_groups(&m), 0);
     want("left", motion_cycles_left(&m) + motion_room_left(&m), 0);
-    want("unchanged", out.error_id == 999 && given[0].mode == -1 && axis.state == 99
-                          && group.state == 99 && room[0] == 7, 1);
+    want_untold("no outputs", &out);
+    want_unseen("no row", &axis);
+    want("unchanged", given[0].mode == -1 && group.state == 99 && group.error == 999 && room[0] == 7, 1);
 }
 
 /* A text is refused at its line, by its rule; an open handle isn't opened again. */
@@ -94,8 +118,10 @@ static void opening(void)
     want("range's line", why.line * 100 + why.number, 308);
     want("not whole", open_text(&m, "motion-bench 1\nlimit 20 40", &why), MOTION_REFUSED);
     want("not whole's rule", why.number, 10);
+    why = unread;
     want("first", open_text(&m, first, &why), MOTION_OK);
     want("again", open_text(&m, small, &why), MOTION_OPEN);
+    want_unread("opening", &why);
     want("still first", motion_axes(&m), 1);
     want("close", motion_close(&m), MOTION_OK);
     want("closed", motion_close(&m), MOTION_CLOSED);
@@ -111,8 +137,10 @@ static void configurations(void)
     want("no program", open_config(&m, config, "motion-program 1\ntask main\nblock M Fly X\n", &why),
          MOTION_REFUSED);
     want("its line", why.line * 100000 + why.letter * 100, 300000 + 'P' * 100);
+    why = unread;
     want("both", open_config(&m, config, program, &why), MOTION_OK);
     want("open", open_config(&m, "", "", &why), MOTION_OPEN);
+    want_unread("both", &why);
     want("block M", name_of(motion_block, &m, "M"), 0);
     want("close", motion_close(&m), MOTION_OK);
 }
@@ -158,6 +186,8 @@ static void names(motion *m)
     want("task main", name_of(motion_task, m, "main"), 0);
     want("block E", name_of(motion_block, m, "E"), 1);
     want("no axis", name_of(motion_axis, m, "XY"), MOTION_NO_NUMBER);
+    want("no group", name_of(motion_group, m, "X"), MOTION_NO_NUMBER);
+    want("no task", name_of(motion_task, m, "G"), MOTION_NO_NUMBER);
     want("no name", name_of(motion_block, m, ""), MOTION_NO_NUMBER);
     want("counts", motion_axes(m) * 10 + motion_groups(m), 21);
 }
@@ -165,7 +195,7 @@ static void names(motion *m)
 /* Calls that are none, and inputs that aren't read. */
 static void calls(motion *m)
 {
-    motion_outputs out = { 999, 9, 9, 9, 9, 9, 9 };
+    motion_outputs out = untold;
     motion_inputs in = nothing;
     want("no block", motion_call(m, 2, &in, &out), MOTION_UNKNOWN);
     in.acceleration = INT64_MIN;
@@ -173,13 +203,17 @@ static void calls(motion *m)
     in = nothing;
     in.numerator = 1000000000000000001;
     want("numerator", motion_call(m, 0, &in, &out), MOTION_RANGE);
+    in.numerator = 1000000000000000000;
+    in.acceleration = -1000000000000000000;
+    want("at their limits", motion_call(m, 0, &in, &out), MOTION_OK);
+    out = untold;
     in = nothing;
     in.mode = 6;
     want("mode", motion_call(m, 0, &in, &out), MOTION_RANGE);
     in = nothing;
     in.master = 2;
     want("master", motion_call(m, 0, &in, &out), MOTION_RANGE);
-    want("unchanged", out.error_id, 999);
+    want_untold("unchanged", &out);
     in.mode = 9;
     in.velocity = INT64_MIN;
     in.positions[5] = INT64_MAX;
@@ -187,11 +221,36 @@ static void calls(motion *m)
     want("no task", motion_end(m, 1), MOTION_UNKNOWN);
 }
 
+/* A text of more than 64 KiB, and its trace in one part and in another that is as long as what is left. */
+static void long_texts(void)
+{
+    static char text[100000];
+    static uint8_t whole[500000];
+    motion m = MOTION_NONE;
+    motion_refusal why;
+    motion_inputs in = nothing;
+    motion_outputs out;
+    uint64_t len;
+    int i;
+    in.positions[0] = -1000000000000000000;
+    in.velocity = in.acceleration = in.deceleration = in.jerk = 1000000000000000000;
+    strcpy(text, "motion-bench 1\nlimit 20 9000\naxis X 0 50 10 4 1 0 ready\ntask main\n"
+                 "block M main MoveAbsolute X #");
+    memset(text + strlen(text), '#', sizeof text - strlen(text) - 1);
+    want("open", open_text(&m, text, &why), MOTION_OK);
+    for (i = 0; i < 3000; i++) want("call", motion_call(&m, 0, &in, &out), MOTION_OK);
+    want("trace", motion_trace(&m, enabled, 1), MOTION_OK);
+    len = motion_trace_text(&m, 0, whole, sizeof whole);
+    want("a long one", len > 65536 && len < sizeof whole, 1);
+    want("but its first byte", motion_trace_text(&m, 1, whole, sizeof whole), len - 1);
+    want("close", motion_close(&m), MOTION_OK);
+}
+
 /* Looks before and behind a cycle; then cycles and entries that are over. */
 static void cycles(motion *m)
 {
     motion_drive_out given[2];
-    motion_axis_row axis = { -1, -1, 99, 999, 9 };
+    motion_axis_row axis = unseen;
     motion_group_row group = { 99, 999 };
     motion_outputs out;
     int i;
@@ -199,13 +258,18 @@ static void cycles(motion *m)
     want("no cycle", motion_group_look(m, 0, &group), MOTION_NO_CYCLE);
     want("no axis", motion_axis_look(m, 2, &axis), MOTION_UNKNOWN);
     want("no group", motion_group_look(m, 1, &group), MOTION_UNKNOWN);
-    want("unchanged", axis.state == 99 && group.state == 99, 1);
+    want_unseen("unchanged", &axis);
+    want("unchanged", group.state == 99 && group.error == 999, 1);
     want("answers", motion_cycle(m, enabled, 1, given, 2), MOTION_LENGTH);
     want("outputs", motion_cycle(m, enabled, 2, given, 1), MOTION_LENGTH);
     for (i = 0; i < 2; i++) want("cycle", motion_cycle(m, enabled, 2, given, 2), MOTION_OK);
+    given[0] = given[1] = ungiven;
     want("over", motion_cycle(m, enabled, 2, given, 2), MOTION_OVER);
-    for (i = 0; i < 3; i++) want("call", motion_call(m, 1, &nothing, &out), MOTION_OK);
+    want("no outputs", given[1].target == -1 && given[1].controlword == 0xffff && given[1].mode == -1, 1);
+    while (motion_room_left(m) > 0) want("call", motion_call(m, 1, &nothing, &out), MOTION_OK);
+    out = untold;
     want("full", motion_call(m, 1, &nothing, &out), MOTION_FULL);
+    want_untold("full", &out);
     want("full", motion_end(m, 0), MOTION_FULL);
     want("axis", motion_axis_look(m, 1, &axis), MOTION_OK);
     want("standstill", axis.state, MOTION_STANDSTILL);
@@ -214,6 +278,22 @@ static void cycles(motion *m)
     want("left", motion_cycles_left(m) + motion_room_left(m), 0);
     want("answers", motion_trace(m, enabled, 1), MOTION_LENGTH);
     want("trace", motion_trace(m, enabled, 2), MOTION_OK);
+}
+
+/* A bank that is full while cycles are left. */
+static void full_bank(void)
+{
+    motion m = MOTION_NONE;
+    motion_refusal why;
+    motion_drive_out given = ungiven;
+    want("open", open_text(&m, "motion-bench 1\nlimit 5 1\naxis X 0 50 10 4 1 0 ready\ntask main\n"
+                               "block M main Halt X", &why), MOTION_OK);
+    want("cycle", motion_cycle(&m, enabled, 1, &given, 1), MOTION_OK);
+    given = ungiven;
+    want("full", motion_cycle(&m, enabled, 1, &given, 1), MOTION_FULL);
+    want("no outputs", given.target == -1 && given.controlword == 0xffff && given.mode == -1, 1);
+    want("cycles left", motion_cycles_left(&m), 4);
+    want("close", motion_close(&m), MOTION_OK);
 }
 
 /* Two handles at once. */
@@ -288,6 +368,8 @@ int main(void)
     cycles(&m);
     want("close", motion_close(&m), MOTION_OK);
     configurations();
+    full_bank();
+    long_texts();
     parts();
     two_handles();
     swaps();

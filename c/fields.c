@@ -303,9 +303,72 @@ static void errors(void)
     want("close", motion_close(&m), MOTION_OK);
 }
 
+/* A machine of as many axes, groups and tasks as there may be: each by its number, six positions of a
+ * group, what is true of Execute, and a group that moves and has an error. */
+static void widest(void)
+{
+    static char text[2048];
+    motion m = MOTION_NONE;
+    motion_refusal why;
+    motion_inputs in = all;
+    motion_drive_in answers[MOTION_MOST_AXES];
+    motion_drive_out given[MOTION_MOST_AXES];
+    motion_axis_row axis;
+    motion_group_row group;
+    motion_outputs out;
+    char *to = text + sprintf(text, "motion-bench 2\nlimit 9 40\n");
+    int i;
+    for (i = 0; i < MOTION_MOST_AXES; i++) {
+        to += sprintf(to, "axis A%d 0 50 10 4 5 1 %d ready\n", i, i);
+        answers[i].actual = i;
+        answers[i].statusword = 0x0037;
+        answers[i].mode_display = 8;
+    }
+    to += sprintf(to, "group G0 A0 A1\ngroup G1 A2 A3\ngroup G2 A4 A5\ngroup G3 A6 A7 A8 A9 A10 A11\n");
+    for (i = 0; i < 8; i++) to += sprintf(to, "task T%d\n", i);
+    sprintf(to, "block E T7 GroupEnable G3\nblock L T7 MoveLinearAbsolute G3\nblock O T0 Power A0\n");
+    want("open", motion_open_text(&m, text, &why), MOTION_OK);
+    want("axes", motion_axes(&m), 16);
+    want("groups", motion_groups(&m), 4);
+    want("axis A15", motion_axis_named(&m, "A15"), 15);
+    want("group G3", motion_group(&m, (const uint8_t *)"G3", 2), 3);
+    want("task T7", motion_task(&m, (const uint8_t *)"T7", 2), 7);
+    in.execute = 2;
+    in.mode = MOTION_ABORTING;
+    in.jerk = 0;
+    out = call(&m, 0, &in);
+    want_outputs("a group that is enabled", &out, "D");
+    out = call(&m, 1, &in);
+    want_outputs("a line", &out, "BA");
+    in.execute = 128;
+    out = call(&m, 2, &in);
+    want_outputs("a Power", &out, "BR");
+    want("cycle", motion_cycle(&m, answers, MOTION_MOST_AXES, given, MOTION_MOST_AXES), MOTION_OK);
+    want("target of A6", given[6].target, 10);
+    want("group 3", motion_group_look(&m, 3, &group), MOTION_OK);
+    want("moves", group.state, MOTION_GROUP_MOVING);
+    want("has no error", group.error, 0);
+    want("group 0", motion_group_look(&m, 0, &group), MOTION_OK);
+    want("is disabled", group.state, MOTION_GROUP_DISABLED);
+    answers[11].statusword = 0x0018;
+    answers[15].mode_display = 7;
+    want("cycle", motion_cycle(&m, answers, MOTION_MOST_AXES, given, MOTION_MOST_AXES), MOTION_OK);
+    want("group 3", motion_group_look(&m, 3, &group), MOTION_OK);
+    want("stops for an error", group.state, MOTION_GROUP_ERROR_STOP);
+    want("of its drive", group.error, 101);
+    want("axis 15", motion_axis_look(&m, 15, &axis), MOTION_OK);
+    want("has an error", axis.state, MOTION_ERROR_STOP);
+    want("of its mode", axis.error, 102);
+    want("isn't driven", axis.driven, 0);
+    want("end", motion_end(&m, 7), MOTION_OK);
+    want("trace", motion_trace(&m, answers, MOTION_MOST_AXES), MOTION_OK);
+    want("close", motion_close(&m), MOTION_OK);
+}
+
 int main(void)
 {
     inputs();
+    widest();
     modes();
     outputs();
     errors();
