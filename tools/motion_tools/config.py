@@ -18,7 +18,7 @@ from motion_tools.trace import ReadFault
 from motion_tools.units import Scale
 
 INTERNAL = 1e-9                 # user units in an internal unit
-UNIT = re.compile(r"#\s*unit:\s*([^\d\s.<>&=;,\"'][^\s<>&=;,\"']{0,7})\s*(?:$|[,.;#(])")
+UNIT = re.compile(r"#.*?\bunit:\s*([^\d\s.<>&=;,\"'][^\s<>&=;,\"']{0,7})\s*(?:$|[,.;#(])")
 HEADER = re.compile(r"\s*\[\[?\s*(\w+)\s*\]\]?")
 QUANTITY = re.compile(r"-?[0-9]+(?:\.[0-9]{1,9})?")
 

@@ -111,8 +111,8 @@ class Runs(unittest.TestCase):
 
     def test_a_rejected_call_has_its_reason_and_nothing_moved(self):
         output = explained(BENCH, TRACE)
-        self.assertIn("error 10: after cycle 0: M (MoveAbsolute on X): the target lies beyond the "
-                      "axis's limits: 500 units is beyond the limits of X, 0 to 50 units\n", output)
+        self.assertIn("error 10: after cycle 0: M (MoveAbsolute on X): 500 units is beyond the limits "
+                      "of X, 0 to 50 units\n", output)
         self.assertIn("Every command was rejected: nothing moved.\n", output)
         self.assertIn("All calls, cycles and ends were made.\n", output)
 
@@ -124,12 +124,12 @@ class Runs(unittest.TestCase):
 
     def test_a_run_without_cycles_left_ends_at_its_line(self):
         output = explained(BENCH.replace("cycle 1", "cycle 21"), TRACE)
-        self.assertIn("my.bench:8: error 8: The run ended in this line: no cycle is left", output)
+        self.assertIn("my.bench:8: error status 8: The run ended in this line: no cycle is left", output)
 
     def test_a_run_without_room_ends_at_its_line(self):
         limit = BENCH.replace("limit 20 40", "limit 20 2")
         output = explained(limit, TRACE.replace("20,40", "20,2"))
-        self.assertIn("my.bench:9: error 9: The run ended in this line: no room is left", output)
+        self.assertIn("my.bench:9: error status 9: The run ended in this line: no room is left", output)
 
     def test_an_error_of_an_axis_has_its_cycle(self):
         _, output, _ = run("explain", EXAMPLES / "cell" / "cell.bench",

@@ -373,12 +373,12 @@ def bench_end(run: report.Run) -> list[Finding]:
     cycles, entries = machine.cycles, machine.entries
     for number, line, word, count in events_of(run.text):
         if word == "cycle" and count > cycles:
-            code, lacking = "8", f"no cycle is left of the {machine.cycles} that `limit` allows"
+            status, lacking = 8, f"no cycle is left of the {machine.cycles} that `limit` allows"
         elif count > entries:
-            code, lacking = "9", f"no room is left of the {machine.entries} entries that `limit` allows"
+            status, lacking = 9, f"no room is left of the {machine.entries} entries that `limit` allows"
         else:
             cycles, entries = cycles - count * (word == "cycle"), entries - count
             continue
-        return [Finding("error", code, f"The run ended in this line: {lacking}.",
+        return [Finding("error", f"status {status}", f"The run ended in this line: {lacking}.",
                         "raise the numbers of limit", file=run.file, line=number, text=line)]
     return [Finding("note", "", "All calls, cycles and ends were made.")]

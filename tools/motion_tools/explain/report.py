@@ -12,9 +12,11 @@ from motion_tools.explain.reasons import reason_of
 from motion_tools.explain.walk import Standing, Walk, mode_is_given
 from motion_tools.units import Units
 
+WHOLE = (1, 2, 3, 4, 6, 7, 8, 9, 10, 14)      # ErrorIDs whose reason in numbers says all
 MOST = 20               # errors and moves that are listed one by one
 THOUSANDTH = 1000
 TWENTIETH = 20
+STILL = 10_000          # an axis that goes slower than vmax by this factor stands, but for rounding
 
 
 @dataclass
@@ -68,9 +70,12 @@ def failure_of(run: Run, failure: Failure) -> Finding:
         who = run.who(failure.block.name)
     else:
         who = f"{'group' if failure.owner in run.history.members else 'axis'} {failure.owner}"
-    says = f"{who}: {reason}" + (f": {exact}" if exact else "")
-    return Finding("error", str(failure.number), says, cure,
-                   when=run.when(failure.cycle, failure.block is None), cycle=failure.cycle)
+    if exact:
+        reason = exact if failure.number in WHOLE else f"{reason}: {exact}"
+    found = Finding("error", str(failure.number), f"{who}: {reason}", cure,
+                    when=run.when(failure.cycle, failure.block is None), cycle=failure.cycle)
+    line = run.walk.line_at(failure.cycle, failure.block.name) if run.walk and failure.block else None
+    return run.at(found, line.line, line.text) if line else found
 
 
 # Warnings
@@ -180,7 +185,7 @@ def moving(run: Run) -> Iterator[Finding]:
     """Axes that were in motion when the run ended."""
     for name, axis in run.history.axes.items():
         velocity = axis.last_step[0]
-        if axis.last and velocity:
+        if axis.last and velocity and abs(velocity) * STILL > axis.axis.vmax:
             yield warning(run, "ends-in-motion", f"axis {name} is in {axis.last.state} at the end, "
                           f"at {run.units.text(name, axis.last.setpoint)} with "
                           f"{run.units.text(name, velocity, 'velocity')}", run.history.cycles)
@@ -255,11 +260,11 @@ def endings(run: Run) -> list[Finding]:
     living = [task for task in history.machine.tasks if task not in history.ended]
     if not living:
         return [Finding("note", "", "All tasks came to their ends.")]
-    code, lacking = ("8", f"all {history.machine.cycles} cycles were made") \
+    number, lacking = (8, f"all {history.machine.cycles} cycles were made") \
         if history.cycles >= history.machine.cycles else \
-        ("9", f"no room is left of the {history.machine.entries} entries")
+        (9, f"no room is left of the {history.machine.entries} entries")
     says = f"Without an end: {', '.join(living)}. The run ended since {lacking}."
-    found = [Finding("error", code, says, hints.status(int(code))[2],
+    found = [Finding("error", f"status {number}", says, hints.status(number)[2],
                      when=run.when(history.cycles), cycle=history.cycles)]
     for task in living:
         found += standing(run, task)

@@ -145,6 +145,8 @@ class Reader:
         here = self.here
         if wanted == ";":
             says = f"a ; is missing before {here.text}"
+            if self.before.line != here.line:
+                says += f", after {self.before.text} in line {self.before.line}"
         else:
             says = f"{here.text} stands where {wanted} is expected"
         self.fail("S2", here.line, here.column, len(here.text) if here.kind != "end" else 1, says,
