@@ -10,9 +10,10 @@ import unittest
 
 from tool_runner import EXAMPLES, TOOLS, call, run
 
-from motion_tools.explain import hints, lines, settings, st
+from motion_tools.explain import hints, history, lines, scans, settings, st
 from motion_tools.explain.command import main
 from motion_tools.explain.faults import chosen, marked
+from motion_tools.trace import Trace, lines_of
 
 ROOT = TOOLS.parent
 REFUSED = ROOT / ".ci" / "refused"
@@ -170,6 +171,31 @@ class Runs(unittest.TestCase):
 
     def test_what_is_no_trace_is_refused(self):
         self.assertEqual(run("explain", EXAMPLES / "cell" / "cell.bench", text="kind\n")[0], 3)
+
+
+class Tasks(unittest.TestCase):
+    """Where tasks stand in their text."""
+
+    def test_scans_of_an_example(self):
+        folder = EXAMPLES / "structured-text"
+        found = scans.Scans((folder / "structured-text.st").read_text(), ["X", "Z"], {})
+        history.History(Trace(lines_of(folder / "structured-text.trace")), found)
+        task = found.tasks["handling"]
+        self.assertFalse(task.is_lost)
+        self.assertEqual(task.variables, {"state": 6, "parts": 3, "place": 400000, "finished": 1})
+        self.assertEqual(found.line_of("down"), 29)
+
+    def test_another_trace_has_no_lines(self):
+        folder = EXAMPLES / "structured-text"
+        text = (folder / "structured-text.st").read_text().replace("state := 3;", "state := 4;")
+        found = scans.Scans(text, ["X", "Z"], {})
+        history.History(Trace(lines_of(folder / "structured-text.trace")), found)
+        self.assertTrue(found.tasks["handling"].is_lost)
+        self.assertEqual(found.shown("handling"), "")
+
+    def test_numbers_wrap(self):
+        self.assertEqual(scans.wrapped(2**31), -2**31)
+        self.assertEqual(scans.wrapped(-2**31 - 1), 2**31 - 1)
 
 
 class Verdicts(unittest.TestCase):

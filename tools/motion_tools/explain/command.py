@@ -30,6 +30,7 @@ from motion_tools.explain import hints, lines, report, settings, st
 from motion_tools.explain.faults import Fault, chosen
 from motion_tools.explain.findings import Finding, told
 from motion_tools.explain.history import History
+from motion_tools.explain.scans import Scans
 from motion_tools.explain.verdicts import verdict_findings
 from motion_tools.explain.walk import Walk
 from motion_tools.trace import ReadFault, Trace, TraceError, lines_of
@@ -334,17 +335,22 @@ def trace_told(options: argparse.Namespace, output: Iterable[str],
     kind = kind_of(tasks) if tasks else ""
     text = Path(tasks).read_text(encoding="utf-8", errors="replace") if tasks else ""
     walk = Walk(text) if kind == "program" else None
-    history = History(Trace(output), walk.take if walk else None)
-    run = report.Run(history, units_of(options, history), tasks, text, walk, kind == "st",
+    scans = Scans(text, *names_of(options)) if kind == "st" else None
+    history = History(Trace(output), walk or scans)
+    run = report.Run(history, units_of(options, history), tasks, text, walk, scans,
                      source if source != "-" else "the run")
-    found = [*report.failures(run), *report.warnings(run)]
-    most = [*found[:report.MOST]]
-    if len(found) > report.MOST:
-        most.append(Finding("note", "", f"and {len(found) - report.MOST} more errors and warnings"))
     ending = bench_end(run) if history.machine.maker == "bench" and kind == "bench" else \
         report.endings(run) if history.machine.maker == "run" else []
-    text = "".join(report.nothing_moved(history)) + report.report(run)
-    return [*most, *ending], text
+    found = [*listed(report.failures(run), "errors"), *ending,
+             *listed(report.warnings(run), "warnings")]
+    return found, "".join(report.nothing_moved(history)) + report.report(run)
+
+
+def listed(findings: list[Finding], what: str) -> list[Finding]:
+    """The first findings, and how many more there are."""
+    more = len(findings) - report.MOST
+    return findings[:report.MOST] + (
+        [Finding("note", "", f"and {more} more {what}")] if more > 0 else [])
 
 
 def units_of(options: argparse.Namespace, history: History) -> Units:

@@ -1,9 +1,8 @@
 """What happened in a run: its commands from their calls to their ends, its errors, and what each axis
 did. A trace is read once, as a stream."""
 
-from collections.abc import Callable
 from dataclasses import dataclass, field
-from typing import Optional
+from typing import Optional, Protocol
 
 from motion_tools.blocks import ENDLESS, MOVES, acts_on_group
 from motion_tools.trace import Axis, Block, Call, Cycle, Machine, Row, Trace
@@ -105,10 +104,20 @@ class BlockHistory:
     stale: Optional[int] = None                         # a result that was shown anew behind a pause
 
 
+class Watch(Protocol):
+    """What goes along a run by its calls and cycles."""
+
+    def take(self, cycle: int, call: Call) -> None:
+        """Takes a call after a cycle."""
+
+    def next_cycle(self) -> None:
+        """Takes a cycle."""
+
+
 class History:
     """A run, as far as its report and its warnings tell of it."""
 
-    def __init__(self, trace: Trace, watch: Optional[Callable[[int, Call], None]] = None):
+    def __init__(self, trace: Trace, watch: Optional[Watch] = None):
         self.machine: Machine = trace.machine
         self.blocks = {block.name: BlockHistory(block) for block in self.machine.blocks}
         self.axes = {axis.name: AxisHistory(axis) for axis in self.machine.axes}
@@ -141,7 +150,7 @@ class History:
         for call in calls:
             self.add_call(self.blocks[call.block], call)
             if self.watch:
-                self.watch(self.cycles, call)
+                self.watch.take(self.cycles, call)
 
     def add_call(self, block: BlockHistory, call: Call) -> None:
         """Adds a call of a block."""
@@ -243,6 +252,8 @@ class History:
         """Adds the rows of a cycle."""
         steps = self.motions.steps(cycle)
         before, self.cycles, self.entries = self.rows, cycle.number, self.entries + 1
+        if self.watch:
+            self.watch.next_cycle()
         self.rows = cycle.rows
         for name, row in cycle.rows.items():
             self.axes[name].add(cycle.number, row, steps[name], self.place_in(name, row))

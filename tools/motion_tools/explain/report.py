@@ -1,14 +1,16 @@
 """The report of a run: its errors, its warnings, how it ended, and what its moves and axes did."""
 
+import re
 from collections.abc import Iterable, Iterator
 from dataclasses import dataclass, field
-from typing import Optional
+from typing import Optional, Union
 
 from motion_tools.blocks import MOVES, acts_on_group
 from motion_tools.explain import hints
 from motion_tools.explain.findings import Finding
 from motion_tools.explain.history import AxisHistory, Command, Failure, History
 from motion_tools.explain.reasons import reason_of
+from motion_tools.explain.scans import Scans
 from motion_tools.explain.walk import Standing, Walk, mode_is_given
 from motion_tools.units import Units
 
@@ -28,7 +30,7 @@ class Run:
     file: str = ""                      # of the tasks or the bench
     text: str = ""
     walk: Optional[Walk] = None         # of a program
-    is_st: bool = False
+    scans: Optional[Scans] = None       # of tasks in Structured Text
     name: str = "the trace"
     kinds: dict[str, str] = field(default_factory=dict)
 
@@ -44,10 +46,29 @@ class Run:
         told = self.history.blocks[block].block
         return f"{told.name} ({told.kind} on {told.on})"
 
-    def at(self, finding: Finding, line: int, text: str) -> Finding:
-        """A finding with its line of the tasks."""
-        finding.file, finding.line, finding.text = self.file, line, text
+    @property
+    def is_st(self) -> bool:
+        """Whether its tasks are in Structured Text."""
+        return self.scans is not None
+
+    @property
+    def tasks(self) -> Union[Walk, Scans, None]:
+        """What knows the lines of the tasks."""
+        return self.walk or self.scans
+
+    def at(self, finding: Finding, line: int) -> Finding:
+        """A finding with its line of the tasks, where that is known."""
+        if line:
+            finding.file, finding.line = self.file, line
+            finding.text = self.text.split("\n")[line - 1].strip()
         return finding
+
+    def at_call(self, finding: Finding, block: str, cycle: Optional[int] = None) -> Finding:
+        """A finding with the line of a call after a cycle, else of the block's last one."""
+        if self.tasks is None:
+            return finding
+        return self.at(finding, self.tasks.line_of(block) if cycle is None
+                       else self.tasks.line_at(cycle, block))
 
 
 # Errors
@@ -74,8 +95,7 @@ def failure_of(run: Run, failure: Failure) -> Finding:
         reason = exact if failure.number in WHOLE else f"{reason}: {exact}"
     found = Finding("error", str(failure.number), f"{who}: {reason}", cure,
                     when=run.when(failure.cycle, failure.block is None), cycle=failure.cycle)
-    line = run.walk.line_at(failure.cycle, failure.block.name) if run.walk and failure.block else None
-    return run.at(found, line.line, line.text) if line else found
+    return run.at_call(found, failure.block.name, failure.cycle) if failure.block else found
 
 
 # Warnings
@@ -108,7 +128,7 @@ def edges(run: Run) -> Iterator[Finding]:
             else:
                 found = Finding("note", "wait-ended", f"the wait ended by {remark.detail}, and the "
                                 "task went on", when=run.when(remark.cycle), cycle=remark.cycle)
-            yield run.at(found, remark.line, remark.text)
+            yield run.at(found, remark.line)
 
 
 def ignored(run: Run) -> Iterator[Finding]:
@@ -123,16 +143,19 @@ def ignored(run: Run) -> Iterator[Finding]:
             more = f", and {len(block.ignored) - 1} times more" if len(block.ignored) > 1 else ""
             change = difference(run, block.block.on, edge, call)
             if was_over:
-                yield warning(run, "no-edge", f"{run.who(name)} was called with {change} after its "
-                              f"command had ended, while Execute stayed true: no rising edge, and "
-                              f"no second command{more}", cycle)
+                found = warning(run, "no-edge", f"{run.who(name)} was called with {change} after its "
+                                f"command had ended, while Execute stayed true: no rising edge, and "
+                                f"no second command{more}", cycle)
             else:
-                yield warning(run, "ignored-inputs", f"{run.who(name)} was called with {change} "
-                              f"while Execute stayed true: the new inputs were ignored{more}", cycle)
+                found = warning(run, "ignored-inputs", f"{run.who(name)} was called with {change} "
+                                f"while Execute stayed true: the new inputs were ignored{more}",
+                                cycle)
+            yield run.at_call(found, name, cycle)
         elif block.stale is not None and run.is_st:
-            yield warning(run, "no-edge", f"{run.who(name)} was called again with Execute still "
-                          "true, and showed the result of its earlier command: no rising edge, and "
-                          "no second command", block.stale)
+            found = warning(run, "no-edge", f"{run.who(name)} was called again with Execute still "
+                            "true, and showed the result of its earlier command: no rising edge, "
+                            "and no second command", block.stale)
+            yield run.at_call(found, name, block.stale)
 
 
 def difference(run: Run, on: str, edge: object, call: object) -> str:
@@ -167,10 +190,9 @@ def aborted(run: Run) -> Iterator[Finding]:
             continue
         if other.task == command.block.task and not mode_is_given(run.text, other.name):
             cycle = command.ended or command.begun
-            line = run.walk.line_of(other.name) if run.walk else None
             found = warning(run, "aborted-by-own-task", f"{run.who(command.block.name)} was aborted "
                             f"by {run.who(other.name)} of the same task{where(run, command)}", cycle)
-            yield run.at(found, line.line, line.text) if line else found
+            yield run.at_call(found, other.name, cycle)
 
 
 def where(run: Run, command: Command) -> str:
@@ -236,7 +258,7 @@ def tiny(run: Run) -> Iterator[Finding]:
                 unit = run.units.of_axis(next(iter(ways)))["position"][1]
                 found.cure = (f"pos is in thousandths of the user unit: pos := 200 is 0.2 {unit}, "
                               f"and 200 {unit} are pos := 200000")
-            yield found
+            yield run.at_call(found, command.block.name, command.begun)
 
 
 def uncalled(run: Run) -> Iterator[Finding]:
@@ -245,11 +267,7 @@ def uncalled(run: Run) -> Iterator[Finding]:
         if not block.calls:
             found = warning(run, "never-called", f"{run.who(name)} of the task {block.block.task} "
                             "was never called")
-            place = run.walk.owner[name].blocks[name][0] if run.walk and name in run.walk.owner \
-                else 0
-            if place:
-                run.at(found, place, run.text.splitlines()[place - 1].strip())
-            yield found
+            yield run.at(found, run.tasks.declared(name) if run.tasks else 0)
 
 
 # How a run ended
@@ -276,9 +294,7 @@ def standing(run: Run, name: str) -> list[Finding]:
     task = run.walk.tasks.get(name) if run.walk else None
     if task:
         return [waits(run, task)]
-    if run.is_st:
-        return [scans(run, name)]
-    return []
+    return [scanned(run, name, run.scans)] if run.scans else []
 
 
 def waits(run: Run, task: Standing) -> Finding:
@@ -291,7 +307,7 @@ def waits(run: Run, task: Standing) -> Finding:
     found = Finding("error", "stands", f"the task {task.name} stood at this line: "
                     f"{run.who(block)} last showed {shown(run, block)}")
     found.cure = wait_cure(run, block, line.words[2] if line.verb == "wait" else "")
-    return run.at(found, line.line, line.text)
+    return run.at(found, line.line)
 
 
 def wait_cure(run: Run, block: str, flag: str) -> str:
@@ -314,9 +330,9 @@ def wait_cure(run: Run, block: str, flag: str) -> str:
             f"master rests: {'; '.join(axes)}. Raise cycles, or mend the program")
 
 
-def scans(run: Run, name: str) -> Finding:
-    """What a task in Structured Text did in its last scan."""
-    if "finished" not in run.text:
+def scanned(run: Run, name: str, scans: Scans) -> Finding:
+    """Where a task in Structured Text stood: its variables, and what it called in its last scans."""
+    if name in scans.tasks and "finished" not in scans.tasks[name].task.variables:
         return Finding("error", "stands", f"the task {name} has no variable finished, so it is scanned "
                        "as long as there are cycles",
                        "declare finished : BOOL; and set it TRUE where the task is to end",
@@ -324,10 +340,23 @@ def scans(run: Run, name: str) -> Finding:
     called = [run.who(block) + " showed " + shown(run, block)
               for block, told in run.history.blocks.items()
               if told.block.task == name and told.calls and told.last_cycle >= run.history.cycles - 1]
-    says = f"finished of the task {name} didn't become TRUE; in its last scans " + (
+    values = scans.shown(name)
+    says = f"finished of the task {name} didn't become TRUE" + (
+        f": {values}" if values else "") + "; in its last scans " + (
         "; ".join(called) if called else "it called no block")
-    return Finding("error", "stands", says, "see which state the task waits in: a state whose block "
-                   "isn't called, or whose condition never holds, stays", file=run.file)
+    found = Finding("error", "stands", says, stands_cure(run, name), file=run.file)
+    return run.at(found, scans.state_line(name))
+
+
+def stands_cure(run: Run, name: str) -> str:
+    """What may lead on: of a block whose flag never comes, else in general."""
+    for block, told in run.history.blocks.items():
+        never = hints.texts()["never"].get(told.block.kind)
+        flag = re.search(rf"\b{block}\.done\b", run.text)
+        if told.block.task == name and never and flag:
+            return never[1]
+    return ("see which state the task stands in: one whose block isn't called, or whose condition "
+            "never holds, stays")
 
 
 def shown(run: Run, block: str) -> str:

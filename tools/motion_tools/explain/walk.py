@@ -107,13 +107,22 @@ class Walk:
         if call.block in self.owner:
             self.owner[call.block].take(cycle, call)
 
-    def line_of(self, block: str) -> Optional[Instruction]:
-        """The line whose call of a block was made last."""
-        return self.owner[block].called.get(block) if block in self.owner else None
+    def next_cycle(self) -> None:
+        """A cycle: tasks go on by calls alone."""
 
-    def line_at(self, cycle: int, block: str) -> Optional[Instruction]:
+    def line_of(self, block: str) -> int:
+        """The line whose call of a block was made last; 0 where there is none."""
+        found = self.owner[block].called.get(block) if block in self.owner else None
+        return found.line if found else 0
+
+    def line_at(self, cycle: int, block: str) -> int:
         """The line whose call of a block was made after a cycle."""
-        return self.owner[block].made.get((cycle, block)) if block in self.owner else None
+        found = self.owner[block].made.get((cycle, block)) if block in self.owner else None
+        return found.line if found else 0
+
+    def declared(self, block: str) -> int:
+        """The line in which a block is declared."""
+        return self.owner[block].blocks[block][0] if block in self.owner else 0
 
 
 def mode_is_given(text: str, block: str) -> bool:
