@@ -1,17 +1,17 @@
 """How GTKWave shows a dump of `trace_to_vcd`: positions and velocities as lines.
 
 A view is a file of GTKWave's own (`.gtkw`): the name of the dump, and signals in their order, each
-behind the flags of those that follow. An empty row behind an analog signal gives it more height.
+after the flags of those that follow. An empty row after an analog signal gives it more height.
 """
 
 import math
 
-# An analog line over its whole height, of signed numbers, in steps: a dump tells changes alone, so
+# An analog line over its whole height, of signed numbers, in steps: a dump has changes alone, so
 # that a line that is joined from one to the next would rise where the axis still stands.
 ANALOG = "@88420"
 WORD, BIT, COMMENT, ROOM = "@22", "@28", "@200", "@20000"
 HEIGHT = 3                              # rows that an analog line takes beside its own
-WIDTH, FRAME = 800, 150                 # pixels that a dump is fitted into, and a zoom is told of
+WIDTH, FRAME = 800, 150                 # pixels that a dump is fitted into, and a zoom is given of
 
 
 def view_of(machine, dump, end):

@@ -21,7 +21,7 @@ from typing import Optional, TextIO
 
 from motion_tools import command
 from motion_tools.explain import command as explain
-from motion_tools.explain.findings import told
+from motion_tools.explain.findings import words_of as text_of
 from motion_tools.plot import command as plot
 from motion_tools.trace import SECONDS_OF_SILENCE, ReadFault, TraceError
 
@@ -75,7 +75,7 @@ def run(options: argparse.Namespace) -> int:
     trace = Path(options.output)
     is_trace = trace.stat().st_size > 0 and trace.open("rb").read(5) == b"kind,"
     found, text = findings_of(words[1:], options.output, status)
-    sys.stderr.write(told(found) + text)
+    sys.stderr.write(text_of(found) + text)
     if not is_trace:
         trace.unlink()
         return status
@@ -114,7 +114,7 @@ def config_of(words: list[str]) -> Optional[str]:
 
 def made(words: list[str], trace: Path, progress: TextIO = sys.stderr) -> int:
     """Runs the program into a file, and gives its status. The program writes its trace at its end, so
-    that only the time can be told before."""
+    that only the time can be shown before."""
     begun = time.monotonic()
     said = begun
     with open(trace, "wb") as output, subprocess.Popen(words, stdout=output) as running:
@@ -143,7 +143,7 @@ def checked(program: str, trace: str) -> int:
     ran = subprocess.run([program, "check", trace], capture_output=True, encoding="utf-8",
                          check=False)
     found, _ = explain.verdict_findings([trace], StringIO(ran.stdout).readlines() or [""])
-    sys.stderr.write(told(found))
+    sys.stderr.write(text_of(found))
     return ran.returncode
 
 

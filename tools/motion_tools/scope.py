@@ -31,7 +31,7 @@ class ReportError(Exception):
 
 
 class AxisLine(NamedTuple):
-    """What a report tells of an axis, in its internal units."""
+    """What a report says of an axis, in its internal units."""
     name: str
     driven: int
     least: Optional[int]

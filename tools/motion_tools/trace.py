@@ -4,7 +4,7 @@
     trace.machine                       # the version, axes with their limits, groups, blocks
     for cycle in trace.cycles():        # one Cycle after another
         cycle.number, cycle.calls, cycle.rows["X"].setpoint, cycle.groups["G"].state
-    trace.last_calls, trace.drives      # behind the last cycle; there once cycles() has ended
+    trace.last_calls, trace.drives      # after the last cycle; there once cycles() has ended
 
 All numbers are whole numbers in an axis's internal units, per cycle; counts of a drive are in its
 increments. A text that is no trace ends the reading with a TraceError, which names the record.
@@ -49,7 +49,7 @@ class ReadFault(Exception):
     """A file couldn't be read."""
 
 
-# What a trace tells, with its fields in the order of the record.
+# What a trace has, with its fields in the order of the record.
 
 class Axis(NamedTuple):
     name: str
@@ -91,7 +91,7 @@ class Call(NamedTuple):
 
 
 class Row(NamedTuple):
-    """What an axis and its drive tell each other in a cycle."""
+    """What an axis and its drive give each other in a cycle."""
     axis: str
     statusword: int
     actual: int             # increments
@@ -258,7 +258,7 @@ class Trace:
     # Records
 
     def _advance(self, is_first=False):
-        """Goes to the next record; None behind the last one."""
+        """Goes to the next record; None after the last one."""
         try:
             self._record = next(self._records, None)
         except csv.Error as error:
@@ -274,14 +274,14 @@ class Trace:
     def _kind(self):
         """The kind of the record that stands next."""
         if self._record is None:
-            reason = "the text ends too early, behind this record"
+            reason = "the text ends too early, after this record"
             raise TraceError(self._number, reason if self._number else "the text is empty")
         return self._record[0]
 
     def _misplaced(self, wanted):
         """The refusal of the record that stands next, where another was wanted."""
         return TraceError(self._number,
-                          f"{shown(self._record[0])} stands in the place of {wanted}")
+                          f"{shown(self._record[0])} stands in the position of {wanted}")
 
     def _take(self, kind):
         """The values of the record that stands next, which has to be of this kind."""
@@ -334,7 +334,7 @@ class Trace:
     # Entries
 
     def cycles(self):
-        """Gives each cycle as a Cycle; behind the last one the drives' records are read."""
+        """Gives each cycle as a Cycle; after the last one the drives' records are read."""
         blocks = {block.name for block in self.machine.blocks}
         calls, ends = [], []
         while True:
@@ -379,7 +379,7 @@ class Trace:
         for axis in self.machine.axes:
             self.drives.append(Drive(*self._take_of("drive", axis.name)))
         if self._record is not None:
-            raise self._misplaced("the end, behind the drives")
+            raise self._misplaced("the end, after the drives")
 
 
 def item_of(kind, values, version):

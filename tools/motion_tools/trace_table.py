@@ -101,7 +101,7 @@ def titles_of(axes, groups, units):
 
 
 def fields_of(cycle, steps, axes, groups):
-    """The fields of a cycle behind its number and its time, which is so many cycles' lengths."""
+    """The fields of a cycle after its number and its time, which is that many cycles' lengths."""
     fields = []
     for axis in axes:
         fields += axis.fields(cycle.rows[axis.name], steps[axis.name])

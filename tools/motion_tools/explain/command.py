@@ -28,7 +28,7 @@ from motion_tools import command
 from motion_tools.config import Config, ConfigError, config_of
 from motion_tools.explain import hints, lines, report, settings, st
 from motion_tools.explain.faults import Fault, chosen
-from motion_tools.explain.findings import Finding, told
+from motion_tools.explain.findings import Finding, words_of
 from motion_tools.explain.history import History
 from motion_tools.explain.scans import Scans
 from motion_tools.explain.verdicts import verdict_findings
@@ -89,7 +89,7 @@ def explain(options: argparse.Namespace) -> int:
     if options.config_to_check:
         return write(options, checked(options.config_to_check), "")
     if options.files and all(map(is_code, options.files)):
-        return write(options, [found for code in codes(options.files) for found in code_told(code)],
+        return write(options, [found for code in codes(options.files) for found in code_findings(code)],
                      "")
     source, output = output_of(options)
     found, text = explained(options, output, source)
@@ -103,7 +103,7 @@ def write(options: argparse.Namespace, findings: Iterable[Finding], text: str) -
         data = {"findings": [finding.data() for finding in found], "report": text.splitlines()}
         print(json.dumps(data, indent=1, ensure_ascii=False))
     else:
-        sys.stdout.write(told(found) + text)
+        sys.stdout.write(words_of(found) + text)
     sys.stdout.flush()
     return command.READ
 
@@ -120,7 +120,7 @@ def codes(words: list[str]) -> list[str]:
     return re.findall(r"status \d+|\S+", " ".join(words))
 
 
-def code_told(code: str) -> list[Finding]:
+def code_findings(code: str) -> list[Finding]:
     """What a code means."""
     if code.startswith("status "):
         number = code.split()[1]
@@ -191,7 +191,7 @@ def explained(options: argparse.Namespace, output: Iterator[str],
     if not first:
         return nothing_written(options), ""
     if first.startswith(("kind", "motion-bench")) or "," in first:
-        return trace_told(options, chain([first], output), source)
+        return run_findings(options, chain([first], output), source)
     return verdict_findings(options.files, [first, *output])
 
 
@@ -200,7 +200,7 @@ def nothing_written(options: argparse.Namespace) -> list[Finding]:
     if options.status is None:
         return [Finding("note", "", "motion wrote nothing: see its status",
                         "give it by --status N")]
-    return code_told(f"status {options.status}")
+    return code_findings(f"status {options.status}")
 
 
 # Rejected files
@@ -328,7 +328,7 @@ def checked(name: str) -> list[Finding]:
 
 # Runs
 
-def trace_told(options: argparse.Namespace, output: Iterable[str],
+def run_findings(options: argparse.Namespace, output: Iterable[str],
                source: str) -> tuple[list[Finding], str]:
     """The findings and the report of a trace."""
     tasks = next((name for name in options.files if kind_of(name) in ("program", "st", "bench")), "")

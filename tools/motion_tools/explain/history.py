@@ -42,7 +42,7 @@ class Command:
 
 @dataclass
 class Failure:
-    """An error of a call, an axis or a group: behind or in a cycle."""
+    """An error of a call, an axis or a group: after a cycle, or in it."""
     cycle: int
     number: int
     block: Optional[Block]
@@ -101,7 +101,7 @@ class BlockHistory:
     last_cycle: int = 0
     command: Optional[Command] = None
     ignored: list[tuple[int, Call, Call, bool]] = field(default_factory=list)
-    stale: Optional[int] = None                         # a result that was shown anew behind a pause
+    stale: Optional[int] = None                         # a result that was shown anew after a pause
 
 
 class Watch(Protocol):
@@ -115,7 +115,7 @@ class Watch(Protocol):
 
 
 class History:
-    """A run, as far as its report and its warnings tell of it."""
+    """A run, as far as its report and its warnings need it."""
 
     def __init__(self, trace: Trace, watch: Optional[Watch] = None):
         self.machine: Machine = trace.machine
@@ -267,7 +267,7 @@ class History:
 
     def take_over(self, on: str, commands: list[Command]) -> None:
         """Ends a move that stands at its target, or passes it where the next one blends, and lets
-        the one that waits behind it begin."""
+        the one that waits next begin."""
         live = [command for command in commands if command.is_live()]
         if len(live) < 2 or not live[0].target:
             return

@@ -326,7 +326,7 @@ def wait_cure(run: Run, block: str, flag: str) -> str:
     axes = [f"{name} is in {axis.last.state} at {run.units.text(name, axis.last.setpoint)}"
             for name in run.history.axes_of(history.block.on)
             if (axis := run.history.axes[name]).last]
-    return ("the command needs more time, or never ends, as one that waits behind a GearIn whose "
+    return ("the command needs more time, or never ends, as one that waits after a GearIn whose "
             f"master rests: {'; '.join(axes)}. Raise cycles, or mend the program")
 
 

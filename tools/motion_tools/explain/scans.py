@@ -27,7 +27,7 @@ class Lost(Exception):
 @dataclass
 class Scanned:
     """A task as it is scanned: its variables, the last replies of its blocks, and the call that it
-    waits for; None behind a scan."""
+    waits for; None after a scan."""
 
     task: Task
     variables: dict[str, int] = field(default_factory=dict)
@@ -56,7 +56,7 @@ class Scanned:
             self.is_lost = True
 
     def scans(self) -> Iterator[None]:
-        """The scans, one after another: stops at each call, and behind each scan."""
+        """The scans, one after another: stops at each call, and after each scan."""
         while True:
             self.states = []
             yield from self.run(self.task.statements)
@@ -116,7 +116,7 @@ class Scanned:
         self.go_on()
 
     def next_scan(self) -> None:
-        """Begins the next scan, behind a cycle."""
+        """Begins the next scan, after a cycle."""
         if not self.is_lost and self.waits_for is None:
             self.go_on()
 
@@ -142,7 +142,7 @@ class Scans:
             self.owner[call.block].take(cycle, call)
 
     def next_cycle(self) -> None:
-        """Goes on behind a cycle."""
+        """Goes on after a cycle."""
         for task in self.tasks.values():
             task.next_scan()
 

@@ -15,7 +15,7 @@ class EdgeError(Exception):
 def read_edges(lines):
     """The cycles at which each switch turns, on first: by name, in the order of their first edges.
     Raises EdgeError where a line is no edge of its switch."""
-    turns, behind = {}, 0
+    turns, last = {}, 0
     try:
         for number, line in enumerate(lines, 1):
             found = EDGE.fullmatch(line.rstrip("\r\n"))
@@ -23,12 +23,12 @@ def read_edges(lines):
                 raise EdgeError(f"line {number}: no edge as `NAME CYCLE on`")
             name, cycle, state = found[1], int(found[2]), found[3]
             own = turns.setdefault(name, [])
-            if cycle < behind or (own and own[-1] == cycle):
+            if cycle < last or (own and own[-1] == cycle):
                 raise EdgeError(f"line {number}: the cycles don't rise")
             if (state == "on") == (len(own) % 2 == 1):
                 raise EdgeError(f"line {number}: {name} is {state} already")
             own.append(cycle)
-            behind = cycle
+            last = cycle
     except TraceError as fault:
         raise EdgeError(str(fault).replace("record", "line")) from None
     return turns

@@ -92,7 +92,7 @@ def runs(levels, cycles):
 
 
 def seen(levels, count):
-    """Which of so many signals were ever true."""
+    """Which of these signals were ever true."""
     bits = levels.value
     for column in levels.columns:
         bits |= column | column >> CHANGED

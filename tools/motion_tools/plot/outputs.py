@@ -49,7 +49,7 @@ def draw_words(sheet, words):
 
 def draw_lane(sheet, name, spans, ends):
     """A signal, with what it was before the first cycle and what the last call showed: high where
-    it was true, a stroke where it was both within a pixel, and a stub behind the last cycle."""
+    it was true, a stroke where it was both within a pixel, and a stub after the last cycle."""
     colour = sheet.theme[MARKS.get(name, "muted")]
     sheet.text(sheet.x(0) - 8, sheet.y + 13, name, ' text-anchor="end"', "muted")
     end = sheet.x(sheet.trace.cycles)

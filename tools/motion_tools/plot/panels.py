@@ -133,7 +133,7 @@ def draw_errors(sheet, columns, height):
 
 
 def time_ticks(sheet):
-    """Where the time axis has its numbers, as cycles behind the beginning, and these."""
+    """Where the time axis has its numbers, as cycles after the beginning, and these."""
     factor, _ = sheet.units.of_time(sheet.trace.first + sheet.trace.cycles)
     before = sheet.trace.first - 1
     marks = ticks(before * factor, (before + max(sheet.trace.cycles, 1)) * factor, sheet.plot / 90)

@@ -1,7 +1,7 @@
 """What trace_plot takes from a trace: the machine, and its cycles and calls thinned to columns.
 
 A trace is read once, as a stream, by motion_tools.trace, and what is kept of it doesn't grow with its
-length: each axis has at most so many columns, each with the least and greatest values of its
+length: each axis has a limited number of columns, each with the least and greatest values of its
 cycles. All numbers are integers in an axis's internal units, per cycle. A text that is no trace
 raises TraceError.
 """
@@ -81,13 +81,13 @@ def paired(columns):
 class Marks:
     """Calls and results of the blocks of an axis or a group, at most MARKS: marks of one kind that
     lie near each other are counted as one. Each is kept as the cycles before it, its label, how
-    many there were, and what is told of the first."""
+    many there were, and what is said of the first."""
 
     width: int = 1
     marks: dict = field(default_factory=dict)
 
     def add(self, cycles, kind, label, told):
-        """Adds a mark behind so many cycles."""
+        """Adds a mark after that many cycles."""
         self.put(cycles, kind, [cycles, label, 1, told])
         while len(self.marks) > MARKS:
             kept, self.marks, self.width = self.marks, {}, self.width * 2
@@ -137,7 +137,7 @@ class Axis:
 
     def reported_place(self, row):
         """The place that the drive reported, in internal units. Version 1 has it in increments,
-        without the offset of a Home: there it is told of axes without a Home alone."""
+        without the offset of a Home: there it is taken of axes without a Home alone."""
         if row.place is None and self.has_home:
             return row.setpoint
         self.has_reported = True
@@ -188,7 +188,7 @@ class Block:
 
 
 class Trace:
-    """A trace, as far as a picture tells of it; `first` is the cycle of the first column,
+    """A trace, as far as a picture shows it; `first` is the cycle of the first column,
     `cycles` how many there are in the window, and `fault` where the text ceased to be a trace."""
 
     def __init__(self, machine, first, last, limit, words=False):
@@ -261,7 +261,7 @@ class Trace:
                                            GROUP_BITS[row.state], row.error)
 
     def end(self, calls):
-        """Adds the calls behind the last cycle."""
+        """Adds the calls after the last cycle."""
         if self.last is None or self.last > self.cycle:
             self.last = self.cycle
         self.add_calls(calls)

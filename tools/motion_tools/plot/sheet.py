@@ -48,7 +48,7 @@ class Sheet:
         self.put(f'<text x="{num(x)}" y="{num(y)}" class="{fill}"{style}>{escape(words)}</text>')
 
     def box(self, x, y, width, height, style, told=""):
-        """Adds a box, with what is told where a pointer rests on it."""
+        """Adds a box, with what is shown where a pointer rests on it."""
         end = f"><title>{escape(told)}</title></rect>" if told else "/>"
         self.put(f'<rect x="{num(x)}" y="{num(y)}" width="{num(width)}" height="{num(height)}" '
                  f'{style}{end}')

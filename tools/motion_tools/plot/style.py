@@ -1,7 +1,7 @@
 """Colours, numbers and scales of the pictures of trace_plot.
 
 The colours are those of Okabe and Ito, which colour-blind readers can tell apart; no meaning is
-told by a colour alone: states have their names, marks their shapes, errors their hatching.
+shown by a colour alone: states have their names, marks their shapes, errors their hatching.
 """
 
 import math
@@ -32,7 +32,7 @@ def num(value):
 
 
 def number_text(value):
-    """A number as it is told, with a power of ten where it has more than seven places."""
+    """A number as it is shown, with a power of ten where it has more than seven places."""
     text = f"{value:.10g}" if value else "0"
     if len(text.lstrip("-")) <= 7:
         return text
@@ -42,7 +42,7 @@ def number_text(value):
 
 
 def ticks(low, high, count):
-    """Round numbers from low to high, about so many."""
+    """Round numbers from low to high, about this many."""
     step = 10.0 ** math.floor(math.log10((high - low) / count))
     step *= next(times for times in (1, 2, 5, 10) if (high - low) / (step * times) <= count)
     first = math.ceil(low / step - 1e-9)

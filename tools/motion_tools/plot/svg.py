@@ -83,7 +83,7 @@ def hatching(theme):
 
 
 def draw_section(sheet, owner, states, title):
-    """What is told of an axis or a group, its time axis at the bottom."""
+    """What is shown of an axis or a group, its time axis at the bottom."""
     sheet.y += 26
     sheet.text(16, sheet.y, title, ' style="font-size:14px;font-weight:bold"')
     sheet.y += 8
@@ -108,7 +108,7 @@ def draw_section(sheet, owner, states, title):
 
 
 def draw_marks(sheet, owner):
-    """The calls and their results, with labels where there is room; tells where they stand."""
+    """The calls and their results, with labels where there is room; gives where they stand."""
     placed, ends, marks = [], [], owner.marks.in_order()
     rows = LABEL_ROWS if len(marks) <= GUIDES else 1
     for cycles, kind, label, count, told in marks:
@@ -118,7 +118,7 @@ def draw_marks(sheet, owner):
         wide = 10 + 6.9 * len(words)
         row = place_row(ends, rows, x - wide if left else x - 6, x + 8 if left else x + wide)
         placed.append((x, kind, words if row < rows else "", left, row,
-                       f"behind cycle {cycles}: {told}" + words[len(label):]))
+                       f"after cycle {cycles}: {told}" + words[len(label):]))
     for x, kind, words, left, row, told in placed:
         y = sheet.y + ROW * row + ROW / 2
         draw_shape(sheet, kind, x, y, told)

@@ -2,7 +2,7 @@
 
 from motion_tools.plot.style import number_text
 
-MOST = 40       # states, and calls, that are told one by one
+MOST = 40       # states, and calls, that are listed one by one
 
 
 def told_of(trace, units, owner, states):
@@ -14,7 +14,7 @@ def told_of(trace, units, owner, states):
     if hasattr(owner, "increment"):
         parts.append(setpoints(units, owner))
     parts.append(f"States: {listed(states_told(trace, owner, states))}.")
-    calls = [f"behind cycle {cycles} {told}" for cycles, _, _, _, told in owner.marks.in_order()]
+    calls = [f"after cycle {cycles} {told}" for cycles, _, _, _, told in owner.marks.in_order()]
     parts.append(f"Calls: {listed(calls)}." if calls else "No calls.")
     return " ".join(parts)
 
