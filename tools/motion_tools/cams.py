@@ -137,7 +137,7 @@ class Bounds:
 
     def velocity(self, points: Sequence[Point]) -> float:
         """The slave's greatest velocity."""
-        return max(map(abs, slopes(points))) * self.step / self.seconds
+        return max(abs(slope) for slope in slopes(points)) * self.step / self.seconds
 
     def acceleration(self, points: Sequence[Point]) -> tuple[float, float]:
         """The slave's greatest acceleration, and at which position of the master: the change of slope
@@ -154,7 +154,7 @@ class Bounds:
                 if other >= x + self.step:
                     break
                 change += turn_of * (1 - abs(other - x) / self.step)
-            slope = max(map(abs, rates[place:place + 2]))
+            slope = max(abs(rate) for rate in rates[place:place + 2])
             found = abs(change) * self.step / self.seconds**2 + slope * self.master_acceleration
             if found > best:
                 best, at = found, x
@@ -180,7 +180,7 @@ def slopes(points: Sequence[Point]) -> list[float]:
 
 def points_of(texts: Sequence[str]) -> list[Point]:
     """The points that are given. Raises LookupError."""
-    found = []
+    found: list[Point] = []
     for text in texts:
         try:
             x, y = map(float, text.split(":"))

@@ -96,10 +96,10 @@ def config_of(path: str, text: str) -> Config:
 
 def axis_of(keys: dict[str, Any], unit: str) -> AxisConfig:
     """The axis of its keys."""
-    amax = quantity_of(keys["amax"])
-    return AxisConfig(str(keys["name"]), *(quantity_of(keys[key]) for key in ("lo", "hi", "vmax")),
-                      amax, quantity_of(keys["dmax"]) if "dmax" in keys else amax,
-                      *(quantity_of(keys[key]) for key in ("increment", "start")),
+    lo, hi, vmax, amax = (quantity_of(keys[key]) for key in ("lo", "hi", "vmax", "amax"))
+    return AxisConfig(str(keys["name"]), lo, hi, vmax, amax,
+                      quantity_of(keys["dmax"]) if "dmax" in keys else amax,
+                      quantity_of(keys["increment"]), quantity_of(keys["start"]),
                       int(keys.get("lag", 0)), unit)
 
 

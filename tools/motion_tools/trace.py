@@ -17,8 +17,8 @@ import os
 import re
 import sys
 import time
-from collections.abc import Callable, Iterable, Iterator
-from typing import Any, NamedTuple, Optional, TextIO
+from collections.abc import Callable, Iterator
+from typing import NamedTuple, Optional, TextIO, Union
 
 LONGEST_LINE = 1 << 18      # characters; a cam table of 4,096 points has less
 SECONDS_OF_SILENCE = 2.0    # between two lines of progress
@@ -418,7 +418,7 @@ def lines_of(name: str, progress: Optional[TextIO] = sys.stderr) -> Iterator[str
     file that is longer than `motion check` takes that is written at once. Raises ReadFault where the
     file can't be read, TraceError where a line is too long for any record."""
     try:
-        source = 0 if name == "-" else name
+        source: Union[int, str] = 0 if name == "-" else name
         with open(source, encoding="utf-8-sig", errors="surrogateescape", newline="") as file:
             yield from bounded_lines(file, name, progress)
     except OSError as error:

@@ -39,7 +39,7 @@ class Motion:
         self.moved = self.homed and row.setpoint != self.setpoint
         goes_on = self.driven and row.driven and not self.moved
         velocity = row.setpoint - self.setpoint if goes_on else None
-        acceleration = velocity - self.velocity if goes_on else None
+        acceleration = None if velocity is None else velocity - self.velocity
         self.setpoint, self.velocity = row.setpoint, velocity or 0
         self.driven, self.homed = row.driven, row.state == "Homing"
         return velocity, acceleration
@@ -122,7 +122,7 @@ class Units:
         if number is None:
             return "none"
         factor, unit = self.of_axis(axis)[quantity]
-        return f"{number * factor:.6g} {unit}"
+        return f"{number if self.of(axis) is None else f'{number * factor:.6g}'} {unit}"
 
     def time_text(self, cycles: float) -> str:
         """A time with its unit, as `1.25 s`; in cycles where a cycle's length isn't known."""

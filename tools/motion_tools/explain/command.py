@@ -37,6 +37,7 @@ from motion_tools.trace import ReadFault, Trace, TraceError, lines_of
 from motion_tools.units import Units
 
 CODE = re.compile(r"[BCPSKTG][0-9]{1,2}|[0-9]{1,3}")
+OF_CONFIG = ("S3", "P6")                # rules about names that the configuration has
 KIND_OF_RULE = {"B": "bench", "P": "program", "S": "st", "K": "switches", "C": "config",
                 "T": "trace", "G": "piece"}
 
@@ -65,7 +66,8 @@ def main() -> int:
     try:
         return explain(options)
     except TraceError as error:
-        return command.fail("explain", f"refused {options.of or '-'}: {error}", command.REFUSED)
+        name = options.of or next(iter(traces_among(options.files)), "-")
+        return command.fail("explain", f"refused {name}: {error}", command.REFUSED)
     except ConfigError as error:
         return command.fail("explain", str(error), command.USAGE)
     except ReadFault as error:
@@ -132,12 +134,13 @@ def code_findings(code: str) -> list[Finding]:
         tables = [name for name in ("error", "group_error") if code in hints.texts()[name]]
         if not tables:
             raise LookupError(f"there is no ErrorID {code}: see docs/errors.md")
-        return [Finding("note", f"ErrorID {code}", *hints.texts()[name][code]) for name in tables]
+        return [Finding("note", f"ErrorID {code}", reason, cure)
+                for reason, cure in (hints.texts()[name][code] for name in tables)]
     if code not in hints.texts()["rule"]:
         raise LookupError(f"there is no rule {code}: see docs/rules.md")
     says, cure = hints.rule(code)
     found = [Finding("note", code, says, cure)]
-    return found + [Finding("note", code, f"as in {hint.shows}", hint.index)
+    return found + [Finding("note", code, f"as in {hint.shows}", hint.listed)
                     for hint in hints.hints() if code in hint.rules]
 
 
@@ -146,9 +149,10 @@ def code_findings(code: str) -> list[Finding]:
 def output_of(options: argparse.Namespace) -> tuple[str, Iterator[str]]:
     """What motion wrote, and where it stands: `-` for the standard input, in whose position a trace
     among the files is taken where it is a terminal or empty."""
-    trace = next((name for name in options.files if kind_of(name) in ("trace", "piece")), None)
-    if options.of or (trace and sys.stdin.isatty()):
-        return (options.of or trace), lines_of(options.of or trace, None)
+    trace = next(iter(traces_among(options.files)), None)
+    source: Optional[str] = options.of or (trace if sys.stdin.isatty() else None)
+    if source:
+        return source, lines_of(source, None)
     if sys.stdin.isatty():
         raise LookupError("give the files that motion was given, and what it wrote by --of FILE or "
                           "a pipe; or a code, as S2")
@@ -157,6 +161,11 @@ def output_of(options: argparse.Namespace) -> tuple[str, Iterator[str]]:
     if not first and trace:
         return trace, lines_of(trace, None)
     return "-", chain([first], output) if first else output
+
+
+def traces_among(files: list[str]) -> list[str]:
+    """The traces and segments among some files."""
+    return [name for name in files if kind_of(name) in ("trace", "piece")]
 
 
 def kind_of(name: str) -> str:
@@ -197,6 +206,9 @@ def explained(options: argparse.Namespace, output: Iterator[str],
 
 def nothing_written(options: argparse.Namespace) -> list[Finding]:
     """What it means that there is no output."""
+    for name in options.files:
+        if not Path(name).exists():
+            raise ReadFault(f"cannot read {name}: there is no such file")
     if options.status is None:
         return [Finding("note", "", "motion wrote nothing: see its status",
                         "give it by --status N")]
@@ -210,11 +222,12 @@ def refusal(options: argparse.Namespace, name: str, place: int, rule: str) -> Fi
     file = file_of(options.files, name, rule)
     kind = KIND_OF_RULE[rule[0]]
     says, _ = hints.rule(rule)
-    raw = Path(file).read_bytes()
-    text = raw.decode("utf-8", "surrogateescape").replace("\r\n", "\n")
-    fault = fault_of(options, kind, text, place, rule, raw)
+    text = Path(file).read_bytes().decode("utf-8", "surrogateescape").replace("\r\n", "\n")
+    fault = fault_of(options, kind, text, place, rule)
     line = line_at(text, fault.line)
     cure = hints.cure_of(kind, fault, line)
+    if rule in OF_CONFIG and config_named(options) is None:
+        cure += "; give explain the configuration too, to see what is wrong here"
     return Finding("error", rule, fault.says or says, cure, says if fault.says else "", file,
                    fault.line, fault.column + 1, fault.length, printable(line))
 
@@ -242,12 +255,13 @@ def printable(line: str) -> str:
     return line.encode("utf-8", "surrogateescape").decode("utf-8", "replace").replace("\x00", "?")
 
 
-def fault_of(options: argparse.Namespace, kind: str, text: str, place: int, rule: str,
-             raw: bytes) -> Fault:
+def fault_of(options: argparse.Namespace, kind: str, text: str, place: int, rule: str) -> Fault:
     """What breaks a rule at a line, a place of a configuration or a record of a trace."""
     whole = Fault(rule, place)
     if kind == "config":
         return settings.fault_at(text, place, rule) or Fault(rule, 0, says=config_place(place, rule))
+    if rule in OF_CONFIG and config_named(options) is None:
+        return whole
     if kind == "st":
         axes, groups = names_of(options)
         return chosen(st.faults_of(text, axes, groups), place, rule) or whole
@@ -341,6 +355,9 @@ def run_findings(options: argparse.Namespace, output: Iterable[str],
                      source if source != "-" else "the run")
     ending = bench_end(run) if history.machine.maker == "bench" and kind == "bench" else \
         report.endings(run) if history.machine.maker == "run" else []
+    if history.fault:
+        ending = [Finding("error", "trace", f"{run.name} ceases to be a trace: {history.fault}",
+                          "the run was stopped, or its output was cut off or changed")]
     found = [*listed(report.failures(run), "errors"), *ending,
              *listed(report.warnings(run), "warnings")]
     return found, "".join(report.nothing_moved(history)) + report.report(run)

@@ -5,7 +5,7 @@ from dataclasses import dataclass, field
 from typing import Optional, Protocol
 
 from motion_tools.blocks import ENDLESS, MOVES, acts_on_group
-from motion_tools.trace import Axis, Block, Call, Cycle, Machine, Row, Trace
+from motion_tools.trace import Axis, Block, Call, Cycle, Machine, Row, Trace, TraceError
 from motion_tools.units import Motions, Step
 
 COMMANDS = (*MOVES, *ENDLESS, "Home", "Stop", "Halt", "GearOut", "CamOut", "GroupStop", "GroupHalt")
@@ -134,12 +134,18 @@ class History:
         self.errors: dict[str, int] = {}
         self.live: dict[str, list[Command]] = {}        # by axis or group
         self.watch = watch
+        self.fault: Optional[TraceError] = None         # where the text ceased to be a trace
+        try:
+            self.read(trace)
+        except TraceError as fault:
+            self.fault = fault
+
+    def read(self, trace: Trace) -> None:
+        """Reads the entries of a trace."""
         for cycle in trace.cycles():
             self.add_calls(cycle.calls, cycle.ends)
             self.add_cycle(cycle)
         self.add_calls(trace.last_calls, trace.last_ends)
-        for call in trace.last_calls:
-            self.motions.call(call)
 
     # Calls
 

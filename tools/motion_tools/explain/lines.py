@@ -9,7 +9,7 @@ from collections.abc import Callable, Iterable
 from dataclasses import dataclass, field
 from typing import Optional
 
-from motion_tools.blocks import FLAGS, KEYS, MODES, acts_on_group, keys_of
+from motion_tools.blocks import FLAGS, MODES, acts_on_group, keys_of
 from motion_tools.explain.faults import Fault
 from motion_tools.trace import BLOCK_KINDS
 
@@ -165,12 +165,13 @@ def axis_line(found: Finder) -> None:
     found.new_name(found.words[1], "axis")
     bounds = {"LO": (-10**15, 10**15), "HI": (-10**15, 10**15), "VMAX": (1, 10**10),
               "AMAX": (2, 10**10), "DMAX": (2, 10**10), "INC": (1, 10**9)}
-    values = {title: found.number(word, title, *bounds.get(title, ()))
-              for title, word in zip(titles, found.words[2:])}
+    read = {title: found.number(word, title, *bounds.get(title, ()))
+            for title, word in zip(titles, found.words[2:])}
     if len(found.words) == len(titles) + 3 and found.words[-1].text != "ready":
         found.add("value", found.words[-1], "only the word ready may stand after START")
-    if None not in values.values():
-        check_axis(found, values)       # type: ignore[arg-type]
+    values = {title: value for title, value in read.items() if value is not None}
+    if len(values) == len(read):
+        check_axis(found, values)
 
 
 def check_axis(found: Finder, values: dict[str, int]) -> None:
@@ -375,16 +376,16 @@ def switch_line(found: Finder) -> None:
     found.one_of(axis, found.context.axes, "axis")
     on, off, hyst = (found.number(word, title)
                      for word, title in zip(numbers, ("ON", "OFF", "HYST")))
-    if None in (on, off, hyst):
+    if on is None or off is None or hyst is None:
         return
     for word, title, value in zip(numbers, ("ON", "OFF"), (on, off)):
-        if abs(value) > 10**15:                                 # type: ignore[arg-type]
+        if abs(value) > 10**15:
             found.add("range", word, f"{title} is more than 10^15 in size")
-    if off < on:                                                # type: ignore[operator]
+    if off < on:
         found.add("range", numbers[1], "OFF is below ON")
-    if not 0 <= 2 * hyst <= off - on:                           # type: ignore[operator]
+    if not 0 <= 2 * hyst <= off - on:
         found.add("range", numbers[2], f"HYST has to be from 0 to {max(0, off - on) // 2}, half of "
-                  "the distance from ON to OFF")                # type: ignore[operator]
+                  "the distance from ON to OFF")
 
 
 READERS: dict[str, Callable[[Finder], None]] = {

@@ -442,7 +442,9 @@ def summary(run: Run) -> str:
         if run.units.cycle_us else ""
     return (f"{run.name}: {run.history.cycles} cycles{time}; {count(len(machine.axes), 'axis')}, "
             f"{count(len(machine.tasks), 'task')}, {count(len(machine.blocks), 'block')}; "
-            f"{run.history.entries} of {machine.entries} entries\n")
+            f"{run.history.entries} of {machine.entries} entries\n"
+            + ("in internal units: --config FILE gives those of the machine\n"
+               if machine.maker == "run" and not run.units.scales else ""))
 
 
 def count(number: int, what: str) -> str:

@@ -79,7 +79,7 @@ def thinned(sheet: Sheet, lane: Lane) -> list[list[Any]]:
 
 def spans(columns: Sequence[Sequence[Any]], key: Callable[[Any], Any]) -> list[list[Any]]:
     """Columns beside each other with one key, as from, to and key."""
-    found = []
+    found: list[list[Any]] = []
     for start, end, column in columns:
         if found and found[-1][2] == key(column):
             found[-1][1] = end
