@@ -169,6 +169,14 @@ class Runs(unittest.TestCase):
             self.assertEqual((status, faults), (0, ""), trace)
             self.assertNotIn("no table has", output)
 
+    def test_a_trace_that_was_cut_short_is_reported_as_far_as_it_goes(self):
+        text = "".join((EXAMPLES / "cell" / "cell.trace").read_text().splitlines(True)[:40])
+        status, output, _ = run("explain", text=text)
+        self.assertEqual(status, 3)
+        self.assertIn("ceases to be a trace: record 40", output)
+        self.assertIn("moves:\n", output)
+        self.assertNotIn("ends-in-motion", output)
+
     def test_what_is_no_trace_is_refused(self):
         self.assertEqual(run("explain", EXAMPLES / "cell" / "cell.bench", text="kind\n")[0], 3)
 

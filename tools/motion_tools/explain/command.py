@@ -95,7 +95,8 @@ def explain(options: argparse.Namespace) -> int:
                      "")
     source, output = output_of(options)
     found, text = explained(options, output, source)
-    return write(options, found, text)
+    status = write(options, found, text)
+    return command.REFUSED if any(each.code == "trace" for each in found) else status
 
 
 def write(options: argparse.Namespace, findings: Iterable[Finding], text: str) -> int:

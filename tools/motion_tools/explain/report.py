@@ -205,6 +205,8 @@ def where(run: Run, command: Command) -> str:
 
 def moving(run: Run) -> Iterator[Finding]:
     """Axes that were in motion when the run ended."""
+    if run.history.fault:
+        return
     for name, axis in run.history.axes.items():
         velocity = axis.last_step[0]
         if axis.last and velocity and abs(velocity) * STILL > axis.axis.vmax:
