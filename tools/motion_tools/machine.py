@@ -22,6 +22,7 @@ from typing import Optional, TextIO
 from motion_tools import command
 from motion_tools.explain import command as explain
 from motion_tools.explain.findings import words_of as text_of
+from motion_tools.explain.texts import kind_of
 from motion_tools.plot import command as plot
 from motion_tools.trace import SECONDS_OF_SILENCE, ReadFault, TraceError
 
@@ -91,7 +92,7 @@ def run(options: argparse.Namespace) -> int:
 
 def words_of(files: list[str]) -> list[str]:
     """The words for motion, by what the files are."""
-    kinds = {explain.kind_of(name): name for name in files}
+    kinds = {kind_of(name): name for name in files}
     for name in files:
         if not Path(name).is_file():
             raise WrongFiles(f"cannot read {name}: there is no such file")
@@ -101,7 +102,7 @@ def words_of(files: list[str]) -> list[str]:
         for kind, word in (("st", "st"), ("program", "run")):
             if kind in kinds:
                 return [word, kinds["config"], kinds[kind]]
-    shown = ", ".join(f"{name} ({explain.kind_of(name) or 'of no known kind'})" for name in files)
+    shown = ", ".join(f"{name} ({kind_of(name) or 'of no known kind'})" for name in files)
     raise WrongFiles(f"give a bench (its first line is motion-bench 1), or a configuration (TOML) and "
                      f"tasks: a program (its first line is motion-program 1) or Structured Text "
                      f"(PROGRAM name); here: {shown}")

@@ -6,11 +6,13 @@ from dataclasses import dataclass, field
 from typing import Optional
 
 from motion_tools.blocks import LETTERS
-from motion_tools.explain.st import (Assign, CallOf, Case, Flag, If, Join, Number, Sign, Statements,
-                                     Task, Tree, Truth, Variable, tasks_of)
+from motion_tools.explain.st import tasks_of
+from motion_tools.explain.st_tree import (Assign, CallOf, Case, Flag, If, Join, Number, Sign,
+                                          Statements, Task, Tree, Truth, Variable)
 from motion_tools.trace import Call
 
 MOST_STATEMENTS = 3_000_000         # that are scanned; a longer run has no lines
+MOST_CALLS = 200_000                # whose lines are kept
 OPERATORS: dict[str, Callable[[int, int], int]] = {
     "OR": lambda one, other: one | other, "AND": lambda one, other: one & other,
     "=": lambda one, other: one == other, "<>": lambda one, other: one != other,
@@ -112,7 +114,9 @@ class Scanned:
             self.is_lost = True
             return
         self.replies[call.block] = call.outputs
-        self.calls[call.block] = self.made[cycle, call.block] = self.waits_for.line
+        self.calls[call.block] = self.waits_for.line
+        if len(self.made) < MOST_CALLS:
+            self.made[cycle, call.block] = self.waits_for.line
         self.go_on()
 
     def next_scan(self) -> None:

@@ -1,6 +1,6 @@
 """The panels of an axis in a picture: their limits, grids and lines, and the axis of time."""
 
-from collections.abc import Callable, Sequence
+from collections.abc import Sequence
 from xml.sax.saxutils import escape
 
 from motion_tools.plot.lines import Columns, ToY, draw_lines
