@@ -7,8 +7,9 @@
 The points X:Y say where the slave stands, Y, for positions X of the master; between two of them it
 goes by the law, and a part with equal Y is a dwell. A table is interpolated linearly, so at each of
 its points the slave's velocity jumps: the change of slope times the master's step in a cycle has to
-stay within amax. The tool takes as few points as that bound allows, or the number that --count gives,
-and says what they ask of the slave. With --table it checks a table of the configuration instead.
+stay within amax, and where the master speeds up or brakes, the slope times its acceleration comes on
+top. The tool takes as few points as that bound allows, or the number that --count gives, and says what
+they ask of the slave. With --table it checks a table of the configuration instead.
 """
 
 import argparse
@@ -64,6 +65,9 @@ def parser() -> argparse.ArgumentParser:
     words.add_argument("--slave", metavar="AXIS", required=True, help="the axis that follows")
     words.add_argument("--velocity", metavar="V", type=positive, required=True,
                        help="the master's greatest velocity, in its units per second")
+    words.add_argument("--acceleration", metavar="A", type=not_negative,
+                       help="how much the master speeds up or brakes while it is on the table, in its "
+                       "units per second squared; left out, its amax")
     words.add_argument("--law", choices=[*LAWS, "spline"], default="poly5",
                        help="poly5 (polynomial of degree 5), modsine (modified sine), cycloid, line, "
                        "or spline (a cubic through all points, at rest at both ends); left out, "
@@ -88,9 +92,13 @@ def positive(text: str) -> float:
     return value
 
 
+def not_negative(text: str) -> float:
+    """A number from 0."""
+    return 0.0 if text == "0" else positive(text)
+
+
 def main() -> int:
-    words = parser()
-    options = words.parse_args()
+    options = parser().parse_args()
     fits: list[bool] = []
     status = command.ended("cam_points", options.config, lambda: fits.append(turn(options)))
     return status or int(fits == [False])
@@ -100,7 +108,9 @@ def turn(options: argparse.Namespace) -> bool:
     """Makes or checks a table, and says whether the slave can follow."""
     config = read_config(options.config)
     master, slave = config.axis(options.master), config.axis(options.slave)
-    bounds = Bounds(config.cycle_us, slave, options.velocity)
+    acceleration = float(master.amax) if options.acceleration is None else options.acceleration
+    rests = options.table is None and options.law != "line"
+    bounds = Bounds(config.cycle_us, slave, options.velocity, acceleration, rests)
     if options.table is not None:
         if not 1 <= options.table <= len(config.tables):
             raise LookupError(f"{config.path} has {len(config.tables)} tables, numbered from 1, and "
@@ -116,44 +126,48 @@ def turn(options: argparse.Namespace) -> bool:
 class Bounds:
     """What a slave may do, and what a table asks of it at a velocity of the master."""
 
-    def __init__(self, cycle_us: int, slave: AxisConfig, velocity: float):
+    def __init__(self, cycle_us: int, slave: AxisConfig, velocity: float, acceleration: float,
+                 rests: bool):
         self.seconds = cycle_us / 1e6
+        self.rests = rests                              # whether it rests at both ends of the table
+        self.master_acceleration = acceleration
         self.step = velocity * self.seconds             # of the master in a cycle
         self.slave = slave
         self.vmax, self.amax = float(slave.vmax), float(slave.amax)
 
     def velocity(self, points: Sequence[Point]) -> float:
         """The slave's greatest velocity."""
-        return max(map(abs, slopes(points))) * self.step / self.seconds
+        return max(abs(slope) for slope in slopes(points)) * self.step / self.seconds
 
     def acceleration(self, points: Sequence[Point]) -> tuple[float, float]:
-        """The slave's greatest acceleration, and at which position of the master: the greatest change
-        of its step from a cycle to the next one. It is at rest before and after the table."""
-        rates = [0.0, *slopes(points), 0.0]
-        corners = [(x, after - before) for (x, _), before, after in
-                   zip(points, rates, rates[1:])]
-        inner = corners[1:-1] or corners
+        """The slave's greatest acceleration, and at which position of the master: the change of slope
+        of all points within a step, and the slope with the master's acceleration."""
+        rates = slopes(points)
+        rates = [0.0, *rates, 0.0] if self.rests else [rates[0], *rates, rates[-1]]
+        corners = [(x, after - before) for (x, _), before, after in zip(points, rates, rates[1:])]
         best, at, first = 0.0, points[0][0], 0
-        for place, (x, _) in enumerate(inner):
-            while inner[first][0] <= x - self.step:
+        for place, (x, _) in enumerate(corners):
+            while corners[first][0] <= x - self.step:
                 first += 1
             change = 0.0
-            for other, turn_of in inner[first:]:
+            for other, turn_of in corners[first:]:
                 if other >= x + self.step:
                     break
                 change += turn_of * (1 - abs(other - x) / self.step)
-            if abs(change) > abs(best):
-                best, at = change, x
-        return abs(best) * self.step / self.seconds**2, at
+            slope = max(abs(rate) for rate in rates[place:place + 2])
+            found = abs(change) * self.step / self.seconds**2 + slope * self.master_acceleration
+            if found > best:
+                best, at = found, x
+        return best, at
 
     def fits(self, points: Sequence[Point]) -> bool:
         """Whether the slave can follow."""
         return (self.velocity(points) <= self.vmax and self.acceleration(points)[0] <= self.amax
                 and all(float(self.slave.lo) <= y <= float(self.slave.hi) for _, y in points))
 
-    def has_margin(self, points: Sequence[Point]) -> bool:
-        """Whether some of the acceleration is left."""
-        return self.acceleration(points)[0] <= self.amax * MARGIN
+    def is_within(self, points: Sequence[Point], share: float) -> bool:
+        """Whether the acceleration stays within a share of amax."""
+        return self.acceleration(points)[0] <= self.amax * share
 
 
 def slopes(points: Sequence[Point]) -> list[float]:
@@ -166,7 +180,7 @@ def slopes(points: Sequence[Point]) -> list[float]:
 
 def points_of(texts: Sequence[str]) -> list[Point]:
     """The points that are given. Raises LookupError."""
-    found = []
+    found: list[Point] = []
     for text in texts:
         try:
             x, y = map(float, text.split(":"))
@@ -193,12 +207,13 @@ def made(options: argparse.Namespace, bounds: Bounds) -> list[Point]:
         if not 2 <= options.count <= MOST:
             raise LookupError(f"--count is from 2 to {MOST}")
         return table(options.count)
+    share = MARGIN if bounds.is_within(table(MOST), MARGIN) else 1.0
     few, many = len(given), len(given)
-    while many < MOST and not bounds.has_margin(table(many)):
+    while many < MOST and not bounds.is_within(table(many), share):
         few, many = many, min(MOST, many * 2)
     while many - few > 1:
         middle = (few + many) // 2
-        few, many = (few, middle) if bounds.has_margin(table(middle)) else (middle, many)
+        few, many = (few, middle) if bounds.is_within(table(middle), share) else (middle, many)
     return table(many)
 
 
@@ -287,7 +302,8 @@ def report(points: Sequence[Point], bounds: Bounds, master: AxisConfig,
     slave, unit = bounds.slave, bounds.slave.unit
     velocity, (acceleration, at) = bounds.velocity(points), bounds.acceleration(points)
     lines = [f"{len(points)} points; {master.name} at {options.velocity:g} {master.unit}/s goes "
-             f"{bounds.step:.6g} {master.unit} a cycle\n",
+             f"{bounds.step:.6g} {master.unit} a cycle, and speeds up and brakes by at most "
+             f"{bounds.master_acceleration:g} {master.unit}/s²\n",
              f"{slave.name}: velocity up to {velocity:.6g} {unit}/s, {velocity / bounds.vmax:.0%} of "
              f"vmax; acceleration up to {acceleration:.6g} {unit}/s², "
              f"{acceleration / bounds.amax:.0%} of amax, at {master.name} {at:.6g} {master.unit}\n"]
@@ -307,9 +323,12 @@ def too_much(points: Sequence[Point], bounds: Bounds, options: argparse.Namespac
              master: AxisConfig) -> str:
     """Why the acceleration is too much, and the master's velocity at which it isn't."""
     slower = slowest(points, bounds, options.velocity)
-    says = (f"error: a CamIn would end with error 104: the change of slope times the master's step "
-            f"is more than amax; with these points {master.name} may go at {slower:.4g} "
-            f"{master.unit}/s")
+    says = ("error: a CamIn would end with error 104: the change of slope times the master's step, "
+            "and the slope times its acceleration, are more than amax")
+    if slower > 0:
+        says += f"; with these points {master.name} may go at {slower:.4g} {master.unit}/s"
+    if bounds.master_acceleration:
+        says += ", or speed up more slowly (--acceleration)"
     if options.table is not None or options.count is not None:
         return f"{says}, or take more points (leave --count and --table out)\n"
     return (f"{says}; no number of points suffices for {options.velocity:g} {master.unit}/s: the "
@@ -319,9 +338,10 @@ def too_much(points: Sequence[Point], bounds: Bounds, options: argparse.Namespac
 def slowest(points: Sequence[Point], bounds: Bounds, velocity: float) -> float:
     """The greatest velocity of the master, about, at which the slave can follow."""
     low, high = 0.0, velocity
-    for _ in range(40):
+    for _ in range(24):
         middle = (low + high) / 2
-        tried = Bounds(round(bounds.seconds * 1e6), bounds.slave, middle or 1e-9)
+        tried = Bounds(round(bounds.seconds * 1e6), bounds.slave, middle or 1e-9,
+                       bounds.master_acceleration, bounds.rests)
         low, high = (middle, high) if tried.acceleration(points)[0] <= bounds.amax else (low, middle)
     return low
 

@@ -18,7 +18,7 @@ from motion_tools.trace import ReadFault
 from motion_tools.units import Scale
 
 INTERNAL = 1e-9                 # user units in an internal unit
-UNIT = re.compile(r"#\s*unit:\s*([^\d\s.<>&=;,\"'][^\s<>&=;,\"']{0,7})\s*(?:$|[,.;#(])")
+UNIT = re.compile(r"#.*?\bunit:\s*([^\d\s.<>&=;,\"'][^\s<>&=;,\"']{0,7})\s*(?:$|[,.;#(])")
 HEADER = re.compile(r"\s*\[\[?\s*(\w+)\s*\]\]?")
 QUANTITY = re.compile(r"-?[0-9]+(?:\.[0-9]{1,9})?")
 
@@ -96,10 +96,10 @@ def config_of(path: str, text: str) -> Config:
 
 def axis_of(keys: dict[str, Any], unit: str) -> AxisConfig:
     """The axis of its keys."""
-    amax = quantity_of(keys["amax"])
-    return AxisConfig(str(keys["name"]), *(quantity_of(keys[key]) for key in ("lo", "hi", "vmax")),
-                      amax, quantity_of(keys["dmax"]) if "dmax" in keys else amax,
-                      *(quantity_of(keys[key]) for key in ("increment", "start")),
+    lo, hi, vmax, amax = (quantity_of(keys[key]) for key in ("lo", "hi", "vmax", "amax"))
+    return AxisConfig(str(keys["name"]), lo, hi, vmax, amax,
+                      quantity_of(keys["dmax"]) if "dmax" in keys else amax,
+                      quantity_of(keys["increment"]), quantity_of(keys["start"]),
                       int(keys.get("lag", 0)), unit)
 
 

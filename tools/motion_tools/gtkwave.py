@@ -1,20 +1,22 @@
 """How GTKWave shows a dump of `trace_to_vcd`: positions and velocities as lines.
 
 A view is a file of GTKWave's own (`.gtkw`): the name of the dump, and signals in their order, each
-behind the flags of those that follow. An empty row behind an analog signal gives it more height.
+after the flags of those that follow. An empty row after an analog signal gives it more height.
 """
 
 import math
 
-# An analog line over its whole height, of signed numbers, in steps: a dump tells changes alone, so
+from motion_tools.trace import Block, Machine
+
+# An analog line over its whole height, of signed numbers, in steps: a dump has changes alone, so
 # that a line that is joined from one to the next would rise where the axis still stands.
 ANALOG = "@88420"
 WORD, BIT, COMMENT, ROOM = "@22", "@28", "@200", "@20000"
 HEIGHT = 3                              # rows that an analog line takes beside its own
-WIDTH, FRAME = 800, 150                 # pixels that a dump is fitted into, and a zoom is told of
+WIDTH, FRAME = 800, 150                 # pixels that a dump is fitted into, and a zoom is given of
 
 
-def view_of(machine, dump, end):
+def view_of(machine: Machine, dump: str, end: int) -> str:
     """The text of the view of a machine's dump, which stands in the same folder and ends at a time
     in nanoseconds: all of it is in the window at first."""
     zoom = -math.log2(max(end, 1) * FRAME / WIDTH)
@@ -29,7 +31,7 @@ def view_of(machine, dump, end):
     return "\n".join(lines) + "\n"
 
 
-def axis_view(name, has_place):
+def axis_view(name: str, has_place: bool) -> list[str]:
     """An axis: its lines, its state and whether it is driven."""
     lines = [COMMENT, f"-Axis {name}", *analog(f"motion.{name}.setpoint")]
     if has_place:
@@ -38,12 +40,12 @@ def axis_view(name, has_place):
             f"motion.{name}.driven"]
 
 
-def analog(signal):
+def analog(signal: str) -> list[str]:
     """A signal as a line, in some rows of height."""
     return [ANALOG, signal, ROOM, *["-"] * HEIGHT]
 
 
-def block_view(scope, block):
+def block_view(scope: str, block: Block) -> list[str]:
     """A block: what it was given and what it answered."""
     names = ("execute", "busy", "active", "done", "command_aborted", "error", "reached")
     return [COMMENT, f"-{block.name}: {block.kind}", BIT, *(f"{scope}.{name}" for name in names)]

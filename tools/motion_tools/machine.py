@@ -21,7 +21,8 @@ from typing import Optional, TextIO
 
 from motion_tools import command
 from motion_tools.explain import command as explain
-from motion_tools.explain.findings import told
+from motion_tools.explain.findings import words_of as text_of
+from motion_tools.explain.texts import kind_of
 from motion_tools.plot import command as plot
 from motion_tools.trace import SECONDS_OF_SILENCE, ReadFault, TraceError
 
@@ -75,7 +76,7 @@ def run(options: argparse.Namespace) -> int:
     trace = Path(options.output)
     is_trace = trace.stat().st_size > 0 and trace.open("rb").read(5) == b"kind,"
     found, text = findings_of(words[1:], options.output, status)
-    sys.stderr.write(told(found) + text)
+    sys.stderr.write(text_of(found) + text)
     if not is_trace:
         trace.unlink()
         return status
@@ -91,7 +92,7 @@ def run(options: argparse.Namespace) -> int:
 
 def words_of(files: list[str]) -> list[str]:
     """The words for motion, by what the files are."""
-    kinds = {explain.kind_of(name): name for name in files}
+    kinds = {kind_of(name): name for name in files}
     for name in files:
         if not Path(name).is_file():
             raise WrongFiles(f"cannot read {name}: there is no such file")
@@ -101,7 +102,7 @@ def words_of(files: list[str]) -> list[str]:
         for kind, word in (("st", "st"), ("program", "run")):
             if kind in kinds:
                 return [word, kinds["config"], kinds[kind]]
-    shown = ", ".join(f"{name} ({explain.kind_of(name) or 'of no known kind'})" for name in files)
+    shown = ", ".join(f"{name} ({kind_of(name) or 'of no known kind'})" for name in files)
     raise WrongFiles(f"give a bench (its first line is motion-bench 1), or a configuration (TOML) and "
                      f"tasks: a program (its first line is motion-program 1) or Structured Text "
                      f"(PROGRAM name); here: {shown}")
@@ -114,7 +115,7 @@ def config_of(words: list[str]) -> Optional[str]:
 
 def made(words: list[str], trace: Path, progress: TextIO = sys.stderr) -> int:
     """Runs the program into a file, and gives its status. The program writes its trace at its end, so
-    that only the time can be told before."""
+    that only the time can be shown before."""
     begun = time.monotonic()
     said = begun
     with open(trace, "wb") as output, subprocess.Popen(words, stdout=output) as running:
@@ -143,7 +144,7 @@ def checked(program: str, trace: str) -> int:
     ran = subprocess.run([program, "check", trace], capture_output=True, encoding="utf-8",
                          check=False)
     found, _ = explain.verdict_findings([trace], StringIO(ran.stdout).readlines() or [""])
-    sys.stderr.write(told(found))
+    sys.stderr.write(text_of(found))
     return ran.returncode
 
 

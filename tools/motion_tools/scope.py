@@ -3,11 +3,12 @@
 import argparse
 import re
 import sys
-from typing import NamedTuple, Optional
+from collections.abc import Iterable, Sequence
+from typing import NamedTuple, Optional, TextIO
 
 from motion_tools import command
 from motion_tools.trace import lines_of
-from motion_tools.units import decimal
+from motion_tools.units import Factors, Units, decimal
 
 NAME = "([A-Za-z][A-Za-z0-9_]{0,15})"
 COUNT = "(0|[1-9][0-9]*)"
@@ -31,7 +32,7 @@ class ReportError(Exception):
 
 
 class AxisLine(NamedTuple):
-    """What a report tells of an axis, in its internal units."""
+    """What a report says of an axis, in its internal units."""
     name: str
     driven: int
     least: Optional[int]
@@ -50,7 +51,7 @@ def main() -> int:
                              ReportError)
 
 
-def write(options, output):
+def write(options: argparse.Namespace, output: TextIO) -> None:
     """Writes the tables of the report that is asked for."""
     axes, blocks = report_of(lines_of(options.report))
     units = command.units_for(options, {axis.name for axis in axes}, "report")
@@ -60,9 +61,10 @@ def write(options, output):
     output.write(table([BLOCK_TITLES, *blocks]))
 
 
-def report_of(lines):
+def report_of(lines: Iterable[str]) -> tuple[list[AxisLine], list[tuple[str, ...]]]:
     """The axes of a report, and the fields of its blocks. Raises ReportError."""
-    axes, blocks = [], []
+    axes: list[AxisLine] = []
+    blocks: list[tuple[str, ...]] = []
     for number, line in enumerate(lines, 1):
         line = line.rstrip("\r\n")
         if (match := AXIS.fullmatch(line)) and not blocks:
@@ -70,19 +72,25 @@ def report_of(lines):
         elif (match := BLOCK.fullmatch(line)) and axes:
             blocks.append(match.groups())
         else:
-            raise ReportError(f"line {number}: it is no line of a report, or in another place")
+            raise ReportError(f"line {number}: it is no line of a report, or in another position")
     if not blocks:
         raise ReportError("it ends before a line of a block")
     return axes, blocks
 
 
-def axis_of(fields):
+def axis_of(fields: Sequence[str]) -> AxisLine:
     """An axis by the fields of its line."""
-    name, *numbers = fields
-    return AxisLine(name, *(None if number == "-" else int(number) for number in numbers))
+    name, driven, least, greatest, still, travel = fields
+    return AxisLine(name, int(driven), setpoint_of(least), setpoint_of(greatest), int(still),
+                    int(travel))
 
 
-def axis_fields(axis, units):
+def setpoint_of(field: str) -> Optional[int]:
+    """A setpoint of a report; None where there is none."""
+    return None if field == "-" else int(field)
+
+
+def axis_fields(axis: AxisLine, units: Units) -> list[str]:
     """The fields of an axis in a table: in its unit, where it has a scale."""
     factors = units.factors(axis.name)
     places = [told(number, factors) for number in (axis.least, axis.greatest, axis.travel)]
@@ -90,21 +98,21 @@ def axis_fields(axis, units):
     return fields + ([units.names(axis.name)[0]] if units.scales else [])
 
 
-def told(number, factors):
+def told(number: Optional[int], factors: Optional[Factors]) -> str:
     """A number in internal units or scaled; a dash where there is none."""
     if number is None:
         return "-"
     return str(number) if factors is None else decimal(number * factors[0])
 
 
-def table(rows):
+def table(rows: Sequence[Sequence[str]]) -> str:
     """Lines whose columns stand below each other: names and units at the left, numbers at the
     right."""
     widths = [max(map(len, column)) for column in zip(*rows)]
     return "".join(aligned(rows[0], row, widths) for row in rows)
 
 
-def aligned(titles, row, widths):
+def aligned(titles: Sequence[str], row: Sequence[str], widths: Sequence[int]) -> str:
     """A line, its fields as wide as their columns."""
     fields = [field.ljust(width) if title in LEFT else field.rjust(width)
               for title, field, width in zip(titles, row, widths)]

@@ -19,7 +19,7 @@ from typing import Optional
 from motion_tools import command
 from motion_tools.explain import hints, lines
 from motion_tools.explain.faults import Fault, chosen
-from motion_tools.explain.findings import Finding, told
+from motion_tools.explain.findings import Finding, words_of
 from motion_tools.explain.verdicts import verdict_findings
 from motion_tools.machine import ROOT
 from motion_tools.plot.edges import EdgeError, read_edges
@@ -57,10 +57,10 @@ def turn(options: argparse.Namespace) -> int:
     text = text_of(options.file)
     made = ran(options, converted(text, units))
     if made.returncode:
-        sys.stderr.write(told(failure(options, made.stdout, text, machine)))
+        sys.stderr.write(words_of(failure(options, made.stdout, text, machine)))
         return made.returncode
     sys.stdout.write(times(made.stdout, units) if options.times else made.stdout)
-    sys.stderr.write(told(idle(options, text, made.stdout, units)))
+    sys.stderr.write(words_of(idle(options, text, made.stdout, units)))
     return command.READ
 
 
@@ -141,7 +141,7 @@ def idle(options: argparse.Namespace, text: str, edges: str, units: Units) -> li
              if (words := lines.words_of(line))[:1] == ["switch"] and words[1] not in seen]
     ways = ways_of(options.trace, {words[2] for _, _, words in found}) if found else {}
     return [Finding("warning", "never-on", f"the switch {words[1]} never goes on: {words[2]} goes "
-                    f"{way_told(words[2], ways.get(words[2]), units)}",
+                    f"{way_text(words[2], ways.get(words[2]), units)}",
                     cure_of(words[2], units), "", options.file, number, 0, 1, line)
             for number, line, words in found]
 
@@ -157,7 +157,7 @@ def ways_of(trace: str, names: set[str]) -> dict[str, tuple[int, int]]:
     return ways
 
 
-def way_told(axis: str, way: Optional[tuple[int, int]], units: Units) -> str:
+def way_text(axis: str, way: Optional[tuple[int, int]], units: Units) -> str:
     if way is None:
         return "nowhere, as there is no cycle"
     return f"from {units.text(axis, way[0])} to {units.text(axis, way[1])}"

@@ -16,7 +16,7 @@ from motion_tools.blocks import reached_name
 from motion_tools.trace import Call, Trace, lines_of
 from motion_tools.units import Units
 
-LOW, HIGH = "▁▇"
+LOW, HIGH = "▁", "▇"
 OUTPUTS = (("B", "Busy"), ("A", "Active"), ("D", "Done"), ("C", "CommandAborted"), ("E", "Error"))
 Numbered = tuple[int, Call]             # a call, and how many cycles were before it
 

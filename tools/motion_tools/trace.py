@@ -4,7 +4,7 @@
     trace.machine                       # the version, axes with their limits, groups, blocks
     for cycle in trace.cycles():        # one Cycle after another
         cycle.number, cycle.calls, cycle.rows["X"].setpoint, cycle.groups["G"].state
-    trace.last_calls, trace.drives      # behind the last cycle; there once cycles() has ended
+    trace.last_calls, trace.drives      # after the last cycle; there once cycles() has ended
 
 All numbers are whole numbers in an axis's internal units, per cycle; counts of a drive are in its
 increments. A text that is no trace ends the reading with a TraceError, which names the record.
@@ -17,8 +17,8 @@ import os
 import re
 import sys
 import time
-from collections.abc import Callable, Iterable, Iterator
-from typing import Any, NamedTuple, Optional, TextIO
+from collections.abc import Callable, Container, Iterable, Iterator, Sequence
+from typing import Any, NamedTuple, Optional, TextIO, Union
 
 LONGEST_LINE = 1 << 18      # characters; a cam table of 4,096 points has less
 SECONDS_OF_SILENCE = 2.0    # between two lines of progress
@@ -49,7 +49,7 @@ class ReadFault(Exception):
     """A file couldn't be read."""
 
 
-# What a trace tells, with its fields in the order of the record.
+# What a trace has, with its fields in the order of the record.
 
 class Axis(NamedTuple):
     name: str
@@ -91,7 +91,7 @@ class Call(NamedTuple):
 
 
 class Row(NamedTuple):
-    """What an axis and its drive tell each other in a cycle."""
+    """What an axis and its drive give each other in a cycle."""
     axis: str
     statusword: int
     actual: int             # increments
@@ -147,18 +147,21 @@ class Column(NamedTuple):
     value: Callable
 
 
-def one_of(*values):
+Columns = Sequence[tuple[str, Column]]      # the columns of a record, by name
+
+
+def one_of(*values: str) -> Column:
     """The column of these words."""
     return Column("|".join(values), "one of " + ", ".join(values), sys.intern)
 
 
-def optional(column):
+def optional(column: Column) -> Column:
     """The column whose values may be left out, which gives None."""
     return Column("|" + column.pattern, column.words + ", or nothing",
                   lambda text: column.value(text) if text else None)
 
 
-def joined(column):
+def joined(column: Column) -> Column:
     """The column of one value or more, joined by semicolons, which gives a tuple."""
     item = f"(?:{column.pattern})"
     return Column(f"{item}(?:;{item})*", f"{column.words}, one or more joined by ;",
@@ -209,7 +212,7 @@ HEADER = "kind,a,b,c,d,e,f,g,h,i,j,k".split(",")
 ITEMS = ("axis", "group", "table", "task", "block")
 
 
-def shown(text):
+def shown(text: str) -> str:
     """A field in quotes, of which at most 40 characters are shown."""
     return ascii(text if len(text) <= 40 else text[:40] + "..")
 
@@ -217,21 +220,21 @@ def shown(text):
 class Form:
     """The form of the records of one kind: reads their values, or says which field has none."""
 
-    def __init__(self, kind, columns):
+    def __init__(self, kind: str, columns: Columns):
         self.kind, self.columns = kind, columns
         self.values = [column.value for _, column in columns]
         self.pattern = re.compile(
             ",".join([kind] + [f"({column.pattern})" for _, column in columns])
             + "," * (11 - len(columns)))
 
-    def read(self, number, record):
+    def read(self, number: int, record: list[str]) -> list[Any]:
         """The values of a record of twelve fields."""
         match = self.pattern.fullmatch(",".join(record))
         if match is None:
             raise TraceError(number, f"{self.kind}: {self.fault(record)}")
         return [value(text) for value, text in zip(self.values, match.groups())]
 
-    def fault(self, record):
+    def fault(self, record: list[str]) -> str:
         """What is wrong with a record that isn't of this form."""
         for (name, column), text in zip(self.columns, record[1:]):
             if not re.fullmatch(column.pattern, text):
@@ -242,13 +245,16 @@ class Form:
 class Trace:
     """A trace that is read from lines of text: the machine at once, the cycles one by one."""
 
-    def __init__(self, lines):
+    def __init__(self, lines: Iterable[str]):
         csv.field_size_limit(LONGEST_LINE)
         self._records = filter(None, csv.reader(lines))     # blank lines are no records
         self._number = 0                                    # of the record that stands next
         self._taken = 0                                     # of the one that was taken last
         self._forms = {kind: Form(kind, columns) for kind, columns in FORMS.items()}
-        self.last_calls, self.last_ends, self.drives = [], [], []
+        self._record: list[str] = []                        # empty after the last one
+        self.last_calls: list[Call] = []
+        self.last_ends: list[str] = []
+        self.drives: list[Drive] = []
         self._advance(is_first=True)
         if self._kind() != "kind" or self._record != HEADER:
             raise self._misplaced(f"the header {','.join(HEADER)}")
@@ -257,13 +263,13 @@ class Trace:
 
     # Records
 
-    def _advance(self, is_first=False):
-        """Goes to the next record; None behind the last one."""
+    def _advance(self, is_first: bool = False) -> None:
+        """Goes to the next record."""
         try:
-            self._record = next(self._records, None)
+            self._record = next(self._records, [])
         except csv.Error as error:
             raise TraceError(self._number + 1, str(error)) from None
-        if self._record is None:
+        if not self._record:
             return
         self._number += 1
         if is_first and self._record[0].lstrip().startswith("motion-bench"):
@@ -271,19 +277,19 @@ class Trace:
         if len(self._record) != 12:
             raise TraceError(self._number, f"it has {len(self._record)} fields, and not twelve")
 
-    def _kind(self):
+    def _kind(self) -> str:
         """The kind of the record that stands next."""
-        if self._record is None:
-            reason = "the text ends too early, behind this record"
+        if not self._record:
+            reason = "the text ends too early, after this record"
             raise TraceError(self._number, reason if self._number else "the text is empty")
         return self._record[0]
 
-    def _misplaced(self, wanted):
+    def _misplaced(self, wanted: str) -> TraceError:
         """The refusal of the record that stands next, where another was wanted."""
         return TraceError(self._number,
-                          f"{shown(self._record[0])} stands in the place of {wanted}")
+                          f"{shown(self._record[0])} stands in the position of {wanted}")
 
-    def _take(self, kind):
+    def _take(self, kind: str) -> list[Any]:
         """The values of the record that stands next, which has to be of this kind."""
         if self._kind() != kind:
             raise self._misplaced(f"a record {kind}")
@@ -292,25 +298,25 @@ class Trace:
         self._advance()
         return values
 
-    def _take_of(self, kind, name):
+    def _take_of(self, kind: str, name: str) -> list[Any]:
         """The same of a record that has to belong to this axis or group."""
         values = self._take(kind)
         if values[0] != name:
             raise self._refused(f"{kind}: it is of {values[0]}, and not of {name}")
         return values
 
-    def _refused(self, reason):
+    def _refused(self, reason: str) -> TraceError:
         """The refusal of the record that was taken last."""
         return TraceError(self._taken, reason)
 
     # The machine
 
-    def _read_machine(self):
+    def _read_machine(self) -> Machine:
         """The items, in their order; there are an axis, a task and a block at least."""
-        version, *others = self._take("trace")
+        version, maker, most_cycles, entries = self._take("trace")
         for kind, columns in FORMS_OF_VERSION[int(version)].items():
             self._forms[kind] = Form(kind, columns)
-        machine = Machine(int(version), *others, [], [], [], [], [])
+        machine = Machine(int(version), maker, most_cycles, entries, [], [], [], [], [])
         for kind, items in zip(ITEMS, machine[4:]):
             while self._kind() == kind:
                 items.append(self._take_item(kind, machine))
@@ -319,7 +325,7 @@ class Trace:
                 raise self._misplaced(f"a record {kind}, of which the machine has none")
         return machine
 
-    def _take_item(self, kind, machine):
+    def _take_item(self, kind: str, machine: Machine) -> Any:
         """The next item of the machine, whose name is new and which names what is there."""
         item = item_of(kind, self._take(kind), machine.version)
         if kind != "table":
@@ -333,10 +339,11 @@ class Trace:
 
     # Entries
 
-    def cycles(self):
-        """Gives each cycle as a Cycle; behind the last one the drives' records are read."""
+    def cycles(self) -> Iterator[Cycle]:
+        """Gives each cycle as a Cycle; after the last one the drives' records are read."""
         blocks = {block.name for block in self.machine.blocks}
-        calls, ends = [], []
+        calls: list[Call] = []
+        ends: list[str] = []
         while True:
             kind = self._kind()
             if kind == "cycle":
@@ -353,14 +360,14 @@ class Trace:
         self.last_calls, self.last_ends = calls, ends
         self._read_drives()
 
-    def _take_known(self, kind, names):
+    def _take_known(self, kind: str, names: Container[str]) -> list[Any]:
         """The values of a record whose block or task is one of these."""
         values = self._take(kind)
         if values[0] not in names:
             raise self._refused(f"{kind}: there is no {values[0]}")
         return values
 
-    def _read_cycle(self, calls, ends):
+    def _read_cycle(self, calls: list[Call], ends: list[str]) -> Cycle:
         """A cycle, with a row for each axis and each group, in their order."""
         number, = self._take("cycle")
         record = self._taken
@@ -369,20 +376,20 @@ class Trace:
                   for group in self.machine.groups}
         return Cycle(number, calls, ends, rows, groups, record)
 
-    def _take_row(self, axis):
+    def _take_row(self, axis: str) -> Row:
         values = self._take_of("row", axis)
         if self.machine.version == 1:
             values.append(None)
         return Row(*values)
 
-    def _read_drives(self):
+    def _read_drives(self) -> None:
         for axis in self.machine.axes:
             self.drives.append(Drive(*self._take_of("drive", axis.name)))
-        if self._record is not None:
-            raise self._misplaced("the end, behind the drives")
+        if self._record:
+            raise self._misplaced("the end, after the drives")
 
 
-def item_of(kind, values, version):
+def item_of(kind: str, values: list[Any], version: int) -> Any:
     """The item of the machine that a record's values are."""
     if kind == "axis":
         dmax = [] if version == 2 else [values[4]]
@@ -394,13 +401,13 @@ def item_of(kind, values, version):
     return list(values[0]) if kind == "table" else values[0]
 
 
-def names_of(machine):
+def names_of(machine: Machine) -> set[str]:
     """The names that are used so far."""
     return ({item.name for items in (machine.axes, machine.groups, machine.blocks)
              for item in items} | set(machine.tasks))
 
 
-def names_told(kind, item, machine):
+def names_told(kind: str, item: Any, machine: Machine) -> list[tuple[str, list[str]]]:
     """What an item names, each with the names that are there for it."""
     axes = [axis.name for axis in machine.axes]
     if kind == "group":
@@ -418,7 +425,7 @@ def lines_of(name: str, progress: Optional[TextIO] = sys.stderr) -> Iterator[str
     file that is longer than `motion check` takes that is written at once. Raises ReadFault where the
     file can't be read, TraceError where a line is too long for any record."""
     try:
-        source = 0 if name == "-" else name
+        source: Union[int, str] = 0 if name == "-" else name
         with open(source, encoding="utf-8-sig", errors="surrogateescape", newline="") as file:
             yield from bounded_lines(file, name, progress)
     except OSError as error:

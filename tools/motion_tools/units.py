@@ -39,7 +39,7 @@ class Motion:
         self.moved = self.homed and row.setpoint != self.setpoint
         goes_on = self.driven and row.driven and not self.moved
         velocity = row.setpoint - self.setpoint if goes_on else None
-        acceleration = velocity - self.velocity if goes_on else None
+        acceleration = None if velocity is None else velocity - self.velocity
         self.setpoint, self.velocity = row.setpoint, velocity or 0
         self.driven, self.homed = row.driven, row.state == "Homing"
         return velocity, acceleration
@@ -72,7 +72,7 @@ class Scale(NamedTuple):
 
 
 class Units:
-    """What numbers of each axis are told in: `scales` by name, that of "" being for the others;
+    """What numbers of each axis are shown in: `scales` by name, that of "" being for the others;
     `cycle_us` is the length of a cycle in microseconds, 0 or None where it isn't known."""
 
     def __init__(self, scales: Optional[Mapping[str, Scale]] = None,
@@ -102,7 +102,7 @@ class Units:
 
     def of_axis(self, axis: str) -> dict[str, tuple[float, str]]:
         """For the panels of an axis: by quantity the factor and the unit. An axis without a scale
-        is told in internal units per cycle, whatever the cycle's length."""
+        is shown in internal units per cycle, whatever the cycle's length."""
         scale = self.of(axis)
         factor, unit = scale or (1.0, "units")
         seconds, per = (self.cycle_us / 1e6, "s") if scale and self.cycle_us else (1.0, "cycle")
@@ -122,7 +122,7 @@ class Units:
         if number is None:
             return "none"
         factor, unit = self.of_axis(axis)[quantity]
-        return f"{number * factor:.6g} {unit}"
+        return f"{number if self.of(axis) is None else f'{number * factor:.6g}'} {unit}"
 
     def time_text(self, cycles: float) -> str:
         """A time with its unit, as `1.25 s`; in cycles where a cycle's length isn't known."""
@@ -141,7 +141,7 @@ def scale_of(text: str) -> tuple[str, Scale]:
 
 
 def scaled(numbers: Iterable[Optional[float]], factors: Iterable[float]) -> list[Optional[str]]:
-    """Numbers, of which some may be None, times these factors, as they are told."""
+    """Numbers, of which some may be None, times these factors, as they are written."""
     return [None if number is None else decimal(number * factor)
             for number, factor in zip(numbers, factors)]
 

@@ -11,8 +11,8 @@ from typing import Any, Optional, TextIO
 
 from motion_tools import command
 from motion_tools.gtkwave import view_of
-from motion_tools.trace import (AXIS_STATES, GROUP_STATES, Axis, Block, Call, Cycle, Group, GroupRow,
-                                Machine, Row, Trace, TraceError)
+from motion_tools.trace import (AXIS_STATES, GROUP_STATES, Axis, Block, Call, Cycle, Group,
+                                GroupRow, Machine, Row, Trace, TraceError)
 from motion_tools.units import Motions, Step, Units, scaled
 
 NANOSECONDS = 1000      # in a microsecond; the dump's time is in nanoseconds

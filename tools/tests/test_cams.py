@@ -67,13 +67,22 @@ class Tables(unittest.TestCase):
             return call(cams.main, "--config", config, "--master", "X", "--slave", "Y", *words)
 
     def test_as_few_points_as_the_slave_allows(self):
-        status, table, told = self.made("--velocity", 200, *GIVEN)
+        status, table, told = self.made("--velocity", 200, "--acceleration", 1000, *GIVEN)
         self.assertEqual(status, 0, told)
         self.assertRegex(told, r"acceleration up to 4\d\d\d.* mm/s², 9\d% of amax")
         count = table.count(":") - 1                            # one stands in the comment
         self.assertRegex(told, rf"^{table.count(':')} points|^{count} points")
         fewer = int(told.split()[0]) * 9 // 10
-        self.assertEqual(self.made("--velocity", 200, "--count", fewer, *GIVEN)[0], 1)
+        self.assertEqual(self.made("--velocity", 200, "--acceleration", 1000, "--count", fewer,
+                                   *GIVEN)[0], 1)
+
+    def test_the_master_speeds_up(self):
+        less = self.made("--velocity", 200, "--acceleration", 0, *GIVEN)[2]
+        more = self.made("--velocity", 200, "--acceleration", 2000, *GIVEN)[2]
+        self.assertLess(int(less.split()[0]), int(more.split()[0]))
+        status, _, told = self.made("--velocity", 260, *GIVEN)     # by the master's amax
+        self.assertEqual(status, 1)
+        self.assertIn("speed up more slowly (--acceleration)", told)
 
     def test_faults(self):
         for words, wanted in ((["--velocity", 200, "0:0", "0:5"], "X has to rise"),
@@ -85,7 +94,7 @@ class Tables(unittest.TestCase):
             self.assertEqual(status, 2)
             self.assertIn(wanted, told)
         self.assertEqual(self.made("--velocity", "fast", *GIVEN)[0], 2)
-        status, _, told = self.made("--velocity", 1000, *GIVEN)
+        status, _, told = self.made("--velocity", 1000, "--acceleration", 0, *GIVEN)
         self.assertEqual(status, 1)
         self.assertIn("no number of points suffices", told)
         self.assertIn("beyond its limits", self.made("--velocity", 20, "0:0", "100:500")[2])
@@ -105,8 +114,12 @@ class Tables(unittest.TestCase):
             for count in ([] if law in ("line", "spline") else [None]) + [40]:
                 words = ["--velocity", 400, "--law", law, "0:0", "125:25", "250:0"]
                 words += ["--count", count] if count else []
-                status, table, told = self.made(*words)
-                self.assertEqual(self.fails(table), status == 1, (law, count, told))
+                safe, table, told = self.made("--acceleration", 5000, *words)
+                if safe == 0:
+                    self.assertFalse(self.fails(table), (law, count, told))
+                status, table, told = self.made("--acceleration", 0, *words)
+                if status == 1:
+                    self.assertTrue(self.fails(table), (law, count, told))
 
     def fails(self, table):
         """Whether the slave meets error 104 where the master goes along a table."""

@@ -43,7 +43,7 @@ class Options(unittest.TestCase):
     """--config in the tools."""
 
     def test_the_picture_is_that_of_its_scale(self):
-        with_scale = run("trace_plot", f"{ST}.trace", "--cycle-us", "8000", "--scale", "1e-9units")
+        with_scale = run("trace_plot", f"{ST}.trace", "--cycle-us", "8000", "--scale", "1e-9mm")
         with_config = run("trace_plot", f"{ST}.trace", "--config", f"{ST}.toml")
         self.assertEqual(with_scale, with_config)
 
@@ -51,7 +51,7 @@ class Options(unittest.TestCase):
         for tool in ("trace_to_table", "trace_to_vcd", "trace_timing", "explain"):
             status, output, faults = run(tool, f"{ST}.trace", "--config", f"{ST}.toml")
             self.assertEqual((status, faults), (0, ""), tool)
-        self.assertIn("X setpoint [units]", run("trace_to_table", f"{ST}.trace", "--config",
+        self.assertIn("X setpoint [mm]", run("trace_to_table", f"{ST}.trace", "--config",
                                                 f"{ST}.toml")[1])
 
     def test_of_another_machine(self):

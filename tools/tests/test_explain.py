@@ -10,9 +10,10 @@ import unittest
 
 from tool_runner import EXAMPLES, TOOLS, call, run
 
-from motion_tools.explain import hints, lines, settings, st
+from motion_tools.explain import hints, history, lines, scans, settings, st
 from motion_tools.explain.command import main
 from motion_tools.explain.faults import chosen, marked
+from motion_tools.trace import Trace, lines_of
 
 ROOT = TOOLS.parent
 REFUSED = ROOT / ".ci" / "refused"
@@ -111,8 +112,8 @@ class Runs(unittest.TestCase):
 
     def test_a_rejected_call_has_its_reason_and_nothing_moved(self):
         output = explained(BENCH, TRACE)
-        self.assertIn("error 10: after cycle 0: M (MoveAbsolute on X): the target lies beyond the "
-                      "axis's limits: 500 units is beyond the limits of X, 0 to 50 units\n", output)
+        self.assertIn("error 10: after cycle 0: M (MoveAbsolute on X): 500 units is beyond the limits "
+                      "of X, 0 to 50 units\n", output)
         self.assertIn("Every command was rejected: nothing moved.\n", output)
         self.assertIn("All calls, cycles and ends were made.\n", output)
 
@@ -124,12 +125,12 @@ class Runs(unittest.TestCase):
 
     def test_a_run_without_cycles_left_ends_at_its_line(self):
         output = explained(BENCH.replace("cycle 1", "cycle 21"), TRACE)
-        self.assertIn("my.bench:8: error 8: The run ended in this line: no cycle is left", output)
+        self.assertIn("my.bench:8: error status 8: The run ended in this line: no cycle is left", output)
 
     def test_a_run_without_room_ends_at_its_line(self):
         limit = BENCH.replace("limit 20 40", "limit 20 2")
         output = explained(limit, TRACE.replace("20,40", "20,2"))
-        self.assertIn("my.bench:9: error 9: The run ended in this line: no room is left", output)
+        self.assertIn("my.bench:9: error status 9: The run ended in this line: no room is left", output)
 
     def test_an_error_of_an_axis_has_its_cycle(self):
         _, output, _ = run("explain", EXAMPLES / "cell" / "cell.bench",
@@ -168,8 +169,41 @@ class Runs(unittest.TestCase):
             self.assertEqual((status, faults), (0, ""), trace)
             self.assertNotIn("no table has", output)
 
+    def test_a_trace_that_was_cut_short_is_reported_as_far_as_it_goes(self):
+        text = "".join((EXAMPLES / "cell" / "cell.trace").read_text().splitlines(True)[:40])
+        status, output, _ = run("explain", text=text)
+        self.assertEqual(status, 3)
+        self.assertIn("ceases to be a trace: record 40", output)
+        self.assertIn("moves:\n", output)
+        self.assertNotIn("ends-in-motion", output)
+
     def test_what_is_no_trace_is_refused(self):
         self.assertEqual(run("explain", EXAMPLES / "cell" / "cell.bench", text="kind\n")[0], 3)
+
+
+class Tasks(unittest.TestCase):
+    """Where tasks stand in their text."""
+
+    def test_scans_of_an_example(self):
+        folder = EXAMPLES / "structured-text"
+        found = scans.Scans((folder / "structured-text.st").read_text(), ["X", "Z"], {})
+        history.History(Trace(lines_of(folder / "structured-text.trace")), found)
+        task = found.tasks["handling"]
+        self.assertFalse(task.is_lost)
+        self.assertEqual(task.variables, {"state": 6, "parts": 3, "place": 400000, "finished": 1})
+        self.assertEqual(found.line_of("down"), 29)
+
+    def test_another_trace_has_no_lines(self):
+        folder = EXAMPLES / "structured-text"
+        text = (folder / "structured-text.st").read_text().replace("state := 3;", "state := 4;")
+        found = scans.Scans(text, ["X", "Z"], {})
+        history.History(Trace(lines_of(folder / "structured-text.trace")), found)
+        self.assertTrue(found.tasks["handling"].is_lost)
+        self.assertEqual(found.shown("handling"), "")
+
+    def test_numbers_wrap(self):
+        self.assertEqual(scans.wrapped(2**31), -2**31)
+        self.assertEqual(scans.wrapped(-2**31 - 1), 2**31 - 1)
 
 
 class Verdicts(unittest.TestCase):

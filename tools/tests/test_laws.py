@@ -76,12 +76,12 @@ class Axis:
         self.limits = definition
         self.setpoint, self.velocity, self.driven = definition.start, 0, definition.ready
         self.course, self.blend, self.homed = None, None, False
-        self.active = None      # the course of the active command, where none waits behind it
+        self.active = None      # the course of the active command, where none waits after it
         self.rows, self.promises, self.blends, self.broken = 0, 0, 0, []
 
     def call(self, call, kind, rises):
         """A call of a block of the axis: a rising edge or a Power ends what was promised, but that a
-        move waits behind a blended one."""
+        move waits after a blended one."""
         if kind == "Power" or rises and "A" in call.outputs:
             self.blend, self.active = None, None
         if rises and call.outputs == "B":
@@ -94,7 +94,7 @@ class Axis:
             self.course = self.active = Course(call, kind, self.setpoint, self.velocity)
 
     def waits(self, call, kind):
-        """A command waits behind the active one: a blend applies where its target lies further on."""
+        """A command waits after the active one: a blend applies where its target lies further on."""
         active, self.active = self.active, None
         if active is None or active.target is None or kind not in ("MoveAbsolute", "MoveRelative"):
             return
@@ -120,14 +120,14 @@ class Axis:
         self.passes(before, is_faulted)
 
     def judge(self, setpoint, step):
-        """A driven row behind another keeps the limits."""
+        """A driven row after another keeps the limits."""
         limits, old, new = self.limits, abs(self.velocity), abs(step)
         slows = step * self.velocity >= 0 and new < old
         most = limits.dmax if slows else limits.amax
         if not limits.lo <= setpoint <= limits.hi:
             self.broken.append("outside")
         if new > limits.vmax or abs(step - self.velocity) > most:
-            self.broken.append(f"step {step} behind {self.velocity}")
+            self.broken.append(f"step {step} after {self.velocity}")
         self.rows += 1
 
     def promised(self, is_faulted):
@@ -158,7 +158,7 @@ class Axis:
 
 
 def axes_of(lines):
-    """The axes of a trace behind its last cycle."""
+    """The axes of a trace after its last cycle."""
     trace = Trace(lines)
     axes = {axis.name: Axis(axis) for axis in trace.machine.axes}
     blocks = {block.name: block for block in trace.machine.blocks}

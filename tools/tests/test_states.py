@@ -136,7 +136,7 @@ def judge_error(error, stopped, before):
     if (101 <= error <= 106) != stopped or (error != 0) != stopped:
         raise Broken(f"the error {error} in another state")
     if stopped and before not in (0, error):
-        raise Broken(f"the error {error} behind {before}")
+        raise Broken(f"the error {error} after {before}")
 
 
 def leads(state, events, wanted):
@@ -154,7 +154,7 @@ def is_reset(block):
 
 
 class Instance:
-    """What an instance shows, and the ends that its command may have come to behind its edge."""
+    """What an instance shows, and the ends that its command may have come to after its edge."""
 
     def __init__(self, block, members):
         self.block, self.members = block, members
@@ -169,7 +169,7 @@ class Instance:
         self.target = call.positions[0] if self.block.kind == "MoveAbsolute" else None
 
     def cycle(self, rows, groups, before, resets):
-        """The rows of a cycle behind the edge; a pending Reset may be done in that of an error."""
+        """The rows of a cycle after the edge; a pending Reset may be done in that of an error."""
         self.hides |= bool(resets & {self.block.on, *self.members})
         own = groups.get(self.block.on) or rows[self.block.on]
         errors = {own.error} | {rows[name].error for name in self.members}
@@ -190,7 +190,7 @@ class Instance:
             self.rise(call)
         if self.result is not None and self.execute and call.execute and not rises \
                 and self.block.kind != "Power" and shown != self.result:
-            raise Broken(f"{self.block.name} shows {shown} behind {self.result}")
+            raise Broken(f"{self.block.name} shows {shown} after {self.result}")
         self.result = shown if shown[0] and call.execute else None
         if self.block.kind != "Power":
             self.goes_on(call, rises)
@@ -209,7 +209,7 @@ class Instance:
             raise Broken(f"{self.block.name} is active without a command")
 
     def judge(self, shown, rises):
-        """Whether what is shown has its end behind the edge, or is the call's own."""
+        """Whether what is shown has its end after the edge, or is the call's own."""
         letters, error = shown
         self.replies += bool(letters)
         is_shown = self.hides or error in self.errors
@@ -303,7 +303,7 @@ class States(unittest.TestCase):
         self.assertGreater(replies, 50)
 
     def planted(self, name, *pairs):
-        """A trace with words in the place of others, which a reader has to find."""
+        """A trace with words in the position of others, which a reader has to find."""
         text = (ROOT / name).read_text()
         for old, new in pairs:
             self.assertIn(old, text)

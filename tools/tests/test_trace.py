@@ -91,7 +91,7 @@ class Reading(unittest.TestCase):
 # What is put in place of what, and the record that is refused for it, with what is told of it.
 FAULTS = [
     (HOMED, "", 0, "the text is empty"),
-    ("kind,a,b", "kind,b,a", 1, "in the place of the header"),
+    ("kind,a,b", "kind,b,a", 1, "in the position of the header"),
     ("trace,2,", "trace,3,", 2, "the version is '3', and not one of 1, 2"),
     ("trace,2,bench", "trace,2,hand", 2, "the maker is 'hand'"),
     ("axis,A,-50,50", "axis,A,-50,+50", 3, "the hi is '+50', and not a whole number"),
@@ -111,12 +111,12 @@ FAULTS = [
      "row,A,0037,3,8,DiscreteMotion,0,1,8,000f,4,", 9, "the place is ''"),
     ("1,8,000f,4,6\n", "1,8,000f,4\n", 9, "it has 11 fields, and not twelve"),
     ("cycle,2,,,,,,,,,,\nrow,A,0037,4,8", "cycle,2,,,,,,,,,,\nraw,A,0037,4,8", 11,
-     "'raw' stands in the place of a record row"),
+     "'raw' stands in the position of a record row"),
     ("end,main", "end,idle", 21, "end: there is no idle"),
     ("drive,A,5,OperationEnabled", "drive,A,5,Enabled", 22, "the state is 'Enabled'"),
     ("drive,A,5,OperationEnabled,5,,,,,,,\n", "", 21, "the text ends too early"),
     ("drive,A,5,OperationEnabled,5,,,,,,,\n", "drive,A,5,OperationEnabled,5,,,,,,,\n" * 2, 23,
-     "in the place of the end, behind the drives"),
+     "in the position of the end, after the drives"),
 ]
 
 

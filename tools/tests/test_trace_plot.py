@@ -125,7 +125,7 @@ class Refusals(unittest.TestCase):
         self.refused(HEAD, 5)
         self.refused(HEAD + row(1, 2) + END[:1], 8)
 
-    def test_behind_the_drives(self):
+    def test_after_the_drives(self):
         self.refused(HEAD + row(1, 2) + END + ["end,main,,,,,,,,,,"], 10)
 
     def test_a_cut_trace_gives_what_there_is(self):

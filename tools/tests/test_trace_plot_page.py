@@ -18,7 +18,7 @@ class Page(unittest.TestCase):
     def setUpClass(cls):
         cls.page = page_of(CELL)
 
-    def test_cursor_behind_a_zoom(self):
+    def test_cursor_after_a_zoom(self):
         before, after = drive(self.page, """
             const feeder = sections[4], told = [];
             pointer("pointermove", feeder, 8.2);
@@ -88,7 +88,7 @@ class Page(unittest.TestCase):
               document.getElementById("told").textContent];""")
         self.assertEqual(told[0], [11, 11, 11, 13, 11])
         self.assertTrue(told[1])
-        self.assertIn("behind cycle 11: GEAR (GearIn) goes on: Error 101; RESET (Reset) called",
+        self.assertIn("after cycle 11: GEAR (GearIn) goes on: Error 101; RESET (Reset) called",
                       told[2])
 
     def test_plane(self):
@@ -299,9 +299,9 @@ class Text(unittest.TestCase):
         self.assertEqual(told[4], (
             "Cycles 1 to 17. Setpoint from 0 to 21 units, at most 3 units/cycle. States: "
             "SynchronizedMotion in cycles 1 to 10; ErrorStop error 101 in cycles 11 to 12; "
-            "Disabled in cycles 13 to 15; Standstill in cycles 16 to 17. Calls: behind cycle 0 "
-            "GEAR (GearIn) called; behind cycle 11 GEAR (GearIn) goes on: Error 101; behind cycle "
-            "11 RESET (Reset) called; behind cycle 13 RESET (Reset) goes on: Done."))
+            "Disabled in cycles 13 to 15; Standstill in cycles 16 to 17. Calls: after cycle 0 "
+            "GEAR (GearIn) called; after cycle 11 GEAR (GearIn) goes on: Error 101; after cycle "
+            "11 RESET (Reset) called; after cycle 13 RESET (Reset) goes on: Done."))
 
 
 if __name__ == "__main__":

@@ -25,19 +25,16 @@ from pathlib import Path
 from typing import Optional
 
 from motion_tools import command
-from motion_tools.config import Config, ConfigError, config_of
-from motion_tools.explain import hints, lines, report, settings, st
-from motion_tools.explain.faults import Fault, chosen
-from motion_tools.explain.findings import Finding, told
-from motion_tools.explain.history import History
+from motion_tools.config import ConfigError
+from motion_tools.explain import hints
+from motion_tools.explain.findings import Finding, words_of
+from motion_tools.explain.refusals import checked, refusal
+from motion_tools.explain.runs import run_findings
+from motion_tools.explain.texts import traces_among
 from motion_tools.explain.verdicts import verdict_findings
-from motion_tools.explain.walk import Walk
-from motion_tools.trace import ReadFault, Trace, TraceError, lines_of
-from motion_tools.units import Units
+from motion_tools.trace import ReadFault, TraceError, lines_of
 
 CODE = re.compile(r"[BCPSKTG][0-9]{1,2}|[0-9]{1,3}")
-KIND_OF_RULE = {"B": "bench", "P": "program", "S": "st", "K": "switches", "C": "config",
-                "T": "trace", "G": "piece"}
 
 
 def parser() -> argparse.ArgumentParser:
@@ -64,7 +61,8 @@ def main() -> int:
     try:
         return explain(options)
     except TraceError as error:
-        return command.fail("explain", f"refused {options.of or '-'}: {error}", command.REFUSED)
+        name = options.of or next(iter(traces_among(options.files)), "-")
+        return command.fail("explain", f"refused {name}: {error}", command.REFUSED)
     except ConfigError as error:
         return command.fail("explain", str(error), command.USAGE)
     except ReadFault as error:
@@ -88,11 +86,12 @@ def explain(options: argparse.Namespace) -> int:
     if options.config_to_check:
         return write(options, checked(options.config_to_check), "")
     if options.files and all(map(is_code, options.files)):
-        return write(options, [found for code in codes(options.files) for found in code_told(code)],
+        return write(options, [found for code in codes(options.files) for found in code_findings(code)],
                      "")
     source, output = output_of(options)
     found, text = explained(options, output, source)
-    return write(options, found, text)
+    status = write(options, found, text)
+    return command.REFUSED if any(each.code == "trace" for each in found) else status
 
 
 def write(options: argparse.Namespace, findings: Iterable[Finding], text: str) -> int:
@@ -102,7 +101,7 @@ def write(options: argparse.Namespace, findings: Iterable[Finding], text: str) -
         data = {"findings": [finding.data() for finding in found], "report": text.splitlines()}
         print(json.dumps(data, indent=1, ensure_ascii=False))
     else:
-        sys.stdout.write(told(found) + text)
+        sys.stdout.write(words_of(found) + text)
     sys.stdout.flush()
     return command.READ
 
@@ -119,7 +118,7 @@ def codes(words: list[str]) -> list[str]:
     return re.findall(r"status \d+|\S+", " ".join(words))
 
 
-def code_told(code: str) -> list[Finding]:
+def code_findings(code: str) -> list[Finding]:
     """What a code means."""
     if code.startswith("status "):
         number = code.split()[1]
@@ -131,12 +130,13 @@ def code_told(code: str) -> list[Finding]:
         tables = [name for name in ("error", "group_error") if code in hints.texts()[name]]
         if not tables:
             raise LookupError(f"there is no ErrorID {code}: see docs/errors.md")
-        return [Finding("note", f"ErrorID {code}", *hints.texts()[name][code]) for name in tables]
+        return [Finding("note", f"ErrorID {code}", reason, cure)
+                for reason, cure in (hints.texts()[name][code] for name in tables)]
     if code not in hints.texts()["rule"]:
         raise LookupError(f"there is no rule {code}: see docs/rules.md")
     says, cure = hints.rule(code)
     found = [Finding("note", code, says, cure)]
-    return found + [Finding("note", code, f"as in {hint.shows}", hint.index)
+    return found + [Finding("note", code, f"as in {hint.shows}", hint.listed)
                     for hint in hints.hints() if code in hint.rules]
 
 
@@ -145,9 +145,10 @@ def code_told(code: str) -> list[Finding]:
 def output_of(options: argparse.Namespace) -> tuple[str, Iterator[str]]:
     """What motion wrote, and where it stands: `-` for the standard input, in whose position a trace
     among the files is taken where it is a terminal or empty."""
-    trace = next((name for name in options.files if kind_of(name) in ("trace", "piece")), None)
-    if options.of or (trace and sys.stdin.isatty()):
-        return (options.of or trace), lines_of(options.of or trace, None)
+    trace = next(iter(traces_among(options.files)), None)
+    source: Optional[str] = options.of or (trace if sys.stdin.isatty() else None)
+    if source:
+        return source, lines_of(source, None)
     if sys.stdin.isatty():
         raise LookupError("give the files that motion was given, and what it wrote by --of FILE or "
                           "a pipe; or a code, as S2")
@@ -156,27 +157,6 @@ def output_of(options: argparse.Namespace) -> tuple[str, Iterator[str]]:
     if not first and trace:
         return trace, lines_of(trace, None)
     return "-", chain([first], output) if first else output
-
-
-def kind_of(name: str) -> str:
-    """What kind of text a file is, by its first words; nothing where it can't be read."""
-    try:
-        with open(name, "rb") as file:
-            head = file.read(4096).decode("utf-8-sig", "replace")
-    except OSError:
-        return ""
-    words = [line.split("#")[0].split() for line in head.splitlines()]
-    first = next((line for line in words if line), [""])
-    for mark, kind in (("motion-bench", "bench"), ("motion-program", "program"),
-                       ("motion-switches", "switches"), ("kind,a,b", "trace"), ("piece,", "piece"),
-                       ("PROGRAM", "st"), ("(*", "st")):
-        if first[0].startswith(mark):
-            return kind
-    for ending, kind in ((".bench", "bench"), (".prog", "program"), (".st", "st"),
-                         (".toml", "config"), (".trace", "trace"), (".switches", "switches")):
-        if name.endswith(ending):
-            return kind
-    return "config" if re.search(r"^\s*(cycle_us|\[\[axis)", head, re.MULTILINE) else ""
 
 
 def explained(options: argparse.Namespace, output: Iterator[str],
@@ -190,195 +170,16 @@ def explained(options: argparse.Namespace, output: Iterator[str],
     if not first:
         return nothing_written(options), ""
     if first.startswith(("kind", "motion-bench")) or "," in first:
-        return trace_told(options, chain([first], output), source)
+        return run_findings(options, chain([first], output), source)
     return verdict_findings(options.files, [first, *output])
 
 
 def nothing_written(options: argparse.Namespace) -> list[Finding]:
     """What it means that there is no output."""
+    for name in options.files:
+        if not Path(name).exists():
+            raise ReadFault(f"cannot read {name}: there is no such file")
     if options.status is None:
         return [Finding("note", "", "motion wrote nothing: see its status",
                         "give it by --status N")]
-    return code_told(f"status {options.status}")
-
-
-# Rejected files
-
-def refusal(options: argparse.Namespace, name: str, place: int, rule: str) -> Finding:
-    """A rejected file: its line, what is wrong there, the rule and its cure."""
-    file = file_of(options.files, name, rule)
-    kind = KIND_OF_RULE[rule[0]]
-    says, _ = hints.rule(rule)
-    raw = Path(file).read_bytes()
-    text = raw.decode("utf-8", "surrogateescape").replace("\r\n", "\n")
-    fault = fault_of(options, kind, text, place, rule, raw)
-    line = line_at(text, fault.line)
-    cure = hints.cure_of(kind, fault, line)
-    return Finding("error", rule, fault.says or says, cure, says if fault.says else "", file,
-                   fault.line, fault.column + 1, fault.length, printable(line))
-
-
-def file_of(files: list[str], name: str, rule: str) -> str:
-    """The file that was rejected: of the name that motion wrote, else the one of its kind."""
-    if name in files or not files or Path(name).exists():
-        return name
-    for file in files:
-        if Path(file).name == Path(name).name:
-            return file
-    wanted = KIND_OF_RULE[rule[0]]
-    return next((file for file in files if kind_of(file) == wanted),
-                files[0] if rule[0] in "BCTG" else files[-1])
-
-
-def line_at(text: str, number: int) -> str:
-    """A line of a text, counted from 1; nothing where it has none."""
-    found = text.split("\n")
-    return found[number - 1] if 0 < number <= len(found) else ""
-
-
-def printable(line: str) -> str:
-    """A line as it can be written anywhere."""
-    return line.encode("utf-8", "surrogateescape").decode("utf-8", "replace").replace("\x00", "?")
-
-
-def fault_of(options: argparse.Namespace, kind: str, text: str, place: int, rule: str,
-             raw: bytes) -> Fault:
-    """What breaks a rule at a line, a place of a configuration or a record of a trace."""
-    whole = Fault(rule, place)
-    if kind == "config":
-        return settings.fault_at(text, place, rule) or Fault(rule, 0, says=config_place(place, rule))
-    if kind == "st":
-        axes, groups = names_of(options)
-        return chosen(st.faults_of(text, axes, groups), place, rule) or whole
-    if kind in ("trace", "piece"):
-        return record_fault(text, place, rule)
-    axes, groups = names_of(options) if kind == "program" else ([], {})
-    if kind == "switches":
-        axes = trace_axes(options)
-    found = lines.faults_at(text, place, lines.Context(kind, axes, groups))
-    return chosen([fault for fault in found if fault.says or fault.rule == rule], place,
-                  rule) or whole
-
-
-def config_place(place: int, rule: str) -> str:
-    """A place of a configuration in words, where nothing closer is known."""
-    if place == 0:
-        return f"the text, or a key above its tables: {hints.rule(rule)[0]}"
-    return (f"table {place}, axes first, then groups and cam tables: {hints.rule(rule)[0]}")
-
-
-def record_fault(text: str, place: int, rule: str) -> Fault:
-    """A record of a trace or a line of a segment's head."""
-    if rule.startswith("G"):
-        return Fault(rule, place)
-    head, _, body = text.partition("\n\n") if text.startswith("piece,") else ("", "", text)
-    before = head.count("\n") + 2 if head else 0
-    records = [number for number, line in enumerate(body.split("\n"), 1) if line]
-    number = records[place - 1] if 0 < place <= len(records) else place
-    reason = ""
-    try:
-        for _ in (trace := Trace(body.splitlines(True))).cycles():
-            pass
-        del trace
-    except TraceError as error:
-        reason = str(error).split(": ", 1)[-1] if error.record == place else ""
-    return Fault(rule, before + number, -1, 1, reason and f"record {place}: {reason}")
-
-
-def config_named(options: argparse.Namespace) -> Optional[Config]:
-    """The configuration among the files, if it is one."""
-    for name in [options.config, *options.files]:
-        if name and (name == options.config or kind_of(name) == "config"):
-            try:
-                return config_of(name, Path(name).read_text(encoding="utf-8-sig"))
-            except (OSError, ConfigError, UnicodeDecodeError):
-                return None
-    return None
-
-
-def names_of(options: argparse.Namespace) -> tuple[list[str], dict[str, list[str]]]:
-    """The axes and the groups of the configuration among the files."""
-    config = config_named(options)
-    return ([axis.name for axis in config.axes], config.groups) if config else ([], {})
-
-
-def trace_axes(options: argparse.Namespace) -> list[str]:
-    """The axes of the trace among the files."""
-    name = next((file for file in options.files if kind_of(file) == "trace"), None)
-    return [axis.name for axis in Trace(lines_of(name, None)).machine.axes] if name else []
-
-
-def checked(name: str) -> list[Finding]:
-    """What is wrong in a configuration, by every rule at every place: for its author."""
-    text = Path(name).read_text(encoding="utf-8", errors="surrogateescape")
-    for place in range(40):
-        for rule in [f"C{number}" for number in range(1, 8)]:
-            try:
-                fault = settings.fault_at(text, place, rule)
-            except (KeyError, TypeError, ValueError, AttributeError):
-                fault = None
-            if fault:
-                line = line_at(text, fault.line)
-                return [Finding("error", rule, fault.says, hints.cure_of("config", fault, line),
-                                hints.rule(rule)[0], name, fault.line, fault.column + 1,
-                                fault.length, printable(line))]
-    return [Finding("note", "", f"{name}: nothing is wrong by rules C1 to C7")]
-
-
-# Runs
-
-def trace_told(options: argparse.Namespace, output: Iterable[str],
-               source: str) -> tuple[list[Finding], str]:
-    """The findings and the report of a trace."""
-    tasks = next((name for name in options.files if kind_of(name) in ("program", "st", "bench")), "")
-    kind = kind_of(tasks) if tasks else ""
-    text = Path(tasks).read_text(encoding="utf-8", errors="replace") if tasks else ""
-    walk = Walk(text) if kind == "program" else None
-    history = History(Trace(output), walk.take if walk else None)
-    run = report.Run(history, units_of(options, history), tasks, text, walk, kind == "st",
-                     source if source != "-" else "the run")
-    found = [*report.failures(run), *report.warnings(run)]
-    most = [*found[:report.MOST]]
-    if len(found) > report.MOST:
-        most.append(Finding("note", "", f"and {len(found) - report.MOST} more errors and warnings"))
-    ending = bench_end(run) if history.machine.maker == "bench" and kind == "bench" else \
-        report.endings(run) if history.machine.maker == "run" else []
-    text = "".join(report.nothing_moved(history)) + report.report(run)
-    return [*most, *ending], text
-
-
-def units_of(options: argparse.Namespace, history: History) -> Units:
-    """The units of the configuration among the files, or of the options."""
-    config = config_named(options)
-    if config and not options.config:
-        options.config = config.path
-    return command.units_of(options, history.machine)
-
-
-def events_of(bench: str) -> list[tuple[int, str, str, int]]:
-    """The events that a bench asks for, each with its line; N cycles of a line as N of them."""
-    events, begun = [], False
-    for number, line in enumerate(bench.splitlines(), 1):
-        words = line.split("#")[0].split()
-        begun = begun or words == ["go"]
-        if begun and words and words[0] in lines.EVENTS:
-            count = int(words[1]) if words[0] == "cycle" and len(words) > 1 else 1
-            events.append((number, line.strip(), words[0], count))
-    return events
-
-
-def bench_end(run: report.Run) -> list[Finding]:
-    """Whether all events of the bench were made, and else at which line the run ended, and why."""
-    machine = run.history.machine
-    cycles, entries = machine.cycles, machine.entries
-    for number, line, word, count in events_of(run.text):
-        if word == "cycle" and count > cycles:
-            code, lacking = "8", f"no cycle is left of the {machine.cycles} that `limit` allows"
-        elif count > entries:
-            code, lacking = "9", f"no room is left of the {machine.entries} entries that `limit` allows"
-        else:
-            cycles, entries = cycles - count * (word == "cycle"), entries - count
-            continue
-        return [Finding("error", code, f"The run ended in this line: {lacking}.",
-                        "raise the numbers of limit", file=run.file, line=number, text=line)]
-    return [Finding("note", "", "All calls, cycles and ends were made.")]
+    return code_findings(f"status {options.status}")

@@ -25,7 +25,7 @@ class Finding:
     when: str = ""
     cycle: Optional[int] = None
 
-    def told(self) -> str:
+    def words(self) -> str:
         """The finding in words, as a compiler has it."""
         head = f"{self.severity} {self.code}: " if self.code else f"{self.severity}: "
         at = f"{self.when}: " if self.when else ""
@@ -50,6 +50,6 @@ class Finding:
                 or key == "cycle" and value == 0}
 
 
-def told(findings: Iterable[Finding]) -> str:
+def words_of(findings: Iterable[Finding]) -> str:
     """Findings in words."""
-    return "".join(finding.told() for finding in findings)
+    return "".join(finding.words() for finding in findings)

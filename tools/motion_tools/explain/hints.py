@@ -23,7 +23,7 @@ class Hint(NamedTuple):
     rules: tuple[str, ...]
     shows: str
     cure: str
-    index: str
+    listed: str             # the cure as the index has it
     word: Optional[re.Pattern[str]]
     not_word: Optional[re.Pattern[str]]
     line: Optional[re.Pattern[str]]
@@ -120,7 +120,7 @@ def index() -> str:
     parts = [BEGIN, ""]
     for text, title in TITLES.items():
         parts += [f"**{title}:**", "", "| What stands there | Rule | Its cure |", "|---|---|---|"]
-        parts += [f"| {cell(hint.shows, True)} | {', '.join(hint.rules)} | {cell(hint.index)} |"
+        parts += [f"| {cell(hint.shows, True)} | {', '.join(hint.rules)} | {cell(hint.listed)} |"
                   for hint in hints() if hint.text == text]
         parts.append("")
     return "\n".join([*parts, END])

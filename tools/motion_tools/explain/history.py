@@ -1,12 +1,11 @@
 """What happened in a run: its commands from their calls to their ends, its errors, and what each axis
 did. A trace is read once, as a stream."""
 
-from collections.abc import Callable
 from dataclasses import dataclass, field
-from typing import Optional
+from typing import Optional, Protocol
 
 from motion_tools.blocks import ENDLESS, MOVES, acts_on_group
-from motion_tools.trace import Axis, Block, Call, Cycle, Machine, Row, Trace
+from motion_tools.trace import Axis, Block, Call, Cycle, Machine, Row, Trace, TraceError
 from motion_tools.units import Motions, Step
 
 COMMANDS = (*MOVES, *ENDLESS, "Home", "Stop", "Halt", "GearOut", "CamOut", "GroupStop", "GroupHalt")
@@ -43,7 +42,7 @@ class Command:
 
 @dataclass
 class Failure:
-    """An error of a call, an axis or a group: behind or in a cycle."""
+    """An error of a call, an axis or a group: after a cycle, or in it."""
     cycle: int
     number: int
     block: Optional[Block]
@@ -102,13 +101,23 @@ class BlockHistory:
     last_cycle: int = 0
     command: Optional[Command] = None
     ignored: list[tuple[int, Call, Call, bool]] = field(default_factory=list)
-    stale: Optional[int] = None                         # a result that was shown anew behind a pause
+    stale: Optional[int] = None                         # a result that was shown anew after a pause
+
+
+class Watch(Protocol):
+    """What goes along a run by its calls and cycles."""
+
+    def take(self, cycle: int, call: Call) -> None:
+        """Takes a call after a cycle."""
+
+    def next_cycle(self) -> None:
+        """Takes a cycle."""
 
 
 class History:
-    """A run, as far as its report and its warnings tell of it."""
+    """A run, as far as its report and its warnings need it."""
 
-    def __init__(self, trace: Trace, watch: Optional[Callable[[int, Call], None]] = None):
+    def __init__(self, trace: Trace, watch: Optional[Watch] = None):
         self.machine: Machine = trace.machine
         self.blocks = {block.name: BlockHistory(block) for block in self.machine.blocks}
         self.axes = {axis.name: AxisHistory(axis) for axis in self.machine.axes}
@@ -125,12 +134,18 @@ class History:
         self.errors: dict[str, int] = {}
         self.live: dict[str, list[Command]] = {}        # by axis or group
         self.watch = watch
+        self.fault: Optional[TraceError] = None         # where the text ceased to be a trace
+        try:
+            self.read(trace)
+        except TraceError as fault:
+            self.fault = fault
+
+    def read(self, trace: Trace) -> None:
+        """Reads the entries of a trace."""
         for cycle in trace.cycles():
             self.add_calls(cycle.calls, cycle.ends)
             self.add_cycle(cycle)
         self.add_calls(trace.last_calls, trace.last_ends)
-        for call in trace.last_calls:
-            self.motions.call(call)
 
     # Calls
 
@@ -141,7 +156,7 @@ class History:
         for call in calls:
             self.add_call(self.blocks[call.block], call)
             if self.watch:
-                self.watch(self.cycles, call)
+                self.watch.take(self.cycles, call)
 
     def add_call(self, block: BlockHistory, call: Call) -> None:
         """Adds a call of a block."""
@@ -243,6 +258,8 @@ class History:
         """Adds the rows of a cycle."""
         steps = self.motions.steps(cycle)
         before, self.cycles, self.entries = self.rows, cycle.number, self.entries + 1
+        if self.watch:
+            self.watch.next_cycle()
         self.rows = cycle.rows
         for name, row in cycle.rows.items():
             self.axes[name].add(cycle.number, row, steps[name], self.place_in(name, row))
@@ -256,7 +273,7 @@ class History:
 
     def take_over(self, on: str, commands: list[Command]) -> None:
         """Ends a move that stands at its target, or passes it where the next one blends, and lets
-        the one that waits behind it begin."""
+        the one that waits next begin."""
         live = [command for command in commands if command.is_live()]
         if len(live) < 2 or not live[0].target:
             return

@@ -51,7 +51,8 @@ def rate_reason(history: History, failure: Failure, call: Call, units: Units) ->
         return f"the {name} is {given}"
     greatest = units.text(axis, getattr(history.axes[axis].axis, limit), quantity)
     if value == 0:
-        return f"the {name} is 0, or less than an internal unit a cycle; {limit} is {greatest}"
+        return (f"the {name} is 0, as it was left out or is less than an internal unit a cycle; "
+                f"{limit} is {greatest}")
     return f"the {name} is {given}, and {limit} is {greatest}"
 
 

@@ -214,12 +214,12 @@ def range_faults(item: dict[str, Any], cycle_us: int) -> Iterator[tuple[str, str
     lo, hi, increment = number["lo"], number["hi"], number["increment"]
     for key in ("lo", "hi"):
         if abs(number[key]) > 10**6:
-            yield key, f"{key} is {told(number[key])}, and has to be within 1,000,000 of 0"
+            yield key, f"{key} is {decimal(number[key])}, and has to be within 1,000,000 of 0"
     if lo >= hi:
-        yield "hi", f"hi is {told(hi)}, and has to be above lo, {told(lo)}"
+        yield "hi", f"hi is {decimal(hi)}, and has to be above lo, {decimal(lo)}"
     yield from rate_faults(number, cycle_us)
     if not 0 < increment <= 1:
-        yield "increment", f"increment is {told(increment)}, and has to be above 0 and at most 1"
+        yield "increment", f"increment is {decimal(increment)}, and has to be above 0 and at most 1"
         return
     for key in ("lo", "hi"):
         if not -2**31 <= number[key] // increment < 2**31:
@@ -227,10 +227,10 @@ def range_faults(item: dict[str, Any], cycle_us: int) -> Iterator[tuple[str, str
                                 "number of 32 bits; take a greater increment")
     start = number["start"]
     if not lo <= start <= hi:
-        yield "start", f"start is {told(start)}, and has to be from lo to hi, {told(lo)} to {told(hi)}"
+        yield "start", f"start is {decimal(start)}, and has to be from lo to hi, {decimal(lo)} to {decimal(hi)}"
     elif (start / increment).denominator != 1:
-        yield "start", (f"start is {told(start)}, and no whole number of increments of "
-                        f"{told(increment)}")
+        yield "start", (f"start is {decimal(start)}, and no whole number of increments of "
+                        f"{decimal(increment)}")
     yield from drive_faults(item)
 
 
@@ -242,12 +242,12 @@ def rate_faults(number: dict[str, Fraction], cycle_us: int) -> Iterator[tuple[st
             continue
         step = number[key] * 10**9 * seconds**power // 1
         if not least <= step <= 10**10:
-            low = told(Fraction(least, 10**9) / seconds**power)
-            yield key, (f"{key} is {told(number[key])}, and with a cycle of {cycle_us} us it has to "
-                        f"be from {low} to {told(10 / seconds**power)} units per second"
+            low = decimal(Fraction(least, 10**9) / seconds**power)
+            yield key, (f"{key} is {decimal(number[key])}, and with a cycle of {cycle_us} us it has to "
+                        f"be from {low} to {decimal(10 / seconds**power)} units per second"
                         + (" squared" if power == 2 else ""))
     if "dmax" in number and number["dmax"] < number["amax"]:
-        yield "dmax", (f"dmax is {told(number['dmax'])}, below amax, {told(number['amax'])}: an axis "
+        yield "dmax", (f"dmax is {decimal(number['dmax'])}, below amax, {decimal(number['amax'])}: an axis "
                        "brakes at least as hard as it speeds up")
 
 
@@ -284,6 +284,6 @@ def point_faults(item: dict[str, Any]) -> Iterator[tuple[str, str]]:
         last = x
 
 
-def told(number: Fraction) -> str:
+def decimal(number: Fraction) -> str:
     """A quantity as a decimal number."""
     return f"{float(number):.10g}"

@@ -4,41 +4,29 @@ The program reports the first line that breaks a rule, and the rule. This reader
 that line, and what was wanted in its position. Where the two differ the program is right.
 """
 
-import re
-from collections.abc import Iterator
-from dataclasses import dataclass, field
-from typing import NamedTuple, NoReturn, Optional
+from collections.abc import Callable
+from typing import NoReturn, Optional, TypeVar, Union
 
 from motion_tools.blocks import FLAGS, MODES, acts_on_group, keys_of
 from motion_tools.explain.faults import Fault
+from motion_tools.explain.st_tokens import Stop, Token, Tokens
+from motion_tools.explain.st_tree import (Assign, CallOf, Case, Flag, If, Join, Number, Sign,
+                                          Statements, Task, Tree, Truth, Typed, Variable)
 from motion_tools.trace import BLOCK_KINDS
 
-WORDS = frozenset("PROGRAM VAR END_VAR END_PROGRAM BOOL DINT TRUE FALSE IF THEN ELSE END_IF CASE OF "
-                  "END_CASE AND OR NOT execute".split()) | set(FLAGS)
-TOKEN = re.compile(r"(?P<blank>[ \t\r]+)|(?P<comment>\(\*)|(?P<word>[A-Za-z][A-Za-z0-9_]*)"
-                   r"|(?P<number>[0-9]+)|(?P<sign>:=|<>|<=|>=|[:;,.()=<>+*-])")
 ORDER = ("=", "<>", "<", "<=", ">", ">=")
 MOST = 2147483647
+Read = TypeVar("Read")
 
 
-class Token(NamedTuple):
-    """A word, a number or a sign of a text, or its end."""
-    kind: str           # word, number, sign or end
-    text: str
-    line: int
-    column: int
-
-
-class Stop(Exception):
-    """Reading ends at a token that breaks S1 or S2."""
-
-
-@dataclass
-class Task:
-    """A task: its variables by type, and its blocks by kind and object."""
-    name: str
-    variables: dict[str, str] = field(default_factory=dict)
-    blocks: dict[str, tuple[str, str]] = field(default_factory=dict)
+def tasks_of(text: str, axes: list[str], groups: dict[str, list[str]]) -> list[Task]:
+    """The tasks of a text that breaks no rule; none of another one."""
+    reader = Reader(text, axes, groups)
+    try:
+        reader.file()
+    except Stop:
+        return []
+    return reader.tasks
 
 
 def faults_of(text: str, axes: list[str], groups: dict[str, list[str]]) -> list[Fault]:
@@ -51,110 +39,14 @@ def faults_of(text: str, axes: list[str], groups: dict[str, list[str]]) -> list[
     return sorted(reader.faults, key=lambda fault: (fault.line, fault.rule))
 
 
-class Reader:
+class Reader(Tokens):
     """Goes over the tokens by the grammar of docs/formats.md, one method for each line of it."""
 
     def __init__(self, text: str, axes: list[str], groups: dict[str, list[str]]):
+        super().__init__(text)
         self.axes, self.groups = axes, groups
-        self.faults: list[Fault] = []
-        self.tokens = self.lexed(text)
-        self.here = self.before = Token("end", "", 0, 0)
         self.tasks: list[Task] = []
         self.depth = self.statements = 0
-
-    # Tokens
-
-    def lexed(self, text: str) -> Iterator[Token]:
-        """The tokens of a text; the end is a token of its last line."""
-        lines, number, column = text.split("\n"), 1, 0
-        if len(lines) > 1 and not lines[-1]:
-            lines.pop()
-        while number <= len(lines):
-            line = lines[number - 1]
-            if column >= len(line):
-                number, column = number + 1, 0
-                continue
-            found = TOKEN.match(line, column)
-            if found is None:
-                self.fail("S1", number, column, 1, f"no token begins with {line[column]!a}",
-                          line[column])
-            if found.lastgroup == "comment":
-                number, column = self.comment_end(lines, number, column)
-                continue
-            if found.lastgroup != "blank":
-                yield self.token(found, number)
-            column = found.end()
-        yield Token("end", "the end of the text", len(lines), len(lines[-1]))
-
-    def token(self, found: "re.Match[str]", line: int) -> Token:
-        """A word, number or sign; a word has at most 16 characters, or is a kind of block."""
-        text, kind = found[0], str(found.lastgroup)
-        if kind == "word" and len(text) > 16 and text not in BLOCK_KINDS:
-            self.fail("S1", line, found.start(), len(text),
-                      f"{text} has {len(text)} characters; a name has at most 16", text)
-        return Token(kind, text, line, found.start())
-
-    def comment_end(self, lines: list[str], number: int, column: int) -> tuple[int, int]:
-        """Where a comment ends; it is ASCII."""
-        start, begun, column = number, column, column + 2
-        while number <= len(lines):
-            line = lines[number - 1]
-            end = line.find("*)", column)
-            stop = len(line) if end < 0 else end
-            for place in range(column, stop):
-                if not line[place].isascii():
-                    self.fail("S1", number, place, 1, f"a comment has {line[place]!a}, which isn't "
-                              "ASCII", line[place])
-            if end >= 0:
-                return number, end + 2
-            number, column = number + 1, 0
-        self.fail("S1", start, begun, 2, "this comment has no end", "(*")
-
-    def advance(self) -> Token:
-        """Takes a token."""
-        self.before, self.here = self.here, next(self.tokens, self.here)
-        return self.before
-
-    def is_at(self, *texts: str) -> bool:
-        """Whether one of these words or signs stands next."""
-        return self.here.kind != "end" and self.here.text in texts
-
-    def take(self, text: str, wanted: str = "") -> Token:
-        """Takes this word or sign, which has to stand next."""
-        if not self.is_at(text):
-            self.unexpected(wanted or text)
-        return self.advance()
-
-    def take_kind(self, kind: str, wanted: str) -> Token:
-        """Takes a token of a kind, which has to stand next and is no word of the grammar."""
-        if self.here.kind != kind or (kind == "word" and (
-                self.here.text in WORDS or self.here.text in BLOCK_KINDS)):
-            self.unexpected(wanted)
-        return self.advance()
-
-    # Faults
-
-    def fail(self, rule: str, line: int, column: int, length: int, says: str,
-             word: str) -> NoReturn:
-        """Reading ends here."""
-        self.faults.append(Fault(rule, line, column, length, says, word))
-        raise Stop
-
-    def unexpected(self, wanted: str) -> NoReturn:
-        """The token that stands next doesn't fit the grammar."""
-        here = self.here
-        if wanted == ";":
-            says = f"a ; is missing before {here.text}"
-        else:
-            says = f"{here.text} stands where {wanted} is expected"
-        self.fail("S2", here.line, here.column, len(here.text) if here.kind != "end" else 1, says,
-                  here.text)
-
-    def blame(self, rule: str, token: Token, says: str, line: int = 0) -> None:
-        """A rule is broken at a token; of a type it is reported at its statement's line."""
-        on_line = line in (0, token.line)
-        self.faults.append(Fault(rule, line or token.line, token.column if on_line else -1,
-                                 len(token.text), says, token.text))
 
     # The grammar
 
@@ -179,7 +71,7 @@ class Reader:
         while not self.is_at("END_VAR"):
             self.declaration()
         self.advance()
-        self.statements_to("END_PROGRAM")
+        self.tasks[-1].statements = self.statements_to("END_PROGRAM")
         self.advance()
 
     def declaration(self) -> None:
@@ -191,9 +83,10 @@ class Reader:
             self.advance()
             self.define(name, task)
             task.variables[name.text] = kind.text
+            task.lines[name.text] = name.line
             if self.is_at(":="):
                 self.advance()
-                self.initial(kind.text)
+                task.initial[name.text] = self.initial(kind.text)
         elif kind.text in BLOCK_KINDS:
             self.advance()
             self.block(task, name, kind)
@@ -201,16 +94,20 @@ class Reader:
             self.unexpected("BOOL, DINT or a kind of block")
         self.take(";")
 
-    def initial(self, kind: str) -> None:
+    def initial(self, kind: str) -> int:
         """The first value of a variable."""
         if kind == "BOOL":
             if not self.is_at("TRUE", "FALSE"):
                 self.unexpected("TRUE or FALSE")
-            self.advance()
-            return
-        if self.is_at("-"):
-            self.advance()
-        self.number()
+            return self.advance().text == "TRUE"
+        return self.signed()
+
+    def signed(self) -> int:
+        """[-] number"""
+        if not self.is_at("-"):
+            return self.number()
+        self.advance()
+        return -self.number()
 
     def block(self, task: Task, name: Token, kind: Token) -> None:
         """The object of a block."""
@@ -227,6 +124,7 @@ class Reader:
         if sum(len(each.blocks) for each in self.tasks) == 256:
             self.blame("S6", name, "it is the 257th block; there are 256 at most")
         task.blocks[name.text] = (kind.text, on.text)
+        task.lines[name.text] = name.line
 
     def define(self, name: Token, task: Task) -> None:
         """A name is defined in a task, which nothing else may have."""
@@ -238,35 +136,39 @@ class Reader:
         if name.text in used:
             self.blame("S3", name, f"{name.text} is the name of {used[name.text]} already")
 
-    def statements_to(self, *ends: str) -> None:
+    def statements_to(self, *ends: str) -> Statements:
         """{stmt}, up to one of these words."""
+        found: Statements = []
         while not self.is_at(*ends):
             if ends[-1] == "END_CASE" and self.is_branch():
-                return
-            self.statement(" or ".join(ends))
+                break
+            found.append(self.statement(" or ".join(ends)))
+        return found
 
     def is_branch(self) -> bool:
         """Whether a branch of a CASE stands next."""
         return self.here.kind == "number" or self.is_at("-")
 
-    def statement(self, ends: str) -> None:
+    def statement(self, ends: str) -> Union[Assign, CallOf, If, Case]:
         """stmt = assignment | call | IF | CASE"""
         self.statements += 1
         if self.statements == 10_001:
             self.blame("S6", self.here, "it is the 10,001st statement; there are 10,000 at most")
-        if self.is_at("IF", "CASE"):
-            self.nested(self.condition if self.is_at("IF") else self.case)
-            return
+        if self.is_at("IF"):
+            return self.nested(self.condition)
+        if self.is_at("CASE"):
+            return self.nested(self.case)
         name = self.take_kind("word", f"a statement or {ends}")
         if self.is_at("("):
-            self.call(name)
+            made: Union[Assign, CallOf] = self.call(name)
         elif self.is_at(":="):
-            self.assignment(name)
+            made = self.assignment(name)
         else:
             self.no_statement(name)
         self.take(";")
+        return made
 
-    def no_statement(self, name: Token) -> None:
+    def no_statement(self, name: Token) -> NoReturn:
         """A name begins no statement: where it is unknown and on the line it is marked itself."""
         task = self.tasks[-1]
         if name.line != self.here.line or name.text in task.variables or name.text in task.blocks:
@@ -274,53 +176,56 @@ class Reader:
         self.fail("S2", name.line, name.column, len(name.text), f"{name.text} begins no statement",
                   name.text)
 
-    def nested(self, read: "type[None] | object") -> None:
+    def nested(self, read: Callable[[], Read]) -> Read:
         """Reads what may stand in itself, up to 32 deep."""
         self.depth += 1
         if self.depth == 33:
             self.blame("S6", self.here, "it is the 33rd IF, CASE or parenthesis that is open")
             raise Stop
-        read()                                                  # type: ignore[operator]
+        found = read()
         self.depth -= 1
+        return found
 
-    def condition(self) -> None:
+    def condition(self) -> If:
         """IF expr THEN {stmt} [ELSE {stmt}] END_IF ;"""
         begin = self.advance()
-        self.expression("BOOL", begin, "the condition of an IF")
+        condition = self.expression("BOOL", begin, "the condition of an IF")
         self.take("THEN")
-        self.statements_to("ELSE", "END_IF")
+        then, other = self.statements_to("ELSE", "END_IF"), []
         if self.is_at("ELSE"):
             self.advance()
-            self.statements_to("END_IF")
+            other = self.statements_to("END_IF")
         self.take("END_IF")
         self.take(";")
+        return If(begin.line, condition, then, other)
 
-    def case(self) -> None:
+    def case(self) -> Case:
         """CASE expr OF {[-] number : {stmt}} [ELSE {stmt}] END_CASE ;"""
         begin = self.advance()
-        self.expression("DINT", begin, "the value of a CASE")
+        value = self.expression("DINT", begin, "the value of a CASE")
         self.take("OF")
+        branches, other = [], []
         while self.is_branch():
-            if self.is_at("-"):
-                self.advance()
-            self.number()
+            line, number = self.here.line, self.signed()
             self.take(":", ": after the number of a branch")
-            self.statements_to("ELSE", "END_CASE")
+            branches.append((number, line, self.statements_to("ELSE", "END_CASE")))
         if self.is_at("ELSE"):
             self.advance()
-            self.statements_to("END_CASE")
+            other = self.statements_to("END_CASE")
         self.take("END_CASE", "the number of a branch, ELSE or END_CASE")
         self.take(";")
+        return Case(begin.line, value, branches, other)
 
-    def assignment(self, name: Token) -> None:
+    def assignment(self, name: Token) -> Assign:
         """name := expr"""
         self.advance()
         kind = self.tasks[-1].variables.get(name.text)
         if kind is None:
             self.blame("S3", name, f"there is no variable {name.text} in this task")
-        self.expression(kind, name, f"the value of {name.text}")
+        return Assign(name.line, name.text,
+                      self.expression(kind, name, f"the value of {name.text}"))
 
-    def call(self, name: Token) -> None:
+    def call(self, name: Token) -> CallOf:
         """name ( execute := expr {, key := value} )"""
         block = self.tasks[-1].blocks.get(name.text)
         if block is None:
@@ -331,12 +236,13 @@ class Reader:
         self.advance()
         self.take("execute")
         self.take(":=")
-        self.expression("BOOL", name, "the value of execute")
+        execute = self.expression("BOOL", name, "the value of execute")
         allowed = self.allowed_keys(block)
         while self.is_at(","):
             self.advance()
             self.key(name, block, allowed)
         self.take(")", ", or )")
+        return CallOf(name.line, name.text, execute)
 
     def allowed_keys(self, block: Optional[tuple[str, str]]) -> list[str]:
         """The keys of a block, in their order, of which each may still come."""
@@ -376,31 +282,30 @@ class Reader:
             self.blame("S3", value, f"{value.text} is no {'mode' if key.text == 'mode' else 'axis'}"
                        f"; there are {', '.join(known)}")
 
-    # Expressions: each gives its type, None where a name is unknown
+    # Expressions: each gives its type, None where a name is unknown, and its tree
 
-    def expression(self, wanted: Optional[str], at: Token, what: str) -> None:
+    def expression(self, wanted: Optional[str], at: Token, what: str) -> Tree:
         """An expression, which has to be of a type."""
         first = self.here
-        kind = self.disjunction(at)
+        kind, tree = self.disjunction(at)
         if wanted and kind and kind != wanted:
             shown = first if first.line == at.line else at
             self.blame("S4", shown, f"{what} is a {kind}, and has to be a {wanted}", at.line)
+        return tree
 
-    def operands(self, read: "object", signs: tuple[str, ...], kind: str, at: Token,
-                 once: bool = False) -> Optional[str]:
+    def operands(self, read: Callable[[Token], Typed], signs: tuple[str, ...], kind: str,
+                 at: Token) -> Typed:
         """Operands of one type that signs join, and the type of what they make."""
         first = self.here
-        found = read(at)                                        # type: ignore[operator]
+        found, tree = read(at)
         while self.is_at(*signs):
             sign = self.advance()
             self.operand_type(found, kind, first, sign, at)
             first = self.here
-            other = read(at)                                    # type: ignore[operator]
+            other, right = read(at)
             self.operand_type(other, kind, first, sign, at)
-            found = kind
-            if once:
-                break
-        return found
+            found, tree = kind, Join(sign.text, tree, right)
+        return found, tree
 
     def operand_type(self, found: Optional[str], wanted: str, token: Token, sign: Token,
                      at: Token) -> None:
@@ -410,19 +315,22 @@ class Reader:
             self.blame("S4", shown, f"{sign.text} takes {wanted}s, and {token.text} begins a "
                        f"{found}", at.line)
 
-    def disjunction(self, at: Token) -> Optional[str]:
+    def disjunction(self, at: Token) -> Typed:
+        """expr = conj {OR conj}"""
         return self.operands(self.conjunction, ("OR",), "BOOL", at)
 
-    def conjunction(self, at: Token) -> Optional[str]:
+    def conjunction(self, at: Token) -> Typed:
+        """conj = cmp {AND cmp}"""
         return self.operands(self.comparison, ("AND",), "BOOL", at)
 
-    def comparison(self, at: Token) -> Optional[str]:
+    def comparison(self, at: Token) -> Typed:
+        """cmp = sum [(= | <> | < | <= | > | >=) sum]"""
         first = self.here
-        found = self.sum(at)
+        found, tree = self.sum(at)
         if not self.is_at(*ORDER):
-            return found
+            return found, tree
         sign, second = self.advance(), self.here
-        other = self.sum(at)
+        other, right = self.sum(at)
         if sign.text in ("=", "<>"):
             if found and other and found != other:
                 self.blame("S4", second if second.line == at.line else at,
@@ -431,56 +339,56 @@ class Reader:
         else:
             self.operand_type(found, "DINT", first, sign, at)
             self.operand_type(other, "DINT", second, sign, at)
-        return "BOOL"
+        return "BOOL", Join(sign.text, tree, right)
 
-    def sum(self, at: Token) -> Optional[str]:
+    def sum(self, at: Token) -> Typed:
+        """sum = prod {(+ | -) prod}"""
         return self.operands(self.product, ("+", "-"), "DINT", at)
 
-    def product(self, at: Token) -> Optional[str]:
+    def product(self, at: Token) -> Typed:
+        """prod = un {* un}"""
         return self.operands(self.unary, ("*",), "DINT", at)
 
-    def unary(self, at: Token) -> Optional[str]:
+    def unary(self, at: Token) -> Typed:
         """un = [- | NOT] prim"""
         if not self.is_at("-", "NOT"):
             return self.primary(at)
         sign, first = self.advance(), self.here
-        found, wanted = self.primary(at), "BOOL" if sign.text == "NOT" else "DINT"
+        (found, tree), wanted = self.primary(at), "BOOL" if sign.text == "NOT" else "DINT"
         self.operand_type(found, wanted, first, sign, at)
-        return wanted
+        return wanted, Sign(sign.text, tree)
 
-    def primary(self, at: Token) -> Optional[str]:
+    def primary(self, at: Token) -> Typed:
         """prim = number | TRUE | FALSE | name | name . flag | ( expr )"""
         if self.here.kind == "number":
-            self.number()
-            return "DINT"
+            return "DINT", Number(self.number())
         if self.is_at("TRUE", "FALSE"):
-            self.advance()
-            return "BOOL"
+            return "BOOL", Truth(self.advance().text == "TRUE")
         if self.is_at("("):
             self.advance()
-            kind: list[Optional[str]] = []
-            self.nested(lambda: kind.append(self.disjunction(at)))
+            found = self.nested(lambda: self.disjunction(at))
             self.take(")")
-            return kind[0]
+            return found
         return self.name_or_flag()
 
-    def name_or_flag(self) -> Optional[str]:
+    def name_or_flag(self) -> Typed:
         """A variable, or what a block shows."""
         task, name = self.tasks[-1], self.take_kind("word", "a value")
         if not self.is_at("."):
             if name.text not in task.variables:
                 self.blame("S3", name, f"there is no variable {name.text} in this task")
-            return task.variables.get(name.text)
+            return task.variables.get(name.text), Variable(name.text)
         self.advance()
         if not self.is_at(*FLAGS):
             self.unexpected("busy, active, done, aborted, error or reached")
-        self.advance()
+        flag = self.advance().text
         if name.text not in task.blocks:
             self.blame("S3", name, f"there is no block {name.text} in this task")
-        return "BOOL"
+        return "BOOL", Flag(name.text, flag)
 
-    def number(self) -> None:
+    def number(self) -> int:
         """A number, up to the greatest DINT."""
         token = self.take_kind("number", "a whole number")
         if int(token.text) > MOST:
             self.blame("S5", token, f"{token.text} is above {MOST}, the greatest DINT")
+        return int(token.text)

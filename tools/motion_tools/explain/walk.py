@@ -39,8 +39,8 @@ class Standing:
     rounds: int = 0                 # of the repeat that is open, how many are left
     begin: int = 0                  # where its lines begin
     execute: dict[str, bool] = field(default_factory=dict)
-    called: dict[str, Instruction] = field(default_factory=dict)
-    last: Optional[Call] = None
+    called: dict[str, Instruction] = field(default_factory=dict)    # by block, the last one
+    made: dict[tuple[int, str], Instruction] = field(default_factory=dict)
     remarks: list[Remark] = field(default_factory=list)
 
     def here(self) -> Optional[Instruction]:
@@ -64,7 +64,6 @@ class Standing:
         line = self.here()
         if line is None or line.words[1] != call.block:
             return
-        self.last = call
         if line.verb == "call":
             self.make(cycle, line, call)
             self.place += 1
@@ -83,7 +82,7 @@ class Standing:
         if call.execute and self.execute.get(call.block) and kind != "Power":
             self.remarks.append(Remark("no-edge", cycle, line.line, line.text, call.block))
         self.execute[call.block] = call.execute
-        self.called[call.block] = line
+        self.called[call.block] = self.made[cycle, call.block] = line
 
 
 class Walk:
@@ -108,9 +107,22 @@ class Walk:
         if call.block in self.owner:
             self.owner[call.block].take(cycle, call)
 
-    def line_of(self, block: str) -> Optional[Instruction]:
-        """The line whose call of a block was made last."""
-        return self.owner[block].called.get(block) if block in self.owner else None
+    def next_cycle(self) -> None:
+        """A cycle: tasks go on by calls alone."""
+
+    def line_of(self, block: str) -> int:
+        """The line whose call of a block was made last; 0 where there is none."""
+        found = self.owner[block].called.get(block) if block in self.owner else None
+        return found.line if found else 0
+
+    def line_at(self, cycle: int, block: str) -> int:
+        """The line whose call of a block was made after a cycle."""
+        found = self.owner[block].made.get((cycle, block)) if block in self.owner else None
+        return found.line if found else 0
+
+    def declared(self, block: str) -> int:
+        """The line in which a block is declared."""
+        return self.owner[block].blocks[block][0] if block in self.owner else 0
 
 
 def mode_is_given(text: str, block: str) -> bool:

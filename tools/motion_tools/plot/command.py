@@ -4,7 +4,7 @@ Each axis has three panels over the cycles: the setpoint's position, its velocit
 cycle) and its acceleration (the change of step), with the axis's limits as bands, its PLCopen state
 as a strip, spans of errors, and the calls of its blocks with their results. Groups have strips of
 their own, and so have the digital cam switches whose edges are given. Numbers are those of the
-trace, internal units and cycles, unless --cycle-us or --scale tell others. The same trace and
+trace, internal units and cycles, unless --config, --cycle-us or --scale give others. The same trace and
 options give the same bytes.
 
 A text that is no trace ends the program with status 3 and a line that names the record; what was

@@ -52,7 +52,8 @@ def page_data(sheet: Sheet, switches: Switches) -> dict[str, object]:
     """What the page's script draws."""
     trace, units = sheet.trace, sheet.units
     factor, name = units.of_time(trace.first + trace.cycles)
-    owners = [(owner, GROUP_STATES) for owner in trace.groups.values()]
+    owners: list[tuple[Any, Sequence[str]]] = [(owner, GROUP_STATES)
+                                               for owner in trace.groups.values()]
     owners += [(owner, AXIS_STATES) for owner in trace.axes.values()]
     sections = [section(sheet, owner, states) for owner, states in owners]
     return {"first": trace.first, "cycles": trace.cycles, "timeFactor": factor, "timeName": name,

@@ -1,11 +1,19 @@
 """The lines of a panel, and where they break."""
 
-from motion_tools.plot.reader import BROKEN, LOOSE, MOVED, REPORTED_VELOCITY
-from motion_tools.plot.sheet import thinned
+from collections.abc import Callable, Sequence
+from typing import Any
+
+from motion_tools.plot.reader import BROKEN, LOOSE, MOVED, REPORTED_VELOCITY, Axis
+from motion_tools.plot.sheet import Sheet, thinned
 from motion_tools.plot.style import num
 
 
-def draw_lines(sheet, axis, columns, name, place, to_y):
+ToY = Callable[[float], float]              # where a value stands
+Columns = Sequence[Sequence[Any]]           # from and to which cycle, and the column of a lane
+
+
+def draw_lines(sheet: Sheet, axis: Axis, columns: Columns, name: str, place: int,
+               to_y: ToY) -> None:
     """The line of a panel; positions are joined from cycle to cycle, and a velocity or an
     acceleration holds over its cycle. Where a line is broken nothing leads over the gap."""
     whole = all(end - start == 1 for start, end, _ in columns)
@@ -23,14 +31,14 @@ def draw_lines(sheet, axis, columns, name, place, to_y):
         sheet.path(step_line(sheet, columns, place, to_y), f'class="{name}"')
 
 
-def draw_overlay(sheet, axis, place, to_y):
+def draw_overlay(sheet: Sheet, axis: Axis, place: int, to_y: ToY) -> None:
     """The same line of the second trace, where it has such an axis."""
     other = sheet.overlay.axes.get(axis.name) if sheet.overlay else None
     if other and (columns := thinned(sheet, other.lane)):
         sheet.path(range_line(sheet, columns, place, to_y), 'class="overlay"')
 
 
-def draw_positions(sheet, axis, columns, to_y):
+def draw_positions(sheet: Sheet, axis: Axis, columns: Columns, to_y: ToY) -> None:
     """The setpoint of single cycles: joined, and level over a cycle to which no step leads, dotted
     where the axis isn't driven."""
     joined, loose, before = [], [], axis.origin
@@ -50,7 +58,7 @@ def draw_positions(sheet, axis, columns, to_y):
             sheet.path("".join(parts), f'class="{style}"')
 
 
-def step_line(sheet, columns, place, to_y):
+def step_line(sheet: Sheet, columns: Columns, place: int, to_y: ToY) -> str:
     """A line that holds each cycle's value over the cycle, with a gap where there is none."""
     parts, goes_on = [], False
     for start, end, column in columns:
@@ -61,7 +69,7 @@ def step_line(sheet, columns, place, to_y):
     return "".join(parts)
 
 
-def range_line(sheet, columns, place, to_y, whole=False):
+def range_line(sheet: Sheet, columns: Columns, place: int, to_y: ToY, whole: bool = False) -> str:
     """A line through the least and the greatest value of each column, the nearer one first. What
     a drive reports it reports at the beginning of a cycle: a single cycle's value stands there.
     Where the line is broken, short level lines stand at the two."""

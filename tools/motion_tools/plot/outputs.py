@@ -1,6 +1,11 @@
 """Lanes of Execute and the outputs of blocks, as the standard's timing figures draw them."""
 
+from collections.abc import Iterable, Sequence
+from typing import Any
+
 from motion_tools.plot.levels import CONTROLWORD, STATUSWORD, bit_names, runs, seen, signals
+from motion_tools.plot.reader import Block, Words
+from motion_tools.plot.sheet import Sheet
 from motion_tools.plot.style import num
 
 LANE, GAP, STUB = 17, 7, 12
@@ -8,14 +13,14 @@ HIGH, LOW = 4, 14               # where the lines stand in a lane, from above
 MARKS = {"Done": "Done", "CommandAborted": "CommandAborted", "Error": "Error"}
 
 
-def draw_outputs(sheet, blocks):
+def draw_outputs(sheet: Sheet, blocks: Iterable[Block]) -> None:
     """The lanes of the blocks that were called."""
     for block in blocks:
         if block.levels.called:
             draw_block(sheet, block)
 
 
-def draw_block(sheet, block):
+def draw_block(sheet: Sheet, block: Block) -> None:
     """A lane for each signal of a block that was ever true, its name and kind at the right."""
     sheet.y += GAP
     top, right = sheet.y, sheet.x(sheet.trace.cycles) + STUB + 8
@@ -30,7 +35,7 @@ def draw_block(sheet, block):
     sheet.y = max(sheet.y, top + 2 * LANE)
 
 
-def draw_words(sheet, words):
+def draw_words(sheet: Sheet, words: Words) -> None:
     """A lane for each bit of an axis's statusword and controlword that was ever true."""
     for title, levels, table in (("statusword", words.status, STATUSWORD),
                                  ("controlword", words.control, CONTROLWORD)):
@@ -47,9 +52,9 @@ def draw_words(sheet, words):
         sheet.y = max(sheet.y, top + LANE)
 
 
-def draw_lane(sheet, name, spans, ends):
+def draw_lane(sheet: Sheet, name: str, spans: Sequence[Sequence[int]], ends: Sequence[int]) -> None:
     """A signal, with what it was before the first cycle and what the last call showed: high where
-    it was true, a stroke where it was both within a pixel, and a stub behind the last cycle."""
+    it was true, a stroke where it was both within a pixel, and a stub after the last cycle."""
     colour = sheet.theme[MARKS.get(name, "muted")]
     sheet.text(sheet.x(0) - 8, sheet.y + 13, name, ' text-anchor="end"', "muted")
     end = sheet.x(sheet.trace.cycles)
@@ -62,7 +67,7 @@ def draw_lane(sheet, name, spans, ends):
     sheet.y += LANE
 
 
-def wave(sheet, drawn, level):
+def wave(sheet: Sheet, drawn: Sequence[Sequence[Any]], level: int) -> str:
     """The line of a signal that begins at a level."""
     at = [num(sheet.y + LOW), num(sheet.y + HIGH)]
     steps = [f"M{num(sheet.x(0))} {at[level]}"]
@@ -76,9 +81,9 @@ def wave(sheet, drawn, level):
     return "".join(steps)
 
 
-def corners(sheet, spans):
+def corners(sheet: Sheet, spans: Sequence[Sequence[int]]) -> list[list[Any]]:
     """The spans with one value in pixels, joined."""
-    found = []
+    found: list[list[Any]] = []
     for start, end, value, both in spans:
         if found and found[-1][2] == value and not both:
             found[-1][1] = sheet.x(end)

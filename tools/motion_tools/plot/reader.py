@@ -1,19 +1,19 @@
 """What trace_plot takes from a trace: the machine, and its cycles and calls thinned to columns.
 
 A trace is read once, as a stream, by motion_tools.trace, and what is kept of it doesn't grow with its
-length: each axis has at most so many columns, each with the least and greatest values of its
+length: each axis has a limited number of columns, each with the least and greatest values of its
 cycles. All numbers are integers in an axis's internal units, per cycle. A text that is no trace
 raises TraceError.
 """
 
 from collections.abc import Iterable, Sequence
 from dataclasses import dataclass, field
-from typing import Optional
+from typing import Any, Optional, Union
 
 from motion_tools import trace as traces
-from motion_tools.trace import TraceError
-from motion_tools.units import Motions
 from motion_tools.plot.levels import Levels, bits_of
+from motion_tools.trace import Call, Cycle, Machine, Row, TraceError
+from motion_tools.units import Motion, Motions
 
 AXIS_STATES = ("Disabled", "Standstill", "Homing", "DiscreteMotion", "ContinuousMotion",
                "SynchronizedMotion", "Stopping", "ErrorStop")
@@ -38,7 +38,7 @@ class Lane:
 
     limit: int
     width: int = 1
-    columns: list = field(default_factory=list)
+    columns: list[list[Any]] = field(default_factory=list)
 
     def add(self, place: int, values: Values, state: int, error: int, breaks: int = 0,
             drive: Values = (None, None)) -> None:
@@ -55,7 +55,7 @@ class Lane:
             join(self.columns[-1], new)
 
 
-def join(column, other):
+def join(column: list[Any], other: list[Any]) -> None:
     """Takes another column into one."""
     for least in (0, 2, 4, 6, FOLLOWING, REPORTED_VELOCITY):
         if other[least] is None:
@@ -70,7 +70,7 @@ def join(column, other):
     column[10] |= other[10]
 
 
-def paired(columns):
+def paired(columns: list[list[Any]]) -> list[list[Any]]:
     """Half as many columns, each of two that stand beside each other."""
     for place in range(0, len(columns) - 1, 2):
         join(columns[place], columns[place + 1])
@@ -81,20 +81,20 @@ def paired(columns):
 class Marks:
     """Calls and results of the blocks of an axis or a group, at most MARKS: marks of one kind that
     lie near each other are counted as one. Each is kept as the cycles before it, its label, how
-    many there were, and what is told of the first."""
+    many there were, and what is said of the first."""
 
     width: int = 1
-    marks: dict = field(default_factory=dict)
+    marks: dict[tuple[int, str, str], list[Any]] = field(default_factory=dict)
 
-    def add(self, cycles, kind, label, told):
-        """Adds a mark behind so many cycles."""
+    def add(self, cycles: int, kind: str, label: str, told: str) -> None:
+        """Adds a mark after that many cycles."""
         self.put(cycles, kind, [cycles, label, 1, told])
         while len(self.marks) > MARKS:
             kept, self.marks, self.width = self.marks, {}, self.width * 2
             for (_, known_kind, _), mark in kept.items():
                 self.put(mark[0], known_kind, mark)
 
-    def put(self, cycles, kind, mark):
+    def put(self, cycles: int, kind: str, mark: list[Any]) -> None:
         """Puts a mark into its place, or counts it there; at first each label has its own."""
         place = (cycles // self.width, kind, mark[1] if self.width == 1 else "")
         if place in self.marks:
@@ -102,7 +102,7 @@ class Marks:
         else:
             self.marks[place] = mark
 
-    def in_order(self):
+    def in_order(self) -> list[tuple[Any, ...]]:
         """The marks as (cycles, kind, label, count, told), in the order of the trace."""
         found = [(mark[0], kind, *mark[1:]) for (_, kind, _), mark in self.marks.items()]
         return sorted(found, key=lambda mark: mark[0])
@@ -122,28 +122,28 @@ class Axis:
     increment: int
     origin: int
     lane: Lane
-    motion: object
+    motion: Motion
     marks: Marks = field(default_factory=Marks)
     has_home: bool = False
     has_reported: bool = False
     place: Optional[int] = None                 # that the drive reported in the row before
     words: Optional["Words"] = None             # the bits of its words, where they are asked for
 
-    def step(self, row):
+    def step(self, row: Row) -> tuple[Optional[int], Optional[int], int]:
         """The velocity and acceleration of a row, and how its lines go on."""
         velocity, acceleration = self.motion.step(row)
         breaks = MOVED * self.motion.moved | LOOSE * (not row.driven) | BROKEN * (velocity is None)
         return velocity, acceleration, breaks
 
-    def reported_place(self, row):
+    def reported_place(self, row: Row) -> int:
         """The place that the drive reported, in internal units. Version 1 has it in increments,
-        without the offset of a Home: there it is told of axes without a Home alone."""
+        without the offset of a Home: there it is taken of axes without a Home alone."""
         if row.place is None and self.has_home:
             return row.setpoint
         self.has_reported = True
         return row.actual * self.increment if row.place is None else row.place
 
-    def drive(self, before, place, breaks):
+    def drive(self, before: int, place: int, breaks: int) -> tuple[Optional[int], Optional[int]]:
         """The following error, the setpoint before less the place that the drive reports of it, and
         the velocity that it reports; None where the setpoint made no step, or nothing is reported."""
         last, self.place = self.place, place if self.has_reported else None
@@ -159,7 +159,7 @@ class Words:
     status: Levels
     control: Levels
 
-    def show(self, place, row):
+    def show(self, place: int, row: Row) -> None:
         """What a row has."""
         self.status.call(place, row.statusword)
         self.control.call(place, row.controlword)
@@ -170,7 +170,7 @@ class Group:
     """A group of axes, and its cycles."""
 
     name: str
-    members: list
+    members: Sequence[str]
     lane: Lane
     marks: Marks = field(default_factory=Marks)
 
@@ -181,39 +181,40 @@ class Block:
 
     name: str
     kind: str
-    on: object
+    on: Union[Axis, Group]
     levels: Levels
     execute: bool = False
     outputs: str = ""
 
 
 class Trace:
-    """A trace, as far as a picture tells of it; `first` is the cycle of the first column,
+    """A trace, as far as a picture shows it; `first` is the cycle of the first column,
     `cycles` how many there are in the window, and `fault` where the text ceased to be a trace."""
 
-    def __init__(self, machine, first, last, limit, words=False):
+    def __init__(self, machine: Machine, first: int, last: Optional[int], limit: int,
+                 words: bool = False):
         self.first, self.last = first, last
         self.cycle = self.cycles = 0
-        self.fault = None
+        self.fault: Optional[TraceError] = None
         self.motions = Motions(machine)
         self.axes = {axis.name: axis_of(axis, limit, self.motions.axes[axis.name])
                      for axis in machine.axes}
         self.groups = {group.name: Group(group.name, group.axes, Lane(limit))
                        for group in machine.groups}
-        owners = {**self.axes, **self.groups}
+        owners: dict[str, Union[Axis, Group]] = {**self.axes, **self.groups}
         self.blocks = {block.name: Block(block.name, block.kind, owners[block.on], Levels(limit))
                        for block in machine.blocks}
         for block in self.blocks.values():
-            if block.kind == "Home":
+            if isinstance(block.on, Axis) and block.kind == "Home":
                 block.on.has_home = True
         for axis in self.axes.values() if words else ():
             axis.words = Words(Levels(limit), Levels(limit))
 
-    def shown(self):
+    def shown(self) -> bool:
         """Whether the cycle that is read lies in the window."""
         return self.first <= self.cycle and (self.last is None or self.cycle <= self.last)
 
-    def add_calls(self, calls):
+    def add_calls(self, calls: Iterable[Call]) -> None:
         """Adds calls: a mark where Execute rises or a result is new."""
         for call in calls:
             block = self.blocks[call.block]
@@ -227,7 +228,7 @@ class Trace:
             if (rises or new) and (self.shown() or self.cycle == self.first - 1):
                 self.mark(block, new[0] if new else "Call", call.error, rises)
 
-    def add_levels(self, block):
+    def add_levels(self, block: Block) -> None:
         """Adds what a call of a block showed to its levels, as far as it lies in the window."""
         value = bits_of(block.execute, block.outputs)
         block.levels.called |= self.last is None or self.cycle <= self.last
@@ -239,14 +240,14 @@ class Trace:
             block.levels.until(self.cycles)
             block.levels.value = value
 
-    def mark(self, block, kind, error, rises):
+    def mark(self, block: Block, kind: str, error: int, rises: bool) -> None:
         """Marks a call of a block, or what came of it."""
         result = "" if kind == "Call" else f" {kind} {error}" if kind == "Error" else f" {kind}"
         called = "called" if rises else "goes on"
         told = f"{block.name} ({block.kind}) {called}{':' if result else ''}{result}"
         block.on.marks.add(self.cycle, kind, block.name + result, told)
 
-    def add_cycle(self, cycle):
+    def add_cycle(self, cycle: Cycle) -> None:
         """Adds the calls before a cycle, and the cycle; cycles come in order, none left out."""
         self.add_calls(cycle.calls)
         if cycle.number != self.cycle + 1:
@@ -260,15 +261,15 @@ class Trace:
                 self.groups[name].lane.add(self.cycle - self.first, (0, 0, 0, 0),
                                            GROUP_BITS[row.state], row.error)
 
-    def end(self, calls):
-        """Adds the calls behind the last cycle."""
+    def end(self, calls: Iterable[Call]) -> None:
+        """Adds the calls after the last cycle."""
         if self.last is None or self.last > self.cycle:
             self.last = self.cycle
         self.add_calls(calls)
         for block in self.blocks.values():
             block.levels.until(self.cycles)
 
-    def add_row(self, axis, row):
+    def add_row(self, axis: Axis, row: Row) -> None:
         """Adds the row of an axis."""
         before = axis.motion.setpoint
         velocity, acceleration, breaks = axis.step(row)
@@ -284,7 +285,7 @@ class Trace:
                 axis.words.show(self.cycle - self.first, row)
 
 
-def axis_of(axis, limit, motion):
+def axis_of(axis: traces.Axis, limit: int, motion: Motion) -> Axis:
     """An axis of a trace's machine, before its first cycle."""
     return Axis(axis.name, axis.lo, axis.hi, axis.vmax, axis.amax, axis.dmax, axis.inc, axis.start,
                 Lane(limit), motion)

@@ -31,29 +31,30 @@ class Sheet:
     parts: list[str] = field(default_factory=list)
 
     @property
-    def plot(self):
+    def plot(self) -> int:
         """How wide the panels are, in pixels."""
         return self.width - LEFT - RIGHT
 
-    def x(self, cycles):
+    def x(self, cycles: float) -> float:
         """Where the end of a cycle stands, counted from the first one of the picture."""
         return LEFT + cycles * self.plot / max(self.trace.cycles, 1)
 
-    def put(self, text):
+    def put(self, text: str) -> None:
         """Adds an element."""
         self.parts.append(text)
 
-    def text(self, x, y, words, style="", fill="ink"):
+    def text(self, x: float, y: float, words: str, style: str = "", fill: str = "ink") -> None:
         """Adds words."""
         self.put(f'<text x="{num(x)}" y="{num(y)}" class="{fill}"{style}>{escape(words)}</text>')
 
-    def box(self, x, y, width, height, style, told=""):
-        """Adds a box, with what is told where a pointer rests on it."""
+    def box(self, x: float, y: float, width: float, height: float, style: str,
+            told: str = "") -> None:
+        """Adds a box, with what is shown where a pointer rests on it."""
         end = f"><title>{escape(told)}</title></rect>" if told else "/>"
         self.put(f'<rect x="{num(x)}" y="{num(y)}" width="{num(width)}" height="{num(height)}" '
                  f'{style}{end}')
 
-    def path(self, steps, style):
+    def path(self, steps: str, style: str) -> None:
         """Adds a path."""
         self.put(f'<path d="{steps}" {style}/>')
 
@@ -79,7 +80,7 @@ def thinned(sheet: Sheet, lane: Lane) -> list[list[Any]]:
 
 def spans(columns: Sequence[Sequence[Any]], key: Callable[[Any], Any]) -> list[list[Any]]:
     """Columns beside each other with one key, as from, to and key."""
-    found = []
+    found: list[list[Any]] = []
     for start, end, column in columns:
         if found and found[-1][2] == key(column):
             found[-1][1] = end

@@ -1,10 +1,11 @@
 """Colours, numbers and scales of the pictures of trace_plot.
 
 The colours are those of Okabe and Ito, which colour-blind readers can tell apart; no meaning is
-told by a colour alone: states have their names, marks their shapes, errors their hatching.
+shown by a colour alone: states have their names, marks their shapes, errors their hatching.
 """
 
 import math
+from collections.abc import Sequence
 
 STATE_COLOURS = {
     "Disabled": "#b0b4ba", "Standstill": "#d6e9f5", "Homing": "#cc79a7", "Stopping": "#e69f00",
@@ -25,14 +26,14 @@ DARK = {"page": "#14181d", "panel": "#2a2f37", "band": "#171d25", "outer": "#202
         "CommandAborted": "#f0b93a", "Error": "#ff7a33"}
 
 
-def num(value):
+def num(value: float) -> str:
     """A coordinate to a tenth of a pixel."""
     text = f"{value:.1f}"
     return text[:-2] if text.endswith(".0") else text
 
 
-def number_text(value):
-    """A number as it is told, with a power of ten where it has more than seven places."""
+def number_text(value: float) -> str:
+    """A number as it is shown, with a power of ten where it has more than seven places."""
     text = f"{value:.10g}" if value else "0"
     if len(text.lstrip("-")) <= 7:
         return text
@@ -41,15 +42,16 @@ def number_text(value):
     return short if len(short) < len(text) else text
 
 
-def ticks(low, high, count):
-    """Round numbers from low to high, about so many."""
+def ticks(low: float, high: float, count: float) -> list[float]:
+    """Round numbers from low to high, about this many."""
     step = 10.0 ** math.floor(math.log10((high - low) / count))
     step *= next(times for times in (1, 2, 5, 10) if (high - low) / (step * times) <= count)
     first = math.ceil(low / step - 1e-9)
     return [place * step for place in range(first, math.floor(high / step + 1e-9) + 1)]
 
 
-def view(least, greatest, limits, whole=False):
+def view(least: float, greatest: float, limits: Sequence[float],
+         whole: bool = False) -> tuple[float, float]:
     """From where to where a panel shows: the values, and each limit that leaves them a quarter
     of the height, or all limits; where nothing moves, all limits too."""
     low, high, moved = least, greatest, greatest - least

@@ -1,12 +1,15 @@
 """The picture of a trace as SVG: the same trace and options give the same bytes."""
 
+from collections.abc import Sequence
+from typing import Optional, Union
 from xml.sax.saxutils import escape
 
 from motion_tools.plot.edges import draw_edges
 from motion_tools.plot.legend import KINDS, draw_head, draw_shape
+from motion_tools.plot.lines import Columns
 from motion_tools.plot.outputs import draw_outputs, draw_words
 from motion_tools.plot.panels import PANELS, draw_panel, draw_time
-from motion_tools.plot.reader import AXIS_STATES, FOLLOWING, GROUP_STATES
+from motion_tools.plot.reader import AXIS_STATES, FOLLOWING, GROUP_STATES, Axis, Group
 from motion_tools.plot.sheet import LEFT, Sheet, spans, thinned
 from motion_tools.plot.style import STATE_COLOURS, num
 from motion_tools.plot.together import draw_together, together_style
@@ -17,7 +20,7 @@ LABEL_ROWS, GUIDES = 6, 40
 FONT = "font-family:'DejaVu Sans',Verdana,Arial,sans-serif"
 
 
-def svg(sheet, title, switches=None):
+def svg(sheet: Sheet, title: str, switches: Optional[dict[str, list[int]]] = None) -> str:
     """The text of the picture that an empty sheet becomes, with the lanes of switches where there
     are some."""
     trace, width = sheet.trace, sheet.width
@@ -41,15 +44,16 @@ def svg(sheet, title, switches=None):
     return head + "\n".join(sheet.parts) + "\n</svg>\n"
 
 
-def described(sheet):
+def described(sheet: Sheet) -> str:
     """What the picture shows, in words."""
-    owners = [(f"Group {group.name}", group, GROUP_STATES) for group in sheet.trace.groups.values()]
+    owners: list[tuple[str, Union[Axis, Group], Sequence[str]]] = [
+        (f"Group {group.name}", group, GROUP_STATES) for group in sheet.trace.groups.values()]
     owners += [(f"Axis {axis.name}", axis, AXIS_STATES) for axis in sheet.trace.axes.values()]
     return " ".join(f"{title}: {told_of(sheet.trace, sheet.units, owner, states)}"
                     for title, owner, states in owners)
 
 
-def style_sheet(theme):
+def style_sheet(theme: dict[str, str]) -> str:
     """The classes of the elements."""
     lines = "".join(f".{name}{{stroke:{theme[name]};stroke-width:1.6}}"
                     for name in ("position", "velocity", "acceleration", "reported"))
@@ -74,7 +78,7 @@ def more_style(sheet: Sheet) -> str:
     return overlay + following + (together_style() if sheet.together else "")
 
 
-def hatching(theme):
+def hatching(theme: dict[str, str]) -> str:
     """The pattern of an error span."""
     return ('<pattern id="hatch" width="8" height="8" patternUnits="userSpaceOnUse" '
             'patternTransform="rotate(45)"><rect width="8" height="8" '
@@ -82,8 +86,9 @@ def hatching(theme):
             f'fill="{theme["error"]}" fill-opacity=".55"/></pattern>')
 
 
-def draw_section(sheet, owner, states, title):
-    """What is told of an axis or a group, its time axis at the bottom."""
+def draw_section(sheet: Sheet, owner: Union[Axis, Group], states: Sequence[str],
+                 title: str) -> None:
+    """What is shown of an axis or a group, its time axis at the bottom."""
     sheet.y += 26
     sheet.text(16, sheet.y, title, ' style="font-size:14px;font-weight:bold"')
     sheet.y += 8
@@ -94,7 +99,7 @@ def draw_section(sheet, owner, states, title):
     if sheet.outputs:
         blocks = sheet.trace.blocks.values()
         draw_outputs(sheet, [block for block in blocks if block.on is owner])
-    if hasattr(owner, "increment"):
+    if isinstance(owner, Axis):
         for name, place, height in PANELS:
             draw_panel(sheet, owner, columns, name, place, height)
         if sheet.following and owner.has_reported:
@@ -107,9 +112,10 @@ def draw_section(sheet, owner, states, title):
     draw_time(sheet)
 
 
-def draw_marks(sheet, owner):
-    """The calls and their results, with labels where there is room; tells where they stand."""
-    placed, ends, marks = [], [], owner.marks.in_order()
+def draw_marks(sheet: Sheet, owner: Union[Axis, Group]) -> list[tuple[float, str]]:
+    """The calls and their results, with labels where there is room; gives where they stand."""
+    placed, marks = [], owner.marks.in_order()
+    ends: list[float] = []
     rows = LABEL_ROWS if len(marks) <= GUIDES else 1
     for cycles, kind, label, count, told in marks:
         x = sheet.x(cycles - sheet.trace.first + 1)
@@ -118,7 +124,7 @@ def draw_marks(sheet, owner):
         wide = 10 + 6.9 * len(words)
         row = place_row(ends, rows, x - wide if left else x - 6, x + 8 if left else x + wide)
         placed.append((x, kind, words if row < rows else "", left, row,
-                       f"behind cycle {cycles}: {told}" + words[len(label):]))
+                       f"after cycle {cycles}: {told}" + words[len(label):]))
     for x, kind, words, left, row, told in placed:
         y = sheet.y + ROW * row + ROW / 2
         draw_shape(sheet, kind, x, y, told)
@@ -128,7 +134,7 @@ def draw_marks(sheet, owner):
     return sorted({(x, kind) for x, kind, *_ in placed})
 
 
-def place_row(ends, rows, start, end):
+def place_row(ends: list[float], rows: int, start: float, end: float) -> int:
     """The first row that is free from a place on; labels that find none have the one below."""
     for row in range(rows):
         if row == len(ends):
@@ -140,7 +146,7 @@ def place_row(ends, rows, start, end):
     return rows
 
 
-def draw_strip(sheet, columns, states):
+def draw_strip(sheet: Sheet, columns: Columns, states: Sequence[str]) -> None:
     """The states over time; of several in one column the last in the order of their names."""
     for start, end, (name, error) in spans(columns, lambda column: (
             states[column[8].bit_length() - 1], column[9])):

@@ -1,25 +1,30 @@
 """What a picture shows of an axis or a group, in words, for readers of screens."""
 
+from collections.abc import Sequence
+from typing import Any, Union
+
+from motion_tools.plot.reader import Axis, Group, Trace
 from motion_tools.plot.style import number_text
+from motion_tools.units import Units
 
-MOST = 40       # states, and calls, that are told one by one
+MOST = 40       # states, and calls, that are listed one by one
 
 
-def told_of(trace, units, owner, states):
+def told_of(trace: Trace, units: Units, owner: Union[Axis, Group], states: Sequence[str]) -> str:
     """The cycles, the setpoints, the states and the calls."""
     if not owner.lane.columns:
         return "No cycle."
     last = trace.first + trace.cycles - 1
     parts = [f"Cycles {trace.first} to {last}."]
-    if hasattr(owner, "increment"):
+    if isinstance(owner, Axis):
         parts.append(setpoints(units, owner))
     parts.append(f"States: {listed(states_told(trace, owner, states))}.")
-    calls = [f"behind cycle {cycles} {told}" for cycles, _, _, _, told in owner.marks.in_order()]
+    calls = [f"after cycle {cycles} {told}" for cycles, _, _, _, told in owner.marks.in_order()]
     parts.append(f"Calls: {listed(calls)}." if calls else "No calls.")
     return " ".join(parts)
 
 
-def setpoints(units, axis):
+def setpoints(units: Units, axis: Axis) -> str:
     """From where to where the setpoint goes, and its greatest velocity."""
     factor, unit = units.of_axis(axis.name)["position"]
     rate, per = units.of_axis(axis.name)["velocity"]
@@ -31,9 +36,10 @@ def setpoints(units, axis):
             f"{unit}, at most {number_text(fastest * rate)} {per}.")
 
 
-def states_told(trace, owner, states):
+def states_told(trace: Trace, owner: Union[Axis, Group], states: Sequence[str]) -> list[str]:
     """Each state with its first and its last cycle."""
-    found, width = [], owner.lane.width
+    found: list[list[Any]] = []
+    width = owner.lane.width
     for place, column in enumerate(owner.lane.columns):
         words = states[column[8].bit_length() - 1] + (f" error {column[9]}" if column[9] else "")
         start = trace.first + place * width
@@ -46,7 +52,7 @@ def states_told(trace, owner, states):
             for words, start, end in found]
 
 
-def listed(items):
+def listed(items: Sequence[str]) -> str:
     """Items with semicolons, and how many more there are."""
     more = [f"and {len(items) - MOST} more"] if len(items) > MOST else []
-    return "; ".join(items[:MOST] + more)
+    return "; ".join([*items[:MOST], *more])

@@ -1,4 +1,4 @@
-// The cursor at the end of a cycle, the pinned one, and what both tell of a section.
+// The cursor at the end of a cycle, the pinned one, and what both show of a section.
 
 // Where the pointer is: a section and a place on the screen, or the cycles before it; null where it
 // is beside all. And the cycles before the pinned cursor, null without one.
@@ -57,7 +57,7 @@ function showDots(section, at) {
   }
 }
 
-// What a section tells at a place, with what lies between the pinned cursor and it.
+// What a section shows at a place, with what lies between the pinned cursor and it.
 function reading(section, at) {
   const cycle = cycleOf(at), place = Math.floor(cycle / section.width);
   const first = place * section.width + data.first;
@@ -69,7 +69,7 @@ function reading(section, at) {
   if (section.lines && section.lines.reported)
     parts.push(valueAt(section, "reported", section.panels[0], place));
   const near = section.marks.filter(mark => Math.abs(section.x(mark[0] - data.first + 1) - section.x(at)) < 5);
-  if (near.length) parts.push(`behind cycle ${near[0][0]}: ` + near.map(mark => mark[4]).join("; "));
+  if (near.length) parts.push(`after cycle ${near[0][0]}: ` + near.map(mark => mark[4]).join("; "));
   return parts.join("  ·  ");
 }
 
@@ -118,7 +118,7 @@ function pin(at) {
   pointAnew();
 }
 
-// Puts the cursor to a place, into view, and tells what stands there to readers of screens.
+// Puts the cursor to a place, into view, and says what stands there to readers of screens.
 function goTo(at) {
   pointed = {at: Math.min(Math.max(at, data.width > 1 ? 0 : 1), data.cycles)};
   if (pointed.at < from || pointed.at > to) show(pointed.at - (to - from) / 2, pointed.at + (to - from) / 2);
@@ -133,7 +133,7 @@ function jump(isError, onwards) {
     .flatMap(section => isError ? errorsOf(section) : section.marks.map(mark => mark[0] - data.first + 1));
   const found = stops.filter(at => onwards ? at > now : at < now);
   if (found.length) goTo(onwards ? Math.min(...found) : Math.max(...found));
-  else document.getElementById("told").textContent = `no ${isError ? "error" : "call"} ${onwards ? "behind" : "before"}`;
+  else document.getElementById("told").textContent = `no ${isError ? "error" : "call"} ${onwards ? "after" : "before"}`;
 }
 
 // Where errors begin in a section: in its rows, and in what calls of its blocks showed.

@@ -23,7 +23,7 @@ class Curves {
       Math.min(Math.ceil(to / this.width), this.lines ? this.lines.position[0].length : 0)];
   }
 
-  // The least and the greatest value that a panel tells of the columns from one to another.
+  // The least and the greatest value that a panel shows of the columns from one to another.
   range(name, begin, end) {
     let low = name === "position" ? Infinity : 0, high = name === "position" ? -Infinity : 0;
     for (const key of [name, ...drawnWith(name)]) {

@@ -25,7 +25,7 @@ class Lanes {
   }
 
   // A signal: high where it was true, with a stroke where it was both within a column, and a stub
-  // behind the last cycle.
+  // after the last cycle.
   drawLane(pen, name, place, y) {
     const colour = theme[this.shown === "always" ? "Done" : KINDS.includes(name) ? name : "muted"], low = y + 14, high = y + 4;
     const begin = this.section.x(from), end = this.section.x(to), stub = to >= data.cycles ? 8 : 0;

@@ -23,7 +23,7 @@ function readTheme() {
     theme[name] = style.getPropertyValue("--" + name).trim();
 }
 
-// A number as it is told.
+// A number as it is shown.
 function numberText(value) {
   if (!value) return "0";
   const text = String(+value.toPrecision(10));
@@ -36,7 +36,7 @@ function numberText(value) {
 // A number exactly, for the cursor.
 const exactText = value => value ? String(+value.toPrecision(15)) : "0";
 
-// Round numbers from low to high, about so many.
+// Round numbers from low to high, about this many.
 function ticks(low, high, count) {
   let step = 10 ** Math.floor(Math.log10((high - low) / count));
   step *= [1, 2, 5, 10].find(times => (high - low) / (step * times) <= count) || 10;

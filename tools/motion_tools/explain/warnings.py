@@ -1,0 +1,187 @@
+"""Warnings: what is legal in a run, and was perhaps not meant."""
+
+from collections.abc import Iterator
+from typing import Optional
+
+from motion_tools.blocks import MOVES
+from motion_tools.explain import hints
+from motion_tools.explain.findings import Finding
+from motion_tools.explain.history import Command
+from motion_tools.explain.run import Run
+from motion_tools.explain.walk import mode_is_given
+
+THOUSANDTH = 1000
+TWENTIETH = 20
+STILL = 10_000          # an axis that goes slower than vmax by this factor stands, but for rounding
+
+
+def warnings(run: Run) -> list[Finding]:
+    """What is legal, and was perhaps not meant."""
+    found = [*edges(run), *ignored(run), *aborted(run), *moving(run), *following(run), *early(run),
+             *tiny(run), *uncalled(run)]
+    return sorted(found, key=lambda finding: (finding.cycle is None, finding.cycle or 0))
+
+
+def warning(run: Run, name: str, says: str, cycle: Optional[int] = None) -> Finding:
+    """A warning by its name."""
+    return Finding("warning", name, says, hints.warning(name)[1],
+                   when="" if cycle is None else run.when(cycle), cycle=cycle)
+
+
+def edges(run: Run) -> Iterator[Finding]:
+    """Calls of a program that are no rising edge, and waits that ended otherwise."""
+    for task in run.walk.tasks.values() if run.walk else ():
+        seen: set[tuple[str, int]] = set()
+        for remark in task.remarks:
+            if (remark.kind, remark.line) in seen:
+                continue
+            seen.add((remark.kind, remark.line))
+            if remark.kind == "no-edge":
+                says = (f"{run.who(remark.block)} is called on while its Execute is still true: "
+                        "there is no rising edge, and no second command")
+                found = warning(run, "no-edge", says, remark.cycle)
+            else:
+                found = Finding("note", "wait-ended", f"the wait ended by {remark.detail}, and the "
+                                "task went on", when=run.when(remark.cycle), cycle=remark.cycle)
+            yield run.at(found, remark.line)
+
+
+def ignored(run: Run) -> Iterator[Finding]:
+    """Inputs that changed while Execute stayed true; and results that were shown anew."""
+    walked = {remark.block for task in (run.walk.tasks.values() if run.walk else ())
+              for remark in task.remarks if remark.kind == "no-edge"}
+    for name, block in run.history.blocks.items():
+        if name in walked:
+            continue
+        if block.ignored:
+            cycle, edge, call, was_over = block.ignored[0]
+            more = f", and {len(block.ignored) - 1} times more" if len(block.ignored) > 1 else ""
+            change = difference(run, block.block.on, edge, call)
+            if was_over:
+                found = warning(run, "no-edge", f"{run.who(name)} was called with {change} after its "
+                                f"command had ended, while Execute stayed true: no rising edge, and "
+                                f"no second command{more}", cycle)
+            else:
+                found = warning(run, "ignored-inputs", f"{run.who(name)} was called with {change} "
+                                f"while Execute stayed true: the new inputs were ignored{more}",
+                                cycle)
+            yield run.at_call(found, name, cycle)
+        elif block.stale is not None and run.is_st:
+            found = warning(run, "no-edge", f"{run.who(name)} was called again with Execute still "
+                            "true, and showed the result of its earlier command: no rising edge, "
+                            "and no second command", block.stale)
+            yield run.at_call(found, name, block.stale)
+
+
+def difference(run: Run, on: str, edge: object, call: object) -> str:
+    """Which inputs of two calls differ, in units."""
+    axes, parts = run.history.axes_of(on), []
+    for name, quantity in (("positions", "position"), ("velocity", "velocity"),
+                           ("acceleration", "acceleration"), ("deceleration", "acceleration")):
+        old, new = getattr(edge, name), getattr(call, name)
+        if old == new:
+            continue
+        if name == "positions":
+            shown = [", ".join(run.units.text(axis, value) for axis, value in zip(axes, values or ()))
+                     for values in (old, new)]
+            parts.append(f"pos {shown[1]} in place of {shown[0]}")
+        else:
+            parts.append(f"{name} {run.units.text(axes[0], new, quantity)} in place of "
+                         f"{run.units.text(axes[0], old, quantity)}")
+    for name in ("jerk", "mode", "follow"):
+        if getattr(edge, name) != getattr(call, name):
+            parts.append(f"{name} {getattr(call, name)} in place of {getattr(edge, name)}")
+    return " and ".join(parts)
+
+
+def aborted(run: Run) -> Iterator[Finding]:
+    """Moves that another move of the same task aborted by the default mode."""
+    for command in run.history.commands:
+        by = command.aborted_by
+        if by is None or command.block.kind not in MOVES or command.result == "Done":
+            continue
+        other = run.history.blocks[by.block].block
+        if other.kind in ("Halt", "Stop", "GroupHalt", "GroupStop", "Home"):
+            continue
+        if other.task == command.block.task and not mode_is_given(run.text, other.name):
+            cycle = command.ended or command.begun
+            found = warning(run, "aborted-by-own-task", f"{run.who(command.block.name)} was aborted "
+                            f"by {run.who(other.name)} of the same task{where(run, command)}", cycle)
+            yield run.at_call(found, other.name, cycle)
+
+
+def where(run: Run, command: Command) -> str:
+    """Where the axes of a command stood at its end."""
+    if not command.end:
+        return ""
+    return ", at " + ", ".join(f"{name} {run.units.text(name, place)}"
+                               for name, place in command.end.items())
+
+
+def moving(run: Run) -> Iterator[Finding]:
+    """Axes that were in motion when the run ended."""
+    if run.history.fault:
+        return
+    for name, axis in run.history.axes.items():
+        velocity = axis.last_step[0]
+        if axis.last and velocity and abs(velocity) * STILL > axis.axis.vmax:
+            yield warning(run, "ends-in-motion", f"axis {name} is in {axis.last.state} at the end, "
+                          f"at {run.units.text(name, axis.last.setpoint)} with "
+                          f"{run.units.text(name, velocity, 'velocity')}", run.history.cycles)
+
+
+def following(run: Run) -> Iterator[Finding]:
+    """Axes whose drives are far from their setpoints."""
+    for name, axis in run.history.axes.items():
+        if abs(axis.following) * TWENTIETH > axis.reach:
+            yield warning(run, "following-error", f"axis {name}: the following error is up to "
+                          f"{run.units.text(name, abs(axis.following))}, more than a twentieth of "
+                          f"its range, at {run.units.text(name, axis.following_place)}",
+                          axis.following_cycle)
+
+
+def early(run: Run) -> Iterator[Finding]:
+    """Moves that were Done while the drive was far from the target."""
+    seen: set[str] = set()
+    for command in run.history.commands:
+        for name, place in command.short_of.items():
+            axis, end = run.history.axes[name], command.end.get(name, place)
+            error = abs(end - place)
+            if command.block.kind not in MOVES or name in seen:
+                continue
+            if error * THOUSANDTH > axis.reach and error > 2 * axis.axis.inc:
+                seen.add(name)
+                yield warning(run, "done-before-drive", f"{run.who(command.block.name)} was Done at "
+                              f"{run.units.text(name, end)} while the drive reported "
+                              f"{run.units.text(name, place)}", command.ended)
+
+
+def tiny(run: Run) -> Iterator[Finding]:
+    """Moves that are very short."""
+    for command in run.history.commands:
+        positions = command.call.positions
+        if command.block.kind not in MOVES or not positions or command.result.startswith("Error"):
+            continue
+        ways = {}
+        for name, position in zip(command.start, positions):
+            begin = 0 if command.block.kind == "MoveRelative" else command.start[name]
+            ways[name] = abs(position - begin)
+        if any(ways.values()) and all(way * THOUSANDTH < run.history.axes[name].reach
+                                      for name, way in ways.items()):
+            shown = ", ".join(f"{name} {run.units.text(name, way)}" for name, way in ways.items())
+            found = warning(run, "tiny-move", f"{run.who(command.block.name)} moves by {shown} alone",
+                            command.begun)
+            if run.is_st:
+                unit = run.units.of_axis(next(iter(ways)))["position"][1]
+                found.cure = (f"pos is in thousandths of the user unit: pos := 200 is 0.2 {unit}, "
+                              f"and 200 {unit} are pos := 200000")
+            yield run.at_call(found, command.block.name, command.begun)
+
+
+def uncalled(run: Run) -> Iterator[Finding]:
+    """Blocks that no call names."""
+    for name, block in run.history.blocks.items():
+        if not block.calls:
+            found = warning(run, "never-called", f"{run.who(name)} of the task {block.block.task} "
+                            "was never called")
+            yield run.at(found, run.tasks.declared(name) if run.tasks else 0)
