@@ -136,7 +136,13 @@ bench("comments", lambda n: filled("#\n", n))
 bench("words", lambda n: BENCH + "call" + filled(" M", n) + "\n")
 bench("blocks", lambda n: BENCH.replace("go\n", "") + counted("block v%07d main Power X\n", n))
 bench("faults", lambda n: BENCH.replace("go\n", "") + "drive X 0 " + filled("1,", n) + "\n")
+bench("points", lambda n: BENCH.replace("go\n", "") + "table" + counted(" %d:0", n) + "\n")
+bench("positions", lambda n: BENCH + "call M on pos=" + filled("1;", n) + "\n")
 bench("one word", lambda n: filled("a", n))
+shape("program blocks", f"run {TASKS}.toml {TEXT}",
+      lambda n: "motion-program 1\ntask t\n" + counted("block v%07d Power X\n", n))
+shape("program repeats", f"run {TASKS}.toml {TEXT}",
+      lambda n: "motion-program 1\ntask t\n" + filled("repeat 2\nagain\n", n))
 shape("program lines", f"run {TASKS}.toml {TEXT}", lambda n: PROGRAM + filled("again\n", n))
 shape("program comments", f"run {TASKS}.toml {TEXT}", lambda n: filled("#\n", n) + "again\n")
 
@@ -156,6 +162,9 @@ def trace(name, make):
 
 trace("calls", lambda n: MACHINE + filled(CALL, n))
 trace("ends", lambda n: MACHINE + filled("end,main,,,,,,,,,,\n", n))
+trace("cycles", lambda n: MACHINE + counted("cycle,%d,,,,,,,,,,\n", n))
+trace("blocks", lambda n: MACHINE + counted("block,v%07d,main,Power,X,,,,,,,\n", n))
+trace("axes", lambda n: MACHINE.split("axis")[0] + counted("axis,v%07d,0,50,10,4,1,0,1,,,\n", n))
 trace("commas", lambda n: MACHINE + filled(",", n) + "\n")
 trace("quotes", lambda n: MACHINE + filled('"', n) + "\n")
 shape("segment commas", f"check {TEXT}",
