@@ -1,0 +1,5 @@
+pub mod Brakes
+pub mod Ways
+pub mod KeptMotions
+pub mod Directions
+pub mod Kept

@@ -1,0 +1,3 @@
+pub mod Braking
+pub mod Rates
+pub mod Admissible

@@ -1,0 +1,16 @@
+//! The limits of an axis with limited jerk, and which steps are safe within them. The speed of such
+//! an axis is itself an axis: it rises by at most amax and falls by at most dmax each cycle, and
+//! that change changes by at most jmax. It stands on `kin_core`, whose limits it keeps too.
+#![tactic(auto)]
+
+mod ahead;
+mod braking;
+mod laws;
+mod limits;
+mod rates;
+
+pub use ahead::{greatest_left, greatest_safe, keeps};
+pub use braking::{braked, rest_fits};
+pub use laws::{kept_is_stoppable, kept_without_jerk, safe_speeds_are_an_interval, ways_unfold};
+pub use limits::JerkLimits;
+pub use rates::JerkRates;
