@@ -136,16 +136,16 @@ stops_up (suc n) limits first before now room w v ok at kept enough =
     less a b n h most = omega arith
 
 -- the sizes of an admissible setpoint that isn't below
-record GoesUp (limits : JerkLimits) (first before now next : ℤ) (room w v x : ℕ) : Type 0 where
-  is : (next -ℤ now) ≡ pos x
-  bends : 2 * v ≤ x + w + unsigned_abs limits.jmax
-  rises : x + w ≤ 2 * v + unsigned_abs limits.jmax
-  within : x ≤ room
-  slow : x ≤ unsigned_abs limits.axis.vmax
-  gains : x ≤ v + unsigned_abs limits.axis.amax
-  loses : v ≤ x + unsigned_abs limits.axis.dmax
+pub record GoesUp (limits : JerkLimits) (first before now next : ℤ) (room w v x : ℕ) : Type 0 where
+  pub is : (next -ℤ now) ≡ pos x
+  pub bends : 2 * v ≤ x + w + unsigned_abs limits.jmax
+  pub rises : x + w ≤ 2 * v + unsigned_abs limits.jmax
+  pub within : x ≤ room
+  pub slow : x ≤ unsigned_abs limits.axis.vmax
+  pub gains : x ≤ v + unsigned_abs limits.axis.amax
+  pub loses : v ≤ x + unsigned_abs limits.axis.dmax
 
-goes_up : (limits : JerkLimits) (first before now next : ℤ) (room w v : ℕ) → AreJerkLimits limits →
+pub goes_up : (limits : JerkLimits) (first before now next : ℤ) (room w v : ℕ) → AreJerkLimits limits →
     IsUp limits first before now room w v → now ≤ℤ next → IsAdmissibleByJerk limits first before now next →
     GoesUp limits first before now next room w v (unsigned_abs (next -ℤ now))
 goes_up limits first before now next room w v ok at up admissible =
@@ -319,16 +319,16 @@ stops_down (suc n) limits first before now room w v ok at kept enough =
     less a b n h most = omega arith
 
 -- the sizes of an admissible setpoint that isn't above
-record GoesDown (limits : JerkLimits) (first before now next : ℤ) (room w v x : ℕ) : Type 0 where
-  is : (now -ℤ next) ≡ pos x
-  bends : 2 * v ≤ x + w + unsigned_abs limits.jmax
-  rises : x + w ≤ 2 * v + unsigned_abs limits.jmax
-  within : x ≤ room
-  slow : x ≤ unsigned_abs limits.axis.vmax
-  gains : x ≤ v + unsigned_abs limits.axis.amax
-  loses : v ≤ x + unsigned_abs limits.axis.dmax
+pub record GoesDown (limits : JerkLimits) (first before now next : ℤ) (room w v x : ℕ) : Type 0 where
+  pub is : (now -ℤ next) ≡ pos x
+  pub bends : 2 * v ≤ x + w + unsigned_abs limits.jmax
+  pub rises : x + w ≤ 2 * v + unsigned_abs limits.jmax
+  pub within : x ≤ room
+  pub slow : x ≤ unsigned_abs limits.axis.vmax
+  pub gains : x ≤ v + unsigned_abs limits.axis.amax
+  pub loses : v ≤ x + unsigned_abs limits.axis.dmax
 
-goes_down : (limits : JerkLimits) (first before now next : ℤ) (room w v : ℕ) → AreJerkLimits limits →
+pub goes_down : (limits : JerkLimits) (first before now next : ℤ) (room w v : ℕ) → AreJerkLimits limits →
     IsDown limits first before now room w v → next ≤ℤ now → IsAdmissibleByJerk limits first before now next →
     GoesDown limits first before now next room w v (unsigned_abs (now -ℤ next))
 goes_down limits first before now next room w v ok at up admissible =

@@ -3,3 +3,5 @@ pub mod Ways
 pub mod KeptMotions
 pub mod Directions
 pub mod Kept
+pub mod Nearest
+pub mod Sides

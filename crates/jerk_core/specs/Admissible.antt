@@ -85,3 +85,8 @@ pub record IsTakenByJerk (limits : JerkLimits) (first before now wanted step : �
   pub safe : IsSafeByJerk limits first before now (now +ℤ step)
   pub nearest : (other : ℤ) → IsSafeByJerk limits first before now (now +ℤ other) →
       unsigned_abs (step -ℤ wanted) ≤ unsigned_abs (other -ℤ wanted)
+
+-- some setpoint is safe
+pub record HasSafeSetpoint (limits : JerkLimits) (first before now : ℤ) : Type 0 where
+  pub setpoint : ℤ
+  pub safe : IsSafeByJerk limits first before now setpoint

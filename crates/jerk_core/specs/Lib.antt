@@ -1,3 +1,4 @@
 pub mod Braking
 pub mod Rates
 pub mod Admissible
+pub mod Taken

@@ -13,7 +13,7 @@ use motion_numbers::{MOST_STEP, greatest_ramp, way_fits};
 /// it has come to rest within the room.
 pub fn keeps(rates: &JerkRates, room: u64, last: u64, speed: u64) -> bool
     requires rates { AreJerkRates rates.now }
-    requires last { last ≤ MOST_STEP }
+    requires last { last ≤ 2 * MOST_STEP }
     requires speed { speed ≤ MOST_STEP }
     ensures { IsTrue result ↔ IsKeptBy rates.now room last speed }
 {
@@ -37,7 +37,7 @@ pub fn keeps(rates: &JerkRates, room: u64, last: u64, speed: u64) -> bool
 /// does, the braked speed, which always does.
 pub fn greatest_safe(rates: &JerkRates, room: u64, last: u64, speed: u64, most: u64) -> u64
     requires rates { AreJerkRates rates.now }
-    requires last { last ≤ MOST_STEP }
+    requires last { last ≤ 2 * MOST_STEP }
     requires kept { IsKeptBy rates.now room last speed }
     ensures safe { IsSafeBy rates.now room last speed result }
     ensures greatest { (x : ℕ) → IsSafeBy rates.now room last speed x → x ≤ most → x ≤ result }
@@ -55,7 +55,7 @@ pub fn greatest_safe(rates: &JerkRates, room: u64, last: u64, speed: u64, most: 
 // The greatest speed that may follow the motion, wherever it is: by the changes of speed alone.
 fn fastest(rates: &JerkRates, last: u64, speed: u64) -> u64
     requires rates { AreJerkRates rates.now }
-    requires last { last ≤ MOST_STEP }
+    requires last { last ≤ 2 * MOST_STEP }
     requires speed { speed ≤ rates.now.v }
     ensures value { result ≡ min (2 * speed + rates.now.j - last) (speed + min rates.now.a (reach_of (rates.now.v - speed) rates.now.j)) }
 {

@@ -1,6 +1,6 @@
 // Braking with limited jerk, in the direction of the motion.
 
-ghost use Rattle.std.specs.Prelude.{◌≡◌, ◌↔◌, IsTrue, ◌+◌, ◌-◌, ◌≤◌};
+ghost use Rattle.std.specs.Prelude.{◌≡◌, ◌↔◌, IsTrue, ◌+◌, ◌-◌, ◌*◌, ◌≤◌};
 ghost use Rattle.motion_numbers.specs.Run.{run_of};
 ghost use Rattle.jerk_core.specs.Braking.{braked_of, way_of};
 
@@ -12,7 +12,7 @@ pub fn braked(d: u64, j: u64, last: u64, speed: u64) -> u64
     requires d_most { d ≤ MOST_STEP }
     requires j_least { 1 ≤ j }
     requires j_most { j ≤ MOST_STEP }
-    requires last { last ≤ MOST_STEP }
+    requires last { last ≤ 2 * MOST_STEP }
     requires speed { speed ≤ MOST_STEP }
     ensures value { result ≡ braked_of d j last speed }
 {
@@ -30,7 +30,7 @@ pub fn rest_fits(d: u64, j: u64, last: u64, speed: u64, room: u64) -> bool
     requires d_most { d ≤ MOST_STEP }
     requires j_least { 1 ≤ j }
     requires j_most { j ≤ MOST_STEP }
-    requires last { last ≤ MOST_STEP }
+    requires last { last ≤ 2 * MOST_STEP }
     requires tops { speed + run_of (speed - last - j) j ≤ MOST_STEP }
     ensures { IsTrue result ↔ (way_of d j last speed ≤ room) }
 {

@@ -6,7 +6,7 @@ ghost use Rattle.jerk_core.specs.declared.limits.JerkLimits.{JerkLimits};
 ghost use Rattle.jerk_core.specs.declared.rates.JerkRates.{JerkRates};
 ghost use Rattle.jerk_core.specs.Braking.{braked_of, way_of};
 ghost use Rattle.jerk_core.specs.Rates.{AreJerkRates, IsKeptBy, IsSafeBy};
-ghost use Rattle.jerk_core.specs.Admissible.{AreJerkLimits, IsKeptByJerk, IsKeptUp, IsKeptDown};
+ghost use Rattle.jerk_core.specs.Admissible.{AreJerkLimits, IsKeptByJerk, IsKeptUp, IsKeptDown, HasSafeSetpoint};
 
 /// Which setpoints can be stopped with limited jerk, by a list of setpoints: exactly those whose
 /// speed and change of speed can be taken back within the limits, and whose way to rest by braking
@@ -27,6 +27,21 @@ pub fn kept_without_jerk()
     ensures { (limits : JerkLimits) (first before now : ℤ) →
         AreJerkLimits limits → IsKeptByJerk limits first before now →
         IsKept limits.axis before now }
+{}
+
+/// From every kept motion some setpoint is safe, so that whatever is wanted in each cycle, the axis
+/// goes on within its limits for ever.
+pub fn kept_motions_go_on()
+    ensures { (limits : JerkLimits) (first before now : ℤ) →
+        AreJerkLimits limits → IsKeptByJerk limits first before now →
+        HasSafeSetpoint limits first before now }
+{}
+
+/// An axis that stands within its limits is kept.
+pub fn standing_is_kept_by_jerk()
+    ensures { (limits : JerkLimits) (now : ℤ) →
+        AreJerkLimits limits → limits.axis.lo ≤ℤ now → now ≤ℤ limits.axis.hi →
+        IsKeptByJerk limits now now now }
 {}
 
 /// The safe speeds after a kept motion are the whole numbers from the braked speed to a greatest

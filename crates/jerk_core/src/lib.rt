@@ -7,10 +7,17 @@ mod ahead;
 mod braking;
 mod laws;
 mod limits;
+mod motions;
 mod rates;
+mod taking;
 
 pub use ahead::{greatest_left, greatest_safe, keeps};
 pub use braking::{braked, rest_fits};
-pub use laws::{kept_is_stoppable, kept_without_jerk, safe_speeds_are_an_interval, ways_unfold};
+pub use laws::{
+    kept_is_stoppable, kept_motions_go_on, kept_without_jerk, safe_speeds_are_an_interval,
+    standing_is_kept_by_jerk, ways_unfold,
+};
 pub use limits::JerkLimits;
+pub use motions::{Motion, Setpoints};
 pub use rates::JerkRates;
+pub use taking::nearest_safe;

@@ -24,7 +24,7 @@ fewer : (x v s t : ℕ) → x + s ≤ v + t - 1 → 0 < v → x + s < v + t
 fewer x v s t h moves = omega arith
 
 -- a motion that doesn't pass the greatest step by braking is within it
-most_speed : (v r : ℕ) → v + r ≤ MOST_STEP → v ≤ MOST_STEP
+most_speed : (v r : ℕ) → v + r ≤ MOST_STEP → v ≤ 2 * MOST_STEP
 most_speed v r h = omega arith
 
 pub returns-then-next-left : goal.returns-then-next-left

@@ -7,7 +7,7 @@ use Rattle.jerk_core.proofs.braking.rest_fits.Given as goal
 
 abbrev pub invariant-loop-now : goal.invariant-loop-now
 invariant-loop-now l = record {
-  before : l.before ≤ MOST_STEP;
+  before : l.before ≤ 2 * MOST_STEP;
   tops : l.now + run_of (l.now - l.before - l.j) l.j ≤ MOST_STEP;
   left : way_of l.d l.j l.last l.speed + l.left ≡ l.room + way_of l.d l.j l.before l.now;
 }
