@@ -1,13 +1,13 @@
 -- Kept motions ahead: braking keeps, and the safe speeds are those from the braked speed to a greatest one.
-use Rattle.std.proofs.Common.{inl, inr, ◌≡◌, ℕ, ◌+◌, ◌-◌, ◌*◌, ◌<◌, ◌≤◌, min, arith}
+use Rattle.std.proofs.Common.{inl, inr, ◌≡◌, ℕ, ◌+◌, ◌-◌, ◌*◌, ◌<◌, ◌≤◌, min, arith, ap}
 use Rattle.std.proofs.lemmas.Bool.{cases_lt}
 use Rattle.motion_numbers.specs.Run.{run_of, reach_of}
-use Rattle.motion_numbers.proofs.Runs.{run_zero, run_unfold, run_mono}
+use Rattle.motion_numbers.proofs.Runs.{run_zero, run_unfold, run_mono, run_anti}
 use Rattle.motion_numbers.proofs.Reaches.{reach_greatest, fits_below_reach}
 use Rattle.jerk_core.specs.Braking.{braked_of, way_of, IsKeptAhead, IsKeptAfter, IsSafeAhead}
-use Rattle.jerk_core.proofs.Brakes.{reach_within, IsBraked, braked_bounds, Bound, braked_is, braked_least}
+use Rattle.jerk_core.proofs.Brakes.{reach_within, reach_some, IsBraked, braked_bounds, Bound, braked_is, braked_least}
 use Rattle.jerk_core.proofs.Brakes.Bound.{by_fall, by_change, by_reach}
-use Rattle.jerk_core.proofs.Ways.{way_unfold, way_below, way_zero}
+use Rattle.jerk_core.proofs.Ways.{way_unfold, way_below, way_zero, way_by_more}
 use Rattle.jerk_core.proofs.Ways.IsBelow.{by_speeds}
 
 -- a fall within the reach can be taken back
@@ -253,3 +253,78 @@ safe_of_left V A d j room w v x slows some kept above below left =
       rises = omega (arith, reach_within v j some);
       after = left;
     }
+
+-- what is kept by lesser rates in less room is kept
+pub kept_by_more : (V A d j room W B e k more w v : ℕ) → 0 < d → 0 < j → V ≤ W → A ≤ B → d ≤ e → j ≤ k → room ≤ more →
+    IsKeptAhead V A d j room w v → IsKeptAhead W B e k more w v
+kept_by_more V A d j room W B e k more w v slows some faster quicker harder sharper wider kept =
+    let way : way_of e k w v ≤ way_of d j w v = way_by_more d j e k w v slows some harder sharper in
+    let fits : way_of d j w v ≤ room = kept.fits in
+    let landing : run_of (w - v - k) k ≤ run_of (w - v - j) j =
+    trans_le (run_mono (w - v - k) (w - v - j) k (omega arith) (omega arith)) (run_anti (w - v - j) j k sharper) in
+    let topping : run_of (v - w - k) k ≤ run_of (v - w - j) j =
+    trans_le (run_mono (v - w - k) (v - w - j) k (omega arith) (omega arith)) (run_anti (v - w - j) j k sharper) in
+    record {
+      speed = omega (arith, kept.speed);
+      gains = omega (arith, kept.gains);
+      loses = omega (arith, kept.loses);
+      lands = omega (arith, kept.lands);
+      tops = omega (arith, kept.tops);
+      fits = omega arith;
+    }
+  where
+    trans_le : {a b c : ℕ} → a ≤ b → b ≤ c → a ≤ c
+    trans_le {a} {b} {c} h p = omega arith
+
+-- and what is safe by them is safe
+pub safe_by_more : (V A d j room W B e k more w v x : ℕ) → 0 < d → 0 < j → V ≤ W → A ≤ B → d ≤ e → j ≤ k → room ≤ more →
+    IsSafeAhead V A d j room w v x → IsSafeAhead W B e k more w v x
+safe_by_more V A d j room W B e k more w v x slows some faster quicker harder sharper wider safe =
+    let within : x ≤ room = safe.after.within in
+    record {
+      bends = omega (arith, safe.bends);
+      rises = omega (arith, safe.rises);
+      after = record {
+        within = omega arith;
+        kept = kept_by_more V A d j (room - x) W B e k (more - x) v x slows some faster quicker harder sharper (omega arith) safe.after.kept;
+      };
+    }
+
+-- from rest the speed 1 is safe in any room that has it
+pub start_safe : (V A d j room : ℕ) → 0 < V → 0 < A → 0 < d → 1 < j → 0 < room → IsSafeAhead V A d j room 0 0 1
+start_safe V A d j room moves gains slows bends some = record {
+  bends = omega arith;
+  rises = omega arith;
+  after = record {
+    within = omega arith;
+    kept = record {
+      speed = omega arith;
+      gains = omega arith;
+      loses = omega arith;
+      lands = omega (arith, still_lands);
+      tops = omega (arith, still_tops);
+      fits = omega (arith, no_way);
+    };
+  };
+}
+  where
+    still_lands : run_of (0 - 1 - j) j ≡ 0
+    still_lands = let none : 0 - 1 - j ≡ 0 = omega arith in rw none (run_zero j)
+
+    still_tops : run_of (1 - 0 - j) j ≡ 0
+    still_tops = let none : 1 - 0 - j ≡ 0 = omega arith in rw none (run_zero j)
+
+    braked_none : braked_of d j 0 1 ≡ 0
+    braked_none = by_bound (braked_of d j 0 1) (braked_is d j 0 1 (omega arith))
+      where
+        by_bound : (x : ℕ) → Bound d j 0 1 x → x ≡ 0
+        by_bound x (by_fall is) = omega arith
+        by_bound x (by_change is) = omega arith
+        by_bound x (by_reach is) = omega (arith, reach_some 1 j (omega arith) (omega arith))
+
+    no_way : way_of d j 0 1 ≡ 0
+    no_way =
+        let unfolds : way_of d j 0 1 ≡ braked_of d j 0 1 + way_of d j 1 (braked_of d j 0 1) = way_unfold d j 0 1 slows (omega arith) in
+        let rests : way_of d j 1 0 ≡ 0 = way_zero d j 1 slows (omega arith) in
+        let same : way_of d j 1 (braked_of d j 0 1) ≡ way_of d j 1 0 = ap (λ x. way_of d j 1 x) braked_none in
+        omega (arith, braked_none)

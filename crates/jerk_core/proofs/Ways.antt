@@ -3,6 +3,8 @@ use Rattle.std.proofs.Common.{inl, inr, ◌≡◌, ℕ, ◌+◌, ◌-◌, ◌*�
 use Rattle.std.proofs.lemmas.Bool.{cases_lt}
 use Rattle.std.proofs.lemmas.Nat.{mul-le}
 use Rattle.motion_numbers.specs.Run.{reach_of}
+use Rattle.motion_numbers.proofs.Runs.{run_anti}
+use Rattle.motion_numbers.proofs.Reaches.{reach_fits, reach_greatest}
 use Rattle.jerk_core.specs.Braking.{braked_of, braking_of, way_of}
 use Rattle.jerk_core.proofs.Brakes.{reach_within, reach_mono, reach_slow, reach_some, braked_zero, IsBraked, braked_bounds, Bound, braked_is, braked_least}
 use Rattle.jerk_core.proofs.Brakes.Bound.{by_fall, by_change, by_reach}
@@ -159,3 +161,31 @@ pub way_below : (d j w v p t : ℕ) → 0 < d → 0 < j → IsBelow d j w v p t 
 way_below d j w v p t slows some below =
     rw (way_by (v + (v - w) * (v - w) + (t + (t - p) * (t - p))) d j w v slows some (omega arith), way_by (v + (v - w) * (v - w) + (t + (t - p) * (t - p))) d j p t slows some (omega arith))
     (braking_below (v + (v - w) * (v - w) + (t + (t - p) * (t - p))) d j w v p t some below)
+
+-- what brakes by less brakes by more too
+pub braked_by_more : (d j e k w v x : ℕ) → 0 < j → d ≤ e → j ≤ k → IsBraked d j w v x → IsBraked e k w v x
+braked_by_more d j e k w v x some harder sharper is =
+    let reach : reach_of v j ≤ reach_of v k = reach_greatest (reach_of v j) v k (omega arith)
+    (omega (arith, run_anti (reach_of v j) j k sharper, reach_fits v j)) in
+    record {
+      loses = omega (arith, is.loses);
+      bends = omega (arith, is.bends);
+      lands = omega (arith, is.lands);
+    }
+
+-- harder braking goes no farther
+pub braking_by_more : (n d j e k w v p t : ℕ) → 0 < j → d ≤ e → j ≤ k → IsBelow e k w v p t → braking_of n e k w v ≤ braking_of n d j p t
+braking_by_more zero d j e k w v p t some harder sharper below = omega arith
+braking_by_more (suc n) d j e k w v p t some harder sharper below =
+    let next : IsBelow e k v (braked_of e k w v) t (braked_of d j p t) =
+    below_step e k w v p t (braked_of d j p t) (omega arith) below
+    (braked_by_more d j e k p t (braked_of d j p t) some harder sharper (braked_bounds d j p t some)) in
+    let first : braked_of e k w v ≤ braked_of d j p t = below_speed _ _ _ _ _ _ next in
+    let rest : braking_of n e k v (braked_of e k w v) ≤ braking_of n d j t (braked_of d j p t) =
+    braking_by_more n d j e k v (braked_of e k w v) t (braked_of d j p t) some harder sharper next in
+    omega arith
+
+pub way_by_more : (d j e k w v : ℕ) → 0 < d → 0 < j → d ≤ e → j ≤ k → way_of e k w v ≤ way_of d j w v
+way_by_more d j e k w v slows some harder sharper =
+    rw (way_by (v + (v - w) * (v - w)) e k w v (omega arith) (omega arith) (omega arith), way_by (v + (v - w) * (v - w)) d j w v slows some (omega arith))
+    (braking_by_more (v + (v - w) * (v - w)) d j e k w v w v some harder sharper (by_speeds (omega arith) (omega arith)))

@@ -26,3 +26,10 @@ IsLeftBy rates room v x = IsKeptAfter rates.v rates.a rates.d rates.j room v x
 -- the speed x may follow the motion by the rates, and leaves one that is kept by them
 abbrev pub IsSafeBy : JerkRates → ℕ → ℕ → ℕ → ℕ → Type 0
 IsSafeBy rates room w v x = IsSafeAhead rates.v rates.a rates.d rates.j room w v x
+
+-- the rates of a command are within the limits
+pub record AreRatesWithin (own rates : JerkRates) : Type 0 where
+  pub v : own.v ≤ rates.v
+  pub a : own.a ≤ rates.a
+  pub d : own.d ≤ rates.d
+  pub j : own.j ≤ rates.j

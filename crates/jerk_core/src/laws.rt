@@ -5,7 +5,7 @@ ghost use Rattle.kin_core.specs.Admissible.{IsKept};
 ghost use Rattle.jerk_core.specs.declared.limits.JerkLimits.{JerkLimits};
 ghost use Rattle.jerk_core.specs.declared.rates.JerkRates.{JerkRates};
 ghost use Rattle.jerk_core.specs.Braking.{braked_of, way_of};
-ghost use Rattle.jerk_core.specs.Rates.{AreJerkRates, IsKeptBy, IsSafeBy};
+ghost use Rattle.jerk_core.specs.Rates.{AreJerkRates, AreRatesWithin, IsKeptBy, IsSafeBy};
 ghost use Rattle.jerk_core.specs.Admissible.{AreJerkLimits, IsKeptByJerk, IsKeptUp, IsKeptDown, HasSafeSetpoint};
 
 /// Which setpoints can be stopped with limited jerk, by a list of setpoints: exactly those whose
@@ -55,6 +55,23 @@ pub fn safe_speeds_are_an_interval()
     ensures between { (rates : JerkRates) (room w v x y : ℕ) →
         AreJerkRates rates → IsKeptBy rates room w v → braked_of rates.d rates.j w v ≤ x → x ≤ y →
         IsSafeBy rates room w v y → IsSafeBy rates room w v x }
+{}
+
+/// What a command's own rates keep in the way to its target, the limits keep in the room: so a step
+/// that is safe by them is safe by the limits, and is taken.
+pub fn lesser_rates_are_kept()
+    ensures kept { (own rates : JerkRates) (way room w v : ℕ) →
+        AreJerkRates own → AreRatesWithin own rates → way ≤ room →
+        IsKeptBy own way w v → IsKeptBy rates room w v }
+    ensures safe { (own rates : JerkRates) (way room w v x : ℕ) →
+        AreJerkRates own → AreRatesWithin own rates → way ≤ room →
+        IsSafeBy own way w v x → IsSafeBy rates room w v x }
+{}
+
+/// From rest the speed 1 is safe wherever there is room for it.
+pub fn rest_can_be_left()
+    ensures { (rates : JerkRates) (room : ℕ) →
+        AreJerkRates rates → 0 < room → IsSafeBy rates room 0 0 1 }
 {}
 
 /// The way to rest is the braked speed and the way to rest from there; there is none from rest.
