@@ -521,3 +521,17 @@ standing_by_jerk limits now ok above below =
     (kept_up_of limits now now now (unsigned_abs (limits.axis.hi -ℤ now)) 0 0
     (record { last = omega (arith, ints); speed = omega (arith, ints); room_is = omega (arith, ints); other = above })
     (standing_kept _ _ _ _ _ (omega (arith, ints)) (omega (arith, ints))))
+
+-- setpoints that make a kept motion upward are kept
+pub kept_by_motion_up : (limits : JerkLimits) (first before now : ℤ) (motion : Motion) → AreJerkLimits limits → limits.axis.lo ≤ℤ now → now ≤ℤ limits.axis.hi →
+    IsMotionUp limits first before now motion → IsKeptBy (rates_of limits) motion.ahead motion.last motion.speed → IsKeptByJerk limits first before now
+kept_by_motion_up limits first before now motion ok above below counts kept =
+    kept_of_up limits first before now ok above below
+    (kept_up_of limits first before now motion.ahead motion.last motion.speed (up_of_motion limits first before now motion counts) kept)
+
+-- and downward
+pub kept_by_motion_down : (limits : JerkLimits) (first before now : ℤ) (motion : Motion) → AreJerkLimits limits → limits.axis.lo ≤ℤ now → now ≤ℤ limits.axis.hi →
+    IsMotionDown limits first before now motion → IsKeptBy (rates_of limits) motion.ahead motion.last motion.speed → IsKeptByJerk limits first before now
+kept_by_motion_down limits first before now motion ok above below counts kept =
+    kept_of_down limits first before now ok above below
+    (kept_down_of limits first before now motion.ahead motion.last motion.speed (down_of_motion limits first before now motion counts) kept)

@@ -5,6 +5,7 @@
 
 mod ahead;
 mod braking;
+mod keeping;
 mod laws;
 mod limits;
 mod motions;
@@ -13,6 +14,7 @@ mod taking;
 
 pub use ahead::{greatest_left, greatest_safe, keeps};
 pub use braking::{braked, rest_fits};
+pub use keeping::is_kept;
 pub use laws::{
     kept_is_stoppable, kept_motions_go_on, kept_without_jerk, lesser_rates_are_kept,
     rest_can_be_left, safe_speeds_are_an_interval, standing_is_kept_by_jerk, ways_unfold,

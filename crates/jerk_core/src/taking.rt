@@ -30,14 +30,14 @@ pub fn nearest_safe(limits: &JerkLimits, at: &Setpoints, wanted: i64) -> i64
 }
 
 // Whether the setpoints rise.
-fn rises(at: &Setpoints) -> bool
+pub(crate) fn rises(at: &Setpoints) -> bool
     ensures { IsTrue result ↔ ((at.now.first ≤ℤ at.now.before) × (at.now.before ≤ℤ at.now.current)) }
 {
     at.first <= at.before && at.before <= at.current
 }
 
 // The limits of step and of its changes, as sizes.
-fn sizes(limits: &JerkLimits) -> JerkRates
+pub(crate) fn sizes(limits: &JerkLimits) -> JerkRates
     requires limits { AreJerkLimits limits.now }
     ensures value { result ≡ rates_of limits.now }
     ensures ranges { AreJerkRates result }
@@ -59,9 +59,9 @@ fn size_between(low: i64, high: i64) -> u64
 }
 
 // The motion that three rising setpoints make.
-fn upward(limits: &JerkLimits, at: &Setpoints) -> Motion
-    requires limits { AreJerkLimits limits.now }
-    requires kept { IsKeptByJerk limits.now at.now.first at.now.before at.now.current }
+pub(crate) fn upward(limits: &JerkLimits, at: &Setpoints) -> Motion
+    requires above { limits.now.axis.lo ≤ℤ at.now.current }
+    requires below { at.now.current ≤ℤ limits.now.axis.hi }
     requires rises { at.now.first ≤ℤ at.now.before }
     requires rises_on { at.now.before ≤ℤ at.now.current }
     ensures is { IsMotionUp limits.now at.now.first at.now.before at.now.current result }
@@ -75,9 +75,9 @@ fn upward(limits: &JerkLimits, at: &Setpoints) -> Motion
 }
 
 // The motion that three falling setpoints make.
-fn downward(limits: &JerkLimits, at: &Setpoints) -> Motion
-    requires limits { AreJerkLimits limits.now }
-    requires kept { IsKeptByJerk limits.now at.now.first at.now.before at.now.current }
+pub(crate) fn downward(limits: &JerkLimits, at: &Setpoints) -> Motion
+    requires above { limits.now.axis.lo ≤ℤ at.now.current }
+    requires below { at.now.current ≤ℤ limits.now.axis.hi }
     requires falls { at.now.before ≤ℤ at.now.first }
     requires falls_on { at.now.current ≤ℤ at.now.before }
     ensures is { IsMotionDown limits.now at.now.first at.now.before at.now.current result }

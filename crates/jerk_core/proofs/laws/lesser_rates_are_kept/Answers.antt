@@ -1,5 +1,5 @@
 -- The lemmas on lesser rates.
-use Rattle.std.proofs.Common.{◌<◌, ◌≤◌, arith}
+use Rattle.std.proofs.Common.{arith}
 use Rattle.jerk_core.proofs.KeptMotions.{kept_by_more, safe_by_more}
 use Rattle.jerk_core.proofs.laws.lesser_rates_are_kept.Goals as goal
 

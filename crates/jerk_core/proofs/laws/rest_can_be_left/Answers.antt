@@ -1,5 +1,5 @@
 -- The speed 1 brakes to none at once.
-use Rattle.std.proofs.Common.{◌<◌, arith}
+use Rattle.std.proofs.Common.{arith}
 use Rattle.jerk_core.proofs.KeptMotions.{start_safe}
 use Rattle.jerk_core.proofs.laws.rest_can_be_left.Goals as goal
 
