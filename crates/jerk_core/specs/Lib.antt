@@ -1,0 +1,4 @@
+pub mod Braking
+pub mod Rates
+pub mod Admissible
+pub mod Taken

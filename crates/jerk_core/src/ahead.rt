@@ -1,0 +1,104 @@
+// Kept motions and safe speeds, counted in the direction of the motion.
+
+ghost use Rattle.std.specs.Prelude.{◌≡◌, ◌↔◌, IsTrue, ℕ, ◌+◌, ◌-◌, ◌*◌, ◌≤◌, min, max};
+ghost use Rattle.motion_numbers.specs.Run.{run_of, reach_of};
+ghost use Rattle.jerk_core.specs.Braking.{braked_of, way_of};
+ghost use Rattle.jerk_core.specs.Rates.{AreJerkRates, IsKeptBy, IsLeftBy, IsSafeBy};
+
+use crate::braking::{braked, rest_fits};
+use crate::rates::JerkRates;
+use motion_numbers::{MOST_STEP, greatest_ramp, way_fits};
+
+/// Whether the motion with the speeds `last` and `speed` keeps the rates, and can keep them until
+/// it has come to rest within the room.
+pub fn keeps(rates: &JerkRates, room: u64, last: u64, speed: u64) -> bool
+    requires rates { AreJerkRates rates.now }
+    requires last { last ≤ 2 * MOST_STEP }
+    requires speed { speed ≤ MOST_STEP }
+    ensures { IsTrue result ↔ IsKeptBy rates.now room last speed }
+{
+    speed <= rates.v
+        && speed <= last + rates.a
+        && last <= speed + rates.d
+        && way_fits(
+            last.saturating_sub(speed).saturating_sub(rates.j),
+            rates.j,
+            speed,
+        )
+        && way_fits(
+            speed.saturating_sub(last).saturating_sub(rates.j),
+            rates.j,
+            rates.v - speed,
+        )
+        && rest_fits(rates.d, rates.j, last, speed, room)
+}
+
+/// The greatest speed up to `most` that may follow the motion and leaves a kept one; where none
+/// does, the braked speed, which always does.
+pub fn greatest_safe(rates: &JerkRates, room: u64, last: u64, speed: u64, most: u64) -> u64
+    requires rates { AreJerkRates rates.now }
+    requires last { last ≤ 2 * MOST_STEP }
+    requires kept { IsKeptBy rates.now room last speed }
+    ensures safe { IsSafeBy rates.now room last speed result }
+    ensures greatest { (x : ℕ) → IsSafeBy rates.now room last speed x → x ≤ most → x ≤ result }
+    ensures within { result ≤ max most (braked_of rates.now.d rates.now.j last speed) }
+{
+    let least = braked(rates.d, rates.j, last, speed);
+    let top = fastest(rates, last, speed).min(most);
+    if top <= least {
+        least
+    } else {
+        greatest_left(rates, room, speed, least, top)
+    }
+}
+
+// The greatest speed that may follow the motion, wherever it is: by the changes of speed alone.
+fn fastest(rates: &JerkRates, last: u64, speed: u64) -> u64
+    requires rates { AreJerkRates rates.now }
+    requires last { last ≤ 2 * MOST_STEP }
+    requires speed { speed ≤ rates.now.v }
+    ensures value { result ≡ min (2 * speed + rates.now.j - last) (speed + min rates.now.a (reach_of (rates.now.v - speed) rates.now.j)) }
+{
+    let rise = greatest_ramp(rates.v - speed, rates.j, rates.a);
+    (2 * speed + rates.j).saturating_sub(last).min(speed + rise)
+}
+
+/// The greatest speed from `least` up to `most` that leaves a kept motion after `speed`, where
+/// `least` leaves one, and `most` doesn't pass the rates.
+pub fn greatest_left(rates: &JerkRates, room: u64, speed: u64, least: u64, most: u64) -> u64
+    requires rates { AreJerkRates rates.now }
+    requires speed { speed ≤ rates.now.v }
+    requires order { least ≤ most }
+    requires gains { most ≤ speed + rates.now.a }
+    requires tops { most ≤ speed + reach_of (rates.now.v - speed) rates.now.j }
+    requires left { IsLeftBy rates.now room speed least }
+    ensures left { IsLeftBy rates.now room speed result }
+    ensures above { least ≤ result }
+    ensures below { result ≤ most }
+    ensures greatest { (x : ℕ) → IsLeftBy rates.now room speed x → x ≤ most → x ≤ result }
+{
+    if leaves_rest(rates, room, speed, most) {
+        return most;
+    }
+    let mut fits = least;
+    let mut fails = most;
+    while fails - fits > 1 {
+        let middle = fits + (fails - fits) / 2;
+        if leaves_rest(rates, room, speed, middle) {
+            fits = middle;
+        } else {
+            fails = middle;
+        }
+    }
+    fits
+}
+
+// Whether the speed `next` after `speed` and the way to rest after it fit the room.
+fn leaves_rest(rates: &JerkRates, room: u64, speed: u64, next: u64) -> bool
+    requires rates { AreJerkRates rates.now }
+    requires speed { speed ≤ rates.now.v }
+    requires tops { next ≤ speed + reach_of (rates.now.v - speed) rates.now.j }
+    ensures { IsTrue result ↔ ((next ≤ room) × (way_of rates.now.d rates.now.j speed next ≤ room - next)) }
+{
+    next <= room && rest_fits(rates.d, rates.j, speed, next, room - next)
+}

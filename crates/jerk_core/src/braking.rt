@@ -1,0 +1,50 @@
+// Braking with limited jerk, in the direction of the motion.
+
+ghost use Rattle.std.specs.Prelude.{◌≡◌, ◌↔◌, IsTrue, ◌+◌, ◌-◌, ◌*◌, ◌≤◌};
+ghost use Rattle.motion_numbers.specs.Run.{run_of};
+ghost use Rattle.jerk_core.specs.Braking.{braked_of, way_of};
+
+use motion_numbers::{MOST_STEP, greatest_ramp};
+
+/// The least speed that may follow the speeds `last` and `speed`, in internal units per cycle: it
+/// falls by at most `d`, and its change by at most `j`, so that its fall can be taken back.
+pub fn braked(d: u64, j: u64, last: u64, speed: u64) -> u64
+    requires d_most { d ≤ MOST_STEP }
+    requires j_least { 1 ≤ j }
+    requires j_most { j ≤ MOST_STEP }
+    requires last { last ≤ 2 * MOST_STEP }
+    requires speed { speed ≤ MOST_STEP }
+    ensures value { result ≡ braked_of d j last speed }
+{
+    let bend = last + j;
+    if bend < speed {
+        speed + (speed - bend)
+    } else {
+        speed - greatest_ramp(speed, j, d.min(bend - speed))
+    }
+}
+
+/// Whether the way to rest by braking fits the room. It goes through the cycles of braking.
+pub fn rest_fits(d: u64, j: u64, last: u64, speed: u64, room: u64) -> bool
+    requires d_least { 1 ≤ d }
+    requires d_most { d ≤ MOST_STEP }
+    requires j_least { 1 ≤ j }
+    requires j_most { j ≤ MOST_STEP }
+    requires last { last ≤ 2 * MOST_STEP }
+    requires tops { speed + run_of (speed - last - j) j ≤ MOST_STEP }
+    ensures { IsTrue result ↔ (way_of d j last speed ≤ room) }
+{
+    let mut before = last;
+    let mut now = speed;
+    let mut left = room;
+    while now > 0 {
+        let next = braked(d, j, before, now);
+        if next > left {
+            return false;
+        }
+        left -= next;
+        before = now;
+        now = next;
+    }
+    true
+}
