@@ -1,7 +1,7 @@
 -- The marks that part the keys and values of a text, as they stand outside strings and comments. TOML
 -- 1.1, "Comment", "String"; the bounds are this project's profile. A configuration has at most 330
 -- marks, with each item in a table of its own that has each of its keys, and 82,000 commas.
-use Rattle.std.specs.Prelude.{ℕ, ◌+◌, suc, ◌==◌, ◌&&◌, ◌||◌, Bool, true, false, nat_lt, if◌then◌else◌, Option, Some, None, List, [], ◌∷◌}
+use Rattle.std.specs.Prelude.{ℕ, ◌+◌, ◌==◌, ◌&&◌, ◌||◌, Bool, true, false, nat_lt, if◌then◌else◌, Option, Some, None, List, [], ◌∷◌}
 use Rattle.machine_config.specs.declared.mark.Scan.{Scan}
 use Rattle.machine_config.specs.declared.mark.Spot.{Spot}
 use Rattle.machine_config.specs.declared.mark.Spot.TheVariants as spot

@@ -1,5 +1,5 @@
 -- Where a blank line ends.
-use Rattle.std.specs.Prelude.{◌≡◌, refl, ℕ, ◌<◌, ◌≤◌, None, List, [], ◌∷◌, length}
+use Rattle.std.specs.Prelude.{◌≡◌, refl, ℕ, ◌≤◌, None, List, [], ◌∷◌, length}
 use Rattle.std.proofs.Common.{arith}
 use Rattle.piece_text.specs.reading.Reading.{blank_line_from}
 

@@ -1,6 +1,6 @@
 -- What a head can hold: a machine of a configuration, each of whose numbers has the bits of its
 -- type. This project's profile.
-use Rattle.std.specs.Prelude.{◌≡◌, ◌<◌, ◌≤◌, ℕ, ℤ, Option, Some, None, List, IfSome, IsTrue, length}
+use Rattle.std.specs.Prelude.{◌≡◌, ◌<◌, ◌≤◌, ℕ, ℤ, List, IfSome, IsTrue, length}
 use Rattle.std.specs.List.{AllByRecursion, AllZip}
 use Rattle.std.proofs.Common.{FitsSigned, w64}
 use Rattle.axis_core.specs.declared.axis.Axis.{Axis}
@@ -15,7 +15,6 @@ use Rattle.fb_outputs.specs.InstanceState.{InstanceState}
 use Rattle.fb_outputs.specs.declared.instance.Progress.{Progress}
 use Rattle.fb_outputs.specs.declared.instance.Progress.TheVariants as progress
 use Rattle.group_core.specs.Tracks.{OnPath, Way}
-use Rattle.group_core.specs.declared.group.Motion.{Motion}
 use Rattle.kin_core.specs.declared.limits.Limits.{Limits}
 use Rattle.motion_history.specs.Setup.{Setup}
 use Rattle.motion_history.specs.declared.config.BlockDef.{BlockDef}

@@ -1,5 +1,5 @@
 -- The records of a piece's head: its lines, field by field. This project's profile.
-use Rattle.std.specs.Prelude.{ℕ, ℤ, Option, Some, None, List, [], ◌∷◌, ◌++◌, codes, decimal}
+use Rattle.std.specs.Prelude.{ℕ, Option, Some, None, List, [], ◌∷◌, ◌++◌, codes, decimal}
 use Rattle.axis_core.specs.declared.axis.Axis.{Axis}
 use Rattle.buffer_modes.specs.declared.reset.PendingReset.{PendingReset}
 use Rattle.fb_outputs.specs.InstanceState.{InstanceState}

@@ -1,6 +1,6 @@
 -- Chains: operands of one level of the grammar, joined from the left. IEC 61131-3, "Expressions"; which
 -- operators have a level of their own is this project's grammar in docs/formats.md.
-use Rattle.std.specs.Prelude.{◌≡◌, Bool, true, false, if◌then◌else◌, Option, Some, None, List, [], ◌∷◌, ◌++◌, ◌-◌, length, slice_get}
+use Rattle.std.specs.Prelude.{◌≡◌, Bool, true, false, if◌then◌else◌, Option, List, [], ◌∷◌, ◌++◌, ◌-◌, length, slice_get}
 use Rattle.std.specs.Option.{option_map_or}
 use Rattle.st_tree.specs.declared.expression.Expr.{Expr}
 use Rattle.st_tree.specs.declared.expression.Expr.TheOpen.{Expr-F}

@@ -1,5 +1,5 @@
 -- What tasks and declarations do. This project's profile.
-use Rattle.std.specs.Prelude.{ℕ, suc, ◌+◌, ◌-◌, ℤ, pos, neg_ℤ, Bool, true, false, not, ◌&&◌, nat_le, nat_lt, min, if◌then◌else◌, is_none, is_some, Option, Some, None, List, [], ◌∷◌, ◌++◌, length}
+use Rattle.std.specs.Prelude.{ℕ, suc, ◌-◌, ℤ, pos, neg_ℤ, Bool, false, not, ◌&&◌, nat_le, nat_lt, min, if◌then◌else◌, is_none, Option, Some, None, List, [], ◌∷◌, ◌++◌, length}
 use Rattle.std.specs.Option.{option_map_or}
 use Rattle.command_pool.specs.declared.kind.BlockKind.{BlockKind}
 use Rattle.machine_words.specs.Names.{object_at}
@@ -10,7 +10,6 @@ use Rattle.motion_history.specs.declared.config.BlockDef.{BlockDef}
 use Rattle.motion_history.specs.declared.fault.ConfigFault.{ConfigFault}
 use Rattle.st_check.specs.Checked.{Checked, broken_unless, lost_unless, with_part}
 use Rattle.st_check.specs.Names.{is_taken}
-use Rattle.st_check.specs.declared.known.Known.{Known}
 use Rattle.st_check.specs.declared.known.Sort.{Sort}
 use Rattle.st_check.specs.declared.known.Sort.TheVariants as sort
 use Rattle.st_check.specs.declared.known.ValueType.{ValueType}

@@ -1,6 +1,6 @@
 -- What the parts of expressions do. This project's profile.
-use Rattle.std.specs.Prelude.{ℕ, ◌-◌, suc, Bool, true, false, not, ◌&&◌, nat_lt, if◌then◌else◌, is_some, Option, Some, None, List, [], ◌∷◌, ◌++◌}
-use Rattle.st_check.specs.Checked.{Checked, broken_unless, lost_unless, mistyped_unless, with_part}
+use Rattle.std.specs.Prelude.{ℕ, ◌-◌, suc, Bool, false, nat_lt, if◌then◌else◌, is_some, Option, Some, None, List, [], ◌∷◌, ◌++◌}
+use Rattle.st_check.specs.Checked.{Checked, broken_unless, lost_unless, mistyped_unless}
 use Rattle.st_check.specs.Declarations.{fits, signed}
 use Rattle.st_check.specs.Names.{sort_of}
 use Rattle.st_check.specs.Typed.{is_same, joins, last_of, rest_of, type_by}

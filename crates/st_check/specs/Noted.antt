@@ -1,5 +1,5 @@
 -- What each note of the grammar's table does. This project's profile.
-use Rattle.std.specs.Prelude.{ℕ, true, false}
+use Rattle.std.specs.Prelude.{ℕ}
 use Rattle.st_grammar.specs.declared.note.Note.{Note}
 use Rattle.st_grammar.specs.declared.note.Note.TheVariants as note
 use Rattle.st_check.specs.Checked.{Checked, with_part}

@@ -1,14 +1,14 @@
 -- What the parts of statements do. This project's profile.
-use Rattle.std.specs.Prelude.{ℕ, ◌+◌, ◌-◌, suc, ◌==◌, Bool, true, false, not, ◌&&◌, ◌||◌, nat_le, nat_lt, max, if◌then◌else◌, codes, is_some, Option, Some, None, List, [], ◌∷◌, ◌++◌}
+use Rattle.std.specs.Prelude.{ℕ, suc, Bool, true, false, not, ◌||◌, nat_le, nat_lt, max, if◌then◌else◌, is_some, Option, Some, None, List}
 use Rattle.std.specs.Option.{option_map_or}
 use Rattle.fb_outputs.specs.Names.{mode_named}
 use Rattle.machine_words.specs.Names.{axis_at}
-use Rattle.st_check.specs.Checked.{Checked, broken_unless, lost_unless, mistyped_unless, with_part}
+use Rattle.st_check.specs.Checked.{Checked, broken_unless, lost_unless, with_part}
 use Rattle.st_check.specs.Declarations.{fits, signed}
 use Rattle.st_check.specs.Expressions.{closes, opens, taken}
 use Rattle.st_check.specs.Keys.{key_of_slot, rank_of, slot_of}
 use Rattle.st_check.specs.Names.{sort_of}
-use Rattle.st_check.specs.Typed.{is_same, last_of, rest_of}
+use Rattle.st_check.specs.Typed.{rest_of}
 use Rattle.st_check.specs.declared.known.Callee.{Callee}
 use Rattle.st_check.specs.declared.known.Slot.{Slot}
 use Rattle.st_check.specs.declared.known.Sort.{Sort}

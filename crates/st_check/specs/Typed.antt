@@ -1,5 +1,5 @@
 -- The types of operands. IEC 61131-3, in this project's profile.
-use Rattle.std.specs.Prelude.{ℕ, Bool, true, false, ◌&&◌, List, [], ◌∷◌}
+use Rattle.std.specs.Prelude.{Bool, true, false, ◌&&◌, List, [], ◌∷◌}
 use Rattle.st_check.specs.declared.known.ValueType.{ValueType}
 use Rattle.st_check.specs.declared.known.ValueType.TheVariants as type
 use Rattle.st_tree.specs.declared.expression.Operator.{Operator}

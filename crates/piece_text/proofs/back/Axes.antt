@@ -1,5 +1,5 @@
 -- Axes: what is written of one is read as it, and what is read is spelled so.
-use Rattle.std.specs.Prelude.{◌≡◌, refl, ℕ, ◌<◌, ℤ, Bool, Option, Some, None, IfSome, List, [], ◌∷◌, ◌++◌, decimal, drop}
+use Rattle.std.specs.Prelude.{◌≡◌, refl, ℕ, ◌<◌, ℤ, Bool, Option, Some, IfSome, List, ◌∷◌, decimal, drop}
 use Rattle.std.specs.Fmt.{signed_decimal}
 use Rattle.std.proofs.Common.{subst, sym}
 use Rattle.line_text.specs.Numbers.{◌>>=◌}

@@ -1,6 +1,5 @@
 -- Commands: what is written of one is read as it, and what is read is spelled so.
-use Rattle.std.specs.Prelude.{◌≡◌, refl, ℕ, ℤ, Bool, true, false, cond, Option, Some, None, IfSome, List, [], ◌∷◌, ◌++◌, codes, decimal, length}
-use Rattle.std.specs.Fmt.{signed_decimal}
+use Rattle.std.specs.Prelude.{◌≡◌, refl, ℕ, ℤ, Option, Some, None, IfSome, List, [], ◌∷◌, ◌++◌, codes}
 use Rattle.std.specs.Str.{bytes_eq}
 use Rattle.std.proofs.Common.{◌∙◌, ap, arith, subst}
 use Rattle.command_pool.specs.declared.rates.Rates.{Rates}
@@ -10,13 +9,13 @@ use Rattle.command_pool.specs.declared.wanted.Wanted.{Wanted}
 use Rattle.fb_outputs.specs.Names.{kind_named, mode_named}
 use Rattle.fb_outputs.proofs.NameLaws.{kind_named-kind_name, mode_named-mode_name}
 use Rattle.line_text.specs.Texts.{says}
-use Rattle.piece_text.specs.Fields.{follow_fields, owner_text, target_text}
-use Rattle.piece_text.specs.Held.{AreRates, AreSix, IsFollow, IsWanted, IsWide}
+use Rattle.piece_text.specs.Fields.{follow_fields}
+use Rattle.piece_text.specs.Held.{AreRates, AreSix, IsFollow, IsWanted}
 use Rattle.piece_text.specs.WantedFields.{active_fields, numbers_fields, rates_fields, wanted_fields}
 use Rattle.piece_text.specs.reading.Columns.{byte_of, owner_of, target_of, word_of}
 use Rattle.piece_text.specs.reading.Commands.{active_of, cam_of, follow_of, gear_of, numbers_of, rates_of, six_of, wanted_of}
 use Rattle.trace_columns.proofs.NumberLaws.{same-bytes}
-use Rattle.piece_text.proofs.back.Columns.{IsField, byte-back, kind-only, mode-only, owner-back, owner-only, target-back, target-only, unsigned-only, wide-only, word-back}
+use Rattle.piece_text.proofs.back.Columns.{byte-back, kind-only, mode-only, owner-back, owner-only, target-back, target-only, unsigned-only, wide-only, word-back}
 use Rattle.trace_columns.specs.Columns.{wide_number_of}
 use Rattle.trace_columns.proofs.BackLaws.{wide-back}
 use Rattle.trace_text.proofs.read.ColumnRanges.{opt-both}

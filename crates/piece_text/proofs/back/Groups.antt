@@ -1,5 +1,5 @@
 -- Groups: what is written of one is read as it, and what is read is spelled so.
-use Rattle.std.specs.Prelude.{◌≡◌, refl, ℕ, Some, IfSome, List, ◌∷◌, ◌++◌, drop}
+use Rattle.std.specs.Prelude.{◌≡◌, refl, ℕ, Some, List, ◌∷◌, ◌++◌, drop}
 use Rattle.std.proofs.Common.{◌∙◌, ap, subst}
 use Rattle.motion_history.specs.declared.config.GroupDef.{GroupDef}
 use Rattle.motion_kernel.specs.Machine.{PlacedGroup}

@@ -1,10 +1,9 @@
 -- Instances: what is written of one is read as it, and what is read is spelled so.
-use Rattle.std.specs.Prelude.{◌≡◌, refl, ℕ, Bool, Option, Some, List, [], ◌∷◌, codes, drop}
+use Rattle.std.specs.Prelude.{◌≡◌, refl, ℕ, Bool, Some, List, [], ◌∷◌, codes, drop}
 use Rattle.std.specs.Str.{bytes_eq}
 use Rattle.std.proofs.Common.{◌∙◌, ap, subst, sym}
 use Rattle.command_pool.specs.declared.ending.Finish.{Finish}
 use Rattle.command_pool.specs.declared.ending.Finish.TheVariants as finish
-use Rattle.command_pool.specs.declared.kind.BlockKind.{BlockKind}
 use Rattle.fb_outputs.specs.InstanceState.{InstanceState}
 use Rattle.fb_outputs.specs.declared.instance.Progress.{Progress}
 use Rattle.fb_outputs.specs.declared.instance.Progress.TheVariants as progress

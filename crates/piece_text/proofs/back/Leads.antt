@@ -1,11 +1,9 @@
 -- Records of a head that are read one behind the other.
-use Rattle.std.specs.Prelude.{◌≡◌, refl, ℕ, suc, zero, ◌+◌, ◌-◌, ◌≤◌, ◌<◌, ◌^◌, ◌==◌, ◌&&◌, Bool, true, false, not, nat_le, Option, Some, Result, Ok, Err, List, [], ◌∷◌, ◌++◌, codes, length, map, slice_get, slice_index_or, slice_set}
+use Rattle.std.specs.Prelude.{◌≡◌, refl, ℕ, suc, zero, ◌+◌, ◌-◌, ◌≤◌, ◌<◌, ◌^◌, Some, Result, Ok, Err, List, [], ◌∷◌, ◌++◌, codes, length, map, slice_get, slice_index_or, slice_set}
 use Rattle.std.specs.List.{AllByRecursion, AllZip}
-use Rattle.std.specs.Option.{ok_or}
 use Rattle.std.proofs.Common.{◌∙◌, ap, append_assoc, arith, subst, sym}
 use Rattle.std.proofs.lemmas.Bool.{le-leb, ne_eqb}
 use Rattle.std.proofs.lemmas.List.{append-nil, length-append, map-append}
-use Rattle.command_pool.specs.Waiting.{queue_of}
 use Rattle.command_pool.specs.declared.wanted.Wanted.{Wanted}
 use Rattle.line_text.specs.Reading.{◌>>=◌, at_line}
 use Rattle.line_text.specs.declared.reader.LineRefused.{LineRefused}
@@ -15,7 +13,7 @@ use Rattle.line_text.specs.Texts.{says}
 use Rattle.piece_text.specs.Held.{AreWaiting, IsWanted}
 use Rattle.piece_text.specs.Piece.{object_records}
 use Rattle.piece_text.specs.WantedFields.{waiting_fields, wanted_fields}
-use Rattle.piece_text.specs.reading.Lines.{fields_in, has_list, lines_meaning, objects_in, record_meaning, waiting_meaning}
+use Rattle.piece_text.specs.reading.Lines.{fields_in, lines_meaning, objects_in, record_meaning, waiting_meaning}
 use Rattle.piece_text.proofs.back.Commands.{wanted-back}
 use Rattle.piece_text.proofs.back.Lines.{fields-back, unended}
 use Rattle.piece_text.proofs.back.Shorts.{waiting-short}

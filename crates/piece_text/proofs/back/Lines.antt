@@ -1,12 +1,12 @@
 -- Lines: the fields of a record's line are those of which it was made, and a line is made of its
 -- fields.
-use Rattle.std.specs.Prelude.{◌≡◌, refl, ℕ, suc, ◌+◌, ◌≤◌, ◌==◌, true, false, List, [], ◌∷◌, ◌++◌, length, map}
-use Rattle.std.specs.List.{AllByRecursion, count_by, flat_map, join_with_byte, onto_first, slice_split}
+use Rattle.std.specs.Prelude.{◌≡◌, refl, ℕ, ◌+◌, ◌≤◌, ◌==◌, false, List, [], ◌∷◌, ◌++◌, length, map}
+use Rattle.std.specs.List.{AllByRecursion, count_by, onto_first, slice_split}
 use Rattle.std.proofs.Common.{◌∙◌, ap, append_assoc, arith, sym}
 use Rattle.std.proofs.lemmas.Bool.{le-leb, ne_eqb}
 use Rattle.std.proofs.lemmas.List.{append-nil}
-use Rattle.std.proofs.lemmas.List.Splits.{join_with_byte-slice_split, length-slice_split, slice_split-cons_no, slice_split-cons_yes}
-use Rattle.line_text.specs.Lines.{is_end, lines_of, without_empty_end}
+use Rattle.std.proofs.lemmas.List.Splits.{length-slice_split, slice_split-cons_no, slice_split-cons_yes}
+use Rattle.line_text.specs.Lines.{is_end, lines_of}
 use Rattle.line_text.proofs.LineLaws.{without_empty_end-cons}
 use Rattle.piece_text.specs.Piece.{lines_text}
 use Rattle.piece_text.specs.Texts.{fields_text, line_of}

@@ -1,7 +1,6 @@
 -- Paths of groups: what is written of one is read as it, and what is read is spelled so.
-use Rattle.std.specs.Prelude.{◌≡◌, refl, ℕ, ◌≤◌, ◌&&◌, ℤ, Bool, true, false, cond, nat_le, Option, Some, None, IfSome, IsTrue, List, [], ◌∷◌, ◌++◌, codes, decimal}
-use Rattle.std.specs.Fmt.{signed_decimal}
-use Rattle.std.proofs.Common.{◌∙◌, ap, append_assoc, arith, inl, inr, subst, sym}
+use Rattle.std.specs.Prelude.{◌≡◌, refl, ℕ, ◌≤◌, ◌&&◌, ℤ, false, nat_le, Option, Some, None, IfSome, IsTrue, List, [], ◌∷◌, ◌++◌, codes, decimal}
+use Rattle.std.proofs.Common.{◌∙◌, ap, append_assoc, arith, inl, inr, subst}
 use Rattle.std.specs.Str.{bytes_eq}
 use Rattle.command_pool.specs.declared.kind.BlockKind.{BlockKind}
 use Rattle.command_pool.specs.declared.kind.BlockKind.TheVariants as kind
@@ -12,19 +11,18 @@ use Rattle.group_core.specs.Tracks.{OnPath, Way}
 use Rattle.group_core.specs.declared.group.Motion.{Motion}
 use Rattle.kin_core.specs.declared.limits.Limits.{Limits}
 use Rattle.line_text.specs.Texts.{says}
-use Rattle.piece_text.specs.Held.{AreSix, AreWideLimits, IsOnPath, IsWay, IsWide}
-use Rattle.piece_text.specs.Records.{count_fields, limits_fields, motion_fields, path_fields, way_fields}
+use Rattle.piece_text.specs.Held.{AreWideLimits, IsOnPath, IsWay, IsWide}
+use Rattle.piece_text.specs.Records.{limits_fields, motion_fields, path_fields, way_fields}
 use Rattle.piece_text.specs.WantedFields.{active_fields, numbers_fields, wanted_fields}
 use Rattle.piece_text.specs.reading.Columns.{byte_of}
 use Rattle.piece_text.specs.reading.Commands.{six_of}
 use Rattle.piece_text.specs.reading.Groups.{are_places, limits_of, motion_by, motion_of, on_path_of, path_of, way_by, way_of}
 use Rattle.trace_columns.proofs.NumberLaws.{same-bytes}
-use Rattle.piece_text.proofs.back.Columns.{byte-back, either-some, unsigned-only, wide-only}
-use Rattle.piece_text.proofs.back.Commands.{IsFields, IsFront, six-back, six-only}
+use Rattle.piece_text.proofs.back.Columns.{byte-back, unsigned-only, wide-only}
+use Rattle.piece_text.proofs.back.Commands.{IsFront, six-back, six-only}
 use Rattle.trace_columns.specs.Columns.{wide_number_of}
 use Rattle.trace_columns.proofs.BackLaws.{wide-back}
 use Rattle.trace_text.proofs.read.ColumnRanges.{if-some, opt-both}
-use Rattle.machine_words.proofs.Given.{if_some}
 
 -- ---- how a group moves along its path
 

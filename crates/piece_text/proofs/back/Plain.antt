@@ -1,8 +1,8 @@
 -- Fields without commas and line feeds: each of their bytes is from the hyphen on.
-use Rattle.std.specs.Prelude.{◌≡◌, refl, ℕ, suc, ◌+◌, ◌/◌, ◌%◌, ◌^◌, ◌<◌, ◌≤◌, ℤ, pos, negsuc, Bool, true, false, nat_le, nat_lt, Option, Some, None, IfSome, List, [], ◌∷◌, ◌++◌, codes, decimal, length, map}
+use Rattle.std.specs.Prelude.{◌≡◌, refl, ℕ, suc, ◌+◌, ◌/◌, ◌%◌, ◌^◌, ◌<◌, ◌≤◌, ℤ, pos, negsuc, Bool, true, false, nat_le, nat_lt, Option, Some, None, IfSome, List, [], ◌∷◌, codes, decimal}
 use Rattle.std.specs.Fmt.{signed_decimal}
 use Rattle.std.specs.List.{AllByRecursion, list_all}
-use Rattle.std.proofs.Common.{arith, inl, inr, lit≤, FitsSigned, w64}
+use Rattle.std.proofs.Common.{arith, inl, inr, lit≤}
 use Rattle.std.proofs.lemmas.Bool.{and_parts, cases_Bool, leb-true}
 use Rattle.std.proofs.lemmas.Fmt.{decimal_by_steps}
 use Rattle.std.proofs.lemmas.Int.{ints}
@@ -16,7 +16,6 @@ use Rattle.command_pool.specs.declared.kind.BlockKind.{BlockKind}
 use Rattle.command_pool.specs.declared.kind.BlockKind.TheVariants as kind
 use Rattle.command_pool.specs.declared.kind.BufferMode.{BufferMode}
 use Rattle.command_pool.specs.declared.kind.BufferMode.TheVariants as mode
-use Rattle.command_pool.specs.declared.rates.Rates.{Rates}
 use Rattle.command_pool.specs.declared.wanted.Follow.{Follow}
 use Rattle.command_pool.specs.declared.wanted.Follow.TheVariants as follow
 use Rattle.command_pool.specs.declared.wanted.Wanted.{Wanted}
@@ -35,7 +34,7 @@ use Rattle.motion_kernel.specs.Banks.{IsEarly}
 use Rattle.motion_kernel.specs.Machine.{PlacedGroup}
 use Rattle.motion_kernel.specs.declared.bank.Before.{Before}
 use Rattle.piece_text.specs.Fields.{follow_fields, owner_text, progress_fields, reset_text, target_text}
-use Rattle.piece_text.specs.Held.{AreSix, IsAxisOf, IsFollow, IsGroupOf, IsInstanceOf, IsOnPath, IsProgress, IsWanted, IsWide, IsWord}
+use Rattle.piece_text.specs.Held.{IsAxisOf, IsFollow, IsGroupOf, IsInstanceOf, IsOnPath, IsProgress, IsWanted, IsWide, IsWord}
 use Rattle.piece_text.specs.Records.{axis_fields, group_fields, instance_fields, motion_fields, path_fields, piece_fields}
 use Rattle.piece_text.specs.WantedFields.{active_fields, numbers_fields, wanted_fields}
 use Rattle.piece_text.proofs.back.Columns.{IsPending}

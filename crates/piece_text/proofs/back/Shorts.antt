@@ -1,7 +1,7 @@
 -- Records of a head have at most 64 fields.
 use Rattle.std.specs.Fmt.{signed_decimal}
-use Rattle.std.specs.Prelude.{◌≡◌, ℕ, ◌+◌, ◌≤◌, ℤ, Option, Some, None, IfSome, List, [], ◌∷◌, ◌++◌, codes, length}
-use Rattle.std.proofs.Common.{◌∙◌, ap, arith}
+use Rattle.std.specs.Prelude.{◌≡◌, ℕ, ◌+◌, ◌≤◌, ℤ, Option, Some, None, IfSome, List, ◌∷◌, ◌++◌, codes, length}
+use Rattle.std.proofs.Common.{◌∙◌, arith}
 use Rattle.std.proofs.lemmas.List.{length-append, length-map}
 use Rattle.axis_core.specs.declared.axis.Axis.{Axis}
 use Rattle.axis_state.specs.declared.definition.AxisDef.{AxisDef}
@@ -19,7 +19,7 @@ use Rattle.motion_kernel.specs.declared.bank.Before.{Before}
 use Rattle.piece_text.specs.Fields.{follow_fields, progress_fields}
 use Rattle.piece_text.specs.Held.{IsAxisOf, IsGroupOf, IsOnPath, IsWanted}
 use Rattle.piece_text.specs.Records.{axis_fields, group_fields, instance_fields, limits_fields, motion_fields, path_fields, piece_fields, way_fields}
-use Rattle.piece_text.specs.WantedFields.{active_fields, kind_fields, numbers_fields, rates_fields, wanted_fields}
+use Rattle.piece_text.specs.WantedFields.{active_fields, numbers_fields, rates_fields, wanted_fields}
 
 -- as many fields as numbers
 numbers-length : (numbers : List ℤ) → length (numbers_fields numbers) ≡ length numbers

@@ -1,8 +1,8 @@
 -- The head of a piece as a whole is read as what was written.
-use Rattle.std.specs.Prelude.{◌≡◌, refl, ℕ, zero, suc, ◌+◌, ◌≤◌, ◌<◌, ◌^◌, ◌==◌, ◌&&◌, Bool, true, Some, Ok, Result, List, [], ◌∷◌, ◌++◌, codes, decimal, length, map, replicate}
+use Rattle.std.specs.Prelude.{◌≡◌, refl, ℕ, zero, suc, ◌+◌, ◌<◌, ◌^◌, true, Ok, Result, List, [], ◌∷◌, ◌++◌, codes, decimal, length, map, replicate}
 use Rattle.std.specs.List.{AllByRecursion, AllZip}
-use Rattle.std.proofs.Common.{◌∙◌, ap, append_assoc, arith, subst, sym}
-use Rattle.std.proofs.lemmas.List.{append-nil, map-append}
+use Rattle.std.proofs.Common.{◌∙◌, ap, arith, subst, sym}
+use Rattle.std.proofs.lemmas.List.{append-nil}
 use Rattle.std.proofs.lemmas.Bool.{eq-eqb}
 use Rattle.std.proofs.lemmas.Slice.Zip.{AllZip-long}
 use Rattle.command_pool.specs.Waiting.{queue_of}
@@ -21,7 +21,7 @@ use Rattle.piece_text.specs.Piece.{axis_records, group_queue, group_records, hea
 use Rattle.piece_text.specs.Records.{axis_fields, group_fields, instance_fields, piece_fields}
 use Rattle.piece_text.specs.WantedFields.{waiting_fields}
 use Rattle.piece_text.specs.reading.Befores.{before_of, counts_of}
-use Rattle.piece_text.specs.reading.Lines.{fields_in, is_whole, lines_meaning, unread}
+use Rattle.piece_text.specs.reading.Lines.{is_whole, unread}
 use Rattle.piece_text.specs.reading.Reading.{before_meaning, head_meaning, head_of, machine_meaning}
 use Rattle.piece_text.proofs.HeadLaws.{lines-joined, one-line}
 use Rattle.piece_text.proofs.back.Columns.{count-back}

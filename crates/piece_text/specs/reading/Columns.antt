@@ -1,6 +1,6 @@
 -- The values of a head's fields that no trace has: a field has a value of its column exactly where
 -- it spells it as a writer does. This project's profile.
-use Rattle.std.specs.Prelude.{ℕ, ◌-◌, ◌^◌, ◌==◌, ℤ, Bool, if◌then◌else◌, Option, Some, None, List, [], ◌∷◌, codes, decimal, length}
+use Rattle.std.specs.Prelude.{ℕ, ◌-◌, ◌^◌, ℤ, if◌then◌else◌, Option, Some, None, List, [], ◌∷◌, codes, decimal}
 use Rattle.buffer_modes.specs.declared.reset.PendingReset.{PendingReset}
 use Rattle.line_text.specs.Numbers.{◌>>=◌}
 use Rattle.line_text.specs.Texts.{says}

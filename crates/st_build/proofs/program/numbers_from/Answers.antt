@@ -1,7 +1,7 @@
 -- One number more.
-use Rattle.std.proofs.Common.{◌≡◌, ◌+◌, ◌++◌, ◌∷◌, [], length, ap, sym, ◌∙◌}
+use Rattle.std.proofs.Common.{◌++◌, ◌∷◌, [], ap, sym, ◌∙◌}
 use Rattle.st_parts.specs.Parts.{numbers_from}
-use Rattle.st_build.proofs.Numbers.{length_numbers, one_number_more}
+use Rattle.st_build.proofs.Numbers.{one_number_more}
 use Rattle.st_build.proofs.program.numbers_from.Goals as goal
 
 pub loop-i-preserved : goal.loop-i-preserved

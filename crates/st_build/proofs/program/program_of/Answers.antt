@@ -1,5 +1,5 @@
 -- One task more spells what was gone over behind those before.
-use Rattle.std.proofs.Common.{◌≡◌, ◌+◌, ◌++◌, drop, length, ap, sym, ◌∙◌, length-append, arith}
+use Rattle.std.proofs.Common.{◌≡◌, ◌+◌, ◌++◌, drop, length, ap, sym, ◌∙◌, length-append}
 use Rattle.std.specs.List.{flat_map}
 use Rattle.st_parts.specs.Parts.{blocks_of, task_names, task_parts}
 use Rattle.st_build.proofs.Lists.{joined_over, joined_push}

@@ -1,5 +1,5 @@
 -- A task spells what was gone over.
-use Rattle.std.proofs.Common.{drop, length}
+use Rattle.std.proofs.Common.{length}
 use Rattle.st_parts.specs.Parts.{body_parts, declared_parts}
 use Rattle.st_build.proofs.Tasks.{task_is}
 use Rattle.st_build.proofs.program.task_at.Goals as goal

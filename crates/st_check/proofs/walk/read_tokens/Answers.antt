@@ -1,5 +1,5 @@
 -- The tokens that are left lead where all led, up to the end.
-use Rattle.std.proofs.Common.{◌≡◌, ◌+◌, [], ap, sym, ◌∙◌, arith}
+use Rattle.std.proofs.Common.{◌≡◌, [], ap, sym, ◌∙◌, arith}
 use Rattle.line_text.proofs.LineLaws.{is_nil}
 use Rattle.st_check.specs.Reading.{run, step}
 use Rattle.st_tokens.specs.Tokens.{last_line_from, tokens_from, tokens_of}

@@ -1,5 +1,4 @@
 -- Axis by axis.
-use Rattle.std.specs.Prelude.{◌≡◌, take}
 use Rattle.std.proofs.Common.{arith}
 use Rattle.command_pool.specs.Waiting.{queue_of}
 use Rattle.piece_text.specs.Piece.{axis_records}

@@ -1,5 +1,4 @@
 -- Group by group.
-use Rattle.std.specs.Prelude.{◌≡◌, take}
 use Rattle.std.proofs.Common.{arith}
 use Rattle.piece_text.specs.Piece.{group_queue, group_records}
 use Rattle.piece_text.specs.Records.{group_fields}

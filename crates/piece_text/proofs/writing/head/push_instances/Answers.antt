@@ -1,5 +1,4 @@
 -- Instance by instance.
-use Rattle.std.specs.Prelude.{◌≡◌, take}
 use Rattle.std.proofs.Common.{arith}
 use Rattle.piece_text.specs.Piece.{instance_records}
 use Rattle.piece_text.specs.Records.{instance_fields}

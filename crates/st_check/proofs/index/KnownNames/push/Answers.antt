@@ -1,5 +1,5 @@
 -- The index has one name more, or named it already.
-use Rattle.std.proofs.Common.{◌≡◌, ◌∷◌, [], ◌++◌, None, true, rules, sym, ap, ◌∙◌}
+use Rattle.std.proofs.Common.{◌≡◌, ◌∷◌, [], ◌++◌, rules, sym, ap, ◌∙◌}
 use Rattle.std.specs.Prelude.{is_some}
 use Rattle.st_check.specs.Indexes.{value_at}
 use Rattle.st_check.specs.Names.{sort_among}

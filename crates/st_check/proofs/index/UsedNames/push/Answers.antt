@@ -1,8 +1,5 @@
 -- The index has one name more.
-use Rattle.std.proofs.Common.{◌≡◌, ◌∷◌, [], ◌++◌, rules, subst}
-use Rattle.std.specs.Prelude.{is_some}
-use Rattle.std.specs.List.{list_any}
-use Rattle.std.specs.Str.{bytes_eq}
+use Rattle.std.proofs.Common.{◌≡◌, ◌∷◌, [], ◌++◌, rules}
 use Rattle.st_check.specs.Indexes.{value_at}
 use Rattle.st_check.proofs.Indexes.{used_put}
 use Rattle.st_check.proofs.index.UsedNames.push.Goals as goal
