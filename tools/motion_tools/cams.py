@@ -1,4 +1,5 @@
-"""Makes the points of a cam table in the machine's units, and checks them against the slave's limits.
+"""Makes the points of a cam table in the machine's units, and checks them against the slave's
+limits.
 
     tools/cam_points --config machine.toml --master X --slave Y --velocity 200 \\
         --law poly5 0:0 100:50 150:50 200:0
@@ -7,9 +8,9 @@
 The points X:Y say where the slave stands, Y, for positions X of the master; between two of them it
 goes by the law, and a part with equal Y is a dwell. A table is interpolated linearly, so at each of
 its points the slave's velocity jumps: the change of slope times the master's step in a cycle has to
-stay within amax, and where the master speeds up or brakes, the slope times its acceleration comes on
-top. The tool takes as few points as that bound allows, or the number that --count gives, and says what
-they ask of the slave. With --table it checks a table of the configuration instead.
+stay within amax, and where the master speeds up or brakes, the slope times its acceleration comes
+on top. The tool takes as few points as that bound allows, or the number that --count gives, and
+says what they ask of the slave. With --table it checks a table of the configuration instead.
 """
 
 import argparse
@@ -58,7 +59,7 @@ LAWS = {
 def parser() -> argparse.ArgumentParser:
     words = command.parser_of("cam_points", __doc__, STATUSES)
     words.add_argument("points", nargs="*", metavar="X:Y",
-                       help="points that the slave goes through, in the machine's units, rising in X")
+                       help="points that the slave goes through, in the machine's units, X rising")
     words.add_argument("--config", metavar="FILE", required=True,
                        help="the configuration with the axes: cycle, units and limits")
     words.add_argument("--master", metavar="AXIS", required=True, help="the axis that leads")
@@ -66,12 +67,12 @@ def parser() -> argparse.ArgumentParser:
     words.add_argument("--velocity", metavar="V", type=positive, required=True,
                        help="the master's greatest velocity, in its units per second")
     words.add_argument("--acceleration", metavar="A", type=not_negative,
-                       help="how much the master speeds up or brakes while it is on the table, in its "
-                       "units per second squared; left out, its amax")
+                       help="how much the master speeds up or brakes while it is on the table, in "
+                       "its units per second squared; left out, its amax")
     words.add_argument("--law", choices=[*LAWS, "spline"], default="poly5",
-                       help="poly5 (polynomial of degree 5), modsine (modified sine), cycloid, line, "
-                       "or spline (a cubic through all points, at rest at both ends); left out, "
-                       "poly5")
+                       help="poly5 (polynomial of degree 5), modsine (modified sine), cycloid, "
+                       "line, or spline (a cubic through all points, at rest at both ends); left "
+                       "out, poly5")
     words.add_argument("--count", metavar="N", type=int,
                        help="how many points the table has; left out, as few as the slave allows")
     words.add_argument("--table", metavar="N", type=int,
@@ -113,8 +114,8 @@ def turn(options: argparse.Namespace) -> bool:
     bounds = Bounds(config.cycle_us, slave, options.velocity, acceleration, rests)
     if options.table is not None:
         if not 1 <= options.table <= len(config.tables):
-            raise LookupError(f"{config.path} has {len(config.tables)} tables, numbered from 1, and "
-                              f"no table {options.table}")
+            raise LookupError(f"{config.path} has {len(config.tables)} tables, numbered from 1, "
+                              f"and no table {options.table}")
         points = [(float(x), float(y)) for x, y in config.tables[options.table - 1]]
     else:
         points = made(options, bounds)
@@ -140,8 +141,8 @@ class Bounds:
         return max(abs(slope) for slope in slopes(points)) * self.step / self.seconds
 
     def acceleration(self, points: Sequence[Point]) -> tuple[float, float]:
-        """The slave's greatest acceleration, and at which position of the master: the change of slope
-        of all points within a step, and the slope with the master's acceleration."""
+        """The slave's greatest acceleration, and at which position of the master: the change of
+        slope of all points within a step, and the slope with the master's acceleration."""
         rates = slopes(points)
         rates = [0.0, *rates, 0.0] if self.rests else [rates[0], *rates, rates[-1]]
         corners = [(x, after - before) for (x, _), before, after in zip(points, rates, rates[1:])]
@@ -304,8 +305,8 @@ def report(points: Sequence[Point], bounds: Bounds, master: AxisConfig,
     lines = [f"{len(points)} points; {master.name} at {options.velocity:g} {master.unit}/s goes "
              f"{bounds.step:.6g} {master.unit} a cycle, and speeds up and brakes by at most "
              f"{bounds.master_acceleration:g} {master.unit}/s²\n",
-             f"{slave.name}: velocity up to {velocity:.6g} {unit}/s, {velocity / bounds.vmax:.0%} of "
-             f"vmax; acceleration up to {acceleration:.6g} {unit}/s², "
+             f"{slave.name}: velocity up to {velocity:.6g} {unit}/s, {velocity / bounds.vmax:.0%} "
+             f"of vmax; acceleration up to {acceleration:.6g} {unit}/s², "
              f"{acceleration / bounds.amax:.0%} of amax, at {master.name} {at:.6g} {master.unit}\n"]
     outside = [y for _, y in points if not float(slave.lo) <= y <= float(slave.hi)]
     if outside:
@@ -342,6 +343,9 @@ def slowest(points: Sequence[Point], bounds: Bounds, velocity: float) -> float:
         middle = (low + high) / 2
         tried = Bounds(round(bounds.seconds * 1e6), bounds.slave, middle or 1e-9,
                        bounds.master_acceleration, bounds.rests)
-        low, high = (middle, high) if tried.acceleration(points)[0] <= bounds.amax else (low, middle)
+        if tried.acceleration(points)[0] <= bounds.amax:
+            low = middle
+        else:
+            high = middle
     return low
 

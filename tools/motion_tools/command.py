@@ -17,7 +17,8 @@ ends with 0; with 2 where an option is faulty, with 3 where the text is no trace
 it until then is written), with 4 where it can't be read, with 6 where writing fails"""
 
 
-def parser_of(prog: str, description: Optional[str], epilog: str = STATUSES) -> argparse.ArgumentParser:
+def parser_of(prog: str, description: Optional[str],
+              epilog: str = STATUSES) -> argparse.ArgumentParser:
     """A parser whose texts are kept as they are written."""
     return argparse.ArgumentParser(prog=prog, description=description, epilog=epilog,
                                    formatter_class=argparse.RawDescriptionHelpFormatter)
@@ -80,7 +81,7 @@ def moment(text: str) -> Moment:
     """A cycle, or a time as 120ms or 1.5s."""
     match = MOMENT.fullmatch(text)
     if not match or (not match[2] and "." in match[1]):
-        raise argparse.ArgumentTypeError(f"{text!a} is no cycle from 1, and no time as 120ms or 1.5s")
+        raise argparse.ArgumentTypeError(f"{text!a} is no cycle from 1, and no time as 120ms")
     if not match[2] and int(match[1]) < 1:
         raise argparse.ArgumentTypeError("cycles are counted from 1")
     return Moment(float(match[1]) * (1e-3 if match[2] == "ms" else 1), bool(match[2]))

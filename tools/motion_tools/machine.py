@@ -4,11 +4,11 @@
     tools/motion-run machine.toml tasks.prog -o run.trace --plot run.html
     tools/motion-run my.bench
 
-The files decide what is run: a bench by `motion bench`, a configuration with tasks in Structured Text
-by `motion st`, one with a program by `motion run`; the order of the words is free. The trace goes to
-the file that -o names, else to run.trace. What `tools/explain` says of it goes to the standard error:
-a rejected file with its line and cure, errors, warnings, and a report of the moves. A long run says
-every two seconds how far it is.
+The files decide what is run: a bench by `motion bench`, a configuration with tasks in Structured
+Text by `motion st`, one with a program by `motion run`; the order of the words is free. The trace
+goes to the file that -o names, else to run.trace. What `tools/explain` says of it goes to the
+standard error: a rejected file with its line and cure, errors, warnings, and a report of the moves.
+A long run says every two seconds how far it is.
 """
 
 import argparse
@@ -31,8 +31,8 @@ SECONDS_OF_THREADS = 10.0
 SLOW = ("; it has a thread for each drive and task, and is slow while other programs use the "
         "processors; motion st has one thread")
 STATUSES = """\
-ends with the status of `motion`, and with 1 where that is 0 and the run has errors or, with --strict,
-warnings; with 2 where the files are no machine"""
+ends with the status of `motion`, and with 1 where that is 0 and the run has errors or, with
+--strict, warnings; with 2 where the files are no machine"""
 
 
 def parser() -> argparse.ArgumentParser:
@@ -42,8 +42,8 @@ def parser() -> argparse.ArgumentParser:
     words.add_argument("-o", "--output", metavar="FILE", default="run.trace",
                        help="the file for the trace; left out, run.trace")
     words.add_argument("--plot", metavar="FILE", action="append", default=[],
-                       help="draws the run too: as a page where the name ends with .html, else as an "
-                       "SVG; may be given several times")
+                       help="draws the run too: as a page where the name ends with .html, else as "
+                       "an SVG; may be given several times")
     words.add_argument("--check", action="store_true",
                        help="verifies the trace by its replay, as `motion check` does")
     words.add_argument("--strict", action="store_true", help="ends with 1 where there is a warning")
@@ -103,9 +103,9 @@ def words_of(files: list[str]) -> list[str]:
             if kind in kinds:
                 return [word, kinds["config"], kinds[kind]]
     shown = ", ".join(f"{name} ({kind_of(name) or 'of no known kind'})" for name in files)
-    raise WrongFiles(f"give a bench (its first line is motion-bench 1), or a configuration (TOML) and "
-                     f"tasks: a program (its first line is motion-program 1) or Structured Text "
-                     f"(PROGRAM name); here: {shown}")
+    raise WrongFiles("give a bench (its first line is motion-bench 1), or a configuration (TOML) "
+                     "and tasks: a program (its first line is motion-program 1) or Structured "
+                     f"Text (PROGRAM name); here: {shown}")
 
 
 def config_of(words: list[str]) -> Optional[str]:
@@ -114,8 +114,8 @@ def config_of(words: list[str]) -> Optional[str]:
 
 
 def made(words: list[str], trace: Path, progress: TextIO = sys.stderr) -> int:
-    """Runs the program into a file, and gives its status. The program writes its trace at its end, so
-    that only the time can be shown before."""
+    """Runs the program into a file, and gives its status. The program writes its trace at its end,
+    so that only the time can be shown before."""
     begun = time.monotonic()
     said = begun
     with open(trace, "wb") as output, subprocess.Popen(words, stdout=output) as running:

@@ -4,8 +4,8 @@
     MANPATH=FOLDER/man: man motion
     source FOLDER/bash-completion/completions/motion
 
-The pages are made of the same texts as --help. A page of a tool stands in man/man1 of the folder under
-the tool's name, that of the program as motion.1.
+The pages are made of the same texts as --help. A page of a tool stands in man/man1 of the folder
+under the tool's name, that of the program as motion.1.
 """
 
 import argparse
@@ -141,10 +141,10 @@ def motion_page() -> str:
     synopsis = "\n.br\n".join(f".B motion {name} {words}" for name, (words, _) in commands.items())
     described = paragraphs(
         "motion is a PLCopen motion kernel with simulated CiA 402 drives. It runs a machine, and "
-        "prints the trace of the run on the standard output: every call, cycle and reply. The words "
-        "are exactly those of one of the forms; there are no options. A file that breaks a rule ends "
-        "the program with status 3 and a line `refused FILE PLACE RULE`, which explain(1) explains; "
-        "motion-run(1) runs a machine and explains it in one command.")
+        "prints the trace of the run on the standard output: every call, cycle and reply. The "
+        "words are exactly those of one of the forms; there are no options. A file that breaks a "
+        "rule ends the program with status 3 and a line `refused FILE PLACE RULE`, which "
+        "explain(1) explains; motion-run(1) runs a machine and explains it in one command.")
     statuses = "".join(item(number, f"{name}: {means}" + (f". {cure}" if cure else ""))
                        for number, (name, means, cure) in hints.texts()["status"].items())
     return "".join([
@@ -162,7 +162,7 @@ def motion_page() -> str:
 
 def completion() -> str:
     """The completion of the words of motion and its tools for bash."""
-    parts = ["# Completion of the words of motion and its tools, for bash: written by tools/manual.\n",
+    parts = ["# Completion of motion and its tools, for bash: written by tools/manual.\n",
              "_motion() {\n", '    local word="${COMP_WORDS[COMP_CWORD]}"\n', "    COMPREPLY=()\n",
              '    if [ "$COMP_CWORD" -eq 1 ]; then\n',
              f'        COMPREPLY=($(compgen -W "{" ".join(hints.commands())}" -- "$word"))\n',

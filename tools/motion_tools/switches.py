@@ -3,9 +3,10 @@
     tools/switches run.trace gun.switches --config machine.toml > gun.edges
     tools/switches run.trace gun.switches --config machine.toml --times
 
-With --config or --scale the switch file has its positions as decimal numbers in the units of the axes,
-`switch GUN BELT 120.5 480 3`; without, in internal units. `motion switches` finds the edges, so the
-trace is verified too. A switch that never goes on is reported with the way that its axis took.
+With --config or --scale the switch file has its positions as decimal numbers in the units of the
+axes, `switch GUN BELT 120.5 480 3`; without, in internal units. `motion switches` finds the edges,
+so the trace is verified too. A switch that never goes on is reported with the way that its axis
+took.
 """
 
 import argparse
@@ -27,8 +28,8 @@ from motion_tools.trace import Machine, ReadFault, Trace, lines_of
 from motion_tools.units import Units
 
 STATUSES = """\
-ends with the status of `motion switches`; with 2 where an option is faulty, with 4 where a file can't
-be read"""
+ends with the status of `motion switches`; with 2 where an option is faulty, with 4 where a file
+can't be read"""
 
 
 def parser() -> argparse.ArgumentParser:
@@ -117,8 +118,9 @@ def failure(options: argparse.Namespace, output: str, text: str, machine: Machin
     all_lines = text.split("\n")
     line = all_lines[place - 1] if place <= len(all_lines) else ""
     says, cure = hints.rule(rule)
-    return [Finding("error", rule, fault.says or says, hints.cure_of("switches", fault, line) or cure,
-                    says, options.file, place, fault.column + 1, fault.length, line)]
+    return [Finding("error", rule, fault.says or says,
+                    hints.cure_of("switches", fault, line) or cure, says, options.file, place,
+                    fault.column + 1, fault.length, line)]
 
 
 def times(edges: str, units: Units) -> str:
@@ -166,6 +168,6 @@ def way_text(axis: str, way: Optional[tuple[int, int]], units: Units) -> str:
 def cure_of(axis: str, units: Units) -> str:
     """What may be meant."""
     if units.of(axis) is None:
-        return ("positions are in internal units, billionths of a configuration's unit: give --config "
-                "for a file in the machine's units")
+        return ("positions are in internal units, billionths of a configuration's unit: give "
+                "--config for a file in the machine's units")
     return "give positions between which the axis comes, by HYST inside of them"

@@ -69,7 +69,8 @@ def span(calls: Sequence[Numbered], units: Units) -> str:
 
 
 def write(trace: Trace, options: argparse.Namespace) -> None:
-    """Writes the pictures of blocks, also where the trace turns out to be none after their calls."""
+    """Writes the pictures of blocks, also where the trace turns out to be none after their
+    calls."""
     kinds = {block.name: block.kind for block in trace.machine.blocks}
     names = options.blocks or [trace.machine.blocks[0].name]
     for name in names:
@@ -92,7 +93,8 @@ def picture(name: str, kind: str, calls: Sequence[Numbered], options: argparse.N
     """The picture of a block, with its name where there are several, and its span in a range."""
     title = f"{name} ({kind})\n" if len(options.blocks) > 1 else ""
     is_part: Optional[object] = options.first or options.last
-    return title + timing(kind, [call for _, call in calls]) + (span(calls, units) if is_part else "")
+    drawn = timing(kind, [call for _, call in calls])
+    return title + drawn + (span(calls, units) if is_part else "")
 
 
 def main() -> int:

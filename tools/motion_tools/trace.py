@@ -422,8 +422,8 @@ def names_told(kind: str, item: Any, machine: Machine) -> list[tuple[str, list[s
 def lines_of(name: str, progress: Optional[TextIO] = sys.stderr) -> Iterator[str]:
     """The lines of a file, or of the standard input where the name is `-`. Where reading takes
     longer than two seconds, what was read so far is written to `progress` every two seconds; of a
-    file that is longer than `motion check` takes that is written at once. Raises ReadFault where the
-    file can't be read, TraceError where a line is too long for any record."""
+    file that is longer than `motion check` takes that is written at once. Raises ReadFault where
+    the file can't be read, TraceError where a line is too long for any record."""
     try:
         source: Union[int, str] = 0 if name == "-" else name
         with open(source, encoding="utf-8-sig", errors="surrogateescape", newline="") as file:

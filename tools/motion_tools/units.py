@@ -12,7 +12,8 @@ from typing import NamedTuple, Optional
 
 from motion_tools.trace import Axis, Call, Cycle, Machine, Row
 
-SCALE = re.compile(r"(?:([A-Za-z][A-Za-z0-9_]{0,15})=)?([0-9]+(?:\.[0-9]*)?(?:[eE][-+]?[0-9]+)?|\.[0-9]+)"
+SCALE = re.compile(r"(?:([A-Za-z][A-Za-z0-9_]{0,15})=)?"
+                   r"([0-9]+(?:\.[0-9]*)?(?:[eE][-+]?[0-9]+)?|\.[0-9]+)"
                    r"([^\d\s.<>&=;,\"'][^\s<>&=;,\"']{0,7})")
 QUANTITIES = ("position", "velocity", "acceleration")
 Factors = tuple[float, float, float]

@@ -1,7 +1,7 @@
 """Writes a trace of `motion` as a value change dump (VCD, IEEE 1364), for a waveform viewer.
 
-With --plain the dump keeps to what simple readers know, as that of sigrok: states are numbers, names
-are whole and without scopes, and the time is in microseconds.
+With --plain the dump keeps to what simple readers know, as that of sigrok: states are numbers,
+names are whole and without scopes, and the time is in microseconds.
 """
 
 import argparse
@@ -106,7 +106,8 @@ class Dump:
         return lambda: self.line("1" + code)
 
     def state(self, name: str, _: Sequence[str]) -> "Signal":
-        """A state, as its word: a kind of variable that GTKWave reads and IEEE 1364 doesn't know."""
+        """A state, as its word: a kind of variable that GTKWave reads and IEEE 1364 doesn't
+        know."""
         return Signal(self, "string", 1, name, lambda value: f"s{value} ")
 
     def at(self, time: int) -> None:
@@ -135,8 +136,8 @@ class PlainDump(Dump):
             self.line("$upscope $end")
 
     def variable(self, kind: str, bits: int, name: str) -> str:
-        """Declares a variable whose name begins with that of its axis, group or block. An integer is
-        a vector of its bits."""
+        """Declares a variable whose name begins with that of its axis, group or block. An integer
+        is a vector of its bits."""
         owner, plain = self.scopes[-1], name.split()[0]
         return super().variable("wire" if kind == "integer" else kind, bits, f"{owner}_{plain}")
 

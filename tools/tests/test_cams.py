@@ -1,4 +1,5 @@
-"""Tests of cam tables: the laws, the bound of linear interpolation, and what the kernel says of it."""
+"""Tests of cam tables: the laws, the bound of linear interpolation, and what the kernel says of
+it."""
 
 import math
 import pathlib

@@ -112,8 +112,8 @@ class Runs(unittest.TestCase):
 
     def test_a_rejected_call_has_its_reason_and_nothing_moved(self):
         output = explained(BENCH, TRACE)
-        self.assertIn("error 10: after cycle 0: M (MoveAbsolute on X): 500 units is beyond the limits "
-                      "of X, 0 to 50 units\n", output)
+        self.assertIn("error 10: after cycle 0: M (MoveAbsolute on X): 500 units is beyond the "
+                      "limits of X, 0 to 50 units\n", output)
         self.assertIn("Every command was rejected: nothing moved.\n", output)
         self.assertIn("All calls, cycles and ends were made.\n", output)
 
@@ -237,7 +237,8 @@ class Verdicts(unittest.TestCase):
 
 
 class Readers(unittest.TestCase):
-    """The readers find the line and the rule that the program reports: the tables of .ci/refused."""
+    """The readers find the line and the rule that the program reports: the tables of
+    .ci/refused."""
 
     def cases(self, name):
         """The texts of a table: place, rule and text."""

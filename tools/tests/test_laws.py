@@ -1,6 +1,6 @@
-"""The laws of motion, tried on the traces of examples/ and docs/ by a program of their own: it looks
-for a row or a command that breaks one. They are proved of the kernel (README); here it is seen that
-what they say is what a reader of a trace would ask."""
+"""The laws of motion, tried on the traces of examples/ and docs/ by a program of their own: it
+looks for a row or a command that breaks one. They are proved of the kernel (README); here it is
+seen that what they say is what a reader of a trace would ask."""
 
 import os
 import sys
@@ -53,9 +53,9 @@ BLEND_VELOCITIES = {"blendingLow": min, "blendingPrevious": lambda first, second
 
 
 class Blend:
-    """What a move has promised that is blended into one further on: to cross its target by a step of
-    at most the blend velocity, or to stand there, in the cycles of its braking, and as many as the
-    target is units away, or those of coming back."""
+    """What a move has promised that is blended into one further on: to cross its target by a step
+    of at most the blend velocity, or to stand there, in the cycles of its braking, and as many as
+    the target is units away, or those of coming back."""
 
     def __init__(self, course, call, setpoint, velocity):
         self.target, speed = course.target, abs(velocity)
@@ -80,8 +80,8 @@ class Axis:
         self.rows, self.promises, self.blends, self.broken = 0, 0, 0, []
 
     def call(self, call, kind, rises):
-        """A call of a block of the axis: a rising edge or a Power ends what was promised, but that a
-        move waits after a blended one."""
+        """A call of a block of the axis: a rising edge or a Power ends what was promised, but that
+        a move waits after a blended one."""
         if kind == "Power" or rises and "A" in call.outputs:
             self.blend, self.active = None, None
         if rises and call.outputs == "B":
@@ -94,7 +94,8 @@ class Axis:
             self.course = self.active = Course(call, kind, self.setpoint, self.velocity)
 
     def waits(self, call, kind):
-        """A command waits after the active one: a blend applies where its target lies further on."""
+        """A command waits after the active one: a blend applies where its target lies further
+        on."""
         active, self.active = self.active, None
         if active is None or active.target is None or kind not in ("MoveAbsolute", "MoveRelative"):
             return

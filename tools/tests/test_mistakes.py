@@ -1,4 +1,5 @@
-"""Mistakes that are made in the first days, and that `explain` leads to their cure: mistakes.toml."""
+"""Mistakes that are made in the first days, and that `explain` leads to their cure:
+mistakes.toml."""
 
 import pathlib
 import subprocess

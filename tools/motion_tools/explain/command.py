@@ -9,10 +9,10 @@ perhaps not meant, and a short report.
     tools/explain S2 104 status 9
 
 Where a file was rejected it prints the file and the line with a mark under the word, what is wrong
-there, the rule in one sentence and the cure. Of a run it prints each error of a call or an axis with
-its reason in the machine's units, what was legal and perhaps not meant, at which wait a task without
-an end stood, and per move its time, peak velocity and acceleration. A rule, an ErrorID or `status N`
-in place of files is explained by itself.
+there, the rule in one sentence and the cure. Of a run it prints each error of a call or an axis
+with its reason in the machine's units, what was legal and perhaps not meant, at which wait a task
+without an end stood, and per move its time, peak velocity and acceleration. A rule, an ErrorID or
+`status N` in place of files is explained by itself.
 """
 
 import argparse
@@ -40,8 +40,8 @@ CODE = re.compile(r"[BCPSKTG][0-9]{1,2}|[0-9]{1,3}")
 def parser() -> argparse.ArgumentParser:
     words = command.parser_of("explain", __doc__)
     words.add_argument("files", nargs="*", metavar="FILE or CODE",
-                       help="the files that motion was given: a bench, a configuration and tasks, a "
-                       "trace; or codes to explain, as B7, 104, status 9")
+                       help="the files that motion was given: a bench, a configuration and tasks, "
+                       "a trace; or codes to explain, as B7, 104, status 9")
     words.add_argument("--of", metavar="FILE",
                        help="what motion wrote; left out, the standard input, and where that is a "
                        "terminal or empty the trace among the files")
@@ -86,8 +86,8 @@ def explain(options: argparse.Namespace) -> int:
     if options.config_to_check:
         return write(options, checked(options.config_to_check), "")
     if options.files and all(map(is_code, options.files)):
-        return write(options, [found for code in codes(options.files) for found in code_findings(code)],
-                     "")
+        found = [each for code in codes(options.files) for each in code_findings(code)]
+        return write(options, found, "")
     source, output = output_of(options)
     found, text = explained(options, output, source)
     status = write(options, found, text)

@@ -38,8 +38,8 @@ def waits(run: Run, task: Standing) -> Finding:
     """The line at which a task of a program stood, and why it may stand there for ever."""
     line = task.here()
     if line is None:
-        return Finding("error", "stands", f"the task {task.name} had made all its lines, and not its "
-                       "end")
+        return Finding("error", "stands", f"the task {task.name} had made all its lines, and not "
+                       "its end")
     block = line.words[1]
     found = Finding("error", "stands", f"the task {task.name} stood at this line: "
                     f"{run.who(block)} last showed {shown(run, block)}")
@@ -68,15 +68,17 @@ def wait_cure(run: Run, block: str, flag: str) -> str:
 
 
 def scanned(run: Run, name: str, scans: Scans) -> Finding:
-    """Where a task in Structured Text stood: its variables, and what it called in its last scans."""
+    """Where a task in Structured Text stood: its variables, and what it called in its last
+    scans."""
     if name in scans.tasks and "finished" not in scans.tasks[name].task.variables:
-        return Finding("error", "stands", f"the task {name} has no variable finished, so it is scanned "
-                       "as long as there are cycles",
+        return Finding("error", "stands", f"the task {name} has no variable finished, so it is "
+                       "scanned as long as there are cycles",
                        "declare finished : BOOL; and set it TRUE where the task is to end",
                        file=run.file)
     called = [run.who(block) + " showed " + shown(run, block)
               for block, told in run.history.blocks.items()
-              if told.block.task == name and told.calls and told.last_cycle >= run.history.cycles - 1]
+              if told.block.task == name and told.calls
+              and told.last_cycle >= run.history.cycles - 1]
     values = scans.shown(name)
     says = f"finished of the task {name} didn't become TRUE" + (
         f": {values}" if values else "") + "; in its last scans " + (

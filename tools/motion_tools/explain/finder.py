@@ -1,4 +1,5 @@
-"""The words of a line, and what is wrong with one of them: for benches, programs and switch files."""
+"""The words of a line, and what is wrong with one of them: for benches, programs and switch
+files."""
 
 import re
 from collections.abc import Iterable
@@ -94,7 +95,7 @@ class Finder:
         """A line has printable ASCII alone."""
         for column, letter in enumerate(self.text.rstrip("\n")):
             if letter not in "\t\r" and not " " <= letter <= "~":
-                self.add("byte", Word(letter, column), f"{letter!a} is no character from space to ~")
+                self.add("byte", Word(letter, column), f"{letter!a} isn't from space to ~")
                 return
 
     def count(self, least: int, most: int, form: str) -> bool:
@@ -127,13 +128,15 @@ class Finder:
         self.add("known", word, f"there is no {what} {word.text} here; there is {listed}")
         return False
 
-    def number(self, word: Word, what: str, low: int = -10**18, high: int = 10**18) -> Optional[int]:
+    def number(self, word: Word, what: str, low: int = -10**18,
+               high: int = 10**18) -> Optional[int]:
         """A word is a whole number in a range."""
         if not is_number(word.text):
             self.add("value", word, f"{what} is {word.text}, and not a whole number")
             return None
         if not low <= int(word.text) <= high:
-            self.add("range", word, f"{what} is {word.text}, and has to be from {low:,} to {high:,}")
+            self.add("range", word,
+                     f"{what} is {word.text}, and has to be from {low:,} to {high:,}")
         return int(word.text)
 
 

@@ -1,5 +1,5 @@
-"""What happened in a run: its commands from their calls to their ends, its errors, and what each axis
-did. A trace is read once, as a stream."""
+"""What happened in a run: its commands from their calls to their ends, its errors, and what each
+axis did. A trace is read once, as a stream."""
 
 from dataclasses import dataclass, field
 from typing import Optional, Protocol
@@ -16,8 +16,8 @@ AT_REST = ("Standstill", "Disabled", "ErrorStop", "Stopping", "GroupStandby", "G
 
 @dataclass
 class Command:
-    """A command that a block gave: where its axes stood, how fast they went, how it ended. Cycles are
-    those before the call; a command without a result was still under way, or nobody asked."""
+    """A command that a block gave: where its axes stood, how fast they went, how it ended. Cycles
+    are those before the call; a command without a result was still under way, or nobody asked."""
 
     block: Block
     call: Call
@@ -62,7 +62,7 @@ class AxisHistory:
     greatest: Optional[int] = None
     velocity: int = 0
     acceleration: int = 0
-    following: int = 0                                  # the greatest following error, with its sign
+    following: int = 0                                  # the greatest error, with its sign
     following_cycle: int = 0
     following_place: int = 0
     last: Optional[Row] = None

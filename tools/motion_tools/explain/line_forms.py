@@ -33,8 +33,8 @@ def check_axis(found: Finder, values: dict[str, int]) -> None:
     if values["LO"] >= values["HI"]:
         found.add("range", words["HI"], "HI has to be above LO")
     if values.get("DMAX", values["AMAX"]) < values["AMAX"]:
-        found.add("range", words["DMAX"], "DMAX has to be AMAX at least: an axis brakes at least as "
-                  "hard as it speeds up")
+        found.add("range", words["DMAX"], "DMAX has to be AMAX at least: an axis brakes at least "
+                  "as hard as it speeds up")
     if values["INC"] > 0 and not (values["LO"] <= values["START"] <= values["HI"]
                                   and values["START"] % values["INC"] == 0):
         found.add("range", words["START"], f"START has to lie from LO to HI, and be a multiple of "

@@ -1,4 +1,5 @@
-"""Reads benches, programs and switch files by lines and words, and finds the word that breaks a rule.
+"""Reads benches, programs and switch files by lines and words, and finds the word that breaks a
+rule.
 
 `motion` reports the line and the rule. This reader goes through the lines up to that one, for the
 names that are defined there, and finds the word on it. Where it finds none the line is shown whole.

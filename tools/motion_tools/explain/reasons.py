@@ -1,4 +1,5 @@
-"""Why a call was rejected or an axis met an error: the reason of the number, with the values at hand."""
+"""Why a call was rejected or an axis met an error: the reason of the number, with the values at
+hand."""
 
 from typing import Optional
 
@@ -64,8 +65,8 @@ def target_reason(history: History, failure: Failure, call: Call, units: Units) 
         if failure.block and failure.block.kind == "MoveRelative":
             row = failure.rows.get(name)
             begin = row.setpoint if row else axis.start
-            parts.append(f"{units.text(name, position)} from {units.text(name, begin)} leads beyond "
-                         f"the limits of {name}, {limits(axis.lo, axis.hi, name, units)}")
+            parts.append(f"{units.text(name, position)} from {units.text(name, begin)} leads "
+                         f"beyond the limits of {name}, {limits(axis.lo, axis.hi, name, units)}")
         elif not axis.lo <= position <= axis.hi:
             parts.append(f"{units.text(name, position)} is beyond the limits of {name}, "
                          f"{limits(axis.lo, axis.hi, name, units)}")

@@ -58,7 +58,8 @@ def fault_of(options: argparse.Namespace, kind: str, text: str, place: int, rule
     """What breaks a rule at a line, a place of a configuration or a record of a trace."""
     whole = Fault(rule, place)
     if kind == "config":
-        return settings.fault_at(text, place, rule) or Fault(rule, 0, says=config_place(place, rule))
+        fault = settings.fault_at(text, place, rule)
+        return fault or Fault(rule, 0, says=config_place(place, rule))
     if rule in OF_CONFIG and config_named(options) is None:
         return whole
     if kind == "st":

@@ -20,7 +20,8 @@ from motion_tools.units import Units
 def run_findings(options: argparse.Namespace, output: Iterable[str],
                source: str) -> tuple[list[Finding], str]:
     """The findings and the report of a trace."""
-    tasks = next((name for name in options.files if kind_of(name) in ("program", "st", "bench")), "")
+    tasks = next((name for name in options.files
+                  if kind_of(name) in ("program", "st", "bench")), "")
     kind = kind_of(tasks) if tasks else ""
     text = Path(tasks).read_text(encoding="utf-8", errors="replace") if tasks else ""
     walk = Walk(text) if kind == "program" else None
@@ -71,12 +72,13 @@ def bench_end(run: Run) -> list[Finding]:
     cycles, entries = machine.cycles, machine.entries
     for number, line, word, count in events_of(run.text):
         if word == "cycle" and count > cycles:
-            status, lacking = 8, f"no cycle is left of the {machine.cycles} that `limit` allows"
+            status, lacking = 8, f"no cycle is left of the {machine.cycles}"
         elif count > entries:
-            status, lacking = 9, f"no room is left of the {machine.entries} entries that `limit` allows"
+            status, lacking = 9, f"no room is left of the {machine.entries} entries"
         else:
             cycles, entries = cycles - count * (word == "cycle"), entries - count
             continue
-        return [Finding("error", f"status {status}", f"The run ended in this line: {lacking}.",
+        return [Finding("error", f"status {status}", f"The run ended in this line: {lacking} "
+                        "that `limit` allows.",
                         "raise the numbers of limit", file=run.file, line=number, text=line)]
     return [Finding("note", "", "All calls, cycles and ends were made.")]

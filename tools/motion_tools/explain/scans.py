@@ -1,5 +1,5 @@
-"""Where tasks in Structured Text stand: scans them with the replies of a trace, so that each call has
-its line, and variables and states have their values at the end."""
+"""Where tasks in Structured Text stand: scans them with the replies of a trace, so that each call
+has its line, and variables and states have their values at the end."""
 
 from collections.abc import Callable, Iterator
 from dataclasses import dataclass, field

@@ -1,5 +1,6 @@
-"""Finds what breaks a rule in a configuration: the key and its value, by the place and the rule that
-`motion` reports. Place 0 is the text and its top, then come the axes, the groups and the tables."""
+"""Finds what breaks a rule in a configuration: the key and its value, by the place and the rule
+that `motion` reports. Place 0 is the text and its top, then come the axes, the groups and the
+tables."""
 
 import re
 import tomllib
@@ -227,7 +228,8 @@ def range_faults(item: dict[str, Any], cycle_us: int) -> Iterator[tuple[str, str
                                 "number of 32 bits; take a greater increment")
     start = number["start"]
     if not lo <= start <= hi:
-        yield "start", f"start is {decimal(start)}, and has to be from lo to hi, {decimal(lo)} to {decimal(hi)}"
+        yield "start", (f"start is {decimal(start)}, and has to be from lo to hi, {decimal(lo)} to "
+                        f"{decimal(hi)}")
     elif (start / increment).denominator != 1:
         yield "start", (f"start is {decimal(start)}, and no whole number of increments of "
                         f"{decimal(increment)}")
@@ -243,12 +245,12 @@ def rate_faults(number: dict[str, Fraction], cycle_us: int) -> Iterator[tuple[st
         step = number[key] * 10**9 * seconds**power // 1
         if not least <= step <= 10**10:
             low = decimal(Fraction(least, 10**9) / seconds**power)
-            yield key, (f"{key} is {decimal(number[key])}, and with a cycle of {cycle_us} us it has to "
-                        f"be from {low} to {decimal(10 / seconds**power)} units per second"
+            yield key, (f"{key} is {decimal(number[key])}, and with a cycle of {cycle_us} us it "
+                        f"has to be from {low} to {decimal(10 / seconds**power)} units per second"
                         + (" squared" if power == 2 else ""))
     if "dmax" in number and number["dmax"] < number["amax"]:
-        yield "dmax", (f"dmax is {decimal(number['dmax'])}, below amax, {decimal(number['amax'])}: an axis "
-                       "brakes at least as hard as it speeds up")
+        yield "dmax", (f"dmax is {decimal(number['dmax'])}, below amax, {decimal(number['amax'])}: "
+                       "an axis brakes at least as hard as it speeds up")
 
 
 def drive_faults(item: dict[str, Any]) -> Iterator[tuple[str, str]]:

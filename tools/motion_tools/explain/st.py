@@ -117,10 +117,11 @@ class Reader(Tokens):
         self.define(name, task)
         known = self.groups if acts_on_group(kind.text) else self.axes
         what = "group" if acts_on_group(kind.text) else "axis"
+        article = "a" if what == "group" else "an"
         if on.text not in known:
             there = ", ".join(known) or f"no {what} at all"
-            self.blame("S3", on, f"{kind.text} acts on {'a group' if what == 'group' else 'an axis'}"
-                       f", and the configuration has no {what} {on.text} but {there}")
+            self.blame("S3", on, f"{kind.text} acts on {article} {what}, and the configuration "
+                       f"has no {what} {on.text} but {there}")
         if sum(len(each.blocks) for each in self.tasks) == 256:
             self.blame("S6", name, "it is the 257th block; there are 256 at most")
         task.blocks[name.text] = (kind.text, on.text)

@@ -8,8 +8,8 @@ from motion_tools.blocks import FLAGS
 from motion_tools.explain.faults import Fault
 from motion_tools.trace import BLOCK_KINDS
 
-WORDS = frozenset("PROGRAM VAR END_VAR END_PROGRAM BOOL DINT TRUE FALSE IF THEN ELSE END_IF CASE OF "
-                  "END_CASE AND OR NOT execute".split()) | set(FLAGS)
+WORDS = frozenset("PROGRAM VAR END_VAR END_PROGRAM BOOL DINT TRUE FALSE IF THEN ELSE END_IF CASE "
+                  "OF END_CASE AND OR NOT execute".split()) | set(FLAGS)
 TOKEN = re.compile(r"(?P<blank>[ \t\r]+)|(?P<comment>\(\*)|(?P<word>[A-Za-z][A-Za-z0-9_]*)"
                    r"|(?P<number>[0-9]+)|(?P<sign>:=|<>|<=|>=|[:;,.()=<>+*-])")
 
@@ -26,7 +26,8 @@ class Stop(Exception):
 
 
 class Tokens:
-    """Goes over the tokens of a text; `here` is the one that stands next, `before` the one taken."""
+    """Goes over the tokens of a text; `here` is the one that stands next, `before` the one
+    taken."""
 
     def __init__(self, text: str):
         self.faults: list[Fault] = []

@@ -12,8 +12,8 @@ def verdict_findings(files: list[str], output: list[str]) -> tuple[list[Finding]
     words = output[0].split()
     first = words[0] if words else ""
     if first == "legal":
-        return [Finding("note", "", f"the trace is legal: the replay gives all its {words[1]} calls, "
-                        "cycles and ends")], ""
+        return [Finding("note", "", f"the trace is legal: the replay gives all its {words[1]} "
+                        "calls, cycles and ends")], ""
     if first == "illegal":
         return [illegal(files, [line.rstrip("\r\n") for line in output])], ""
     if first in STATUS_OF:

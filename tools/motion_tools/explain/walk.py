@@ -19,7 +19,8 @@ class Instruction:
 
 @dataclass
 class Remark:
-    """Something of a call at a line: a call without a rising edge, or a wait that ended otherwise."""
+    """Something of a call at a line: a call without a rising edge, or a wait that ended
+    otherwise."""
     kind: str
     cycle: int
     line: int
@@ -73,7 +74,8 @@ class Standing:
             self.place += 1
         elif "C" in call.outputs or "E" in call.outputs:
             ended = f"error {call.error}" if "E" in call.outputs else "CommandAborted"
-            self.remarks.append(Remark("wait-ended", cycle, line.line, line.text, call.block, ended))
+            remark = Remark("wait-ended", cycle, line.line, line.text, call.block, ended)
+            self.remarks.append(remark)
             self.place += 1
 
     def make(self, cycle: int, line: Instruction, call: Call) -> None:

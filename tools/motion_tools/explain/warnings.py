@@ -58,9 +58,9 @@ def ignored(run: Run) -> Iterator[Finding]:
             more = f", and {len(block.ignored) - 1} times more" if len(block.ignored) > 1 else ""
             change = difference(run, block.block.on, edge, call)
             if was_over:
-                found = warning(run, "no-edge", f"{run.who(name)} was called with {change} after its "
-                                f"command had ended, while Execute stayed true: no rising edge, and "
-                                f"no second command{more}", cycle)
+                found = warning(run, "no-edge", f"{run.who(name)} was called with {change} after "
+                                "its command had ended, while Execute stayed true: no rising "
+                                f"edge, and no second command{more}", cycle)
             else:
                 found = warning(run, "ignored-inputs", f"{run.who(name)} was called with {change} "
                                 f"while Execute stayed true: the new inputs were ignored{more}",
@@ -82,8 +82,7 @@ def difference(run: Run, on: str, edge: object, call: object) -> str:
         if old == new:
             continue
         if name == "positions":
-            shown = [", ".join(run.units.text(axis, value) for axis, value in zip(axes, values or ()))
-                     for values in (old, new)]
+            shown = [", ".join(map(run.units.text, axes, values or ())) for values in (old, new)]
             parts.append(f"pos {shown[1]} in place of {shown[0]}")
         else:
             parts.append(f"{name} {run.units.text(axes[0], new, quantity)} in place of "
@@ -105,8 +104,9 @@ def aborted(run: Run) -> Iterator[Finding]:
             continue
         if other.task == command.block.task and not mode_is_given(run.text, other.name):
             cycle = command.ended or command.begun
-            found = warning(run, "aborted-by-own-task", f"{run.who(command.block.name)} was aborted "
-                            f"by {run.who(other.name)} of the same task{where(run, command)}", cycle)
+            says = (f"{run.who(command.block.name)} was aborted by {run.who(other.name)} of the "
+                    f"same task{where(run, command)}")
+            found = warning(run, "aborted-by-own-task", says, cycle)
             yield run.at_call(found, other.name, cycle)
 
 
@@ -151,8 +151,8 @@ def early(run: Run) -> Iterator[Finding]:
                 continue
             if error * THOUSANDTH > axis.reach and error > 2 * axis.axis.inc:
                 seen.add(name)
-                yield warning(run, "done-before-drive", f"{run.who(command.block.name)} was Done at "
-                              f"{run.units.text(name, end)} while the drive reported "
+                yield warning(run, "done-before-drive", f"{run.who(command.block.name)} was Done "
+                              f"at {run.units.text(name, end)} while the drive reported "
                               f"{run.units.text(name, place)}", command.ended)
 
 
@@ -169,8 +169,8 @@ def tiny(run: Run) -> Iterator[Finding]:
         if any(ways.values()) and all(way * THOUSANDTH < run.history.axes[name].reach
                                       for name, way in ways.items()):
             shown = ", ".join(f"{name} {run.units.text(name, way)}" for name, way in ways.items())
-            found = warning(run, "tiny-move", f"{run.who(command.block.name)} moves by {shown} alone",
-                            command.begun)
+            says = f"{run.who(command.block.name)} moves by {shown} alone"
+            found = warning(run, "tiny-move", says, command.begun)
             if run.is_st:
                 unit = run.units.of_axis(next(iter(ways)))["position"][1]
                 found.cure = (f"pos is in thousandths of the user unit: pos := 200 is 0.2 {unit}, "

@@ -4,8 +4,8 @@ Each axis has three panels over the cycles: the setpoint's position, its velocit
 cycle) and its acceleration (the change of step), with the axis's limits as bands, its PLCopen state
 as a strip, spans of errors, and the calls of its blocks with their results. Groups have strips of
 their own, and so have the digital cam switches whose edges are given. Numbers are those of the
-trace, internal units and cycles, unless --config, --cycle-us or --scale give others. The same trace and
-options give the same bytes.
+trace, internal units and cycles, unless --config, --cycle-us or --scale give others. The same trace
+and options give the same bytes.
 
 A text that is no trace ends the program with status 3 and a line that names the record; what was
 read of it until then is drawn, if there was a machine. A file that can't be read ends it with 4, an
@@ -41,14 +41,14 @@ def parser() -> argparse.ArgumentParser:
                         help="the edges of digital cam switches in this trace, as `motion "
                              "switches` writes them: a lane for each")
     words.add_argument("--following", action="store_true",
-                        help="a lane of the following error, and the velocity that the drive reports")
+                        help="a panel of the following error, and the velocity of the drive")
     words.add_argument("--bits", action="store_true",
                         help="lanes of the bits of statusword and controlword")
     words.add_argument("--together", metavar="X,Y", action="append", default=[],
                         help="two to four axes in one panel; may be given several times")
     words.add_argument("--overlay", metavar="TRACE",
-                        help="a second trace, whose lines are drawn dotted below those of its axes of "
-                             "the same names")
+                        help="a second trace, whose lines are drawn dotted below those of its axes "
+                             "of the same names")
     words.add_argument("--title", help="the title; left out, the trace's axes and cycles")
     command.add_range(words, "drawn")
     words.add_argument("--width", type=int, default=1100,

@@ -77,8 +77,8 @@ def switch_section(trace: Trace, switches: Switches) -> dict[str, object]:
         blocks.append({"name": "", "kind": "", "before": 0, "value": 0,
                        "runs": with_gaps(runs_of, trace.cycles), "signals": [[name, 0]],
                        "shown": "always"})
-    return {"title": "Switches", "width": 1, "marks": [], "strip": [], "panels": [], "blocks": blocks,
-            "text": "Switches: " + ", ".join(switches) + "."}
+    return {"title": "Switches", "width": 1, "marks": [], "strip": [], "panels": [],
+            "blocks": blocks, "text": "Switches: " + ", ".join(switches) + "."}
 
 
 def with_gaps(spans_on: list[list[int]], cycles: int) -> list[list[int]]:

@@ -1,8 +1,8 @@
 """What trace_plot takes from a trace: the machine, and its cycles and calls thinned to columns.
 
-A trace is read once, as a stream, by motion_tools.trace, and what is kept of it doesn't grow with its
-length: each axis has a limited number of columns, each with the least and greatest values of its
-cycles. All numbers are integers in an axis's internal units, per cycle. A text that is no trace
+A trace is read once, as a stream, by motion_tools.trace, and what is kept of it doesn't grow with
+its length: each axis has a limited number of columns, each with the least and greatest values of
+its cycles. All numbers are integers in an axis's internal units, per cycle. A text that is no trace
 raises TraceError.
 """
 
@@ -145,7 +145,8 @@ class Axis:
 
     def drive(self, before: int, place: int, breaks: int) -> tuple[Optional[int], Optional[int]]:
         """The following error, the setpoint before less the place that the drive reports of it, and
-        the velocity that it reports; None where the setpoint made no step, or nothing is reported."""
+        the velocity that it reports; None where the setpoint made no step, or nothing is
+        reported."""
         last, self.place = self.place, place if self.has_reported else None
         if breaks or not self.has_reported:
             return None, None
@@ -294,8 +295,8 @@ def axis_of(axis: traces.Axis, limit: int, motion: Motion) -> Axis:
 def read_trace(lines: Iterable[str], first: int = 1, last: Optional[int] = None, limit: int = 2048,
                words: bool = False) -> Trace:
     """The trace of a text's lines, with the cycles from `first` to `last` in at most `limit`
-    columns, with the bits of words where they are asked for. After its machine it may be faulty: then
-    it has what was read until there, and the fault."""
+    columns, with the bits of words where they are asked for. After its machine it may be faulty:
+    then it has what was read until there, and the fault."""
     source = traces.Trace(lines)
     trace = Trace(source.machine, first, last, limit, words)
     try:

@@ -14,7 +14,8 @@ HEIGHTS = (("position", 0, 150), ("velocity", 2, 100))
 
 def together_style() -> str:
     """The classes of the lines, which differ in colour and in dashes."""
-    return "".join(f".t{place}{{stroke:{colour};stroke-width:1.8;stroke-dasharray:{dashes or 'none'}}}"
+    return "".join(f".t{place}{{stroke:{colour};stroke-width:1.8;"
+                   f"stroke-dasharray:{dashes or 'none'}}}"
                    for place, (colour, dashes) in enumerate(TOGETHER))
 
 
@@ -34,8 +35,8 @@ def draw_together(sheet: Sheet, names: Sequence[str]) -> None:
 
 
 def draw_panel(sheet: Sheet, axes: Sequence[Axis], quantity: str, place: int, height: int) -> None:
-    """A panel: with one scale where the axes have one unit, else the first one's at the left and the
-    second one's at the right."""
+    """A panel: with one scale where the axes have one unit, else the first one's at the left and
+    the second one's at the right."""
     sheet.y += GAP
     told = [sheet.units.of_axis(axis.name)[quantity] for axis in axes]
     values = [[value * factor for _, _, column in thinned(sheet, axis.lane)

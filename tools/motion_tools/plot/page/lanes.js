@@ -1,5 +1,12 @@
 // Lanes of Execute and the outputs of a block, as the standard's timing figures draw them.
 
+// What bits of words are called on a narrow screen.
+const SHORT = {CommandAborted: "Aborted", "ready to switch on": "ready", "switched on": "on",
+  "operation enabled": "enabled", "voltage enabled": "voltage", "switch on disabled": "disabled",
+  "target reached": "reached", "internal limit": "limit", "follows target": "follows",
+  "following error": "following", "enable voltage": "voltage", "enable operation": "enable",
+  "fault reset": "reset"};
+
 class Lanes {
   constructor(section, told) {
     Object.assign(this, told, {section});
@@ -29,7 +36,7 @@ class Lanes {
   drawLane(pen, name, place, y) {
     const colour = theme[this.shown === "always" ? "Done" : KINDS.includes(name) ? name : "muted"], low = y + 14, high = y + 4;
     const begin = this.section.x(from), end = this.section.x(to), stub = to >= data.cycles ? 8 : 0;
-    words(pen, narrow && name === "CommandAborted" ? "Aborted" : name, left - 8, y + 13, theme.muted, "right");
+    words(pen, narrow && SHORT[name] || name, left - 8, y + 13, theme.muted, "right");
     const spans = [...this.spans(place), [data.cycles, data.cycles, this.value >> place & 1, 0]];
     let level = this.levelBefore(place);
     pen.beginPath();
