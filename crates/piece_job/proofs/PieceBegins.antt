@@ -1,6 +1,6 @@
 -- Each text that is a piece begins as pieces do.
-use Rattle.std.specs.Prelude.{◌≡◌, refl, ℕ, ◌+◌, ◌&&◌, if◌then◌else◌, Bool, true, false, Option, Some, None, option_and_then, Result, Ok, Err, List, [], ◌∷◌, ◌++◌, codes, drop, take}
-use Rattle.std.specs.List.{join_with_byte, slice_split}
+use Rattle.std.specs.Prelude.{◌≡◌, refl, ℕ, ◌+◌, ◌&&◌, if◌then◌else◌, Bool, true, false, Option, Some, None, option_and_then, Result, Ok, Err, List, [], ◌∷◌, ◌++◌, codes, drop, nat_le, take}
+use Rattle.std.specs.List.{count_by, join_with_byte, slice_split}
 use Rattle.std.specs.Option.{ok_or}
 use Rattle.std.specs.Result.{is_ok}
 use Rattle.std.proofs.Common.{◌∙◌, ap, append_assoc, subst, sym}
@@ -19,7 +19,7 @@ use Rattle.motion_kernel.specs.Machine.{Machine}
 use Rattle.motion_kernel.specs.declared.bank.Before.{Before}
 use Rattle.piece_text.specs.declared.piece.Piece.{Piece}
 use Rattle.piece_text.specs.reading.Befores.{before_of, counts_of}
-use Rattle.piece_text.specs.reading.Lines.{fields_in}
+use Rattle.piece_text.specs.reading.Lines.{fields_in, is_comma}
 use Rattle.piece_text.specs.reading.Reading.{before_meaning, blank_line_from, halves_of, head_meaning, head_of, letter, parts_of, piece_of}
 use Rattle.piece_text.specs.reading.RuleNumbers.{no_blank_line, no_piece}
 use Rattle.trace_text.specs.TraceState.{TraceState}
@@ -50,12 +50,23 @@ said : (word text : List ℕ) → says word text ≡ true → word ≡ text
 unfolding says
 said word text h = (bytes_eq-Decides word text).0 h
 
+by-test : (b : Bool) (all : List (List ℕ)) (word : List ℕ) (more : List (List ℕ)) →
+    (if b then all else []) ≡ word ∷ more → all ≡ word ∷ more
+by-test true all word more e = e
+by-test false all word more e = absurd (cc)
+
+-- a line that has fields is split at its commas
+split-at-commas : (line word : List ℕ) (more : List (List ℕ)) → fields_in line ≡ word ∷ more →
+    slice_split is_comma line ≡ word ∷ more
+unfolding fields_in
+split-at-commas line word more e =
+    by-test (nat_le (count_by is_comma line) 63) (slice_split is_comma line) word more e
+
 line-begins : (line word version : List ℕ) (more : List (List ℕ)) →
     fields_in line ≡ word ∷ version ∷ more → word ≡ codes "piece" → HasBeginning line
-unfolding fields_in
 line-begins line word version more split is = record {
   behind = join_with_byte 44 (version ∷ more);
-  is = sym (join_with_byte-slice_split 44 line) ∙ ap (join_with_byte 44) split
+  is = sym (join_with_byte-slice_split 44 line) ∙ ap (join_with_byte 44) (split-at-commas line word (version ∷ more) split)
       ∙ ap (λ w. w ++ 44 ∷ join_with_byte 44 (version ∷ more)) is;
 }
 
