@@ -213,7 +213,8 @@ class Verdicts(unittest.TestCase):
         text = ("illegal 12\nexpected row,X,0037,6,8,DiscreteMotion,0,1,12,000f,12,\n"
                 "found row,X,0037,6,8,DiscreteMotion,0,1,13,000f,12,\n")
         output = explained(BENCH, text)
-        self.assertIn("record 12 (row): the setpoint is 13, and the replay gives 12", output)
+        self.assertIn("my.bench:12:35: error illegal: record 12 (row): the setpoint is 13, and the "
+                      "replay gives 12", output)
         first, second = output.splitlines()[1:3]
         self.assertEqual(first[second.index("^"):][:2], "13")
 

@@ -40,7 +40,7 @@ class Finding:
 
     def position(self) -> str:
         """The file, the line and the column, as far as they are known."""
-        numbers = [str(number) for number in (self.line, self.column) if number]
+        numbers = [str(number) for number in (self.line, self.line and self.column) if number]
         return ":".join([self.file, *numbers]) + ": " if self.file else ""
 
     def data(self) -> dict[str, object]:

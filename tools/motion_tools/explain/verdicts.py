@@ -47,9 +47,24 @@ def illegal(files: list[str], output: list[str]) -> Finding:
     place = next((index for index, (wanted, got) in enumerate(zip(expected, found))
                   if wanted != got), 0)
     column = len(",".join(found[:place])) + (place > 0)
-    return Finding("error", "illegal", f"record {record} ({expected[0]}): "
-                   + ("; ".join(differences) or "it differs"), cure, "", file, 0, column + 1,
+    says = f"record {record} ({expected[0]}): " + ("; ".join(differences) or "it differs")
+    return Finding("error", "illegal", says, cure, "", file, line_of(file, int(record)), column + 1,
                    max(1, len(found[place]) if found else 1), line)
+
+
+def line_of(file: str, record: int) -> int:
+    """The line of a record of a trace, which in a segment stands below the head and a blank line; 0
+    where the file can't be read."""
+    try:
+        with open(file, encoding="utf-8", errors="replace") as lines:
+            if not lines.readline().startswith("piece,"):
+                return record
+            for number, text in enumerate(lines, 2):
+                if not text.strip():
+                    return number + record
+    except OSError:
+        pass
+    return 0
 
 
 def names_of(record: list[str]) -> list[str]:
