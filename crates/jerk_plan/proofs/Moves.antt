@@ -1,9 +1,8 @@
 -- Moves arrive: each cycle brings the target nearer, or the motion to rest, from which it goes on.
-use Rattle.std.proofs.Common.{inl, inr, ◌≡◌, ◌⊎◌, ℕ, ◌+◌, ◌-◌, ◌*◌, ◌<◌, ◌≤◌, zero, suc, min, arith, refl}
+use Rattle.std.proofs.Common.{inl, inr, ◌≡◌, ◌⊎◌, ℕ, ◌+◌, ◌-◌, ◌*◌, ◌<◌, ◌≤◌, zero, suc, min, arith}
 use Rattle.std.proofs.lemmas.Bool.{cases_lt}
-use Rattle.motion_numbers.specs.Run.{run_of}
 use Rattle.jerk_core.specs.declared.rates.JerkRates.{JerkRates}
-use Rattle.jerk_core.specs.Braking.{braked_of, IsKeptAhead, IsKeptAfter, IsSafeAhead}
+use Rattle.jerk_core.specs.Braking.{braked_of}
 use Rattle.jerk_core.specs.Rates.{AreJerkRates, IsKeptBy, IsSafeBy}
 use Rattle.jerk_core.proofs.Brakes.{braked_zero}
 use Rattle.jerk_core.proofs.Ways.{braking_falls}

@@ -1,5 +1,5 @@
 -- Velocities are reached and held.
-use Rattle.std.proofs.Common.{inl, inr, ◌≡◌, ℕ, ◌+◌, ◌-◌, ◌*◌, ◌<◌, ◌≤◌, zero, suc, min, max, nat_le, if◌then◌else◌, arith, refl, ◌∙◌}
+use Rattle.std.proofs.Common.{inl, inr, ◌≡◌, ℕ, ◌+◌, ◌-◌, ◌*◌, ◌<◌, ◌≤◌, zero, suc, min, max, nat_le, arith, refl, ◌∙◌}
 use Rattle.std.proofs.lemmas.Bool.{cases_lt, le-leb, cond-true}
 use Rattle.motion_numbers.specs.Run.{run_of, reach_of}
 use Rattle.motion_numbers.proofs.Reaches.{reach_greatest}

@@ -3,7 +3,7 @@ use Rattle.std.specs.Prelude.{◌≡◌, ◌⊎◌, ℕ, ◌+◌, ◌-◌, ◌*�
 use Rattle.motion_numbers.specs.Run.{reach_of}
 use Rattle.jerk_core.specs.declared.rates.JerkRates.{JerkRates}
 use Rattle.jerk_core.specs.Braking.{braked_of}
-use Rattle.jerk_core.specs.Rates.{IsKeptBy, IsSafeBy}
+use Rattle.jerk_core.specs.Rates.{IsSafeBy}
 
 -- the speed of a move with a way to its target: the greatest that is safe by its rates in that way
 pub record IsMoveSpeed (rates : JerkRates) (way w v x : ℕ) : Type 0 where

@@ -1,5 +1,5 @@
 -- The braked speed is at most twice the speed.
-use Rattle.std.proofs.Common.{◌≤◌, ◌*◌, arith}
+use Rattle.std.proofs.Common.{arith}
 use Rattle.jerk_plan.proofs.Velocities.{braked_small}
 use Rattle.jerk_plan.proofs.speeds.halt_speed.Goals as goal
 

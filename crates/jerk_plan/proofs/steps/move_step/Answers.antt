@@ -1,5 +1,5 @@
 -- The speed of the move is that of its sizes.
-use Rattle.std.proofs.Common.{◌≡◌, ℕ, ℤ, pos, neg_ℤ, unsigned_abs, to_z, of_z, w64, FitsSigned, to_z-of_z, arith, ◌∙◌}
+use Rattle.std.proofs.Common.{◌≡◌, ℕ, pos, neg_ℤ, unsigned_abs, to_z, of_z, w64, FitsSigned, to_z-of_z, arith, ◌∙◌}
 use Rattle.std.proofs.lemmas.Int.{ints}
 use Rattle.motion_numbers.specs.Run.{cut_at_zero}
 use Rattle.motion_numbers.proofs.Runs.{cut_is}
