@@ -14,4 +14,3 @@ pub use laws::{bench_traces_are_legal, run_traces_are_legal, st_traces_are_legal
 pub use outside::{Files, Gate, Host, OutOfMemory, Sink, Spawner};
 pub use program::{top, top_of_args};
 pub use run_job::PlantJob;
-
