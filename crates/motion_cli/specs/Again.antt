@@ -1,5 +1,5 @@
 -- What is read of what was written. This project's profile.
-use Rattle.std.specs.Prelude.{ℕ, Option, List}
+use Rattle.std.specs.Prelude.{◌≡◌, ◌+◌, ℕ, Option, List}
 use Rattle.bench_job.specs.Headline.{Headline}
 use Rattle.job_ends.specs.declared.status.Status.{Status}
 use Rattle.motion_history.specs.declared.refused.TraceVersion.TheVariants.{Two}
@@ -16,10 +16,11 @@ BenchTracesAreLegal = (files : Option FileMap) (name : List ℕ) (old new : Opti
     (h : Headline files name old new) →
     IsLegalTrace (found_trace h.bench.version Bench h.bench.config h.history h.drives)
 
--- what is read of the trace of a run is a legal trace
-abbrev pub RunTracesAreLegal : Type 1
+-- what is read of the trace of a run is a legal trace, however many jobs were there before and after
+abbrev pub RunTracesAreLegal : Type 0
 RunTracesAreLegal = (files : Option FileMap) (config program : List ℕ) (old new : Option (List ℕ))
-    (Started : ℕ → Type 0) (s : Status) (h : RunHeadline files config program old new Started s) →
+    (before after : ℕ) (s : Status)
+    (h : RunHeadline files config program old new (λ n. after ≡ before + n) s) →
     IsLegalTrace (found_trace Two Run h.setup h.history h.drives)
 
 -- and so is what is read of the trace of tasks in Structured Text

@@ -6,6 +6,6 @@ use Rattle.motion_cli.proofs.WrittenLaws.{written-legal}
 use Rattle.motion_cli.proofs.laws.run_traces_are_legal.Goals as goal
 
 pub returns : goal.returns
-returns c = λ files config program old new Started s h.
+returns c = λ files config program old new before after s h.
     written-legal Two Run h.setup h.history h.drives
     (drives_after 0 (drives_at_opening h.setup.axes h.machine.drives) h.history) h.legal h.taken
