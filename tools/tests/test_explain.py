@@ -287,6 +287,11 @@ class Hints(unittest.TestCase):
         page = (ROOT / "docs" / "rules.md").read_text(encoding="utf-8")
         self.assertEqual(hints.with_index(page), page, "tools/explain --index docs/rules.md")
 
+    def test_the_statuses_are_those_of_the_page(self):
+        page = (ROOT / "docs" / "errors.md").read_text(encoding="utf-8")
+        for number, (name, means, cure) in hints.texts()["status"].items():
+            self.assertIn(f"| {number} | {name} | {means} | {cure} |", page)
+
     def test_the_rules_are_those_of_the_page(self):
         page = (ROOT / "docs" / "rules.md").read_text(encoding="utf-8")
         rules = re.findall(r"^\| ([BCPSKTG]\d+) \|", page, re.MULTILINE)
