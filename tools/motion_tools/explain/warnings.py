@@ -65,7 +65,7 @@ def ignored(run: Run) -> Iterator[Finding]:
                 found = warning(run, "ignored-inputs", f"{run.who(name)} was called with {change} "
                                 f"while Execute stayed true: the new inputs were ignored{more}",
                                 cycle)
-            yield run.at_call(found, name, cycle)
+            yield run.at_call(found, name, cycle, call)
         elif block.stale is not None and run.is_st:
             found = warning(run, "no-edge", f"{run.who(name)} was called again with Execute still "
                             "true, and showed the result of its earlier command: no rising edge, "
@@ -107,7 +107,7 @@ def aborted(run: Run) -> Iterator[Finding]:
             says = (f"{run.who(command.block.name)} was aborted by {run.who(other.name)} of the "
                     f"same task{where(run, command)}")
             found = warning(run, "aborted-by-own-task", says, cycle)
-            yield run.at_call(found, other.name, cycle)
+            yield run.at_call(found, other.name, cycle, by)
 
 
 def where(run: Run, command: Command) -> str:
@@ -175,7 +175,7 @@ def tiny(run: Run) -> Iterator[Finding]:
                 unit = run.units.of_axis(next(iter(ways)))["position"][1]
                 found.cure = (f"pos is in thousandths of the user unit: pos := 200 is 0.2 {unit}, "
                               f"and 200 {unit} are pos := 200000")
-            yield run.at_call(found, command.block.name, command.begun)
+            yield run.at_call(found, command.block.name, command.begun, command.call)
 
 
 def uncalled(run: Run) -> Iterator[Finding]:
