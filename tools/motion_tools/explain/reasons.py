@@ -84,12 +84,10 @@ def other_reason(history: History, failure: Failure, call: Call) -> str:
     state = row.state if row else failure.state
     if failure.number == 9:
         return f"the jerk is {call.jerk}, and not 0"
-    if failure.number in (12, 16) and state:
-        members = [f"{name} is in {failure.rows[name].state}"
-                   for name in history.axes_of(failure.owner)
-                   if failure.number == 12 and name in failure.rows
-                   and failure.rows[name].state != "Standstill"]
-        return "; ".join(members) or f"{failure.owner} is in {state}"
+    if failure.number == 12:
+        return not_at_rest(history, failure)
+    if failure.number == 16 and state:
+        return f"{failure.owner} is in {state}"
     if failure.number == 13 and call.follow:
         return f"the ratio is {':'.join(call.follow.split(':')[1:])}"
     if failure.number == 14 and call.follow:
@@ -101,11 +99,28 @@ def other_reason(history: History, failure: Failure, call: Call) -> str:
     return ""
 
 
+def not_at_rest(history: History, failure: Failure) -> str:
+    """Which axes weren't in Standstill: by their last rows, or as a command began after them."""
+    names = history.axes_of(failure.owner)
+    states = [f"{name} is in {failure.rows[name].state}" for name in names
+              if name in failure.rows and failure.rows[name].state != "Standstill"]
+    if states:
+        return "; ".join(states)
+    begun = [name for name in names if any(command.block.on == name and command.call is not
+                                           failure.call and command.begun == failure.cycle
+                                           for command in history.commands)]
+    who = " and ".join(begun) or (names[0] if len(names) == 1 else f"an axis of {failure.owner}")
+    return f"{who} {'have' if len(begun) > 1 else 'has'} begun a command since the last cycle"
+
+
 def axis_reason(history: History, failure: Failure, units: Units) -> str:
-    """What the row of an axis in error says."""
+    """What the row of an axis in error says, and those of a group's axes."""
     row = failure.rows.get(failure.owner)
     if row is None:
-        return ""
+        return "; ".join(f"{name} is {state_words(failure.rows[name].state)}"
+                         for name in history.members.get(failure.owner, ())
+                         if name in failure.rows
+                         and failure.rows[name].state in ("ErrorStop", "Disabled"))
     if failure.number in (101, 102):
         return f"the statusword is {row.statusword:04x} hexadecimal"
     axis = history.axes[failure.owner].axis

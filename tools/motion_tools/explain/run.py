@@ -77,7 +77,8 @@ def failures(run: Run) -> list[Finding]:
 
 def failure_of(run: Run, failure: Failure) -> Finding:
     """An error with its reason and its cure."""
-    of_group = failure.block is not None and acts_on_group(failure.block.kind)
+    of_group = acts_on_group(failure.block.kind) if failure.block else \
+        failure.owner in run.history.members
     reason, cure = hints.error(failure.number, of_group)
     exact = reason_of(run.history, failure, run.units)
     if failure.block:
