@@ -66,8 +66,20 @@ def syntax_fault(text: str, says: str) -> Fault:
         return Fault("C1", len(text.splitlines()) or 1, -1, 1, re.sub(r"\s*\(at.*", "", says))
     lines = text.split("\n")
     line = min(int(found[1]), len(lines))
+    header = re.match(rf"\s*\[+\s*({'|'.join(ITEM_KEYS)})\s*\]", lines[line - 1])
+    if header and (single := single_header(lines, header[1])):
+        return single
     word = lines[line - 1][int(found[2]) - 1:].split(" ")[0]
     return Fault("C1", line, int(found[2]) - 1, 1, says[:found.start()], word)
+
+
+def single_header(lines: list[str], kind: str) -> Optional[Fault]:
+    """The first header of a kind in single brackets, which makes one table of a list of tables."""
+    for number, line in enumerate(lines, 1):
+        if found := re.match(rf"\s*(\[\s*{kind}\s*\])", line):
+            return Fault("C1", number, found.start(1), len(found[1]), f"{found[1]} is one table, "
+                         f"and has to be of a list of tables, as [[{kind}]]", found[1])
+    return None
 
 
 def placed(text: str, rule: str, kind: str, number: int, key: str, says: str) -> Fault:
