@@ -6,7 +6,7 @@ from typing import Optional
 from motion_tools.blocks import acts_on_group
 from motion_tools.explain.history import Failure, History
 from motion_tools.trace import Call
-from motion_tools.units import Units
+from motion_tools.units import Units, decimal
 
 RATES = {6: ("velocity", "velocity", "vmax"), 7: ("acceleration", "acceleration", "amax"),
          8: ("deceleration", "acceleration", "dmax")}
@@ -24,7 +24,7 @@ def reason_of(history: History, failure: Failure, units: Units) -> str:
         return rate_reason(history, failure, call, units)
     if number == 10:
         return target_reason(history, failure, call, units)
-    return other_reason(history, failure, call)
+    return other_reason(history, failure, call, units)
 
 
 def state_reason(history: History, failure: Failure, state: str) -> str:
@@ -78,12 +78,21 @@ def limits(low: int, high: int, name: str, units: Units) -> str:
     return f"{units.text(name, low).split()[0]} to {units.text(name, high)}"
 
 
-def other_reason(history: History, failure: Failure, call: Call) -> str:
+def jerk_text(history: History, failure: Failure, call: Call, units: Units) -> str:
+    """The jerk as it is written: that of a configuration's tasks is kept in billionths of what was
+    read, that of a bench in its units."""
+    scale = units.of(history.axes_of(failure.owner)[0])
+    if history.machine.maker != "run" or scale is None or not units.cycle_us:
+        return str(call.jerk)
+    return f"{decimal((call.jerk or 0) * scale.factor)} {scale.unit}/s³"
+
+
+def other_reason(history: History, failure: Failure, call: Call, units: Units) -> str:
     """The reasons that have a value of another kind."""
     row = failure.rows.get(failure.owner)
     state = row.state if row else failure.state
     if failure.number == 9:
-        return f"the jerk is {call.jerk}, and not 0"
+        return f"the jerk is {jerk_text(history, failure, call, units)}, and not 0"
     if failure.number == 12:
         return not_at_rest(history, failure)
     if failure.number == 16 and state:

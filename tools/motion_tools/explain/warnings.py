@@ -10,6 +10,7 @@ from motion_tools.explain.history import Command
 from motion_tools.explain.run import Run
 from motion_tools.explain.walk import mode_is_given
 
+FOLLOWERS = ("GearIn", "CamIn")
 THOUSANDTH = 1000
 TWENTIETH = 20
 STILL = 10_000          # an axis that goes slower than vmax by this factor stands, but for rounding
@@ -125,9 +126,19 @@ def moving(run: Run) -> Iterator[Finding]:
     for name, axis in run.history.axes.items():
         velocity = axis.last_step[0]
         if axis.last and velocity and abs(velocity) * STILL > axis.axis.vmax:
-            yield warning(run, "ends-in-motion", f"axis {name} is in {axis.last.state} at the end, "
-                          f"at {run.units.text(name, axis.last.setpoint)} with "
-                          f"{run.units.text(name, velocity, 'velocity')}", run.history.cycles)
+            found = warning(run, "ends-in-motion", f"axis {name} is in {axis.last.state} at the "
+                            f"end, at {run.units.text(name, axis.last.setpoint)} with "
+                            f"{run.units.text(name, velocity, 'velocity')}", run.history.cycles)
+            if axis.last.state == "SynchronizedMotion":
+                found.cure = hints.ending(follower(run, name))
+            yield found
+
+
+def follower(run: Run, name: str) -> str:
+    """The kind of the command by which an axis follows another one."""
+    kinds = [command.block.kind for command in run.history.live.get(name, ())
+             if command.block.kind in FOLLOWERS and command.is_live()]
+    return kinds[-1] if kinds else FOLLOWERS[0]
 
 
 def following(run: Run) -> Iterator[Finding]:
