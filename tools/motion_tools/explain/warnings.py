@@ -105,9 +105,15 @@ def aborted(run: Run) -> Iterator[Finding]:
             continue
         if other.task == command.block.task and not mode_is_given(run.text, other.name):
             cycle = command.ended or command.begun
-            says = (f"{run.who(command.block.name)} was aborted by {run.who(other.name)} of the "
-                    f"same task{where(run, command)}")
-            found = warning(run, "aborted-by-own-task", says, cycle)
+            who = run.who(command.block.name)
+            if other.name == command.block.name:
+                found = warning(run, "aborted-by-itself", f"the Execute of {who} fell and rose "
+                                "again while its command was under way: the new command aborted "
+                                f"that one{where(run, command)}", cycle)
+            else:
+                found = warning(run, "aborted-by-own-task", f"{who} was aborted by "
+                                f"{run.who(other.name)} of the same task{where(run, command)}",
+                                cycle)
             yield run.at_call(found, other.name, cycle, by)
 
 
