@@ -13,13 +13,14 @@ from motion_tools.explain.walk import mode_is_given
 FOLLOWERS = ("GearIn", "CamIn")
 THOUSANDTH = 1000
 TWENTIETH = 20
+STARTS, SOON = 20, 10   # more starts than these, each within these cycles after the one before
 STILL = 10_000          # an axis that goes slower than vmax by this factor stands, but for rounding
 
 
 def warnings(run: Run) -> list[Finding]:
     """What is legal, and was perhaps not meant."""
     found = [*edges(run), *ignored(run), *aborted(run), *moving(run), *following(run), *early(run),
-             *tiny(run), *uncalled(run)]
+             *tiny(run), *restarted(run), *geared(run), *uncalled(run)]
     return sorted(found, key=lambda finding: (finding.cycle is None, finding.cycle or 0))
 
 
@@ -193,6 +194,38 @@ def tiny(run: Run) -> Iterator[Finding]:
                 found.cure = (f"pos is in thousandths of the user unit: pos := 200 is 0.2 {unit}, "
                               f"and 200 {unit} are pos := 200000")
             yield run.at_call(found, command.block.name, command.begun, command.call)
+
+
+def restarted(run: Run) -> Iterator[Finding]:
+    """Blocks that start again and again, a few cycles after the start before."""
+    starts: dict[str, list[Command]] = {}
+    for command in run.history.commands:
+        starts.setdefault(command.block.name, []).append(command)
+    for name, commands in starts.items():
+        soon = [later for earlier, later in zip(commands, commands[1:])
+                if later.begun - earlier.begun <= SOON]
+        if len(soon) > STARTS:
+            found = warning(run, "started-again", f"{run.who(name)} was started {len(commands)} "
+                            f"times, {len(soon)} of them at most {SOON} cycles after the start "
+                            "before", soon[0].begun)
+            yield run.at_call(found, name, soon[0].begun, soon[0].call)
+
+
+def geared(run: Run) -> Iterator[Finding]:
+    """Gears that ended before their masters moved."""
+    for command in run.history.commands:
+        by, follow = command.aborted_by, command.call.follow
+        if command.block.kind != "GearIn" or not command.reached or by is None or not follow:
+            continue
+        master, numerator, *_ = follow.split(":")
+        other = run.history.blocks[by.block].block
+        if other.kind != "GearOut" or numerator == "0" or any(command.velocity.values()):
+            continue
+        cycle = command.ended or command.begun
+        found = warning(run, "geared-at-rest", f"{run.who(command.block.name)} was InGear while its "
+                        f"master {master} was at rest, and {run.who(other.name)} ended the gear "
+                        f"before {master} moved", cycle)
+        yield run.at_call(found, other.name, cycle, by)
 
 
 def uncalled(run: Run) -> Iterator[Finding]:
