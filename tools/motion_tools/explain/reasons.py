@@ -10,6 +10,11 @@ from motion_tools.units import Units, decimal
 
 RATES = {6: ("velocity", "velocity", "vmax"), 7: ("acceleration", "acceleration", "amax"),
          8: ("deceleration", "acceleration", "dmax")}
+EXACT = 12          # digits of a rate and its limit, where fewer don't tell them apart
+MOVING = ("GroupStandby", "GroupMoving")
+LEADS = {"GroupEnable": ("GroupDisabled",), "GroupDisable": ("GroupDisabled", "GroupStandby"),
+         "GroupHalt": MOVING, "GroupStop": MOVING,
+         "MoveLinearAbsolute": MOVING, "MoveCircularAbsolute": MOVING}      # states by kinds
 STATE_OF = {1: "Disabled", 2: "ErrorStop", 3: "Stopping", 4: "Homing"}
 
 
@@ -50,7 +55,10 @@ def rate_reason(history: History, failure: Failure, call: Call, units: Units) ->
     given = units.text(axis, value, quantity)
     if failure.owner in history.members:
         return f"the {name} is {given}"
-    greatest = units.text(axis, getattr(history.axes[axis].axis, limit), quantity)
+    most = getattr(history.axes[axis].axis, limit)
+    greatest = units.text(axis, most, quantity)
+    if given == greatest:
+        given, greatest = (units.text(axis, each, quantity, EXACT) for each in (value, most))
     if value == 0:
         return (f"the {name} is 0, as it was left out or is less than an internal unit a cycle; "
                 f"{limit} is {greatest}")
@@ -95,7 +103,9 @@ def other_reason(history: History, failure: Failure, call: Call, units: Units) -
         return f"the jerk is {jerk_text(history, failure, call, units)}, and not 0"
     if failure.number == 12:
         return not_at_rest(history, failure)
-    if failure.number == 16 and state:
+    if failure.number == 16 and state and failure.block:
+        if state in LEADS.get(failure.block.kind, ()):
+            return f"a call since the last cycle changed the state of {failure.owner}"
         return f"{failure.owner} is in {state}"
     if failure.number == 13 and call.follow:
         return f"the ratio is {':'.join(call.follow.split(':')[1:])}"
