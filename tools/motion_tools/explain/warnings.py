@@ -222,9 +222,9 @@ def geared(run: Run) -> Iterator[Finding]:
         if other.kind != "GearOut" or numerator == "0" or any(command.velocity.values()):
             continue
         cycle = command.ended or command.begun
-        found = warning(run, "geared-at-rest", f"{run.who(command.block.name)} was InGear while its "
-                        f"master {master} was at rest, and {run.who(other.name)} ended the gear "
-                        f"before {master} moved", cycle)
+        found = warning(run, "geared-at-rest", f"{run.who(command.block.name)} was InGear while "
+                        f"its master {master} was at rest, and {run.who(other.name)} ended the "
+                        f"gear before {master} moved", cycle)
         yield run.at_call(found, other.name, cycle, by)
 
 
