@@ -9,7 +9,7 @@ from motion_tools.blocks import LETTERS
 from motion_tools.explain.st import tasks_of
 from motion_tools.explain.st_tree import (Assign, CallOf, Case, Flag, If, Join, Number, Sign,
                                           Statements, Task, Tree, Truth, Variable)
-from motion_tools.explain.walk import Made, line_in
+from motion_tools.explain.walk import Made, keep_line, line_in
 from motion_tools.trace import Call
 
 MOST_STATEMENTS = 3_000_000         # that are scanned; a longer run has no lines
@@ -120,7 +120,7 @@ class Scanned:
         if call.execute or call.block not in self.edges:
             self.edges[call.block] = self.waits_for.line
         if len(self.made) < MOST_CALLS:
-            self.made.setdefault((cycle, call.block), []).append((call, self.edges[call.block]))
+            keep_line(self.made, cycle, call, self.edges[call.block])
         self.go_on()
 
     def next_scan(self) -> None:

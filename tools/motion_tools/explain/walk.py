@@ -29,16 +29,22 @@ class Remark:
     detail: str = ""
 
 
-# By a cycle and a block the calls after that cycle, each with the line to name: its own, or that of
-# the last call on where it is off or asks anew.
-Made = dict[tuple[int, str], list[tuple[Call, int]]]
+# By a cycle and a block the calls after that cycle, as their hashes, each with the line to name: its
+# own, or that of the last call on where it is off or asks anew.
+Made = dict[tuple[int, str], tuple[tuple[int, int], ...]]
+
+
+def keep_line(made: Made, cycle: int, call: Call, line: int) -> None:
+    """Keeps the line of a call after a cycle."""
+    made[cycle, call.block] = (*made.get((cycle, call.block), ()), (hash(call), line))
 
 
 def line_in(made: Made, cycle: int, block: str, call: Optional[Call]) -> int:
-    """The line of a call of a block after a cycle, of the last one where none is given; 0 where it
-    isn't known."""
-    found = [line for each, line in made.get((cycle, block), ()) if call is None or each is call]
-    return found[-1] if found else 0
+    """The line of a call of a block after a cycle, the first one of several that are alike; of the
+    last one where none is given; 0 where it isn't known."""
+    found = [line for each, line in made.get((cycle, block), ())
+             if call is None or each == hash(call)]
+    return found[-1 if call is None else 0] if found else 0
 
 
 @dataclass
@@ -106,7 +112,7 @@ class Standing:
 
     def keep(self, cycle: int, call: Call) -> None:
         """Keeps the line of a call."""
-        self.made.setdefault((cycle, call.block), []).append((call, self.edges.get(call.block, 0)))
+        keep_line(self.made, cycle, call, self.edges.get(call.block, 0))
 
 
 class Walk:
