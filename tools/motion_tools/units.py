@@ -8,6 +8,7 @@ cycle is and how much an internal unit is.
 
 import re
 from collections.abc import Iterable, Mapping
+from decimal import Decimal
 from typing import NamedTuple, Optional
 
 from motion_tools.trace import Axis, Call, Cycle, Machine, Row
@@ -118,12 +119,13 @@ class Units:
             return self.cycle_us / 1e3, "time [ms]"
         return self.cycle_us / 1e6, "time [s]"
 
-    def text(self, axis: str, number: Optional[float], quantity: str = "position") -> str:
-        """A number of an axis with its unit, as `12.5 mm/s`, in at most six digits."""
+    def text(self, axis: str, number: Optional[float], quantity: str = "position",
+             digits: int = 6) -> str:
+        """A number of an axis with its unit, as `12.5 mm/s`, in at most so many digits."""
         if number is None:
             return "none"
         factor, unit = self.of_axis(axis)[quantity]
-        return f"{number if self.of(axis) is None else f'{number * factor:.6g}'} {unit}"
+        return f"{number if self.of(axis) is None else plain(number * factor, digits)} {unit}"
 
     def time_text(self, cycles: float) -> str:
         """A time with its unit, as `1.25 s`; in cycles where a cycle's length isn't known."""
@@ -145,6 +147,11 @@ def scaled(numbers: Iterable[Optional[float]], factors: Iterable[float]) -> list
     """Numbers, of which some may be None, times these factors, as they are written."""
     return [None if number is None else decimal(number * factor)
             for number, factor in zip(numbers, factors)]
+
+
+def plain(value: float, digits: int) -> str:
+    """A number in at most so many digits, without an exponent, as a configuration has it."""
+    return format(Decimal(f"{value:.{digits}g}"), "f")
 
 
 def decimal(value: float) -> str:

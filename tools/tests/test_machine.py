@@ -1,6 +1,8 @@
 """Tests of motion-run, and of switch files in the machine's units."""
 
 import pathlib
+import shutil
+import subprocess
 import tempfile
 import unittest
 
@@ -38,6 +40,30 @@ class Folder(unittest.TestCase):
                                       self.path("run.trace"))
         self.assertEqual(output, "")
         return status, faults
+
+
+class Links(unittest.TestCase):
+    """Programs that are called by a link elsewhere."""
+
+    def test_motion_finds_its_folder(self):
+        with tempfile.TemporaryDirectory() as folder:
+            top, link = pathlib.Path(folder) / "top", pathlib.Path(folder) / "link"
+            program = top / "crates" / "motion_main" / "out" / "motion_main"
+            program.parent.mkdir(parents=True)
+            (top / "crates" / "motion_main" / "src").mkdir()
+            shutil.copy(TOOLS.parent / "motion", top)
+            program.write_text("#!/bin/sh\necho ran $*\n", encoding="utf-8")
+            program.chmod(0o755)
+            link.symlink_to(top / "motion")
+            done = subprocess.run([link, "check", "a"], capture_output=True, encoding="utf-8",
+                                  check=False)
+            self.assertEqual((done.returncode, done.stdout), (0, "ran check a\n"))
+
+    def test_the_old_name_of_explain_finds_its_folder(self):
+        with tempfile.TemporaryDirectory() as folder:
+            link = pathlib.Path(folder) / "told"
+            link.symlink_to(TOOLS / "told")
+            self.assertEqual(run(link, "S2")[0], 0)
 
 
 @unittest.skipUnless(MOTION.exists(), "the program isn't built")

@@ -94,6 +94,12 @@ def stands_cure(run: Run, name: str) -> str:
         flag = re.search(rf"\b{block}\.done\b", run.text)
         if told.block.task == name and never and flag:
             return never[1]
+    powers = [block for block, told in run.history.blocks.items()
+              if told.block.kind == "Power" and told.block.task == name and told.last
+              and "R" not in told.last.outputs and told.last_cycle < run.history.cycles - 1]
+    if powers:
+        return (f"call the Power {' and '.join(powers)} in each scan: reached is what its last "
+                "call showed, and it wasn't called again")
     return ("see which state the task stands in: one whose block isn't called, or whose condition "
             "never holds, stays")
 

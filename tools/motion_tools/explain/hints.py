@@ -115,6 +115,11 @@ def warning(name: str) -> tuple[str, str]:
     return says, cure
 
 
+def ending(kind: str) -> str:
+    """How an axis that follows another one by a block of a kind is brought to rest."""
+    return texts()["ending"][kind]      # type: ignore[return-value]
+
+
 # The index by symptom
 
 def index() -> str:

@@ -33,6 +33,7 @@ class Command:
     aborted_by: Optional[Call] = None
     is_active: bool = False
     active_from: int = 0
+    reached: bool = False                                       # InGear, InSync or InVelocity
     target: dict[str, int] = field(default_factory=dict)        # of a move, by axis
 
     def is_live(self) -> bool:
@@ -221,6 +222,7 @@ class History:
         if command is None:
             return
         command.is_active = "A" in call.outputs
+        command.reached = command.reached or "R" in call.outputs
         letter = next((letter for letter in "DCE" if letter in call.outputs), "")
         if not letter or command.result:
             return

@@ -6,10 +6,15 @@ from typing import Optional
 from motion_tools.blocks import acts_on_group
 from motion_tools.explain.history import Failure, History
 from motion_tools.trace import Call
-from motion_tools.units import Units
+from motion_tools.units import Units, decimal
 
 RATES = {6: ("velocity", "velocity", "vmax"), 7: ("acceleration", "acceleration", "amax"),
          8: ("deceleration", "acceleration", "dmax")}
+EXACT = 12          # digits of a rate and its limit, where fewer don't tell them apart
+MOVING = ("GroupStandby", "GroupMoving")
+LEADS = {"GroupEnable": ("GroupDisabled",), "GroupDisable": ("GroupDisabled", "GroupStandby"),
+         "GroupHalt": MOVING, "GroupStop": MOVING,
+         "MoveLinearAbsolute": MOVING, "MoveCircularAbsolute": MOVING}      # states by kinds
 STATE_OF = {1: "Disabled", 2: "ErrorStop", 3: "Stopping", 4: "Homing"}
 
 
@@ -24,7 +29,7 @@ def reason_of(history: History, failure: Failure, units: Units) -> str:
         return rate_reason(history, failure, call, units)
     if number == 10:
         return target_reason(history, failure, call, units)
-    return other_reason(history, failure, call)
+    return other_reason(history, failure, call, units)
 
 
 def state_reason(history: History, failure: Failure, state: str) -> str:
@@ -50,7 +55,10 @@ def rate_reason(history: History, failure: Failure, call: Call, units: Units) ->
     given = units.text(axis, value, quantity)
     if failure.owner in history.members:
         return f"the {name} is {given}"
-    greatest = units.text(axis, getattr(history.axes[axis].axis, limit), quantity)
+    most = getattr(history.axes[axis].axis, limit)
+    greatest = units.text(axis, most, quantity)
+    if given == greatest:
+        given, greatest = (units.text(axis, each, quantity, EXACT) for each in (value, most))
     if value == 0:
         return (f"the {name} is 0, as it was left out or is less than an internal unit a cycle; "
                 f"{limit} is {greatest}")
@@ -78,18 +86,27 @@ def limits(low: int, high: int, name: str, units: Units) -> str:
     return f"{units.text(name, low).split()[0]} to {units.text(name, high)}"
 
 
-def other_reason(history: History, failure: Failure, call: Call) -> str:
+def jerk_text(history: History, failure: Failure, call: Call, units: Units) -> str:
+    """The jerk as it is written: that of a configuration's tasks is kept in billionths of what was
+    read, that of a bench in its units."""
+    scale = units.of(history.axes_of(failure.owner)[0])
+    if history.machine.maker != "run" or scale is None or not units.cycle_us:
+        return str(call.jerk)
+    return f"{decimal((call.jerk or 0) * scale.factor)} {scale.unit}/s³"
+
+
+def other_reason(history: History, failure: Failure, call: Call, units: Units) -> str:
     """The reasons that have a value of another kind."""
     row = failure.rows.get(failure.owner)
     state = row.state if row else failure.state
     if failure.number == 9:
-        return f"the jerk is {call.jerk}, and not 0"
-    if failure.number in (12, 16) and state:
-        members = [f"{name} is in {failure.rows[name].state}"
-                   for name in history.axes_of(failure.owner)
-                   if failure.number == 12 and name in failure.rows
-                   and failure.rows[name].state != "Standstill"]
-        return "; ".join(members) or f"{failure.owner} is in {state}"
+        return f"the jerk is {jerk_text(history, failure, call, units)}, and not 0"
+    if failure.number == 12:
+        return not_at_rest(history, failure)
+    if failure.number == 16 and state and failure.block:
+        if state in LEADS.get(failure.block.kind, ()):
+            return f"a call since the last cycle changed the state of {failure.owner}"
+        return f"{failure.owner} is in {state}"
     if failure.number == 13 and call.follow:
         return f"the ratio is {':'.join(call.follow.split(':')[1:])}"
     if failure.number == 14 and call.follow:
@@ -101,11 +118,28 @@ def other_reason(history: History, failure: Failure, call: Call) -> str:
     return ""
 
 
+def not_at_rest(history: History, failure: Failure) -> str:
+    """Which axes weren't in Standstill: by their last rows, or as a command began after them."""
+    names = history.axes_of(failure.owner)
+    states = [f"{name} is in {failure.rows[name].state}" for name in names
+              if name in failure.rows and failure.rows[name].state != "Standstill"]
+    if states:
+        return "; ".join(states)
+    begun = [name for name in names if any(command.block.on == name and command.call is not
+                                           failure.call and command.begun == failure.cycle
+                                           for command in history.commands)]
+    who = " and ".join(begun) or (names[0] if len(names) == 1 else f"an axis of {failure.owner}")
+    return f"{who} {'have' if len(begun) > 1 else 'has'} begun a command since the last cycle"
+
+
 def axis_reason(history: History, failure: Failure, units: Units) -> str:
-    """What the row of an axis in error says."""
+    """What the row of an axis in error says, and those of a group's axes."""
     row = failure.rows.get(failure.owner)
     if row is None:
-        return ""
+        return "; ".join(f"{name} is {state_words(failure.rows[name].state)}"
+                         for name in history.members.get(failure.owner, ())
+                         if name in failure.rows
+                         and failure.rows[name].state in ("ErrorStop", "Disabled"))
     if failure.number in (101, 102):
         return f"the statusword is {row.statusword:04x} hexadecimal"
     axis = history.axes[failure.owner].axis

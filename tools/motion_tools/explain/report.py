@@ -42,6 +42,8 @@ def result_of(command: Command) -> str:
         return f"Error {command.error}"
     if command.result:
         return command.result
+    if command.aborted_by and command.aborted_by.block == command.block.name:
+        return "aborted by its own next edge"
     if command.aborted_by:
         return f"aborted by {command.aborted_by.block}"
     return "ended" if command.end else "under way at the end"

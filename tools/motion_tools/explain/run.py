@@ -10,6 +10,7 @@ from motion_tools.explain.history import Failure, History
 from motion_tools.explain.reasons import reason_of
 from motion_tools.explain.scans import Scans
 from motion_tools.explain.walk import Walk
+from motion_tools.trace import Call
 from motion_tools.units import Units
 
 WHOLE = (1, 2, 3, 4, 6, 7, 8, 9, 10, 14)      # ErrorIDs whose reason in numbers says all
@@ -56,12 +57,13 @@ class Run:
             finding.text = self.text.split("\n")[line - 1].strip()
         return finding
 
-    def at_call(self, finding: Finding, block: str, cycle: Optional[int] = None) -> Finding:
-        """A finding with the line of a call after a cycle, else of the block's last one."""
+    def at_call(self, finding: Finding, block: str, cycle: int,
+                call: Optional[Call] = None) -> Finding:
+        """A finding with the line of a call after a cycle, of the block's last one there where the
+        call isn't given."""
         if self.tasks is None:
             return finding
-        return self.at(finding, self.tasks.line_of(block) if cycle is None
-                       else self.tasks.line_at(cycle, block))
+        return self.at(finding, self.tasks.line_at(cycle, block, call))
 
 
 def failures(run: Run) -> list[Finding]:
@@ -75,7 +77,8 @@ def failures(run: Run) -> list[Finding]:
 
 def failure_of(run: Run, failure: Failure) -> Finding:
     """An error with its reason and its cure."""
-    of_group = failure.block is not None and acts_on_group(failure.block.kind)
+    of_group = acts_on_group(failure.block.kind) if failure.block else \
+        failure.owner in run.history.members
     reason, cure = hints.error(failure.number, of_group)
     exact = reason_of(run.history, failure, run.units)
     if failure.block:
@@ -86,4 +89,5 @@ def failure_of(run: Run, failure: Failure) -> Finding:
         reason = exact if failure.number in WHOLE else f"{reason}: {exact}"
     found = Finding("error", str(failure.number), f"{who}: {reason}", cure,
                     when=run.when(failure.cycle, failure.block is None), cycle=failure.cycle)
-    return run.at_call(found, failure.block.name, failure.cycle) if failure.block else found
+    return run.at_call(found, failure.block.name, failure.cycle, failure.call) \
+        if failure.block else found

@@ -9,6 +9,7 @@ from motion_tools.blocks import LETTERS
 from motion_tools.explain.st import tasks_of
 from motion_tools.explain.st_tree import (Assign, CallOf, Case, Flag, If, Join, Number, Sign,
                                           Statements, Task, Tree, Truth, Variable)
+from motion_tools.explain.walk import Made, keep_line, line_in
 from motion_tools.trace import Call
 
 MOST_STATEMENTS = 3_000_000         # that are scanned; a longer run has no lines
@@ -38,7 +39,8 @@ class Scanned:
     reply: Optional[Call] = None
     states: list[int] = field(default_factory=list)     # of each CASE that was scanned: its branch
     calls: dict[str, int] = field(default_factory=dict)             # lines of the last calls
-    made: dict[tuple[int, str], int] = field(default_factory=dict)
+    edges: dict[str, int] = field(default_factory=dict)             # and of the last ones on
+    made: Made = field(default_factory=dict)
     count: int = 0
     is_lost: bool = False
     steps: Iterator[None] = iter(())
@@ -115,8 +117,10 @@ class Scanned:
             return
         self.replies[call.block] = call.outputs
         self.calls[call.block] = self.waits_for.line
+        if call.execute or call.block not in self.edges:
+            self.edges[call.block] = self.waits_for.line
         if len(self.made) < MOST_CALLS:
-            self.made[cycle, call.block] = self.waits_for.line
+            keep_line(self.made, cycle, call, self.edges[call.block])
         self.go_on()
 
     def next_scan(self) -> None:
@@ -154,9 +158,9 @@ class Scans:
         """The line of the last call of a block; 0 where it isn't known."""
         return self.owner[block].calls.get(block, 0) if block in self.owner else 0
 
-    def line_at(self, cycle: int, block: str) -> int:
+    def line_at(self, cycle: int, block: str, call: Optional[Call] = None) -> int:
         """The line of the call of a block after a cycle."""
-        return self.owner[block].made.get((cycle, block), 0) if block in self.owner else 0
+        return line_in(self.owner[block].made, cycle, block, call) if block in self.owner else 0
 
     def declared(self, block: str) -> int:
         """The line in which a block is declared."""

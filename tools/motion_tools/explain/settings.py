@@ -5,10 +5,12 @@ tables."""
 import re
 import tomllib
 from collections.abc import Callable, Iterator
+from decimal import Decimal
 from fractions import Fraction
+from math import ceil
 from typing import Any, Optional
 
-from motion_tools.config import QUANTITY
+from motion_tools.config import QUANTITY, units_in
 from motion_tools.explain.faults import Fault
 
 TOP = {"cycle_us": "integer", "cycles": "integer", "entries": "integer", "axis": "tables",
@@ -54,7 +56,7 @@ def fault_at(text: str, place: int, rule: str) -> Optional[Fault]:
     except RecursionError:
         return Fault("C1", len(text.splitlines()) or 1, -1, 1, "brackets are nested too deep") \
             if rule == "C1" else None
-    for kind, number, key, says in broken(data, place, rule):
+    for kind, number, key, says in broken(data, place, rule, units_in(text)):
         return placed(text, rule, kind, number, key, says)
     return None
 
@@ -66,8 +68,20 @@ def syntax_fault(text: str, says: str) -> Fault:
         return Fault("C1", len(text.splitlines()) or 1, -1, 1, re.sub(r"\s*\(at.*", "", says))
     lines = text.split("\n")
     line = min(int(found[1]), len(lines))
+    header = re.match(rf"\s*\[+\s*({'|'.join(ITEM_KEYS)})\s*\]", lines[line - 1])
+    if header and (single := single_header(lines, header[1])):
+        return single
     word = lines[line - 1][int(found[2]) - 1:].split(" ")[0]
     return Fault("C1", line, int(found[2]) - 1, 1, says[:found.start()], word)
+
+
+def single_header(lines: list[str], kind: str) -> Optional[Fault]:
+    """The first header of a kind in single brackets, which makes one table of a list of tables."""
+    for number, line in enumerate(lines, 1):
+        if found := re.match(rf"\s*(\[\s*{kind}\s*\])", line):
+            return Fault("C1", number, found.start(1), len(found[1]), f"{found[1]} is one table, "
+                         f"and has to be of a list of tables, as [[{kind}]]", found[1])
+    return None
 
 
 def placed(text: str, rule: str, kind: str, number: int, key: str, says: str) -> Fault:
@@ -103,8 +117,10 @@ def items_of(data: dict[str, Any]) -> list[Item]:
             if isinstance(item, dict)]
 
 
-def broken(data: dict[str, Any], place: int, rule: str) -> Iterator[tuple[str, int, str, str]]:
-    """What breaks a rule at a place: the kind and the number of the item, the key, and why."""
+def broken(data: dict[str, Any], place: int, rule: str,
+           units: list[str]) -> Iterator[tuple[str, int, str, str]]:
+    """What breaks a rule at a place: the kind and the number of the item, the key, and why. `units`
+    are those of the axes."""
     if place == 0:
         yield from (("", 0, key, says) for key, says in top_faults(data, rule))
         return
@@ -118,7 +134,8 @@ def broken(data: dict[str, Any], place: int, rule: str) -> Iterator[tuple[str, i
     elif rule == "C4":
         found = name_faults(items, place - 1)
     elif rule == "C5":
-        found = range_faults(item, data["cycle_us"])
+        unit = units[number] if kind == "axis" else ""
+        found = range_faults(item, data["cycle_us"], unit)
     elif rule == "C6":
         found = count_faults(item, kind)
     else:
@@ -208,7 +225,7 @@ def name_faults(items: list[Item], place: int) -> Iterator[tuple[str, str]]:
             yield "axes", f"{axis} is in {taken.get(axis, 'this group')} already"
 
 
-def range_faults(item: dict[str, Any], cycle_us: int) -> Iterator[tuple[str, str]]:
+def range_faults(item: dict[str, Any], cycle_us: int, unit: str) -> Iterator[tuple[str, str]]:
     """Numbers of an axis that are outside their ranges."""
     number = {key: Fraction(str(item[key])) for key in ITEM_KEYS["axis"]
               if ITEM_KEYS["axis"][key] == "quantity" and key in item}
@@ -218,7 +235,7 @@ def range_faults(item: dict[str, Any], cycle_us: int) -> Iterator[tuple[str, str
             yield key, f"{key} is {decimal(number[key])}, and has to be within 1,000,000 of 0"
     if lo >= hi:
         yield "hi", f"hi is {decimal(hi)}, and has to be above lo, {decimal(lo)}"
-    yield from rate_faults(number, cycle_us)
+    yield from rate_faults(number, cycle_us, unit)
     if not 0 < increment <= 1:
         yield "increment", f"increment is {decimal(increment)}, and has to be above 0 and at most 1"
         return
@@ -236,7 +253,8 @@ def range_faults(item: dict[str, Any], cycle_us: int) -> Iterator[tuple[str, str
     yield from drive_faults(item)
 
 
-def rate_faults(number: dict[str, Fraction], cycle_us: int) -> Iterator[tuple[str, str]]:
+def rate_faults(number: dict[str, Fraction], cycle_us: int,
+                unit: str) -> Iterator[tuple[str, str]]:
     """Rates that are no steps of a cycle in their range."""
     seconds = Fraction(cycle_us, 10**6)
     for key, power, least in (("vmax", 1, 1), ("amax", 2, 2), ("dmax", 2, 2)):
@@ -244,9 +262,9 @@ def rate_faults(number: dict[str, Fraction], cycle_us: int) -> Iterator[tuple[st
             continue
         step = number[key] * 10**9 * seconds**power // 1
         if not least <= step <= 10**10:
-            low = decimal(Fraction(least, 10**9) / seconds**power)
+            low = decimal(Fraction(ceil(least / seconds**power), 10**9))
             yield key, (f"{key} is {decimal(number[key])}, and with a cycle of {cycle_us} us it "
-                        f"has to be from {low} to {decimal(10 / seconds**power)} units per second"
+                        f"has to be from {low} to {decimal(10 / seconds**power)} {unit} per second"
                         + (" squared" if power == 2 else ""))
     if "dmax" in number and number["dmax"] < number["amax"]:
         yield "dmax", (f"dmax is {decimal(number['dmax'])}, below amax, {decimal(number['amax'])}: "
@@ -287,5 +305,7 @@ def point_faults(item: dict[str, Any]) -> Iterator[tuple[str, str]]:
 
 
 def decimal(number: Fraction) -> str:
-    """A quantity as a decimal number."""
-    return f"{float(number):.10g}"
+    """A quantity as a decimal number, as a configuration has it: without an exponent, with at most
+    nine digits after the point."""
+    text = format(Decimal(number * 10**9 // 1).scaleb(-9), "f")
+    return text.rstrip("0").rstrip(".")

@@ -29,6 +29,24 @@ class Remark:
     detail: str = ""
 
 
+# By a cycle and a block the calls after that cycle, as their hashes, each with the line to name: its
+# own, or that of the last call on where it is off or asks anew.
+Made = dict[tuple[int, str], tuple[tuple[int, int], ...]]
+
+
+def keep_line(made: Made, cycle: int, call: Call, line: int) -> None:
+    """Keeps the line of a call after a cycle."""
+    made[cycle, call.block] = (*made.get((cycle, call.block), ()), (hash(call), line))
+
+
+def line_in(made: Made, cycle: int, block: str, call: Optional[Call]) -> int:
+    """The line of a call of a block after a cycle, the first one of several that are alike; of the
+    last one where none is given; 0 where it isn't known."""
+    found = [line for each, line in made.get((cycle, block), ())
+             if call is None or each == hash(call)]
+    return found[-1 if call is None else 0] if found else 0
+
+
 @dataclass
 class Standing:
     """A task, and where it is in its lines."""
@@ -41,7 +59,8 @@ class Standing:
     begin: int = 0                  # where its lines begin
     execute: dict[str, bool] = field(default_factory=dict)
     called: dict[str, Instruction] = field(default_factory=dict)    # by block, the last one
-    made: dict[tuple[int, str], Instruction] = field(default_factory=dict)
+    edges: dict[str, int] = field(default_factory=dict)     # by block, the line of its last call on
+    made: Made = field(default_factory=dict)
     remarks: list[Remark] = field(default_factory=list)
 
     def here(self) -> Optional[Instruction]:
@@ -69,6 +88,8 @@ class Standing:
             self.make(cycle, line, call)
             self.place += 1
             return
+        if "E" in call.outputs:
+            self.keep(cycle, call)
         letter = LETTERS[line.words[2]]
         if letter in call.outputs:
             self.place += 1
@@ -84,7 +105,14 @@ class Standing:
         if call.execute and self.execute.get(call.block) and kind != "Power":
             self.remarks.append(Remark("no-edge", cycle, line.line, line.text, call.block))
         self.execute[call.block] = call.execute
-        self.called[call.block] = self.made[cycle, call.block] = line
+        self.called[call.block] = line
+        if call.execute or call.block not in self.edges:
+            self.edges[call.block] = line.line
+        self.keep(cycle, call)
+
+    def keep(self, cycle: int, call: Call) -> None:
+        """Keeps the line of a call."""
+        keep_line(self.made, cycle, call, self.edges.get(call.block, 0))
 
 
 class Walk:
@@ -117,10 +145,9 @@ class Walk:
         found = self.owner[block].called.get(block) if block in self.owner else None
         return found.line if found else 0
 
-    def line_at(self, cycle: int, block: str) -> int:
+    def line_at(self, cycle: int, block: str, call: Optional[Call] = None) -> int:
         """The line whose call of a block was made after a cycle."""
-        found = self.owner[block].made.get((cycle, block)) if block in self.owner else None
-        return found.line if found else 0
+        return line_in(self.owner[block].made, cycle, block, call) if block in self.owner else 0
 
     def declared(self, block: str) -> int:
         """The line in which a block is declared."""

@@ -10,15 +10,17 @@ from motion_tools.explain.history import Command
 from motion_tools.explain.run import Run
 from motion_tools.explain.walk import mode_is_given
 
+FOLLOWERS = ("GearIn", "CamIn")
 THOUSANDTH = 1000
 TWENTIETH = 20
+STARTS, SOON = 20, 10   # more starts than these, each within these cycles after the one before
 STILL = 10_000          # an axis that goes slower than vmax by this factor stands, but for rounding
 
 
 def warnings(run: Run) -> list[Finding]:
     """What is legal, and was perhaps not meant."""
     found = [*edges(run), *ignored(run), *aborted(run), *moving(run), *following(run), *early(run),
-             *tiny(run), *uncalled(run)]
+             *tiny(run), *restarted(run), *geared(run), *uncalled(run)]
     return sorted(found, key=lambda finding: (finding.cycle is None, finding.cycle or 0))
 
 
@@ -65,7 +67,7 @@ def ignored(run: Run) -> Iterator[Finding]:
                 found = warning(run, "ignored-inputs", f"{run.who(name)} was called with {change} "
                                 f"while Execute stayed true: the new inputs were ignored{more}",
                                 cycle)
-            yield run.at_call(found, name, cycle)
+            yield run.at_call(found, name, cycle, call)
         elif block.stale is not None and run.is_st:
             found = warning(run, "no-edge", f"{run.who(name)} was called again with Execute still "
                             "true, and showed the result of its earlier command: no rising edge, "
@@ -104,10 +106,16 @@ def aborted(run: Run) -> Iterator[Finding]:
             continue
         if other.task == command.block.task and not mode_is_given(run.text, other.name):
             cycle = command.ended or command.begun
-            says = (f"{run.who(command.block.name)} was aborted by {run.who(other.name)} of the "
-                    f"same task{where(run, command)}")
-            found = warning(run, "aborted-by-own-task", says, cycle)
-            yield run.at_call(found, other.name, cycle)
+            who = run.who(command.block.name)
+            if other.name == command.block.name:
+                found = warning(run, "aborted-by-itself", f"the Execute of {who} fell and rose "
+                                "again while its command was under way: the new command aborted "
+                                f"that one{where(run, command)}", cycle)
+            else:
+                found = warning(run, "aborted-by-own-task", f"{who} was aborted by "
+                                f"{run.who(other.name)} of the same task{where(run, command)}",
+                                cycle)
+            yield run.at_call(found, other.name, cycle, by)
 
 
 def where(run: Run, command: Command) -> str:
@@ -125,9 +133,19 @@ def moving(run: Run) -> Iterator[Finding]:
     for name, axis in run.history.axes.items():
         velocity = axis.last_step[0]
         if axis.last and velocity and abs(velocity) * STILL > axis.axis.vmax:
-            yield warning(run, "ends-in-motion", f"axis {name} is in {axis.last.state} at the end, "
-                          f"at {run.units.text(name, axis.last.setpoint)} with "
-                          f"{run.units.text(name, velocity, 'velocity')}", run.history.cycles)
+            found = warning(run, "ends-in-motion", f"axis {name} is in {axis.last.state} at the "
+                            f"end, at {run.units.text(name, axis.last.setpoint)} with "
+                            f"{run.units.text(name, velocity, 'velocity')}", run.history.cycles)
+            if axis.last.state == "SynchronizedMotion":
+                found.cure = hints.ending(follower(run, name))
+            yield found
+
+
+def follower(run: Run, name: str) -> str:
+    """The kind of the command by which an axis follows another one."""
+    kinds = [command.block.kind for command in run.history.live.get(name, ())
+             if command.block.kind in FOLLOWERS and command.is_live()]
+    return kinds[-1] if kinds else FOLLOWERS[0]
 
 
 def following(run: Run) -> Iterator[Finding]:
@@ -175,7 +193,39 @@ def tiny(run: Run) -> Iterator[Finding]:
                 unit = run.units.of_axis(next(iter(ways)))["position"][1]
                 found.cure = (f"pos is in thousandths of the user unit: pos := 200 is 0.2 {unit}, "
                               f"and 200 {unit} are pos := 200000")
-            yield run.at_call(found, command.block.name, command.begun)
+            yield run.at_call(found, command.block.name, command.begun, command.call)
+
+
+def restarted(run: Run) -> Iterator[Finding]:
+    """Blocks that start again and again, a few cycles after the start before."""
+    starts: dict[str, list[Command]] = {}
+    for command in run.history.commands:
+        starts.setdefault(command.block.name, []).append(command)
+    for name, commands in starts.items():
+        soon = [later for earlier, later in zip(commands, commands[1:])
+                if later.begun - earlier.begun <= SOON]
+        if len(soon) > STARTS:
+            found = warning(run, "started-again", f"{run.who(name)} was started {len(commands)} "
+                            f"times, {len(soon)} of them at most {SOON} cycles after the start "
+                            "before", soon[0].begun)
+            yield run.at_call(found, name, soon[0].begun, soon[0].call)
+
+
+def geared(run: Run) -> Iterator[Finding]:
+    """Gears that ended before their masters moved."""
+    for command in run.history.commands:
+        by, follow = command.aborted_by, command.call.follow
+        if command.block.kind != "GearIn" or not command.reached or by is None or not follow:
+            continue
+        master, numerator, *_ = follow.split(":")
+        other = run.history.blocks[by.block].block
+        if other.kind != "GearOut" or numerator == "0" or any(command.velocity.values()):
+            continue
+        cycle = command.ended or command.begun
+        found = warning(run, "geared-at-rest", f"{run.who(command.block.name)} was InGear while "
+                        f"its master {master} was at rest, and {run.who(other.name)} ended the "
+                        f"gear before {master} moved", cycle)
+        yield run.at_call(found, other.name, cycle, by)
 
 
 def uncalled(run: Run) -> Iterator[Finding]:
