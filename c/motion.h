@@ -39,6 +39,12 @@
 extern "C" {
 #endif
 
+/* The version of this header. The library doesn't answer its own: take both from one release. */
+#define MOTION_HEADER_VERSION "0.9.0"
+#define MOTION_HEADER_MAJOR 0
+#define MOTION_HEADER_MINOR 9
+#define MOTION_HEADER_PATCH 0
+
 #define MOTION_MOST_AXES 16
 #define MOTION_MOST_GROUPS 4
 #define MOTION_NO_NUMBER UINT32_MAX

@@ -1,0 +1,146 @@
+/* motion_texts.h: codes, errors and states as texts, and readings of an axis, over motion.h.
+ *
+ * Header only, for C99 and C++11 programs; no memory, no call of the library. The texts are those of
+ * docs/c.md and docs/errors.md in short: a number that none has is "unknown". They stay where they are,
+ * and are not to be changed or freed.
+ */
+#ifndef MOTION_TEXTS_H
+#define MOTION_TEXTS_H
+
+#include "motion.h"
+
+#ifdef __cplusplus
+extern "C" {
+#endif
+
+/* What a code says. */
+static inline const char *motion_code_text(uint32_t code)
+{
+    switch (code) {
+    case MOTION_OK: return "done";
+    case MOTION_CLOSED: return "the handle isn't open";
+    case MOTION_OPEN: return "the handle is open already";
+    case MOTION_NO_MEMORY: return "out of memory, or the room of a setup is too small";
+    case MOTION_REFUSED: return "the text breaks a rule: see line, letter and number";
+    case MOTION_UNKNOWN: return "no block, task, axis or group has this number";
+    case MOTION_LENGTH: return "an array has more or fewer items than there are axes";
+    case MOTION_RANGE: return "an input is out of every range: over 10^18, no mode, or no master axis";
+    case MOTION_FULL: return "the bank has no room for an entry: swap it";
+    case MOTION_OVER: return "the bank has no cycle left: swap it";
+    case MOTION_NO_CYCLE: return "no cycle was made in the bank yet";
+    case MOTION_NULL: return "a pointer is null";
+    case MOTION_OTHER: return "the two handles aren't machines of one configuration";
+    case MOTION_LATER: return "earlier entries were given out by a swap: use motion_bank_text";
+    default: return "unknown";
+    }
+}
+
+/* What an ErrorID of a block says, and the error of an axis or a group in its row. */
+static inline const char *motion_error_text(uint16_t error)
+{
+    switch (error) {
+    case 0: return "no error";
+    case 1: return "an axis is Disabled: call Power with Enable true and wait for its Status";
+    case 2: return "an axis is in ErrorStop: Reset it";
+    case 3: return "an axis is in Stopping: let its Stop go and wait until it rests";
+    case 4: return "an axis is in Homing: wait a cycle";
+    case 5: return "the axis's group holds it: GroupDisable, or move it by its group";
+    case 6: return "the velocity isn't in its range";
+    case 7: return "the acceleration isn't in its range";
+    case 8: return "the deceleration isn't in its range";
+    case 9: return "the jerk isn't 0";
+    case 10: return "a target lies beyond the limits";
+    case 11: return "eight commands wait already: wait until one has ended";
+    case 12: return "an axis isn't in Standstill: Halt it and wait until it is Done";
+    case 13: return "the gear's numerator or denominator is out of range";
+    case 14: return "there is no cam table of this number";
+    case 15: return "the axis is its own master";
+    case 16: return "the group's state isn't one from which the block leads";
+    case 17: return "a line takes no blending mode";
+    case 18: return "there are no circles";
+    case 19: return "there is no gear or cam to leave";
+    case 101: return "the drive is in Fault: look at the drive, then Reset";
+    case 102: return "the drive left Operation enabled or its mode: look at the drive, then Reset";
+    case 103: return "the command would have run past a limit: Reset, and move back";
+    case 104: return "the cam asks for a step that isn't safe: take more points or a slower master";
+    case 105: return "the drive was enabled outside the limits: move the axis back by hand";
+    case 106: return "the relative target lies beyond the limits";
+    default: return "unknown";
+    }
+}
+
+/* The state of an axis in PLCopen's words, as a trace has it. */
+static inline const char *motion_axis_state_text(uint32_t state)
+{
+    switch (state) {
+    case MOTION_DISABLED: return "Disabled";
+    case MOTION_STANDSTILL: return "Standstill";
+    case MOTION_HOMING: return "Homing";
+    case MOTION_STOPPING: return "Stopping";
+    case MOTION_DISCRETE_MOTION: return "DiscreteMotion";
+    case MOTION_CONTINUOUS_MOTION: return "ContinuousMotion";
+    case MOTION_SYNCHRONIZED_MOTION: return "SynchronizedMotion";
+    case MOTION_ERROR_STOP: return "ErrorStop";
+    default: return "unknown";
+    }
+}
+
+/* The state of a group in PLCopen's words, as a trace has it. */
+static inline const char *motion_group_state_text(uint32_t state)
+{
+    switch (state) {
+    case MOTION_GROUP_DISABLED: return "GroupDisabled";
+    case MOTION_GROUP_STANDBY: return "GroupStandby";
+    case MOTION_GROUP_MOVING: return "GroupMoving";
+    case MOTION_GROUP_HOMING: return "GroupHoming";
+    case MOTION_GROUP_STOPPING: return "GroupStopping";
+    case MOTION_GROUP_ERROR_STOP: return "GroupErrorStop";
+    default: return "unknown";
+    }
+}
+
+/* Readings of an axis, by arithmetic on its rows and on what its drive answers. All are in internal
+ * units and cycles, and those that compare cycles are 0 until there are enough of them. */
+typedef struct motion_reading {
+    int64_t increment;       /* internal units of an increment of its drive, as the machine's text has it */
+    int64_t position;        /* the setpoint of the last cycle */
+    int64_t velocity;        /* by how much the setpoint changed in it; a Home is no change */
+    int64_t acceleration;    /* by how much the velocity changed in it */
+    int64_t reported;        /* the position that the drive answered in it */
+    int64_t following_error; /* the setpoint that the drive was given before, less that position */
+    int64_t place;           /* of the functions below: the setpoint without the offset, */
+    uint32_t cycles;         /* and how many driven cycles came one after another, at most 2 */
+} motion_reading;
+
+static inline void motion_reading_begin(motion_reading *r, int64_t increment)
+{
+    r->increment = increment;
+    r->position = r->velocity = r->acceleration = r->reported = r->following_error = r->place = 0;
+    r->cycles = 0;
+}
+
+/* Takes a cycle: the row that motion_axis_look shows after it, and the answer that motion_cycle was
+ * given. Call it after each cycle. The following error is 0 unless the axis was driven in this cycle
+ * and in the one before; a drive without any lag has 0. */
+static inline void motion_reading_take(motion_reading *r, const motion_axis_row *row,
+                                       const motion_drive_in *answer)
+{
+    const int64_t place = row->setpoint - row->offset;
+    const int64_t actual = (int64_t)answer->actual * r->increment;
+    const int64_t velocity = r->cycles >= 1 ? place - r->place : 0;
+    r->acceleration = r->cycles >= 2 ? velocity - r->velocity : 0;
+    r->velocity = velocity;
+    r->following_error = r->cycles >= 1 && row->driven ? r->place - actual : 0;
+    r->position = row->setpoint;
+    r->reported = actual + row->offset;
+    r->place = place;
+    if (!row->driven)
+        r->cycles = 0;
+    else if (r->cycles < 2)
+        r->cycles++;
+}
+
+#ifdef __cplusplus
+}
+#endif
+#endif
