@@ -57,10 +57,10 @@ static void codes()
     mc::Halt none{other, "NONE"};
     if (none.call() != MOTION_CLOSED || other.code() != MOTION_CLOSED) std::cerr << "it isn't closed\n";
     if (other.open_bench("motion-bench 7\n") != MOTION_REFUSED || other.why().line != 1)
-        std::cerr << "it isn't refused\n";
+        std::cerr << "it isn't rejected\n";
     mc::Setup setup{other};
     if (other.open("", setup) != MOTION_REFUSED || other.why().letter != 'C')
-        std::cerr << "the configuration isn't refused\n";
+        std::cerr << "the configuration isn't rejected\n";
     if (machine.axis("Y") != 3 || machine.group("XY") != 0 || machine.axis("NONE") != MOTION_NO_NUMBER)
         std::cerr << "axes or groups have other numbers\n";
 }

@@ -92,7 +92,7 @@ ALL_BLOCKS(SHOWN_AS)
 #define ON_GroupHalt ON_ANY
 #define ON_MoveLinearAbsolute ON_ANY
 
-/* These are each program's own too: so many cycles, and the task's end. */
+/* These are each program's own too: a number of cycles, and the task's end. */
 static void cycles(int count);
 static void end(void);
 
@@ -117,7 +117,7 @@ static void go(void)
     ON(GroupEnable, EN, (void)0);
     cycles(1);
     ON(Home, HA, (void)0);
-    /* a move, a relative one behind it, and one with a jerk: ErrorID 9 */
+    /* a move, a relative one after it, and one with a jerk: ErrorID 9 */
     ON(MoveAbsolute, MA, f.Position = 3000; f.Velocity = 100; f.Acceleration = 5;
         f.Deceleration = 4);
     ON(MoveRelative, RA, f.Distance = -500; f.Velocity = 80; f.Acceleration = 3;
@@ -131,7 +131,7 @@ static void go(void)
     OFF(MoveRelative, RA);
     ON(MoveRelative, RA, f.Distance = 1; f.Velocity = 80; f.Acceleration = 3;
         f.Deceleration = 3; f.Jerk = 7);
-    /* a velocity, a gear and a cam behind it */
+    /* a velocity, a gear and a cam after it */
     ON(MoveVelocity, VA, f.Velocity = -60; f.Acceleration = 2; f.Deceleration = 2);
     ON(GearIn, GB, f.Acceleration = 9; f.Deceleration = 9; f.Master = 0; f.RatioNumerator = -2;
         f.RatioDenominator = 3);

@@ -1,5 +1,6 @@
 /* A drive as `motion bench` and `motion st` simulate one, without faults: it follows its controlword,
- * and is at each target so many steps after the first. A program with such drives has their traces. */
+ * and each target is its position in the next answer, or `lag` answers later. A program with such
+ * drives has the traces of these commands. */
 #ifndef BENCH_DRIVE_H
 #define BENCH_DRIVE_H
 

@@ -29,8 +29,8 @@
  * caller's own: choose a unit and a cycle, as 1 nm and 1 ms, and count in them. Numbers of items
  * count from 0 in the order of the text, those of cam tables from 1.
  */
-#ifndef MOTION_H
-#define MOTION_H
+#ifndef MOTION_KERNEL_H /* LinuxCNC has a motion.h of its own, with MOTION_H */
+#define MOTION_KERNEL_H
 
 #include <stddef.h>
 #include <stdint.h>

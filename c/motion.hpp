@@ -33,24 +33,24 @@ namespace mc {
 
 namespace detail {
 
-// The billionths in a decimal number that is written in digits with at most nine behind its point,
+// The billionths in a decimal number that is written in digits with at most nine after its point,
 // and is at most 10^9; else -1.
 constexpr mc_quantity billionths(const char *digits, std::size_t len)
 {
     mc_quantity value = 0;
-    int behind = -1;
+    int decimals = -1;
     for (std::size_t i = 0; i < len; i++) {
         if (digits[i] == '\'') continue;
-        if (digits[i] == '.' && behind < 0) {
-            behind = 0;
+        if (digits[i] == '.' && decimals < 0) {
+            decimals = 0;
             continue;
         }
-        if (digits[i] < '0' || digits[i] > '9' || behind == 9) return -1;
+        if (digits[i] < '0' || digits[i] > '9' || decimals == 9) return -1;
         value = value * 10 + (digits[i] - '0');
         if (value > INT64_C(1000000000000000000)) return -1;
-        if (behind >= 0) behind++;
+        if (decimals >= 0) decimals++;
     }
-    for (int i = behind < 0 ? 0 : behind; i < 9; i++) {
+    for (int i = decimals < 0 ? 0 : decimals; i < 9; i++) {
         value *= 10;
         if (value > INT64_C(1000000000000000000)) return -1;
     }
@@ -61,14 +61,14 @@ constexpr mc_quantity billionths(const char *digits, std::size_t len)
 
 inline namespace literals {
 
-// A quantity in units, exact and made by the compiler: 12.5_u, -3_u. With more than nine digits behind
+// A quantity in units, exact and made by the compiler: 12.5_u, -3_u. With more than nine digits after
 // the point, an exponent or a size above 10^9 it doesn't compile.
 template <char... Digits>
 constexpr mc_quantity operator""_u()
 {
     constexpr char digits[] = {Digits...};
     constexpr mc_quantity value = detail::billionths(digits, sizeof digits);
-    static_assert(value >= 0, "a quantity has at most nine digits behind its point, and at most 10^9");
+    static_assert(value >= 0, "a quantity has at most nine digits after its point, and at most 10^9");
     return value;
 }
 

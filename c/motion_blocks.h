@@ -27,7 +27,8 @@
  * number of internal units, and a rate is one a cycle (MC_CYCLES).
  *
  * A struct begins as zeros: `static`, or `= { 0 }`, in C++ `= {}`. It is given its block once, by
- * MC_.._add before the machine is opened, or by MC_.._find after it.
+ * MC_.._add before the machine is opened, or by MC_.._find after it. Its inputs keep their values
+ * from call to call; a block takes them at the rising edge of Execute.
  */
 #ifndef MOTION_BLOCKS_H
 #define MOTION_BLOCKS_H
@@ -43,7 +44,7 @@ extern "C" {
 /* A quantity in billionths of a unit; at most 10^18 in size, else the call answers MOTION_RANGE. */
 typedef int64_t mc_quantity;
 
-/* So many whole units, and thousandths of a unit: MC_THOUSANDTHS(12500) is 12.5 units. */
+/* Whole units, and thousandths of a unit: MC_THOUSANDTHS(12500) is 12.5 units. */
 #define MC_UNITS(whole) ((mc_quantity)(whole) * INT64_C(1000000000))
 #define MC_THOUSANDTHS(count) ((mc_quantity)(count) * INT64_C(1000000))
 

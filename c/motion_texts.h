@@ -100,7 +100,7 @@ static inline const char *motion_group_state_text(uint32_t state)
 }
 
 /* Readings of an axis, by arithmetic on its rows and on what its drive answers. All are in internal
- * units and cycles, and those that compare cycles are 0 until there are enough of them. */
+ * units and cycles. */
 typedef struct motion_reading {
     int64_t increment;       /* internal units of an increment of its drive, as the machine's text has it */
     int64_t position;        /* the setpoint of the last cycle */
@@ -108,36 +108,35 @@ typedef struct motion_reading {
     int64_t acceleration;    /* by how much the velocity changed in it */
     int64_t reported;        /* the position that the drive answered in it */
     int64_t following_error; /* the setpoint that the drive was given before, less that position */
-    int64_t place;           /* of the functions below: the setpoint without the offset, */
+    int64_t unshifted;       /* of the functions below: the setpoint without the offset, */
     uint32_t cycles;         /* and how many driven cycles came one after another, at most 2 */
 } motion_reading;
 
 static inline void motion_reading_begin(motion_reading *r, int64_t increment)
 {
     r->increment = increment;
-    r->position = r->velocity = r->acceleration = r->reported = r->following_error = r->place = 0;
+    r->position = r->velocity = r->acceleration = r->reported = r->following_error = r->unshifted = 0;
     r->cycles = 0;
 }
 
 /* Takes a cycle: the row that motion_axis_look shows after it, and the answer that motion_cycle was
- * given. Call it after each cycle. The following error is 0 unless the axis was driven in this cycle
- * and in the one before; a drive without any lag has 0. */
+ * given. Call it after each cycle. Velocity and following error are 0 unless the axis was driven in
+ * this cycle and in the one before, the acceleration unless in the one before that too. A drive
+ * that is at each target in the next cycle has no following error. */
 static inline void motion_reading_take(motion_reading *r, const motion_axis_row *row,
                                        const motion_drive_in *answer)
 {
-    const int64_t place = row->setpoint - row->offset;
+    const int64_t unshifted = row->setpoint - row->offset;
     const int64_t actual = (int64_t)answer->actual * r->increment;
-    const int64_t velocity = r->cycles >= 1 ? place - r->place : 0;
-    r->acceleration = r->cycles >= 2 ? velocity - r->velocity : 0;
+    const uint32_t before = row->driven ? r->cycles : 0;
+    const int64_t velocity = before >= 1 ? unshifted - r->unshifted : 0;
+    r->acceleration = before >= 2 ? velocity - r->velocity : 0;
     r->velocity = velocity;
-    r->following_error = r->cycles >= 1 && row->driven ? r->place - actual : 0;
+    r->following_error = before >= 1 ? r->unshifted - actual : 0;
     r->position = row->setpoint;
     r->reported = actual + row->offset;
-    r->place = place;
-    if (!row->driven)
-        r->cycles = 0;
-    else if (r->cycles < 2)
-        r->cycles++;
+    r->unshifted = unshifted;
+    r->cycles = !row->driven ? 0 : before < 2 ? before + 1 : 2;
 }
 
 #ifdef __cplusplus

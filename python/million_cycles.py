@@ -109,7 +109,7 @@ def first_part(line: Line, folder: Path, cycles: int) -> None:
 
 
 def main() -> int:
-    """Runs the machine, and tells what it did."""
+    """Runs the machine, and reports what it did."""
     folder = Path(sys.argv[1])
     cycles = int(sys.argv[2]) if len(sys.argv) > 2 else 1_000_000
     folder.mkdir(parents=True, exist_ok=True)

@@ -210,8 +210,8 @@ class Units(NamedTuple):
 
 
 class Drive:
-    """A CiA 402 drive as `motion bench` simulates one: it follows its controlword, and is at each
-    target so many steps after the first. `fault()` puts it into Fault."""
+    """A CiA 402 drive as `motion bench` simulates one: it follows its controlword, and each target is
+    its position in the next answer, or `lag` answers later. `fault()` puts it into Fault."""
 
     WORDS = {"disabled": 0x40, "ready": 0x31, "on": 0x33, "enabled": OPERATION_ENABLED, "fault": 0x18}
 
@@ -428,7 +428,7 @@ Columns = dict[str, dict[str, list[Any]]]   # of each axis, its lists by their n
 
 def columns(text: str, before: Optional[Columns] = None) -> Columns:
     """The rows of a trace or a segment as lists, for each axis those of cycle, setpoint, actual,
-    target, state, error and driven; with `before`, behind those lists. Numbers are internal units,
+    target, state, error and driven; with `before`, at the end of those lists. Numbers are internal units,
     and increments of the drive for actual and target. `pandas.DataFrame(columns(text)["X"])` makes a
     frame of an axis, where pandas is there."""
     found = {} if before is None else before
