@@ -306,7 +306,7 @@ uint32_t motion_bank_text(motion *m, const motion_drive_in *last, size_t len);
  * handle is closed. */
 uint64_t motion_trace_text(motion *m, uint64_t from, uint8_t *room, size_t len);
 
-/* motion_open, motion_block and motion_axis with strings of C, up to the 0 byte at their end. */
+/* motion_open, motion_block, motion_axis, motion_group and motion_task with strings of C, up to the 0 byte at their end. */
 static inline size_t motion_text_len(const char *text)
 {
     size_t len = 0;
@@ -327,6 +327,16 @@ static inline uint32_t motion_block_named(motion *m, const char *name)
 static inline uint32_t motion_axis_named(motion *m, const char *name)
 {
     return motion_axis(m, (const uint8_t *)name, motion_text_len(name));
+}
+
+static inline uint32_t motion_group_named(motion *m, const char *name)
+{
+    return motion_group(m, (const uint8_t *)name, motion_text_len(name));
+}
+
+static inline uint32_t motion_task_named(motion *m, const char *name)
+{
+    return motion_task(m, (const uint8_t *)name, motion_text_len(name));
 }
 
 /* The tasks and blocks of a machine, added one by one before it is opened by a configuration:

@@ -1,4 +1,4 @@
-/* motion_texts.h: codes, errors and states as texts, and readings of an axis, over motion.h.
+/* motion_texts.h: codes, errors and states as texts, and readings of axes and drives, over motion.h.
  *
  * Header only, for C99 and C++11 programs; no memory, no call of the library. The texts are those of
  * docs/c.md and docs/errors.md in short: a number that none has is "unknown". They stay where they are,
@@ -96,6 +96,58 @@ static inline const char *motion_group_state_text(uint32_t state)
     case MOTION_GROUP_STOPPING: return "GroupStopping";
     case MOTION_GROUP_ERROR_STOP: return "GroupErrorStop";
     default: return "unknown";
+    }
+}
+
+/* The states of a drive (CiA 402, IEC 61800-7-201). */
+enum motion_drive_state {
+    MOTION_DRIVE_NOT_READY = 0,
+    MOTION_DRIVE_SWITCH_ON_DISABLED = 1,
+    MOTION_DRIVE_READY_TO_SWITCH_ON = 2,
+    MOTION_DRIVE_SWITCHED_ON = 3,
+    MOTION_DRIVE_OPERATION_ENABLED = 4,
+    MOTION_DRIVE_QUICK_STOP_ACTIVE = 5,
+    MOTION_DRIVE_FAULT_REACTION_ACTIVE = 6,
+    MOTION_DRIVE_FAULT = 7,
+    MOTION_DRIVE_NONE = 8 /* the statusword fits no state */
+};
+
+/* The state in a statusword (6041h), as the kernel reads it. */
+static inline enum motion_drive_state motion_drive_state_of(uint16_t statusword)
+{
+    switch (statusword & 0x4f) {
+    case 0x00: return MOTION_DRIVE_NOT_READY;
+    case 0x40: return MOTION_DRIVE_SWITCH_ON_DISABLED;
+    case 0x0f: return MOTION_DRIVE_FAULT_REACTION_ACTIVE;
+    case 0x08: return MOTION_DRIVE_FAULT;
+    default: break;
+    }
+    switch (statusword & 0x6f) {
+    case 0x21: return MOTION_DRIVE_READY_TO_SWITCH_ON;
+    case 0x23: return MOTION_DRIVE_SWITCHED_ON;
+    case 0x27: return MOTION_DRIVE_OPERATION_ENABLED;
+    case 0x07: return MOTION_DRIVE_QUICK_STOP_ACTIVE;
+    default: return MOTION_DRIVE_NONE;
+    }
+}
+
+/* What a Power with Enable true waits for, by what the drive answers: so a drive that isn't ready is
+ * known from one that is on and doesn't show mode 8, for which the Power waits without an error. */
+static inline const char *motion_power_text(const motion_drive_in *answer)
+{
+    switch (motion_drive_state_of(answer->statusword)) {
+    case MOTION_DRIVE_NOT_READY: return "the drive isn't ready: it waits for its own start-up";
+    case MOTION_DRIVE_SWITCH_ON_DISABLED: return "the drive is in Switch on disabled";
+    case MOTION_DRIVE_READY_TO_SWITCH_ON: return "the drive is ready: it waits for its power stage";
+    case MOTION_DRIVE_SWITCHED_ON: return "the drive is switched on: it waits to be enabled";
+    case MOTION_DRIVE_OPERATION_ENABLED:
+        return answer->mode_display == 8
+                   ? "the drive is on"
+                   : "the drive is on, but doesn't show mode 8 in 6061h: look at its parameters";
+    case MOTION_DRIVE_QUICK_STOP_ACTIVE: return "the drive makes a quick stop";
+    case MOTION_DRIVE_FAULT_REACTION_ACTIVE: return "the drive reacts to a fault";
+    case MOTION_DRIVE_FAULT: return "the drive has a fault: look at it, then Reset";
+    default: return "the statusword fits no state of CiA 402: look at the PDO mapping";
     }
 }
 

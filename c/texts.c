@@ -18,6 +18,13 @@ static void want(const char *what, int64_t found, int64_t wanted)
 static const char *code_text(unsigned number) { return motion_code_text(number); }
 static const char *error_text(unsigned number) { return motion_error_text((uint16_t)number); }
 static const char *axis_text(unsigned number) { return motion_axis_state_text(number); }
+static const char *drive_text(unsigned word)
+{
+    motion_drive_in answer = { 0, 0, 8 };
+    answer.statusword = (uint16_t)word;
+    return motion_power_text(&answer);
+}
+
 static const char *group_text(unsigned number) { return motion_group_state_text(number); }
 
 /* How many numbers below 200 have a text, all of which differ. */
@@ -32,6 +39,35 @@ static int texts(const char *(*text)(unsigned))
             if (strcmp(text(number), text(other)) == 0) want("a text of two numbers", number, other);
     }
     return count;
+}
+
+/* The states of statuswords: bits 4 and 7 to 15 are free, and bit 5 where no state is read by it. */
+static void drives(void)
+{
+    static const struct {
+        uint16_t word;
+        enum motion_drive_state state;
+    } rows[] = {
+        { 0x0000, MOTION_DRIVE_NOT_READY },          { 0x0220, MOTION_DRIVE_NOT_READY },
+        { 0x0040, MOTION_DRIVE_SWITCH_ON_DISABLED }, { 0xff70, MOTION_DRIVE_SWITCH_ON_DISABLED },
+        { 0x0021, MOTION_DRIVE_READY_TO_SWITCH_ON }, { 0x0231, MOTION_DRIVE_READY_TO_SWITCH_ON },
+        { 0x0023, MOTION_DRIVE_SWITCHED_ON },        { 0x0233, MOTION_DRIVE_SWITCHED_ON },
+        { 0x0027, MOTION_DRIVE_OPERATION_ENABLED },  { 0x1637, MOTION_DRIVE_OPERATION_ENABLED },
+        { 0x0007, MOTION_DRIVE_QUICK_STOP_ACTIVE },  { 0x0217, MOTION_DRIVE_QUICK_STOP_ACTIVE },
+        { 0x000f, MOTION_DRIVE_FAULT_REACTION_ACTIVE }, { 0x023f, MOTION_DRIVE_FAULT_REACTION_ACTIVE },
+        { 0x0008, MOTION_DRIVE_FAULT },              { 0x0238, MOTION_DRIVE_FAULT },
+        { 0x0001, MOTION_DRIVE_NONE },               { 0x0067, MOTION_DRIVE_NONE },
+        { 0x0048, MOTION_DRIVE_NONE },               { 0x0025, MOTION_DRIVE_NONE },
+    };
+    const motion_drive_in other = { 0, 0x0237, 7 }, on = { 0, 0x0237, 8 };
+    size_t i, k;
+    for (i = 0; i < sizeof rows / sizeof rows[0]; i++) {
+        want("a state", motion_drive_state_of(rows[i].word), rows[i].state);
+        for (k = 0; k < i; k++)
+            want("a text of its own", strcmp(drive_text(rows[i].word), drive_text(rows[k].word)) == 0,
+                 rows[i].state == rows[k].state);
+    }
+    want("another mode", strcmp(motion_power_text(&other), motion_power_text(&on)) != 0, 1);
 }
 
 /* A move from 6 to 26 with a lag of one step, and a Home at its end. */
@@ -95,6 +131,7 @@ int main(void)
     want("errors", texts(error_text), 26);
     want("states of an axis", texts(axis_text), 8);
     want("states of a group", texts(group_text), 6);
+    drives();
     readings();
     return faults != 0;
 }

@@ -213,7 +213,7 @@ class Drive:
     """A CiA 402 drive as `motion bench` simulates one: it follows its controlword, and each target is
     its position in the next answer, or `lag` answers later. `fault()` puts it into Fault."""
 
-    WORDS = {"disabled": 0x40, "ready": 0x31, "on": 0x33, "enabled": OPERATION_ENABLED, "fault": 0x18}
+    WORDS = {"disabled": 0x40, "ready": 0x31, "on": 0x33, "enabled": OPERATION_ENABLED, "fault": 0x08}
 
     def __init__(self, start: int, lag: int = 0, enabled: bool = False):
         self.state = "enabled" if enabled else "disabled"
