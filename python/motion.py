@@ -45,7 +45,6 @@ GROUP_STATES = ("GroupDisabled", "GroupStandby", "GroupMoving", "GroupHoming", "
 UNIT = 10**9            # internal units of one unit of a configuration
 SECOND = 10**6          # microseconds
 NO_NUMBER = 2**32 - 1
-OPERATION_ENABLED = 0x37
 
 
 class MotionError(Exception):
@@ -211,33 +210,44 @@ class Units(NamedTuple):
 
 class Drive:
     """A CiA 402 drive as `motion bench` simulates one: it follows its controlword, and each target is
-    its position in the next answer, or `lag` answers later. `fault()` puts it into Fault."""
+    its position in the next answer, or `lag` answers later. It knows no quick stop."""
 
-    WORDS = {"disabled": 0x40, "ready": 0x31, "on": 0x33, "enabled": OPERATION_ENABLED, "fault": 0x08}
+    WORDS = {"disabled": 0x40, "ready": 0x31, "on": 0x33, "enabled": 0x37, "reaction": 0x1f,
+             "fault": 0x08}
 
     def __init__(self, start: int, lag: int = 0, enabled: bool = False):
         self.state = "enabled" if enabled else "disabled"
-        self.actual, self.mode = start, 8 if enabled else 0
-        self._targets = [start] * lag
+        self.actual, self.mode, self.lag = start, 8 if enabled else 0, lag
+        self._last = 0x0f if enabled else 0x00
+        self._targets: list[int] = []
+        self._is_failing = False
 
     def answer(self) -> Answer:
         """What it answers now."""
         return Answer(self.actual, self.WORDS[self.state], self.mode)
 
     def fault(self) -> None:
-        """A fault of the drive, which a Reset clears."""
-        self.state = "fault"
+        """Its next step has a fault: it stands, and a Reset clears the fault."""
+        self._is_failing = True
 
     def step(self, given: Given) -> None:
         """A cycle with what it is given."""
-        self.mode = given.mode
-        self.state = self._next(given.controlword)
-        self._targets.append(given.target)
-        self.actual = self._targets.pop(0)
+        before, self.state = self.state, self._next(given.controlword)
+        if before == self.state == "enabled" and given.mode == 8:
+            self._targets.append(given.target)
+            if len(self._targets) > self.lag:
+                self.actual = self._targets.pop(0)
+        else:
+            self._targets.clear()
+        self._last, self.mode, self._is_failing = given.controlword, given.mode, False
 
     def _next(self, word: int) -> str:
-        if self.state == "fault":
-            return "disabled" if word & 0x80 else "fault"
+        """The state after a step with a controlword."""
+        if self.state in ("reaction", "fault"):
+            is_reset = self.state == "fault" and word & 0x80 and not self._last & 0x80
+            return "disabled" if is_reset else "fault"
+        if self._is_failing:
+            return "reaction"
         if not word & 0x02:
             return "disabled"
         if word & 0x07 == 0x06:

@@ -82,8 +82,67 @@ def powered(machine, drives):
     raise AssertionError("the axes aren't switched on")
 
 
+KEYS = {"pos": "position", "vel": "velocity", "acc": "acceleration", "dec": "deceleration",
+        "jerk": "jerk", "mode": "mode", "master": "master", "num": "numerator", "den": "denominator",
+        "table": "table"}
+
+
+def drives_of(lines):
+    """The drives of a bench, and for each the steps in which it has a fault."""
+    drives, faults = {}, {}
+    for words in lines:
+        if words[0] == "axis":
+            is_ready = words[-1] == "ready"
+            numbers = words[2:-1] if is_ready else words[2:]
+            drives[words[1]] = [int(numbers[-1]) // int(numbers[-2]), 0, is_ready]
+        elif words[0] == "drive":
+            drives[words[1]][1] = int(words[2])
+            faults[words[1]] = set(map(int, words[3:]))
+    return ([motion.Drive(*drive) for drive in drives.values()],
+            [faults.get(name, set()) for name in drives])
+
+
+def trace_of(text):
+    """The trace of a bench whose events are made by the module."""
+    lines = [words for line in text.splitlines() if (words := line.split("#")[0].split())]
+    drives, faults = drives_of(lines)
+    step = 0
+    with motion.Machine.from_bench(text) as machine:
+        for words in lines[lines.index(["go"]) + 1:]:
+            if words[0] == "call":
+                inputs = {KEYS[key]: value for key, value in
+                          (word.split("=") for word in words[3:])}
+                for key in ("jerk", "numerator", "denominator", "table"):
+                    if key in inputs:
+                        inputs[key] = int(inputs[key])
+                if "position" in inputs:
+                    inputs["position"] = inputs["position"].split(";")
+                machine.call(words[1], words[2] == "on", **inputs)
+            elif words[0] == "end":
+                machine.end(words[1])
+            else:
+                for _ in range(int((words + ["1"])[1])):
+                    step += 1
+                    for drive, steps in zip(drives, faults):
+                        if step in steps:
+                            drive.fault()
+                    machine.step(drives)
+        return machine.trace(drives)
+
+
 class Benches(unittest.TestCase):
     """Machines of a bench."""
+
+    def test_benches_have_their_traces(self):
+        benches = sorted([*EXAMPLES.glob("*/*.bench"), *(TOP / "docs" / "timing").glob("*.bench")])
+        self.assertGreater(len(benches), 30)
+        for bench in benches:
+            with self.subTest(bench.stem):
+                found = trace_of(bench.read_text()).splitlines()
+                wanted = bench.with_suffix(".trace").read_text().splitlines()
+                self.assertEqual(len(found), len(wanted))
+                for number, (line, other) in enumerate(zip(found, wanted), 1):
+                    self.assertEqual(line, other, f"record {number}")
 
     def test_the_first_move_has_its_bench_s_trace(self):
         drives = [motion.Drive(0, enabled=True)]
