@@ -73,12 +73,16 @@ static void conversions(void)
 static void codes(void)
 {
     static MC_Halt none;
+    static MC_MoveAbsolute wide;
     mc_machine other;
     motion_drive_in in = { 0, 0, 0 };
     motion_drive_out out;
     mc_begin(&other, &handle, MC_CYCLES);
     want("no such block", MC_Halt_find(&none, &other, "NONE"), MOTION_UNKNOWN);
     want("its call", MC_Halt_call(&none, &other), MOTION_UNKNOWN);
+    want("a block", MC_MoveAbsolute_find(&wide, &other, "MA"), MOTION_OK);
+    wide.Position = INT64_MAX;
+    want("too wide a position", MC_MoveAbsolute_call(&wide, &other), MOTION_RANGE);
     want("the first code is kept", other.code, MOTION_UNKNOWN);
     want("and no cycle is made", mc_cycle(&other, &in, 1, &out, 1), MOTION_UNKNOWN);
     want("Done is as it was", none.Done, false);
