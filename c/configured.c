@@ -2,7 +2,7 @@
  * calls: its axis is switched on and goes from 0 to 2 mm. What happens goes to the error output, the
  * trace to the output. */
 #include "drive.h"
-#include "motion.h"
+#include "motion_blocks.h"
 
 #include <stdio.h>
 #include <string.h>
@@ -20,11 +20,7 @@ static const char config[] =
     "increment = \"0.001\"\n"      /* an increment of the drive is 1 micrometre */
     "start = 0\n";
 
-#define MM INT64_C(1000000000)     /* internal units of a millimetre */
-#define MM_S INT64_C(1000000)      /* of a millimetre a second, in a cycle of 1 ms */
-#define MM_S2 INT64_C(1000)        /* of a millimetre a second a second, in a cycle a cycle */
-
-enum { POWER = 0, MOVE = 1 };      /* blocks count from 0 in the order in which they are added */
+enum { POWER = 0, MOVE = 1, CYCLE_US = 1000 }; /* blocks count from 0 as they are added */
 
 typedef struct cell {
     motion m;
@@ -87,10 +83,10 @@ int main(void)
     in.execute = 1;
     power = run(&c, POWER, &in);
 
-    in.positions[0] = 2 * MM;
-    in.velocity = 50 * MM_S;
-    in.acceleration = 500 * MM_S2;
-    in.deceleration = 500 * MM_S2;
+    in.positions[0] = MC_UNITS(2);                                   /* mm */
+    in.velocity = mc_velocity_a_cycle(MC_UNITS(50), CYCLE_US);       /* mm/s */
+    in.acceleration = mc_acceleration_a_cycle(MC_UNITS(500), CYCLE_US); /* mm/s^2 */
+    in.deceleration = in.acceleration;
     move = run(&c, MOVE, &in);
 
     if (power < 0 || move < 0 || motion_axis_look(&c.m, 0, &x) != MOTION_OK) return 1;

@@ -10,7 +10,9 @@ static const char machine[] =
     "limit 20 40\n"
     "axis A 0 50 10 4 1 0 ready\n"
     "axis XY 0 50 10 4 1 0 ready\n"
+    "group G A XY\n"
     "task main\n"
+    "task mainly\n"
     "block B main MoveAbsolute XY\n"
     "block C main MoveAbsolute XY\n"
     "block MX main MoveAbsolute XY";
@@ -46,6 +48,10 @@ static void strings(void)
     want("axis XY", motion_axis_named(&m, "XY"), 1);
     want("no axis X", motion_axis_named(&m, "X"), MOTION_NO_NUMBER);
     want("no axis B", motion_axis_named(&m, "B"), MOTION_NO_NUMBER);
+    want("group G", motion_group_named(&m, "G"), 0);
+    want("no group XY", motion_group_named(&m, "XY"), MOTION_NO_NUMBER);
+    want("task mainly", motion_task_named(&m, "mainly"), 1);
+    want("no task ma", motion_task_named(&m, "ma"), MOTION_NO_NUMBER);
     want("open again", motion_open_text(&m, "", &why), MOTION_OPEN);
     want("close", motion_close(&m), MOTION_OK);
     want("an empty text", motion_open_text(&m, "", &why), MOTION_REFUSED);

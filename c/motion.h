@@ -1,9 +1,9 @@
 /* motion.h: a PLCopen motion kernel for C (C99) and C++ programs.
  *
  * A handle holds one machine: its axes, groups, tasks and function blocks, and the history of what
- * was called, cycled and ended, in a bank of limited room. A loop reads the drives, calls blocks,
- * makes a cycle and writes the drives; docs/c.md leads from nothing to a turning axis. A machine that
- * runs for days gives a full bank to a second handle, and goes on with an empty one (motion_swap).
+ * was called, cycled and ended, in a history segment of limited room. A loop reads the drives, calls
+ * blocks, makes a cycle and writes the drives; docs/c.md leads from nothing to a turning axis. A machine
+ * that runs for days gives a full segment to a second handle, and goes on with an empty one (motion_swap).
  * The library is proved; what a C program owes it isn't seen by any proof, and stands here:
  *
  *  - A handle begins as MOTION_NONE, or as zeros where it can't be initialised (of malloc, say).
@@ -13,7 +13,7 @@
  *    start or a join puts their calls in an order. Two handles are independent of each other.
  *  - No pointer is null or dangling, also where a length beside it is 0, and what a call writes
  *    overlaps nothing else that it is given. (The inline functions at the end test for null.) No
- *    pointer is kept behind a call: texts and arrays are the caller's own again.
+ *    pointer is kept after a call: texts and arrays are the caller's own again.
  *  - MOTION_STACK bytes of stack are left, MOTION_TRACE_STACK for motion_trace and motion_bank_text.
  *  - The three functions motion_heap.c has are there, and all memory comes from them.
  *
@@ -29,8 +29,8 @@
  * caller's own: choose a unit and a cycle, as 1 nm and 1 ms, and count in them. Numbers of items
  * count from 0 in the order of the text, those of cam tables from 1.
  */
-#ifndef MOTION_H
-#define MOTION_H
+#ifndef MOTION_KERNEL_H /* LinuxCNC has a motion.h of its own, with MOTION_H */
+#define MOTION_KERNEL_H
 
 #include <stddef.h>
 #include <stdint.h>
@@ -38,6 +38,12 @@
 #ifdef __cplusplus
 extern "C" {
 #endif
+
+/* The version of this header. The library doesn't answer its own: take both from one release. */
+#define MOTION_HEADER_VERSION "0.9.0"
+#define MOTION_HEADER_MAJOR 0
+#define MOTION_HEADER_MINOR 9
+#define MOTION_HEADER_PATCH 0
 
 #define MOTION_MOST_AXES 16
 #define MOTION_MOST_GROUPS 4
@@ -65,9 +71,9 @@ enum motion_code {
     MOTION_UNKNOWN = 5,   /* there is no block, task, axis or group of this number */
     MOTION_LENGTH = 6,    /* an array has more or fewer items than there are axes */
     MOTION_RANGE = 7,     /* the inputs are none of the block's kind: see motion_call */
-    MOTION_FULL = 8,      /* the bank has no room for an entry */
-    MOTION_OVER = 9,      /* the bank has no cycle left; of a swap: its counts are over */
-    MOTION_NO_CYCLE = 10, /* no cycle was made in the bank yet */
+    MOTION_FULL = 8,      /* the segment has no room for an entry */
+    MOTION_OVER = 9,      /* the segment has no cycle left; of a swap: its counts are over */
+    MOTION_NO_CYCLE = 10, /* no cycle was made in the segment yet */
     MOTION_NULL = 11,     /* a pointer is null: the inline functions alone */
     MOTION_OTHER = 12,    /* the two handles aren't machines of one configuration; tested: or are one */
     MOTION_LATER = 13     /* earlier entries were given out by motion_swap: use motion_bank_text */
@@ -172,15 +178,15 @@ enum motion_group_state {
 };
 
 /* Opens a closed handle by a text: the machine part of a bench (docs/formats.md), with neither `go`
- * nor anything behind it. `len` counts its bytes; a 0 byte at its end isn't one of them. Its `limit`
- * is the room of a bank: so many cycles and so many entries, until the next motion_swap. The whole
- * memory that the machine will ever need is taken here, but for a trace's, and the bank's is touched,
- * so that no call and no cycle pays for the first touch of a page.
+ * nor anything after it. `len` counts its bytes; a 0 byte at its end isn't one of them. Its `limit`
+ * is the room of a segment: at most that many cycles and entries, until the next motion_swap. The
+ * whole memory that the machine will ever need is taken here, but for a trace's, and the segment's is
+ * touched, so that no call and no cycle pays for the first touch of a page.
  *   MOTION_OK        the machine is open, at rest, and its history empty
  *   MOTION_OPEN      exactly where the handle is open; it stays so
- *   MOTION_REFUSED   the text is no machine: `why` tells where. What is missing at its end is told
- *                    at the line of the `go` that the library puts behind it: one line behind the
- *                    last, two where that ends with a line end. A `go` in the text is told there as
+ *   MOTION_REFUSED   the text is no machine: `why` says where. What is missing at its end is reported
+ *                    at the line of the `go` that the library puts after it: one line after the
+ *                    last, two where that ends with a line end. A `go` in the text is reported there as
  *                    well, by B3
  *   MOTION_NO_MEMORY */
 uint32_t motion_open(motion *m, const uint8_t *text, size_t len, motion_refusal *why);
@@ -193,7 +199,7 @@ uint32_t motion_open(motion *m, const uint8_t *text, size_t len, motion_refusal 
  *   MOTION_OK        the machine is open, at rest, and its history empty
  *   MOTION_OPEN      exactly where the handle is open; it stays so
  *   MOTION_REFUSED   one of the texts breaks a rule, the configuration a C and the program a P: `why`
- *                    tells where
+ *                    says where
  *   MOTION_NO_MEMORY */
 uint32_t motion_open_config(motion *m, const uint8_t *config, size_t config_len,
                             const uint8_t *program, size_t program_len, motion_refusal *why);
@@ -214,8 +220,8 @@ uint32_t motion_block(motion *m, const uint8_t *name, size_t len);
 uint32_t motion_axes(motion *m);
 uint32_t motion_groups(motion *m);
 
-/* How many cycles more there may be in the bank, and for how many entries more it has room: each call,
- * cycle and end is one entry. motion_swap gives a new bank. 0 where the handle is closed. */
+/* How many cycles more there may be in the segment, and for how many entries more it has room: each
+ * call, cycle and end is one entry. motion_swap gives a new segment. 0 where the handle is closed. */
 uint32_t motion_cycles_left(motion *m);
 uint64_t motion_room_left(motion *m);
 
@@ -227,7 +233,7 @@ uint64_t motion_room_left(motion *m);
  *   MOTION_UNKNOWN   exactly where there is no such block
  *   MOTION_RANGE     exactly where a number that the block's kind takes is over 10^18 in size, or it
  *                    takes a mode and there is none of the number, or a master and there is no such axis
- *   MOTION_FULL      where none of these, exactly where the bank is full */
+ *   MOTION_FULL      where none of these, exactly where the segment is full */
 uint32_t motion_call(motion *m, uint16_t block, const motion_inputs *in, motion_outputs *out);
 
 /* Goes through a cycle: takes the answer of each axis's drive, and gives each drive its output, both in
@@ -236,46 +242,46 @@ uint32_t motion_call(motion *m, uint16_t block, const motion_inputs *in, motion_
  *   MOTION_OK        the cycle was made
  *   MOTION_CLOSED    exactly where the handle is closed
  *   MOTION_LENGTH    exactly where one of the lengths isn't the number of axes
- *   MOTION_OVER      where neither, exactly where the bank has no cycle left
- *   MOTION_FULL      where none of these, exactly where the bank is full */
+ *   MOTION_OVER      where neither, exactly where the segment has no cycle left
+ *   MOTION_FULL      where none of these, exactly where the segment is full */
 uint32_t motion_cycle(motion *m, const motion_drive_in *in, size_t in_len,
                       motion_drive_out *out, size_t out_len);
 
-/* Ends a task by its number: one entry of the history, by which a trace tells that the task ended.
+/* Ends a task by its number: one entry of the history, by which a trace shows that the task ended.
  *   MOTION_OK        the end was made
  *   MOTION_CLOSED    exactly where the handle is closed
  *   MOTION_UNKNOWN   exactly where there is no such task
- *   MOTION_FULL      where neither, exactly where the bank is full */
+ *   MOTION_FULL      where neither, exactly where the segment is full */
 uint32_t motion_end(motion *m, uint8_t task);
 
-/* Shows an axis or a group as the last cycle of the bank left it.
+/* Shows an axis or a group as the last cycle of the segment left it.
  *   MOTION_OK        it is shown
  *   MOTION_CLOSED    exactly where the handle is closed
  *   MOTION_UNKNOWN   exactly where there is no such axis or group
- *   MOTION_NO_CYCLE  where neither, where no cycle was made in the bank */
+ *   MOTION_NO_CYCLE  where neither, where no cycle was made in the segment */
 uint32_t motion_axis_look(motion *m, uint8_t axis, motion_axis_row *row);
 uint32_t motion_group_look(motion *m, uint8_t group, motion_group_row *row);
 
-/* Hands the bank of a machine over to a spare handle, and goes on with an empty bank: behind it `spare`
- * is what `m` was, with the bank and where that begins, and `m` is the same machine in the midst of
- * whatever it does, with the whole room of its `limit` again. Both were opened by the same texts, each
+/* Hands the segment of a machine over to a spare handle, and goes on with an empty one: after it
+ * `spare` is what `m` was, with the segment and where that begins, and `m` is the same machine in the
+ * midst of whatever it does, with the whole room of its `limit` again. Both were opened by the same texts, each
  * once, before the first swap; the spare one serves for every swap. What it held before is gone, so
  * write that first. Each keeps the trace that was made of it last.
  *
  * It takes no memory. It copies the machine, and compares the two configurations: a time that doesn't
- * grow with what the banks hold, so a loop calls it between two cycles. Nothing limits how often but
- * the counts of banks, entries and cycles, which end at 2^63.
+ * grow with what the segments hold, so a loop calls it between two cycles. Nothing limits how often but
+ * the counts of segments, entries and cycles, which end at 2^63.
  *
- * `m` and `spare` are two handles, never one. One thread at a time uses each: behind the call the spare
+ * `m` and `spare` are two handles, never one. One thread at a time uses each: after the call the spare
  * one may go to a thread that writes, and comes back before the next swap.
- *   MOTION_OK        the bank was handed over
+ *   MOTION_OK        the segment was handed over
  *   MOTION_CLOSED    exactly where one of the two holds no machine
  *   MOTION_OTHER     where neither, exactly where they aren't machines of one configuration
  *   MOTION_OVER      where none of these, exactly where no more can be counted */
 uint32_t motion_swap(motion *m, motion *spare);
 
 /* Makes the trace of all that was called, cycled and ended since the machine was opened, which `motion
- * check` judges. `last` has what each drive answers behind the last cycle's output, so read the drives
+ * check` verifies. `last` has what each drive answers after the last cycle's output, so read the drives
  * once more: the trace ends with it, and says that each drive took the output of every cycle, which the
  * caller alone knows. It takes memory and time in proportion to the history: not for a loop.
  *   MOTION_OK        the trace was made, and is kept until the next one or the close
@@ -285,22 +291,22 @@ uint32_t motion_swap(motion *m, motion *spare);
  *   MOTION_NO_MEMORY the trace that was made before, if one was, is kept */
 uint32_t motion_trace(motion *m, const motion_drive_in *last, size_t len);
 
-/* Makes the text of the bank as a piece of a trace: where it begins, and what was called, cycled and
- * ended since, which `motion check` judges by itself (docs/formats.md). `last` has what each drive
- * answers behind the bank's last cycle, as for motion_trace. The piece is kept as the trace that was
- * made last, and motion_trace_text copies it. Memory and time as motion_trace takes them.
- *   MOTION_OK        the piece was made, and is kept until the next one or the close
+/* Makes the text of the segment as a trace segment: where it begins, and what was called, cycled and
+ * ended since, which `motion check` verifies by itself (docs/formats.md). `last` has what each drive
+ * answers after the segment's last cycle, as for motion_trace. The trace segment is kept as the trace
+ * that was made last, and motion_trace_text copies it. Memory and time as motion_trace takes them.
+ *   MOTION_OK        the trace segment was made, and is kept until the next one or the close
  *   MOTION_CLOSED    exactly where the handle is closed
  *   MOTION_LENGTH    exactly where there isn't an answer of each axis
  *   MOTION_NO_MEMORY the trace that was made before, if one was, is kept */
 uint32_t motion_bank_text(motion *m, const motion_drive_in *last, size_t len);
 
-/* Copies the trace or the piece that was made last into `room`, from the byte `from` on, and tells how
- * many bytes it copied: `len`, or what is left. 0 behind its end, where none was made, and where the
+/* Copies the trace or the trace segment that was made last into `room`, from the byte `from` on, and
+ * returns how many bytes it copied: `len`, or what is left. 0 after its end, where none was made, and where the
  * handle is closed. */
 uint64_t motion_trace_text(motion *m, uint64_t from, uint8_t *room, size_t len);
 
-/* motion_open, motion_block and motion_axis with strings of C, up to the 0 byte at their end. */
+/* motion_open, motion_block, motion_axis, motion_group and motion_task with strings of C, up to the 0 byte at their end. */
 static inline size_t motion_text_len(const char *text)
 {
     size_t len = 0;
@@ -323,6 +329,16 @@ static inline uint32_t motion_axis_named(motion *m, const char *name)
     return motion_axis(m, (const uint8_t *)name, motion_text_len(name));
 }
 
+static inline uint32_t motion_group_named(motion *m, const char *name)
+{
+    return motion_group(m, (const uint8_t *)name, motion_text_len(name));
+}
+
+static inline uint32_t motion_task_named(motion *m, const char *name)
+{
+    return motion_task(m, (const uint8_t *)name, motion_text_len(name));
+}
+
 /* The tasks and blocks of a machine, added one by one before it is opened by a configuration:
  *
  *     uint8_t room[1000];
@@ -333,7 +349,7 @@ static inline uint32_t motion_axis_named(motion *m, const char *name)
  *     motion_open_setup(&m, config, config_len, &s, &why);
  *
  * They are lines of a program in `room`, 600 bytes for ten blocks; a name or a kind that breaks a rule
- * is told when the machine is opened, by its line. A blank or a line end in one isn't looked for: it is
+ * is reported when the machine is opened, by its line. A blank or a line end in one isn't looked for: it is
  * read as the end of a word or of a line. Blocks and tasks count from 0 in their order. */
 typedef struct motion_setup {
     uint8_t *text;
