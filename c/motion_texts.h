@@ -25,9 +25,9 @@ static inline const char *motion_code_text(uint32_t code)
     case MOTION_UNKNOWN: return "no block, task, axis or group has this number";
     case MOTION_LENGTH: return "an array has more or fewer items than there are axes";
     case MOTION_RANGE: return "an input is out of every range: over 10^18, no mode, or no master axis";
-    case MOTION_FULL: return "the bank has no room for an entry: swap it";
-    case MOTION_OVER: return "the bank has no cycle left: swap it";
-    case MOTION_NO_CYCLE: return "no cycle was made in the bank yet";
+    case MOTION_FULL: return "the history segment has no room for an entry: swap it";
+    case MOTION_OVER: return "the history segment has no cycle left: swap it";
+    case MOTION_NO_CYCLE: return "no cycle was made in the history segment yet";
     case MOTION_NULL: return "a pointer is null";
     case MOTION_OTHER: return "the two handles aren't machines of one configuration";
     case MOTION_LATER: return "earlier entries were given out by a swap: use motion_bank_text";
