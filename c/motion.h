@@ -348,7 +348,7 @@ static inline uint32_t motion_task_named(motion *m, const char *name)
  *     motion_setup_block(&s, "MX", "MoveAbsolute", "X");     a block of the task before it
  *     motion_open_setup(&m, config, config_len, &s, &why);
  *
- * They are lines of a program in `room`, 600 bytes for ten blocks; a name or a kind that breaks a rule
+ * They are lines of a program in `room`, 700 bytes for ten blocks; a name or a kind that breaks a rule
  * is reported when the machine is opened, by its line. A blank or a line end in one isn't looked for: it is
  * read as the end of a word or of a line. Blocks and tasks count from 0 in their order. */
 typedef struct motion_setup {

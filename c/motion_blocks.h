@@ -41,7 +41,8 @@
 extern "C" {
 #endif
 
-/* A quantity in billionths of a unit; at most 10^18 in size, else the call answers MOTION_RANGE. */
+/* A quantity in billionths of a unit. A position of more than 10^18 in size, or a rate of which that is
+ * so in internal units a cycle, makes the call answer MOTION_RANGE. */
 typedef int64_t mc_quantity;
 
 /* Whole units, and thousandths of a unit: MC_THOUSANDTHS(12500) is 12.5 units. */
@@ -81,7 +82,8 @@ static inline int64_t mc_acceleration_a_cycle(mc_quantity acceleration, uint32_t
 }
 
 /* The cycle that a valid configuration has in its line `cycle_us = DIGITS`, in microseconds. 0 where
- * there is no such line: where the key is quoted, or the number isn't written in decimal digits. */
+ * there is no such line: where the key is quoted, a byte order mark stands before it, or the number
+ * isn't written in decimal digits alone. */
 static inline uint32_t mc_cycle_us(const uint8_t *config, size_t len)
 {
     static const char key[] = "cycle_us";
@@ -110,7 +112,8 @@ static inline uint32_t mc_cycle_us(const uint8_t *config, size_t len)
 }
 
 /* A machine as the blocks see it: its handle, its cycle, and the first code but MOTION_OK that a call
- * of a block answered, which mc_cycle hands on. */
+ * of a block or mc_cycle answered, which mc_cycle answers from then on. After a motion_swap that cured
+ * it, set it to MOTION_OK. */
 typedef struct mc_machine {
     motion *handle;
     uint32_t cycle_us;
@@ -158,8 +161,8 @@ static inline uint32_t mc_open(mc_machine *machine, motion *handle, const uint8_
     return (uint32_t)MOTION_RANGE;
 }
 
-/* motion_cycle where each call of a block since the machine began was made. Else no cycle is made,
- * and the first other code of a call is answered: quick-stop the drives. */
+/* motion_cycle where each call of a block and each cycle since the machine began was made. Else no
+ * cycle is made, and the first other code is answered: quick-stop the drives. */
 static inline uint32_t mc_cycle(mc_machine *machine, const motion_drive_in *in, size_t in_len,
                                 motion_drive_out *out, size_t out_len)
 {
@@ -283,7 +286,8 @@ static inline uint32_t mc_called(mc_machine *machine, uint16_t block, const moti
         return mc_found(machine, name, &fb->block); \
     }
 
-/* Switches an axis's drive on and off. */
+/* Switches an axis's drive on and off. It refuses nothing, so Error stays false and ErrorID 0: an
+ * axis's error stands in the ErrorID of the block whose command it ended, and in motion_axis_look. */
 typedef struct MC_Power {
     uint16_t block;
     bool Enable;
@@ -348,7 +352,8 @@ MC_BRAKING_BLOCK(Halt)      /* brings an axis to rest */
 MC_BRAKING_BLOCK(GroupStop) /* brings a group to rest, and holds it while Execute is true */
 MC_BRAKING_BLOCK(GroupHalt) /* brings a group to rest */
 
-/* Makes where an axis stands the position that is given; the drive doesn't move. */
+/* Makes where an axis stands the position that is given; the drive doesn't move. The limits lo and hi
+ * count in the new coordinate, so they move along. */
 typedef struct MC_Home {
     uint16_t block;
     bool Execute;
@@ -420,7 +425,7 @@ static inline uint32_t MC_MoveVelocity_call(MC_MoveVelocity *fb, mc_machine *mac
 /* Couples an axis to a master by a ratio of velocities. */
 typedef struct MC_GearIn {
     uint16_t block;
-    uint8_t Master; /* the number of the axis, from motion_axis_named */
+    uint8_t Master; /* the number of the axis: (uint8_t)motion_axis_named(..) after mc_open */
     bool Execute;
     int64_t RatioNumerator;   /* -10^6 to 10^6 */
     int64_t RatioDenominator; /* 1 to 10^6 */
@@ -446,7 +451,7 @@ static inline uint32_t MC_GearIn_call(MC_GearIn *fb, mc_machine *machine)
 /* Couples an axis to a master by a cam table. */
 typedef struct MC_CamIn {
     uint16_t block;
-    uint8_t Master; /* the number of the axis, from motion_axis_named */
+    uint8_t Master; /* the number of the axis: (uint8_t)motion_axis_named(..) after mc_open */
     bool Execute;
     uint16_t CamTableID;  /* from 1, in the order of the configuration */
     mc_quantity Velocity; /* units a second, until the axis is in sync */

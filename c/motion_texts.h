@@ -154,7 +154,7 @@ static inline const char *motion_power_text(const motion_drive_in *answer)
 /* Readings of an axis, by arithmetic on its rows and on what its drive answers. All are in internal
  * units and cycles. */
 typedef struct motion_reading {
-    int64_t increment;       /* internal units of an increment of its drive, as the machine's text has it */
+    int64_t increment;       /* internal units of an increment of its drive; of "0.001" in a configuration 1000000 */
     int64_t position;        /* the setpoint of the last cycle */
     int64_t velocity;        /* by how much the setpoint changed in it; a Home is no change */
     int64_t acceleration;    /* by how much the velocity changed in it */
