@@ -1,6 +1,6 @@
 // The commands: each sets what is wanted, in any cycle.
 
-ghost use Rattle.std.specs.Prelude.{◌≡◌, ◌≢◌};
+ghost use Rattle.std.specs.Prelude.{◌≡◌, ◌≢◌, ◌↔◌};
 ghost use Rattle.otg.specs.Open.{IsOpen};
 
 use crate::generator::Otg;
@@ -12,6 +12,7 @@ use jerk_core::JerkRates;
 #[unsafe(no_mangle)]
 pub extern "C" fn otg_move(otg: &mut Otg, target: i64, v: u64, a: u64, d: u64, j: u64) -> u32
     ensures opened { IsOpen otg.old → IsOpen otg.new }
+    ensures code { (result ≡ 0) ↔ IsOpen (record otg.old { target = target; v = v; a = a; d = d; j = j; kind = 1 }) }
     ensures set { result ≡ 0 → otg.new ≡ record otg.old { target = target; v = v; a = a; d = d; j = j; kind = 1 } }
     ensures same { result ≢ 0 → otg.new ≡ otg.old }
 {
@@ -23,6 +24,7 @@ pub extern "C" fn otg_move(otg: &mut Otg, target: i64, v: u64, a: u64, d: u64, j
 #[unsafe(no_mangle)]
 pub extern "C" fn otg_velocity(otg: &mut Otg, velocity: i64, a: u64, d: u64, j: u64) -> u32
     ensures opened { IsOpen otg.old → IsOpen otg.new }
+    ensures code { (result ≡ 0) ↔ IsOpen (record otg.old { target = velocity; a = a; d = d; j = j; kind = 2 }) }
     ensures set { result ≡ 0 → otg.new ≡ record otg.old { target = velocity; a = a; d = d; j = j; kind = 2 } }
     ensures same { result ≢ 0 → otg.new ≡ otg.old }
 {
@@ -35,6 +37,7 @@ pub extern "C" fn otg_velocity(otg: &mut Otg, velocity: i64, a: u64, d: u64, j: 
 #[unsafe(no_mangle)]
 pub extern "C" fn otg_halt(otg: &mut Otg, d: u64, j: u64) -> u32
     ensures opened { IsOpen otg.old → IsOpen otg.new }
+    ensures code { (result ≡ 0) ↔ IsOpen (record otg.old { d = d; j = j; kind = 0 }) }
     ensures set { result ≡ 0 → otg.new ≡ record otg.old { d = d; j = j; kind = 0 } }
     ensures same { result ≢ 0 → otg.new ≡ otg.old }
 {
@@ -64,6 +67,7 @@ fn commanded(otg: &Otg, target: i64, rates: JerkRates, kind: u32) -> Otg
 
 // Sets a command, where the generator is open and the command in its ranges.
 fn set(otg: &mut Otg, wanted: Otg) -> u32
+    ensures code { (result ≡ 0) ↔ IsOpen wanted }
     ensures set { result ≡ 0 → otg.new ≡ wanted }
     ensures opened { result ≡ 0 → IsOpen otg.new }
     ensures same { result ≢ 0 → otg.new ≡ otg.old }

@@ -18,6 +18,7 @@ pub const INVALID: u32 = 1;
 /// Opens a generator, whose limits the caller has filled, at rest at a setpoint, with a halt.
 #[unsafe(no_mangle)]
 pub extern "C" fn otg_open(otg: &mut Otg, setpoint: i64) -> u32
+    ensures code { (result ≡ 0) ↔ IsOpen (resting_of otg.old setpoint) }
     ensures opened { result ≡ 0 → IsOpen otg.new }
     ensures at { result ≡ 0 → otg.new ≡ resting_of otg.old setpoint }
     ensures same { result ≢ 0 → otg.new ≡ otg.old }
