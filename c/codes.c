@@ -93,7 +93,7 @@ static void closed_handle(void)
     want("axis look", motion_axis_look(&m, 0, &axis), MOTION_CLOSED);
     want("group look", motion_group_look(&m, 0, &group), MOTION_CLOSED);
     want("trace", motion_trace(&m, enabled, 1), MOTION_CLOSED);
-    want("bank text", motion_bank_text(&m, enabled, 1), MOTION_CLOSED);
+    want("bank text", motion_segment_text(&m, enabled, 1), MOTION_CLOSED);
     want("trace text", motion_trace_text(&m, 0, room, 4), 0);
     want("close", motion_close(&m), MOTION_CLOSED);
     want("axis", name_of(motion_axis, &m, "X"), MOTION_NO_NUMBER);
@@ -348,8 +348,8 @@ static void swaps(void)
     want("room left", motion_room_left(&spare), 4);
     want("later", motion_trace(&m, enabled, 2), MOTION_LATER);
     want("the whole", motion_trace(&spare, enabled, 2), MOTION_OK);
-    want("length", motion_bank_text(&m, enabled, 1), MOTION_LENGTH);
-    want("an empty bank", motion_bank_text(&m, enabled, 2), MOTION_OK);
+    want("length", motion_segment_text(&m, enabled, 1), MOTION_LENGTH);
+    want("an empty bank", motion_segment_text(&m, enabled, 2), MOTION_OK);
     want("cycle 3", motion_cycle(&m, enabled, 2, given, 2), MOTION_OK);
     want("close m", motion_close(&m), MOTION_OK);
     want("close spare", motion_close(&spare), MOTION_OK);

@@ -57,7 +57,7 @@ static uint32_t write_piece(shared *w)
     static uint8_t part[65536];
     char name[1024];
     uint64_t at = 0, count;
-    uint32_t code = motion_bank_text(&w->spare, w->last, AXES);
+    uint32_t code = motion_segment_text(&w->spare, w->last, AXES);
     FILE *file = NULL;
     w->pieces++;
     if (w->folder != NULL) {

@@ -168,6 +168,6 @@ int main(int argc, char **argv)
     long cycles = argc > 1 ? atol(argv[1]) : 1000000;
     if (opening_fails() != 0) return 1;
     if (text_fails("tracing", motion_trace) != 0) return 2;
-    if (text_fails("a bank's text", motion_bank_text) != 0) return 3;
+    if (text_fails("a bank's text", motion_segment_text) != 0) return 3;
     return cycles_take_none(cycles) == 0 ? 0 : 4;
 }

@@ -14,13 +14,13 @@
  *  - No pointer is null or dangling, also where a length beside it is 0, and what a call writes
  *    overlaps nothing else that it is given. (The inline functions at the end test for null.) No
  *    pointer is kept after a call: texts and arrays are the caller's own again.
- *  - MOTION_STACK bytes of stack are left, MOTION_TRACE_STACK for motion_trace and motion_bank_text.
+ *  - MOTION_STACK bytes of stack are left, MOTION_TRACE_STACK for motion_trace and motion_segment_text.
  *  - The three functions motion_heap.c has are there, and all memory comes from them.
  *
  * All else is tested by the calls themselves: a closed handle, a wrong number, length or range is
  * answered by a code, and then the call has changed nothing at all. No call blocks, makes a system
  * call or touches anything but its handle and what it is given. motion_open, motion_open_config,
- * motion_trace, motion_bank_text and motion_close alone take or give memory.
+ * motion_trace, motion_segment_text and motion_close alone take or give memory.
  *
  * This is no safety function: a real machine has its own.
  *
@@ -76,7 +76,7 @@ enum motion_code {
     MOTION_NO_CYCLE = 10, /* no cycle was made in the segment yet */
     MOTION_NULL = 11,     /* a pointer is null: the inline functions alone */
     MOTION_OTHER = 12,    /* the two handles aren't machines of one configuration; tested: or are one */
-    MOTION_LATER = 13     /* earlier entries were given out by motion_swap: use motion_bank_text */
+    MOTION_LATER = 13     /* earlier entries were given out by motion_swap: use motion_segment_text */
 };
 
 /* Where a text is refused; written where MOTION_REFUSED is answered, and else left as it was. The
@@ -286,7 +286,7 @@ uint32_t motion_swap(motion *m, motion *spare);
  * caller alone knows. It takes memory and time in proportion to the history: not for a loop.
  *   MOTION_OK        the trace was made, and is kept until the next one or the close
  *   MOTION_CLOSED    exactly where the handle is closed
- *   MOTION_LATER     exactly where earlier entries were given out: use motion_bank_text
+ *   MOTION_LATER     exactly where earlier entries were given out: use motion_segment_text
  *   MOTION_LENGTH    where neither, exactly where there isn't an answer of each axis
  *   MOTION_NO_MEMORY the trace that was made before, if one was, is kept */
 uint32_t motion_trace(motion *m, const motion_drive_in *last, size_t len);
@@ -299,7 +299,7 @@ uint32_t motion_trace(motion *m, const motion_drive_in *last, size_t len);
  *   MOTION_CLOSED    exactly where the handle is closed
  *   MOTION_LENGTH    exactly where there isn't an answer of each axis
  *   MOTION_NO_MEMORY the trace that was made before, if one was, is kept */
-uint32_t motion_bank_text(motion *m, const motion_drive_in *last, size_t len);
+uint32_t motion_segment_text(motion *m, const motion_drive_in *last, size_t len);
 
 /* Copies the trace or the trace segment that was made last into `room`, from the byte `from` on, and
  * returns how many bytes it copied: `len`, or what is left. 0 after its end, where none was made, and where the

@@ -30,7 +30,7 @@ static inline const char *motion_code_text(uint32_t code)
     case MOTION_NO_CYCLE: return "no cycle was made in the history segment yet";
     case MOTION_NULL: return "a pointer is null";
     case MOTION_OTHER: return "the two handles aren't machines of one configuration";
-    case MOTION_LATER: return "earlier entries were given out by a swap: use motion_bank_text";
+    case MOTION_LATER: return "earlier entries were given out by a swap: use motion_segment_text";
     default: return "unknown";
     }
 }

@@ -62,7 +62,7 @@ static void *trace(void *unused)
 {
     static uint8_t part[256];
     note(motion_trace(&spare, answers, AXES));
-    note(motion_bank_text(&spare, answers, AXES));
+    note(motion_segment_text(&spare, answers, AXES));
     if (motion_trace_text(&spare, 0, part, sizeof part) != sizeof part) note(MOTION_LENGTH);
     return unused;
 }

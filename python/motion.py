@@ -169,7 +169,7 @@ def load(file: Optional[Path] = None) -> ctypes.CDLL:
             ("motion_group_look", code, (handle, small, ctypes.POINTER(_GroupRow))),
             ("motion_swap", code, (handle, handle)),
             ("motion_trace", code, (handle, answers, size)),
-            ("motion_bank_text", code, (handle, answers, size)),
+            ("motion_segment_text", code, (handle, answers, size)),
             ("motion_trace_text", ctypes.c_uint64, (handle, ctypes.c_uint64, text, size))):
         call = getattr(library, name)
         call.restype, call.argtypes = answer, words
@@ -402,7 +402,7 @@ class Machine:
     def segment(self, drives: Sequence[Drive]) -> str:
         """Gives the history out as a segment of a trace, and goes on with an empty one."""
         self.forget()
-        return self._text(self._library.motion_bank_text, self._spare, drives)
+        return self._text(self._library.motion_segment_text, self._spare, drives)
 
     def forget(self) -> None:
         """Goes on with an empty history, and gives nothing out."""
@@ -427,7 +427,7 @@ def rows(text: str) -> Iterator[tuple[int, list[str]]]:
     for line in text.splitlines():
         if line.startswith("cycle,"):
             cycle = before + int(line[6:line.index(",", 6)])
-        elif line.startswith("piece,"):
+        elif line.startswith("segment,"):
             before = int(line.rpartition(",")[2])
         elif line.startswith("row,"):
             yield cycle, line.split(",")

@@ -168,11 +168,11 @@ trace("axes", lambda n: MACHINE.split("axis")[0] + counted("axis,v%07d,0,50,10,4
 trace("commas", lambda n: MACHINE + filled(",", n) + "\n")
 trace("quotes", lambda n: MACHINE + filled('"', n) + "\n")
 shape("segment commas", f"check {TEXT}",
-      lambda n: "piece,1,0,0,0\naxis" + filled(",", n) + "\n\n" + TRACE)
+      lambda n: "segment,1,0,0,0\naxis" + filled(",", n) + "\n\n" + TRACE)
 shape("segment first line", f"check {TEXT}", lambda n: "piece" + filled(",", n) + "\n\n" + TRACE)
 shape("segment lines", f"check {TEXT}",
-      lambda n: "piece,1,0,0,0\n" + filled("axis\n", n) + "\n" + TRACE)
-shape("segment without a blank line", f"check {TEXT}", lambda n: "piece,\n" + filled("a\n", n))
+      lambda n: "segment,1,0,0,0\n" + filled("axis\n", n) + "\n" + TRACE)
+shape("segment without a blank line", f"check {TEXT}", lambda n: "segment,\n" + filled("a\n", n))
 
 
 # Switches of a trace.

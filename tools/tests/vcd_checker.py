@@ -31,14 +31,14 @@ class Dump:
         head, separator, body = text.partition("$enddefinitions $end\n")
         need(separator, "there is no $enddefinitions", text[:40])
         self.variables, self.names, self.timescale = {}, {}, None
-        self.read_head(head)
+        self.read_header(head)
         self.times, self.values, self.events = [], {}, []
         self.snapshots = {}
         self.read_body(body.splitlines())
 
     # Declarations
 
-    def read_head(self, head):
+    def read_header(self, head):
         """The declarations: words from $KEYWORD to $end."""
         scopes = []
         words = head.split()

@@ -36,7 +36,7 @@ use Rattle.axis_core.proofs.KeptParts.{Based, begun-kept, not-outside, small-wit
 use Rattle.axis_core.proofs.KeptRanges.{moving-of}
 use Rattle.axis_core.proofs.MayAdmit.{NoneHolds, none-holds, of_kind, running-of, standstill-of}
 
--- the axis on which a command becomes active, with none behind it, is kept
+-- the axis on which a command becomes active, with none after it, is kept
 begins-kept : (w : Wanted) (c : Core) → Based c.axis →
     IsInState (state_during w.kind c.axis.state) c.axis.driven (is_powered c.axis) c.axis.was_off c.axis.previous c.axis.setpoint (Some w) →
     IsActive (state_during w.kind c.axis.state) c.axis.limits c.axis.inc c.axis.offset c.axis.setpoint w → c.waiting ≡ [] → IsCoreKept (record c { axis = axis_under w c.axis })
@@ -88,7 +88,7 @@ alone s ws (inl e) = e
 alone state.Disabled ws (inr q) = absurd q
 alone _ ws (inr q) = absurd q
 
--- behind an active command others may wait
+-- after an active command others may wait
 may-follow : (s : AxisState) (driven powered off : Bool) (p q : ℤ) (w : Wanted) → is_disabled s ≡ false → is_error_stop s ≡ false → is_stopping s ≡ false → is_homing s ≡ false →
     IsInState s driven powered off p q (Some w) → MayQueue s (Some w)
 may-follow state.DiscreteMotion driven powered off p q w a b c d i = tt

@@ -143,7 +143,8 @@ goes-on g c w step reached k r e h next =
       };
     }
 
--- a command that is no Home goes on, or ends; where nothing waits and the axis settles in Standstill, its step is 0
+-- a command that is no Home goes on, or ends; where nothing waits and the axis settles in
+-- Standstill, its step is 0
 pub goes-or-ends : Laws → (c : Core) (w : Wanted) (step : ℤ) (reached : Bool) (ending : Option Finish) → IsCoreKept c → Runs c.axis → c.axis.active ≡ Some w → is_home w.kind ≡ false →
     IsKept c.axis.limits c.axis.setpoint (c.axis.setpoint +ℤ step) →
     ((f : Finish) → ending ≡ Some f → c.waiting ≡ [] → state_after_last c.axis.state ≡ state.Standstill → step ≡ pos 0) →
@@ -172,7 +173,7 @@ eq-of x y h = (Decides-int_eq x y).0 h
 at-rest : (a : Axis) (w : Wanted) (step : ℤ) → (int_eq step (pos 0) && int_eq (a.setpoint +ℤ step) (target_of w)) ≡ true → step ≡ pos 0
 at-rest a w step h = eq-of step (pos 0) (and_parts (int_eq step (pos 0)) (int_eq (a.setpoint +ℤ step) (target_of w)) h).0
 
--- a move without one behind it is done at rest alone
+-- a move without one after it is done at rest alone
 pub done-at-rest : (a : Axis) (w : Wanted) (ws : List Wanted) (step : ℤ) → ws ≡ [] → (is_crossing (blended_with a w (slice_get ws 0)) a w step || stands_at_target a w step) ≡ true → step ≡ pos 0
 unfolding blended_with
 done-at-rest a w [] step none h = at-rest a w step h

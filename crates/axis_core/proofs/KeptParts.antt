@@ -55,7 +55,7 @@ not-outside low z high h =
     let below : int_lt high z ≡ false = parts.1 in
     record { above = omega (arith, ints); below = omega (arith, ints) }
 
--- a command that may wait fits the state in which it becomes active, and others may wait behind it
+-- a command that may wait fits the state in which it becomes active, and others may wait after it
 pub fits-with : (k : BlockKind) (s : AxisState) → may_wait k ≡ true → fits (state_during k s) k ≡ true
 fits-with kind.MoveAbsolute s h = refl
 fits-with kind.MoveRelative s h = refl

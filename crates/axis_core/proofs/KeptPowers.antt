@@ -1,4 +1,5 @@
--- What opening, a Power, a path and the loss of an owner keep of an axis, and what a kept axis lets its calls ask.
+-- What opening, a Power, a path and the loss of an owner keep of an axis, and what a kept axis lets
+-- its calls ask.
 use Rattle.std.specs.Prelude.{◌≡◌, refl, ◌⊎◌, ℕ, Bool, true, false, not, ◌&&◌, ℤ, pos, ◌≤ℤ◌, Option, Some, None, List, [], ◌∷◌, if◌then◌else◌, IsTrue}
 use Rattle.std.proofs.Common.{sym, ap, subst, arith, inl, inr}
 use Rattle.std.proofs.lemmas.Int.{ints}

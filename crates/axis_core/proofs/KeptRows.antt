@@ -96,7 +96,8 @@ place-ended_by (Some (finish.Error n)) c = place-failed n c
 place-ended_by (Some finish.Done) c = place-ended finish.Done c
 place-ended_by (Some finish.Aborted) c = place-ended finish.Aborted c
 
--- what a cycle makes of where a driven axis stands: it is at an admissible setpoint, or its Home moved the coordinate
+-- what a cycle makes of where a driven axis stands: it is at an admissible setpoint, or its Home
+-- moved the coordinate
 pub data Moved (a b : Axis) : Type 0 where
   by_step : (next : ℤ) → IsAdmissible a.limits a.previous a.setpoint next → place_of b ≡ place_of (axis_after_step next a) → Moved a b
   by_home : (target : ℤ) → a.previous ≡ a.setpoint → IsBetween a.limits.lo target a.limits.hi → place_of b ≡ place_of (axis_after_home target a) → Moved a b

@@ -30,7 +30,8 @@ use Rattle.axis_core.specs.declared.reason.Reason.{Reason}
 use Rattle.axis_core.proofs.ArrivalLaws.{AreAlike, active-runs, advances-by, ending-halt, ending-move, followed-halt, followed-move, given-alike, only-true, progress_at, reset-alike, still-driven, stop-alike, wish-halt, wish-move}
 use Rattle.axis_core.proofs.KeptRows.{Place, place-ended_by}
 
--- how a cycle goes on an axis with an active command, where the drive's answer brings no error: the axis advances
+-- how a cycle goes on an axis with an active command, where the drive's answer brings no error: the
+-- axis advances
 by-advance : (R : Fate → Axis → Type 0) (look : AxisLook) (c : Core) (w : Wanted) → IsCoreKept c → c.axis.active ≡ Some w →
     nat_eq (answer_error_of c.axis look.input) 0 ≡ true →
     ((f : Fate) (a b : Axis) → AreAlike a b → R f a → R f b) →

@@ -17,7 +17,7 @@ use Rattle.axis_core.specs.blocks.Moves.{with_target}
 use Rattle.axis_core.specs.declared.look.AxisLook.{AxisLook}
 use Rattle.buffer_modes.specs.Laws.{AreOwners}
 
--- so many notes after a core, where so many were there and so many commands waited
+-- this many notes after a core, where this many were there and this many commands waited
 abbrev pub IsCounted : ℕ → Core → Core → Type 0
 IsCounted more before after = length after.notes ≤ length before.notes + length before.waiting + more
 

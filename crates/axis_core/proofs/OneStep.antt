@@ -1,4 +1,5 @@
--- A cycle's answer and its step as one: what the axis makes of them alone, and how its commands end by that.
+-- A cycle's answer and its step as one: what the axis makes of them alone, and how its commands end
+-- by that.
 use Rattle.std.proofs.Common.{◌≡◌, ◌∙◌, refl, sym, ap, subst}
 use Rattle.std.specs.Prelude.{◌≤◌, Bool, true, false, None, Option, Some, IfSome, List, unsigned_abs, nat_eq, ◌&&◌, slice_get}
 use Rattle.axis_state.specs.Diagram.{IsFrom}
@@ -73,7 +74,8 @@ pass-as-one look c k =
       | false ↦ λ loud. with-error look c loud
     ] refl
 
--- what the axis made of the cycle, how its commands ended by it, and that it left Stopping, from what the parts gave
+-- what the axis made of the cycle, how its commands ended by it, and that it left Stopping, from
+-- what the parts gave
 pub pass-made : (look : AxisLook) (old : Core) (d : Bool) (next : Option Wanted) (a1 a2 : Axis) (ending : Option Finish) (after : Core) →
     next ≡ slice_get old.waiting 0 → a1 ≡ (advance_or_stand d next look old.axis).axis → ending ≡ (advance_or_stand d next look old.axis).ending →
     after ≡ core_after_ending ending (record old { axis = a1 }) → a2 ≡ axis_after_stop look after.axis →

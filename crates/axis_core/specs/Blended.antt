@@ -28,11 +28,11 @@ abbrev pub cycles_to_cross : Wanted → Axis → ℕ
 cycles_to_cross first a = crossing_bound_of (target_of first) a.setpoint
 
 -- within how many cycles the first move ends, whether its blend has a step or not: those in which
--- it brakes until there is one, and those to cross or to come back from behind the target
+-- it brakes until there is one, and those to cross or to come back from after the target
 abbrev pub cycles_of_blend : Wanted → Axis → ℕ
 cycles_of_blend first a = first_bound_of (target_of first) a.previous a.setpoint first.rates
 
--- a move is active, behind it a second one waits into which it is blended where a blend applies,
+-- a move is active, after it a second one waits into which it is blended where a blend applies,
 -- and by the steps of both it ends within n cycles
 pub record IsBlending (n : ℕ) (a : Axis) (waiting : List Wanted) : Type 0 where
   pub first : Wanted

@@ -37,7 +37,7 @@ core_after_leaving w c =
 abbrev pub queue_in : Core → Commands
 queue_in c = record { active = c.axis.active; waiting = c.waiting }
 
--- the queue with a command that joined it, and what is told of those that it ends. BufferMode
+-- the queue with a command that joined it, and what is reported of those that it ends. BufferMode
 abbrev pub core_with_queued : Wanted → Core → Core
 core_with_queued w c = record {
   axis = record c.axis { active = (admitted (queue_in c) w).active };

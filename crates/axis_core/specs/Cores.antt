@@ -1,4 +1,4 @@
--- An axis with the commands that wait behind its active one, and how these become active and end
+-- An axis with the commands that wait after its active one, and how these become active and end
 -- (PLCopen Motion Control Part 1, BufferMode).
 use Rattle.std.specs.Prelude.{ℕ, ◌≤◌, unsigned_abs, false, if◌then◌else◌, ℤ, ◌+ℤ◌, Option, Some, None, IfSome, List, [], ◌∷◌, ◌++◌}
 use Rattle.motion_numbers.specs.declared.TheConstants.{MOST_NUMBER}
@@ -22,7 +22,7 @@ use Rattle.axis_core.specs.blocks.Home.{home_done_event}
 use Rattle.axis_core.specs.blocks.Moves.{position_of, with_target}
 use Rattle.axis_core.specs.declared.axis.Axis.{Axis}
 
--- an axis, the commands that wait behind its active one, and whose commands ended so far and how
+-- an axis, the commands that wait after its active one, and whose commands ended so far and how
 pub record Core : Type 0 where
   pub axis : Axis
   pub waiting : List Wanted

@@ -29,7 +29,7 @@ abbrev pub reads_fault : Option DriveState → Bool
 reads_fault None = false
 reads_fault (Some s) = is_faulty s
 
--- whether an answer tells of a fault
+-- whether an answer reports a fault
 abbrev pub has_fault : DriveIn → Bool
 has_fault input = reads_fault (state_of_word input.statusword)
 

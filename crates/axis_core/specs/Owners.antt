@@ -1,7 +1,7 @@
 -- Which instance has a command of an axis, and how often (PLCopen Motion Control Part 1, general
 -- rules).
 use Rattle.std.specs.Prelude.{ℕ, ◌+◌, map, Option, Some, None}
-use Rattle.buffer_modes.specs.Owners.{is_owner, owner_by, waits_of}
+use Rattle.buffer_modes.specs.Owners.{owner_count, owner_by, waits_of}
 use Rattle.command_pool.specs.declared.kind.BlockKind.{BlockKind}
 use Rattle.command_pool.specs.declared.kind.BlockKind.TheVariants as kind
 use Rattle.command_pool.specs.declared.wanted.Wanted.{Wanted}
@@ -15,8 +15,8 @@ use Rattle.axis_core.specs.declared.reason.Reason.{Reason}
 -- Reset
 abbrev pub owns : ℕ → Core → ℕ
 owns k c =
-    is_owner k (owner_by c.axis.active) + waits_of k c.waiting
-    + is_owner k (reset_owner c.axis.reset)
+    owner_count k (owner_by c.axis.active) + waits_of k c.waiting
+    + owner_count k (reset_owner c.axis.reset)
 
 -- the owner that a command brings which is not refused; a GearOut and a CamOut are done at once
 abbrev pub owner_brought_by : BlockKind → Wanted → Option ℕ

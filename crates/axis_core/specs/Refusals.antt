@@ -16,7 +16,7 @@ use Rattle.axis_core.specs.declared.axis.Axis.{Axis}
 use Rattle.axis_core.specs.declared.reason.Reason.{Reason}
 use Rattle.axis_core.specs.declared.reason.Reason.TheVariants.{NotPowered, InErrorStop, InStopping, InHoming, GroupHoldsAxis, BadVelocity, BadAcceleration, BadDeceleration, JerkRefused, TargetOutside, QueueFull, NotAtRest, BadRatio, NoTable, SelfMaster, NotFollowing}
 
--- what a command is asked of: the axis and its number, how many commands wait behind its active one
+-- what a command is asked of: the axis and its number, how many commands wait after its active one
 -- and the last of them, the command and its Jerk, whether a group holds the axis, and how many cam
 -- tables there are
 pub record Asked : Type 0 where

@@ -84,7 +84,7 @@ pub fn moves_are_done_at_their_targets()
 /// No blended move hangs: it is under way for as many cycles as its bound, and every event carries
 /// it on, with fewer cycles to go, or ends it, Done or aborted or by an error. A blend that has a
 /// step crosses within as many cycles as its target is units away, and one; one without a step
-/// brakes before, or comes back from behind its target.
+/// brakes before, or comes back from after its target.
 pub fn blended_moves_end_in_time()
     ensures crosses { (c : Core) (first : Wanted) (second : SecondMove) → IsCoreKept c →
         IsBlended first second c.axis c.waiting → HasStep first second c.axis →

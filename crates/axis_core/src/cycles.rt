@@ -33,7 +33,7 @@ fn reported(input: &DriveIn) -> i32
     input.actual
 }
 
-// The controlword by what the drive's answer tells.
+// The controlword by what the drive's answer gives.
 fn word(input: &DriveIn, axis: &Axis) -> u16
     ensures { result ≡ spec.controlword_for input.now axis.now }
 {

@@ -36,7 +36,7 @@ fn is_operational(input: &DriveIn) -> bool
     ) && input.mode_display == CYCLIC_SYNCHRONOUS_POSITION
 }
 
-/// Whether a drive's answer tells of a fault.
+/// Whether a drive's answer reports a fault.
 pub fn has_fault(input: &DriveIn) -> bool
     ensures { result ≡ spec.reads_fault (state_of_word input.now.statusword) }
 {

@@ -1,8 +1,8 @@
 //! One axis of the kernel: what its commands, its Power and each cycle make of it (PLCopen Motion
 //! Control Part 1). An axis decides alone: it is asked with what a cycle or a call brings, and
-//! answers with the axis after it and with notes to the instances that are told. It stands on
-//! `trapezoid_plan`, `blend_plan` and `follow_plan`, which tell the wanted step, on `kin_core`,
-//! which tells the safe one, and on `buffer_modes`. Begin at [`Axis`] and `one_axis`; each block
+//! answers with the axis after it and with notes to the instances that are notified. It stands on
+//! `trapezoid_plan`, `blend_plan` and `follow_plan`, which give the wanted step, on `kin_core`,
+//! which gives the safe one, and on `buffer_modes`. Begin at [`Axis`] and `one_axis`; each block
 //! has its file in `blocks`, in code and in definitions.
 #![tactic(auto)]
 

@@ -23,7 +23,7 @@ pub struct AxisLook {
     pub stop_held: bool,
 }
 
-/// What is told of the active command.
+/// What is reported of the active command.
 #[derive(Clone, Copy, Debug, PartialEq, Eq)]
 pub struct ActiveLook {
     pub owner: Option<u16>,

@@ -21,7 +21,7 @@ use command_pool::{CommandPool, Notes, Refusal, Wanted};
 use kin_core::{Limits, standing_is_kept};
 use std::marker::Model;
 
-/// One axis: its PLCopen state, its setpoints and its active command; those that wait behind it are
+/// One axis: its PLCopen state, its setpoints and its active command; those that wait after it are
 /// in a list of the pool, which each call is given with the list's number, that of the axis.
 /// Contracts see it as an `Axis`.
 #[derive(Drop)]

@@ -1,6 +1,6 @@
 // Why a command is refused.
 
-/// Why a command on an axis is refused; ErrorID is the number behind each.
+/// Why a command on an axis is refused; ErrorID is the number after each.
 #[derive(Clone, Copy, Debug, PartialEq, Eq)]
 pub enum Reason {
     /// 1: the axis is Disabled.

@@ -23,7 +23,7 @@ pub struct Asking<'a> {
     pub axis: &'a Axis,
     /// The number of the axis.
     pub number: u8,
-    /// How many commands wait behind the active one.
+    /// How many commands wait after the active one.
     pub waiting: u8,
     /// The last of them.
     pub last: Option<&'a Wanted>,
@@ -52,7 +52,7 @@ fn is_target_outside(kind: BlockKind, axis: &Axis, target: Option<i64>) -> bool
     }
 }
 
-// Whether eight commands wait behind an active one, and the command would wait too.
+// Whether eight commands wait after an active one, and the command would wait too.
 #[tactic(auto, unfolding(crate::specs::Refusals::holds))]
 fn is_queue_full(asking: &Asking) -> bool
     requires { MayAsk asking.now }

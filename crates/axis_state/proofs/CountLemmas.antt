@@ -66,7 +66,8 @@ count_of-moved place offset inc way =
     let same : (place +ℤ way) -ℤ (offset +ℤ way) ≡ place -ℤ offset = omega (arith, ints) in
     ap (λ z. int_div_euclid z inc) same
 
--- a counted place that lies less than an increment below the lowest one, in whose place that one stands
+-- a counted place that lies less than an increment below the lowest one, in whose place that one
+-- stands
 pub record IsLowest (lo inc counted place : ℤ) : Type 0 where
   pub near : (lo -ℤ inc) <ℤ counted
   pub below : counted <ℤ lo

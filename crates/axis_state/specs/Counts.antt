@@ -3,11 +3,14 @@ use Rattle.std.specs.Prelude.{◌^◌, ◌-◌, ℤ, pos, neg_ℤ, ◌+ℤ◌, �
 use Rattle.std.specs.Int.{int_div_euclid}
 use Rattle.kin_core.specs.declared.limits.Limits.{Limits}
 
--- the drive's count of a place: what lies between it and the offset, in whole increments, rounded down. IEC 61800-7-201, object 607Ah
+-- the drive's count of a place: what lies between it and the offset, in whole increments, rounded
+-- down. IEC 61800-7-201, object 607Ah
 unfoldable pub count_of : ℤ → ℤ → ℤ → ℤ
 count_of place offset inc = int_div_euclid (place -ℤ offset) inc
 
--- the place of a count: as many increments from the offset, or the lowest place of the axis where that lies less than an increment below it. IEC 61800-7-201, object 6064h; the lowest place is this project's profile
+-- the place of a count: as many increments from the offset, or the lowest place of the axis where
+-- that lies less than an increment below it. IEC 61800-7-201, object 6064h; the lowest place is
+-- this project's profile
 unfoldable pub place_of : ℤ → ℤ → ℤ → ℤ → ℤ
 place_of lo count offset inc =
     let counted = (count *ℤ inc) +ℤ offset in

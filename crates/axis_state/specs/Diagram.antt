@@ -9,7 +9,8 @@ use Rattle.axis_state.specs.declared.diagram.AxisEvent.TheVariants.{Error, Power
 abbrev pub TakesMotion : AxisState → Type 0
 TakesMotion state = (state ≡ Standstill) ⊎ (state ≡ DiscreteMotion) ⊎ (state ≡ ContinuousMotion) ⊎ (state ≡ SynchronizedMotion)
 
--- the states from which an event leads, and the state to which it does. PLCopen Motion Control Part 1, the state diagram, and Part 4 for the last two
+-- the states from which an event leads, and the state to which it does. PLCopen Motion Control Part
+-- 1, the state diagram, and Part 4 for the last two
 abbrev pub AxisTransition : AxisState → AxisEvent → AxisState → Type 0
 AxisTransition state Error next = (state ≢ ErrorStop) × (next ≡ ErrorStop)
 AxisTransition state PowerOff next = (state ≢ ErrorStop) × (next ≡ Disabled)
@@ -28,7 +29,8 @@ AxisTransition state LastDone next = (state ≡ DiscreteMotion) × (next ≡ Sta
 AxisTransition state GroupActive next = ((state ≡ Standstill) ⊎ (state ≡ SynchronizedMotion)) × (next ≡ SynchronizedMotion)
 AxisTransition state PathRest next = (state ≡ SynchronizedMotion) × (next ≡ Standstill)
 
--- the state to which an event leads, from each state in which it may come. PLCopen Motion Control Part 1, the state diagram, and Part 4 for the last two
+-- the state to which an event leads, from each state in which it may come. PLCopen Motion Control
+-- Part 1, the state diagram, and Part 4 for the last two
 abbrev pub next_of : AxisEvent → AxisState
 next_of Error = ErrorStop
 next_of PowerOff = Disabled
@@ -47,6 +49,7 @@ next_of LastDone = Standstill
 next_of GroupActive = SynchronizedMotion
 next_of PathRest = Standstill
 
--- an event may come in a state: it leads somewhere. PLCopen Motion Control Part 1, the state diagram
+-- an event may come in a state: it leads somewhere. PLCopen Motion Control Part 1, the state
+-- diagram
 abbrev pub IsFrom : AxisState → AxisEvent → Type 0
 IsFrom state event = (next : AxisState) × AxisTransition state event next

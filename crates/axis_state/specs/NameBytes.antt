@@ -1,4 +1,4 @@
--- How a name is kept: its bytes, and zeros behind them.
+-- How a name is kept: its bytes, and zeros after them.
 use Rattle.std.specs.Prelude.{ℕ, ◌≡◌, ◌≤◌, ◌-◌, List, take, drop, length, replicate, ◌++◌, IsTrue}
 use Rattle.std.proofs.Common.{arith}
 use Rattle.std.proofs.lemmas.List.{take-append-drop, length-take-le}
@@ -9,7 +9,8 @@ use Rattle.axis_state.specs.declared.name.Name.TheInside.{Inside}
 abbrev pub bytes_of : Inside → List ℕ
 bytes_of n = take n.len n.bytes
 
--- sixteen bytes, of which those of the name come first and the others are zero. This project's profile
+-- sixteen bytes, of which those of the name come first and the others are zero. This project's
+-- profile
 pub record IsNameBytes (n : Inside) : Type 0 where
   pub room : length n.bytes ≡ 16
   pub few : n.len ≤ 16

@@ -27,12 +27,14 @@ spell_with (Some s) place = record { before = s.now; now = place }
 abbrev pub spell_after : Option Spell → AxisRow → Option Spell
 spell_after s r = if r.driven then Some (spell_with s (r.setpoint -ℤ r.offset)) else None
 
--- a driven row is admissible after the spell's rows before it, all with the row's offset, so that Home is no step; the first of a spell lies within lo and hi. This project's profile
+-- a driven row is admissible after the spell's rows before it, all with the row's offset, so that
+-- Home is no step; the first of a spell lies within lo and hi. This project's profile
 abbrev pub KeepsRow : Limits → Option Spell → AxisRow → Type 0
 KeepsRow l None r = (l.lo ≤ℤ r.setpoint) × (r.setpoint ≤ℤ l.hi)
 KeepsRow l (Some s) r = IsAdmissible l (s.before +ℤ r.offset) (s.now +ℤ r.offset) r.setpoint
 
--- each driven row keeps the limits of position, velocity, acceleration and braking. This project's profile
+-- each driven row keeps the limits of position, velocity, acceleration and braking. This project's
+-- profile
 abbrev pub KeepsLimits : Limits → Option Spell → List AxisRow → Type 0
 KeepsLimits l s [] = Unit {0}
 KeepsLimits l s (r ∷ rs) = (IsTrue r.driven → KeepsRow l s r) × KeepsLimits l (spell_after s r) rs

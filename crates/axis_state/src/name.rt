@@ -9,8 +9,8 @@ use std::marker::Model;
 /// The most bytes of a name.
 pub const LONGEST_NAME: usize = 16;
 
-/// The name of an axis, a group, a task or a block: a letter and up to 15 letters, digits or `_`, in ASCII.
-/// Contracts see it as its bytes.
+/// The name of an axis, a group, a task or a block: a letter and up to 15 letters, digits or `_`,
+/// in ASCII. Contracts see it as its bytes.
 #[derive(Clone, Copy)]
 pub struct Name {
     bytes: [u8; 16],
@@ -87,14 +87,14 @@ fn is_digit(b: u8) -> bool
     b'0' <= b && b <= b'9'
 }
 
-// Whether a byte may stand in a name behind its first.
+// Whether a byte may stand in a name after its first.
 fn is_name_byte(b: u8) -> bool
     ensures { result ≡ names.is_name_byte b }
 {
     is_letter(b) || is_digit(b) || b == b'_'
 }
 
-// Whether each byte may stand in a name behind its first.
+// Whether each byte may stand in a name after its first.
 fn are_name_bytes(bytes: &[u8]) -> bool
     ensures { result ≡ list_all names.is_name_byte bytes.now }
 {

@@ -50,7 +50,7 @@ fn the_lowest_place_stands_for_what_lies_just_below_it(rt: HostRuntime) {
     }
 }
 
-// Setpoint 10 behind a homing by 10 has the count of 0; below the offset the count is rounded down.
+// Setpoint 10 after a homing by 10 has the count of 0; below the offset the count is rounded down.
 #[test]
 #[tactic(auto, unfolding(crate::specs::Counts::count_of))]
 fn targets_are_rounded_down_from_the_offset(rt: HostRuntime) {

@@ -82,7 +82,7 @@ held : (v : TraceVersion) (s : Setup) → (v ≡ One → All BrakesAsItSpeedsUp 
 held One s h = h refl
 held Two s h = tt
 
--- a bench of version 1 can be told in it
+-- a bench of version 1 can be written in it
 pub can-hold : (b : BenchState) → IsBench b → CanHold b.version b.config
 can-hold b is = held b.version b.config is.braking
 

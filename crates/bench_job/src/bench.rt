@@ -22,8 +22,9 @@ use std::alloc::{AllocError, Global};
 use trace_check::kept_histories_are_read_back;
 use trace_text::{Command, DriveEndRow, TraceFault, parts_are_beginnings, write_trace};
 
-/// Runs the bench that a text is, and writes its trace. Where a number of events is told, a standby
-/// follows the kernel for so many and then takes its place: the status and the trace are the same.
+/// Runs the bench that a text is, and writes its trace. Where a number of events is given, a
+/// standby follows the kernel for this many and then takes its place: the status and the trace are
+/// the same.
 pub fn run_text<K: Sink>(
     alloc: Global,
     name: &str,

@@ -29,8 +29,8 @@ left n m f = elim (cases_lt m n) [
 
 -- ---- by the room for an event
 
--- whether there is room for an event that is a cycle or isn't, where no cycle is left or one is, and
--- where the history is full or isn't
+-- whether there is room for an event that is a cycle or isn't, where no cycle is left or one is,
+-- and where the history is full or isn't
 abbrev pub room_by : Bool → Bool → Bool → Result (Unit {0}) RunFault
 room_by c over full =
     if c && over then Err CyclesOver else if full then Err HistoryFull else Ok tt

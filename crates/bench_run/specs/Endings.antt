@@ -4,7 +4,7 @@ use Rattle.motion_history.specs.Entries.{Entry, cycles_of}
 use Rattle.motion_history.specs.Setup.{Setup}
 use Rattle.bench_run.specs.Run.{Event, Run, is_cycle, made_all}
 
--- events one after another end at one of them: those before it were made, and behind their history
+-- events one after another end at one of them: those before it were made, and after their history
 -- it can't be, for this reason
 pub record EndsAt (s : Setup) (r : Run) (events : List Event)
     (Reason : Event → List Entry → Type 0) : Type 0 where

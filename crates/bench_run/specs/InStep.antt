@@ -14,7 +14,7 @@ use Rattle.bench_run.specs.Run.{Run, run_of}
 
 -- ---- of any run
 
--- the axes' rows in a cycle behind a history, with the answers of the drives that were these at
+-- the axes' rows in a cycle after a history, with the answers of the drives that were these at
 -- opening
 abbrev pub axis_rows : Setup → List DriveSim → List Entry → List AxisRow
 axis_rows s ds es =

@@ -24,7 +24,7 @@ pub data Event : Type 0 where
   a_cycle : Event
   an_end : ℕ → Event
 
--- the events of a line: a line of cycles has so many
+-- the events of a line: a line of cycles has this many
 unfoldable pub events_of : BenchLine → List Event
 events_of (Call k i) = a_call k i ∷ []
 events_of (Cycles n) = replicate n a_cycle

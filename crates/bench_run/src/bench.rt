@@ -44,8 +44,8 @@ pub fn histories_are_legal(kernel: &Kernel)
 }
 
 /// Runs a bench: its events one after another, until one can't be made. Where a number of events is
-/// told, a standby follows the kernel for so many, or for all of them, and then takes its place:
-/// the run is the same.
+/// reported, a standby follows the kernel for this many, or for all of them, and then takes its
+/// place: the run is the same.
 #[tactic(auto, unfolding(crate::specs::Run::run_of))]
 pub fn run(alloc: Global, bench: &Bench, cut: Option<u32>) -> Result<Ran, OutOfMemory>
     ensures made { IfOk result (λ r.

@@ -88,7 +88,7 @@ pub fn make_cycle(kernel: &mut PrimaryKernel, drives: &mut [Drive]) -> Result<()
     Ok(())
 }
 
-// So many cycles.
+// This many cycles.
 #[tactic(auto, unfolding(crate::specs::Run::made_all))]
 fn make_cycles(kernel: &mut PrimaryKernel, drives: &mut [Drive], count: u32) -> Result<(), RunFault>
     requires going { IsGoing kernel.old.kernel drives.old }

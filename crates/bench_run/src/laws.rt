@@ -42,8 +42,8 @@ pub fn events_keep_drives_in_step()
 }
 
 /// Events one after another end a run for their cause alone: with CyclesOver exactly where one of
-/// them, before which all were made, is a cycle and none is left; with HistoryFull exactly where the
-/// history is then full and, if it is a cycle, one is left. Nothing runs.
+/// them, before which all were made, is a cycle and none is left; with HistoryFull exactly where
+/// the history is then full and, if it is a cycle, one is left. Nothing runs.
 pub fn runs_end_for_their_cause()
     ensures over { (s : Setup) (events : List Event) (r : Run) → r.ending ≡ Ok tt →
         ((made_all s events r).ending ≡ Err CyclesOver) ↔ EndsAt s r events (IsOver s) }

@@ -10,7 +10,7 @@ use Rattle.bench_text.specs.declared.form.Form.TheVariants as form
 use Rattle.bench_text.specs.declared.form.Part.{Part}
 use Rattle.bench_text.specs.declared.form.Part.TheVariants.{Start, Machine, Events}
 
--- the forms of a line behind the first, in the order of a bench
+-- the forms of a line after the first, in the order of a bench
 abbrev pub forms : List Form
 forms =
     form.Limit ∷ form.Axis ∷ form.Drive ∷ form.Group ∷ form.Table ∷ form.Task ∷ form.Block ∷
@@ -48,7 +48,7 @@ is_part Machine Machine = true
 is_part Events Events = true
 is_part _ _ = false
 
--- how many words stand behind the first, at least: an axis has its braking limit in version 2
+-- how many words stand after the first, at least: an axis has its braking limit in version 2
 abbrev pub least_of : TraceVersion → Form → ℕ
 least_of version form.Limit = 2
 least_of One form.Axis = 7
@@ -78,7 +78,7 @@ most_of version form.Call = None
 most_of version form.Cycle = Some 1
 most_of version form.End = Some 1
 
--- whether so many words may stand behind the first
+-- whether this many words may stand after the first
 unfoldable pub is_counted : TraceVersion → Form → ℕ → Bool
 is_counted version form count =
     nat_le (least_of version form) count &&

@@ -76,7 +76,7 @@ is_again s form.Limit words = s.limited
 is_again s form.Drive words = is_stated s.setup s.stated words
 is_again s _ words = false
 
--- the form of a line by its first word, in its part of the bench, and with as many words behind it
+-- the form of a line by its first word, in its part of the bench, and with as many words after it
 -- as it has
 unfoldable pub form_in : SoFar → List ℕ → List (List ℕ) → Result Form ℕ
 form_in s first words = do
@@ -123,7 +123,7 @@ go_meaning s = do
   _ ← broken_by rule_of (whole_fault s.setup)
   Ok (record s { part = Events })
 
--- what the words behind the first mean in a line of each form
+-- what the words after the first mean in a line of each form
 unfoldable pub words_meaning : SoFar → Form → List (List ℕ) → Result SoFar ℕ
 words_meaning s form.Limit words = limits_meaning s words
 words_meaning s form.Axis words = axes_meaning s words
@@ -137,7 +137,7 @@ words_meaning s form.Call words = with_line s (call_meaning s.setup words)
 words_meaning s form.Cycle words = with_line s (cycle_meaning words)
 words_meaning s form.End words = with_line s (end_meaning s.setup words)
 
--- what a line means behind the first
+-- what a line means after the first
 unfoldable pub later_meaning : SoFar → List (List ℕ) → Result SoFar ℕ
 later_meaning s (first ∷ words) = do
   form ← form_in s first words
@@ -155,7 +155,7 @@ ending s = do
   _ ← broken_unless (is_part s.part Events) not_whole
   Ok (record { version = s.version; config = s.setup; drives = s.drives; lines = s.lines })
 
--- a rule of a bench is told by the letter B
+-- a rule of a bench is reported by the letter B
 abbrev pub letter : ℕ
 letter = 66
 

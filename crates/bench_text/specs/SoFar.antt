@@ -1,4 +1,4 @@
--- Where a bench stands behind some of its lines. This project's profile.
+-- Where a bench stands after some of its lines. This project's profile.
 use Rattle.std.specs.Prelude.{ℕ, Bool, List}
 use Rattle.motion_history.specs.Setup.{Setup}
 use Rattle.motion_history.specs.declared.drives.DriveDef.{DriveDef}

@@ -9,7 +9,7 @@ use Rattle.bench_text.specs.SoFar.{SoFar}
 use Rattle.bench_text.specs.declared.form.Part.TheVariants.{Start, Events}
 
 -- there is a drive for each axis, each in its ranges; in version 1 each axis brakes as hard as it
--- speeds up; events come behind the machine, which then has an axis, and are of this machine
+-- speeds up; events come after the machine, which then has an axis, and are of this machine
 pub record IsSoFar (s : SoFar) : Type 0 where
   pub each : length s.drives ≡ length s.setup.axes
   pub drives : AllByRecursion IsDrive s.drives

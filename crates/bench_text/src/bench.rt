@@ -12,7 +12,7 @@ use std::marker::Model;
 pub enum BenchLine {
     /// A call of a block, by its number.
     Call { instance: u16, inputs: Inputs },
-    /// So many cycles, 1 to 200,000.
+    /// This many cycles, 1 to 200,000.
     Cycles { count: u32 },
     /// The end of a task, by its number.
     End { task: u8 },

@@ -12,11 +12,11 @@ pub enum Part {
     Start,
     /// The machine, up to `go`.
     Machine,
-    /// The events behind it.
+    /// The events after it.
     Events,
 }
 
-/// The forms of a line behind the version, by their first words.
+/// The forms of a line after the version, by their first words.
 #[derive(Clone, Copy, Debug, PartialEq, Eq)]
 pub enum Form {
     Limit,
@@ -67,7 +67,7 @@ fn word_of(form: Form) -> &'static str
     }
 }
 
-/// The form of a line by its first word. The most frequent are told by their bytes.
+/// The form of a line by its first word. The most frequent are recognised by their bytes.
 #[tactic(auto, unfolding(crate::specs::Forms::form_of, crate::specs::Forms::word_of))]
 pub fn form_of(first: &[u8]) -> Option<Form>
     ensures { result ≡ spec.form_of first.now }
@@ -106,7 +106,7 @@ pub fn is_part(part: Part, other: Part) -> bool
     part == other
 }
 
-// How many words stand behind the first, at least.
+// How many words stand after the first, at least.
 fn least_of(version: TraceVersion, form: Form) -> usize
     ensures { result ≡ spec.least_of version form }
 {
@@ -137,7 +137,7 @@ fn most_of(version: TraceVersion, form: Form) -> Option<usize>
     }
 }
 
-/// Whether so many words may stand behind the first.
+/// Whether this many words may stand after the first.
 #[tactic(auto, unfolding(crate::specs::Forms::is_counted))]
 pub fn is_counted(version: TraceVersion, form: Form, count: usize) -> bool
     ensures { result ≡ spec.is_counted version form count }

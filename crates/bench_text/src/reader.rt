@@ -81,7 +81,7 @@ impl BenchReader {
         Ok(())
     }
 
-    // Takes a line behind the first.
+    // Takes a line after the first.
     #[tactic(auto, unfolding(crate::specs::Reading::later_meaning))]
     fn read_later(&mut self, words: &[&[u8]]) -> Result<(), LineFault>
         ensures { Takes (spec.later_meaning self.old (texts words.now)) self.new result }
@@ -119,7 +119,7 @@ impl BenchReader {
         }
     }
 
-    // Takes the words behind the first.
+    // Takes the words after the first.
     #[tactic(auto, unfolding(crate::specs::Reading::words_meaning))]
     fn read_words(&mut self, form: Form, words: &[&[u8]]) -> Result<(), LineFault>
         ensures { Takes (spec.words_meaning self.old form (texts words.now)) self.new result }
@@ -234,7 +234,7 @@ impl BenchReader {
         self.push(BenchLine::End { task })
     }
 
-    // Puts a line of events behind those before.
+    // Puts a line of events after those before.
     fn push(&mut self, line: BenchLine) -> Result<(), LineFault>
         ensures { Takes (spec.with_line self.old (Ok line)) self.new result }
     {

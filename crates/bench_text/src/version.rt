@@ -9,7 +9,7 @@ use line_text::{LineFault, broken_unless, required, says};
 use machine_words::NO_VERSION;
 use motion_history::TraceVersion;
 
-/// The version that the first line tells.
+/// The version that the first line gives.
 #[tactic(auto, unfolding(crate::specs::Reading::version_of))]
 pub fn version_of(words: &[&[u8]]) -> Result<TraceVersion, LineFault>
     ensures { Gives (λ v. v) (spec.version_of (texts words.now)) result }

@@ -50,7 +50,7 @@ applies-of : (target1 target2 before now : ℤ) (first second : Rates) (vb : ℤ
 applies-of target1 target2 before now first second vb (inl has) = inl has.ahead
 applies-of target1 target2 before now first second vb (inr has) = inr has.ahead
 
--- the first move on its way back from behind the first target
+-- the first move on its way back from after the first target
 data ComesBack (rates : Rates) (target1 target2 before now : ℤ) : Type 0 where
   from_above : target1 <ℤ target2 → target1 <ℤ before → IsHeading rates (now -ℤ target1) (before -ℤ now) →
       ComesBack rates target1 target2 before now
@@ -155,7 +155,7 @@ module _ (blends : AreBlends) where
             (blends.persists limits target1 target2 before now first second vb go has goes) more))
       ]
 
-  -- where no blend applies after a step that doesn't turn back, the first target is behind
+  -- where no blend applies after a step that doesn't turn back, the first target is after
   passed : (limits : Limits) (target1 target2 before now : ℤ) (first second : Rates) (vb : ℤ) →
       AreUnderWay limits target1 target2 before now first second vb → BlendApplies target1 target2 before now →
       (BlendApplies target1 target2 now (now +ℤ blend_taken_of limits target1 target2 before now first second vb) → ⊥) →
@@ -332,7 +332,8 @@ module _ (ways : AreWays) (moves : AreMoves) (blends : AreBlends) where
         }
       ]))
 
-  -- the same within a bound: a blend's step or the way back, whichever takes longer, after the braking
+  -- the same within a bound: a blend's step or the way back, whichever takes longer, after the
+  -- braking
   applying-in-time : (n k most : ℕ) (limits : Limits) (target1 target2 before now : ℤ) (first second : Rates) (vb : ℤ) →
       AreUnderWay limits target1 target2 before now first second vb → BlendApplies target1 target2 before now →
       SettlesWithin n limits target1 target2 before now first second vb →

@@ -7,14 +7,16 @@ use Rattle.trapezoid_plan.specs.MoveRun.{move_taken_of}
 use Rattle.blend_plan.specs.Blends.{BlendApplies, blend_applies}
 use Rattle.blend_plan.specs.BlendRun.{blend_taken_of, has_crossed}
 
--- the taken step while the first of two moves is active: that of the blend where one applies, else that of the first move by itself
+-- the taken step while the first of two moves is active: that of the blend where one applies, else
+-- that of the first move by itself
 unfoldable pub first_taken_of : Limits → ℤ → ℤ → ℤ → ℤ → Rates → Rates → ℤ → ℤ
 first_taken_of limits target1 target2 before now first second vb =
     if blend_applies target1 target2 before now
     then blend_taken_of limits target1 target2 before now first second vb
     else move_taken_of limits first target1 before now
 
--- the first move ends in the cycle: a blend applies and the taken step crosses, or the axis stands at the first target and the taken step is 0
+-- the first move ends in the cycle: a blend applies and the taken step crosses, or the axis stands
+-- at the first target and the taken step is 0
 abbrev pub FirstEnds : Limits → ℤ → ℤ → ℤ → ℤ → Rates → Rates → ℤ → Type 0
 FirstEnds limits target1 target2 before now first second vb =
     (BlendApplies target1 target2 before now

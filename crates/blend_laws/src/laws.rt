@@ -25,7 +25,7 @@ use trapezoid_plan::{
 /// No first move hangs, whether and where a blend applies: after some number of cycles its taken
 /// step crosses, or it stands at its target with step 0. Where a blend has a step, that is within
 /// as many cycles as its target is units away, and one; and where one applies without a step,
-/// within the cycles of braking, and then those, or those of coming back from behind the target.
+/// within the cycles of braking, and then those, or those of coming back from after the target.
 pub fn first_moves_end()
     ensures ends { (limits : Limits) (target1 target2 before now vb : ℤ) (first second : Rates) →
         AreLimits limits → (limits.hi -ℤ limits.lo) ≤ℤ pos MOST_WAY →

@@ -6,7 +6,9 @@ use Rattle.command_pool.specs.declared.rates.Rates.{Rates}
 use Rattle.blend_plan.specs.Blends.{LieAhead, BlendApplies}
 use Rattle.blend_plan.specs.BlendStep.{MayBlend, blend_step_of, crosses_at}
 
--- two moves, one blended into the other, within limits: both targets lie within lo and hi, and the rates of the first move, the deceleration of the second and the blend velocity are at most those of the limits. This project's profile
+-- two moves, one blended into the other, within limits: both targets lie within lo and hi, and the
+-- rates of the first move, the deceleration of the second and the blend velocity are at most those
+-- of the limits. This project's profile
 pub record IsBlendWithin (limits : Limits) (target1 target2 : ℤ) (first second : Rates) (vb : ℤ) : Type 0 where
   pub first_above : limits.lo ≤ℤ target1
   pub first_below : target1 ≤ℤ limits.hi
@@ -31,7 +33,8 @@ HasBlend target1 target2 before now first second vb =
     HasBlendStep (target1 -ℤ now) (target2 -ℤ now) (now -ℤ before) first second vb
     ⊎ HasBlendStep (now -ℤ target1) (now -ℤ target2) (before -ℤ now) first second vb
 
--- the wanted step of a blend: the blend step, in the direction from the first target to the second. This project's profile
+-- the wanted step of a blend: the blend step, in the direction from the first target to the second.
+-- This project's profile
 unfoldable pub blend_wanted_of : ℤ → ℤ → ℤ → ℤ → Rates → Rates → ℤ → ℤ
 blend_wanted_of target1 target2 before now first second vb =
     if int_lt target1 target2
@@ -43,7 +46,8 @@ unfoldable pub blend_taken_of : Limits → ℤ → ℤ → ℤ → ℤ → Rates
 blend_taken_of limits target1 target2 before now first second vb =
     taken_step_of limits before now (blend_wanted_of target1 target2 before now first second vb)
 
--- whether the taken step from the setpoint crosses, in the direction from the first target to the second. This project's profile
+-- whether the taken step from the setpoint crosses, in the direction from the first target to the
+-- second. This project's profile
 unfoldable pub has_crossed : ℤ → ℤ → ℤ → Rates → ℤ → ℤ → Bool
 has_crossed target1 target2 now second vb step =
     if int_lt target1 target2

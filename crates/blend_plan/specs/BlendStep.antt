@@ -1,4 +1,5 @@
--- The wanted step of a move that is blended into the next one, and where it crosses the first target.
+-- The wanted step of a move that is blended into the next one, and where it crosses the first
+-- target.
 use Rattle.std.specs.Prelude.{◌≡◌, ◌⊎◌, ℕ, ◌+◌, ◌-◌, Bool, nat_le, ◌&&◌, ◌||◌, ℤ, pos, ◌+ℤ◌, ◌-ℤ◌, ◌≤ℤ◌, int_le, unsigned_abs, max, unwrap_or}
 use Rattle.std.specs.Int.{int_max}
 use Rattle.command_pool.specs.declared.rates.Rates.{Rates}
@@ -7,32 +8,40 @@ use Rattle.motion_numbers.specs.Run.{run_of}
 use Rattle.kin_core.specs.Toward.{toward_zero}
 use Rattle.blend_plan.specs.Sums.{rise_of, above_of}
 
--- a step after which the first move can still stop at its target at the distance l1, within its own velocity. This project's profile
+-- a step after which the first move can still stop at its target at the distance l1, within its own
+-- velocity. This project's profile
 pub record StopsAtFirst (l1 : ℤ) (first : Rates) (u : ℤ) : Type 0 where
   pub run : pos (run_of (unsigned_abs u) (unsigned_abs first.d)) ≤ℤ l1
   pub velocity : u ≤ℤ first.v
 
--- a step that leads past the first target, at the distance l1, at the blend velocity vb: it is above the first velocity only where speeding up from it to vb takes the whole way to the target, it is at most the greater of the two velocities, slowing from it to vb fits that way, and after it the second move can still stop at its target at the distance l2. This project's profile
+-- a step that leads past the first target, at the distance l1, at the blend velocity vb: it is
+-- above the first velocity only where speeding up from it to vb takes the whole way to the target,
+-- it is at most the greater of the two velocities, slowing from it to vb fits that way, and after
+-- it the second move can still stop at its target at the distance l2. This project's profile
 pub record PassesFirst (l1 l2 : ℤ) (first second : Rates) (vb u : ℤ) : Type 0 where
   pub faster : (u ≤ℤ first.v) ⊎ (l1 ≤ℤ pos (rise_of (unsigned_abs u) (unsigned_abs vb) (unsigned_abs first.a)))
   pub velocity : u ≤ℤ int_max first.v vb
   pub slowed : pos (above_of (unsigned_abs u) (unsigned_abs vb) (unsigned_abs first.d)) ≤ℤ l1
   pub run : pos (run_of (unsigned_abs u) (unsigned_abs second.d)) ≤ℤ l2
 
--- u may follow the old step in a blend, all counted in the direction from the first target to the second: it does not turn back, is within the greater deceleration below and the first acceleration above, and stops at the first target or passes it. This project's profile
+-- u may follow the old step in a blend, all counted in the direction from the first target to the
+-- second: it does not turn back, is within the greater deceleration below and the first
+-- acceleration above, and stops at the first target or passes it. This project's profile
 pub record MayBlend (l1 l2 old : ℤ) (first second : Rates) (vb u : ℤ) : Type 0 where
   pub ahead : pos 0 ≤ℤ u
   pub deceleration : (old -ℤ int_max first.d second.d) ≤ℤ u
   pub acceleration : u ≤ℤ (old +ℤ first.a)
   pub way : StopsAtFirst l1 first u ⊎ PassesFirst l1 l2 first second vb u
 
--- u is the blend step: the greatest step that may follow in the blend, or, where none may, the old step moved by the first deceleration toward zero. This project's profile
+-- u is the blend step: the greatest step that may follow in the blend, or, where none may, the old
+-- step moved by the first deceleration toward zero. This project's profile
 pub record IsBlendStep (l1 l2 old : ℤ) (first second : Rates) (vb u : ℤ) : Type 0 where
   pub follows : (k : ℤ) → MayBlend l1 l2 old first second vb k → MayBlend l1 l2 old first second vb u
   pub greatest : (k : ℤ) → MayBlend l1 l2 old first second vb k → k ≤ℤ u
   pub none : ((k : ℤ) → MayBlend l1 l2 old first second vb k → ⊥) → u ≡ toward_zero old first.d
 
--- a taken step crosses: it is at most the blend velocity, ends at the first target or past it, and the second move can stop at its target after it. This project's profile
+-- a taken step crosses: it is at most the blend velocity, ends at the first target or past it, and
+-- the second move can stop at its target after it. This project's profile
 pub record Crosses (l1 l2 : ℤ) (second : Rates) (vb u : ℤ) : Type 0 where
   pub velocity : u ≤ℤ vb
   pub reached : l1 ≤ℤ u
@@ -72,7 +81,8 @@ blend_size_of l1 l2 w first second vb =
     unwrap_or (greatest (w + unsigned_abs first.a) (may_blend l1 l2 w first second vb))
     (w - unsigned_abs first.d)
 
--- the blend step at the distances l1 and l2, the old step and the blend velocity vb, counted in the direction from the first target to the second. This project's profile
+-- the blend step at the distances l1 and l2, the old step and the blend velocity vb, counted in the
+-- direction from the first target to the second. This project's profile
 unfoldable pub blend_step_of : ℤ → ℤ → ℤ → Rates → Rates → ℤ → ℤ
 blend_step_of l1 l2 old first second vb =
     pos (blend_size_of (unsigned_abs l1) (unsigned_abs l2) (unsigned_abs old) first second (unsigned_abs vb))

@@ -24,8 +24,8 @@ pub fn crossings_are_told_by_test()
         Crosses (now -ℤ target1) (now -ℤ target2) second vb (neg_ℤ step) }
 {}
 
-/// A step that crosses is at most the blend velocity, and the first target lies between the setpoint
-/// and the next one, or at one of them.
+/// A step that crosses is at most the blend velocity, and the first target lies between the
+/// setpoint and the next one, or at one of them.
 pub fn crossings_have_the_target_between()
     ensures speed { (target1 target2 before now vb step : ℤ) (second : Rates) →
         BlendApplies target1 target2 before now →
@@ -52,8 +52,8 @@ pub fn blends_settle()
     safe_steps_lead_on();
 }
 
-/// A blend that applies has a step, or it brakes: the taken step is smaller than the last one, by the
-/// first deceleration or more.
+/// A blend that applies has a step, or it brakes: the taken step is smaller than the last one, by
+/// the first deceleration or more.
 pub fn blends_without_steps_brake()
     ensures { (limits : Limits) (target1 target2 before now vb : ℤ) (first second : Rates) →
         AreLimits limits → AreRates first → AreRates second →

@@ -40,7 +40,8 @@ pub fn blend_steps_are_greatest()
 }
 
 /// A step that crosses passes the first target as the second alternative asks: where it is at most
-/// the blend velocity and reaches the target, the other parts of the alternative hold by themselves.
+/// the blend velocity and reaches the target, the other parts of the alternative hold by
+/// themselves.
 pub fn crossings_pass_the_first_target()
     ensures { (l1 l2 vb u : ℤ) (first second : Rates) →
         pos 0 ≤ℤ l1 → l1 ≤ℤ u → u ≤ℤ vb →

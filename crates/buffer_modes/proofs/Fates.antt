@@ -1,4 +1,4 @@
--- What becomes of the active command, and who is told of it.
+-- What becomes of the active command, and who is notified of it.
 use Rattle.std.specs.Prelude.{◌≡◌, ◌≢◌, refl, ℕ, Bool, Option, Some, None, List}
 use Rattle.std.specs.List.{Contains}
 use Rattle.std.proofs.Common.{◌∙◌, sym, ap, subst, arith}

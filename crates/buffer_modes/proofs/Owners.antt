@@ -1,4 +1,4 @@
--- How often an instance has commands and is told of their ends.
+-- How often an instance has commands and is reported of their ends.
 use Rattle.std.specs.Prelude.{◌≡◌, ◌≤◌, refl, ℕ, ◌+◌, Option, Some, None, List, [], ◌∷◌, ◌++◌, length}
 use Rattle.std.proofs.Common.{sym, arith, length-append}
 use Rattle.command_pool.specs.Waiting.{notes_of, told_to}
@@ -6,33 +6,33 @@ use Rattle.command_pool.specs.declared.ending.Finish.{Finish}
 use Rattle.command_pool.specs.declared.ending.Finish.TheVariants as finish
 use Rattle.command_pool.specs.declared.notes.Note.{Note}
 use Rattle.command_pool.specs.declared.wanted.Wanted.{Wanted}
-use Rattle.buffer_modes.specs.Owners.{is_owner, owner_by, told, waits_of}
+use Rattle.buffer_modes.specs.Owners.{owner_count, owner_by, ends_given, waits_of}
 use Rattle.buffer_modes.specs.Queue.{active_note}
 use Rattle.buffer_modes.specs.Resets.{replaced_note, reset_owner}
 use Rattle.buffer_modes.specs.declared.reset.PendingReset.{PendingReset}
 
-pub nobody : (k : ℕ) → is_owner k None ≡ 0
-unfolding is_owner
+pub nobody : (k : ℕ) → owner_count k None ≡ 0
+unfolding owner_count
 nobody k = refl
 
-pub waits-more : (k : ℕ) (ws : List Wanted) (w : Wanted) → waits_of k (ws ++ w ∷ []) ≡ waits_of k ws + is_owner k w.owner
+pub waits-more : (k : ℕ) (ws : List Wanted) (w : Wanted) → waits_of k (ws ++ w ∷ []) ≡ waits_of k ws + owner_count k w.owner
 waits-more k [] w = omega arith
 waits-more k (v ∷ ws) w = let t = waits-more k ws w in omega arith
 
-pub told-more : (k : ℕ) (notes others : List Note) → told k (notes ++ others) ≡ told k notes + told k others
+pub told-more : (k : ℕ) (notes others : List Note) → ends_given k (notes ++ others) ≡ ends_given k notes + ends_given k others
 told-more k [] others = omega arith
 told-more k (n ∷ notes) others = let t = told-more k notes others in omega arith
 
-pub told-once : (k : ℕ) (o : Option ℕ) (f : Finish) → told k (told_to o f) ≡ is_owner k o
-unfolding is_owner
+pub told-once : (k : ℕ) (o : Option ℕ) (f : Finish) → ends_given k (told_to o f) ≡ owner_count k o
+unfolding owner_count
 told-once k None f = refl
 told-once k (Some n) f = omega arith
 
-pub told-active : (k : ℕ) (f : Finish) (active : Option Wanted) → told k (active_note f active) ≡ is_owner k (owner_by active)
+pub told-active : (k : ℕ) (f : Finish) (active : Option Wanted) → ends_given k (active_note f active) ≡ owner_count k (owner_by active)
 told-active k f None = sym (nobody k)
 told-active k f (Some w) = told-once k w.owner f
 
-pub told-waiting : (k : ℕ) (f : Finish) (ws : List Wanted) → told k (notes_of f ws) ≡ waits_of k ws
+pub told-waiting : (k : ℕ) (f : Finish) (ws : List Wanted) → ends_given k (notes_of f ws) ≡ waits_of k ws
 told-waiting k f [] = refl
 told-waiting k f (w ∷ ws) =
     let a = told-more k (told_to w.owner f) (notes_of f ws) in
@@ -40,7 +40,7 @@ told-waiting k f (w ∷ ws) =
     let c = told-waiting k f ws in
     omega arith
 
-pub told-reset : (k : ℕ) (p : Option PendingReset) → told k (replaced_note p) ≡ is_owner k (reset_owner p)
+pub told-reset : (k : ℕ) (p : Option PendingReset) → ends_given k (replaced_note p) ≡ owner_count k (reset_owner p)
 told-reset k None = sym (nobody k)
 told-reset k (Some p) = told-once k p.owner finish.Aborted
 

@@ -1,4 +1,4 @@
--- What becomes of the active command of an axis or group, and who is told of it (PLCopen Motion
+-- What becomes of the active command of an axis or group, and who is notified of it (PLCopen Motion
 -- Control Part 1, buffer modes).
 use Rattle.std.specs.Prelude.{◌≡◌, ◌≢◌, ℕ, Bool, false, Option, Some, None, List}
 use Rattle.std.specs.List.{Contains}
@@ -30,7 +30,7 @@ pub record IsFate (f : Fate) (before now : Option Wanted) : Type 0 where
   pub goes_on : f.ends ≡ None → f.begins ≡ None → IsSame before now
   pub was : f.ends ≢ None → before ≢ None
 
--- among some notes one tells the instance that has the active command how that ended, where this
+-- among some notes one gives the instance that has the active command how that ended, where this
 -- fate ends it
 abbrev pub TellsOwner : Fate → Option Wanted → List Note → Type 0
 TellsOwner f active notes = (owner : ℕ) (g : Finish) → f.ends ≡ Some g →

@@ -1,4 +1,4 @@
--- Which instance has a command, how often, and how often it is told of an end (PLCopen Motion
+-- Which instance has a command, how often, and how often it is notified of an end (PLCopen Motion
 -- Control Part 1, general rules).
 use Rattle.std.specs.Prelude.{◌≡◌, ℕ, ◌+◌, Bool, true, false, not, nat_eq, Option, Some, None, List, [], ◌∷◌}
 use Rattle.command_pool.specs.Waiting.{without}
@@ -26,19 +26,19 @@ abbrev pub one_of : Bool → ℕ
 one_of true = 1
 one_of false = 0
 
-unfoldable pub is_owner : ℕ → Option ℕ → ℕ
-is_owner k None = 0
-is_owner k (Some owner) = one_of (nat_eq owner k)
+unfoldable pub owner_count : ℕ → Option ℕ → ℕ
+owner_count k None = 0
+owner_count k (Some owner) = one_of (nat_eq owner k)
 
 -- how many of the commands that wait this instance has
 abbrev pub waits_of : ℕ → List Wanted → ℕ
 waits_of k [] = 0
-waits_of k (w ∷ ws) = is_owner k w.owner + waits_of k ws
+waits_of k (w ∷ ws) = owner_count k w.owner + waits_of k ws
 
 -- how many of some notes are for this instance
-abbrev pub told : ℕ → List Note → ℕ
-told k [] = 0
-told k (n ∷ ns) = is_owner k (Some n.owner) + told k ns
+abbrev pub ends_given : ℕ → List Note → ℕ
+ends_given k [] = 0
+ends_given k (n ∷ ns) = owner_count k (Some n.owner) + ends_given k ns
 
 -- commands that are the same but for the instance that has them
 abbrev pub IsSame : Option Wanted → Option Wanted → Type 0

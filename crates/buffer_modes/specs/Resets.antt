@@ -16,7 +16,7 @@ abbrev pub reset_without : ℕ → Option PendingReset → Option PendingReset
 reset_without owner None = None
 reset_without owner (Some p) = Some (record { owner = without owner p.owner })
 
--- what is told of a pending Reset that another one replaces
+-- what is reported of a pending Reset that another one replaces
 abbrev pub replaced_note : Option PendingReset → List Note
 replaced_note None = []
 replaced_note (Some p) = told_to p.owner finish.Aborted

@@ -6,14 +6,15 @@ ghost use Rattle.buffer_modes.specs.Queue.{commands, is_aborting, is_full, is_ac
 
 use command_pool::{BufferMode, CommandPool, Finish, Notes, Wanted};
 
-/// A command is active and eight wait, so that no other can wait behind them.
+/// A command is active and eight wait, so that no other can wait after them.
 #[derive(Clone, Copy, Debug, PartialEq, Eq)]
 pub struct QueueFull;
 
 /// Lets a command join those of its axis or group, and answers whether it is the active one.
 ///
-/// An aborting command ends the active one and all that wait with Aborted, and becomes active. Any other becomes active
-/// where none is, and else waits behind the last. It is refused where eight wait. At most three notes may be there.
+/// An aborting command ends the active one and all that wait with Aborted, and becomes active. Any
+/// other becomes active where none is, and else waits after the last. It is refused where eight
+/// wait. At most three notes may be there.
 pub fn admit(
     pool: &mut CommandPool,
     list: u8,
@@ -48,8 +49,9 @@ pub fn admit(
     }
 }
 
-/// Lets the first command that waits become the active one, in the place of the one that was, and answers whether one
-/// waited. Where none waits, the active one stays. Who was active is told of its end by the caller.
+/// Lets the first command that waits become the active one, in the place of the one that was, and
+/// answers whether one waited. Where none waits, the active one stays. Who was active is notified
+/// of its end by the caller.
 pub fn take_over(pool: &mut CommandPool, list: u8, active: &mut Option<Wanted>) -> bool
     requires { list < length pool.old }
     ensures active { active.new ≡ (follower (commands active.old pool.old list)).active }
@@ -63,7 +65,8 @@ pub fn take_over(pool: &mut CommandPool, list: u8, active: &mut Option<Wanted>) 
     true
 }
 
-/// Ends the active command so, and all that wait with Aborted, the active one first. At most three notes may be there.
+/// Ends the active command so, and all that wait with Aborted, the active one first. At most three
+/// notes may be there.
 pub fn abort_all(
     pool: &mut CommandPool,
     list: u8,

@@ -2,8 +2,8 @@
 
 ghost use Rattle.buffer_modes.specs.Laws.{AreFates, AreOwners, AreTakenAway, AreTellings};
 
-/// How often an instance has commands, and how often it is told of their ends; and the owner of the
-/// active command is told how it ends.
+/// How often an instance has commands, and how often it is notified of their ends; and the owner of
+/// the active command is notified how it ends.
 pub fn ends_tell_their_owners()
     ensures owners { AreOwners }
     ensures tellings { AreTellings }

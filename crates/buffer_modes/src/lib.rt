@@ -1,4 +1,4 @@
-//! How a command joins those of its axis or group: by its buffer mode it ends them, waits behind
+//! How a command joins those of its axis or group: by its buffer mode it ends them, waits after
 //! them, or is refused. Here stands once what axes and groups have in common: the active command,
 //! those that wait, the pending reset, and who owns what. It stands on `command_pool`. Begin at
 //! [`admit`] and [`take_over`].

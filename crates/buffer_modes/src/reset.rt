@@ -14,7 +14,7 @@ pub struct PendingReset {
     pub owner: Option<u16>,
 }
 
-/// Tells the owner of a Reset, if there is one, how it ended.
+/// Reports the owner of a Reset, if there is one, how it ended.
 pub fn tell_reset(pending: &PendingReset, finish: Finish, notes: &mut Notes)
     requires { length notes.old < 12 }
     ensures { notes.new ≡ notes.old ++ told_to pending.now.owner finish }

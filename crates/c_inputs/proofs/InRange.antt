@@ -26,7 +26,7 @@ behind-at [] (suc axes) k n h = zeros-at k n
 behind-at (x ∷ xs) (suc axes) k zero h = absurd (omega arith)
 behind-at (x ∷ xs) (suc axes) k (suc n) h = behind-at xs axes k n (omega arith)
 
--- the positions of a block at a place that its axes have, and behind them
+-- the positions of a block at a place that its axes have, and after them
 placed-at : (axes : ℕ) (xs : List ℤ) (n : ℕ) → n < axes → slice_index_or (positions_from (take axes xs)) n (pos 0) ≡ slice_index_or xs n (pos 0)
 unfolding positions_from
 placed-at axes xs n h = front-at xs axes (6 - length (take axes xs)) n h

@@ -10,7 +10,7 @@ use Rattle.fb_outputs.specs.declared.inputs.Inputs.{Inputs}
 use Rattle.machine_words.specs.Positions.{no_positions, positions_from}
 use Rattle.c_inputs.specs.declared.given.MotionInputs.{MotionInputs}
 
--- the positions of a block that takes some: one for each of its axes, and 0 behind them
+-- the positions of a block that takes some: one for each of its axes, and 0 after them
 abbrev pub positions_in : Bool → ℕ → List ℤ → List ℤ
 positions_in taken axes positions =
     if taken then positions_from (take axes positions) else no_positions
@@ -40,7 +40,7 @@ inputs_in kind axes given mode = record {
   table = if takes kind Table then given.table else 0;
 }
 
--- the inputs that a struct gives a block of a kind that acts on so many axes, unless there is no
+-- the inputs that a struct gives a block of a kind that acts on this many axes, unless there is no
 -- mode of its number
 abbrev pub inputs_given : BlockKind → ℕ → MotionInputs → Option Inputs
 inputs_given kind axes given = option_map (inputs_in kind axes given) (mode_given kind given.mode)

@@ -37,8 +37,8 @@ pub struct MotionInputs {
     pub execute: u8,
 }
 
-/// The inputs that a struct gives a block of this kind, which acts on so many axes. None where the
-/// kind takes a mode and there is none of the number.
+/// The inputs that a struct gives a block of this kind, which acts on this many axes. None where
+/// the kind takes a mode and there is none of the number.
 pub fn inputs_given(kind: BlockKind, axes: usize, given: &MotionInputs) -> Option<Inputs>
     ensures { result ≡ spec.inputs_given kind axes given.now }
 {
@@ -78,7 +78,7 @@ fn inputs_in(kind: BlockKind, axes: usize, given: &MotionInputs, mode: BufferMod
     }
 }
 
-// The positions of so many axes where they are taken, and else none.
+// The positions of this many axes where they are taken, and else none.
 fn positions_in(taken: bool, axes: usize, positions: &[i64; 6]) -> [i64; 6]
     ensures { result ≡ spec.positions_in taken axes positions.now }
 {

@@ -10,7 +10,7 @@ use Rattle.cam_switch.specs.declared.switch.Switch.{Switch}
 
 -- ---- one setpoint more
 
--- a, w and n tell of the one more: inside and within; i and all of the first and those before
+-- a, w and n are about the one more: inside and within; i and all of the first and those before
 bools : (i all w o n : Bool) → ((i && (all && w)) || (w && (o || n))) ≡ (w && ((i && all || o) || n))
 bools true true true o n = refl
 bools true true false o n = refl
@@ -29,7 +29,7 @@ all-one-more : (f : ℤ → Bool) (ps : List ℤ) (p : ℤ) →
     list_all f (ps ++ p ∷ []) ≡ list_all f ps && f p
 all-one-more f ps p = list_all-append f ps (p ∷ []) ∙ ap (λ b. list_all f ps && b) (and-true (f p))
 
--- a switch is on behind one setpoint more by whether it was
+-- a switch is on after one setpoint more by whether it was
 pub on-one-more : (s : Switch) (ps : List ℤ) (p : ℤ) →
     is_on s (ps ++ p ∷ []) ≡ is_on_after s (is_on s ps) p
 on-one-more s [] p = bare (is_inside s p) (is_within s p)

@@ -14,11 +14,11 @@ edge_by name cycle false true = Some (record { name = name; cycle = cycle; on = 
 edge_by name cycle true false = Some (record { name = name; cycle = cycle; on = false })
 edge_by name cycle true true = None
 
--- the edge of a switch at the cycle behind so many
+-- the edge of a switch at the cycle after this many
 unfoldable pub edge_of : List (List AxisRow) → ℕ → Switch → Option Edge
 edge_of cycles k s = edge_by s.name (suc k) (on_at s cycles k) (on_at s cycles (suc k))
 
--- the edges of switches at the cycle behind so many, in the order of the switches
+-- the edges of switches at the cycle after this many, in the order of the switches
 abbrev pub edges_at : List Switch → List (List AxisRow) → ℕ → List Edge
 edges_at ss cycles k = flat_map (λ s. option_to_list (edge_of cycles k s)) ss
 
@@ -31,7 +31,7 @@ edges_to ss cycles (suc k) = edges_to ss cycles k ++ edges_at ss cycles k
 abbrev pub edges_of : List Switch → List (List AxisRow) → List Edge
 edges_of ss cycles = edges_to ss cycles (length cycles)
 
--- an edge is one of a switch: behind so many cycles one of the switches is not what the edge says,
+-- an edge is one of a switch: after this many cycles one of the switches is not what the edge says,
 -- and at the next cycle it is
 pub record IsEdgeOf (ss : List Switch) (cycles : List (List AxisRow)) (e : Edge) : Type 0 where
   pub before : ℕ

@@ -8,11 +8,11 @@ use Rattle.cam_switch.specs.Watches.{edge_after, watch_after, watch_at, watch_of
 use Rattle.cam_switch.specs.declared.edge.Edge.{Edge}
 use Rattle.cam_switch.specs.declared.switch.Switch.{Switch}
 
--- a switch is on behind setpoints exactly where there is one since which it is
+-- a switch is on after setpoints exactly where there is one since which it is
 abbrev pub OnIsAsSaid : Type 0
 OnIsAsSaid = (s : Switch) → (column : List ℤ) → (is_on s column ≡ true) ↔ IsOn s column
 
--- a switch goes on by one cycle more to where it is behind it, with its edge there
+-- a switch goes on by one cycle more to where it is after it, with its edge there
 pub record WatchesGoOn : Type 0 where
   pub first : (cycles : List (List AxisRow)) → (s : Switch) → watch_at cycles zero s ≡ watch_of s
   pub next : (cycles : List (List AxisRow)) → (k : ℕ) → (rows : List AxisRow) → (s : Switch) →

@@ -12,7 +12,7 @@ is_within s p = int_le s.on p && int_le p s.off
 unfoldable pub is_inside : Switch → ℤ → Bool
 is_inside s p = int_le (s.on +ℤ s.hyst) p && int_le p (s.off -ℤ s.hyst)
 
--- a switch is on behind setpoints where one of them lies inside, and that one and all behind it lie
+-- a switch is on after setpoints where one of them lies inside, and that one and all after it lie
 -- within; it is off before the first
 abbrev pub is_on : Switch → List ℤ → Bool
 is_on s [] = false

@@ -12,7 +12,7 @@ use Rattle.cam_switch.specs.declared.watch.Watch.{Watch}
 abbrev pub watch_of : Switch → Watch
 watch_of s = record { switch = s; on = false }
 
--- a switch behind so many of the cycles
+-- a switch after this many of the cycles
 unfoldable pub watch_at : List (List AxisRow) → ℕ → Switch → Watch
 watch_at cycles k s = record { switch = s; on = on_at s cycles k }
 

@@ -2,13 +2,13 @@
 
 ghost use Rattle.cam_switch.specs.Laws.{EdgesAreAsSaid, OnIsAsSaid, WatchesGoOn};
 
-/// A switch is on behind setpoints exactly where one of them lies inside by the hysteresis, and it
-/// and all behind it lie within. Nothing runs.
+/// A switch is on after setpoints exactly where one of them lies inside by the hysteresis, and it
+/// and all after it lie within. Nothing runs.
 pub fn on_is_as_said()
     ensures { OnIsAsSaid }
 {}
 
-/// Switches behind the cycles so far go on by the rows of the next to where they are behind it, and
+/// Switches after the cycles so far go on by the rows of the next to where they are after it, and
 /// their edges there are those of the definition. Nothing runs.
 pub fn watches_go_on()
     ensures { WatchesGoOn }

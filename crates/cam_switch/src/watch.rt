@@ -1,4 +1,4 @@
-// A switch under way: whether it is on behind the cycles so far.
+// A switch under way: whether it is on after the cycles so far.
 
 ghost use Rattle.std.specs.Prelude.{◌≡◌};
 ghost use Rattle.cam_switch.specs.Columns as columns;
@@ -8,7 +8,7 @@ use crate::edge::{Edge, edge_by};
 use crate::switch::{Switch, is_on_after};
 use axis_state::AxisRow;
 
-/// A switch, and whether it is on behind the cycles so far.
+/// A switch, and whether it is on after the cycles so far.
 #[derive(Clone, Copy)]
 pub struct Watch {
     pub switch: Switch,

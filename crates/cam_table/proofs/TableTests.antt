@@ -7,7 +7,7 @@ use Rattle.motion_numbers.specs.declared.TheConstants.{MOST_PLACE}
 use Rattle.cam_table.specs.CamTable.{IsCamTable, IsGoodRow, are_good_rows, is_cam_table, is_good_row, point_of, size_of}
 use Rattle.cam_table.specs.declared.table.TheConstants.{MOST_POINTS}
 
--- a row behind the first rises
+-- a row after the first rises
 either_rises : (row : ℕ) (a b : ℤ) → (nat_le row 1 || int_lt a b) ≡ true → 1 < row → a <ℤ b
 either_rises row a b h later =
     elim (cases_Bool (int_lt a b)) [

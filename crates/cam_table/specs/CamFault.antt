@@ -10,13 +10,15 @@ use Rattle.cam_table.specs.CamTable.{point_of, size_of, IsGoodRow}
 abbrev pub IsBeyond : List (ℤ × ℤ) → ℕ → Type 0
 IsBeyond points row = MOST_PLACE < size_of (point_of points row)
 
--- the row is within 10^15, but its master position isn't above that of the row before. This project's profile
+-- the row is within 10^15, but its master position isn't above that of the row before. This
+-- project's profile
 pub record IsFalling (points : List (ℤ × ℤ)) (row : ℕ) : Type 0 where
   pub within : size_of (point_of points row) ≤ MOST_PLACE
   pub second : 1 < row
   pub falls : (point_of points row).0 ≤ℤ (point_of points (row - 1)).0
 
--- the points are neither too few nor too many, and every row before this one is good. This project's profile
+-- the points are neither too few nor too many, and every row before this one is good. This
+-- project's profile
 pub record IsReached (points : List (ℤ × ℤ)) (row : ℕ) : Type 0 where
   pub enough : 2 ≤ length points
   pub few : length points ≤ MOST_POINTS
@@ -24,7 +26,8 @@ pub record IsReached (points : List (ℤ × ℤ)) (row : ℕ) : Type 0 where
   pub last : row ≤ length points
   pub before : (earlier : ℕ) → 1 ≤ earlier → earlier < row → IsGoodRow points earlier
 
--- what is wrong with the points: their number, or the first row that isn't good. This project's profile
+-- what is wrong with the points: their number, or the first row that isn't good. This project's
+-- profile
 abbrev pub IsFault : List (ℤ × ℤ) → CamFault → Type 0
 IsFault points TooFew = length points < 2
 IsFault points TooMany = MOST_POINTS < length points

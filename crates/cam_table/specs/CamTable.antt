@@ -3,7 +3,8 @@ use Rattle.std.specs.Prelude.{ℕ, zero, suc, Bool, true, ◌&&◌, ◌||◌, na
 use Rattle.cam_table.specs.declared.table.TheConstants.{MOST_POINTS}
 use Rattle.motion_numbers.specs.declared.TheConstants.{MOST_PLACE}
 
--- the point of a row, the rows counted from 1: a master position and the position of the axis there. PLCopen Motion Control Part 1, MC_CamIn, cam tables
+-- the point of a row, the rows counted from 1: a master position and the position of the axis
+-- there. PLCopen Motion Control Part 1, MC_CamIn, cam tables
 abbrev pub point_of : List (ℤ × ℤ) → ℕ → ℤ × ℤ
 point_of points row = slice_index_or points (row - 1) (pos 0, pos 0)
 
@@ -28,7 +29,7 @@ is_good_row points row =
     nat_le (size_of (point_of points row)) MOST_PLACE &&
     (nat_le row 1 || int_lt (point_of points (row - 1)).0 (point_of points row).0)
 
--- whether the first rows are good, so many of them
+-- whether the first rows are good, this many of them
 abbrev pub are_good_rows : List (ℤ × ℤ) → ℕ → Bool
 are_good_rows points zero = true
 are_good_rows points (suc row) = are_good_rows points row && is_good_row points (suc row)

@@ -29,7 +29,7 @@ impl Model for CamTable {
 }
 
 impl CamTable {
-    /// The table of these points. A fault of the points is told before want of memory.
+    /// The table of these points. A fault of the points is reported before out of memory.
     pub fn new(alloc: Global, points: &[(i64, i64)]) -> Result<CamTable, CamFault>
         ensures ok { IfOk result (λ table. table ≡ points.now) }
         ensures refused { (fault : CamFault) → fault ≢ CamFault.OutOfMemory →

@@ -164,7 +164,7 @@ leaves-fault drive wishes faulty wished fresh =
     let word : answered wishes drive ≡ 128 = answered-fault drive wishes faulty ∙ rw (wished, fresh) refl in
     rw (word, faulty) (reset-step drive.last wishes.fault fresh)
 
--- the word behind a fault reset has its bit zero
+-- the word after a fault reset has its bit zero
 pub drops-reset : (drive : Commanded) (wishes : Wishes) → drive.state ≡ Fault → has_reset_bit drive.last ≡ true →
     commanded wishes drive ≡ record { state = Fault; last = 0 }
 drops-reset drive wishes faulty used =

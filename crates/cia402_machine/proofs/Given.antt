@@ -117,7 +117,8 @@ gives-one before word c =
     ∙ same_bool-is _ _ test
     ∙ ap (λ b. b && may_follow before c) (sym (fits-low word 8 (command_pattern c) (pattern-short c)))
 
--- a controlword gives a command exactly where it fits the command's pattern and the command may follow
+-- a controlword gives a command exactly where it fits the command's pattern and the command may
+-- follow
 pub gives-is : (last word : ℕ) (c : Command) → (command_of_words last word ≡ Some c) ↔ IsTrue (gives last word c)
 gives-is last word c = (
   λ e. sym (gives-one (has_reset_bit last) word c) ∙ eq-eqb _ _ (ap command_number (sym (command_of_words-given last word) ∙ e)),

@@ -1,4 +1,4 @@
--- The state that a statusword tells: by its masked bits, and by the patterns.
+-- The state that a statusword gives: by its masked bits, and by the patterns.
 use Rattle.std.specs.Prelude.{ℕ, ◌≡◌, ◌<◌, ◌≤◌, ◌^◌, ◌%◌, ◌==◌, ◌↔◌, Bool, true, false, List, [], ◌∷◌, length, Option, None, Some, if◌then◌else◌, bit_and, IsTrue}
 use Rattle.std.proofs.Common.{ap, sym, ◌∙◌, refl, eq-eqb, lit<, lit≤}
 use Rattle.std.proofs.lemmas.Bool.{eqb-true}
@@ -46,7 +46,7 @@ unfolding state_of_word
 state_of_word-low word = first_fitting-low word (NotReady ∷ SwitchOnDisabled ∷ ReadyToSwitchOn ∷ SwitchedOn ∷
     OperationEnabled ∷ QuickStopActive ∷ FaultReactionActive ∷ Fault ∷ [])
 
--- at a word of seven bits the masked bits and the patterns tell the same
+-- at a word of seven bits the masked bits and the patterns give the same
 masked : ℕ → Bool
 unfolding state_of_word
 masked word = state_number (by_masks (bit_and word 111) (bit_and word 79)) == state_number (state_of_word word)
@@ -65,7 +65,7 @@ state_of_word-masked word =
     let without : bit_and word 79 ≡ bit_and (word % 2 ^ 7) 79 = and-low word 79 7 (lit< tt) in
     state_of_word-low word ∙ sym same ∙ rw (with_stop, without) refl
 
--- a word of seven bits tells a state exactly where it fits the state's pattern
+-- a word of seven bits gives a state exactly where it fits the state's pattern
 tells : DriveState → ℕ → Bool
 unfolding state_of_word
 tells s word = same_bool (state_number (state_of_word word) == state_number (Some s)) (fits word (pattern_of s))
@@ -89,7 +89,7 @@ told word s =
     ap (λ o. state_number o == state_number (Some s)) (state_of_word-low word)
     ∙ same_bool-is _ _ test ∙ sym (fits-low word 7 (pattern_of s) (pattern-short s))
 
--- a statusword tells a state exactly where it fits the state's pattern
+-- a statusword gives a state exactly where it fits the state's pattern
 pub told-is : (word : ℕ) (s : DriveState) → (state_of_word word ≡ Some s) ↔ IsTrue (fits word (pattern_of s))
 told-is word s = (
   λ e. sym (told word s) ∙ eq-eqb _ _ (ap state_number e),
@@ -114,7 +114,7 @@ none_of (Some s) never = absurd (never s refl)
 unfit : (b : Bool) → b ≡ false → IsTrue b → ⊥
 unfit b e h = let t : b ≡ true = h in cc
 
--- a statusword tells no state exactly where it fits no pattern
+-- a statusword gives no state exactly where it fits no pattern
 pub told-none : (word : ℕ) → (state_of_word word ≡ None) ↔ ((s : DriveState) → fits word (pattern_of s) ≡ false)
 told-none word = (
   λ none s. sym (told word s) ∙ ap (λ o. state_number o == state_number (Some s)) none ∙ apart s,

@@ -27,7 +27,8 @@ commanded wishes drive = record {
   last = answered wishes drive;
 }
 
--- the drive after steps with power on and no fault, and whether a Reset is pending in each. This project's profile
+-- the drive after steps with power on and no fault, and whether a Reset is pending in each. This
+-- project's profile
 abbrev pub commanded_on : List Bool → Commanded → Commanded
 commanded_on [] drive = drive
 commanded_on (reset ∷ resets) drive = commanded_on resets (commanded (record { power = true; reset = reset; fault = false }) drive)

@@ -19,7 +19,8 @@ command_pattern FaultReset = codes "1xxxxxxx"
 abbrev pub has_reset_bit : ℕ → Bool
 has_reset_bit word = fits word (codes "1xxxxxxx")
 
--- a command may follow by whether the last controlword had the bit of a fault reset: a fault reset is a rise of it. IEC 61800-7-201, object 6040h
+-- a command may follow by whether the last controlword had the bit of a fault reset: a fault reset
+-- is a rise of it. IEC 61800-7-201, object 6040h
 abbrev pub may_follow : Bool → Command → Bool
 may_follow had_reset_bit FaultReset = not had_reset_bit
 may_follow had_reset_bit command = true
@@ -35,12 +36,15 @@ first_given had_reset_bit controlword (command ∷ commands) =
     if fits controlword (command_pattern command) && may_follow had_reset_bit command then Some command
     else first_given had_reset_bit controlword commands
 
--- the command that a controlword gives after the last one, if it gives one. IEC 61800-7-201, object 6040h
+-- the command that a controlword gives after the last one, if it gives one. IEC 61800-7-201, object
+-- 6040h
 unfoldable pub command_of_words : ℕ → ℕ → Option Command
 command_of_words last controlword = first_given (has_reset_bit last) controlword
     (Shutdown ∷ SwitchOn ∷ EnableOperation ∷ DisableVoltage ∷ QuickStop ∷ FaultReset ∷ [])
 
--- the controlword that brings a drive to Operation enabled where power is on, takes its voltage where it is off, and resets a fault where a Reset is pending. This project's profile, by the transitions of IEC 61800-7-201
+-- the controlword that brings a drive to Operation enabled where power is on, takes its voltage
+-- where it is off, and resets a fault where a Reset is pending. This project's profile, by the
+-- transitions of IEC 61800-7-201
 abbrev pub next_controlword_of : Option DriveState → Bool → Bool → ℕ → ℕ
 next_controlword_of (Some SwitchOnDisabled) power reset last = if power then 0x0006 else 0x0000
 next_controlword_of (Some ReadyToSwitchOn) power reset last = if power then 0x0007 else 0x0000

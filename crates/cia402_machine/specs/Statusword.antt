@@ -15,7 +15,8 @@ pattern_of QuickStopActive = codes "00x0111"
 pattern_of FaultReactionActive = codes "0xx1111"
 pattern_of Fault = codes "0xx1000"
 
--- the statusword of a drive that is in a state. IEC 61800-7-201, object 6041h; which of its free bits are set is this project's profile
+-- the statusword of a drive that is in a state. IEC 61800-7-201, object 6041h; which of its free
+-- bits are set is this project's profile
 abbrev pub status_of_state : DriveState → ℕ
 status_of_state NotReady = 0x0000
 status_of_state SwitchOnDisabled = 0x0040
@@ -31,7 +32,7 @@ abbrev pub first_fitting : ℕ → List DriveState → Option DriveState
 first_fitting word [] = None
 first_fitting word (state ∷ states) = if fits word (pattern_of state) then Some state else first_fitting word states
 
--- the state that a statusword tells, if it tells one. IEC 61800-7-201, object 6041h
+-- the state that a statusword gives, if it gives one. IEC 61800-7-201, object 6041h
 unfoldable pub state_of_word : ℕ → Option DriveState
 state_of_word word = first_fitting word (NotReady ∷ SwitchOnDisabled ∷ ReadyToSwitchOn ∷ SwitchedOn ∷
     OperationEnabled ∷ QuickStopActive ∷ FaultReactionActive ∷ Fault ∷ [])

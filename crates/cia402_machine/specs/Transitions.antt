@@ -5,13 +5,16 @@ use Rattle.cia402_machine.specs.declared.drive.DriveState.TheVariants.{NotReady,
 use Rattle.cia402_machine.specs.declared.command.Command.{Command}
 use Rattle.cia402_machine.specs.declared.command.Command.TheVariants.{Shutdown, SwitchOn, EnableOperation, DisableVoltage, QuickStop, FaultReset}
 
--- what causes a transition: a fault, the drive by itself, or a command. IEC 61800-7-201, the finite state automaton
+-- what causes a transition: a fault, the drive by itself, or a command. IEC 61800-7-201, the finite
+-- state automaton
 pub data Cause : Type 0 where
   AFault : Cause
   Itself : Cause
   Asked : Command → Cause
 
--- where a cause leads from a state, by the transitions 1 to 15; None where it leads nowhere. IEC 61800-7-201, the finite state automaton; that enable operation leads from Ready to Switched on is this project's profile
+-- where a cause leads from a state, by the transitions 1 to 15; None where it leads nowhere. IEC
+-- 61800-7-201, the finite state automaton; that enable operation leads from Ready to Switched on is
+-- this project's profile
 abbrev pub transition_of : DriveState → Cause → Option DriveState
 transition_of NotReady Itself = Some SwitchOnDisabled  -- 1
 transition_of SwitchOnDisabled (Asked Shutdown) = Some ReadyToSwitchOn  -- 2

@@ -24,7 +24,7 @@ pub const ENABLE_OPERATION: u16 = 0x000f;
 /// The controlword that resets a fault, where the last one had bit 7 zero (object 6040h).
 pub const FAULT_RESET: u16 = 0x0080;
 
-/// The controlword for a drive whose statusword tells a state, or none: with power on the one that
+/// The controlword for a drive whose statusword gives a state, or none: with power on the one that
 /// leads to Operation enabled, in Fault with a Reset pending the fault reset, else no voltage.
 /// `last` is the controlword that the drive was given before.
 pub fn next_controlword(state: Option<DriveState>, power: bool, reset: bool, last: u16) -> u16

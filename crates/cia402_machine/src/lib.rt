@@ -1,5 +1,5 @@
 //! The drive state machine of CiA 402 (IEC 61800-7-201), in cyclic synchronous position mode. Here
-//! are the statusword and the controlword, the states and the commands that they tell, a drive's
+//! are the statusword and the controlword, the states and the commands that they give, a drive's
 //! transitions, and the controlword that the kernel gives next. It stands on nothing. Begin at
 //! [`next_controlword`] and [`drive_step`].
 #![tactic(auto)]

@@ -7,7 +7,7 @@ ghost use Rattle.cia402_machine.specs.Statusword.{pattern_of, state_of_word, sta
 
 use crate::drive::DriveState;
 
-/// The state that a statusword tells (object 6041h), None where it fits no state's pattern.
+/// The state that a statusword gives (object 6041h), None where it fits no state's pattern.
 pub fn state_of(statusword: u16) -> Option<DriveState>
     ensures value { result ≡ state_of_word statusword }
     ensures reads { (state : DriveState) →
@@ -18,7 +18,7 @@ pub fn state_of(statusword: u16) -> Option<DriveState>
     masked_state(statusword)
 }
 
-/// The state that the bits of a statusword tell: those that tell states apart in which the quick
+/// The state that the bits of a statusword give: those that distinguish states in which the quick
 /// stop bit counts, then those for the other states.
 fn masked_state(statusword: u16) -> Option<DriveState>
     ensures { result ≡ state_of_word statusword }

@@ -1,6 +1,6 @@
 -- What axes and groups have alike: whose commands changes bring, and a pending reset.
 use Rattle.std.specs.Prelude.{◌≡◌, refl, ℕ, Option, Some, None, List}
-use Rattle.buffer_modes.specs.Owners.{is_owner}
+use Rattle.buffer_modes.specs.Owners.{owner_count}
 use Rattle.buffer_modes.specs.Resets.{reset_owner, reset_without}
 use Rattle.buffer_modes.specs.declared.reset.PendingReset.{PendingReset}
 use Rattle.command_core.specs.Brought.{BringNone, brought}
@@ -11,7 +11,7 @@ use Rattle.command_changes.specs.Failing.{failing}
 
 -- what changes of a call bring: the command of this owner, if there is one
 pub record Brings (owner : Option ℕ) (xs : List Change) : Type 0 where
-  pub brings : (k : ℕ) → brought k xs ≡ is_owner k owner
+  pub brings : (k : ℕ) → brought k xs ≡ owner_count k owner
   pub call : IsCall xs
 
 -- an error brings none

@@ -19,7 +19,7 @@ use Rattle.buffer_modes.specs.Resets.{reset_owner}
 use Rattle.buffer_modes.specs.declared.reset.PendingReset.{PendingReset}
 use Rattle.cia402_machine.specs.declared.drive.DriveIn.{DriveIn}
 use Rattle.command_core.specs.Changes.{Change, awaits, ends, holds, joins, replaced, resets}
-use Rattle.command_core.specs.Charge.{Charge}
+use Rattle.command_core.specs.CommandState.{CommandState}
 use Rattle.command_pool.specs.Waiting.{last_of}
 use Rattle.command_pool.specs.declared.ending.Finish.{Finish}
 use Rattle.command_pool.specs.declared.ending.Finish.TheVariants as finish
@@ -30,8 +30,8 @@ use Rattle.motion_numbers.specs.Ranges.{is_outside}
 use Rattle.command_changes.specs.Failing.{failing}
 
 -- the commands of an axis
-abbrev pub charge_of : Core → Charge
-charge_of c = record {
+abbrev pub command_state_of : Core → CommandState
+command_state_of c = record {
   active = c.axis.active;
   waiting = c.waiting;
   reset = reset_owner c.axis.reset;

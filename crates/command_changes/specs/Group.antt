@@ -5,7 +5,7 @@ use Rattle.buffer_modes.specs.Queue.{is_active_at_once}
 use Rattle.buffer_modes.specs.Resets.{reset_owner}
 use Rattle.buffer_modes.specs.declared.reset.PendingReset.{PendingReset}
 use Rattle.command_core.specs.Changes.{Change, awaits, ends, holds, joins, replaced, resets}
-use Rattle.command_core.specs.Charge.{Charge}
+use Rattle.command_core.specs.CommandState.{CommandState}
 use Rattle.command_pool.specs.declared.ending.Finish.{Finish}
 use Rattle.command_pool.specs.declared.ending.Finish.TheVariants as finish
 use Rattle.command_pool.specs.declared.kind.BlockKind.{BlockKind}
@@ -26,8 +26,8 @@ use Rattle.group_core.specs.declared.reason.Reason.{Reason}
 use Rattle.command_changes.specs.Failing.{failing}
 
 -- the commands of a group
-abbrev pub charge_of : Core → Charge
-charge_of c = record {
+abbrev pub command_state_of : Core → CommandState
+command_state_of c = record {
   active = c.group.active;
   waiting = c.waiting;
   reset = reset_owner c.group.reset;
@@ -40,7 +40,7 @@ abbrev pub is_stop : BlockKind → Bool
 is_stop kind.GroupStop = true
 is_stop k = false
 
--- a line is active at once, or waits behind the others. BufferMode
+-- a line is active at once, or waits after the others. BufferMode
 abbrev pub joined_changes : Wanted → Core → List Change
 joined_changes w c =
     if is_active_at_once (queue_in c) w then joins w ∷ holds (is_stop w.kind) ∷ []

@@ -23,7 +23,7 @@ pub fn group_changes_are_made()
 }
 
 /// What becomes of the active command of an axis is what becomes of it by its changes, and its
-/// owner is told how it ends.
+/// owner is notified how it ends.
 pub fn axis_fates_are_told()
     ensures { AreAxisFates }
 {
@@ -33,7 +33,7 @@ pub fn axis_fates_are_told()
 }
 
 /// What becomes of the active command of a group is what becomes of it by its changes, and its
-/// owner is told how it ends.
+/// owner is notified how it ends.
 pub fn group_fates_are_told()
     ensures { AreGroupFates }
 {

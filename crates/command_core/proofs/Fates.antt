@@ -1,4 +1,4 @@
--- A change makes of the active command what its fate says, and its owner is told how it ends.
+-- A change makes of the active command what its fate says, and its owner is notified how it ends.
 use Rattle.std.specs.Prelude.{◌≡◌, ◌≢◌, refl, Bool, true, false, ◌||◌, ℤ, Option, Some, None, is_none, List, [], ◌∷◌, ◌++◌, if◌then◌else◌}
 use Rattle.std.specs.List.{Contains}
 use Rattle.std.proofs.Common.{◌∙◌, sym, subst, arith}
@@ -13,23 +13,23 @@ use Rattle.command_pool.specs.declared.ending.Finish.TheVariants as finish
 use Rattle.command_pool.specs.declared.notes.Note.{Note}
 use Rattle.command_pool.specs.declared.wanted.Wanted.{Wanted}
 use Rattle.command_core.specs.Changes.{Change, joins, replaced, ends, awaits, resets, holds, all_changed, changed, taken_over}
-use Rattle.command_core.specs.Charge.{Charge, queue_of}
+use Rattle.command_core.specs.CommandState.{CommandState, queue_of}
 use Rattle.command_core.proofs.Order.{at_once, later}
 use Rattle.command_core.specs.Fates.{fate_in, fate_of, followed_by, taker_of}
 
 -- the notes of an end are among those after the change
-all_notes : (f : Finish) (c : Charge) → AreAmong (active_note f c.active) (c.notes ++ end_notes f (queue_of c))
+all_notes : (f : Finish) (c : CommandState) → AreAmong (active_note f c.active) (c.notes ++ end_notes f (queue_of c))
 all_notes f c x h =
     Contains-append_right c.notes (end_notes f (queue_of c)) x
     (Contains-append_left (active_note f c.active) (notes_of finish.Aborted c.waiting) x h)
 
-joined_notes : (aborts : Bool) (c : Charge) (active : Option Wanted) → c.active ≡ active → (aborts || is_none active) ≡ true →
+joined_notes : (aborts : Bool) (c : CommandState) (active : Option Wanted) → c.active ≡ active → (aborts || is_none active) ≡ true →
     AreAmong (active_note finish.Aborted c.active) (c.notes ++ (if aborts then end_notes finish.Aborted (queue_of c) else []))
 joined_notes true c active e h = all_notes finish.Aborted c
 joined_notes false c None e h = λ x g. absurd (let P : Option Wanted → Type 0 = λ o. Contains (active_note finish.Aborted o) x in let none = subst P e g in (let few = none.1 in omega (arith, few)))
 joined_notes false c (Some w) e h = absurd (cc)
 
-taken_notes : (t : Option ℤ) (ws : List Wanted) (c : Charge) → (taken_over t ws c).notes ≡ c.notes
+taken_notes : (t : Option ℤ) (ws : List Wanted) (c : CommandState) → (taken_over t ws c).notes ≡ c.notes
 taken_notes t [] c = refl
 taken_notes t (w ∷ ws) c = refl
 
@@ -37,26 +37,27 @@ taken_notes t (w ∷ ws) c = refl
 more_notes : (before more : List Note) → AreAmong before (before ++ more)
 more_notes before more x h = Contains-append_left before more x h
 
-kept_by : (x : Change) (c : Charge) → AreAmong c.notes (changed x c).notes
+kept_by : (x : Change) (c : CommandState) → AreAmong c.notes (changed x c).notes
 kept_by (joins w) c = more_notes c.notes _
 kept_by (replaced f next ws) c = more_notes c.notes _
 kept_by (ends f target) c =
-    let after : Charge = record c { active = None; notes = c.notes ++ active_note f c.active } in
+    let after : CommandState = record c { active = None; notes = c.notes ++ active_note f c.active } in
     λ x h. subst (λ (ns : List Note). Contains ns x) (sym (taken_notes target c.waiting after)) (more_notes c.notes (active_note f c.active) x h)
 kept_by (awaits owner) c = more_notes c.notes _
 kept_by resets c = more_notes c.notes _
 kept_by (holds stops) c = λ x h. h
 
-all_kept : (xs : List Change) (c : Charge) → AreAmong c.notes (all_changed xs c).notes
+all_kept : (xs : List Change) (c : CommandState) → AreAmong c.notes (all_changed xs c).notes
 all_kept [] c x h = h
 all_kept (y ∷ xs) c x h = all_kept xs (changed y c) x (kept_by y c x h)
 
 -- the first that waits is active
-taken_active : (t : Option ℤ) (ws : List Wanted) (c : Charge) → c.active ≡ None → (taken_over t ws c).active ≡ taker_of t ws
+taken_active : (t : Option ℤ) (ws : List Wanted) (c : CommandState) → c.active ≡ None → (taken_over t ws c).active ≡ taker_of t ws
 taken_active t [] c e = e
 taken_active t (w ∷ ws) c e = refl
 
--- what the end of the active command and the one that begins say of the one before and the one after
+-- what the end of the active command and the one that begins say of the one before and the one
+-- after
 record Makes (end : Option Finish) (next before now : Option Wanted) : Type 0 where
   begins : (w : Wanted) → next ≡ Some w → now ≡ Some w
   over : end ≢ None → next ≡ None → now ≡ None
@@ -90,7 +91,7 @@ replaced_makes f (Some w) next now e = record {
   fresh = λ h b. absurd (cc);
 }
 
-makes_by : (x : Change) (c : Charge) → Makes (fate_of x c).ends (fate_of x c).begins c.active (changed x c).active
+makes_by : (x : Change) (c : CommandState) → Makes (fate_of x c).ends (fate_of x c).begins c.active (changed x c).active
 makes_by (joins w) c = by (is_aborting w.mode || is_none c.active) refl
   where
     by : (b : Bool) → (is_aborting w.mode || is_none c.active) ≡ b →
@@ -174,22 +175,22 @@ followed_makes None None g before middle now m l = subst (λ o. Makes g.ends g.b
 followed_makes None (Some w) g before middle now m l = begun_makes w g.ends g.begins before middle now m l
 followed_makes (Some e) b g before middle now m l = ended_makes e b g.ends g.begins before middle now m l
 
-all_make : (xs : List Change) (c : Charge) → Makes (fate_in xs c).ends (fate_in xs c).begins c.active (all_changed xs c).active
+all_make : (xs : List Change) (c : CommandState) → Makes (fate_in xs c).ends (fate_in xs c).begins c.active (all_changed xs c).active
 all_make [] c = still_makes c.active c.active refl
 all_make (x ∷ xs) c =
     followed_makes (fate_of x c).ends (fate_of x c).begins (fate_in xs (changed x c))
     c.active (changed x c).active (all_changed xs (changed x c)).active (makes_by x c) (all_make xs (changed x c))
 
 -- the active command that goes on is the same
-pub goes_on_same : (xs : List Change) (c : Charge) → (fate_in xs c).ends ≡ None → (fate_in xs c).begins ≡ None → (all_changed xs c).active ≡ c.active
+pub goes_on_same : (xs : List Change) (c : CommandState) → (fate_in xs c).ends ≡ None → (fate_in xs c).begins ≡ None → (all_changed xs c).active ≡ c.active
 goes_on_same xs c over next = (all_make xs c).still over next
 
 -- where one begins and none ends, none was active
-pub begun_none : (xs : List Change) (c : Charge) (w : Wanted) → (fate_in xs c).ends ≡ None → (fate_in xs c).begins ≡ Some w → c.active ≡ None
+pub begun_none : (xs : List Change) (c : CommandState) (w : Wanted) → (fate_in xs c).ends ≡ None → (fate_in xs c).begins ≡ Some w → c.active ≡ None
 begun_none xs c w over next = (all_make xs c).fresh over (λ z. let e : Some w ≡ None = sym next ∙ z in cc)
 
 module _ (laws : AreFates) (tellings : AreTellings) where
-  pub fates : (xs : List Change) (c : Charge) → IsFate (fate_in xs c) c.active (all_changed xs c).active
+  pub fates : (xs : List Change) (c : CommandState) → IsFate (fate_in xs c) c.active (all_changed xs c).active
   fates xs c =
       let m = all_make xs c in
       record {
@@ -199,11 +200,11 @@ module _ (laws : AreFates) (tellings : AreTellings) where
         was = m.was;
       }
 
-  -- the owner of the active command is told how it ends
+  -- the owner of the active command is notified how it ends
   tells_none : (active : Option Wanted) (notes : List Note) → TellsOwner goes_on active notes
   tells_none active notes owner g e o = absurd (cc)
 
-  tells_by : (x : Change) (c : Charge) → TellsOwner (fate_of x c) c.active (changed x c).notes
+  tells_by : (x : Change) (c : CommandState) → TellsOwner (fate_of x c) c.active (changed x c).notes
   tells_by (joins w) c = by (is_aborting w.mode || is_none c.active) refl
     where
       by : (b : Bool) → (is_aborting w.mode || is_none c.active) ≡ b →
@@ -212,7 +213,7 @@ module _ (laws : AreFates) (tellings : AreTellings) where
       by false h = tells_none c.active _
   tells_by (replaced f next ws) c = tellings.replaces f c.active next _ (all_notes f c)
   tells_by (ends f target) c =
-      let after : Charge = record c { active = None; notes = c.notes ++ active_note f c.active } in
+      let after : CommandState = record c { active = None; notes = c.notes ++ active_note f c.active } in
       tellings.replaces f c.active (taker_of target c.waiting) _ (λ x h.
       subst (λ (ns : List Note). Contains ns x) (sym (taken_notes target c.waiting after)) (Contains-append_right c.notes (active_note f c.active) x h))
   tells_by (awaits owner) c = tells_none c.active _
@@ -225,7 +226,7 @@ module _ (laws : AreFates) (tellings : AreTellings) where
   followed_tells None (Some w) g before middle notes m s t = s
   followed_tells (Some e) b g before middle notes m s t = s
 
-  pub tells : (xs : List Change) (c : Charge) → TellsOwner (fate_in xs c) c.active (all_changed xs c).notes
+  pub tells : (xs : List Change) (c : CommandState) → TellsOwner (fate_in xs c) c.active (all_changed xs c).notes
   tells [] c = tells_none c.active c.notes
   tells (x ∷ xs) c =
       followed_tells (fate_of x c).ends (fate_of x c).begins (fate_in xs (changed x c)) c.active (changed x c).active _ (makes_by x c)

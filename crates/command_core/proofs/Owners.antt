@@ -1,8 +1,8 @@
--- An instance is told of the end of each command that it has, once.
+-- An instance is notified of the end of each command that it has, once.
 use Rattle.std.specs.Prelude.{◌≡◌, refl, ℕ, ◌+◌, Bool, true, false, nat_eq, ℤ, Option, Some, None, List, [], ◌∷◌, ◌++◌, if◌then◌else◌}
 use Rattle.std.proofs.Common.{ap, arith, ◌∙◌}
 use Rattle.buffer_modes.specs.Laws.{AreOwners, AreTakenAway}
-use Rattle.buffer_modes.specs.Owners.{is_owner, owner_by, told, waits_of}
+use Rattle.buffer_modes.specs.Owners.{owner_count, owner_by, ends_given, waits_of}
 use Rattle.buffer_modes.specs.Queue.{active_note, behind, end_notes, is_aborting}
 use Rattle.command_pool.specs.Waiting.{notes_of, told_to}
 use Rattle.command_pool.specs.declared.ending.Finish.{Finish}
@@ -11,18 +11,18 @@ use Rattle.command_pool.specs.declared.wanted.Wanted.{Wanted}
 use Rattle.command_core.specs.Brought.{BringNone, BringsNone, brought, brought_by}
 use Rattle.command_core.specs.Calls.{AreHolds, IsCall}
 use Rattle.command_core.specs.Changes.{Change, joins, replaced, ends, awaits, resets, holds, all_changed, changed, taken_over, with_known}
-use Rattle.command_core.specs.Charge.{Charge, disowned, owns, queue_of}
+use Rattle.command_core.specs.CommandState.{CommandState, disowned, owns, queue_of}
 
--- what an instance has and what it was told, together
-abbrev pub sum : ℕ → Charge → ℕ
-sum k c = owns k c + told k c.notes
+-- what an instance has and what it was given, together
+abbrev pub sum : ℕ → CommandState → ℕ
+sum k c = owns k c + ends_given k c.notes
 
 module _ (owners : AreOwners) (taken : AreTakenAway) where
   open owners use {nobody, waits_more, told_more, told_once, told_active, told_waiting}
 
-  -- where all commands are ended, all that have one are told
-  pub told_all : (k : ℕ) (f : Finish) (c : Charge) → told k (c.notes ++ end_notes f (queue_of c)) ≡
-      told k c.notes + is_owner k (owner_by c.active) + waits_of k c.waiting
+  -- where all commands are ended, all that have one are notified
+  pub told_all : (k : ℕ) (f : Finish) (c : CommandState) → ends_given k (c.notes ++ end_notes f (queue_of c)) ≡
+      ends_given k c.notes + owner_count k (owner_by c.active) + waits_of k c.waiting
   told_all k f c =
       let a = told_more k c.notes (active_note f c.active ++ notes_of finish.Aborted c.waiting) in
       let b = told_more k (active_note f c.active) (notes_of finish.Aborted c.waiting) in
@@ -31,44 +31,44 @@ module _ (owners : AreOwners) (taken : AreTakenAway) where
       omega arith
 
   -- a command that joins the others
-  abbrev pub joined : Bool → Option Wanted → Wanted → Charge → Charge
+  abbrev pub joined : Bool → Option Wanted → Wanted → CommandState → CommandState
   joined aborts active w c = record c {
     active = (if aborts then record { active = Some w; waiting = [] } else behind active c.waiting w).active;
     waiting = (if aborts then record { active = Some w; waiting = [] } else behind active c.waiting w).waiting;
     notes = c.notes ++ (if aborts then end_notes finish.Aborted (queue_of c) else []);
   }
 
-  sum_joined : (k : ℕ) (aborts : Bool) (active : Option Wanted) (w : Wanted) (c : Charge) → c.active ≡ active →
-      sum k (joined aborts active w c) ≡ sum k c + is_owner k w.owner
+  sum_joined : (k : ℕ) (aborts : Bool) (active : Option Wanted) (w : Wanted) (c : CommandState) → c.active ≡ active →
+      sum k (joined aborts active w c) ≡ sum k c + owner_count k w.owner
   sum_joined k true active w c e = let a = told_all k finish.Aborted c in omega arith
   sum_joined k false None w c e =
       let a = told_more k c.notes [] in
-      let z = ap (λ o. is_owner k (owner_by o)) e ∙ nobody k in
+      let z = ap (λ o. owner_count k (owner_by o)) e ∙ nobody k in
       omega arith
   sum_joined k false (Some v) w c e =
       let a = told_more k c.notes [] in
-      let z : is_owner k (owner_by c.active) ≡ is_owner k v.owner = ap (λ o. is_owner k (owner_by o)) e in
+      let z : owner_count k (owner_by c.active) ≡ owner_count k v.owner = ap (λ o. owner_count k (owner_by o)) e in
       let m = waits_more k c.waiting w in
       omega arith
 
-  -- an end tells the owner, and the next command keeps its own
-  sum_taken : (k : ℕ) (t : Option ℤ) (ws : List Wanted) (c : Charge) → c.active ≡ None → c.waiting ≡ ws →
+  -- an end gives the owner, and the next command keeps its own
+  sum_taken : (k : ℕ) (t : Option ℤ) (ws : List Wanted) (c : CommandState) → c.active ≡ None → c.waiting ≡ ws →
       sum k (taken_over t ws c) ≡ sum k c
   sum_taken k t [] c none same = refl
   sum_taken k t (w ∷ ws) c none same = by t
     where
-      e : waits_of k c.waiting ≡ is_owner k w.owner + waits_of k ws
+      e : waits_of k c.waiting ≡ owner_count k w.owner + waits_of k ws
       e = ap (waits_of k) same
 
-      z : is_owner k (owner_by c.active) ≡ 0
-      z = ap (λ o. is_owner k (owner_by o)) none ∙ nobody k
+      z : owner_count k (owner_by c.active) ≡ 0
+      z = ap (λ o. owner_count k (owner_by o)) none ∙ nobody k
 
       by : (t : Option ℤ) → sum k (record c { active = Some (with_known t w); waiting = ws }) ≡ sum k c
       by None = omega (arith, e, z)
       by (Some target) = omega (arith, e, z)
 
   -- one change
-  pub once_by : (k : ℕ) (x : Change) (c : Charge) → sum k (changed x c) ≡ sum k c + brought_by k x
+  pub once_by : (k : ℕ) (x : Change) (c : CommandState) → sum k (changed x c) ≡ sum k c + brought_by k x
   once_by k (joins w) c = sum_joined k (is_aborting w.mode) c.active w c refl
   once_by k (replaced f next ws) c = let a = told_all k f c in omega arith
   once_by k (ends f target) c =
@@ -89,25 +89,25 @@ module _ (owners : AreOwners) (taken : AreTakenAway) where
   once_by k (holds stops) c = omega arith
 
   -- several changes
-  pub once : (k : ℕ) (xs : List Change) (c : Charge) → owns k (all_changed xs c) + told k (all_changed xs c).notes
-      ≡ owns k c + told k c.notes + brought k xs
+  pub once : (k : ℕ) (xs : List Change) (c : CommandState) → owns k (all_changed xs c) + ends_given k (all_changed xs c).notes
+      ≡ owns k c + ends_given k c.notes + brought k xs
   once k [] c = omega arith
   once k (x ∷ xs) c =
       let a = once_by k x c in
       let b = once k xs (changed x c) in
       omega arith
 
-  -- who has no command is told nothing by a change
-  untold_joined : (k : ℕ) (aborts : Bool) (w : Wanted) (c : Charge) → owns k c ≡ 0 →
-      told k (c.notes ++ (if aborts then end_notes finish.Aborted (queue_of c) else [])) ≡ told k c.notes
+  -- who has no command is given nothing by a change
+  untold_joined : (k : ℕ) (aborts : Bool) (w : Wanted) (c : CommandState) → owns k c ≡ 0 →
+      ends_given k (c.notes ++ (if aborts then end_notes finish.Aborted (queue_of c) else [])) ≡ ends_given k c.notes
   untold_joined k true w c h = let a = told_all k finish.Aborted c in omega arith
   untold_joined k false w c h = let a = told_more k c.notes [] in omega arith
 
-  untold_taken : (k : ℕ) (t : Option ℤ) (ws : List Wanted) (c : Charge) → told k (taken_over t ws c).notes ≡ told k c.notes
+  untold_taken : (k : ℕ) (t : Option ℤ) (ws : List Wanted) (c : CommandState) → ends_given k (taken_over t ws c).notes ≡ ends_given k c.notes
   untold_taken k t [] c = refl
   untold_taken k t (w ∷ ws) c = refl
 
-  untold_by : (k : ℕ) (x : Change) (c : Charge) → owns k c ≡ 0 → told k (changed x c).notes ≡ told k c.notes
+  untold_by : (k : ℕ) (x : Change) (c : CommandState) → owns k c ≡ 0 → ends_given k (changed x c).notes ≡ ends_given k c.notes
   untold_by k (joins w) c h = untold_joined k (is_aborting w.mode) w c h
   untold_by k (replaced f next ws) c h = let a = told_all k f c in omega arith
   untold_by k (ends f target) c h =
@@ -125,12 +125,12 @@ module _ (owners : AreOwners) (taken : AreTakenAway) where
       omega arith
   untold_by k (holds stops) c h = refl
 
-  untold_holds : (k : ℕ) (xs : List Change) (c : Charge) → AreHolds xs → told k (all_changed xs c).notes ≡ told k c.notes
+  untold_holds : (k : ℕ) (xs : List Change) (c : CommandState) → AreHolds xs → ends_given k (all_changed xs c).notes ≡ ends_given k c.notes
   untold_holds k [] c h = refl
   untold_holds k (holds stops ∷ xs) c h = untold_holds k xs (changed (holds stops) c) h
   untold_holds k (_ ∷ xs) c h = absurd h
 
-  pub untold : (k : ℕ) (xs : List Change) (c : Charge) → IsCall xs → owns k c ≡ 0 → told k (all_changed xs c).notes ≡ told k c.notes
+  pub untold : (k : ℕ) (xs : List Change) (c : CommandState) → IsCall xs → owns k c ≡ 0 → ends_given k (all_changed xs c).notes ≡ ends_given k c.notes
   untold k [] c h e = refl
   untold k (ends f target ∷ xs) c h e = absurd h
   untold k (x ∷ xs) c h e = untold_holds k xs (changed x c) h ∙ untold_by k x c e
@@ -139,7 +139,7 @@ module _ (owners : AreOwners) (taken : AreTakenAway) where
   none_by : (k : ℕ) (x : Change) → BringsNone x → brought_by k x ≡ 0
   none_by k (joins w) h = absurd h
   none_by k (replaced f next ws) h =
-      let a : is_owner k (owner_by next) ≡ 0 = ap (λ o. is_owner k (owner_by o)) h.0 ∙ nobody k in
+      let a : owner_count k (owner_by next) ≡ 0 = ap (λ o. owner_count k (owner_by o)) h.0 ∙ nobody k in
       let b : waits_of k ws ≡ 0 = ap (waits_of k) h.1 in
       omega arith
   none_by k (awaits owner) h = absurd h
@@ -155,14 +155,14 @@ module _ (owners : AreOwners) (taken : AreTakenAway) where
       omega arith
 
   -- an owner that is taken away has nothing, and no other loses anything
-  pub taken_away : (k : ℕ) (c : Charge) → owns k (disowned k c) ≡ 0
+  pub taken_away : (k : ℕ) (c : CommandState) → owns k (disowned k c) ≡ 0
   taken_away k c =
       let a = taken.active k c.active in
       let b = taken.waiting k c.waiting in
       let d = taken.reset k (Some (record { owner = c.reset })) in
       omega arith
 
-  pub left : (j k : ℕ) (c : Charge) → nat_eq k j ≡ false → owns j (disowned k c) ≡ owns j c
+  pub left : (j k : ℕ) (c : CommandState) → nat_eq k j ≡ false → owns j (disowned k c) ≡ owns j c
   left j k c h =
       let a = taken.others_active j k c.active h in
       let b = taken.others_waiting j k c.waiting h in

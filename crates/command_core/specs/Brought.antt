@@ -1,14 +1,14 @@
 -- Whose command a change brings (PLCopen Motion Control Part 1, general rules).
 use Rattle.std.specs.Prelude.{◌≡◌, ℕ, ◌+◌, None, List, [], ◌∷◌}
-use Rattle.buffer_modes.specs.Owners.{is_owner, owner_by, waits_of}
+use Rattle.buffer_modes.specs.Owners.{owner_count, owner_by, waits_of}
 use Rattle.command_core.specs.Changes.{Change, joins, replaced, ends, awaits, resets, holds}
 
 -- how many commands of an instance a change brings
 abbrev pub brought_by : ℕ → Change → ℕ
-brought_by k (joins w) = is_owner k w.owner
-brought_by k (replaced f next ws) = is_owner k (owner_by next) + waits_of k ws
+brought_by k (joins w) = owner_count k w.owner
+brought_by k (replaced f next ws) = owner_count k (owner_by next) + waits_of k ws
 brought_by k (ends f target) = 0
-brought_by k (awaits owner) = is_owner k owner
+brought_by k (awaits owner) = owner_count k owner
 brought_by k resets = 0
 brought_by k (holds stops) = 0
 

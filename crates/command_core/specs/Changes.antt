@@ -7,7 +7,7 @@ use Rattle.command_pool.specs.Waiting.{told_to}
 use Rattle.command_pool.specs.declared.ending.Finish.{Finish}
 use Rattle.command_pool.specs.declared.ending.Finish.TheVariants as finish
 use Rattle.command_pool.specs.declared.wanted.Wanted.{Wanted}
-use Rattle.command_core.specs.Charge.{Charge, queue_of}
+use Rattle.command_core.specs.CommandState.{CommandState, queue_of}
 
 -- one change
 pub data Change : Type 0 where
@@ -32,7 +32,7 @@ with_known None w = w
 with_known (Some target) w = record w { target = Some target }
 
 -- the first that waits takes over, if one waits
-abbrev pub taken_over : Option ℤ → List Wanted → Charge → Charge
+abbrev pub taken_over : Option ℤ → List Wanted → CommandState → CommandState
 taken_over target [] c = c
 taken_over target (w ∷ ws) c = record c { active = Some (with_known target w); waiting = ws }
 
@@ -42,7 +42,7 @@ hold_by true active = owner_by active
 hold_by false active = None
 
 -- after one change
-abbrev pub changed : Change → Charge → Charge
+abbrev pub changed : Change → CommandState → CommandState
 changed (joins w) c = record c {
   active = (admitted (queue_of c) w).active;
   waiting = (admitted (queue_of c) w).waiting;
@@ -59,17 +59,17 @@ changed resets c = record c { reset = None; notes = c.notes ++ told_to c.reset f
 changed (holds stops) c = record c { hold = hold_by stops c.active }
 
 -- after several changes, the first one first
-abbrev pub all_changed : List Change → Charge → Charge
+abbrev pub all_changed : List Change → CommandState → CommandState
 all_changed [] c = c
 all_changed (x ∷ xs) c = all_changed xs (changed x c)
 
 -- there is a place for those that a change brings
-abbrev pub Fits : Change → Charge → Type 0
+abbrev pub Fits : Change → CommandState → Type 0
 Fits (joins w) c = is_full (queue_of c) w ≡ false
 Fits (replaced f next ws) c = length ws ≤ 8
 Fits x c = Unit {0}
 
 -- and for those of several changes
-abbrev pub AllFit : List Change → Charge → Type 0
+abbrev pub AllFit : List Change → CommandState → Type 0
 AllFit [] c = Unit {0}
 AllFit (x ∷ xs) c = Fits x c × AllFit xs (changed x c)

@@ -1,5 +1,5 @@
--- How the command of an instance ends by what is told of some commands (PLCopen Motion Control Part
--- 1, Done, CommandAborted and Error).
+-- How the command of an instance ends by what is reported of some commands (PLCopen Motion Control
+-- Part 1, Done, CommandAborted and Error).
 use Rattle.std.specs.Prelude.{ℕ, nat_eq, if◌then◌else◌, Option, Some, None, List, [], ◌∷◌}
 use Rattle.command_pool.specs.declared.ending.Finish.{Finish}
 use Rattle.command_pool.specs.declared.notes.Note.{Note}

@@ -6,7 +6,7 @@ use Rattle.buffer_modes.specs.Queue.{is_active_at_once}
 use Rattle.command_pool.specs.declared.ending.Finish.{Finish}
 use Rattle.command_pool.specs.declared.ending.Finish.TheVariants as finish
 use Rattle.command_pool.specs.declared.wanted.Wanted.{Wanted}
-use Rattle.command_core.specs.Charge.{Charge, queue_of}
+use Rattle.command_core.specs.CommandState.{CommandState, queue_of}
 use Rattle.command_core.specs.Changes.{Change, joins, replaced, ends, changed, with_known}
 
 -- the first that waits begins
@@ -15,7 +15,7 @@ taker_of target [] = None
 taker_of target (w ∷ ws) = Some (with_known target w)
 
 -- by one change
-abbrev pub fate_of : Change → Charge → Fate
+abbrev pub fate_of : Change → CommandState → Fate
 fate_of (joins w) c =
     if is_active_at_once (queue_of c) w then fate.replaced finish.Aborted c.active (Some w)
     else goes_on
@@ -34,7 +34,7 @@ followed_by None None g = g
 followed_by end next g = record g { ends = end; begins = last_begun next g.ends g.begins }
 
 -- by several changes
-abbrev pub fate_in : List Change → Charge → Fate
+abbrev pub fate_in : List Change → CommandState → Fate
 fate_in [] c = goes_on
 fate_in (x ∷ xs) c =
     followed_by (fate_of x c).ends (fate_of x c).begins (fate_in xs (changed x c))

@@ -1,4 +1,4 @@
-pub mod Charge
+pub mod CommandState
 pub mod Changes
 pub mod Brought
 pub mod Calls

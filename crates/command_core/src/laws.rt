@@ -6,13 +6,13 @@ use buffer_modes::{
     ends_tell_their_owners, fates_are_of_the_active_command, owners_are_taken_away,
 };
 
-/// Some changes and then others are the changes of both lists in a row, and what they tell stands
-/// behind what was told before.
+/// Some changes and then others are the changes of both lists in a row, and what they give stands
+/// after what was reported before.
 pub fn changes_follow_one_another()
     ensures { AreInOrder }
 {}
 
-/// Each instance is told of each command that it has no longer, once, and of no other.
+/// Each instance is notified of each command that it has no longer, once, and of no other.
 pub fn ends_are_told_once()
     ensures { AreToldOnce }
 {
@@ -51,8 +51,8 @@ pub fn at_most_eight_wait()
     ensures { WaitAtMost }
 {}
 
-/// Changes make of the active command what their fate says, and its owner is told how it ends. One
-/// that goes on is the same, with its owner.
+/// Changes make of the active command what their fate says, and its owner is notified how it ends.
+/// One that goes on is the same, with its owner.
 pub fn changes_make_fates()
     ensures { AreOfChanges }
 {

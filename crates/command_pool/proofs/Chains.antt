@@ -7,7 +7,7 @@ use Rattle.command_pool.specs.declared.linking.Queue.{Queue}
 use Rattle.command_pool.specs.Layout.{places, chain, chains, times, times_in_all, end_of, queue_at, empty, longer, links_with}
 use Rattle.command_pool.proofs.Times.{counted, not_first, not_later, times_end, times_in_all-get}
 
--- so many places
+-- this many places
 pub length-places : (links : List ℕ) (place n : ℕ) → length (places links place n) ≡ n
 unfolding places
 length-places links place zero = refl

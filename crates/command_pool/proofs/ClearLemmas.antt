@@ -1,4 +1,4 @@
--- A list from which the first command was taken, and its end told.
+-- A list from which the first command was taken, and its end reported.
 use Rattle.std.proofs.Common.{◌≡◌, sym, ap, ◌∙◌, ℕ, suc, ◌+◌, ◌<◌, ◌≤◌, Option, Some, None, List, [], ◌∷◌, ◌++◌, length, set, drop, arith}
 use Rattle.std.specs.Prelude.{slice_get}
 use Rattle.std.proofs.lemmas.List.{get_or-set_same, set-set, length-set, append_assoc, length-append}
@@ -12,12 +12,12 @@ first_and_rest : (ws : List Wanted) (w : Wanted) → slice_get ws 0 ≡ Some w �
 first_and_rest [] w e = absurd (cc)
 first_and_rest (v ∷ ws) w e = let s : v ≡ w = cc in ap (λ u. u ∷ ws) s
 
--- at most one note is told of an end
+-- at most one note is reported of an end
 one_note : (o : Option ℕ) (f : Finish) → length (told_to o f) ≤ 1
 one_note None f = omega arith
 one_note (Some k) f = omega arith
 
--- the list has the others, and what is told of them stands behind what was told of the first
+-- the list has the others, and what is reported of them stands after what was reported of the first
 pub record TakesFirst (lists after : List (List Wanted)) (list : ℕ) (f : Finish) (notes more : List Note) : Type 0 where
   pub count : length (queue_of lists list) ≡ suc (length (queue_of after list))
   pub there : length after ≡ length lists

@@ -28,7 +28,7 @@ has_list p lists list e lt =
 pub has_list_item : (p : Inside) (lists : List (List Wanted)) (list : ℕ) → lists_in p ≡ lists → list < length lists → list < length p.queues.items
 has_list_item p lists list e lt = let h = has_list p lists list e lt in omega (arith, p.queues.ok.0)
 
--- so many commands wait
+-- this many commands wait
 pub count_is : (p : Inside) (lists : List (List Wanted)) (list : ℕ) → lists_in p ≡ lists →
     length (queue_of lists list) ≡ (queue_at p.queues.items list).count
 count_is p lists list e =

@@ -93,7 +93,7 @@ unfolded-push links commands queues list p w pushed all here =
     (map-set (map (command_at (set commands p w))) (chains links queues) list (chain links (queue_at queues list) ++ p ∷ []) ∙
     rw (all, here) refl)
 
--- a command that is put into the first free record, behind the last of a list
+-- a command that is put into the first free record, after the last of a list
 pub lists_of-pushed : (links : List ℕ) (commands : List Wanted) (queues : List Queue) (free count list : ℕ) (w : Wanted) →
     IsLinked links queues free (suc count) → length commands ≡ length links →
     lists_of (links_with links (queue_at queues list) free) (set commands free w) (set queues list (longer (queue_at queues list) free))

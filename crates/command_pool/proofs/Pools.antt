@@ -12,7 +12,7 @@ pub length-chain : (links : List ℕ) (q : Queue) → length (chain links q) ≡
 unfolding chain
 length-chain links q = length-places links q.first q.count
 
--- so many places stand in a list
+-- this many places stand in a list
 pub length-chain_at : (links : List ℕ) (queues : List Queue) (i : ℕ) → length (get_or (chains links queues) i []) ≡ (queue_at queues i).count
 length-chain_at links queues i = ap length (get_or-chains links queues i) ∙ length-chain links (queue_at queues i)
 

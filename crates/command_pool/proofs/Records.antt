@@ -38,7 +38,7 @@ pub commands_of-linked : (rs : List Record) (i : ℕ) (r : Record) → r.wanted 
 unfolding command_at
 commands_of-linked rs i r e = commands_of-set rs i r ∙ (ap (set (commands_of rs) i) e ∙ set-get_or (commands_of rs) i unused)
 
--- one record more behind some
+-- one record more after some
 pub links_of-push : (rs : List Record) (r : Record) → links_of (rs ++ r ∷ []) ≡ links_of rs ++ r.next ∷ []
 unfolding links_of
 links_of-push rs r = map-append (λ (s : Record). s.next) rs (r ∷ [])

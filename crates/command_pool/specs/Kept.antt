@@ -1,4 +1,5 @@
--- What holds of a pool: each record stands in exactly one of the free list and the lists, and the links give them.
+-- What holds of a pool: each record stands in exactly one of the free list and the lists, and the
+-- links give them.
 use Rattle.std.specs.Prelude.{◌≡◌, ℕ, ◌+◌, ◌*◌, ◌≤◌, List, length, nat_lt, if◌then◌else◌}
 use Rattle.command_pool.specs.declared.pool.CommandPool.TheInside.{Inside}
 use Rattle.command_pool.specs.declared.linking.Queue.{Queue}
@@ -9,8 +10,8 @@ use Rattle.command_pool.specs.Layout.{links_of, commands_of, places, chain, chai
 abbrev pub lists_in : Inside → List (List Wanted)
 lists_in p = lists_of (links_of p.records.items) (commands_of p.records.items) p.queues.items
 
--- each record stands in exactly one of the free list and the lists, eight for each list; a list has at most eight and
--- knows its last. This project's profile
+-- each record stands in exactly one of the free list and the lists, eight for each list; a list has
+-- at most eight and knows its last. This project's profile
 pub record IsLinked (links : List ℕ) (queues : List Queue) (free count : ℕ) : Type 0 where
   pub few_lists : length queues ≤ 255
   pub eight_each : length links ≡ 8 * length queues

@@ -8,7 +8,7 @@ use Rattle.command_pool.specs.declared.wanted.Follow.TheVariants as follow
 use Rattle.command_pool.specs.declared.wanted.Wanted.{Wanted}
 use Rattle.command_pool.specs.Waiting.{detached}
 
--- the places behind the records. This project's profile
+-- the places after the records. This project's profile
 unfoldable pub links_of : List Record → List ℕ
 links_of records = map (λ (r : Record). r.next) records
 
@@ -32,7 +32,7 @@ unused = record {
 unfoldable pub command_at : List Wanted → ℕ → Wanted
 command_at commands place = slice_index_or commands place unused
 
--- the places of so many records from one on, each linked to the next. This project's profile
+-- the places of this many records from one on, each linked to the next. This project's profile
 unfoldable pub places : List ℕ → ℕ → ℕ → List ℕ
 places links place zero = []
 places links place (suc n) = place ∷ places links (slice_index links place) n
@@ -90,12 +90,13 @@ links_with links q place = if nat_eq q.count 0 then links else slice_set links q
 unfoldable pub shorter : List ℕ → Queue → Queue
 shorter links q = record { first = slice_index links q.first; last = q.last; count = q.count - 1 }
 
--- the commands where those in the records at some places have lost the owner. This project's profile
+-- the commands where those in the records at some places have lost the owner. This project's
+-- profile
 unfoldable pub detached_in : ℕ → List ℕ → List Wanted → List Wanted
 detached_in owner [] commands = commands
 detached_in owner (p ∷ ps) commands = detached_in owner ps (slice_set commands p (detached owner (command_at commands p)))
 
--- so many places in the array's order, from one on. This project's profile
+-- this many places in the array's order, from one on. This project's profile
 unfoldable pub rising : ℕ → ℕ → List ℕ
 rising place zero = []
 rising place (suc n) = place ∷ rising (suc place) n

@@ -1,10 +1,11 @@
--- The commands that wait in the lists of a pool, and what is told of those that end.
+-- The commands that wait in the lists of a pool, and what is reported of those that end.
 use Rattle.std.specs.Prelude.{ℕ, ◌+◌, Option, Some, None, List, [], ◌∷◌, ◌++◌, length, slice_index_or, nat_eq, if◌then◌else◌}
 use Rattle.command_pool.specs.declared.ending.Finish.{Finish}
 use Rattle.command_pool.specs.declared.notes.Note.{Note}
 use Rattle.command_pool.specs.declared.wanted.Wanted.{Wanted}
 
--- the commands that wait in a list, the first one first. PLCopen Motion Control Part 1, buffer modes
+-- the commands that wait in a list, the first one first. PLCopen Motion Control Part 1, buffer
+-- modes
 abbrev pub queue_of : List (List Wanted) → ℕ → List Wanted
 queue_of lists list = slice_index_or lists list []
 
@@ -24,20 +25,22 @@ abbrev pub without : ℕ → Option ℕ → Option ℕ
 without gone None = None
 without gone (Some owner) = if nat_eq owner gone then None else Some owner
 
--- a command whose owner is taken away where it is this one. PLCopen Motion Control Part 1, general rules
+-- a command whose owner is taken away where it is this one. PLCopen Motion Control Part 1, general
+-- rules
 abbrev pub detached : ℕ → Wanted → Wanted
 detached owner w = record w { owner = without owner w.owner }
 
--- what is told to an owner of its command's end. PLCopen Motion Control Part 1, general rules
+-- what is reported to an owner of its command's end. PLCopen Motion Control Part 1, general rules
 abbrev pub told_to : Option ℕ → Finish → List Note
 told_to None f = []
 told_to (Some o) f = record { owner = o; finish = f } ∷ []
 
--- what is told of a command's end. PLCopen Motion Control Part 1, general rules
+-- what is reported of a command's end. PLCopen Motion Control Part 1, general rules
 abbrev pub note_of : Finish → Wanted → List Note
 note_of f w = told_to w.owner f
 
--- what is told where commands end so, the first one first. PLCopen Motion Control Part 1, general rules
+-- what is reported where commands end so, the first one first. PLCopen Motion Control Part 1,
+-- general rules
 abbrev pub notes_of : Finish → List Wanted → List Note
 notes_of f [] = []
 notes_of f (w ∷ ws) = note_of f w ++ notes_of f ws

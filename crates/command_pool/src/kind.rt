@@ -2,7 +2,8 @@
 
 ghost use Rattle.std.specs.Prelude.{◌≡◌};
 
-/// The kinds of function block, by their PLCopen names without the prefix MC_ (PLCopen Motion Control Part 1 and Part 4).
+/// The kinds of function block, by their PLCopen names without the prefix MC_ (PLCopen Motion
+/// Control Part 1 and Part 4).
 #[derive(Clone, Copy, Debug, PartialEq, Eq)]
 pub enum BlockKind {
     Power,

@@ -7,7 +7,7 @@ ghost use Rattle.command_pool.specs.Layout.{chain, links_of, commands_of, comman
 use crate::wanted::{UNUSED, Wanted, detach_from};
 use std::alloc::{AllocError, Global};
 
-/// A command, and the place of the record behind it.
+/// A command, and the place of the record after it.
 #[derive(Clone, Copy)]
 pub(crate) struct Record {
     pub(crate) wanted: Wanted,
@@ -29,7 +29,7 @@ pub(crate) const EMPTY: Queue = Queue {
     count: 0,
 };
 
-/// The place behind a record.
+/// The place after a record.
 pub(crate) fn next_of(records: &Vec<Record>, place: u16) -> u16
     requires { place < vec_len records.now }
     ensures { result ≡ slice_index (links_of records.now.items) place }
@@ -81,7 +81,7 @@ pub(crate) fn link(records: &mut Vec<Record>, place: u16, next: u16)
     records[place as usize] = Record { wanted, next };
 }
 
-/// Puts a record behind the last of a list, and answers the longer list.
+/// Puts a record after the last of a list, and answers the longer list.
 pub(crate) fn append(records: &mut Vec<Record>, queue: Queue, place: u16) -> Queue
     requires last { 0 < queue.count → queue.last < vec_len records.old }
     requires few { queue.count < 8 }
@@ -120,7 +120,7 @@ pub(crate) fn detach_in(records: &mut Vec<Record>, queue: Queue, owner: u16)
     }
 }
 
-/// So many records, each linked to the one behind it.
+/// This many records, each linked to the one after it.
 pub(crate) fn free_records(alloc: Global, room: u16) -> Result<Vec<Record>, AllocError>
     requires { room < 2 ^ 16 - 1 }
     ensures { IfOk result (λ records. links_of records.items ≡ rising 1 room) }

@@ -49,7 +49,7 @@ impl Notes {
         }
     }
 
-    /// Adds a note behind those that are there, at most eleven.
+    /// Adds a note after those that are there, at most eleven.
     pub fn add(&mut self, note: Note)
         requires { length self.old < 12 }
         ensures { self.new ≡ self.old ++ note ∷ [] }
@@ -58,7 +58,7 @@ impl Notes {
         self.count += 1;
     }
 
-    /// Adds how a command ended, where it has an owner to whom that is told.
+    /// Adds how a command ended, where it has an owner to whom that is reported.
     pub fn add_end(&mut self, wanted: &Wanted, finish: Finish)
         requires { length self.old < 12 }
         ensures { self.new ≡ self.old ++ spec.note_of finish wanted.now }

@@ -43,14 +43,14 @@ impl Model for CommandPool {
 }
 
 impl CommandPool {
-    /// A pool of so many empty lists.
+    /// A pool of this many empty lists.
     pub fn open(alloc: Global, lists: u8) -> Result<CommandPool, OutOfMemory>
         ensures { IfOk result (λ pool. pool ≡ replicate lists []) }
     {
         reserved(alloc, lists).map_err(|_| OutOfMemory)
     }
 
-    /// Puts a command behind the last of a list. Where eight wait it is given back.
+    /// Puts a command after the last of a list. Where eight wait it is given back.
     pub fn push_last(&mut self, list: u8, wanted: Wanted) -> Result<(), Wanted>
         requires { list < length self.old }
         ensures added { OnOk result (self.new ≡ slice_set self.old list (queue_of self.old list ++ wanted ∷ [])) }
@@ -124,8 +124,8 @@ impl CommandPool {
         self.free_count = other.free_count;
     }
 
-    /// Takes all commands out of a list, and notes of each that has an owner that it is aborted, in their order.
-    /// At most four notes may be there.
+    /// Takes all commands out of a list, and notes of each that has an owner that it is aborted, in
+    /// their order. At most four notes may be there.
     pub fn clear(&mut self, list: u8, notes: &mut Notes)
         requires there { list < length self.old }
         requires room { length notes.old ≤ 4 }
@@ -138,7 +138,8 @@ impl CommandPool {
         }
     }
 
-    /// Takes the owner away from each of its commands that wait in a list. They go on waiting in their order.
+    /// Takes the owner away from each of its commands that wait in a list. They go on waiting in
+    /// their order.
     pub fn detach(&mut self, list: u8, owner: u16)
         requires { list < length self.old }
         ensures { self.new ≡ slice_set self.old list (map (detached owner) (queue_of self.old list)) }
@@ -170,7 +171,7 @@ impl CommandPool {
         self.free_count
     }
 
-    // Puts a command behind the last of a list, in the first free record.
+    // Puts a command after the last of a list, in the first free record.
     fn add(&mut self, list: usize, wanted: Wanted)
         requires there { list < length self.old }
         requires room { length (queue_of self.old list) < 8 }
@@ -206,7 +207,7 @@ impl CommandPool {
     }
 }
 
-// A pool of so many empty lists, with its whole room.
+// A pool of this many empty lists, with its whole room.
 fn reserved(alloc: Global, lists: u8) -> Result<CommandPool, AllocError>
     ensures { IfOk result (λ pool. pool ≡ replicate lists []) }
 {

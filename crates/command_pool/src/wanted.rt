@@ -34,7 +34,8 @@ pub struct Wanted {
     pub owner: Option<u16>,
     /// The target in internal units, and None where it isn't fixed.
     pub target: Option<i64>,
-    /// The positions of the call in internal units: one for an axis, one per axis in the group's order for a group.
+    /// The positions of the call in internal units: one for an axis, one per axis in the group's
+    /// order for a group.
     pub targets: [i64; 6],
     pub rates: Rates,
     pub mode: BufferMode,

@@ -55,7 +55,7 @@ program = built motion
 abbrev start : Walk
 start = walk_from nothing_held
 
--- the walk has met a command, with the words behind it
+-- the walk has met a command, with the words after it
 abbrev met_at : Text → List Text → Walk
 met_at word words = record start { stopped = Some (word, words) }
 
@@ -94,7 +94,7 @@ module _ (word : Text) (words : List Text)
     enters : fault_of motion (word ∷ words) ≡ fault_at [] (met_at word words)
     enters = ap₂ fault_at passes_all (sym ends)
 
-    -- the command has the words behind it
+    -- the command has the words after it
     finds : subcommand_of motion (word ∷ words) ≡ entered program (Some (word, words))
     finds = ap (λ (w : Walk). entered program w.stopped) (sym ends)
 
@@ -107,7 +107,7 @@ found_by (k ∷ ks) found = None
 abbrev pub IsRead : List Text → Type 0
 IsRead words = asked_by words ≡ found_by (fault_of motion words) (subcommand_of motion words)
 
--- the words behind a command's name are read as the grammar says
+-- the words after a command's name are read as the grammar says
 abbrev IsReadBehind : Text → List Text → Type 0
 IsReadBehind name words = asked_by (name ∷ words)
     ≡ found_by (fault_at [] (met_at name words)) (entered program (Some (name, words)))
@@ -119,14 +119,14 @@ read_behind : (word : Text) (words : List Text)
 read_behind word words passes meets behind =
     behind ∙ sym (ap₂ found_by (enters word words passes meets) (finds word words passes meets))
 
--- the first of plain words is no option, and those behind it are plain
+-- the first of plain words is no option, and those after it are plain
 first_operand : (word : Text) (words : List Text) → ArePlain (word ∷ words) → IsOperand word
 first_operand word words e = plain_operand word (and_parts _ _ e).0
 
 others_plain : (word : Text) (words : List Text) → ArePlain (word ∷ words) → ArePlain words
 others_plain word words e = (and_parts _ _ e).1
 
--- the words behind `bench`
+-- the words after `bench`
 bench_rest : (words : List Text) → ArePlain words → IsReadBehind (codes "bench") words
 unfolding clap_on_literals asked_by request_in
 bench_rest [] e = refl
@@ -142,7 +142,7 @@ bench_line : (words : List Text) → ArePlain words → IsRead (codes "bench" �
 unfolding clap_on_literals
 bench_line words e = read_behind (codes "bench") words refl refl (bench_rest words e)
 
--- the words behind `run`
+-- the words after `run`
 run_rest : (words : List Text) → ArePlain words → IsReadBehind (codes "run") words
 unfolding clap_on_literals asked_by request_in
 run_rest [] e = refl
@@ -164,7 +164,7 @@ run_line : (words : List Text) → ArePlain words → IsRead (codes "run" ∷ wo
 unfolding clap_on_literals
 run_line words e = read_behind (codes "run") words refl refl (run_rest words e)
 
--- the words behind `check`
+-- the words after `check`
 check_rest : (words : List Text) → ArePlain words → IsReadBehind (codes "check") words
 unfolding clap_on_literals asked_by request_in
 check_rest [] e = refl
@@ -180,7 +180,7 @@ check_line : (words : List Text) → ArePlain words → IsRead (codes "check" �
 unfolding clap_on_literals
 check_line words e = read_behind (codes "check") words refl refl (check_rest words e)
 
--- the words behind `gen`
+-- the words after `gen`
 gen_rest : (words : List Text) → ArePlain words → IsReadBehind (codes "gen") words
 unfolding clap_on_literals asked_by request_in
 gen_rest [] e = refl
@@ -196,7 +196,7 @@ gen_line : (words : List Text) → ArePlain words → IsRead (codes "gen" ∷ wo
 unfolding clap_on_literals
 gen_line words e = read_behind (codes "gen") words refl refl (gen_rest words e)
 
--- the words behind `migrate`
+-- the words after `migrate`
 migrate_rest : (words : List Text) → ArePlain words → IsReadBehind (codes "migrate") words
 unfolding clap_on_literals asked_by request_in
 migrate_rest [] e = refl
@@ -212,7 +212,7 @@ migrate_line : (words : List Text) → ArePlain words → IsRead (codes "migrate
 unfolding clap_on_literals
 migrate_line words e = read_behind (codes "migrate") words refl refl (migrate_rest words e)
 
--- the words behind `st`
+-- the words after `st`
 st_rest : (words : List Text) → ArePlain words → IsReadBehind (codes "st") words
 unfolding clap_on_literals asked_by request_in
 st_rest [] e = refl
@@ -234,7 +234,7 @@ st_line : (words : List Text) → ArePlain words → IsRead (codes "st" ∷ word
 unfolding clap_on_literals
 st_line words e = read_behind (codes "st") words refl refl (st_rest words e)
 
--- the words behind `switches`
+-- the words after `switches`
 switches_rest : (words : List Text) → ArePlain words → IsReadBehind (codes "switches") words
 unfolding clap_on_literals asked_by request_in
 switches_rest [] e = refl
@@ -256,7 +256,7 @@ switches_line : (words : List Text) → ArePlain words → IsRead (codes "switch
 unfolding clap_on_literals
 switches_line words e = read_behind (codes "switches") words refl refl (switches_rest words e)
 
--- the words behind `standby`
+-- the words after `standby`
 standby_rest : (words : List Text) → ArePlain words → IsReadBehind (codes "standby") words
 unfolding clap_on_literals asked_by request_in
 standby_rest [] e = refl
@@ -278,7 +278,7 @@ standby_line : (words : List Text) → ArePlain words → IsRead (codes "standby
 unfolding clap_on_literals
 standby_line words e = read_behind (codes "standby") words refl refl (standby_rest words e)
 
--- the words behind `scope`
+-- the words after `scope`
 scope_rest : (words : List Text) → ArePlain words → IsReadBehind (codes "scope") words
 unfolding clap_on_literals asked_by request_in
 scope_rest [] e = refl

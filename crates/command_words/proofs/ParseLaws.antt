@@ -39,7 +39,7 @@ module _ (command : Command) (words : List Text) (is : IsCommand motion command)
         ∙ ap (λ kinds. found_by kinds (subcommand_of motion words))
         (ap (λ app. fault_of app words) (sym is.shape) ∙ faultless exact))
 
-    -- a parse that is refused, and not for want of memory, was given no request
+    -- a parse that is refused, and not for out of memory, was given no request
     pub refused : (e : Error)
         → (is_simple_and_free (app_of command) ≡ true → HasKind (fault_of (app_of command) words) e)
         → (kind_of e ≡ OutOfMemory → ⊥) → None ≡ asked_by words

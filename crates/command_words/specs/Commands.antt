@@ -13,7 +13,7 @@ use Rattle.command_words.specs.Requests.{Asked, alone, handed_over, of_file, of_
 use Rattle.command_words.specs.declared.request.Job.{Job}
 use Rattle.command_words.specs.declared.request.Job.TheVariants.{Bench, Check, Migrate}
 
--- a word that has to stand behind a command's name
+-- a word that has to stand after a command's name
 abbrev pub operand : Text → Rule
 operand name = record (new_rule name) { required = true }
 
@@ -37,8 +37,8 @@ bare_motion = record {
   subs = [];
 }
 
--- the commands in their order: bench FILE, run CONFIG PROGRAM, check TRACE, gen SEED, migrate TRACE,
--- st CONFIG FILE, switches TRACE FILE, standby FILE CUT, scope TRACE WORKERS
+-- the commands in their order: bench FILE, run CONFIG PROGRAM, check TRACE, gen SEED, migrate
+-- TRACE, st CONFIG FILE, switches TRACE FILE, standby FILE CUT, scope TRACE WORKERS
 abbrev pub commands : List App
 commands =
     command_of_one (codes "bench") (codes "FILE")
@@ -52,7 +52,7 @@ commands =
     ∷ command_of_two (codes "scope") (codes "TRACE") (codes "WORKERS")
     ∷ []
 
--- a program with commands behind those that it has
+-- a program with commands after those that it has
 abbrev pub with_commands : App → List App → App
 with_commands = fold (λ program (own : App). with_subcommand program own.top)
 

@@ -3,7 +3,7 @@ use Rattle.std.specs.Prelude.{ℕ, Bool, false, not, ◌^◌, ◌&&◌, nat_eq, 
 use Rattle.std.specs.Str.Parse.{digits_value}
 use Rattle.fixed_units.specs.Numbers.{is_digits}
 
--- one decimal digit or more, at most so many
+-- one decimal digit or more, at most this many
 abbrev pub is_number : ℕ → List ℕ → Bool
 is_number most word = is_digits word && nat_le (length word) most
 

@@ -35,7 +35,7 @@ pub data Request : Type 0 where
   of_report : Report → Request
 
 -- by whom it is to be done, which changes nothing of what is written: by one alone, by one kernel
--- and behind so many events by its standby, or by so many workers
+-- and after this many events by its standby, or by this many workers
 pub data Hands : Type 0 where
   alone : Hands
   handed_over : (cut : ℕ) → Hands
@@ -79,7 +79,7 @@ unfoldable pub is_plain : List ℕ → Bool
 is_plain [] = false
 is_plain (c ∷ cs) = not (nat_eq c 45)
 
--- a line of the grammar: its first word, and what it asks for with the words behind
+-- a line of the grammar: its first word, and what it asks for with the words after
 pub record Line : Type 0 where
   pub word : List ℕ
   pub asks : List (List ℕ) → Option Asked
@@ -118,7 +118,7 @@ with_trace_and_file (trace ∷ switches ∷ []) =
     Some (record { request = of_report (of_switches trace switches); hands = alone })
 with_trace_and_file _ = None
 
--- FILE CUT: a bench whose kernel hands over to its standby behind so many events
+-- FILE CUT: a bench whose kernel hands over to its standby after this many events
 abbrev pub with_file_and_cut : List (List ℕ) → Option Asked
 with_file_and_cut (name ∷ word ∷ []) = option_map (λ cut. record {
   request = of_file (record { job = Bench; name = name });
@@ -126,7 +126,7 @@ with_file_and_cut (name ∷ word ∷ []) = option_map (λ cut. record {
 }) (cut_in word)
 with_file_and_cut _ = None
 
--- TRACE WORKERS: the scope report of the trace that is named, made by so many workers
+-- TRACE WORKERS: the scope report of the trace that is named, made by this many workers
 abbrev pub with_trace_and_workers : List (List ℕ) → Option Asked
 with_trace_and_workers (trace ∷ word ∷ []) = option_map (λ workers. record {
   request = of_report (of_scope trace);
@@ -149,7 +149,7 @@ grammar =
     ∷ record { word = codes "scope"; asks = with_trace_and_workers }
     ∷ []
 
--- what the line of the first word asks for with the words behind it
+-- what the line of the first word asks for with the words after it
 unfoldable pub asked_by : List (List ℕ) → Option Asked
 asked_by [] = None
 asked_by (word ∷ operands) = option_and_then (λ (line : Line). line.asks operands)

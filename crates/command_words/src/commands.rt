@@ -76,7 +76,7 @@ fn command_of_two<'a>(
     command_of_one(alloc, name, first)?.arg(operand(alloc, second))
 }
 
-// A word that has to stand behind a command's name.
+// A word that has to stand after a command's name.
 fn operand<'a>(alloc: Global, name: &'a str) -> Arg<'a>
     ensures rule { rule_of result ≡ spec.operand name.entry.now }
     ensures local { result.global ≡ false }

@@ -47,7 +47,7 @@ pub fn workers_in(word: &str) -> Option<NonZeroU8>
     }
 }
 
-// The number that digits write, where there may be so many workers.
+// The number that digits write, where there may be this many workers.
 fn workers_by(digits: &str) -> Option<NonZeroU8>
     requires { IsTrue (fixed.is_digits digits.now) }
     ensures { option_map non_zero_u8_get result ≡ spec.workers_of (digits_value 10 digits.now) }

@@ -24,7 +24,7 @@ use std::num::NonZeroU8;
 pub enum Job {
     /// Runs a bench, and writes its trace.
     Bench,
-    /// Replays a trace, and tells whether it is legal.
+    /// Replays a trace, and says whether it is legal.
     Check,
     /// Replays a trace, and writes it in version 2.
     Migrate,
@@ -44,9 +44,9 @@ pub enum Request<'a> {
     StructuredText { config: &'a str, program: &'a str },
     /// The edges of the switches of a file in a trace.
     Switches { trace: &'a str, switches: &'a str },
-    /// A bench whose kernel hands over to its standby behind so many events.
+    /// A bench whose kernel hands over to its standby after this many events.
     Standby { name: &'a str, cut: u32 },
-    /// The scope report of a trace, made by so many workers, at most 16.
+    /// The scope report of a trace, made by this many workers, at most 16.
     Scope { trace: &'a str, workers: NonZeroU8 },
 }
 

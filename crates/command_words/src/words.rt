@@ -38,7 +38,7 @@ impl Words {
         }
     }
 
-    /// Adds a word behind the others.
+    /// Adds a word after the others.
     pub fn push(&mut self, word: &str) -> Result<(), OutOfMemory>
         ensures ok { OnOk result (self.new ≡ self.old ++ word.now ∷ []) }
         ensures err { OnErr result (self.new ≡ self.old) }
@@ -55,7 +55,7 @@ impl Words {
     }
 }
 
-// Adds a text behind the others.
+// Adds a text after the others.
 fn push_text(texts: &mut Vec<String>, text: String) -> Result<(), AllocError>
     ensures ok { OnOk result (texts.new.items ≡ texts.old.items ++ text ∷ []) }
     ensures err { OnErr result (texts.new.items ≡ texts.old.items) }
@@ -64,7 +64,7 @@ fn push_text(texts: &mut Vec<String>, text: String) -> Result<(), AllocError>
     Ok(())
 }
 
-/// The words of the arguments of the process: those behind the first, which is the program's name.
+/// The words of the arguments of the process: those after the first, which is the program's name.
 pub fn words_from(alloc: Global, args: Args) -> Result<Words, OutOfMemory>
     ensures { IfOk result (λ words. words ≡ words_of args) }
 {

@@ -61,7 +61,7 @@ unfolding records_from next_record
 none-left zero = refl
 none-left (suc n) = refl
 
--- behind a record so many may be read as there are bytes, or more
+-- after a record this many may be read as there are bytes, or more
 behind-same : (n m : ℕ) (s : State) (xs : List ℕ) (p : Read) →
     ((t : State) (ys : List ℕ) → length ys < n → length ys < m → records_from default_config n t ys ≡ records_from default_config m t ys) →
     next_record default_config s [] [] xs ≡ Some p → length xs < suc n → length xs < suc m →
@@ -101,7 +101,7 @@ rest-behind s (c ∷ xs) p e =
     let shorter : length p.2 ≤ length xs = next-shorter s [] [] c xs p e in
     from-same (suc (length xs)) (suc (length p.2)) p.1 p.2 (omega arith) (omega arith)
 
--- a record, and those behind it
+-- a record, and those after it
 pub rest-more : (s : State) (xs : List ℕ) (p : Read) → next_record default_config s [] [] xs ≡ Some p → rest_from s xs ≡ p.0 ∷ rest_from p.1 p.2
 unfolding rest_from records_from
 rest-more s xs p e = rw e (ap (λ t. p.0 ∷ t) (rest-behind s xs p e))

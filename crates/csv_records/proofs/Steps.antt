@@ -10,7 +10,7 @@ use Rattle.csv.specs.declared.reader.Trim.TheVariants as trimming
 use Rattle.csv_records.specs.Records.{IsReading, TakesNext, rest_from}
 use Rattle.csv_records.proofs.RestLaws.{rest-none, rest-more}
 
--- behind a record nothing but what is left is read
+-- after a record nothing but what is left is read
 source-after : {R : Type 0} (remaining : R → Option (List ℕ)) (new : Reader R) (ys : List ℕ) →
     new.bom_checked ≡ true → pending_of (remaining new.rdr) new ≡ Some ys → source_of remaining new ≡ Some ys
 source-after remaining new ys b e = rw b e

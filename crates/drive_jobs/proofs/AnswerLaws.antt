@@ -63,7 +63,7 @@ kept_answered o d e e' f sent taken = record {
   drive_is = f.drive_is ∙ ap (drive_after o) (sym taken);
 }
 
--- the last answer is that behind all outputs
+-- the last answer is that after all outputs
 last_answer : (o : DriveSim) (os : List DriveOut) (before : Option DriveIn) →
     last_or before (answers_of o os) ≡ Some (answer_of (drive_after o os))
 last_answer o [] before = refl

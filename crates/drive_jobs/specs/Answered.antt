@@ -12,7 +12,7 @@ pub record IsAnswered (opening drive : DriveSim) (end : DriveSide) : Type 0 wher
   pub drive_is : drive ≡ drive_after opening end.taken
 
 -- the job of a drive that opened so has ended, with its end of this ring: it saw the end that the
--- kernel sent behind the last output
+-- kernel sent after the last output
 pub record IsDone (opening : DriveSim) (ring : Ring) (e : DriveJobEnd) : Type 0 where
   pub ring_is : e.end.ring ≡ ring
   pub ended : HasEnded e.end

@@ -1,4 +1,4 @@
 pub mod Answered
 pub mod Log
-pub mod LineState
-pub mod LineKept
+pub mod DriveLinkState
+pub mod DriveLinkKept

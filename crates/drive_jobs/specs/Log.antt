@@ -1,4 +1,4 @@
--- What a drive's log tells. This project's profile.
+-- What a drive's log gives. This project's profile.
 use Rattle.std.specs.Prelude.{◌≡◌, suc, List, length}
 use mathlib.Core.List.{IsPrefix}
 use Rattle.cia402_machine.specs.declared.drive.DriveIn.{DriveIn}

@@ -24,8 +24,8 @@ pub struct DriveJobEnd {
     pub end: DriveEnd,
 }
 
-/// Sends the drive's opening answer, then steps the drive by each output and sends its answer, until
-/// the ring is ended. Waits for outputs and for free slots, so that it may never return.
+/// Sends the drive's opening answer, then steps the drive by each output and sends its answer,
+/// until the ring is ended. Waits for outputs and for free slots, so that it may never return.
 pub fn work_drive<R: Wait>(rt: &R, job: DriveJob) -> DriveJobEnd
     requires unused { (job.end.sent ≡ []) × (job.end.taken ≡ []) }
     ensures done { IsDone job.drive job.end.ring result }

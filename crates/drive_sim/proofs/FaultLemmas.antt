@@ -27,7 +27,7 @@ ordered n (step ∷ steps) rises zero (suc j) le below =
 ordered n (step ∷ steps) rises (suc i) zero le below = absurd (omega arith)
 ordered n (step ∷ steps) rises (suc i) (suc j) le below = ordered step steps rises.1 i j (omega arith) (omega arith)
 
--- unequal numbers are told apart
+-- unequal numbers are distinguished
 unequal : (a b : ℕ) → (a ≡ b → ⊥) → (a == b) ≡ false
 unequal a b apart = elim (cases_Bool (a == b)) [ inl same ↦ absurd (apart (eqb-true a b same)) | inr other ↦ other ]
 

@@ -106,7 +106,8 @@ kept-few sim out next k =
     let lag = k.lag in
     omega (arith, n, d, lag)
 
--- over steps that keep their targets the actual count is the target that lies the lag before the last
+-- over steps that keep their targets the actual count is the target that lies the lag before the
+-- last
 follows : (sim : DriveSim) (outs : List DriveOut) → KeepsAll sim outs → length sim.kept ≤ sim.lag →
     (drive_after sim outs).actual ≡ lagging sim.lag (sim.kept ++ map (λ (o : DriveOut). o.target) outs) sim.actual
 follows sim [] keeps few =

@@ -6,7 +6,7 @@ use Rattle.drive_sim.specs.Sim.{DriveSim}
 use Rattle.drive_sim.specs.Steps.{opened, answer_of, next_step, drive_stepped}
 use Rattle.drive_sim.specs.Runs.{drive_after, answers_of}
 
--- the answer behind some outputs is that of the drive after them
+-- the answer after some outputs is that of the drive after them
 pub answer_after : (sim : DriveSim) (outs : List DriveOut) (before : ℕ) → before ≤ length outs →
     slice_get (answers_of sim outs) before ≡ Some (answer_of (drive_after sim (take before outs)))
 answer_after sim [] zero le = refl

@@ -49,7 +49,7 @@ abbrev pub is_enabled : DriveState → Bool
 is_enabled OperationEnabled = true
 is_enabled state = false
 
--- the number of the next step, from 1; the count stands still at the end of 64 bits, far behind
+-- the number of the next step, from 1; the count stands still at the end of 64 bits, far after
 -- every fault step. This project's profile
 abbrev pub next_step : DriveSim → ℕ
 next_step sim = min (sim.steps + 1) (2 ^ 64 - 1)

@@ -1,4 +1,4 @@
--- Each reply tells one result and one state, and an error's number.
+-- Each reply reports one result and one state, and an error's number.
 use Rattle.std.proofs.Common.{◌≡◌, refl, Bool, true, false, ◌&&◌, List, [], ◌∷◌, arith}
 use Rattle.std.specs.Prelude.{if◌then◌else◌}
 use Rattle.std.specs.List.{AllByRecursion}

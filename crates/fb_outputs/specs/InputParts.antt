@@ -6,7 +6,7 @@ use Rattle.fb_outputs.specs.Inputs.{IsTaken, takes}
 use Rattle.fb_outputs.specs.declared.inputs.Input.TheVariants as input
 use Rattle.fb_outputs.specs.declared.inputs.Inputs.{Inputs}
 
--- each position is taken or 0, and those behind the count are 0. This project's profile
+-- each position is taken or 0, and those after the count are 0. This project's profile
 pub record ArePositions (takes : Bool) (count : ℕ) (xs : List ℤ) : Type 0 where
   pub positions : (n : ℕ) → IsTaken takes (pos 0) (slice_index_or xs n (pos 0))
   pub few_positions : (n : ℕ) → count ≤ n → slice_index_or xs n (pos 0) ≡ pos 0

@@ -59,8 +59,8 @@ pub record IsTaken (takes : Bool) (default z : ℤ) : Type 0 where
   pub left_out : takes ≡ false → z ≡ default
   pub size : unsigned_abs z ≤ MOST_NUMBER
 
--- the inputs of a kind of block that acts on so many axes: one position for each axis, and what it
--- doesn't take has its default. This project's profile
+-- the inputs of a kind of block that acts on this many axes: one position for each axis, and what
+-- it doesn't take has its default. This project's profile
 pub record AreInputs (k : BlockKind) (axes : ℕ) (i : Inputs) : Type 0 where
   pub positions : (n : ℕ) →
       IsTaken (takes k Position) (pos 0) (slice_index_or i.positions n (pos 0))

@@ -15,7 +15,7 @@ AtMostOne outputs = count_by (λ o. o) outputs ≤ 1
 abbrev pub may_hold : InstanceState → Bool
 may_hold i = is_stop i.kind && i.execute
 
--- a reply tells one result and one state: a Stop alone may be active after its Done, while its
+-- a reply reports one result and one state: a Stop alone may be active after its Done, while its
 -- Execute is true. A reply without an error has the number 0. PLCopen Motion Control Part 1,
 -- general rules and MC_Stop
 pub record IsReply (holds : Bool) (o : Outputs) : Type 0 where

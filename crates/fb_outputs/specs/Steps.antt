@@ -74,7 +74,7 @@ started i active = record i { reached = false; progress = if active then Active 
 abbrev pub finished : InstanceState → Finish → InstanceState
 finished i f = record i { progress = Ended f false }
 
--- the instance that was told what the last cycle found. This project's profile
+-- the instance that was given what the last cycle found. This project's profile
 abbrev pub with_reached : InstanceState → Bool → InstanceState
 with_reached i reached = record i { reached = reached }
 

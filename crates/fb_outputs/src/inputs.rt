@@ -107,7 +107,7 @@ fn moves_by_velocity(kind: BlockKind) -> bool
     )
 }
 
-// Whether the kind is a motion that speeds up, and may wait behind another.
+// Whether the kind is a motion that speeds up, and may wait after another.
 fn moves(kind: BlockKind) -> bool
     ensures acceleration { result ≡ spec.takes kind Input.Acceleration }
     ensures mode { result ≡ spec.takes kind Input.Mode }

@@ -24,7 +24,7 @@ pub enum Edge {
 pub enum Progress {
     /// It has no command and no result.
     Idle,
-    /// Its command waits behind others, or is a pending reset.
+    /// Its command waits after others, or is a pending reset.
     Waiting,
     /// Its command is the active one.
     Active,
@@ -81,7 +81,7 @@ impl Instance {
         }
     }
 
-    /// Takes a call's Execute, and tells how it changed. A rising edge takes the earlier command's
+    /// Takes a call's Execute, and says how it changed. A rising edge takes the earlier command's
     /// owner away.
     pub fn on_call(&mut self, execute: bool) -> Edge
         ensures edge { result ≡ edge_of self.old.execute execute }
@@ -148,7 +148,7 @@ impl Instance {
         self.kind
     }
 
-    /// What the last cycle found, as `set_reached` tells.
+    /// What the last cycle found, as `set_reached` gives.
     pub fn reached(&self) -> bool
         ensures { result ≡ self.now.reached }
     {

@@ -9,8 +9,8 @@ use crate::inputs::{Input, Inputs, takes};
 use command_pool::{BlockKind, BufferMode};
 use motion_numbers::MOST_NUMBER;
 
-/// Whether inputs are those of a kind of block that acts on so many axes: what its caller must show
-/// of a call.
+/// Whether inputs are those of a kind of block that acts on this many axes: what its caller must
+/// show of a call.
 pub fn are_inputs(kind: BlockKind, axes: u8, inputs: &Inputs) -> bool
     ensures { IsTrue result ↔ AreInputs kind axes inputs.now }
 {
@@ -36,7 +36,7 @@ fn is_position(takes: bool, value: i64) -> bool
     value == 0 || (takes && value.unsigned_abs() <= MOST_NUMBER)
 }
 
-// Whether each position is taken or 0, and those behind the count are 0.
+// Whether each position is taken or 0, and those after the count are 0.
 fn are_positions(takes: bool, count: u8, positions: &[i64]) -> bool
     ensures yes { IsTrue result → ArePositions takes count positions.now }
     ensures no { ArePositions takes count positions.now → IsTrue result }

@@ -8,8 +8,9 @@ ghost use Rattle.fb_outputs.specs.Names.{AreNamed};
 ghost use Rattle.fb_outputs.specs.Steps.{opened, outputs_of};
 ghost use Rattle.fb_outputs.specs.Replies.{Happening, IsNumbered, IsReply, after_all, is_error_number, may_hold};
 
-/// Whatever happens to an instance, its reply tells one result and one state. Where each error that
-/// comes has a number from 1 to 19 or from 101 to 106, a reply with an error has such a number.
+/// Whatever happens to an instance, its reply reports one result and one state. Where each error
+/// that comes has a number from 1 to 19 or from 101 to 106, a reply with an error has such a
+/// number.
 pub fn replies_tell_one_result()
     ensures single { (kind : BlockKind) (happenings : List Happening) →
         IsReply (may_hold (after_all (opened kind) happenings))

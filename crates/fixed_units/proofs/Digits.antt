@@ -37,7 +37,7 @@ pub pow-positive : (i : ℕ) → 0 < 10 ^ i
 pow-positive zero = omega arith
 pow-positive (suc i) = omega (arith, pow-suc 10 i, pow-positive i)
 
--- a number of so many places, filled up with zeros to more
+-- a number of this many places, filled up with zeros to more
 pub scaled-lt : (most n places : ℕ) → places ≤ most → n < 10 ^ places → n * 10 ^ (most - places) < 10 ^ most
 scaled-lt most n places few small =
     let e : places + (most - places) ≡ most = omega arith in

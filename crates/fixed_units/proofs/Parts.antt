@@ -83,13 +83,13 @@ pub size_reading-parts : (number whole fraction : List ℕ) → (whole_of number
 unfolding size_reading digits_reading
 size_reading-parts number whole fraction (w, f) digits = rw (w, f, digits, and-true (is_digits whole)) refl
 
--- what stands behind the point has to be digits
+-- what stands after the point has to be digits
 pub size_reading-not_number : (number whole fraction : List ℕ) → (whole_of number ≡ whole) × (fraction_of number ≡ Some fraction)
     → is_digits fraction ≡ false → size_reading number ≡ Err NotNumber
 unfolding size_reading
 size_reading-not_number number whole fraction (w, f) none = rw (w, f, none, and-false (is_digits whole)) refl
 
--- a number behind a minus is read with its sign
+-- a number after a minus is read with its sign
 pub reading_of-minus : (text number : List ℕ) → text ≡ 45 ∷ number → reading_of text ≡ reading_with_sign true (size_reading number)
 unfolding reading_of
 reading_of-minus text number e = rw e refl

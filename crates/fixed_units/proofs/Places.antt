@@ -36,13 +36,13 @@ digits_value-last_digits (suc places) number fits =
     let last = digit_value_digit (48 + number % 10) (omega arith, omega arith) in
     digits_value_push 10 (last_digits places (number / 10)) (48 + number % 10) ∙ omega (arith, shorter, last)
 
--- these digits are the number's without zeros at their end, out of so many places
+-- these digits are the number's without zeros at their end, out of this many places
 pub record HasPlaces (places number : ℕ) (ds : List ℕ) : Type 0 where
   pub digits : AreDigits ds
   pub few : length ds ≤ places
   pub value : digits_value 10 ds * 10 ^ (places - length ds) ≡ number
 
--- a zero behind the number is no significant place
+-- a zero after the number is no significant place
 without_end_zeros-tenfold : (places number : ℕ) → number % 10 ≡ 0
     → without_end_zeros (last_digits (suc places) number) ≡ without_end_zeros (last_digits places (number / 10))
 unfolding last_digits

@@ -26,7 +26,7 @@ pub position-digits : (ds : List ℕ) → AreDigits ds → position_or_len is_po
 position-digits [] digits = refl
 position-digits (d ∷ ds) digits = let (here, more) = and_parts _ _ digits in rw (digit-no_point d here, position-digits ds more) (omega arith)
 
--- behind digits the point is the first
+-- after digits the point is the first
 pub position-point : (ds more : List ℕ) → AreDigits ds → position_or_len is_point (ds ++ 46 ∷ more) ≡ length ds
 position-point [] more digits = refl
 position-point (d ∷ ds) more digits = let (here, others) = and_parts _ _ digits in rw (digit-no_point d here, position-point ds more others) (omega arith)
@@ -83,7 +83,7 @@ IsNumberOf-whole ds digits some =
       value = rw (whole, none) (omega arith);
     }
 
--- a number with places behind its point
+-- a number with places after its point
 IsNumberOf-point : (ds places : List ℕ) (part : ℕ) → AreDigits ds → 0 < length ds → HasPlaces 9 part places → 0 < length places
     → IsNumberOf (ds ++ 46 ∷ places) (digits_value 10 ds * 10 ^ 9 + part)
 unfolding billionths_of

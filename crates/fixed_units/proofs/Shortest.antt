@@ -36,12 +36,12 @@ length-signed : (text : List ℕ) → length text ≡ length (sign_text (is_nega
 length-signed [] = refl
 length-signed (b ∷ bs) = length-rest (b == 45) b bs
 
--- how long the point and the digits behind it are
+-- how long the point and the digits after it are
 point_length : Option (List ℕ) → ℕ
 point_length None = 0
 point_length (Some ds) = length ds + 1
 
--- a number is what stands before the point, the point, and what stands behind it
+-- a number is what stands before the point, the point, and what stands after it
 length-cut : (number : List ℕ) → length number ≡ length (whole_of number) + point_length (fraction_of number)
 unfolding whole_of fraction_of point_length
 length-cut number =
@@ -70,17 +70,17 @@ fraction-shortest (Some ds) part digits few value =
           rw (fraction_text-places part some, value) (omega (arith, fewest))
     ]
 
--- what stands behind a point is digits
+-- what stands after a point is digits
 fraction-digits : (fraction : Option (List ℕ)) → option_map_or is_digits fraction true ≡ true → AreDigits (unwrap_or fraction [])
 fraction-digits None digits = refl
 fraction-digits (Some ds) digits = (digits_parts ds digits).1
 
--- there are as many places as digits behind the point
+-- there are as many places as digits after the point
 fraction-places : (fraction : Option (List ℕ)) → length (unwrap_or fraction []) ≡ option_map_or length fraction 0
 fraction-places None = refl
 fraction-places (Some ds) = refl
 
--- a size has as many billionths as stand behind the point
+-- a size has as many billionths as stand after the point
 size_parts : (whole part size : ℕ) → part < 10 ^ 9 → size ≡ whole * 10 ^ 9 + part → (size / 10 ^ 9 ≡ whole) × (size % 10 ^ 9 ≡ part)
 size_parts whole part size below e = (omega arith, omega arith)
 

@@ -13,7 +13,7 @@ length-last_digits (suc places) number =
     let shorter = length-last_digits places (number / 10) in
     simp length-append (omega (arith, shorter))
 
--- the last digit stands behind the others
+-- the last digit stands after the others
 pub last_digits-step : (places number : ℕ) → 0 < places
     → last_digits places number ≡ last_digits (places - 1) (number / 10) ++ (48 + number % 10) ∷ []
 unfolding last_digits
@@ -33,12 +33,12 @@ without_end_zeros-digit [] d other = rw (ne_eqb d 48 other) refl
 without_end_zeros-digit (e ∷ []) d other = rw (without_end_zeros-digit [] d other) refl
 without_end_zeros-digit (e ∷ f ∷ ds) d other = rw (without_end_zeros-digit (f ∷ ds) d other) refl
 
--- a number above zero that fits so many places has one place at least
+-- a number above zero that fits this many places has one place at least
 pub places-positive : (number places : ℕ) → 0 < number → number < 10 ^ places → 0 < places
 places-positive number zero some fits = absurd (omega (arith, fits))
 places-positive number (suc places) some fits = omega arith
 
--- a number of so many places without its last digit has one place less
+-- a number of this many places without its last digit has one place less
 pub shorter-fits : (number places : ℕ) → 0 < places → number < 10 ^ places → number / 10 < 10 ^ (places - 1)
 shorter-fits number zero some fits = absurd (omega (arith, some))
 shorter-fits number (suc places) some fits =
@@ -74,7 +74,7 @@ pub last_digits-none : (places number : ℕ) → places ≡ 0 → last_digits pl
 unfolding last_digits
 last_digits-none places number none = rw none refl
 
--- a digit behind a text and the digits before it
+-- a digit after a text and the digits before it
 pub push-behind : (text digits before after whole : List ℕ) (digit : ℕ) → after ≡ before ++ digit ∷ []
     → before ≡ text ++ digits → whole ≡ digits ++ digit ∷ [] → after ≡ text ++ whole
 push-behind text digits before after whole digit a b w =
@@ -95,13 +95,13 @@ pub length-sign_text : (negative : Bool) → length (sign_text negative) ≤ 1
 length-sign_text true = omega arith
 length-sign_text false = omega arith
 
--- the sign, the whole number and the fraction stand one behind the other
+-- the sign, the whole number and the fraction stand one after the other
 pub units_text-parts : (units : ℤ) (negative : Bool) (size : ℕ) → negative ≡ int_lt units (pos 0) → size ≡ unsigned_abs units
     → units_text units ≡ sign_text negative ++ decimal (size / 10 ^ 9) ++ fraction_text (size % 10 ^ 9)
 unfolding units_text
 units_text-parts units negative size n s = rw (n, s) refl
 
--- a point behind a text and digits behind the point
+-- a point after a text and digits after the point
 pub pushed-point : (text before after digits places : List ℕ) → before ≡ text ++ 46 ∷ [] → after ≡ before ++ digits
     → digits ≡ places → after ≡ text ++ 46 ∷ places
 pushed-point text before after digits places b a d =

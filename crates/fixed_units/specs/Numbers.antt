@@ -12,7 +12,7 @@ abbrev pub is_negative : List ℕ → Bool
 is_negative [] = false
 is_negative (b ∷ bs) = b == 45
 
--- the text behind its minus, or all of it where none stands first
+-- the text after its minus, or all of it where none stands first
 abbrev pub without_minus : List ℕ → List ℕ
 without_minus [] = []
 without_minus (b ∷ bs) = if b == 45 then bs else b ∷ bs
@@ -25,7 +25,7 @@ is_point b = b == 46
 unfoldable pub whole_of : List ℕ → List ℕ
 whole_of number = before_first is_point number
 
--- what stands behind the point, if there is one
+-- what stands after the point, if there is one
 unfoldable pub fraction_of : List ℕ → Option (List ℕ)
 fraction_of number = option_map (λ place. drop (place + 1) number) (position is_point number)
 
@@ -33,15 +33,15 @@ fraction_of number = option_map (λ place. drop (place + 1) number) (position is
 abbrev pub is_digits : List ℕ → Bool
 is_digits ds = nat_lt 0 (length ds) && list_all is_ascii_digit ds
 
--- one digit or more, and where there is a point one or more behind it; this project's profile
+-- one digit or more, and where there is a point one or more after it; this project's profile
 abbrev pub is_number : List ℕ → Bool
 is_number number = is_digits (whole_of number) && option_map_or is_digits (fraction_of number) true
 
--- how many digits stand behind the point
+-- how many digits stand after the point
 abbrev pub places_of : List ℕ → ℕ
 places_of number = option_map_or length (fraction_of number) 0
 
--- the digits before the point and behind it as billionths
+-- the digits before the point and after it as billionths
 unfoldable pub billionths_of : List ℕ → List ℕ → ℕ
 billionths_of whole fraction =
     digits_value 10 whole * 10 ^ 9 + digits_value 10 fraction * 10 ^ (9 - length fraction)
@@ -58,7 +58,7 @@ with_sign negative size = if negative then neg_ℤ (pos size) else pos size
 abbrev pub units_of : List ℕ → ℤ
 units_of text = with_sign (is_negative text) (size_of (without_minus text))
 
--- the text is a number of at most nine places, and stands for so many internal units
+-- the text is a number of at most nine places, and stands for this many internal units
 pub record Spells (text : List ℕ) (units : ℤ) : Type 0 where
   pub number : IsTrue (is_number (without_minus text))
   pub places : places_of (without_minus text) ≤ 9
@@ -81,7 +81,7 @@ reading_with_sign negative (Err fault) = Err fault
 unfoldable pub reading_of : List ℕ → Result ℤ UnitFault
 reading_of text = reading_with_sign (is_negative text) (size_reading (without_minus text))
 
--- what the digits before the point and those behind it are read as
+-- what the digits before the point and those after it are read as
 unfoldable pub digits_reading : List ℕ → List ℕ → Result ℕ UnitFault
 digits_reading whole fraction =
     if not (is_digits whole) then Err NotNumber

@@ -6,7 +6,7 @@ use Rattle.fixed_units.specs.Numbers.{with_sign}
 abbrev pub signed_as : ℤ → ℕ → ℤ
 signed_as other size = with_sign (int_lt other (pos 0)) size
 
--- what a value per second makes in a cycle of so many microseconds; this project's profile
+-- what a value per second makes in a cycle of this many microseconds; this project's profile
 abbrev pub per_cycle_of : ℤ → ℕ → ℤ
 per_cycle_of value cycle_us = signed_as value (unsigned_abs value * cycle_us / 10 ^ 6)
 

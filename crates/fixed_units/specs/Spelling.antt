@@ -1,7 +1,7 @@
 -- How internal units are written.
 use Rattle.std.specs.Prelude.{ℕ, zero, suc, ◌+◌, ◌/◌, ◌%◌, ◌^◌, ◌==◌, if◌then◌else◌, Bool, true, false, List, [], ◌∷◌, ◌++◌, ℤ, pos, unsigned_abs, int_lt, decimal}
 
--- the last digits of a number, so many of them
+-- the last digits of a number, this many of them
 unfoldable pub last_digits : ℕ → ℕ → List ℕ
 last_digits zero n = []
 last_digits (suc places) n = last_digits places (n / 10) ++ (48 + n % 10) ∷ []

@@ -1,5 +1,5 @@
 //! Exact decimals of nine places, and rates per second as steps per cycle. Quantities are read and
-//! written exactly, with no floating point, and tell the first fault where they are none. It stands
+//! written exactly, with no floating point, and give the first fault where they are none. It stands
 //! on nothing. Begin at [`read_units`], [`write_units`] and [`per_cycle`].
 #![tactic(auto)]
 

@@ -10,13 +10,13 @@ ghost use Rattle.fixed_units.specs.Numbers.{is_digits, digits_reading, size_read
 pub enum UnitFault {
     /// The text isn't a decimal number.
     NotNumber,
-    /// There are more than nine digits behind the point.
+    /// There are more than nine digits after the point.
     TooFine,
     /// The number is above 10^9 user units in size.
     TooLarge,
 }
 
-// How many places a number has behind its point at most.
+// How many places a number has after its point at most.
 pub(crate) const PLACES: usize = 9;
 
 // The internal units of a user unit.
@@ -26,7 +26,7 @@ pub(crate) const UNIT: u64 = 1_000_000_000;
 const LIMIT: u128 = 1_000_000_000_000_000_000;
 
 /// Reads a decimal number of user units: an optional `-`, one or more digits, and optionally a
-/// point with one or more digits behind it. The answer is in internal units, each a billionth.
+/// point with one or more digits after it. The answer is in internal units, each a billionth.
 pub fn read_units(text: &str) -> Result<i64, UnitFault>
     ensures reading { result ≡ reading_of text.now }
     ensures bound { IfOk result (λ units. unsigned_abs units ≤ 10 ^ 18) }
@@ -51,7 +51,7 @@ fn read_size(number: &str) -> Result<u64, UnitFault>
     read_digits(whole, fraction)
 }
 
-// Reads the digits before the point and those behind it.
+// Reads the digits before the point and those after it.
 fn read_digits(whole: &str, fraction: &str) -> Result<u64, UnitFault>
     requires { IsTrue (list_all is_ascii_digit fraction.now) }
     ensures reading { result ≡ digits_reading whole.now fraction.now }
@@ -73,7 +73,7 @@ fn read_digits(whole: &str, fraction: &str) -> Result<u64, UnitFault>
     Ok(size as u64)
 }
 
-// The digits behind the point as billionths.
+// The digits after the point as billionths.
 fn billionths(fraction: &str) -> u64
     requires digits { IsTrue (list_all is_ascii_digit fraction.now) }
     requires places { length fraction.now ≤ 9 }

@@ -29,7 +29,7 @@ fn begin_with_sign(into: &mut Text40, is_negative: bool)
     }
 }
 
-// Writes a whole number behind the text.
+// Writes a whole number after the text.
 fn push_whole(into: &mut Text40, number: u64)
     requires { length into.old + length (decimal number) ≤ 40 }
     ensures { into.new ≡ into.old ++ decimal number }
@@ -42,7 +42,7 @@ fn push_whole(into: &mut Text40, number: u64)
     into.push(b'0' + (number % 10) as u8);
 }
 
-// Writes the point and the places of a fraction behind the text, or nothing where it is zero.
+// Writes the point and the places of a fraction after the text, or nothing where it is zero.
 fn push_fraction(into: &mut Text40, billionths: u64)
     requires room { length into.old ≤ 30 }
     requires below_one { billionths < 10 ^ 9 }
@@ -56,7 +56,7 @@ fn push_fraction(into: &mut Text40, billionths: u64)
     push_last_digits(into, number, places);
 }
 
-// The nine digits of a fraction without the zeros at their end, as a number of so many places.
+// The nine digits of a fraction without the zeros at their end, as a number of this many places.
 fn significant_places(billionths: u64) -> (u64, usize)
     requires above_zero { 0 < billionths }
     requires below_one { billionths < 10 ^ 9 }
@@ -72,7 +72,7 @@ fn significant_places(billionths: u64) -> (u64, usize)
     (number, places)
 }
 
-// Writes the last digits of a number behind the text, so many of them.
+// Writes the last digits of a number after the text, this many of them.
 fn push_last_digits(into: &mut Text40, number: u64, places: usize)
     requires { length into.old + places ≤ 40 }
     ensures { into.new ≡ into.old ++ last_digits places number }

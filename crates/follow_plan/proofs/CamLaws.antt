@@ -57,7 +57,7 @@ before_the_first points first master table here before =
     (λ ahead. before_first points master is.1 ahead ∙ ap (λ r. r.1) is.0)
     (λ there. at_index points 0 master table is.1 (omega (arith, ints)) ∙ ap (λ r. r.1) is.0)
 
--- in the range that the point passed and those behind it keep
+-- in the range that the point passed and those after it keep
 range_after : (p : ℤ × ℤ) (more : List (ℤ × ℤ)) (low high master : ℤ) → p.0 ≤ℤ master → (low ≤ℤ p.1) × (p.1 ≤ℤ high) → ((k : ℕ) → k < length more → (low ≤ℤ (at_of more k).1) × ((at_of more k).1 ≤ℤ high)) → (low ≤ℤ position_after p more master) × (position_after p more master ≤ℤ high)
 range_after p [] low high master passed here others = rw (none_next p master) here
 range_after p (q ∷ more) low high master passed here others =

@@ -37,7 +37,7 @@ unfolding cam_position_of
 before_first [] master some before = absurd (omega arith)
 before_first (p ∷ more) master some before = let test : int_lt master p.0 ≡ true = grind (arith, ints) in rw test refl
 
--- at or behind the first point
+-- at or after the first point
 pub passed_first : (p : ℤ × ℤ) (more : List (ℤ × ℤ)) (master : ℤ) → p.0 ≤ℤ master → cam_position_of (p ∷ more) master ≡ position_after p more master
 unfolding cam_position_of
 passed_first p more master passed = let test : int_lt master p.0 ≡ false = grind (arith, ints) in rw test refl
@@ -61,7 +61,7 @@ between_from p (q ∷ more) master (suc at) passed within ahead =
     next_passed p q more master (passed 1 (omega arith))
     ∙ between_from q more master at (λ k h. passed (suc k) (omega arith)) (omega arith) ahead
 
--- at or behind a point, before the next one
+-- at or after a point, before the next one
 pub after_point : (points : List (ℤ × ℤ)) (master : ℤ) (at next : ℕ) → next ≡ suc at → ((k : ℕ) → k ≤ at → (at_of points k).0 ≤ℤ master) → next < length points → master <ℤ (at_of points next).0 → cam_position_of points master ≡ position_between (at_of points at) (at_of points next) master
 after_point [] master at next follows passed within ahead = absurd (omega arith)
 after_point (p ∷ more) master at next follows passed within ahead =
@@ -76,7 +76,7 @@ behind_from p (q ∷ more) master (suc at) passed last =
     next_passed p q more master (passed 1 (omega arith))
     ∙ behind_from q more master at (λ k h. passed (suc k) (omega arith)) (omega arith)
 
--- at or behind the last point
+-- at or after the last point
 pub behind_last : (points : List (ℤ × ℤ)) (master : ℤ) (at : ℕ) → suc at ≡ length points → ((k : ℕ) → k ≤ at → (at_of points k).0 ≤ℤ master) → cam_position_of points master ≡ (at_of points at).1
 behind_last [] master at last passed = absurd (omega arith)
 behind_last (p ∷ more) master at last passed =

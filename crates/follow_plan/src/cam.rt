@@ -11,7 +11,7 @@ use motion_numbers::MOST_PLACE;
 
 /// The position that the table gives for the master's position: on the line between the two points
 /// between which the master lies, rounded down; before the first point the position of the first,
-/// behind the last that of the last. Positions are in internal units.
+/// after the last that of the last. Positions are in internal units.
 pub fn cam_position(table: &CamTable, master: i64) -> i64
     ensures value { result ≡ cam_position_of table.now master }
     ensures small { IsPlace result }

@@ -18,7 +18,7 @@ pub fn gears_keep_their_ratio()
 {}
 
 /// A cam's position lies on the line between the two points between which the master lies, and at
-/// a point it is that point's; before the first and behind the last point it is theirs. So it
+/// a point it is that point's; before the first and after the last point it is theirs. So it
 /// never leaves the range of the table's positions.
 pub fn cam_positions_lie_between_points()
     ensures before { (points : List (ℤ × ℤ)) (first : ℤ × ℤ) (master : ℤ) → IsCamTable points →

@@ -299,7 +299,7 @@ one-more : (axes : ℕ) (limits : List Limits) (ws : List Wanted) (w : Wanted) �
 one-more axes limits [] w h i = (i, tt)
 one-more axes limits (v ∷ ws) w h i = (h.0, one-more axes limits ws w h.1 i)
 
--- a line that waits behind another one keeps the group
+-- a line that waits after another one keeps the group
 abbrev pub joining : Bool → Option Wanted → Wanted → Core → Core
 joining aborts active w c =
     let after : Commands = if aborts then record { active = Some w; waiting = [] } else behind active c.waiting w in

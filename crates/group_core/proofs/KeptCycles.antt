@@ -38,7 +38,7 @@ use Rattle.group_core.proofs.KeptCalls.{by-if, failed-kept, line-begun-kept, no-
 use Rattle.group_core.proofs.KeptParts.{Laws, limits-of-path, line-may-begin, path-kept}
 use Rattle.group_core.proofs.Places.{place-behind, place-of-axis}
 
--- the error of a member keeps the group, and what is told of its axes
+-- the error of a member keeps the group, and what is reported of its axes
 pub answered-kept : (error : ℕ) (limits : List Limits) (c : Core) → IsCoreKept limits c → IsCoreKept limits (answered error c)
 answered-kept error limits c k =
     by-if (IsCoreKept limits) (not (nat_eq error 0) && may_fail c.group.state) (failed error c) c (λ h. failed-kept error limits c k) (λ h. k)

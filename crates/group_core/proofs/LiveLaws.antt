@@ -32,7 +32,8 @@ use Rattle.group_core.proofs.KeptCalls.{by-if, halts-within, of_kind, stops-with
 use Rattle.group_core.proofs.KeptCycles.{left-idle}
 use Rattle.group_core.proofs.NoneHolds.{NoneHolds, none-holds}
 
--- what a command asks: the axes stood within their limits before, or it is a GroupEnable and none of them is moved
+-- what a command asks: the axes stood within their limits before, or it is a GroupEnable and none
+-- of them is moved
 abbrev Stood : GroupLook → Wanted → Core → Core → Type 0
 Stood members w c x = is_within x.group.state ≡ true →
     (is_within c.group.state ≡ true) ⊎ ((w.kind ≡ kind.GroupEnable) × (list_any is_moved (states_in members) ≡ false))

@@ -67,7 +67,8 @@ where-rests false g m f e h =
 pub done-rests : (g : Group) (m : Motion) (f : Finish) → (advanced g m).ending ≡ Some f → Rests (advanced g m).motion
 done-rests g m f h = where-rests (is_error_stop g.state) g m f refl h
 
--- what is left of a path that the axes took: it goes on, or it rests and is over, or the next one begins where the axes stand
+-- what is left of a path that the axes took: it goes on, or it rests and is over, or the next one
+-- begins where the axes stand
 record Begins (members : GroupLook) (places : List ℤ) (o : Option OnPath) : Type 0 where
   wanted : Wanted
   is : o ≡ Some (beginning (way_to members.count places wanted) (limits_in members))

@@ -44,7 +44,7 @@ place-of-axis (suc n) place s xs axis few within =
           ∙ place-of-axis n place s xs axis (omega (arith, few)) (omega (arith, within, other))
     ]
 
--- an axis behind those of the path
+-- an axis after those of the path
 pub place-behind : (n : ℕ) (place : ℕ → ℤ → ℤ) (s : ℤ) (xs : List ℤ) (axis : ℕ) → n ≤ axis →
     coordinate_of (places_of n place s xs) axis ≡ coordinate_of xs axis
 unfolding places_of

@@ -26,7 +26,7 @@ use Rattle.group_core.specs.declared.reason.Reason.{Reason}
 abbrev pub queue_in : Core → Commands
 queue_in c = record { active = c.group.active; waiting = c.waiting }
 
--- the queue with a command that joined it, and what is told of those that it ends. BufferMode
+-- the queue with a command that joined it, and what is reported of those that it ends. BufferMode
 abbrev pub queued : Wanted → Core → Core
 queued w c = record c {
   group = record c.group { active = (admitted (queue_in c) w).active };

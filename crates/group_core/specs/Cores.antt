@@ -1,4 +1,4 @@
--- A group with the commands that wait behind its active one, and how these become active and end
+-- A group with the commands that wait after its active one, and how these become active and end
 -- (PLCopen Motion Control Part 4; BufferMode of Part 1).
 use Rattle.std.specs.Prelude.{ℕ, ℤ, Option, Some, None, List, [], ◌∷◌, ◌++◌}
 use Rattle.buffer_modes.specs.Queue.{active_note, end_notes}

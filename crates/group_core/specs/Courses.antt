@@ -73,7 +73,7 @@ pub record GoesOn (n cycles : ℕ) (course : Course) (c : Core) : Type 0 where
   pub sum : cycles + left ≡ n
   pub under_way : IsUnderWay left course c
 
--- after so many cycles, in which the group took this path, the command ended so or goes on
+-- after this many cycles, in which the group took this path, the command ended so or goes on
 abbrev pub Carried : ℕ → ℕ → Course → Option Finish → Option OnPath → Core → Type 0
 Carried n cycles course (Some f) p c = (cycles ≤ n) × IsEnd f course p
 Carried n cycles course None p c = GoesOn n cycles course c

@@ -119,7 +119,7 @@ reset_cycled members c = record c {
 abbrev pub row_of : Group → GroupRow
 row_of g = record { state = g.state; error = g.error }
 
--- a group of so many axes at opening
+-- a group of this many axes at opening
 abbrev pub opened : ℕ → Group
 opened axes = record {
   axes = axes;
@@ -130,6 +130,6 @@ opened axes = record {
   hold = None;
 }
 
--- a group of so many axes as it opens
+-- a group of this many axes as it opens
 abbrev pub opening : ℕ → Core
 opening axes = record { group = opened axes; path = None; waiting = []; notes = [] }

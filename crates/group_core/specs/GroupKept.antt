@@ -30,7 +30,7 @@ pub record IsWithin (limits : Limits) (place : ℤ) : Type 0 where
   pub above : limits.lo ≤ℤ place
   pub below : place ≤ℤ limits.hi
 
--- each of so many axes is within its limits, and those behind are at 0
+-- each of this many axes is within its limits, and those after are at 0
 pub record AreTargets (axes : ℕ) (limits : List Limits) (targets : List ℤ) : Type 0 where
   pub within : (axis : ℕ) → axis < axes →
       IsWithin (limits_at limits axis) (coordinate_of targets axis)
@@ -133,7 +133,8 @@ is_within GroupDisabled = false
 is_within GroupErrorStop = false
 is_within s = true
 
--- what is told of the axes: as many as the group has, standing within their limits where they must
+-- what is reported of the axes: as many as the group has, standing within their limits where they
+-- must
 pub record IsLook (g : Group) (members : GroupLook) : Type 0 where
   pub count : members.count ≡ g.axes
   pub six : length members.setpoints ≡ 6

@@ -1,4 +1,4 @@
--- What is told of the active command.
+-- What is reported of the active command.
 use Rattle.std.specs.Prelude.{Option, Some, None, false}
 use Rattle.command_pool.specs.declared.wanted.Wanted.{Wanted}
 use Rattle.group_core.specs.declared.look.ActiveLook.{ActiveLook}

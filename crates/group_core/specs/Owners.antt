@@ -1,7 +1,7 @@
 -- Which instance has a command of a group, and how often (PLCopen Motion Control Part 1, general
 -- rules).
 use Rattle.std.specs.Prelude.{ℕ, ◌+◌, Option, Some, None}
-use Rattle.buffer_modes.specs.Owners.{is_owner, owner_by, waits_of}
+use Rattle.buffer_modes.specs.Owners.{owner_count, owner_by, waits_of}
 use Rattle.command_pool.specs.declared.kind.BlockKind.{BlockKind}
 use Rattle.command_pool.specs.declared.kind.BlockKind.TheVariants as kind
 use Rattle.command_pool.specs.declared.wanted.Wanted.{Wanted}
@@ -12,8 +12,8 @@ use Rattle.group_core.specs.declared.reason.Reason.{Reason}
 -- how many commands of the group this instance has, a pending GroupReset among them
 abbrev pub owns : ℕ → Core → ℕ
 owns k c =
-    is_owner k (owner_by c.group.active) + waits_of k c.waiting
-    + is_owner k (reset_owner c.group.reset)
+    owner_count k (owner_by c.group.active) + waits_of k c.waiting
+    + owner_count k (reset_owner c.group.reset)
 
 -- the owner that a command brings; a GroupEnable and a GroupDisable are done at once
 abbrev pub brought_by : BlockKind → Wanted → Option ℕ

@@ -20,7 +20,7 @@ pub record IsSameWay (before after : OnPath) : Type 0 where
   pub limits : after.motion.limits ≡ before.motion.limits
   pub previous : after.motion.previous ≡ before.motion.place
 
--- at the end of a path each of so many axes stands at its target
+-- at the end of a path each of this many axes stands at its target
 abbrev pub EndsAtTargets : ℕ → OnPath → Type 0
 EndsAtTargets axes p = (axis : ℕ) → axis < axes →
     place_on p.way axis p.motion.limits.hi ≡ coordinate_of p.way.targets axis

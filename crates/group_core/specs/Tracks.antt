@@ -41,7 +41,7 @@ beginning w limits = record {
   motion = record { limits = limits_on w limits; previous = pos 0; place = pos 0 };
 }
 
--- the setpoints of so many axes are their places on a path, the others stay
+-- the setpoints of this many axes are their places on a path, the others stay
 unfoldable pub places_of : ℕ → (ℕ → ℤ → ℤ) → ℤ → List ℤ → List ℤ
 places_of zero place s setpoints = setpoints
 places_of (suc n) place s setpoints = slice_set (places_of n place s setpoints) n (place n s)

@@ -7,7 +7,7 @@ use command_pool::Follow;
 use kin_core::Limits;
 
 /// What the members of a group are in a call or a cycle. Of each array the first `count` are of
-/// account, in the group's order; a setpoint behind them is 0.
+/// account, in the group's order; a setpoint after them is 0.
 #[derive(Clone, Copy)]
 pub struct GroupLook {
     /// How many axes the group has.
@@ -31,7 +31,7 @@ pub struct GroupStep {
     pub ends: bool,
 }
 
-/// What is told of the active command.
+/// What is reported of the active command.
 #[derive(Clone, Copy, Debug, PartialEq, Eq)]
 pub struct ActiveLook {
     pub owner: Option<u16>,

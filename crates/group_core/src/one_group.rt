@@ -21,7 +21,7 @@ use group_state::{GroupRow, GroupState};
 use linear_path::{LinePath, Path};
 use std::marker::Model;
 
-/// One group: its PLCopen state, its path and its active command; those that wait behind it are in
+/// One group: its PLCopen state, its path and its active command; those that wait after it are in
 /// a list of the pool, which each call is given with the list's number. Contracts see it as a
 /// `GroupOnPath`.
 #[derive(Drop)]
@@ -134,7 +134,7 @@ impl<P: Path + Drop> GroupCore<P> {
 impl GroupCore<LinePath> {
     ghost use Rattle.group_core.specs.Seen.{core_at};
 
-    /// A group of so many axes at opening: it is in GroupDisabled.
+    /// A group of this many axes at opening: it is in GroupDisabled.
     pub fn open(axes: u8) -> GroupCore<LinePath>
         requires { IsCount axes }
         ensures group { result.group ≡ cycles.opened axes }

@@ -49,7 +49,7 @@ pub fn groups_come_alive_by_enable_and_reset()
 {}
 
 /// A command that is active at once has a path, and a path begins by such a command alone; a
-/// GroupDisable alone leaves the path in a call. A cycle tells that it ends the path exactly where
+/// GroupDisable alone leaves the path in a call. A cycle says that it ends the path exactly where
 /// there was one and is none after it.
 pub fn paths_change_by_commands()
     ensures begins { (w : Wanted) (jerk : ℤ) (members : GroupLook) (c : Core) →

@@ -19,7 +19,7 @@ pub struct Asking<'a> {
     pub group: &'a Group,
     /// Whether the group's path moves.
     pub moves: bool,
-    /// How many commands wait behind the active one.
+    /// How many commands wait after the active one.
     pub waiting: u8,
     pub wanted: &'a Wanted,
     pub jerk: i64,
@@ -47,7 +47,7 @@ fn any_outside(members: &GroupLook, targets: &[i64; 6]) -> bool
     outside
 }
 
-// Whether eight commands wait behind an active one, and the command would wait too.
+// Whether eight commands wait after an active one, and the command would wait too.
 #[tactic(auto, unfolding(crate::specs::Refusals::holds))]
 fn is_queue_full(asking: &Asking) -> bool
     ensures { result ≡ spec.holds Reason.QueueFull (asked_of asking.now) }

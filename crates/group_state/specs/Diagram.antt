@@ -5,7 +5,9 @@ use Rattle.group_state.specs.declared.state.GroupState.TheVariants.{GroupDisable
 use Rattle.group_state.specs.declared.diagram.GroupEvent.{GroupEvent}
 use Rattle.group_state.specs.declared.diagram.GroupEvent.TheVariants.{Enable, Disable, MoveAdmitted, LastDone, StopAdmitted, StopReleased, MemberError, ResetAllStandstill, ResetElse}
 
--- the states from which an event leads, and the state to which it does. PLCopen Motion Control Part 4, the state diagram; from where GroupDisable may come and to where GroupReset leads is this project's profile
+-- the states from which an event leads, and the state to which it does. PLCopen Motion Control Part
+-- 4, the state diagram; from where GroupDisable may come and to where GroupReset leads is this
+-- project's profile
 abbrev pub GroupTransition : GroupState → GroupEvent → GroupState → Type 0
 GroupTransition state Enable next = (state ≡ GroupDisabled) × (next ≡ GroupStandby)
 GroupTransition state Disable next = ((state ≡ GroupDisabled) ⊎ (state ≡ GroupStandby) ⊎ (state ≡ GroupErrorStop)) × (next ≡ GroupDisabled)
@@ -17,7 +19,8 @@ GroupTransition state MemberError next = ((state ≡ GroupStandby) ⊎ (state �
 GroupTransition state ResetAllStandstill next = (state ≡ GroupErrorStop) × (next ≡ GroupStandby)
 GroupTransition state ResetElse next = (state ≡ GroupErrorStop) × (next ≡ GroupDisabled)
 
--- the state to which an event leads, from each state in which it may come. PLCopen Motion Control Part 4, the state diagram
+-- the state to which an event leads, from each state in which it may come. PLCopen Motion Control
+-- Part 4, the state diagram
 abbrev pub next_of : GroupEvent → GroupState
 next_of Enable = GroupStandby
 next_of Disable = GroupDisabled
@@ -29,6 +32,7 @@ next_of MemberError = GroupErrorStop
 next_of ResetAllStandstill = GroupStandby
 next_of ResetElse = GroupDisabled
 
--- an event may come in a state: it leads somewhere. PLCopen Motion Control Part 4, the state diagram
+-- an event may come in a state: it leads somewhere. PLCopen Motion Control Part 4, the state
+-- diagram
 abbrev pub IsFrom : GroupState → GroupEvent → Type 0
 IsFrom state event = (next : GroupState) × GroupTransition state event next

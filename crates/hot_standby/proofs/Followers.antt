@@ -23,7 +23,7 @@ follows_on old new e fit is taken f =
           ∙ ap (λ (k : KernelState). kernel_after_all (opened k.config) new.taken) (sym is);
     }
 
--- behind the events that are left it is the kernel after all of them
+-- after the events that are left it is the kernel after all of them
 pub promoted : (s : StandbySide) (left sent : List FedEvent) (k : KernelState) → IsFollower s →
     s.taken ++ left ≡ sent → k ≡ kernel_after_all s.kernel left →
     k ≡ kernel_after_all (opened s.kernel.config) sent

@@ -20,7 +20,7 @@ abbrev pub new_standby_side : Ring → Setup → StandbySide
 new_standby_side r s =
     record { ring = r; taken = []; waiting = []; kernel = opened s; met_stranger = false }
 
--- the two ends of a new ring with so many slots, for a kernel of this configuration
+-- the two ends of a new ring with this many slots, for a kernel of this configuration
 pub record AreNew (room : ℕ) (s : Setup) (feed : FeedSide) (standby : StandbySide) : Type 0 where
   pub room_is : feed.ring.room ≡ room
   pub feed_is : feed ≡ new_feed_side feed.ring

@@ -8,7 +8,7 @@ use Rattle.hot_standby.specs.Sides.{Ring, FeedSide, StandbySide}
 use Rattle.hot_standby.specs.declared.feed.Feed.TheInside as feed
 use Rattle.hot_standby.specs.declared.standby.Standby.TheInside as standby
 
--- the ring that this is an end of, with so many slots
+-- the ring that this is an end of, with this many slots
 abbrev pub ring_of : {T P : Type 0} → End T Global P → ℕ → Ring
 ring_of e room =
     record { words = e.words; slots = e.slots; names = e.names; heap = e.heap; room = room }

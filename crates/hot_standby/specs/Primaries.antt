@@ -8,7 +8,7 @@ pub record Primary : Type 0 where
   pub kernel : KernelState
   pub cut : ℕ
 
--- the number of events that was told, 0 where none was
+-- the number of events that was reported, 0 where none was
 abbrev pub cut_of : Option ℕ → ℕ
 cut_of None = 0
 cut_of (Some events) = events

@@ -16,7 +16,7 @@ events_left None = 0
 events_left (Some f) = f.left
 
 -- its follower's kernel is as its own; one follows exactly as long as events are missing up to the
--- cut, and for so many
+-- cut, and for this many
 pub record IsPrimary (p : Inside) : Type 0 where
   pub like : IsLikeIfAny p.follower p.kernel
   pub left : events_left p.follower ≡ p.cut - length p.kernel.history

@@ -5,8 +5,8 @@ use denote.RawPtr.{Ptr}
 use Rattle.motion_kernel.specs.KernelState.{KernelState}
 use Rattle.hot_standby.specs.declared.event.FedEvent.{FedEvent}
 
--- a standby's ring: what tells it from any other (where it lies, and under which names in proofs),
--- and how many slots it has
+-- a standby's ring: what distinguishes it from any other (where it lies, and under which names in
+-- proofs), and how many slots it has
 pub record Ring : Type 0 where
   pub words : Ptr
   pub slots : Ptr

@@ -1,4 +1,4 @@
-// A standby that follows a kernel, for so many events.
+// A standby that follows a kernel, for this many events.
 
 ghost use Rattle.std.specs.Prelude.{◌≡◌, ◌<◌, ◌-◌, IfSome};
 ghost use Rattle.hot_standby.specs.Alike.{AreAlike, IsBehindIfAny, IsLike, IsLikeIfAny};
@@ -18,7 +18,7 @@ pub struct Follower {
     pub(crate) left: u32,
 }
 
-// Feeds an event that the kernel made to its follower, if it has one. Behind the last event the
+// Feeds an event that the kernel made to its follower, if it has one. After the last event the
 // standby's kernel takes the place of the kernel, which is given up.
 pub(crate) fn follow(follower: &mut Option<Follower>, kernel: &mut Kernel, event: &FedEvent)
     requires behind { IsBehindIfAny follower.old kernel.old event.now }

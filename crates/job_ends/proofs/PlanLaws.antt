@@ -93,7 +93,7 @@ pub comes : (old new : Output) (plan : Plan) (s wanted : Status) → EndsBy old 
 comes old new plan s wanted e =
     comes-by s plan.status wanted (Rose old.count new.count) (statuses old new plan s e)
 
--- a status that neither writing nor want of memory brings is the plan's
+-- a status that neither writing nor out of memory brings is the plan's
 only-by : (s p wanted : Status) (R : Type 0) →
     (s ≡ p) ⊎ (((s ≡ status.WriteFault) × R) ⊎ (s ≡ status.OutOfMemory)) → s ≡ wanted →
     wanted ≢ status.WriteFault → wanted ≢ status.OutOfMemory → p ≡ wanted

@@ -49,7 +49,7 @@ text-longer most word (Some text) long =
 
 -- ---- why a file gives no reading
 
--- a status tells of a file: it couldn't be read, or its text is the cause
+-- a status says of a file: it couldn't be read, or its text is the cause
 abbrev pub TellsOf : {A : Type 0} → Option FileMap → Type 0 → (FileMap → Result A Status) →
     Status → Type 0
 TellsOf told rose reading s =
@@ -57,7 +57,7 @@ TellsOf told rose reading s =
     (rose ⊎ IsSomeAnd told (λ files. reading files ≡ Err (status.ReadFault word)))) ⊎
     ((is_of_text s ≡ true) × IfSome told (λ files. reading files ≡ Err s))
 
--- the plan by which it was told
+-- the plan by which it was reported
 pub record TellsBy {A : Type 0} (told : Option FileMap) (rose : Type 0)
     (reading : FileMap → Result A Status) (old new : Output) (s : Status) : Type 0 where
   pub plan : Plan
@@ -103,7 +103,7 @@ given (Some files) most word name read Means x g =
     ap (λ t. t >>= λ y. reading_in word (read y)) (text-given files most word name g.text g.is_text)
     ∙ ap (reading_in word) g.read
 
--- a file without a reading was told by a plan, or memory ran out
+-- a file without a reading was reported by a plan, or memory ran out
 pub no-reading : {A : Type 0} (told : Option FileMap) (rose : Type 0) (most word : ℕ) (name : List ℕ)
     (read : List ℕ → Result A TextRefused) (old new : Output) (s : Status) →
     NoReading told rose word name most read old new s →
@@ -125,7 +125,7 @@ no-reading told rose most word name read old new s (inr h) = inr (record {
   tells = inr (refl, refused told most word name h.text read h.refused h.is_text h.read);
 })
 
--- what tells of one reading tells of another
+-- what is about one reading is about another
 pub tells-on : {A B : Type 0} (told : Option FileMap) (rose : Type 0) (f : FileMap → Result A Status)
     (g : FileMap → Result B Status) (s : Status) →
     IfSome told (λ files. (x : Status) → f files ≡ Err x → g files ≡ Err x) →
@@ -137,7 +137,7 @@ tells-on (Some files) rose f g s on (inl (word, is, inr h)) =
 tells-on None rose f g s on (inr h) = inr (h.0, tt)
 tells-on (Some files) rose f g s on (inr h) = inr (h.0, on s h.1)
 
--- so it was told, or memory ran out
+-- so it was reported, or memory ran out
 pub told-on : {A B : Type 0} (told : Option FileMap) (rose : Type 0) (f : FileMap → Result A Status)
     (g : FileMap → Result B Status) (old new : Output) (s : Status) →
     IfSome told (λ files. (x : Status) → f files ≡ Err x → g files ≡ Err x) →

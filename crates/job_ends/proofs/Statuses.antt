@@ -11,11 +11,11 @@ use Rattle.job_ends.specs.Readings.{is_of_text}
 use Rattle.job_ends.specs.declared.status.Status.{Status}
 use Rattle.job_ends.specs.declared.status.Status.TheVariants as status
 
--- a status is not another where a test tells them apart
+-- a status is not another where a test distinguishes them
 pub apart : (test : Status → Bool) (s t : Status) → test s ≡ true → test t ≡ false → s ≡ t → ⊥
 apart test s t has hasnt e = let bad : true ≡ false = sym has ∙ ap test e ∙ hasnt in cc
 
--- want of memory is no other status
+-- out of memory is no other status
 pub early-not : (s wanted : Status) → s ≡ status.OutOfMemory → s ≡ wanted →
     wanted ≢ status.OutOfMemory → ⊥
 early-not s wanted e h other = other (sym h ∙ e)

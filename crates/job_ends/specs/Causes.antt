@@ -8,7 +8,7 @@ use Rattle.job_ends.specs.Plans.{Plan}
 use Rattle.job_ends.specs.declared.status.Status.{Status}
 use Rattle.job_ends.specs.declared.status.Status.TheVariants as status
 
--- a fault of reading or writing, or want of memory, may come in place of every other status
+-- a fault of reading or writing, or out of memory, may come in place of every other status
 abbrev pub is_fault : Status → Bool
 is_fault (status.ReadFault word) = true
 is_fault status.WriteFault = true

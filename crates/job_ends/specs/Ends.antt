@@ -21,8 +21,8 @@ pub data Found : Type 0 where
   -- its bytes
   Content : List ℕ → Found
 
--- a file can't be read only where the count of faults rose or the told map lacks it; it is too long
--- where it has more bytes than are read; its bytes are those of the told map
+-- a file can't be read only where the count of faults rose or the known map lacks it; it is too
+-- long where it has more bytes than are read; its bytes are those of the known map
 abbrev pub IsFound : Option FileMap → Type 0 → List ℕ → ℕ → Found → Type 0
 IsFound told rose name most Unread = rose ⊎ LacksFile told name
 IsFound told rose name most Longer = IsLonger told name most

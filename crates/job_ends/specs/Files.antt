@@ -7,7 +7,7 @@ use Rattle.job_ends.specs.Ends.{EndsBy, EndsEarly}
 use Rattle.job_ends.specs.Plans.{refused_plan, too_long_plan, unread_plan}
 use Rattle.job_ends.specs.declared.status.Status.{Status}
 
--- a file has this text, of at most so many bytes
+-- a file has this text, of at most this many bytes
 pub record IsText (told : Option FileMap) (name : List ℕ) (most : ℕ) (text : List ℕ) : Type 0 where
   pub file : HasFile told name text
   pub within : length text ≤ most

@@ -24,7 +24,7 @@ too_long_plan word name = record {
   text = codes "too long " ++ name ++ codes "\n";
 }
 
--- the line that tells where a text is refused, and by which rule
+-- the line that says where a text is refused, and by which rule
 abbrev pub refused_line : List ℕ → TextRefused → List ℕ
 refused_line name r = concat
     (codes "refused " ∷ name ∷ codes " " ∷ decimal r.place ∷ codes " " ∷ (r.rule.letter ∷ []) ∷

@@ -1,11 +1,12 @@
--- What the file of a word is read as, and the statuses that tell of its text. This project's profile.
+-- What the file of a word is read as, and the statuses that are about its text. This project's
+-- profile.
 use Rattle.std.specs.Prelude.{ℕ, nat_lt, if◌then◌else◌, Bool, true, false, Option, Some, None, Result, Ok, Err, List, length}
 use Rattle.motion_history.specs.declared.refused.TextRefused.{TextRefused}
 use Rattle.job_ends.specs.declared.status.Status.{Status}
 use Rattle.job_ends.specs.declared.status.Status.TheVariants as status
 
--- the text of a word's file, of at most so many bytes; or what is told where it isn't there or is
--- too long
+-- the text of a word's file, of at most this many bytes; or what is reported where it isn't there
+-- or is too long
 abbrev pub text_in : ℕ → ℕ → Option (List ℕ) → Result (List ℕ) Status
 text_in most word None = Err (status.ReadFault word)
 text_in most word (Some text) =
@@ -16,7 +17,7 @@ abbrev pub reading_in : {A : Type 0} → ℕ → Result A TextRefused → Result
 reading_in word (Ok x) = Ok x
 reading_in word (Err r) = Err (status.TextRefused word r.place r.rule)
 
--- the statuses that tell of a file's text
+-- the statuses that are about a file's text
 abbrev pub is_of_text : Status → Bool
 is_of_text (status.TooLong word) = true
 is_of_text (status.TextRefused word place rule) = true

@@ -9,7 +9,7 @@ use crate::status::Status;
 use outside::{Files, Sink};
 use std::alloc::Global;
 
-/// The text of a file of at most so many bytes; else says why there is none, and answers how the
+/// The text of a file of at most this many bytes; else says why there is none, and answers how the
 /// job ends. The file is that of this word.
 pub fn read_text<F: Files, K: Sink>(
     alloc: Global,

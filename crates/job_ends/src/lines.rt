@@ -8,7 +8,7 @@ use itoa::Buffer;
 use motion_history::TextRefused;
 use std::alloc::{AllocError, Global};
 
-/// Texts behind each other.
+/// Texts after each other.
 pub fn joined(alloc: Global, pieces: &[&[u8]]) -> Result<Vec<u8>, AllocError>
     ensures { IfOk result (λ text. text.items ≡ flat_map (λ p. p.now) pieces.now) }
 {
@@ -29,7 +29,7 @@ pub fn named_line(alloc: Global, beginning: &[u8], name: &str) -> Result<Vec<u8>
     Ok(line)
 }
 
-/// The line that tells where a text is refused, and by which rule.
+/// The line that says where a text is refused, and by which rule.
 pub fn refused_line(alloc: Global, name: &str, refused: &TextRefused) -> Result<Vec<u8>, AllocError>
     ensures { IfOk result (λ line. line.items ≡ spec.refused_line name.now refused.now) }
 {

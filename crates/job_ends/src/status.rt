@@ -12,7 +12,7 @@ use trace_text::TraceFault;
 pub enum Status {
     /// The input was read to its end, or in a run every task has ended, and the trace is written.
     Ok,
-    /// The trace is legal and has so many entries.
+    /// The trace is legal and has this many entries.
     Legal { entries: u64 },
     /// The first record that isn't the machine's.
     Illegal { record: u64 },

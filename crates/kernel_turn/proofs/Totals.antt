@@ -5,45 +5,45 @@ use mathlib.Core.Option.{some, some-injective, some-ne-none}
 use native.Mathlib.Decide.{ℕ_discrete, dec_le}
 use lib.ListN.{get_elem?}
 use Rattle.motion_kernel.specs.KernelState.{KernelState}
-use Rattle.kernel_turn.specs.PassView.{PassView}
+use Rattle.kernel_turn.specs.PermitView.{PermitView}
 use Rattle.kernel_turn.specs.Times.{one, times, once_below}
 use Rattle.kernel_turn.specs.Rule.{total, if_hand, if_hand_is, if_found}
 
-pub total_set : (f : PassView → ℕ) (views : List PassView) (i : ℕ) (v w : PassView) → get_elem? views i ≡ some v → total f (set views i w) + f v ≡ total f views + f w
+pub total_set : (f : PermitView → ℕ) (views : List PermitView) (i : ℕ) (v w : PermitView) → get_elem? views i ≡ some v → total f (set views i w) + f v ≡ total f views + f w
 total_set f [] i v w e = absurd (some-ne-none v (sym e))
 total_set f (x ∷ xs) zero v w e = let same : f x ≡ f v = ap f (some-injective x v e) in omega arith
 total_set f (x ∷ xs) (suc i) v w e = let h = total_set f xs i v w e in omega arith
 
-pub total_snoc : (f : PassView → ℕ) (views : List PassView) (w : PassView) → total f (views ++ w ∷ []) ≡ total f views + f w
+pub total_snoc : (f : PermitView → ℕ) (views : List PermitView) (w : PermitView) → total f (views ++ w ∷ []) ≡ total f views + f w
 total_snoc f [] w = omega arith
 total_snoc f (x ∷ xs) w = let h = total_snoc f xs w in omega arith
 
-pub total_at : (f : PassView → ℕ) (views : List PassView) (i : ℕ) (v : PassView) → get_elem? views i ≡ some v → f v ≤ total f views
+pub total_at : (f : PermitView → ℕ) (views : List PermitView) (i : ℕ) (v : PermitView) → get_elem? views i ≡ some v → f v ≤ total f views
 total_at f [] i v e = absurd (some-ne-none v (sym e))
 total_at f (x ∷ xs) zero v e = let same : f x ≡ f v = ap f (some-injective x v e) in omega arith
 total_at f (x ∷ xs) (suc i) v e = let h = total_at f xs i v e in omega arith
 
-pub total_two : (f : PassView → ℕ) (views : List PassView) (i j : ℕ) (v w : PassView) → i ≢ j → get_elem? views i ≡ some v → get_elem? views j ≡ some w → f v + f w ≤ total f views
+pub total_two : (f : PermitView → ℕ) (views : List PermitView) (i j : ℕ) (v w : PermitView) → i ≢ j → get_elem? views i ≡ some v → get_elem? views j ≡ some w → f v + f w ≤ total f views
 total_two f [] i j v w n e d = absurd (some-ne-none v (sym e))
 total_two f (x ∷ xs) zero zero v w n e d = absurd (n refl)
 total_two f (x ∷ xs) zero (suc j) v w n e d = let same : f x ≡ f v = ap f (some-injective x v e) in let h = total_at f xs j w d in omega arith
 total_two f (x ∷ xs) (suc i) zero v w n e d = let same : f x ≡ f w = ap f (some-injective x w d) in let h = total_at f xs i v e in omega arith
 total_two f (x ∷ xs) (suc i) (suc j) v w n e d = let h = total_two f xs i j v w (λ k. n (ap suc k)) e d in omega arith
 
-pub total_le : (f g : PassView → ℕ) (views : List PassView) → ((i : ℕ) (v : PassView) → get_elem? views i ≡ some v → f v ≤ g v) → total f views ≤ total g views
+pub total_le : (f g : PermitView → ℕ) (views : List PermitView) → ((i : ℕ) (v : PermitView) → get_elem? views i ≡ some v → f v ≤ g v) → total f views ≤ total g views
 total_le f g [] h = omega arith
 total_le f g (x ∷ xs) h = let a = h 0 x refl in let b = total_le f g xs (λ i v e. h (suc i) v e) in omega arith
 
-pub total_some : (f : PassView → ℕ) (views : List PassView) → 0 < total f views → (i : ℕ) × (v : PassView) × (get_elem? views i ≡ some v) × (0 < f v)
+pub total_some : (f : PermitView → ℕ) (views : List PermitView) → 0 < total f views → (i : ℕ) × (v : PermitView) × (get_elem? views i ≡ some v) × (0 < f v)
 total_some f [] h = absurd (omega arith)
 total_some f (x ∷ xs) h = dite (ℕ_discrete (f x) 0) (λ e. let r = total_some f xs (omega arith) in (suc r.0, r.1, r.2, r.3)) (λ n. (0, x, refl, omega arith))
 
-pub total_none : (f g : PassView → ℕ) (views : List PassView) → total g views ≡ 0 → ((j : ℕ) (u : PassView) → get_elem? views j ≡ some u → g u ≡ 0 → f u ≡ 0) → total f views ≡ 0
+pub total_none : (f g : PermitView → ℕ) (views : List PermitView) → total g views ≡ 0 → ((j : ℕ) (u : PermitView) → get_elem? views j ≡ some u → g u ≡ 0 → f u ≡ 0) → total f views ≡ 0
 total_none f g [] z h = refl
 total_none f g (x ∷ xs) z h = let a = h 0 x refl (omega arith) in let b = total_none f g xs (omega arith) (λ j u e. h (suc j) u e) in omega arith
 
 -- where one view has all of g, it has all of f
-pub total_only : (f g : PassView → ℕ) (views : List PassView) (i : ℕ) (v : PassView) → get_elem? views i ≡ some v → total g views ≡ g v → ((j : ℕ) (u : PassView) → get_elem? views j ≡ some u → g u ≡ 0 → f u ≡ 0) → total f views ≡ f v
+pub total_only : (f g : PermitView → ℕ) (views : List PermitView) (i : ℕ) (v : PermitView) → get_elem? views i ≡ some v → total g views ≡ g v → ((j : ℕ) (u : PermitView) → get_elem? views j ≡ some u → g u ≡ 0 → f u ≡ 0) → total f views ≡ f v
 total_only f g [] i v e all h = absurd (some-ne-none v (sym e))
 total_only f g (x ∷ xs) zero v e all h =
     let same : f x ≡ f v = ap f (some-injective x v e) in
@@ -131,7 +131,7 @@ hand_le (Some n) = omega arith
 pub below_le : (x n : ℕ) → once_below x n ≤ 1
 below_le x n = dite (dec_le n x) (λ h. let a = below_no x n h in omega arith) (λ h. let a = below_yes x n (omega arith) in omega arith)
 
-pub here : (views : List PassView) (i : ℕ) (v w : PassView) → get_elem? views i ≡ some v → get_elem? (set views i w) i ≡ some w
+pub here : (views : List PermitView) (i : ℕ) (v w : PermitView) → get_elem? views i ≡ some v → get_elem? (set views i w) i ≡ some w
 here [] i v w e = absurd (some-ne-none v (sym e))
 here (x ∷ xs) zero v w e = refl
 here (x ∷ xs) (suc i) v w e = here xs i v w e

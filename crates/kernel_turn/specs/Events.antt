@@ -33,7 +33,7 @@ cycle_of k ins =
 abbrev pub outputs_of : KernelState → List DriveIn → List DriveOut
 outputs_of k ins = map (λ (r : AxisRow). r.output) (cycled_of k ins).axes
 
--- the kernel has this entry more, in its ticket's place; so many cycles were made with it
+-- the kernel has this entry more, in its ticket's place; this many cycles were made with it
 pub record MakesEntry (f g : KernelState) (e : Entry) (ticket cycles : ℕ) : Type 0 where
   pub room : HasRoom f
   pub kernel : g ≡ with_entry f e
@@ -41,19 +41,19 @@ pub record MakesEntry (f g : KernelState) (e : Entry) (ticket cycles : ℕ) : Ty
   pub cycles_is : cycles ≡ cycles_of g.history
   pub few : cycles ≤ f.config.cycles
 
--- the kernel is as it was, with so many cycles made
+-- the kernel is as it was, with this many cycles made
 pub record MakesNone (f g : KernelState) (cycles : ℕ) : Type 0 where
   pub kernel : g ≡ f
   pub cycles_is : cycles ≡ cycles_of f.history
 
 module _ {T : Type 0} where
-  -- a turn makes an entry, or none and tells the numbers found
+  -- a turn makes an entry, or none and gives the numbers found
   abbrev pub Makes : KernelState → KernelState → Entry → Turn T → Type 0
   Makes f g e (Made ticket cycles answer) = MakesEntry f g e ticket cycles
   Makes f g e (Full entries cycles) = MakesNone f g cycles × (entries ≡ length f.history)
   Makes f g e (Early quiet cycles) = MakesNone f g cycles × (quiet ≡ quiet_of f) × HasRoom f
 
--- a call is made with at least so many cycles before it, and its answer is the machine's
+-- a call is made with at least this many cycles before it, and its answer is the machine's
 abbrev pub CallTold : ℕ → ℕ → Inputs → KernelState → Turn Outputs → Type 0
 CallTold after b i f (Made ticket cycles answer) =
     (after ≤ cycles) × (answer ≡ reply_of f.config (state_of f) b i)

@@ -1,13 +1,13 @@
--- How a seat of the lock is a pass. This project's profile.
+-- How a seat of the lock is a permit. This project's profile.
 use Rattle.std.specs.Prelude.{◌≡◌, []}
 use Rattle.atomic_table.specs.Seated.{TableId}
-use Rattle.kernel_turn.specs.PassState.{PassState}
-use Rattle.kernel_turn.specs.PassView.{PassView}
+use Rattle.kernel_turn.specs.PermitState.{PermitState}
+use Rattle.kernel_turn.specs.PermitView.{PermitView}
 use Rattle.kernel_turn.specs.Steps.{Seated}
 use Rattle.kernel_turn.specs.Views.{IsIdle}
 
--- a pass of a lock as its view says
-abbrev pub state_of : TableId → PassView → PassState
+-- a permit of a lock as its view says
+abbrev pub state_of : TableId → PermitView → PermitState
 state_of table v = record {
   table = table;
   opening = v.opening;
@@ -19,7 +19,7 @@ state_of table v = record {
   out = v.out;
 }
 
--- between turns a pass waits for nothing and has no kernel
+-- between turns a permit waits for nothing and has no kernel
 pub record IsReady (m : Seated) : Type 0 where
   pub idle : IsIdle m.0
   pub empty : m.1 ≡ []

@@ -1,11 +1,11 @@
 pub mod Times
-pub mod PassView
+pub mod PermitView
 pub mod Views
 pub mod Rule
 pub mod Steps
-pub mod PassState
+pub mod PermitState
 pub mod Events
 pub mod Turns
 pub mod Inside
-pub mod PassKept
+pub mod PermitKept
 pub mod Standing

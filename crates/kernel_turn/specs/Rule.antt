@@ -7,11 +7,11 @@ use Rattle.atomic_table.specs.Table.{State}
 use Rattle.motion_history.specs.Entries.{Entry}
 use Rattle.motion_history.specs.Setup.{Setup}
 use Rattle.motion_kernel.specs.KernelState.{KernelState}
-use Rattle.kernel_turn.specs.PassView.{PassView}
+use Rattle.kernel_turn.specs.PermitView.{PermitView}
 use Rattle.kernel_turn.specs.Times.{one, times, once_below}
 
--- a number of each pass, added up over all
-abbrev pub total : (PassView → ℕ) → List PassView → ℕ
+-- a number of each permit, added up over all
+abbrev pub total : (PermitView → ℕ) → List PermitView → ℕ
 total f [] = 0
 total f (v ∷ vs) = f v + total f vs
 
@@ -30,31 +30,31 @@ unfoldable pub if_found : Option KernelState → ℕ
 if_found None = 0
 if_found (Some k) = 1
 
--- how many passes live
-abbrev pub living : List PassView → ℕ
+-- how many permits live
+abbrev pub living : List PermitView → ℕ
 living views = total (λ v. one v.live) views
 
 -- how many have a number in hand
-abbrev pub waiting : List PassView → ℕ
+abbrev pub waiting : List PermitView → ℕ
 waiting views = total (λ v. if_hand v.hand) views
 
 -- how many have this number in hand
-abbrev pub with_hand : ℕ → List PassView → ℕ
+abbrev pub with_hand : ℕ → List PermitView → ℕ
 with_hand x views = total (λ v. if_hand_is x v.hand) views
 
 -- how many have the kernel
-abbrev pub with_kernel : List PassView → ℕ
+abbrev pub with_kernel : List PermitView → ℕ
 with_kernel views = total (λ v. if_found v.found) views
 
 -- how often this ticket is an own one
-abbrev pub with_ticket : ℕ → List PassView → ℕ
+abbrev pub with_ticket : ℕ → List PermitView → ℕ
 with_ticket x views = total (λ v. times x v.own) views
 
 -- how many have made a stop
-abbrev pub stoppers : List PassView → ℕ
+abbrev pub stoppers : List PermitView → ℕ
 stoppers views = total (λ v. one v.made_stop) views
 
--- the kernel has this configuration and history, and is stopped exactly where a pass has made a
+-- the kernel has this configuration and history, and is stopped exactly where a permit has made a
 -- stop
 pub record Is (config : Setup) (history : List Entry) (stops : ℕ) (k : KernelState) : Type 0 where
   pub config_is : k.config ≡ config
@@ -62,9 +62,9 @@ pub record Is (config : Setup) (history : List Entry) (stops : ℕ) (k : KernelS
   pub stop : k.stopped ≡ true → 0 < stops
   pub stopped : 0 < stops → k.stopped ≡ true
 
--- a pass fits the history: what it has seen begins it, it has the kernel only where the next number
--- is in its hand, and where it has met a stop a pass has made one
-pub record Fits (config : Setup) (history : List Entry) (stops passed i : ℕ) (v : PassView)
+-- a permit fits the history: what it has seen begins it, it has the kernel only where the next
+-- number is in its hand, and where it has met a stop a permit has made one
+pub record Fits (config : Setup) (history : List Entry) (stops passed i : ℕ) (v : PermitView)
     : Type 0 where
   pub first : v.opening ≡ true → i ≡ 0
   pub aside : IsPrefix v.aside history
@@ -79,24 +79,24 @@ pub record Fits (config : Setup) (history : List Entry) (stops passed i : ℕ) (
 abbrev pub Homes : Type 0
 Homes = List (maybe.Option (Option KernelState))
 
--- the kernel is with one pass
-abbrev pub Away : Homes → List PassView → Type 0
+-- the kernel is with one permit
+abbrev pub Away : Homes → List PermitView → Type 0
 Away homes views = (homes ≡ maybe.none ∷ []) × (with_kernel views ≡ 1)
 
 -- the kernel is in its place
-abbrev pub Home : Setup → List Entry → Homes → List PassView → Type 0
+abbrev pub Home : Setup → List Entry → Homes → List PermitView → Type 0
 Home config history homes views = (k : KernelState) × (homes ≡ maybe.some (Some k) ∷ []) ×
     (with_kernel views ≡ 0) × Is config history (stoppers views) k
 
--- as many passes live as the opening pass says, itself and those that are out, at most 1,000
-abbrev pub Counted : List PassView → Type 0
-Counted views = (v : PassView) × (get_elem? views 0 ≡ maybe.some v) × (v.live ≡ true) ×
+-- as many permits live as the opening permit says, itself and those that are out, at most 1,000
+abbrev pub Counted : List PermitView → Type 0
+Counted views = (v : PermitView) × (get_elem? views 0 ≡ maybe.some v) × (v.live ≡ true) ×
     (living views ≡ suc v.out) × (v.out ≤ 1000)
 
 -- the rule: the words count the numbers drawn and passed on; each number that was drawn and not
--- passed on is in one hand, each place of the history is one own ticket, every pass fits the
--- history, and the kernel is in its place or with one pass
-pub record Kept (config : Setup) (s : State (Option KernelState) PassView) : Type 0 where
+-- passed on is in one hand, each place of the history is one own ticket, every permit fits the
+-- history, and the kernel is in its place or with one permit
+pub record Invariant (config : Setup) (s : State (Option KernelState) PermitView) : Type 0 where
   pub history : List Entry
   pub drawn : ℕ
   pub passed : ℕ
@@ -104,7 +104,7 @@ pub record Kept (config : Setup) (s : State (Option KernelState) PassView) : Typ
   pub wait : passed + waiting s.views ≡ drawn
   pub hands : (x : ℕ) → with_hand x s.views + once_below x passed ≡ once_below x drawn
   pub tickets : (x : ℕ) → with_ticket x s.views ≡ once_below x (length history)
-  pub each : (i : ℕ) (v : PassView) → get_elem? s.views i ≡ maybe.some v →
+  pub each : (i : ℕ) (v : PermitView) → get_elem? s.views i ≡ maybe.some v →
       Fits config history (stoppers s.views) passed i v
   pub place : Away s.homes s.views ⊎ Home config history s.homes s.views
   pub count : Counted s.views

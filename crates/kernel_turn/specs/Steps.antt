@@ -1,19 +1,19 @@
--- What each step of the lock tells the pass that takes it. This project's profile.
+-- What each step of the lock gives the permit that takes it. This project's profile.
 use Rattle.std.specs.Prelude.{◌≡◌, ◌≢◌, ℕ, ◌%◌, ◌^◌, ◌≤◌, List, [], ◌∷◌, ◌++◌, length, Bool, true, ◌||◌, Option, Some, None}
 use mathlib.Core.List.{IsPrefix}
 use Rattle.atomic_table.specs.Seated.{TableId}
 use Rattle.atomic_table.specs.Table.{Me, Step}
 use Rattle.motion_history.specs.Entries.{Entry}
 use Rattle.motion_kernel.specs.KernelState.{KernelState}
-use Rattle.kernel_turn.specs.PassView.{PassView}
+use Rattle.kernel_turn.specs.PermitView.{PermitView}
 use Rattle.kernel_turn.specs.Times.{times, once_below}
 use Rattle.kernel_turn.specs.Views.{view_after_turn, with_found, with_number, settled_view, word_of}
 
--- a pass, and the kernel's place where it has that
+-- a permit, and the kernel's place where it has that
 abbrev pub Seated : Type 0
-Seated = Me (Option KernelState) PassView
+Seated = Me (Option KernelState) PermitView
 
--- the pass is one of this lock, which has a word for the numbers drawn, one for those passed on,
+-- the permit is one of this lock, which has a word for the numbers drawn, one for those passed on,
 -- and a place for the kernel
 abbrev pub IsSeatOf : TableId → TableId → Type 0
 IsSeatOf seat lock = (seat ≡ lock) × (lock.words ≡ 2) × (lock.slots ≡ 1)
@@ -23,16 +23,16 @@ abbrev pub Draws : Step (Option KernelState) → Seated → ℕ → Seated → T
 Draws st m n m' = (h : ℕ) × (h % 2 ^ 64 ≡ n) × (m' ≡ (with_number m.0 h, m.1))
 
 -- the own tickets are all that were given, each once, and who has met a stop has made one
-pub record IsWhole (v : PassView) (k : KernelState) : Type 0 where
+pub record IsWhole (v : PermitView) (k : KernelState) : Type 0 where
   pub tickets : (x : ℕ) → times x v.own ≡ once_below x (length k.history)
   pub stop : k.stopped || v.met_stop ≡ true → v.made_stop ≡ true
 
--- where the pass has made or met a stop, the kernel is stopped
-abbrev pub StaysStopped : PassView → KernelState → Type 0
+-- where the permit has made or met a stop, the kernel is stopped
+abbrev pub StaysStopped : PermitView → KernelState → Type 0
 StaysStopped v k = v.made_stop || v.met_stop ≡ true → k.stopped ≡ true
 
 -- the kernel is taken: it has the configuration, its history begins with what was seen, and it
--- stays stopped. The opening pass has all tickets, where no other pass is out
+-- stays stopped. The opening permit has all tickets, where no other permit is out
 abbrev pub Takes : Seated → Seated → Type 0
 Takes m m' = (k : KernelState) × (m' ≡ (with_found m.0 k, (0, Some k) ∷ m.1)) ×
     IsPrefix m.0.seen k.history × (k.config ≡ m.0.config) ×
@@ -60,8 +60,8 @@ pub record Grows (stop : Bool) (before after : KernelState) : Type 0 where
   pub few : length added ≤ 1
   pub history : after.history ≡ before.history ++ added
 
--- a pass that knew this much has found the kernel so and taken it out
-pub record Holds (before : PassView) (k : KernelState) (m : Seated) : Type 0 where
+-- a permit that knew this much has found the kernel so and taken it out
+pub record Holds (before : PermitView) (k : KernelState) (m : Seated) : Type 0 where
   pub number : ℕ
   pub me : m ≡ (with_found (with_number before number) k, (0, None) ∷ [])
   pub begins : IsPrefix before.seen k.history

@@ -1,4 +1,4 @@
--- What a pass knows after a turn. This project's profile.
+-- What a permit knows after a turn. This project's profile.
 use Rattle.std.specs.Prelude.{◌≡◌, ℕ, suc, ◌-◌, ◌⊎◌, List, [], ◌∷◌, ◌++◌, length, true, false, ◌||◌}
 use mathlib.Core.List.{IsPrefix}
 use Rattle.atomic_table.specs.Seated.{TableId}
@@ -12,15 +12,15 @@ use Rattle.motion_kernel.specs.Histories.{IsLegal}
 use Rattle.motion_kernel.specs.KernelState.{KernelState}
 use Rattle.motion_kernel.specs.kept.Machine.{AreWhole}
 use Rattle.kernel_turn.specs.Events.{CallTold, CycleTold, EndTold, Makes, call_of, cycle_of}
-use Rattle.kernel_turn.specs.PassState.{PassState}
+use Rattle.kernel_turn.specs.PermitState.{PermitState}
 use Rattle.kernel_turn.specs.Times.{times, once_below}
 use Rattle.kernel_turn.specs.Views.{longer}
 use Rattle.kernel_turn.specs.declared.turn.Turn.{Turn}
 use Rattle.kernel_turn.specs.declared.turn.Turn.TheVariants.{Made, Full, Early}
 
--- the opening pass at first
-abbrev pub opening_pass : TableId → Setup → PassState
-opening_pass table s = record {
+-- the opening permit at first
+abbrev pub opening_permit : TableId → Setup → PermitState
+opening_permit table s = record {
   table = table;
   opening = true;
   config = s;
@@ -31,21 +31,21 @@ opening_pass table s = record {
   out = 0;
 }
 
--- the opening pass after one more was split from it
-abbrev pub pass_after_split : PassState → PassState
-pass_after_split p = record p { out = suc p.out }
+-- the opening permit after one more was split from it
+abbrev pub permit_after_split : PermitState → PermitState
+permit_after_split p = record p { out = suc p.out }
 
--- a new pass has seen what the opening pass has, and has done nothing yet
-abbrev pub split_pass : PassState → PassState
-split_pass p = record p { opening = false; own = []; made_stop = false; met_stop = false; out = 0 }
+-- a new permit has seen what the opening permit has, and has done nothing yet
+abbrev pub split_permit : PermitState → PermitState
+split_permit p = record p { opening = false; own = []; made_stop = false; met_stop = false; out = 0 }
 
--- a pass that has taken another in: the longer of the two histories that were seen, which begins
+-- a permit that has taken another in: the longer of the two histories that were seen, which begins
 -- with each, the tickets of both and the marks of either
-pub record IsJoined (old other new : PassState) : Type 0 where
+pub record IsJoined (old other new : PermitState) : Type 0 where
   pub begins : IsPrefix old.seen new.seen
   pub begins_other : IsPrefix other.seen new.seen
   pub seen : new.seen ≡ longer old.seen other.seen
-  pub pass : new ≡ record old {
+  pub permit : new ≡ record old {
     seen = new.seen;
     own = old.own ++ other.own;
     made_stop = old.made_stop || other.made_stop;
@@ -53,9 +53,9 @@ pub record IsJoined (old other new : PassState) : Type 0 where
     out = old.out - 1;
   }
 
--- the kernel that a pass finds has its configuration, and a history that begins with what it has
--- seen, and is stopped where the pass has made or met a stop
-pub record IsFound (p : PassState) (k : KernelState) : Type 0 where
+-- the kernel that a permit finds has its configuration, and a history that begins with what it has
+-- seen, and is stopped where the permit has made or met a stop
+pub record IsFound (p : PermitState) (k : KernelState) : Type 0 where
   pub begins : IsPrefix p.seen k.history
   pub config : k.config ≡ p.config
   pub stopped : p.made_stop || p.met_stop ≡ true → k.stopped ≡ true
@@ -67,46 +67,46 @@ module _ {T : Type 0} where
   tickets_of (Full entries cycles) = []
   tickets_of (Early quiet cycles) = []
 
--- a pass after a turn with these tickets that found the kernel as f and left it as g
-abbrev pub pass_after : PassState → KernelState → KernelState → List ℕ → PassState
-pass_after p f g tickets = record p {
+-- a permit after a turn with these tickets that found the kernel as f and left it as g
+abbrev pub permit_after : PermitState → KernelState → KernelState → List ℕ → PermitState
+permit_after p f g tickets = record p {
   seen = g.history;
   own = p.own ++ tickets;
   met_stop = p.met_stop || f.stopped;
 }
 
--- a pass after a turn that stopped the kernel
-abbrev pub pass_after_stop : PassState → KernelState → PassState
-pass_after_stop p f =
+-- a permit after a turn that stopped the kernel
+abbrev pub permit_after_stop : PermitState → KernelState → PermitState
+permit_after_stop p f =
     record p { seen = f.history; made_stop = true; met_stop = p.met_stop || f.stopped }
 
 module _ {T : Type 0} where
   -- a turn found the kernel as f, made this entry or none, and left it as g
-  pub record TakesTurn (old new : PassState) (f g : KernelState) (e : Entry) (turn : Turn T)
+  pub record TakesTurn (old new : PermitState) (f g : KernelState) (e : Entry) (turn : Turn T)
       : Type 0 where
     pub found : IsFound old f
     pub makes : Makes f g e turn
-    pub pass : new ≡ pass_after old f g (tickets_of turn)
+    pub permit : new ≡ permit_after old f g (tickets_of turn)
 
 -- what a turn that calls a block answers
-abbrev pub CallAnswered : ℕ → ℕ → Inputs → PassState → PassState → Turn Outputs → Type 0
+abbrev pub CallAnswered : ℕ → ℕ → Inputs → PermitState → PermitState → Turn Outputs → Type 0
 CallAnswered after b i old new turn = (f g : KernelState) ×
     TakesTurn old new f g (call_of f b i) turn × CallTold after b i f turn
 
 -- what a turn that goes through a cycle answers
-abbrev pub CycleAnswered : List DriveIn → List DriveOut → List DriveOut → PassState → PassState →
+abbrev pub CycleAnswered : List DriveIn → List DriveOut → List DriveOut → PermitState → PermitState →
     Turn ℕ → Type 0
 CycleAnswered ins before outs old new turn = (f g : KernelState) ×
     TakesTurn old new f g (cycle_of f ins) turn × CycleTold ins before outs f g turn
 
 -- what a turn that ends a task answers
 module _ {T : Type 0} where
-  abbrev pub EndAnswered : ℕ → PassState → PassState → Turn T → Type 0
+  abbrev pub EndAnswered : ℕ → PermitState → PermitState → Turn T → Type 0
   EndAnswered task old new turn =
       (f g : KernelState) × TakesTurn old new f g (end_of task) turn × EndTold f turn
 
 -- it is the same pass of the same lock
-pub record IsSamePass (old new : PassState) : Type 0 where
+pub record IsSamePermit (old new : PermitState) : Type 0 where
   pub table : new.table ≡ old.table
   pub opening : new.opening ≡ old.opening
   pub config : new.config ≡ old.config
@@ -118,29 +118,29 @@ pub record IsLawful (s : Setup) (es : List Entry) : Type 0 where
   pub setup : IsSetup s
   pub whole : AreWhole s
 
--- the entries of a Full for want of room are the configured number, unless the pass has then met a
--- stop
+-- the entries of a Full for want of room are the configured number, unless the permit has then met
+-- a stop
 module _ {T : Type 0} where
-  abbrev pub FullOfEntries : PassState → Turn T → Type 0
+  abbrev pub FullOfEntries : PermitState → Turn T → Type 0
   FullOfEntries new (Full entries cycles) =
       new.met_stop ≡ false → entries ≡ new.config.entries
   FullOfEntries new turn = Unit {0}
 
   -- a Full of a cycle may also come as the cycles are the configured number
-  abbrev pub FullOfEither : PassState → Turn T → Type 0
+  abbrev pub FullOfEither : PermitState → Turn T → Type 0
   FullOfEither new (Full entries cycles) = new.met_stop ≡ false →
       (entries ≡ new.config.entries) ⊎ (cycles ≡ new.config.cycles)
   FullOfEither new turn = Unit {0}
 
-  -- a turn makes an entry only where the pass has neither made nor met a stop
-  abbrev pub MadeUnstopped : PassState → Turn T → Type 0
+  -- a turn makes an entry only where the permit has neither made nor met a stop
+  abbrev pub MadeUnstopped : PermitState → Turn T → Type 0
   MadeUnstopped old (Made ticket cycles answer) = old.made_stop || old.met_stop ≡ false
   MadeUnstopped old turn = Unit {0}
 
--- at closing the kernel has the pass's configuration and a history that begins with what the pass
--- has seen; the own tickets are all that were given, each once; the kernel is stopped exactly where
--- the pass has made a stop, and a pass that has met one has made one
-pub record IsClosed (p : PassState) (k : KernelState) : Type 0 where
+-- at closing the kernel has the permit's configuration and a history that begins with what the
+-- permit has seen; the own tickets are all that were given, each once; the kernel is stopped
+-- exactly where the permit has made a stop, and a permit that has met one has made one
+pub record IsClosed (p : PermitState) (k : KernelState) : Type 0 where
   pub begins : IsPrefix p.seen k.history
   pub config : k.config ≡ p.config
   pub tickets : (x : ℕ) → times x p.own ≡ once_below x (length k.history)

@@ -1,12 +1,12 @@
--- The views of passes, and what each step of the lock makes of them. This project's profile.
+-- The views of permits, and what each step of the lock makes of them. This project's profile.
 use Rattle.std.specs.Prelude.{◌≡◌, ℕ, suc, ◌-◌, ◌%◌, ◌^◌, ◌==◌, List, [], ◌∷◌, ◌++◌, length, Bool, true, false, if◌then◌else◌, nat_le, ◌||◌, Option, Some, None}
 use Rattle.motion_history.specs.Entries.{Entry}
 use Rattle.motion_history.specs.Setup.{Setup}
 use Rattle.motion_kernel.specs.KernelState.{KernelState}
-use Rattle.kernel_turn.specs.PassView.{PassView}
+use Rattle.kernel_turn.specs.PermitView.{PermitView}
 
--- a pass that has seen this history and has done nothing yet
-abbrev pub new_view : Setup → List Entry → PassView
+-- a permit that has seen this history and has done nothing yet
+abbrev pub new_view : Setup → List Entry → PermitView
 new_view s seen = record {
   config = s;
   opening = false;
@@ -21,8 +21,8 @@ new_view s seen = record {
   out = 0;
 }
 
--- the opening pass at first
-abbrev pub opening_view : Setup → PassView
+-- the opening permit at first
+abbrev pub opening_view : Setup → PermitView
 opening_view s = record (new_view s []) { opening = true }
 
 -- a configuration without items
@@ -37,22 +37,22 @@ no_setup = record {
   entries = 0;
 }
 
--- what is left of a pass that was joined into another
-abbrev pub spent_view : PassView
+-- what is left of a permit that was joined into another
+abbrev pub spent_view : PermitView
 spent_view = record (new_view no_setup []) { live = false }
 
 -- it waits for nothing and has no kernel
-pub record IsIdle (v : PassView) : Type 0 where
+pub record IsIdle (v : PermitView) : Type 0 where
   pub live : v.live ≡ true
   pub hand : v.hand ≡ None
   pub found : v.found ≡ None
 
--- the pass with this number in hand
-abbrev pub with_number : PassView → ℕ → PassView
+-- the permit with this number in hand
+abbrev pub with_number : PermitView → ℕ → PermitView
 with_number v n = record v { hand = Some n }
 
--- the pass that found the kernel so
-abbrev pub with_found : PassView → KernelState → PassView
+-- the permit that found the kernel so
+abbrev pub with_found : PermitView → KernelState → PermitView
 with_found v k = record v { found = Some k }
 
 -- the ticket of the entry that was made since the kernel was found, if one was
@@ -66,8 +66,8 @@ abbrev pub was_stopped : Option KernelState → Bool
 was_stopped None = false
 was_stopped (Some f) = f.stopped
 
--- the pass after it has given the kernel back, stopped by it or not
-abbrev pub view_after_turn : Bool → PassView → KernelState → PassView
+-- the permit after it has given the kernel back, stopped by it or not
+abbrev pub view_after_turn : Bool → PermitView → KernelState → PermitView
 view_after_turn stop v k = record v {
   seen = k.history;
   own = v.own ++ ticket_of v.found k;
@@ -86,15 +86,15 @@ word_of (Some n) = n % 2 ^ 64
 unfoldable pub longer : List Entry → List Entry → List Entry
 longer a b = if nat_le (length a) (length b) then b else a
 
--- the opening pass after one more was split from it, and the new one
-abbrev pub view_after_split : PassView → PassView
+-- the opening permit after one more was split from it, and the new one
+abbrev pub view_after_split : PermitView → PermitView
 view_after_split v = record v { out = suc v.out }
 
-abbrev pub split_view : PassView → PassView
+abbrev pub split_view : PermitView → PermitView
 split_view v = new_view v.config v.seen
 
--- a pass that has taken another in, whose history lies aside
-abbrev pub view_after_join : PassView → PassView → PassView
+-- a permit that has taken another in, whose history lies aside
+abbrev pub view_after_join : PermitView → PermitView → PermitView
 view_after_join v w = record v {
   aside = w.seen;
   own = v.own ++ w.own;
@@ -103,6 +103,6 @@ view_after_join v w = record v {
   out = v.out - 1;
 }
 
--- the pass that has seen the longer of its two histories
-abbrev pub settled_view : PassView → PassView
+-- the permit that has seen the longer of its two histories
+abbrev pub settled_view : PermitView → PermitView
 settled_view v = record v { seen = longer v.seen v.aside; aside = [] }

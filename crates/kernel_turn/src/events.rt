@@ -18,7 +18,7 @@ fn entries_made(kernel: &Kernel) -> u64
     kernel.history().entries()
 }
 
-// Calls a block where there is room and the history has at least so many cycles.
+// Calls a block where there is room and the history has at least this many cycles.
 pub fn try_call(
     kernel: &mut Kernel,
     task: u8,

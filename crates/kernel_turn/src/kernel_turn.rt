@@ -3,11 +3,11 @@
 ghost use Rattle.std.specs.Prelude.{◌≡◌, ◌<◌, ◌∷◌, [], IfOk, IsSomeAnd, length, slice_get, Some, true, false};
 ghost use Rattle.motion_history.specs.Calls.{IsCall};
 ghost use Rattle.motion_kernel.specs.KernelState.{KernelState};
-ghost use Rattle.kernel_turn.specs.Turns.{CallAnswered, CycleAnswered, EndAnswered, FullOfEither, FullOfEntries, IsClosed, IsFound, IsJoined, IsLawful, IsSamePass, MadeUnstopped, opening_pass, pass_after_split, pass_after_stop, split_pass};
+ghost use Rattle.kernel_turn.specs.Turns.{CallAnswered, CycleAnswered, EndAnswered, FullOfEither, FullOfEntries, IsClosed, IsFound, IsJoined, IsLawful, IsSamePermit, MadeUnstopped, opening_permit, permit_after_split, permit_after_stop, split_permit};
 
 use crate::events::{try_call, try_cycle, try_end};
 use crate::housed::Housed;
-use crate::pass::Pass;
+use crate::permit::Permit;
 use crate::rule::{TurnRule, View};
 use crate::steps::{join_seat, pass_on, split_seat, stop_on, take};
 use crate::turn::Turn;
@@ -40,68 +40,68 @@ impl Model for KernelTurn {
 }
 
 impl KernelTurn {
-    /// Opens the turns on a new kernel, and gives the opening pass.
-    pub fn open(alloc: Global, kernel: Kernel) -> Result<(KernelTurn, Pass), OutOfMemory>
+    /// Opens the turns on a new kernel, and gives the opening permit.
+    pub fn open(alloc: Global, kernel: Kernel) -> Result<(KernelTurn, Permit), OutOfMemory>
         requires new { (kernel.history ≡ []) × (kernel.stopped ≡ false) }
-        ensures opening { IfOk result (λ r. r.1 ≡ opening_pass r.0 kernel.config) }
+        ensures opening { IfOk result (λ r. r.1 ≡ opening_permit r.0 kernel.config) }
     {
         let config = Snapshot::of(kernel.config());
         let slots = place_of(alloc, kernel)?;
         match Table::new(alloc, &[0, 0], slots, &config) {
             Ok((table, seat)) => {
                 let table = CachePadded::new(table);
-                Ok((KernelTurn { table }, Pass { seat }))
+                Ok((KernelTurn { table }, Permit { seat }))
             }
             Err(_) => Err(OutOfMemory),
         }
     }
 
-    /// Splits a new pass from the opening pass.
-    pub fn split(&self, pass: &mut Pass) -> Pass
-        requires own { pass.old.table ≡ self.now }
-        requires opening { pass.old.opening ≡ true }
-        requires few { pass.old.out < 1000 }
-        ensures pass { pass.new ≡ pass_after_split pass.old }
-        ensures given { result ≡ split_pass pass.old }
+    /// Splits a new permit from the opening permit.
+    pub fn split(&self, permit: &mut Permit) -> Permit
+        requires own { permit.old.table ≡ self.now }
+        requires opening { permit.old.opening ≡ true }
+        requires few { permit.old.out < 1000 }
+        ensures permit { permit.new ≡ permit_after_split permit.old }
+        ensures given { result ≡ split_permit permit.old }
     {
-        let seat = split_seat(&self.table.shared, &mut pass.seat);
-        Pass { seat }
+        let seat = split_seat(&self.table.shared, &mut permit.seat);
+        Permit { seat }
     }
 
-    /// Joins a pass into the opening pass.
-    pub fn join(&self, pass: &mut Pass, other: Pass)
-        requires own { pass.old.table ≡ self.now }
-        requires opening { pass.old.opening ≡ true }
+    /// Joins a permit into the opening permit.
+    pub fn join(&self, permit: &mut Permit, other: Permit)
+        requires own { permit.old.table ≡ self.now }
+        requires opening { permit.old.opening ≡ true }
         requires other { other.table ≡ self.now }
-        ensures joined { IsJoined pass.old other pass.new }
+        ensures joined { IsJoined permit.old other permit.new }
     {
-        let Pass { seat } = other;
-        join_seat(&self.table.shared, &mut pass.seat, seat);
+        let Permit { seat } = other;
+        join_seat(&self.table.shared, &mut permit.seat, seat);
     }
 
-    /// Calls a block where there is room and the history has at least so many cycles.
+    /// Calls a block where there is room and the history has at least this many cycles.
     pub fn turn_call<R: Wait>(
         &self,
         rt: &R,
-        pass: &mut Pass,
+        permit: &mut Permit,
         task: u8,
         after: u32,
         instance: u16,
         inputs: &Inputs,
     ) -> Turn<Outputs>
-        requires own { pass.old.table ≡ self.now }
-        requires task { IsSomeAnd (slice_get pass.old.config.blocks instance) (λ b. b.task ≡ task) }
-        requires call { IsCall pass.old.config instance inputs.now }
-        ensures answer { CallAnswered after instance inputs.now pass.old pass.new result }
-        ensures full { FullOfEntries pass.new result }
-        ensures unstopped { MadeUnstopped pass.old result }
-        ensures lawful { IsLawful pass.new.config pass.new.seen }
-        ensures same { IsSamePass pass.old pass.new }
+        requires own { permit.old.table ≡ self.now }
+        requires task { IsSomeAnd (slice_get permit.old.config.blocks instance) (λ b. b.task ≡ task) }
+        requires call { IsCall permit.old.config instance inputs.now }
+        ensures answer { CallAnswered after instance inputs.now permit.old permit.new result }
+        ensures full { FullOfEntries permit.new result }
+        ensures unstopped { MadeUnstopped permit.old result }
+        ensures lawful { IsLawful permit.new.config permit.new.seen }
+        ensures same { IsSamePermit permit.old permit.new }
     {
         let top = &self.table.shared;
-        let mut kernel = take(rt, top, &mut pass.seat);
+        let mut kernel = take(rt, top, &mut permit.seat);
         let turn = try_call(&mut kernel.kernel, task, after, instance, inputs);
-        pass_on(top, &mut pass.seat, kernel);
+        pass_on(top, &mut permit.seat, kernel);
         turn
     }
 
@@ -110,66 +110,66 @@ impl KernelTurn {
     pub fn turn_cycle<R: Wait>(
         &self,
         rt: &R,
-        pass: &mut Pass,
+        permit: &mut Permit,
         ins: &[DriveIn],
         outs: &mut [DriveOut],
     ) -> Turn<u8>
-        requires own { pass.old.table ≡ self.now }
-        requires ins { length ins.now ≡ length pass.old.config.axes }
-        requires outs { length outs.old ≡ length pass.old.config.axes }
-        ensures answer { CycleAnswered ins.now outs.old outs.new pass.old pass.new result }
-        ensures full { FullOfEither pass.new result }
-        ensures unstopped { MadeUnstopped pass.old result }
-        ensures lawful { IsLawful pass.new.config pass.new.seen }
-        ensures same { IsSamePass pass.old pass.new }
+        requires own { permit.old.table ≡ self.now }
+        requires ins { length ins.now ≡ length permit.old.config.axes }
+        requires outs { length outs.old ≡ length permit.old.config.axes }
+        ensures answer { CycleAnswered ins.now outs.old outs.new permit.old permit.new result }
+        ensures full { FullOfEither permit.new result }
+        ensures unstopped { MadeUnstopped permit.old result }
+        ensures lawful { IsLawful permit.new.config permit.new.seen }
+        ensures same { IsSamePermit permit.old permit.new }
     {
         let top = &self.table.shared;
-        let mut kernel = take(rt, top, &mut pass.seat);
+        let mut kernel = take(rt, top, &mut permit.seat);
         let turn = try_cycle(&mut kernel.kernel, ins, outs);
-        pass_on(top, &mut pass.seat, kernel);
+        pass_on(top, &mut permit.seat, kernel);
         turn
     }
 
     /// Ends a task where there is room.
-    pub fn turn_end<R: Wait>(&self, rt: &R, pass: &mut Pass, task: u8) -> Turn<()>
-        requires own { pass.old.table ≡ self.now }
-        requires task { task < length pass.old.config.tasks }
-        ensures answer { EndAnswered task pass.old pass.new result }
-        ensures full { FullOfEntries pass.new result }
-        ensures unstopped { MadeUnstopped pass.old result }
-        ensures lawful { IsLawful pass.new.config pass.new.seen }
-        ensures same { IsSamePass pass.old pass.new }
+    pub fn turn_end<R: Wait>(&self, rt: &R, permit: &mut Permit, task: u8) -> Turn<()>
+        requires own { permit.old.table ≡ self.now }
+        requires task { task < length permit.old.config.tasks }
+        ensures answer { EndAnswered task permit.old permit.new result }
+        ensures full { FullOfEntries permit.new result }
+        ensures unstopped { MadeUnstopped permit.old result }
+        ensures lawful { IsLawful permit.new.config permit.new.seen }
+        ensures same { IsSamePermit permit.old permit.new }
     {
         let top = &self.table.shared;
-        let mut kernel = take(rt, top, &mut pass.seat);
+        let mut kernel = take(rt, top, &mut permit.seat);
         let turn = try_end(&mut kernel.kernel, task);
-        pass_on(top, &mut pass.seat, kernel);
+        pass_on(top, &mut permit.seat, kernel);
         turn
     }
 
-    /// Stops the kernel: no turn makes an entry after it. The pass has then made a stop, and so has
-    /// one that it is joined into: a later turn of these is not `Made`.
-    pub fn turn_stop<R: Wait>(&self, rt: &R, pass: &mut Pass)
-        requires own { pass.old.table ≡ self.now }
-        ensures stopped { (f : KernelState) × IsFound pass.old f ×
-            (pass.new ≡ pass_after_stop pass.old f) }
-        ensures lawful { IsLawful pass.new.config pass.new.seen }
-        ensures same { IsSamePass pass.old pass.new }
+    /// Stops the kernel: no turn makes an entry after it. The permit has then made a stop, and so
+    /// has one that it is joined into: a later turn of these is not `Made`.
+    pub fn turn_stop<R: Wait>(&self, rt: &R, permit: &mut Permit)
+        requires own { permit.old.table ≡ self.now }
+        ensures stopped { (f : KernelState) × IsFound permit.old f ×
+            (permit.new ≡ permit_after_stop permit.old f) }
+        ensures lawful { IsLawful permit.new.config permit.new.seen }
+        ensures same { IsSamePermit permit.old permit.new }
     {
         let top = &self.table.shared;
-        let mut kernel = take(rt, top, &mut pass.seat);
+        let mut kernel = take(rt, top, &mut permit.seat);
         kernel.kernel.stop();
-        stop_on(top, &mut pass.seat, kernel);
+        stop_on(top, &mut permit.seat, kernel);
     }
 
-    /// Closes the turns and gives the kernel, once every other pass was joined.
-    pub fn close<R: Wait>(&self, rt: &R, pass: Pass) -> Kernel
-        requires own { pass.table ≡ self.now }
-        requires opening { pass.opening ≡ true }
-        requires alone { pass.out ≡ 0 }
-        ensures closed { IsClosed pass result }
+    /// Closes the turns and gives the kernel, once every other permit was joined.
+    pub fn close<R: Wait>(&self, rt: &R, permit: Permit) -> Kernel
+        requires own { permit.table ≡ self.now }
+        requires opening { permit.opening ≡ true }
+        requires alone { permit.out ≡ 0 }
+        ensures closed { IsClosed permit result }
     {
-        let Pass { mut seat } = pass;
+        let Permit { mut seat } = permit;
         let Housed { kernel } = take(rt, &self.table.shared, &mut seat);
         Box::into_inner(kernel)
     }

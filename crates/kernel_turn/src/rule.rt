@@ -1,4 +1,4 @@
-// The rule of the lock, and what its steps tell the passes.
+// The rule of the lock, and what its steps give the permits.
 
 use crate::housed::Housed;
 use atomic_table::{Join, Play, Seat, Shared, Split, TableRule};
@@ -6,13 +6,13 @@ use motion_history::Config;
 use std::marker::Model;
 use std::snapshot::Snapshot;
 
-/// What a pass knows. Contracts see it as a `PassView`, and no value of it is made.
+/// What a permit knows. Contracts see it as a `PermitView`, and no value of it is made.
 pub struct View;
 
 impl Model for View {
-    ghost use Rattle.kernel_turn.specs.PassView.{PassView};
+    ghost use Rattle.kernel_turn.specs.PermitView.{PermitView};
 
-    ghost Value = { PassView };
+    ghost Value = { PermitView };
 
     ghost use Rattle.kernel_turn.specs.Views.{spent_view};
 
@@ -23,10 +23,10 @@ impl Model for View {
 pub struct TurnRule;
 
 impl TableRule<Option<Housed>, View, Snapshot<Config>> for TurnRule {
-    ghost use Rattle.kernel_turn.specs.Rule.{Kept};
+    ghost use Rattle.kernel_turn.specs.Rule.{Invariant};
     ghost use Rattle.kernel_turn.specs.Views.{opening_view};
 
-    ghost holds = { λ k. Kept k.value };
+    ghost holds = { λ k. Invariant k.value };
 
     ghost first = { λ k. opening_view k.value };
 }
@@ -59,7 +59,7 @@ impl Play<Option<Housed>, View> for Passing {
     ghost then = { Passes false };
 }
 
-/// The same, and the pass has stopped the kernel.
+/// The same, and the permit has stopped the kernel.
 pub struct Stopping;
 
 impl Play<Option<Housed>, View> for Stopping {
@@ -78,7 +78,7 @@ impl Play<Option<Housed>, View> for Settling {
     ghost then = { Settles };
 }
 
-/// A pass is split from the opening pass.
+/// A permit is split from the opening permit.
 pub struct Splits;
 
 impl Split<View> for Splits {
@@ -89,7 +89,7 @@ impl Split<View> for Splits {
     ghost right = { split_view };
 }
 
-/// A pass is joined into the opening pass.
+/// A permit is joined into the opening permit.
 pub struct Joins;
 
 impl Join<View> for Joins {
@@ -100,8 +100,8 @@ impl Join<View> for Joins {
     ghost spent = { spent_view };
 }
 
-/// What the passes share.
+/// What the permits share.
 pub type Top = Shared<Option<Housed>, View, Snapshot<Config>, TurnRule>;
 
-/// The seat of a pass.
-pub type Place = Seat<Option<Housed>, View>;
+/// The seat of a permit.
+pub type PermitSeat = Seat<Option<Housed>, View>;

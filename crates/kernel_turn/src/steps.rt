@@ -1,4 +1,4 @@
-// The steps of the lock, as a pass takes them.
+// The steps of the lock, as a permit takes them.
 
 ghost use Rattle.std.specs.Prelude.{◌≡◌, ◌<◌, ◌%◌, ◌^◌, ◌∷◌, [], MatchBool, true, false, Some, None};
 ghost use mathlib.Core.List.{IsPrefix};
@@ -9,12 +9,12 @@ ghost use Rattle.kernel_turn.specs.Turns.{IsLawful};
 ghost use Rattle.kernel_turn.specs.Views.{settled_view, split_view, view_after_join, view_after_split, view_after_turn, with_found, with_number};
 
 use crate::housed::Housed;
-use crate::rule::{Drawing, Joins, Looking, Passing, Place, Settling, Splits, Stopping, Top};
+use crate::rule::{Drawing, Joins, Looking, Passing, PermitSeat, Settling, Splits, Stopping, Top};
 use crossbeam_utils::Backoff;
 use std::sync::Wait;
 
 // Draws a number.
-fn draw(top: &Top, seat: &mut Place) -> u64
+fn draw(top: &Top, seat: &mut PermitSeat) -> u64
     requires lock { IsSeatOf seat.old.table_id top.now.table_id }
     requires ready { IsReady seat.old.me }
     ensures same { (seat.new.table_id ≡ seat.old.table_id) × (seat.new.id ≡ seat.old.id) }
@@ -25,7 +25,7 @@ fn draw(top: &Top, seat: &mut Place) -> u64
 }
 
 // Takes the kernel where the number in hand is served.
-fn look(top: &Top, seat: &mut Place, number: u64) -> bool
+fn look(top: &Top, seat: &mut PermitSeat, number: u64) -> bool
     requires lock { IsSeatOf seat.old.table_id top.now.table_id }
     requires live { (seat.old.me.0.live ≡ true) × (seat.old.me.0.found ≡ None) ×
         (seat.old.me.1 ≡ []) }
@@ -37,8 +37,8 @@ fn look(top: &Top, seat: &mut Place, number: u64) -> bool
     top.load::<Looking>(seat, 1) == number
 }
 
-// Moves the kernel out of its place, which is the pass's.
-fn take_out(top: &Top, seat: &mut Place) -> Housed
+// Moves the kernel out of its place, which is the permit's.
+fn take_out(top: &Top, seat: &mut PermitSeat) -> Housed
     requires lock { IsSeatOf seat.old.table_id top.now.table_id }
     requires held { (k : KernelState) × (seat.old.me.1 ≡ (0, Some k) ∷ []) }
     ensures same { (seat.new.table_id ≡ seat.old.table_id) × (seat.new.id ≡ seat.old.id) }
@@ -52,7 +52,7 @@ fn take_out(top: &Top, seat: &mut Place) -> Housed
 }
 
 // Moves the kernel into its place.
-fn put_back(top: &Top, seat: &mut Place, kernel: Housed)
+fn put_back(top: &Top, seat: &mut PermitSeat, kernel: Housed)
     requires lock { IsSeatOf seat.old.table_id top.now.table_id }
     requires held { seat.old.me.1 ≡ (0, None) ∷ [] }
     ensures same { (seat.new.table_id ≡ seat.old.table_id) × (seat.new.id ≡ seat.old.id) }
@@ -62,7 +62,7 @@ fn put_back(top: &Top, seat: &mut Place, kernel: Housed)
 }
 
 // Waits until the number in hand is served, and takes the kernel.
-fn wait<R: Wait>(rt: &R, top: &Top, seat: &mut Place, number: u64) -> Housed
+fn wait<R: Wait>(rt: &R, top: &Top, seat: &mut PermitSeat, number: u64) -> Housed
     requires lock { IsSeatOf seat.old.table_id top.now.table_id }
     requires live { (seat.old.me.0.live ≡ true) × (seat.old.me.0.found ≡ None) ×
         (seat.old.me.1 ≡ []) }
@@ -85,7 +85,7 @@ fn wait<R: Wait>(rt: &R, top: &Top, seat: &mut Place, number: u64) -> Housed
 }
 
 // Draws a number, waits for it and takes the kernel.
-pub fn take<R: Wait>(rt: &R, top: &Top, seat: &mut Place) -> Housed
+pub fn take<R: Wait>(rt: &R, top: &Top, seat: &mut PermitSeat) -> Housed
     requires lock { IsSeatOf seat.old.table_id top.now.table_id }
     requires ready { IsReady seat.old.me }
     ensures same { (seat.new.table_id ≡ seat.old.table_id) × (seat.new.id ≡ seat.old.id) }
@@ -96,7 +96,7 @@ pub fn take<R: Wait>(rt: &R, top: &Top, seat: &mut Place) -> Housed
 }
 
 // Gives the kernel back, and the turn to the next number.
-pub fn pass_on(top: &Top, seat: &mut Place, kernel: Housed)
+pub fn pass_on(top: &Top, seat: &mut PermitSeat, kernel: Housed)
     requires lock { IsSeatOf seat.old.table_id top.now.table_id }
     requires live { (seat.old.me.0.live ≡ true) × (seat.old.me.1 ≡ (0, None) ∷ []) }
     requires grows { (f : KernelState) × (seat.old.me.0.found ≡ Some f) × Grows false f kernel }
@@ -110,7 +110,7 @@ pub fn pass_on(top: &Top, seat: &mut Place, kernel: Housed)
 }
 
 // Gives the kernel back, stopped, and the turn to the next number.
-pub fn stop_on(top: &Top, seat: &mut Place, kernel: Housed)
+pub fn stop_on(top: &Top, seat: &mut PermitSeat, kernel: Housed)
     requires lock { IsSeatOf seat.old.table_id top.now.table_id }
     requires live { (seat.old.me.0.live ≡ true) × (seat.old.me.1 ≡ (0, None) ∷ []) }
     requires grows { (f : KernelState) × (seat.old.me.0.found ≡ Some f) × Grows true f kernel }
@@ -123,8 +123,8 @@ pub fn stop_on(top: &Top, seat: &mut Place, kernel: Housed)
     top.fetch_add::<Stopping>(seat, 1, 1);
 }
 
-// Splits a pass from the opening pass.
-pub fn split_seat(top: &Top, seat: &mut Place) -> Place
+// Splits a permit from the opening permit.
+pub fn split_seat(top: &Top, seat: &mut PermitSeat) -> PermitSeat
     requires lock { IsSeatOf seat.old.table_id top.now.table_id }
     requires ready { IsReady seat.old.me }
     requires opening { (seat.old.me.0.opening ≡ true) × (seat.old.me.0.out < 1000) }
@@ -136,8 +136,8 @@ pub fn split_seat(top: &Top, seat: &mut Place) -> Place
     top.split_seat::<Splits>(seat)
 }
 
-// Joins a pass into the opening pass; its history lies aside.
-fn merge(top: &Top, seat: &mut Place, other: Place)
+// Joins a permit into the opening permit; its history lies aside.
+fn merge(top: &Top, seat: &mut PermitSeat, other: PermitSeat)
     requires lock { IsSeatOf seat.old.table_id top.now.table_id }
     requires ready { IsReady seat.old.me }
     requires opening { seat.old.me.0.opening ≡ true }
@@ -149,7 +149,7 @@ fn merge(top: &Top, seat: &mut Place, other: Place)
 }
 
 // The history that was seen becomes the longer of the two.
-fn settle(top: &Top, seat: &mut Place)
+fn settle(top: &Top, seat: &mut PermitSeat)
     requires lock { IsSeatOf seat.old.table_id top.now.table_id }
     requires ready { IsReady seat.old.me }
     ensures same { (seat.new.table_id ≡ seat.old.table_id) × (seat.new.id ≡ seat.old.id) }
@@ -160,8 +160,8 @@ fn settle(top: &Top, seat: &mut Place)
     top.load::<Settling>(seat, 0);
 }
 
-// Joins a pass into the opening pass, which has then seen what either has.
-pub fn join_seat(top: &Top, seat: &mut Place, other: Place)
+// Joins a permit into the opening permit, which has then seen what either has.
+pub fn join_seat(top: &Top, seat: &mut PermitSeat, other: PermitSeat)
     requires lock { IsSeatOf seat.old.table_id top.now.table_id }
     requires ready { IsReady seat.old.me }
     requires opening { seat.old.me.0.opening ≡ true }

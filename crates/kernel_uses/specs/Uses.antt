@@ -29,7 +29,7 @@ pub record GoesOn (old new : KernelState) : Type 0 where
   pub stopped : new.stopped ≡ old.stopped
   pub entries : length old.history ≤ length new.history
 
--- a call's outputs tell that its command has come to its end or is reached. PLCopen Motion Control
+-- a call's outputs say that its command has come to its end or is reached. PLCopen Motion Control
 -- Part 1, the outputs Done, CommandAborted, Error, InVelocity and Status
 abbrev pub has_ended : Outputs → Bool
 has_ended o = o.done || o.aborted || o.error || o.reached

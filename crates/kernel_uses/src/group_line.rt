@@ -69,7 +69,7 @@ pub fn cycle_drives(kernel: &mut Kernel, drives: &mut [Drive]) -> Result<(), Not
     Ok(())
 }
 
-// Calls the line in every cycle until its outputs tell an end.
+// Calls the line in every cycle until its outputs give an end.
 #[tactic(auto, using(crate::proofs::Going::goes_further))]
 fn line_to_end(
     kernel: &mut Kernel,

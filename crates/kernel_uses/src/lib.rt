@@ -13,4 +13,4 @@ pub use drive_fault::{error_of_axis, reset_axis};
 pub use full_history::{NotMade, try_call, try_cycle};
 pub use group_line::{cycle_drives, draw_line, machine_of_a_group};
 pub use one_axis::{call_to_end, cycle_drive, last_row, machine_of_one_axis, move_axis, run_block};
-pub use written_trace::{judge_text, write_run};
+pub use written_trace::{verify_text, write_run};

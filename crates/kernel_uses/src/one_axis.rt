@@ -61,14 +61,14 @@ pub fn cycle_drive(kernel: &mut Kernel, drive: &mut Drive) -> Result<(), NotMade
     Ok(())
 }
 
-/// Whether a call's outputs tell that its command has come to its end or is reached.
+/// Whether a call's outputs say that its command has come to its end or is reached.
 pub fn has_ended(outputs: &Outputs) -> bool
     ensures { result ≡ spec.has_ended outputs.now }
 {
     outputs.done || outputs.aborted || outputs.error || outputs.reached
 }
 
-/// Calls a block in every cycle until its outputs tell an end, as a task does.
+/// Calls a block in every cycle until its outputs give an end, as a task does.
 #[tactic(auto, using(crate::proofs::Going::goes_further))]
 pub fn call_to_end(
     kernel: &mut Kernel,

@@ -1,7 +1,7 @@
-// A run's trace: it is written of the kernel's history, and whoever has it can judge it.
+// A run's trace: it is written of the kernel's history, and whoever has it can verify it.
 
 ghost use Rattle.std.specs.Prelude.{◌≡◌, ◌↔◌, IfOk, length, map};
-ghost use Rattle.kernel_uses.specs.Judged.{IsVerdictOn};
+ghost use Rattle.kernel_uses.specs.Verified.{IsVerdictOn};
 ghost use Rattle.machine_drives.specs.Drives.{drive_end};
 ghost use Rattle.motion_history.specs.Entries.{cycles_of};
 ghost use Rattle.motion_history.specs.declared.refused.TraceVersion.TheVariants.{Two};
@@ -49,7 +49,7 @@ pub fn write_run<K: Sink>(
 }
 
 // The verdict on a trace that was read.
-fn judge(alloc: Global, trace: &Trace) -> Result<Verdict, TextFault>
+fn verify(alloc: Global, trace: &Trace) -> Result<Verdict, TextFault>
     ensures { IfOk result (λ v.
         (v ≡ Verdict.Legal (length (entries_of trace.now))) ↔ IsLegalTrace trace.now) }
 {
@@ -59,13 +59,13 @@ fn judge(alloc: Global, trace: &Trace) -> Result<Verdict, TextFault>
     }
 }
 
-/// Reads a trace, and judges it: whether its machine made each of its entries, else the first
+/// Reads a trace, and verifies it: whether its machine made each of its entries, else the first
 /// record that differs.
-pub fn judge_text(alloc: Global, text: &[u8]) -> Result<Verdict, TextFault>
+pub fn verify_text(alloc: Global, text: &[u8]) -> Result<Verdict, TextFault>
     ensures { IfOk result (IsVerdictOn text.now) }
 {
     match read_trace(alloc, text) {
-        Ok(trace) => judge(alloc, &trace),
+        Ok(trace) => verify(alloc, &trace),
         Err(fault) => Err(fault),
     }
 }

@@ -30,7 +30,8 @@ module _ (ways : AreWays) where
       (cut_at_zero cut ≤ cut_at_zero wanted) × (cut_at_zero (neg_ℤ cut) ≤ cut_at_zero (neg_ℤ wanted)))
   cut_toward low high wanted inside cut above below is up down = (omega (arith, ints, clamps, cut_is ways), omega (arith, ints, clamps, cut_is ways))
 
-  -- a step upward that may follow, and whose way to rest by some braking within dmax ends below hi, is safe
+  -- a step upward that may follow, and whose way to rest by some braking within dmax ends below hi,
+  -- is safe
   fits_up : (limits : Limits) (before now step : ℤ) (d : ℕ) → AreLimits limits → IsKept limits before now → pos 0 ≤ℤ step → step ≤ℤ limits.vmax →
       (least_step_after limits (now -ℤ before) ≤ℤ step) × (step ≤ℤ greatest_step_after limits (now -ℤ before)) →
       d ≤ unsigned_abs limits.dmax → run_of (unsigned_abs step) d ≤ unsigned_abs (limits.hi -ℤ now) → IsSafe limits before now (now +ℤ step)
@@ -62,7 +63,8 @@ module _ (ways : AreWays) where
         down = reach_greatest _ _ _ some (rw size (omega (arith, run_anti (unsigned_abs step) d (unsigned_abs limits.dmax) gentle, fits)));
       })
 
-  -- a step upward by rates within the limits, whose way to rest by some braking fits below hi, is safe
+  -- a step upward by rates within the limits, whose way to rest by some braking fits below hi, is
+  -- safe
   pub up_is_safe : (limits : Limits) (before now step a d e : ℤ) → AreLimits limits → IsKept limits before now → a ≤ℤ limits.amax → d ≤ℤ limits.dmax →
       pos 0 ≤ℤ step → step ≤ℤ limits.vmax → (now -ℤ before -ℤ d) ≤ℤ step → step ≤ℤ (now -ℤ before +ℤ a) →
       pos 0 ≤ℤ e → e ≤ℤ limits.dmax → pos (run_of (unsigned_abs step) (unsigned_abs e)) ≤ℤ (limits.hi -ℤ now) → IsSafe limits before now (now +ℤ step)

@@ -1,4 +1,5 @@
--- From which pairs an axis can be stopped: exactly those whose way to rest, braking by dmax, fits on either side.
+-- From which pairs an axis can be stopped: exactly those whose way to rest, braking by dmax, fits
+-- on either side.
 use Rattle.std.proofs.Common.{◌↔◌, ◌≡◌, ℕ, ◌+◌, ◌-◌, ◌<◌, ◌≤◌, zero, suc, ℤ, pos, ◌+ℤ◌, ◌-ℤ◌, ◌≤ℤ◌, ◌<ℤ◌, unsigned_abs, List, [], ◌∷◌, inl, inr, refl, arith}
 use Rattle.std.proofs.lemmas.Int.{ints, clamps, by_lt_z}
 use Rattle.std.proofs.lemmas.Bool.{cases_lt}

@@ -5,7 +5,9 @@ use Rattle.motion_numbers.specs.declared.TheConstants.{MOST_STEP, MOST_WAY}
 use Rattle.motion_numbers.specs.Ranges.{IsPlace}
 use Rattle.kin_core.specs.declared.limits.Limits.{Limits}
 
--- the limits lie in the ranges that an axis or a group's path may have. PLCopen Motion Control Part 1, axis parameters SWLimitNeg, SWLimitPos, MaxVelocitySystem, MaxAccelerationSystem, MaxDecelerationSystem; the ranges are this project's profile
+-- the limits lie in the ranges that an axis or a group's path may have. PLCopen Motion Control Part
+-- 1, axis parameters SWLimitNeg, SWLimitPos, MaxVelocitySystem, MaxAccelerationSystem,
+-- MaxDecelerationSystem; the ranges are this project's profile
 pub record AreLimits (limits : Limits) : Type 0 where
   pub lo_in_range : IsPlace limits.lo
   pub ordered : limits.lo ≤ℤ limits.hi
@@ -16,12 +18,14 @@ pub record AreLimits (limits : Limits) : Type 0 where
   pub amax_within_dmax : limits.amax ≤ℤ limits.dmax
   pub dmax_in_range : limits.dmax ≤ℤ pos MOST_STEP
 
--- the least step that may follow the step `old`: it falls by dmax as far as zero, by amax past zero. This project's profile
+-- the least step that may follow the step `old`: it falls by dmax as far as zero, by amax past
+-- zero. This project's profile
 abbrev pub least_step_after : Limits → ℤ → ℤ
 least_step_after limits old =
     int_max (old -ℤ limits.dmax) (int_min (old -ℤ limits.amax) (pos 0))
 
--- the greatest step that may follow the step `old`: it rises by dmax as far as zero, by amax past zero. This project's profile
+-- the greatest step that may follow the step `old`: it rises by dmax as far as zero, by amax past
+-- zero. This project's profile
 abbrev pub greatest_step_after : Limits → ℤ → ℤ
 greatest_step_after limits old =
     int_min (old +ℤ limits.dmax) (int_max (old +ℤ limits.amax) (pos 0))
@@ -31,13 +35,15 @@ abbrev pub StepMayFollow : Limits → ℤ → ℤ → Type 0
 StepMayFollow limits old new =
     (least_step_after limits old ≤ℤ new) × (new ≤ℤ greatest_step_after limits old)
 
--- the same for an old step that isn't negative: from max(old - dmax, min(0, old - amax)) to old + amax. This project's profile
+-- the same for an old step that isn't negative: from max(old - dmax, min(0, old - amax)) to old +
+-- amax. This project's profile
 abbrev pub StepMayFollowAhead : Limits → ℤ → ℤ → Type 0
 StepMayFollowAhead limits old new =
     (int_max (old -ℤ limits.dmax) (int_min (pos 0) (old -ℤ limits.amax)) ≤ℤ new)
     × (new ≤ℤ (old +ℤ limits.amax))
 
--- the setpoint `next` may come after `before` and `now`: within lo and hi, no faster than vmax, and its step may follow the last step. This project's profile
+-- the setpoint `next` may come after `before` and `now`: within lo and hi, no faster than vmax, and
+-- its step may follow the last step. This project's profile
 pub record IsAdmissible (limits : Limits) (before now next : ℤ) : Type 0 where
   pub above : limits.lo ≤ℤ next
   pub below : next ≤ℤ limits.hi
@@ -45,7 +51,8 @@ pub record IsAdmissible (limits : Limits) (before now next : ℤ) : Type 0 where
   pub falls : least_step_after limits (now -ℤ before) ≤ℤ (next -ℤ now)
   pub rises : (next -ℤ now) ≤ℤ greatest_step_after limits (now -ℤ before)
 
--- the setpoints continue the pair admissibly, and the last one equals the one before it. This project's profile
+-- the setpoints continue the pair admissibly, and the last one equals the one before it. This
+-- project's profile
 abbrev pub StopsBy : Limits → ℤ → ℤ → List ℤ → Type 0
 StopsBy limits before now [] = ⊥
 StopsBy limits before now (next ∷ []) =
@@ -53,17 +60,20 @@ StopsBy limits before now (next ∷ []) =
 StopsBy limits before now (next ∷ later ∷ more) =
     IsAdmissible limits before now next × StopsBy limits now next (later ∷ more)
 
--- there is a finite list of setpoints that continues the pair admissibly and ends with the same setpoint twice. This project's profile
+-- there is a finite list of setpoints that continues the pair admissibly and ends with the same
+-- setpoint twice. This project's profile
 pub record IsStoppable (limits : Limits) (before now : ℤ) : Type 0 where
   pub setpoints : List ℤ
   pub stops : StopsBy limits before now setpoints
 
--- the setpoint `next` is admissible, and after it the axis can still be stopped. This project's profile
+-- the setpoint `next` is admissible, and after it the axis can still be stopped. This project's
+-- profile
 pub record IsSafe (limits : Limits) (before now next : ℤ) : Type 0 where
   pub admissible : IsAdmissible limits before now next
   pub stoppable : IsStoppable limits now next
 
--- the pair lies within the limits and can be stopped: what every cycle keeps. This project's profile
+-- the pair lies within the limits and can be stopped: what every cycle keeps. This project's
+-- profile
 pub record IsKept (limits : Limits) (before now : ℤ) : Type 0 where
   pub above : limits.lo ≤ℤ now
   pub below : now ≤ℤ limits.hi
@@ -76,7 +86,8 @@ pub record IsTakenStep (limits : Limits) (before now wanted step : ℤ) : Type 0
   pub nearest : (other : ℤ) → IsSafe limits before now (now +ℤ other) →
       unsigned_abs (step -ℤ wanted) ≤ unsigned_abs (other -ℤ wanted)
 
--- each setpoint is admissible after the two before it, and each pair of neighbours is kept. This project's profile
+-- each setpoint is admissible after the two before it, and each pair of neighbours is kept. This
+-- project's profile
 abbrev pub AllKept : Limits → ℤ → ℤ → List ℤ → Type 0
 AllKept limits before now [] = Unit {0}
 AllKept limits before now (next ∷ more) =

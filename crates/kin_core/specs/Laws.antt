@@ -6,7 +6,8 @@ use Rattle.kin_core.specs.Admissible.{AreLimits, IsAdmissible, IsSafe, IsKept, I
 use Rattle.kin_core.specs.Taken.{taken_step_of}
 use Rattle.kin_core.specs.Toward.{toward_zero}
 
--- a step in a direction, at most a above the step before it and at most d below, is safe where braking by e after it ends within the limits; a, d and e are at most theirs
+-- a step in a direction, at most a above the step before it and at most d below, is safe where
+-- braking by e after it ends within the limits; a, d and e are at most theirs
 pub record AreStepsAhead : Type 0 where
   -- upward
   pub upward : (limits : Limits) (before now step a d e : ℤ) →

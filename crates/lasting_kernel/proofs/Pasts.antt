@@ -1,4 +1,4 @@
--- What is kept of the past: at opening, with an entry more, and where a bank is handed over.
+-- What is kept of the past: at opening, with an entry more, and where a segment is handed over.
 use Rattle.std.specs.Prelude.{◌≡◌, refl, ℕ, ◌+◌, List, [], ◌∷◌, length}
 use Rattle.std.proofs.Common.{◌∙◌, ap, arith, length-append, subst, sym}
 use Rattle.std.proofs.lemmas.List.{length-map}
@@ -6,7 +6,7 @@ use Rattle.lasting_kernel.specs.Lasting.{HasPast, LastingState, after_hand_over,
 use Rattle.motion_history.specs.Entries.{Entry, call, cycle, cycles_of, end_of}
 use Rattle.motion_history.specs.Setup.{Setup}
 use Rattle.motion_history.proofs.HistoryLemmas.{cycles_of-append}
-use Rattle.motion_kernel.specs.Banks.{BankedState, counted_on, machine_now}
+use Rattle.motion_kernel.specs.Segments.{SegmentedState, counted_on, machine_now}
 use Rattle.motion_kernel.specs.Histories.{IsLegalFrom, IsPast, machine_from}
 use Rattle.motion_kernel.specs.Machine.{machine_at_opening}
 
@@ -29,24 +29,24 @@ unfolding machine_from
 opened-has k s e = subst HasPast (sym e) (record { past = record { follows = tt }; start = refl; entries = refl; cycles = refl })
 
 -- an entry more leaves the past
-pub entry-has : (k : LastingState) (b : BankedState) (e : Entry) → HasPast k → b ≡ (with_entry k e).kernel → HasPast (record k { kernel = b })
+pub entry-has : (k : LastingState) (b : SegmentedState) (e : Entry) → HasPast k → b ≡ (with_entry k e).kernel → HasPast (record k { kernel = b })
 entry-has k b e has same =
-    subst (λ (x : BankedState). HasPast (record k { kernel = x })) (sym same)
+    subst (λ (x : SegmentedState). HasPast (record k { kernel = x })) (sym same)
     (record { past = has.past; start = has.start; entries = has.entries; cycles = has.cycles })
 
--- the bank is legal from the machine to which the past leads
+-- the segment is legal from the machine to which the past leads
 pub legal-behind : (k : LastingState) → HasPast k → IsLegalFrom k.kernel.config k.kernel.start k.kernel.history →
     IsLegalFrom k.kernel.config (machine_from k.kernel.config (machine_at_opening k.kernel.config) k.past) k.kernel.history
 legal-behind k has = subst (λ m. IsLegalFrom k.kernel.config m k.kernel.history) has.start
 
--- the machine is that to which all entries lead, where banks join
+-- the machine is that to which all entries lead, where segments join
 pub machine-behind : (k : LastingState) → HasPast k →
     machine_from k.kernel.config (machine_at_opening k.kernel.config) (whole_of k)
     ≡ machine_from k.kernel.config (machine_from k.kernel.config (machine_at_opening k.kernel.config) k.past) k.kernel.history →
     machine_now k.kernel ≡ machine_from k.kernel.config (machine_at_opening k.kernel.config) (whole_of k)
 machine-behind k has join = ap (λ m. machine_from k.kernel.config m k.kernel.history) has.start ∙ sym join
 
--- all entries so far are the past of a kernel that gave its bank out
+-- all entries so far are the past of a kernel that gave its segment out
 pub hand-over-has : (k : LastingState) → HasPast k → IsPast k.kernel.config (whole_of k) →
     machine_now k.kernel ≡ machine_from k.kernel.config (machine_at_opening k.kernel.config) (whole_of k) → HasPast (after_hand_over k)
 hand-over-has k has past machine = record {

@@ -6,7 +6,7 @@ ghost use Rattle.lasting_kernel.specs.Lasting.{HasPast, after_hand_over, opened,
 ghost use Rattle.motion_history.specs.Calls.{IsCall};
 ghost use Rattle.motion_history.specs.Entries.{call, cycle, cycles_of, end_of};
 ghost use Rattle.motion_history.specs.Setup.{IsSetup};
-ghost use Rattle.motion_kernel.specs.Banks.{IsEarly, machine_now};
+ghost use Rattle.motion_kernel.specs.Segments.{IsEarly, machine_now};
 ghost use Rattle.motion_kernel.specs.calls.Calls.{reply_of};
 ghost use Rattle.motion_kernel.specs.cycles.Cycles.{cycled};
 ghost use Rattle.motion_kernel.specs.Histories.{IsPast, machine_from};
@@ -14,21 +14,22 @@ ghost use Rattle.motion_kernel.specs.kept.Machine.{AreWhole};
 ghost use Rattle.motion_kernel.specs.Machine.{machine_at_opening};
 ghost use Rattle.motion_laws.specs.Laws.{KeepsLaws};
 
+use crate::kernel_with_past::KernelWithPast;
 use crate::past::Past;
-use crate::roll::Roll;
 use motion_history::{Config, DriveIn, DriveOut, Inputs, OutOfMemory, Outputs};
-use motion_kernel::BankedKernel;
-use motion_laws::banks_keep_their_laws;
+use motion_kernel::SegmentedKernel;
+use motion_laws::segments_keep_their_laws;
 use std::alloc::Global;
 use std::marker::Model;
 use std::mem::replace;
 
-/// A kernel that runs for as long as one likes: it holds the last bank of its history, and hands it
-/// over, full or not, where its caller says so. Contracts see it as a kernel with all that was before its bank, which is
-/// the machine's from opening on and leads to the machine with which the bank begins.
+/// A kernel that runs for as long as one likes: it holds the last segment of its history, and hands
+/// it over, full or not, where its caller says so. Contracts see it as a kernel with all that was
+/// before its segment, which is the machine's from opening on and leads to the machine with which
+/// the segment begins.
 #[derive(Drop)]
 pub struct LastingKernel {
-    roll: Roll,
+    kernel_with_past: KernelWithPast,
 }
 
 impl Model for LastingKernel {
@@ -36,30 +37,30 @@ impl Model for LastingKernel {
 
     ghost Value = { LastingState };
 
-    ghost view = { λ k. record { kernel = k.roll.kernel; past = k.roll.past.entries } };
+    ghost view = { λ k. record { kernel = k.kernel_with_past.kernel; past = k.kernel_with_past.past.entries } };
 
     ghost invariant = { λ k.
-        HasPast (record { kernel = k.roll.kernel; past = k.roll.past.entries }) };
+        HasPast (record { kernel = k.kernel_with_past.kernel; past = k.kernel_with_past.past.entries }) };
 }
 
 impl LastingKernel {
-    /// A kernel at rest, with the whole room of its bank reserved.
+    /// A kernel at rest, with the whole room of its segment reserved.
     pub fn open(alloc: Global, config: Config) -> Result<LastingKernel, OutOfMemory>
         ensures { IfOk result (λ k. k ≡ opened config) }
     {
-        let kernel = BankedKernel::open(alloc, config)?;
+        let kernel = SegmentedKernel::open(alloc, config)?;
         let past = Past::none(&kernel);
         Ok(LastingKernel {
-            roll: Roll { past, kernel },
+            kernel_with_past: KernelWithPast { past, kernel },
         })
     }
 
-    /// Touches the memory of the bank's whole room, so that no call and no cycle pays for its
+    /// Touches the memory of the segment's whole room, so that no call and no cycle pays for its
     /// pages.
     pub fn touch(&mut self)
         ensures { self.new ≡ self.old }
     {
-        self.roll.kernel.touch();
+        self.kernel_with_past.kernel.touch();
     }
 
     /// Calls a block, and answers its outputs.
@@ -70,7 +71,7 @@ impl LastingKernel {
             instance inputs.now }
         ensures after { self.new ≡ with_entry self.old (call instance inputs.now result) }
     {
-        self.roll.kernel.call(instance, inputs)
+        self.kernel_with_past.kernel.call(instance, inputs)
     }
 
     /// Goes through a cycle with the drives' answers, and gives each drive its controlword, mode
@@ -87,7 +88,7 @@ impl LastingKernel {
             (cycled self.old.kernel.config (machine_now self.old.kernel) ins.now).axes
             (cycled self.old.kernel.config (machine_now self.old.kernel) ins.now).groups) }
     {
-        self.roll.kernel.cycle(ins, outs);
+        self.kernel_with_past.kernel.cycle(ins, outs);
     }
 
     /// Ends a task. A second end of a task makes an entry and changes nothing else.
@@ -96,32 +97,34 @@ impl LastingKernel {
         requires task { task < length self.old.kernel.config.tasks }
         ensures { self.new ≡ with_entry self.old (end_of task) }
     {
-        self.roll.kernel.end(task);
+        self.kernel_with_past.kernel.end(task);
     }
 
-    /// The kernel with its bank, to look at: its configuration, its history and the room that is
-    /// left, what was before the bank and the machine with which that begins.
-    pub fn bank(&self) -> &BankedKernel
+    /// The kernel with its segment, to look at: its configuration, its history and the room that is
+    /// left, what was before the segment and the machine with which that begins.
+    pub fn segment(&self) -> &SegmentedKernel
         ensures { result.now ≡ self.now.kernel }
     {
-        &self.roll.kernel
+        &self.kernel_with_past.kernel
     }
 
-    /// Hands its bank over to another kernel of the same configuration, which then is what this one
-    /// was, and goes on with an empty one. It takes no memory, and as long whatever the banks hold.
-    /// What was before must be early ([`motion_kernel::Before::is_early`]).
+    /// Hands its segment over to another kernel of the same configuration, which then is what this
+    /// one was, and goes on with an empty one. It takes no memory, and as long whatever the
+    /// segments hold. What was before must be early ([`motion_kernel::Before::is_early`]).
     pub fn hand_over(&mut self, other: &mut LastingKernel)
         requires early { IsEarly self.old.kernel.before }
         requires same { other.old.kernel.config ≡ self.old.kernel.config }
         ensures other { other.new ≡ self.old }
         ensures kernel { self.new ≡ after_hand_over self.old }
     {
-        // law: the bank behind the entries before it is one past, since it is legal
-        banks_keep_their_laws();
-        let _ = self.roll.kernel.history();
-        let joined = Past::joined(&self.roll);
-        self.roll.kernel.hand_over(&mut other.roll.kernel);
-        other.roll.past = replace(&mut self.roll.past, joined);
+        // law: the segment after the entries before it is one past, since it is legal
+        segments_keep_their_laws();
+        let _ = self.kernel_with_past.kernel.history();
+        let joined = Past::joined(&self.kernel_with_past);
+        self.kernel_with_past
+            .kernel
+            .hand_over(&mut other.kernel_with_past.kernel);
+        other.kernel_with_past.past = replace(&mut self.kernel_with_past.past, joined);
     }
 
     /// All entries so far, from opening on, keep the laws of motion, and the kernel is the machine
@@ -135,8 +138,8 @@ impl LastingKernel {
         ensures setup { IsSetup self.now.kernel.config }
         ensures whole { AreWhole self.now.kernel.config }
     {
-        // law: banks that follow each other are one past
-        banks_keep_their_laws();
-        let _ = self.roll.kernel.history();
+        // law: segments that follow each other are one past
+        segments_keep_their_laws();
+        let _ = self.kernel_with_past.kernel.history();
     }
 }

@@ -1,13 +1,13 @@
-// All that was before a bank.
+// All that was before a segment.
 
 ghost use Rattle.std.specs.Prelude.{List};
 ghost use Rattle.motion_history.specs.Entries.{Entry};
 
-use crate::roll::Roll;
-use motion_kernel::BankedKernel;
+use crate::kernel_with_past::KernelWithPast;
+use motion_kernel::SegmentedKernel;
 use std::marker::{Model, PhantomData};
 
-/// All entries before a bank. Contracts alone see them: none is in memory, and it has no bytes.
+/// All entries before a segment. Contracts alone see them: none is in memory, and it has no bytes.
 /// Only `none` and `joined` make one.
 pub(crate) struct Past {
     marker: PhantomData<u8>,
@@ -29,10 +29,10 @@ impl Drop for Past {
 impl Past {
     ghost use Rattle.std.specs.Prelude.{◌≡◌, ◌++◌, []};
     ghost use Rattle.motion_history.specs.Entries.{cycles_of};
-    ghost use Rattle.motion_kernel.specs.Banks.{counted_on};
+    ghost use Rattle.motion_kernel.specs.Segments.{counted_on};
 
-    /// Nothing was before the bank of this kernel.
-    pub(crate) fn none(of: &BankedKernel) -> Past
+    /// Nothing was before the segment of this kernel.
+    pub(crate) fn none(of: &SegmentedKernel) -> Past
         ensures { result.entries ≡ [] }
     {
         let _ = of;
@@ -41,8 +41,8 @@ impl Past {
         }
     }
 
-    /// The entries before a bank, and the bank's behind them, their cycles counted on.
-    pub(crate) fn joined(of: &Roll) -> Past
+    /// The entries before a segment, and the segment's after them, their cycles counted on.
+    pub(crate) fn joined(of: &KernelWithPast) -> Past
         ensures { result.entries ≡
             of.now.past.entries ++
             counted_on (cycles_of of.now.past.entries) of.now.kernel.history }

@@ -1,4 +1,4 @@
--- The first line of a text, and those behind it.
+-- The first line of a text, and those after it.
 use Rattle.std.proofs.Common.{◌≡◌, refl, ℕ, ◌+◌, ◌<◌, ◌≤◌, List, [], ◌∷◌, ◌++◌, Some, None, length, take, drop, ◌∙◌, ◌==◌, arith, true, false, Bool, inl, inr}
 use Rattle.std.specs.Prelude.{nat_lt, suc}
 use Rattle.std.proofs.Common.{eqb}
@@ -37,7 +37,7 @@ pub without_empty_end-cons : (part : List ℕ) (parts : List (List ℕ)) → 1 �
 without_empty_end-cons part [] h = absurd (omega arith)
 without_empty_end-cons part (next ∷ parts) h = refl
 
--- an LF ends the first line, and the others stand behind it
+-- an LF ends the first line, and the others stand after it
 pub lines_of-first : (text : List ℕ) (i : ℕ) → position is_end text ≡ Some i → lines_of text ≡ take i text ∷ lines_of (drop (i + 1) text)
 unfolding lines_of
 lines_of-first text i h =

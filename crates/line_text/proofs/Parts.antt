@@ -1,4 +1,4 @@
--- The parts of a line, as a pass over its bytes tells them.
+-- The parts of a line, as a pass over its bytes gives them.
 use Rattle.std.proofs.Common.{◌≡◌, ℕ, ◌+◌, ◌-◌, ◌<◌, ◌≤◌, Bool, true, List, [], ◌∷◌, ◌++◌, length, take, drop, get_or, refl, sym, ap, subst, ◌∙◌, arith, inl, inr}
 use Rattle.std.specs.Prelude.{◌==◌, ◌&&◌}
 use Rattle.std.specs.List.{before_first, filter, list_all, slice_split}
@@ -48,14 +48,14 @@ part-last w rest plain none =
 
 -- ---- byte by byte
 
--- what is left from the part on is the part and what stands behind it
+-- what is left from the part on is the part and what stands after it
 cut : (line : List ℕ) (start place : ℕ) → start ≤ place → place ≤ length line → drop start line ≡ part line start place ++ drop place line
 cut line start place before within =
     let behind : drop (place - start) (drop start line) ≡ drop place line =
     let at : start + (place - start) ≡ place = omega arith in drop-drop (place - start) start line ∙ ap (λ n. drop n line) at in
     sym (take-append-drop (place - start) (drop start line)) ∙ ap (λ ys. part line start place ++ ys) behind
 
--- the byte at a place stands before those behind it
+-- the byte at a place stands before those after it
 next : (line : List ℕ) (place : ℕ) → place < length line → drop place line ≡ get_or line place 0 ∷ drop (place + 1) line
 next line place within = grind (arith, common_steps)
 

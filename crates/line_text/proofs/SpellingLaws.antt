@@ -11,7 +11,7 @@ use Rattle.line_text.proofs.LineLaws.{one_part, without_empty_end-cons}
 
 -- ---- parts
 
--- items that all fail a test, and one behind them that passes
+-- items that all fail a test, and one after them that passes
 pub split-at : (p : ℕ → Bool) (xs : List ℕ) (y : ℕ) (ys : List ℕ) → list_all (λ b. not (p b)) xs ≡ true → p y ≡ true →
     slice_split p (xs ++ y ∷ ys) ≡ xs ∷ slice_split p ys
 split-at p [] y ys h here = slice_split-cons_yes p y ys here

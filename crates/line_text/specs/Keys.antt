@@ -3,7 +3,7 @@
 use Rattle.std.specs.Prelude.{ℕ, nat_eq, if◌then◌else◌, Option, Some, None, List, [], ◌∷◌, length, drop}
 use Rattle.std.specs.List.{starts_with}
 
--- the value of a key at the front of the words, and the words behind it; where the front word is
+-- the value of a key at the front of the words, and the words after it; where the front word is
 -- not the key's, there is none, and all the words are left. The key ends in `=`
 unfoldable pub value_at : List ℕ → List (List ℕ) → Option (List ℕ) × List (List ℕ)
 value_at key [] = (None, [])

@@ -16,7 +16,7 @@ size_of digits =
     nat_le (digits_value 10 digits) 1000000000000000000
     then Some (digits_value 10 digits) else None
 
--- a number: its size, behind a minus where it is negative
+-- a number: its size, after a minus where it is negative
 unfoldable pub number_of : List ℕ → Option ℤ
 number_of word =
     size_of (without_minus word) >>= λ size. Some (with_sign (is_negative word) size)
@@ -25,7 +25,7 @@ number_of word =
 abbrev pub is_colon : ℕ → Bool
 is_colon b = b == 58
 
--- a point X:Y: the numbers before its first colon and behind it
+-- a point X:Y: the numbers before its first colon and after it
 unfoldable pub point_of : List ℕ → Option (ℤ × ℤ)
 point_of word =
     position is_colon word >>= λ colon. number_of (take colon word) >>= λ x.

@@ -20,7 +20,7 @@ abbrev pub each_of : {A B E : Type 0} → (A → Result B E) → List A → Resu
 each_of read [] = Ok []
 each_of read (x ∷ xs) = read x >>= λ y. each_of read xs >>= λ ys. Ok (y ∷ ys)
 
--- what words mean where a reader stands: where it stands behind them, or the rule that they break
+-- what words mean where a reader stands: where it stands after them, or the rule that they break
 abbrev pub Meaning : Type 0 → Type 0
 Meaning S = S → List (List ℕ) → Result S ℕ
 
@@ -35,7 +35,7 @@ abbrev pub at_line : {S : Type 0} → ℕ → Result S ℕ → Result S LineRefu
 at_line number (Ok s) = Ok s
 at_line number (Err rule) = Err (record { line = number; rule = rule })
 
--- what lines mean one after another, so many lines in: the first that breaks a rule is refused
+-- what lines mean one after another, this many lines in: the first that breaks a rule is refused
 abbrev pub lines_meaning : {S : Type 0} → Meaning S → ℕ → S → List (List ℕ) → Result S LineRefused
 lines_meaning meaning before s [] = Ok s
 lines_meaning meaning before s (text ∷ more) =
@@ -59,15 +59,15 @@ Gives view meaning (Ok x) = meaning ≡ Ok (view x)
 Gives view meaning (Err (line.Rule number)) = meaning ≡ Err number
 Gives view meaning (Err line.OutOfMemory) = Unit {0}
 
--- words are taken: by what they mean the reader stands now there, or the rule is told; or memory
--- ran out
+-- words are taken: by what they mean the reader stands now there, or the rule is reported; or
+-- memory ran out
 abbrev pub Takes : {S : Type 0} → Result S ℕ → S → Result (Unit {0}) LineFault → Type 0
 Takes meaning new (Ok u) = meaning ≡ Ok new
 Takes meaning new (Err (line.Rule number)) = meaning ≡ Err number
 Takes meaning new (Err line.OutOfMemory) = Unit {0}
 
 -- the lines of a text are taken: by what it means the reader stands now there, and the number of
--- the last line is told; or the place is told; or memory ran out
+-- the last line is reported; or the place is reported; or memory ran out
 abbrev pub TakesText : {S : Type 0} → Result S LineRefused → ℕ → S → Result ℕ LinesFault → Type 0
 TakesText meaning last new (Ok told) = (meaning ≡ Ok new) × (told ≡ last)
 TakesText meaning last new (Err (lines.Refused place)) = meaning ≡ Err place

@@ -31,7 +31,7 @@ abbrev pub EndsWord : List ℕ → Type 0
 EndsWord [] = Unit {0}
 EndsWord (b ∷ line) = IsTrue (is_blank b || is_comment b)
 
--- a line spells words: blanks stand before, between and behind them, and a comment at the end
+-- a line spells words: blanks stand before, between and after them, and a comment at the end
 pub data SpellsWords : List ℕ → List (List ℕ) → Type 0 where
   nothing : SpellsWords [] []
   comment : (b : ℕ) (line : List ℕ) → IsTrue (is_comment b) → SpellsWords (b ∷ line) []

@@ -6,7 +6,7 @@ ghost use Rattle.std.specs.Option.{option_map};
 ghost use Rattle.line_text.specs.Keys as spec;
 ghost use Rattle.line_text.specs.Texts.{texts};
 
-/// The value of a key at the front of the words, and the words behind it. Where the front word is
+/// The value of a key at the front of the words, and the words after it. Where the front word is
 /// not the key's, all the words are left. The key ends in `=`.
 #[tactic(auto, unfolding(crate::specs::Keys::value_at))]
 pub fn value_at<'a, 'b>(key: &[u8], words: &'b [&'a [u8]]) -> (Option<&'a [u8]>, &'b [&'a [u8]])
@@ -22,7 +22,7 @@ pub fn value_at<'a, 'b>(key: &[u8], words: &'b [&'a [u8]]) -> (Option<&'a [u8]>,
     }
 }
 
-// What stands behind a key in a word that begins with it.
+// What stands after a key in a word that begins with it.
 fn text_behind<'a>(key: &[u8], word: &'a [u8]) -> Option<&'a [u8]>
     ensures { option_map (λ v. v.now) result ≡ (if starts_with nat_eq word.now key.now
         then Some (drop (length key.now) word.now) else None) }

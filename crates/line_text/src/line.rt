@@ -5,7 +5,7 @@ ghost use Rattle.line_text.specs.Lines.{lines_of};
 
 use crate::word::place_of;
 
-/// The first line of a text that isn't empty, without the LF that ends it, and the text behind it.
+/// The first line of a text that isn't empty, without the LF that ends it, and the text after it.
 pub fn first_line(text: &[u8]) -> (&[u8], &[u8])
     requires { 1 ≤ length text.now }
     ensures lines { lines_of text.now ≡ result.0.now ∷ lines_of result.1.now }

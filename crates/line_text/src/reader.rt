@@ -33,7 +33,7 @@ pub enum LinesFault {
 
 /// What reads the lines of a text, one after another.
 pub trait LineReader {
-    // What words mean where the reader stands: where it stands behind them, or the rule that they
+    // What words mean where the reader stands: where it stands after them, or the rule that they
     // break.
     ghost meaning: { Meaning Self };
 

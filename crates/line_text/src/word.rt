@@ -47,7 +47,7 @@ pub fn words_of(alloc: Global, line: &[u8]) -> Result<Vec<&[u8]>, AllocError>
     Ok(words)
 }
 
-/// Puts the words of a line in place of those before, and tells whether the line is clean.
+/// Puts the words of a line in place of those before, and says whether the line is clean.
 pub(crate) fn read_words<'a>(line: &'a [u8], words: &mut Vec<&'a [u8]>) -> Result<bool, AllocError>
     ensures clean { IfOk result (λ clean. clean ≡ spec.is_clean line.now) }
     ensures words { OnOk result (texts words.new.items ≡ spec.words_of line.now) }
@@ -74,7 +74,7 @@ pub(crate) fn read_words<'a>(line: &'a [u8], words: &mut Vec<&'a [u8]>) -> Resul
     Ok(clean & is_clean(&line[end..]))
 }
 
-// Puts a part of a line behind the words, where it has a byte.
+// Puts a part of a line after the words, where it has a byte.
 fn push_part<'a>(part: &'a [u8], words: &mut Vec<&'a [u8]>) -> Result<(), AllocError>
     ensures { OnOk result (texts words.new.items ≡
         texts words.old.items ++ filter spec.is_word (part.now ∷ [])) }

@@ -8,7 +8,7 @@ use Rattle.kin_core.specs.Admissible.{AreLimits}
 abbrev pub standing_limits : Limits
 standing_limits = record { lo = pos 0; hi = pos 0; vmax = pos 1; amax = pos 1; dmax = pos 1 }
 
--- what stands behind the end of a list of limits
+-- what stands after the end of a list of limits
 abbrev pub no_limits : Limits
 no_limits = record { lo = pos 0; hi = pos 0; vmax = pos 0; amax = pos 0; dmax = pos 0 }
 
@@ -21,7 +21,7 @@ pub record AreAxisLimits (limits : Limits) : Type 0 where
   pub ranges : AreLimits limits
   pub gains : pos 2 ≤ℤ limits.amax
 
--- limits for so many axes, one for each
+-- limits for this many axes, one for each
 pub record AreAxesLimits (count : ℕ) (limits : List Limits) : Type 0 where
   pub one_each : length limits ≡ count
   pub each : (axis : ℕ) → axis < count → AreAxisLimits (limits_at limits axis)

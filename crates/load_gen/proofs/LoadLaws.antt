@@ -56,7 +56,7 @@ drawn-below n k x some = mod_below _ k some
 
 -- ---- the calls
 
--- a list of one number and zeros is 0 behind its first
+-- a list of one number and zeros is 0 after its first
 place-small : (p : ℤ) (n : ℕ) → unsigned_abs p ≤ MOST_NUMBER →
     unsigned_abs (slice_index_or (p ∷ replicate 5 (pos 0)) n (pos 0)) ≤ MOST_NUMBER
 place-small p zero small = small

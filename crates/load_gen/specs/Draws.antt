@@ -14,7 +14,7 @@ increment = 1442695040888963407
 abbrev pub next_state : ℕ → ℕ
 next_state x = (x * multiplier + increment) % 2 ^ 64
 
--- the state after so many draws
+-- the state after this many draws
 abbrev pub state_after : ℕ → ℕ → ℕ
 state_after zero x = x
 state_after (suc n) x = state_after n (next_state x)

@@ -28,7 +28,7 @@ round_from x = record {
   mode = slice_index_or modes (drawn 7 6 x) Aborting;
 }
 
--- so many rounds from a state on, of seven draws each
+-- this many rounds from a state on, of seven draws each
 unfoldable pub rounds_from : ℕ → ℕ → List Round
 rounds_from zero x = []
 rounds_from (suc n) x = round_from x ∷ rounds_from n (state_after 7 x)

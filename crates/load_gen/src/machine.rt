@@ -22,7 +22,7 @@ const LIMITS: Limits = Limits {
     dmax: 10_000,
 };
 
-/// The machine. Nothing but want of memory is in its way.
+/// The machine. Nothing but out of memory is in its way.
 #[tactic(auto, unfolding(crate::specs::Machine::machine))]
 pub fn machine(alloc: Global) -> Result<Config, ConfigFault>
     ensures ok { IfOk result (λ c. c ≡ spec.machine) }

@@ -1,4 +1,4 @@
--- What the line of a generated load tells. This project's profile.
+-- What the line of a generated load gives. This project's profile.
 use Rattle.std.specs.Prelude.{ℕ, ℤ, pos, ◌+ℤ◌, Bool, false, ◌&&◌, nat_le, codes, decimal, Option, Some, None, List, [], ◌∷◌, count_by, length}
 use Rattle.std.specs.Fmt.{signed_decimal}
 use Rattle.std.specs.List.{concat}

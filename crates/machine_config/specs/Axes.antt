@@ -19,7 +19,7 @@ use Rattle.machine_config.specs.declared.key.Key.TheVariants.{Amax, Dmax, Hi, In
 use Rattle.machine_config.specs.declared.machine.Machine.{Machine}
 use Rattle.machine_config.specs.RuleNumbers.{wrong_key}
 
--- the limits of an axis in a cycle of so many microseconds: places in internal units, and from
+-- the limits of an axis in a cycle of this many microseconds: places in internal units, and from
 -- rates per second and per second squared the steps per cycle and their changes, rounded down. It
 -- brakes as it speeds up where dmax is left out
 unfoldable pub limits_of : ℕ → Members → Result Limits ℕ

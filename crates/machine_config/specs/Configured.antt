@@ -27,17 +27,17 @@ use Rattle.machine_config.specs.declared.item.ItemKind.TheVariants as kind
 use Rattle.machine_config.specs.declared.key.Key.TheVariants.{Amax, Axes, Cycles, CycleUs, Dmax, Entries, Faults, Hi, Increment, Lag, Lo, Name, Points, Ready, Start, Vmax}
 use Rattle.machine_config.specs.declared.machine.Machine.{Machine}
 
--- a text spells so many internal units, at most 10^18
+-- a text spells this many internal units, at most 10^18
 pub record IsDecimal (text : List ℕ) (units : ℤ) : Type 0 where
   pub spells : Spells text units
   pub small : unsigned_abs units ≤ 1000000000000000000
 
--- an integer of user units is so many internal units, at most 10^18
+-- an integer of user units is this many internal units, at most 10^18
 pub record IsWhole (z units : ℤ) : Type 0 where
   pub value : units ≡ z *ℤ pos 1000000000
   pub small : unsigned_abs units ≤ 1000000000000000000
 
--- what is given is a quantity of so many internal units: a text, or an integer
+-- what is given is a quantity of this many internal units: a text, or an integer
 abbrev pub IsQuantity : Option Data → ℤ → Type 0
 IsQuantity (Some (string text)) units = IsDecimal text units
 IsQuantity (Some (integer z)) units = IsWhole z units
@@ -111,7 +111,7 @@ pub record AddsGroup (m : Machine) (table : Members) (n : Machine) : Type 0 wher
     };
   }
 
--- a text X:Y is this point, a decimal before its first colon and one behind it
+-- a text X:Y is this point, a decimal before its first colon and one after it
 pub record IsPoint (text : List ℕ) (point : ℤ × ℤ) : Type 0 where
   pub colon : IsTrue (list_any is_colon text)
   pub x : IsDecimal (before_first is_colon text) point.0

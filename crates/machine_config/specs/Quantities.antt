@@ -42,7 +42,7 @@ point_at x y = do
   above ← decimal_units no_quantity y
   Ok (there, above)
 
--- a point X:Y, the quantities before the first colon and behind it
+-- a point X:Y, the quantities before the first colon and after it
 unfoldable pub point_of : List ℕ → Result (ℤ × ℤ) ℕ
 point_of text = do
   _ ← broken_unless (list_any is_colon text) no_quantity

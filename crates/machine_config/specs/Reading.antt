@@ -39,16 +39,16 @@ item_meaning m kind.Axis table = axis_meaning m table
 item_meaning m kind.Group table = group_meaning m table
 item_meaning m kind.Table table = table_meaning m table
 
--- a rule is broken at a place, which is told by the letter C
+-- a rule is broken at a place, which is reported by the letter C
 abbrev pub refused_at : ℕ → ℕ → TextRefused
 refused_at place rule = record { place = place; rule = record { letter = 67; number = rule } }
 
--- a reading whose rule, where one is broken, is told at a place
+-- a reading whose rule, where one is broken, is reported at a place
 abbrev pub at_place : {A : Type 0} → ℕ → Result A ℕ → Result A TextRefused
 at_place place (Ok x) = Ok x
 at_place place (Err rule) = Err (refused_at place rule)
 
--- what items make of a machine one after another, so many places in: the first that breaks a rule
+-- what items make of a machine one after another, this many places in: the first that breaks a rule
 -- is refused
 abbrev pub items_meaning : ℕ → Machine → List (ItemKind × Members) → Result Machine TextRefused
 items_meaning before m [] = Ok m
@@ -88,12 +88,13 @@ Reads view reading (Ok x) = reading ≡ Ok (view x)
 Reads view reading (Err (Refused r)) = reading ≡ Err r
 Reads view reading (Err OutOfMemory) = Unit {0}
 
--- how a fault is told at a place
+-- how a fault is reported at a place
 abbrev pub told_at : ℕ → LineFault → TextFault
 told_at place (line.Rule number) = Refused (refused_at place number)
 told_at place line.OutOfMemory = OutOfMemory
 
--- items are taken: the machine is now what they make of it, or the place is told; or memory ran out
+-- items are taken: the machine is now what they make of it, or the place is reported; or memory ran
+-- out
 abbrev pub TakesItems : Result Machine TextRefused → Machine → Result (Unit {0}) TextFault → Type 0
 TakesItems reading new (Ok u) = reading ≡ Ok new
 TakesItems reading new (Err (Refused r)) = reading ≡ Err r

@@ -52,7 +52,7 @@ pub fn add_axis(alloc: Global, machine: &mut Machine, table: &Table) -> Result<(
     }
 }
 
-// The limits of an axis in a cycle of so many microseconds.
+// The limits of an axis in a cycle of this many microseconds.
 #[tactic(auto, unfolding(crate::specs::Axes::limits_of))]
 fn limits_of(cycle_us: u32, table: &Table) -> Result<Limits, LineFault>
     requires shortest { 100 ≤ cycle_us }

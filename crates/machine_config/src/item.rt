@@ -39,7 +39,7 @@ pub fn items_of(alloc: Global, top: &Table) -> Result<Vec<(ItemKind, &Table)>, A
     Ok(items)
 }
 
-// Puts the tables among values behind the items, as items of this kind.
+// Puts the tables among values after the items, as items of this kind.
 fn push_items<'a>(
     items: &mut Vec<(ItemKind, &'a Table)>,
     kind: ItemKind,

@@ -46,7 +46,7 @@ abbrev pub drives_after : ℕ → List DriveSim → List Entry → List DriveSim
 drives_after n [] es = []
 drives_after n (d ∷ ds) es = drive_after d (outputs_in n es) ∷ drives_after (suc n) ds es
 
--- what a drive took by the end: an output in each of so many cycles; and where it is then. This
+-- what a drive took by the end: an output in each of this many cycles; and where it is then. This
 -- project's profile
 abbrev pub drive_end : ℕ → DriveSim → DriveEndRow
 drive_end cycles d = record { taken = cycles; state = d.state; actual = d.actual }

@@ -98,7 +98,7 @@ number-taken read small t default (Some text) z few none h = record {
   size = small text z h;
 }
 
--- positions: each is small, and behind the axes they are 0
+-- positions: each is small, and after the axes they are 0
 pub record ArePositions (axes : ℕ) (ps : List ℤ) : Type 0 where
   pub small : (n : ℕ) → IsSmall (slice_index_or ps n (pos 0))
   pub few : (n : ℕ) → axes ≤ n → slice_index_or ps n (pos 0) ≡ pos 0

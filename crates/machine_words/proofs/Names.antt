@@ -40,7 +40,7 @@ block-within s name n h = position-within _ s.blocks n h
 
 -- ---- where names differ
 
--- what stands behind others differs too
+-- what stands after others differs too
 distinct-behind : {K : Type 0} (e : K → K → Bool) (xs ys : List K) → IsDistinct e (xs ++ ys) → IsDistinct e ys
 distinct-behind e [] ys d = d
 distinct-behind e (x ∷ xs) ys d = distinct-behind e xs ys (IsDistinct-tail e x (xs ++ ys) d)

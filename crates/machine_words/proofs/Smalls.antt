@@ -47,7 +47,7 @@ quantity-small small text z h =
       | inr other ↦ let e : Err no_value ≡ Ok z = rw other at h in absurd (cc)
     ]
 
--- a size that is spread over so many parts
+-- a size that is spread over this many parts
 spread-small : (b : Bool) (u c m : ℕ) → u ≤ 10 ^ 18 → c ≤ m → IsSmall (with_sign b (u * c / m))
 spread-small b u c m few less =
     let product : u * c ≤ m * 10 ^ 18 = subst (λ p. p ≤ m * 10 ^ 18) (mul_comm c u) (mul-le c u m (10 ^ 18) less few) in

@@ -15,7 +15,7 @@ use Rattle.machine_words.specs.Tables.{refusal_by, table_added}
 use Rattle.machine_words.specs.declared.rule.ItemRules.{ItemRules}
 use Rattle.line_text.proofs.Results.{bind_ok, ok_is}
 
--- the test tells cam tables
+-- the test recognises cam tables
 abbrev pub AreTold : Type 0
 AreTold = (points : List (ℤ × ℤ)) → (is_cam_table points ≡ true) ↔ IsCamTable points
 
@@ -66,7 +66,7 @@ table-refused told none rules s new points TooMany is =
 table-refused told none rules s new points TooFew is = absurd (is (λ e. absurd (cc)))
 table-refused told none rules s new points OutOfMemory is = tt
 
--- a table that is added stands behind the others
+-- a table that is added stands after the others
 pub table_added-is : (rules : ItemRules) (s u : Setup) (points : List (ℤ × ℤ)) → table_added rules s points ≡ Ok u → u ≡ record s { tables = s.tables ++ points ∷ [] }
 unfolding table_added
 table_added-is rules s u points h =

@@ -1,4 +1,4 @@
--- Small numbers, and zeros behind them.
+-- Small numbers, and zeros after them.
 use Rattle.std.proofs.Common.{◌≡◌, ℕ, zero, suc, ◌-◌, ◌≤◌, ℤ, List, [], ◌∷◌, ◌++◌, length, drop, refl, ap, arith, lit≤}
 use Rattle.std.specs.Prelude.{pos, replicate, slice_index_or, unsigned_abs}
 use Rattle.std.specs.List.{AllByRecursion}
@@ -18,7 +18,7 @@ zeros-at zero n = refl
 zeros-at (suc k) zero = refl
 zeros-at (suc k) (suc n) = zeros-at k n
 
--- small numbers, and zeros behind them
+-- small numbers, and zeros after them
 pub small-at : (zs : List ℤ) (k n : ℕ) → AllByRecursion IsSmall zs → IsSmall (slice_index_or (zs ++ replicate k (pos 0)) n (pos 0))
 small-at [] k n h = rw (zeros-at k n) zero-small
 small-at (z ∷ zs) k zero h = h.0

@@ -29,7 +29,7 @@ abbrev pub value_or : {A : Type 0} → A → (List ℕ → Result A ℕ) → Opt
 value_or default read None = Ok default
 value_or default read (Some text) = read text
 
--- the positions of a block: one for each axis, and 0 behind them
+-- the positions of a block: one for each axis, and 0 after them
 unfoldable pub positions_of : Units → ℕ → List ℕ → Result (List ℤ) ℕ
 positions_of units axes text = do
   places ← each_of (place_in units) (slice_split is_semicolon text)
@@ -79,7 +79,7 @@ unfoldable pub are_masters_there : Setup → BlockKind → List (List ℕ) → B
 are_masters_there s kind words =
     not (takes kind Master) || list_all (is_master_there s) words
 
--- the inputs behind `on` or a word in its place
+-- the inputs after `on` or a word in its place
 unfoldable pub inputs_on : Units → Setup → BlockDef → List ℕ → List (List ℕ) → Result Inputs ℕ
 inputs_on units s b state words = do
   _ ← broken_unless (are_masters_there s b.kind words) wrong_name
@@ -91,7 +91,7 @@ inputs_on units s b state words = do
 abbrev pub is_off : List ℕ → Bool
 is_off state = says state (codes "off")
 
--- the inputs of a call, by the word behind its block
+-- the inputs of a call, by the word after its block
 abbrev pub inputs_by : Units → Setup → BlockDef → List ℕ → List (List ℕ) → Result Inputs ℕ
 inputs_by units s b state words =
     if is_off state then Ok inputs_off else inputs_on units s b state words

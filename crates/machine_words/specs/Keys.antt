@@ -6,7 +6,7 @@ use Rattle.fb_outputs.specs.declared.inputs.Input.{Input}
 use Rattle.fb_outputs.specs.declared.inputs.Input.TheVariants.{Position, Velocity, Acceleration, Deceleration, Jerk, Mode, Master, Numerator, Denominator, Table}
 use Rattle.line_text.specs.Keys.{value_at}
 
--- the key of each input, and the `=` behind it
+-- the key of each input, and the `=` after it
 unfoldable pub key_of : Input → List ℕ
 key_of Position = codes "pos="
 key_of Velocity = codes "vel="
@@ -20,7 +20,7 @@ key_of Denominator = codes "den="
 key_of Table = codes "table="
 
 -- the text of an input at the front of the words, where the kind takes it and its key stands there,
--- and the words behind it
+-- and the words after it
 unfoldable pub text_at : BlockKind → Input → List (List ℕ) → Option (List ℕ) × List (List ℕ)
 text_at kind input words =
     if takes kind input then value_at (key_of input) words else (None, words)

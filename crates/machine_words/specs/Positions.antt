@@ -5,7 +5,7 @@ use Rattle.std.specs.Prelude.{ℕ, ◌-◌, ◌==◌, ℤ, pos, Bool, List, ◌+
 abbrev pub is_semicolon : ℕ → Bool
 is_semicolon b = b == 59
 
--- these positions, and 0 behind them
+-- these positions, and 0 after them
 unfoldable pub positions_from : List ℤ → List ℤ
 positions_from places = places ++ replicate (6 - length places) (pos 0)
 

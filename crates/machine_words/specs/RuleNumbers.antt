@@ -1,7 +1,7 @@
 -- The rules of benches and programs by their numbers. This project's profile.
 use Rattle.std.specs.Prelude.{ℕ}
 
--- the first line with words doesn't tell the format and one of its versions
+-- the first line with words doesn't give the format and one of its versions
 abbrev pub no_version : ℕ
 no_version = 2
 

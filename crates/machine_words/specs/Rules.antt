@@ -1,4 +1,4 @@
--- The rules of benches and programs, and how a refusal is told. This project's profile.
+-- The rules of benches and programs, and how a refusal is reported. This project's profile.
 use Rattle.std.specs.Prelude.{ℕ, Option, Some, None, Result, Ok, Err}
 use Rattle.line_text.specs.declared.reader.LineRefused.{LineRefused}
 use Rattle.motion_history.specs.declared.fault.ConfigFault.{ConfigFault}
@@ -17,16 +17,16 @@ rule_of TooMany = too_many
 rule_of TooFew = not_whole
 rule_of OutOfMemory = not_whole
 
--- a fault breaks the rule that is told of it
+-- a fault breaks the rule that is reported of it
 abbrev pub broken_by : (ConfigFault → ℕ) → Option ConfigFault → Result (Unit {0}) ℕ
 broken_by rule None = Ok tt
 broken_by rule (Some fault) = Err (rule fault)
 
--- a rule that is broken is told by the letter of its text's kind
+-- a rule that is broken is reported by the letter of its text's kind
 abbrev pub told_as : ℕ → LineRefused → TextRefused
 told_as letter r = record { place = r.line; rule = record { letter = letter; number = r.rule } }
 
--- a reading whose refusal is told so
+-- a reading whose refusal is reported so
 abbrev pub refused_by : {A : Type 0} → ℕ → Result A LineRefused → Result A TextRefused
 refused_by letter (Ok x) = Ok x
 refused_by letter (Err r) = Err (told_as letter r)

@@ -16,7 +16,7 @@ pub record IsCycle (cycle_us : ℕ) : Type 0 where
   pub shortest : 100 ≤ cycle_us
   pub longest : cycle_us ≤ 100000
 
--- rates per second are told for a cycle of such a length
+-- rates per second are reported for a cycle of such a length
 abbrev pub IsUnits : Units → Type 0
 IsUnits Internal = Unit {0}
 IsUnits (User cycle_us) = IsCycle cycle_us

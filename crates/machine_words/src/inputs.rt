@@ -33,14 +33,14 @@ pub struct Callee<'a> {
     pub units: Units,
 }
 
-/// Whether a call is one with Execute false, by the word behind its block.
+/// Whether a call is one with Execute false, by the word after its block.
 pub fn is_off(state: &[u8]) -> bool
     ensures { result ≡ spec.is_off state.now }
 {
     says(state, b"off")
 }
 
-/// The inputs of a call, by the word behind its block and those behind that.
+/// The inputs of a call, by the word after its block and those after that.
 pub fn inputs_by(
     alloc: Global,
     callee: &Callee<'_>,

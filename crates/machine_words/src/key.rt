@@ -25,7 +25,7 @@ pub struct Given<'a> {
     pub table: Option<&'a [u8]>,
 }
 
-/// The key of an input, and the `=` behind it.
+/// The key of an input, and the `=` after it.
 #[tactic(auto, unfolding(crate::specs::Keys::key_of))]
 pub fn key_of(input: Input) -> &'static str
     ensures { result.now ≡ spec.key_of input }
@@ -44,7 +44,7 @@ pub fn key_of(input: Input) -> &'static str
     }
 }
 
-// The text of an input at the front of the words, and the words behind it.
+// The text of an input at the front of the words, and the words after it.
 #[tactic(auto, unfolding(crate::specs::Keys::text_at))]
 fn text_at<'a, 'b>(
     kind: BlockKind,

@@ -19,7 +19,7 @@ pub fn inputs_are_fit()
 }
 
 /// The sizes of machines in numbers: how many items of each kind one may have, how long its history
-/// is, and how far a drive may lag behind.
+/// is, and how far a drive may lag after.
 pub fn sizes_of_machines()
     ensures axes { MOST_AXES ≡ 16 }
     ensures groups { MOST_GROUPS ≡ 4 }

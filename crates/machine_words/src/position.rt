@@ -36,7 +36,7 @@ pub fn parts_of(alloc: Global, text: &[u8]) -> Result<Vec<&[u8]>, AllocError>
     text.split(|b| *b == b';').collect(alloc)
 }
 
-/// These positions, and 0 behind them.
+/// These positions, and 0 after them.
 #[tactic(auto, unfolding(crate::specs::Positions::positions_from))]
 pub fn positions_from(places: &[i64]) -> [i64; MOST_MEMBERS]
     requires { length places.now ≤ MOST_MEMBERS }

@@ -1,4 +1,4 @@
-// The rules of benches and programs by their numbers, and how a refusal is told.
+// The rules of benches and programs by their numbers, and how a refusal is reported.
 
 ghost use Rattle.std.specs.Prelude.{◌≡◌, ◌≢◌};
 ghost use Rattle.machine_words.specs.Rules as spec;
@@ -7,7 +7,7 @@ ghost use Rattle.motion_history.specs.declared.fault.ConfigFault.TheVariants.{Ou
 use line_text::{LineFault, LineRefused};
 use motion_history::{ConfigFault, Rule, TextFault, TextRefused};
 
-/// The first line with words doesn't tell the format and one of its versions.
+/// The first line with words doesn't give the format and one of its versions.
 pub const NO_VERSION: u8 = 2;
 
 /// The first word is unknown, or the line doesn't stand here.

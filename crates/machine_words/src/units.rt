@@ -20,12 +20,12 @@ pub const SHORTEST_CYCLE: u32 = 100;
 /// The microseconds of the longest cycle.
 pub const LONGEST_CYCLE: u32 = 100_000;
 
-/// The units in which a text tells places and rates.
+/// The units in which a text gives places and rates.
 #[derive(Clone, Copy)]
 pub enum Units {
     /// Internal units, per cycle.
     Internal,
-    /// User units of 10^9 internal ones, per second, where a cycle has so many microseconds.
+    /// User units of 10^9 internal ones, per second, where a cycle has this many microseconds.
     User { cycle_us: u32 },
 }
 

@@ -11,7 +11,7 @@ use Rattle.motion_history.specs.Entries.{call}
 use Rattle.motion_history.specs.Setup.{Setup}
 use Rattle.motion_history.specs.declared.config.BlockDef.{BlockDef}
 use Rattle.motion_kernel.specs.calls.Calls.{reply_of}
-use Rattle.motion_kernel.specs.Banks.{BankedState, machine_now}
+use Rattle.motion_kernel.specs.Segments.{SegmentedState, machine_now}
 use Rattle.motion_c.specs.Room.{HasRoom}
 use Rattle.motion_c.specs.declared.calling.MotionOutputs.{MotionOutputs}
 use Rattle.motion_c.specs.declared.machine.Machine.{Machine}
@@ -45,15 +45,15 @@ abbrev pub GivesCall : Setup → ℕ → MotionInputs → Type 0
 GivesCall s n given = IsSomeAnd (inputs_for s n given) (λ i. IsCall s n i)
 
 -- which code a call answers: 0 where it is made, 5 where there is no such block, 7 where the inputs
--- are none of its kind, and else 8 where the bank is full
-pub record TellsCall (k : BankedState) (n : ℕ) (given : MotionInputs) (code : ℕ) : Type 0 where
+-- are none of its kind, and else 8 where the segment is full
+pub record TellsCall (k : SegmentedState) (n : ℕ) (given : MotionInputs) (code : ℕ) : Type 0 where
   pub ok : (code ≡ 0) ↔ (GivesCall k.config n given × HasRoom k)
   pub unknown : (code ≡ 5) ↔ (length k.config.blocks ≤ n)
   pub range : (code ≡ 7) ↔ ((n < length k.config.blocks) × (GivesCall k.config n given → ⊥))
   pub full : (code ≡ 8) ↔ (GivesCall k.config n given × (HasRoom k → ⊥))
 
 -- what the machine replies to a call of a block
-abbrev pub reply_to : BankedState → ℕ → Inputs → Outputs
+abbrev pub reply_to : SegmentedState → ℕ → Inputs → Outputs
 reply_to k n inputs = reply_of k.config (machine_now k) n inputs
 
 -- a block was called with the inputs that a struct gives it: the kernel has the call's entry, and

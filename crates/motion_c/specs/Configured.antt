@@ -36,7 +36,7 @@ pub record OpensBoth (config program : List ℕ) (after : Option held.Machine) :
   pub read : reading_of config program ≡ Ok outcome
   pub opened : after ≡ Some (at_rest outcome.setup Two)
 
--- one of them is refused, and the line and the rule are told
+-- one of them is refused, and the line and the rule are reported
 pub record IsOneRefused (config program : List ℕ) (told : MotionRefusal) : Type 0 where
   pub refused : TextRefused
   pub read : reading_of config program ≡ Err refused

@@ -5,4 +5,4 @@ use Rattle.motion_c.specs.declared.motion.Motion.{Motion}
 
 -- the machine that a handle holds, if it is open
 abbrev pub held : Motion → Option Machine
-held m = if nat_eq m.state 1 then m.seat.held else None
+held m = if nat_eq m.state 1 then m.machine_pointer.held else None

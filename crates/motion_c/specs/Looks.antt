@@ -44,8 +44,8 @@ axis_shown r = record {
 abbrev pub group_shown : GroupRow → MotionGroupRow
 group_shown r = record { state = group_state_number r.state; error = r.error }
 
--- which code a look at one of so many items answers: 0 where its row is there, 5 where there is no
--- such item, and else 10
+-- which code a look at one of this many items answers: 0 where its row is there, 5 where there is
+-- no such item, and else 10
 pub record TellsLook {X : Type 0} (items n : ℕ) (row : Option X) (code : ℕ) : Type 0 where
   pub ok : (code ≡ 0) ↔ ((n < items) × (row ≢ None))
   pub unknown : (code ≡ 5) ↔ (items ≤ n)

@@ -3,7 +3,7 @@ use Rattle.std.specs.Prelude.{ℕ, Option, Some, None, List}
 use Rattle.std.specs.Option.{option_and_then, option_map}
 use Rattle.machine_words.specs.Names.{axis_at, block_at, group_at, task_at}
 use Rattle.motion_history.specs.Setup.{Setup}
-use Rattle.motion_kernel.specs.Banks.{BankedState}
+use Rattle.motion_kernel.specs.Segments.{SegmentedState}
 use Rattle.motion_c.specs.Held.{held}
 use Rattle.motion_c.specs.declared.machine.Machine.{Machine}
 use Rattle.motion_c.specs.declared.motion.Motion.{Motion}
@@ -25,8 +25,8 @@ abbrev pub number_in : Motion → (Setup → Option ℕ) → ℕ
 number_in motion number =
     number_or_none (option_and_then (λ (m : Machine). number m.kernel.kernel.config) (held motion))
 
--- how many a held machine's kernel with its bank has of something, or 0
-abbrev pub count_in : Motion → (BankedState → ℕ) → ℕ
+-- how many a held machine's kernel with its segment has of something, or 0
+abbrev pub count_in : Motion → (SegmentedState → ℕ) → ℕ
 count_in motion count =
     count_or_none (option_map (λ (m : Machine). count m.kernel.kernel) (held motion))
 

@@ -9,7 +9,7 @@ use Rattle.motion_history.specs.declared.refused.TraceVersion.{TraceVersion}
 use Rattle.motion_c.specs.declared.machine.Machine.{Machine}
 use Rattle.motion_c.specs.declared.opening.MotionRefusal.{MotionRefusal}
 
--- a machine's text is a bench without `go` and what comes behind it
+-- a machine's text is a bench without `go` and what comes after it
 abbrev pub with_go : List ℕ → List ℕ
 with_go text = text ++ (10 ∷ codes "go" ++ 10 ∷ [])
 
@@ -27,13 +27,13 @@ pub record Opens (text : List ℕ) (after : Option Machine) : Type 0 where
   pub read : bench_of (with_go text) ≡ Ok bench
   pub opened : after ≡ Some (at_rest bench.config bench.version)
 
--- where and by which rule a text is refused is told
+-- where and by which rule a text is refused is reported
 pub record IsTold (refused : TextRefused) (told : MotionRefusal) : Type 0 where
   pub line : told.line ≡ refused.place
   pub letter : told.letter ≡ refused.rule.letter
   pub number : told.number ≡ refused.rule.number
 
--- a text is refused: with `go` it is no bench, and the line and the rule are told
+-- a text is refused: with `go` it is no bench, and the line and the rule are reported
 pub record IsRefused (text : List ℕ) (told : MotionRefusal) : Type 0 where
   pub refused : TextRefused
   pub read : bench_of (with_go text) ≡ Err refused

@@ -9,10 +9,10 @@ use Rattle.motion_history.specs.Entries.{cycles_of}
 use Rattle.motion_history.specs.Setup.{Setup}
 use Rattle.motion_history.specs.declared.refused.TraceVersion.{TraceVersion}
 use Rattle.motion_history.specs.declared.refused.TraceVersion.TheVariants.{One, Two}
-use Rattle.motion_kernel.specs.Banks.{BankedState}
+use Rattle.motion_kernel.specs.Segments.{SegmentedState}
 use Rattle.outside.specs.MemorySink.{bytes_of}
 use Rattle.outside.specs.declared.memory_sink.MemorySink.{MemorySink}
-use Rattle.piece_text.specs.Piece.{piece_text}
+use Rattle.segment_text.specs.TraceSegment.{segment_text}
 use Rattle.trace_text.specs.Trace.{CanHold, trace_text}
 use Rattle.trace_text.specs.declared.command.Command.TheVariants.{Bench}
 use Rattle.trace_text.specs.declared.drive_end.DriveEndRow.{DriveEndRow}
@@ -36,13 +36,13 @@ end_of_drive cycles answer = record {
 abbrev pub IsTraceVersion : TraceVersion → Setup → TraceVersion → Type 0
 IsTraceVersion opened s v = (v ≡ One) ↔ ((opened ≡ One) × CanHold One s)
 
--- the trace of a bank whose drives took the setpoint of each of its cycles and answer so
-abbrev pub bank_trace : TraceVersion → BankedState → List DriveIn → List ℕ
-bank_trace version k answers =
+-- the trace of a segment whose drives took the setpoint of each of its cycles and answer so
+abbrev pub segment_trace : TraceVersion → SegmentedState → List DriveIn → List ℕ
+segment_trace version k answers =
     trace_text version Bench k.config k.history
     (map (end_of_drive (cycles_of k.history)) answers)
 
--- which code the making of a trace answers, but for want of memory: 13 where earlier entries were
+-- which code the making of a trace answers, but for out of memory: 13 where earlier entries were
 -- given out, and else 6 where there isn't an answer of each axis
 pub record TellsTrace (k : LastingState) (answers : ℕ) (code : ℕ) : Type 0 where
   pub later : (code ≡ 13) ↔ (k.past ≢ [])
@@ -52,11 +52,11 @@ pub record TellsTrace (k : LastingState) (answers : ℕ) (code : ℕ) : Type 0 w
 pub record IsTraceOf (m : Machine) (answers : List DriveIn) (text : List ℕ) : Type 0 where
   pub version : TraceVersion
   pub fits : IsTraceVersion m.version m.kernel.kernel.config version
-  pub tells : text ≡ bank_trace version m.kernel.kernel answers
+  pub tells : text ≡ segment_trace version m.kernel.kernel answers
 
--- a text is the piece of a trace that a bank is: where the bank begins, and a trace of version 2
-abbrev pub IsPieceOf : BankedState → List DriveIn → List ℕ → Type 0
-IsPieceOf k answers text = text ≡ piece_text k.before k.start (bank_trace Two k answers)
+-- a text is the trace segment that a segment is: where the segment begins, and a trace of version 2
+abbrev pub IsTraceSegmentOf : SegmentedState → List DriveIn → List ℕ → Type 0
+IsTraceSegmentOf k answers text = text ≡ segment_text k.before k.start (segment_trace Two k answers)
 
 -- a trace was made of a machine, and is kept with it
 pub record MakesTrace (m : Machine) (answers : List DriveIn) (after : Option Machine)
@@ -65,12 +65,13 @@ pub record MakesTrace (m : Machine) (answers : List DriveIn) (after : Option Mac
   pub held : after ≡ Some (record m { trace = Some trace })
   pub text : IsTraceOf m answers (bytes_of trace)
 
--- a piece was made of a machine's bank, and is kept with it as the trace that was made last
-pub record MakesPiece (m : Machine) (answers : List DriveIn) (after : Option Machine)
+-- a trace segment was made of a machine's segment, and is kept with it as the trace that was made
+-- last
+pub record MakesTraceSegment (m : Machine) (answers : List DriveIn) (after : Option Machine)
     : Type 0 where
   pub trace : MemorySink
   pub held : after ≡ Some (record m { trace = Some trace })
-  pub text : IsPieceOf m.kernel.kernel answers (bytes_of trace)
+  pub text : IsTraceSegmentOf m.kernel.kernel answers (bytes_of trace)
 
 -- the bytes of the trace that was made last, if one was
 abbrev pub bytes_in : Option MemorySink → List ℕ
@@ -82,6 +83,6 @@ abbrev pub trace_of : Option Machine → List ℕ
 trace_of (Some m) = bytes_in m.trace
 trace_of None = []
 
--- so many bytes of a text at most, from a place on
-abbrev pub piece_of : List ℕ → ℕ → ℕ → List ℕ
-piece_of text from most = take most (drop from text)
+-- this many bytes of a text at most, from a place on
+abbrev pub trace_segment_of : List ℕ → ℕ → ℕ → List ℕ
+trace_segment_of text from most = take most (drop from text)

@@ -70,14 +70,14 @@ fn call(
     ensures kept { result ≢ 0 → kernel.new ≡ kernel.old }
     ensures same { result ≢ 0 → outputs.new ≡ outputs.old }
 {
-    let config = kernel.bank().config();
+    let config = kernel.segment().config();
     if block as usize >= config.blocks().len() {
         return UNKNOWN;
     }
     let Some(inputs) = call_inputs(config, block, given) else {
         return RANGE;
     };
-    if kernel.bank().room_left() == 0 {
+    if kernel.segment().room_left() == 0 {
         return FULL;
     }
     *outputs = shown(&kernel.call(block, &inputs));

@@ -24,13 +24,13 @@ pub const LENGTH: u32 = 6;
 /// The inputs are none of the block's kind.
 pub const RANGE: u32 = 7;
 
-/// The bank has no room for an entry.
+/// The segment has no room for an entry.
 pub const FULL: u32 = 8;
 
-/// No cycle is left in the bank, or no more banks can be counted.
+/// No cycle is left in the segment, or no more segments can be counted.
 pub const OVER: u32 = 9;
 
-/// No cycle was made in the bank yet.
+/// No cycle was made in the segment yet.
 pub const NO_CYCLE: u32 = 10;
 
 /// The two handles aren't machines of one configuration. C has 11 for a null pointer.

@@ -17,7 +17,7 @@ use std::alloc::Global;
 
 /// Opens a machine by the texts that `motion run` takes: a configuration in TOML, and a program,
 /// whose tasks and blocks the machine gets. The program's other lines are read and not kept: the
-/// caller makes the calls. As `motion_open` it touches the bank's memory.
+/// caller makes the calls. As `motion_open` it touches the segment's memory.
 #[unsafe(no_mangle)]
 pub extern "C" fn motion_open_config(
     alloc: Global,

@@ -47,14 +47,14 @@ fn cycle(kernel: &mut LastingKernel, answers: &[DriveIn], outputs: &mut [DriveOu
     ensures kept { result ≢ 0 → kernel.new ≡ kernel.old }
     ensures same { result ≢ 0 → outputs.new ≡ outputs.old }
 {
-    let axes = kernel.bank().config().axes().len();
+    let axes = kernel.segment().config().axes().len();
     if answers.len() != axes || outputs.len() != axes {
         return LENGTH;
     }
-    if kernel.bank().cycles_left() == 0 {
+    if kernel.segment().cycles_left() == 0 {
         return OVER;
     }
-    if kernel.bank().room_left() == 0 {
+    if kernel.segment().room_left() == 0 {
         return FULL;
     }
     kernel.cycle(answers, outputs);

@@ -36,10 +36,10 @@ fn end(kernel: &mut LastingKernel, task: u8) -> u32
     ensures made { result ≡ 0 → kernel.new ≡ with_entry kernel.old (end_of task) }
     ensures kept { result ≢ 0 → kernel.new ≡ kernel.old }
 {
-    if task as usize >= kernel.bank().config().tasks().len() {
+    if task as usize >= kernel.segment().config().tasks().len() {
         return UNKNOWN;
     }
-    if kernel.bank().room_left() == 0 {
+    if kernel.segment().room_left() == 0 {
         return FULL;
     }
     kernel.end(task);

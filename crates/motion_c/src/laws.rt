@@ -1,4 +1,4 @@
-// What always holds of the history behind a handle.
+// What always holds of the history after a handle.
 
 ghost use Rattle.std.specs.Prelude.{◌≡◌, Some};
 ghost use Rattle.lasting_kernel.specs.Lasting.{HasPast, whole_of};
@@ -11,10 +11,10 @@ use crate::machine::Machine;
 use crate::motion::{Motion, put, take};
 use std::alloc::Global;
 
-/// After any calls, whatever they answered, what the machine behind a handle made from opening on
-/// keeps all laws of the machine, also what it made in banks that were given out: these lead to the
-/// machine with which its bank begins, and from there on the bank is a legal history. Nothing but
-/// the handle's machine is looked at, and it stays as it is.
+/// After any calls, whatever they answered, what the machine after a handle made from opening on
+/// keeps all laws of the machine, also what it made in segments that were given out: these lead to
+/// the machine with which its segment begins, and from there on the segment is a legal history.
+/// Nothing but the handle's machine is looked at, and it stays as it is.
 pub fn held_histories_keep_their_laws(alloc: Global, motion: &mut Motion)
     ensures past { (m : Machine) → held motion.old ≡ Some m → HasPast m.kernel }
     ensures legal { (m : Machine) → held motion.old ≡ Some m →
@@ -29,7 +29,7 @@ pub fn held_histories_keep_their_laws(alloc: Global, motion: &mut Motion)
     }
 }
 
-// What a machine made keeps all laws of the machine, and its bank is legal from where it begins.
+// What a machine made keeps all laws of the machine, and its segment is legal from where it begins.
 fn machines_keep_their_laws(machine: &Machine)
     ensures past { HasPast machine.now.kernel }
     ensures legal { IsLegalFrom machine.now.kernel.kernel.config machine.now.kernel.kernel.start
@@ -37,5 +37,5 @@ fn machines_keep_their_laws(machine: &Machine)
     ensures laws { KeepsLaws machine.now.kernel.kernel.config (whole_of machine.now.kernel) }
 {
     machine.kernel.keeps_laws();
-    let _ = machine.kernel.bank().history();
+    let _ = machine.kernel.segment().history();
 }

@@ -1,9 +1,9 @@
 //! The kernel for C and C++ programs, as a static library: `c/motion.h` declares what is exported
 //! here. A handle that C holds owns a machine, a kernel with its trace; each export takes it out,
 //! works on it and puts it back, so that the work itself is plain code over `lasting_kernel`, the
-//! readers of texts, `trace_text` and `piece_text`. A machine that runs for days gives its bank to
-//! a second handle (`src/swapping.rt`). Begin with `specs/Held.antt`, then `src/calling.rt`;
-//! `src/laws.rt` says what always holds of the history behind a handle.
+//! readers of texts, `trace_text` and `segment_text`. A machine that runs for days gives its
+//! segment to a second handle (`src/swapping.rt`). Begin with `specs/Held.antt`, then
+//! `src/calling.rt`; `src/laws.rt` says what always holds of the history after a handle.
 #![tactic(auto)]
 
 mod calling;
@@ -14,13 +14,13 @@ mod ending;
 mod laws;
 mod looking;
 mod machine;
+mod machine_pointer;
 mod motion;
 mod naming;
 mod opening;
 mod parts;
 mod rows;
 mod sameness;
-mod seat;
 mod sending;
 mod swapping;
 mod texts;
@@ -38,11 +38,11 @@ pub use looking::{
     motion_room_left,
 };
 pub use machine::Machine;
+pub use machine_pointer::MachinePointer;
 pub use motion::Motion;
 pub use naming::{
     motion_axes, motion_axis, motion_block, motion_group, motion_groups, motion_task,
 };
 pub use opening::{MotionRefusal, motion_close, motion_open};
-pub use seat::Seat;
 pub use swapping::motion_swap;
-pub use tracing::{motion_bank_text, motion_trace, motion_trace_text};
+pub use tracing::{motion_segment_text, motion_trace, motion_trace_text};

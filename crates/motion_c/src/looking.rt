@@ -1,4 +1,4 @@
-// Looks at a machine: the rows of its bank's last cycle, and what is left of the bank.
+// Looks at a machine: the rows of its segment's last cycle, and what is left of the segment.
 
 ghost use Rattle.std.specs.Prelude.{◌≡◌, ◌≢◌, ◌↔◌, ◌-◌, Some, None, IfSome, length};
 ghost use Rattle.motion_c.specs.Held.{held};
@@ -11,7 +11,7 @@ ghost use Rattle.motion_history.specs.LastCycles.{axis_row_in, group_row_in, las
 use crate::code::{CLOSED, NO_CYCLE, OK, UNKNOWN};
 use crate::motion::{Motion, put, take};
 use crate::rows::{axis_row, group_row, row_of_axis, row_of_group};
-use motion_kernel::BankedKernel;
+use motion_kernel::SegmentedKernel;
 use std::alloc::Global;
 
 /// What the last cycle shows of an axis.
@@ -42,7 +42,7 @@ pub struct MotionGroupRow {
     pub error: u16,
 }
 
-/// Looks at an axis in the last cycle of the bank.
+/// Looks at an axis in the last cycle of the segment.
 #[unsafe(no_mangle)]
 pub extern "C" fn motion_axis_look(
     alloc: Global,
@@ -63,12 +63,12 @@ pub extern "C" fn motion_axis_look(
     let Some(machine) = take(alloc, motion) else {
         return CLOSED;
     };
-    let answer = look_at_axis(machine.kernel.bank(), axis, look);
+    let answer = look_at_axis(machine.kernel.segment(), axis, look);
     put(motion, machine);
     answer
 }
 
-/// Looks at a group in the last cycle of the bank.
+/// Looks at a group in the last cycle of the segment.
 #[unsafe(no_mangle)]
 pub extern "C" fn motion_group_look(
     alloc: Global,
@@ -89,12 +89,12 @@ pub extern "C" fn motion_group_look(
     let Some(machine) = take(alloc, motion) else {
         return CLOSED;
     };
-    let answer = look_at_group(machine.kernel.bank(), group, look);
+    let answer = look_at_group(machine.kernel.segment(), group, look);
     put(motion, machine);
     answer
 }
 
-/// How many cycles more there may be in the bank: 0 where the handle is closed.
+/// How many cycles more there may be in the segment: 0 where the handle is closed.
 #[unsafe(no_mangle)]
 pub extern "C" fn motion_cycles_left(alloc: Global, motion: &mut Motion) -> u32
     ensures count { result ≡ count_in motion.old (λ k. k.config.cycles - cycles_of k.history) }
@@ -103,12 +103,12 @@ pub extern "C" fn motion_cycles_left(alloc: Global, motion: &mut Motion) -> u32
     let Some(machine) = take(alloc, motion) else {
         return 0;
     };
-    let left = machine.kernel.bank().cycles_left();
+    let left = machine.kernel.segment().cycles_left();
     put(motion, machine);
     left
 }
 
-/// For how many entries more the bank has room: 0 where the handle is closed.
+/// For how many entries more the segment has room: 0 where the handle is closed.
 #[unsafe(no_mangle)]
 pub extern "C" fn motion_room_left(alloc: Global, motion: &mut Motion) -> u64
     ensures count { result ≡ count_in motion.old (λ k. k.config.entries - length k.history) }
@@ -117,13 +117,13 @@ pub extern "C" fn motion_room_left(alloc: Global, motion: &mut Motion) -> u64
     let Some(machine) = take(alloc, motion) else {
         return 0;
     };
-    let left = machine.kernel.bank().room_left();
+    let left = machine.kernel.segment().room_left();
     put(motion, machine);
     left
 }
 
 // Looks at an axis.
-fn look_at_axis(kernel: &BankedKernel, axis: u8, look: &mut MotionAxisRow) -> u32
+fn look_at_axis(kernel: &SegmentedKernel, axis: u8, look: &mut MotionAxisRow) -> u32
     ensures code { TellsLook (length kernel.now.config.axes) axis
         (axis_row_in axis (last_cycle_of kernel.now.history)) result }
     ensures open { result ≢ 1 }
@@ -145,7 +145,7 @@ fn look_at_axis(kernel: &BankedKernel, axis: u8, look: &mut MotionAxisRow) -> u3
 }
 
 // Looks at a group.
-fn look_at_group(kernel: &BankedKernel, group: u8, look: &mut MotionGroupRow) -> u32
+fn look_at_group(kernel: &SegmentedKernel, group: u8, look: &mut MotionGroupRow) -> u32
     ensures code { TellsLook (length kernel.now.config.groups) group
         (group_row_in group (last_cycle_of kernel.now.history)) result }
     ensures open { result ≢ 1 }

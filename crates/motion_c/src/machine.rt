@@ -4,8 +4,8 @@ use lasting_kernel::LastingKernel;
 use motion_history::TraceVersion;
 use outside::MemorySink;
 
-/// The machine behind a handle: its kernel, the version of the text that it was opened by, and the
-/// trace or the piece of one that was made of it last, if one was.
+/// The machine after a handle: its kernel, the version of the text that it was opened by, and the
+/// trace or the trace segment of one that was made of it last, if one was.
 #[derive(Drop)]
 pub struct Machine {
     pub(crate) kernel: LastingKernel,

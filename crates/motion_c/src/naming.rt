@@ -64,7 +64,7 @@ fn number(alloc: Global, motion: &mut Motion, item: Item, name: &[u8]) -> u32
     let Some(machine) = take(alloc, motion) else {
         return NO_NUMBER;
     };
-    let number = number_of(machine.kernel.bank().config(), item, name);
+    let number = number_of(machine.kernel.segment().config(), item, name);
     put(motion, machine);
     number
 }
@@ -92,7 +92,7 @@ fn place_of(config: &Config, item: Item, name: &[u8]) -> Option<usize>
     }
 }
 
-// Where the axis of this name stands in a configuration, whose sizes `axes` tells.
+// Where the axis of this name stands in a configuration, whose sizes `axes` gives.
 #[tactic(auto, unfolding(machine_words::specs::Names::axis_at))]
 fn axis_in(config: &Config, name: &[u8]) -> Option<usize>
     ensures place { result ≡ axis_at config.now name.now }
@@ -101,7 +101,7 @@ fn axis_in(config: &Config, name: &[u8]) -> Option<usize>
     place_of_axis(config.axes(), name)
 }
 
-// Where the group of this name stands in a configuration, whose sizes `axes` tells.
+// Where the group of this name stands in a configuration, whose sizes `axes` gives.
 #[tactic(auto, unfolding(machine_words::specs::Names::group_at))]
 fn group_in(config: &Config, name: &[u8]) -> Option<usize>
     ensures place { result ≡ group_at config.now name.now }
@@ -111,7 +111,7 @@ fn group_in(config: &Config, name: &[u8]) -> Option<usize>
     place_of_group(config.groups(), name)
 }
 
-// Where the task of this name stands in a configuration, whose sizes `axes` tells.
+// Where the task of this name stands in a configuration, whose sizes `axes` gives.
 #[tactic(auto, unfolding(machine_words::specs::Names::task_at))]
 fn task_in(config: &Config, name: &[u8]) -> Option<usize>
     ensures place { result ≡ task_at config.now name.now }
@@ -121,7 +121,7 @@ fn task_in(config: &Config, name: &[u8]) -> Option<usize>
     place_of_task(config.tasks(), name)
 }
 
-// Where the block of this name stands in a configuration, whose sizes `axes` tells.
+// Where the block of this name stands in a configuration, whose sizes `axes` gives.
 #[tactic(auto, unfolding(machine_words::specs::Names::block_at))]
 fn block_in(config: &Config, name: &[u8]) -> Option<usize>
     ensures place { result ≡ block_at config.now name.now }
@@ -140,7 +140,7 @@ pub extern "C" fn motion_axes(alloc: Global, motion: &mut Motion) -> u32
     let Some(machine) = take(alloc, motion) else {
         return 0;
     };
-    let count = machine.kernel.bank().config().axes().len() as u32;
+    let count = machine.kernel.segment().config().axes().len() as u32;
     put(motion, machine);
     count
 }
@@ -154,7 +154,7 @@ pub extern "C" fn motion_groups(alloc: Global, motion: &mut Motion) -> u32
     let Some(machine) = take(alloc, motion) else {
         return 0;
     };
-    let count = group_count(machine.kernel.bank().config());
+    let count = group_count(machine.kernel.segment().config());
     put(motion, machine);
     count
 }

@@ -28,7 +28,7 @@ pub struct MotionRefusal {
 }
 
 /// Opens a machine by the machine part of a bench, without `go`. It touches the memory of the
-/// bank's whole room, so that no call and no cycle pays for its pages.
+/// segment's whole room, so that no call and no cycle pays for its pages.
 #[unsafe(no_mangle)]
 pub extern "C" fn motion_open(
     alloc: Global,
@@ -129,7 +129,7 @@ fn copied(alloc: Global, config: &Config) -> Option<Config>
     config.copy(alloc).ok()
 }
 
-/// The machine of a configuration, at rest, with the memory of its bank's room touched.
+/// The machine of a configuration, at rest, with the memory of its segment's room touched.
 pub fn machine_of(
     alloc: Global,
     config: Config,

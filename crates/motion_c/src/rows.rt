@@ -1,4 +1,4 @@
-// The rows of the last cycle of a bank, and how C has them.
+// The rows of the last cycle of a segment, and how C has them.
 
 ghost use Rattle.std.specs.Prelude.{◌≡◌};
 ghost use Rattle.motion_c.specs.Looks as spec;
@@ -8,10 +8,10 @@ ghost use Rattle.motion_history.specs.LastCycles.{axis_row_in, group_row_in, las
 use crate::looking::{MotionAxisRow, MotionGroupRow};
 use axis_state::{AxisRow, AxisState};
 use group_state::{GroupRow, GroupState};
-use motion_kernel::BankedKernel;
+use motion_kernel::SegmentedKernel;
 
-/// The row of an axis in the last cycle of the bank.
-pub fn axis_row(kernel: &BankedKernel, axis: u8) -> Option<AxisRow>
+/// The row of an axis in the last cycle of the segment.
+pub fn axis_row(kernel: &SegmentedKernel, axis: u8) -> Option<AxisRow>
     ensures { result ≡ axis_row_in axis (last_cycle_of kernel.now.history) }
 {
     match kernel.last_cycle() {
@@ -20,8 +20,8 @@ pub fn axis_row(kernel: &BankedKernel, axis: u8) -> Option<AxisRow>
     }
 }
 
-/// The row of a group in the last cycle of the bank.
-pub fn group_row(kernel: &BankedKernel, group: u8) -> Option<GroupRow>
+/// The row of a group in the last cycle of the segment.
+pub fn group_row(kernel: &SegmentedKernel, group: u8) -> Option<GroupRow>
     ensures { result ≡ group_row_in group (last_cycle_of kernel.now.history) }
 {
     match kernel.last_cycle() {

@@ -6,7 +6,7 @@ use axis_state::{AxisDef, Limits, Name};
 use cam_table::CamTable;
 use motion_history::{BlockDef, Config, GroupDef};
 
-/// What can be told to be the same.
+/// What can be reported to be the same.
 pub trait Same {
     /// Whether it is the same.
     fn is_same(&self, other: &Self) -> bool

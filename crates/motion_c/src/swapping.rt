@@ -1,4 +1,4 @@
-// Banks handed over from one handle to another.
+// Segments handed over from one handle to another.
 
 ghost use Rattle.std.specs.Prelude.{◌≡◌, ◌≢◌, ◌↔◌, Some, None};
 ghost use Rattle.lasting_kernel.specs.Lasting.{after_hand_over};
@@ -12,9 +12,9 @@ use crate::sameness::is_one_configuration;
 use lasting_kernel::LastingKernel;
 use std::alloc::Global;
 
-/// Hands the bank of a machine over to a spare one of the same configuration, which then is what
-/// the machine was, and the machine goes on with an empty bank. What the spare one was is gone. It
-/// takes no memory, and as long whatever the banks hold. Each handle keeps its trace.
+/// Hands the segment of a machine over to a spare one of the same configuration, which then is what
+/// the machine was, and the machine goes on with an empty segment. What the spare one was is gone.
+/// It takes no memory, and as long whatever the segments hold. Each handle keeps its trace.
 #[unsafe(no_mangle)]
 pub extern "C" fn motion_swap(alloc: Global, motion: &mut Motion, spare: &mut Motion) -> u32
     ensures closed { (result ≡ 1) ↔ (both_of (held motion.old) (held spare.old) ≡ None) }
@@ -38,7 +38,7 @@ pub extern "C" fn motion_swap(alloc: Global, motion: &mut Motion, spare: &mut Mo
     answer
 }
 
-// Hands the bank of a kernel over to another one where it may.
+// Hands the segment of a kernel over to another one where it may.
 fn swap(kernel: &mut LastingKernel, other: &mut LastingKernel) -> u32
     ensures code { TellsSwap kernel.old.kernel other.old.kernel result }
     ensures open { result ≢ 1 }
@@ -47,10 +47,10 @@ fn swap(kernel: &mut LastingKernel, other: &mut LastingKernel) -> u32
     ensures kept { result ≢ 0 → kernel.new ≡ kernel.old }
     ensures other_kept { result ≢ 0 → other.new ≡ other.old }
 {
-    if !is_one_configuration(kernel.bank().config(), other.bank().config()) {
+    if !is_one_configuration(kernel.segment().config(), other.segment().config()) {
         return OTHER;
     }
-    if !kernel.bank().before().is_early() {
+    if !kernel.segment().before().is_early() {
         return OVER;
     }
     kernel.hand_over(other);

@@ -1,17 +1,17 @@
-// The texts of a bank: a trace, and a piece of one.
+// The texts of a segment: a trace, and a trace segment of one.
 
 ghost use Rattle.std.specs.Prelude.{◌≡◌, ◌↔◌, ◌++◌, ◌∷◌, [], All, IfOk, IfSome, IsTrue, length, map};
-ghost use Rattle.motion_c.specs.Traces.{IsPieceOf, IsTraceOf, IsTraceVersion, bank_trace, end_of_drive};
+ghost use Rattle.motion_c.specs.Traces.{IsTraceSegmentOf, IsTraceOf, IsTraceVersion, segment_trace, end_of_drive};
 ghost use Rattle.outside.specs.MemorySink.{bytes_of};
-ghost use Rattle.piece_text.specs.Piece as piece;
+ghost use Rattle.segment_text.specs.TraceSegment as trace_segment;
 ghost use Rattle.trace_text.specs.Trace.{CanHold};
 
 use crate::machine::Machine;
 use cia402_machine::{DriveIn, DriveState, state_of};
 use motion_history::{AxisDef, Config, TraceVersion};
-use motion_kernel::BankedKernel;
+use motion_kernel::SegmentedKernel;
 use outside::{MemorySink, write_all};
-use piece_text::head_text;
+use segment_text::header_text;
 use std::alloc::{AllocError, Global};
 use trace_text::{Command, DriveEndRow, write_trace};
 
@@ -20,54 +20,59 @@ pub fn trace_written(alloc: Global, machine: &Machine, answers: &[DriveIn]) -> O
     requires { length answers.now ≡ length machine.now.kernel.kernel.config.axes }
     ensures { IfSome result (λ t. IsTraceOf machine.now answers.now (bytes_of t)) }
 {
-    let bank = machine.kernel.bank();
-    let version = trace_version(machine.version, bank.config());
+    let segment = machine.kernel.segment();
+    let version = trace_version(machine.version, segment.config());
     let trace = MemorySink::new(alloc, &[], u32::MAX).ok()?;
-    with_trace(alloc, version, bank, answers, trace)
+    with_trace(alloc, version, segment, answers, trace)
 }
 
-/// The piece of a trace that a bank is, if there is memory for it.
-#[tactic(auto, unfolding(piece_text::specs::Piece::piece_text))]
-pub fn piece_written(alloc: Global, bank: &BankedKernel, answers: &[DriveIn]) -> Option<MemorySink>
-    requires { length answers.now ≡ length bank.now.config.axes }
-    ensures { IfSome result (λ t. IsPieceOf bank.now answers.now (bytes_of t)) }
+/// The trace segment that a segment is, if there is memory for it.
+#[tactic(auto, unfolding(segment_text::specs::TraceSegment::segment_text))]
+pub fn trace_segment_written(
+    alloc: Global,
+    segment: &SegmentedKernel,
+    answers: &[DriveIn],
+) -> Option<MemorySink>
+    requires { length answers.now ≡ length segment.now.config.axes }
+    ensures { IfSome result (λ t. IsTraceSegmentOf segment.now answers.now (bytes_of t)) }
 {
-    let head = head_written(alloc, bank)?;
-    with_trace(alloc, TraceVersion::Two, bank, answers, head)
+    let header = header_written(alloc, segment)?;
+    with_trace(alloc, TraceVersion::Two, segment, answers, header)
 }
 
-// The head of the piece that a bank is, and the blank line behind it, if there is memory for them.
-fn head_written(alloc: Global, bank: &BankedKernel) -> Option<MemorySink>
+// The header of the trace segment that a segment is, and the blank line after it, if there is
+// memory for them.
+fn header_written(alloc: Global, segment: &SegmentedKernel) -> Option<MemorySink>
     ensures { IfSome result (λ t. bytes_of t ≡
-        piece.head_text bank.now.before bank.now.start ++ 10 ∷ []) }
+        trace_segment.header_text segment.now.before segment.now.start ++ 10 ∷ []) }
 {
-    let mut head = head_text(alloc, bank.config(), &bank.before(), bank.start()).ok()?;
-    head.push(b'\n').ok()?;
+    let mut header = header_text(alloc, segment.config(), &segment.before(), segment.start()).ok()?;
+    header.push(b'\n').ok()?;
     let mut out = MemorySink::new(alloc, &[], u32::MAX).ok()?;
-    write_all(&mut out, head.as_slice()).ok()?;
+    write_all(&mut out, header.as_slice()).ok()?;
     Some(out)
 }
 
-// A text with the trace of a bank behind it, if there is memory for it.
+// A text with the trace of a segment after it, if there is memory for it.
 fn with_trace(
     alloc: Global,
     version: TraceVersion,
-    bank: &BankedKernel,
+    segment: &SegmentedKernel,
     answers: &[DriveIn],
     mut text: MemorySink,
 ) -> Option<MemorySink>
-    requires version { CanHold version bank.now.config }
-    requires length { length answers.now ≡ length bank.now.config.axes }
+    requires version { CanHold version segment.now.config }
+    requires length { length answers.now ≡ length segment.now.config.axes }
     ensures { IfSome result (λ t. bytes_of t ≡
-        bytes_of text ++ bank_trace version bank.now answers.now) }
+        bytes_of text ++ segment_trace version segment.now answers.now) }
 {
-    let drives = ends(alloc, bank.cycles_made(), answers).ok()?;
+    let drives = ends(alloc, segment.cycles_made(), answers).ok()?;
     let done = write_trace(
         alloc,
         version,
         Command::Bench,
-        bank.config(),
-        bank.history(),
+        segment.config(),
+        segment.history(),
         drives.as_slice(),
         &mut text,
     );

@@ -1,14 +1,14 @@
-// The trace of a machine, or of its bank as a piece of one, and copying its text.
+// The trace of a machine, or of its segment as a trace segment of one, and copying its text.
 
 ghost use Rattle.std.specs.Prelude.{◌≡◌, ◌≢◌, ◌↔◌, ◌++◌, [], IsTrue, Some, None, length, drop};
 ghost use Rattle.motion_c.specs.Held.{held};
-ghost use Rattle.motion_c.specs.Traces.{MakesPiece, MakesTrace, TellsTrace, piece_of, trace_of};
+ghost use Rattle.motion_c.specs.Traces.{MakesTraceSegment, MakesTrace, TellsTrace, trace_segment_of, trace_of};
 ghost use Rattle.motion_c.specs.declared.machine.Machine.{Machine};
 
 use crate::code::{CLOSED, LATER, LENGTH, NO_MEMORY, OK};
 use crate::machine::Machine;
 use crate::motion::{Motion, put, take};
-use crate::texts::{piece_written, trace_written};
+use crate::texts::{trace_segment_written, trace_written};
 use cia402_machine::DriveIn;
 use lasting_kernel::LastingKernel;
 use std::alloc::Global;
@@ -34,30 +34,34 @@ pub extern "C" fn motion_trace(alloc: Global, motion: &mut Motion, answers: &[Dr
     answer
 }
 
-/// Makes the text of the machine's bank as a piece of a trace: where the bank begins, and what was
-/// called, cycled and ended since. Each drive took the setpoint of every cycle of the bank, and
-/// ends with this answer. The piece is kept as the trace that was made last. It takes memory, which
-/// closing gives back.
+/// Makes the text of the machine's segment as a trace segment: where the segment begins, and what
+/// was called, cycled and ended since. Each drive took the setpoint of every cycle of the segment,
+/// and ends with this answer. The trace segment is kept as the trace that was made last. It takes
+/// memory, which closing gives back.
 #[unsafe(no_mangle)]
-pub extern "C" fn motion_bank_text(alloc: Global, motion: &mut Motion, answers: &[DriveIn]) -> u32
+pub extern "C" fn motion_segment_text(
+    alloc: Global,
+    motion: &mut Motion,
+    answers: &[DriveIn],
+) -> u32
     ensures closed { (result ≡ 1) ↔ (held motion.old ≡ None) }
     ensures length { (m : Machine) → held motion.old ≡ Some m →
         ((result ≡ 6) ↔ (length answers.now ≢ length m.kernel.kernel.config.axes)) }
     ensures made { (m : Machine) → held motion.old ≡ Some m → result ≡ 0 →
-        MakesPiece m answers.now (held motion.new) }
+        MakesTraceSegment m answers.now (held motion.new) }
     ensures codes { result ≢ 0 → result ≢ 1 → result ≢ 6 → result ≡ 3 }
     ensures kept { result ≢ 0 → held motion.new ≡ held motion.old }
 {
     let Some(mut machine) = take(alloc, motion) else {
         return CLOSED;
     };
-    let answer = make_piece(alloc, &mut machine, answers);
+    let answer = make_trace_segment(alloc, &mut machine, answers);
     put(motion, machine);
     answer
 }
 
-/// Copies the trace or the piece that was made last into `room`, from a place on, and tells how
-/// many bytes it copied: 0 behind its end, before one was made, and where the handle is closed.
+/// Copies the trace or the trace segment that was made last into `room`, from a place on, and says
+/// how many bytes it copied: 0 after its end, before one was made, and where the handle is closed.
 #[unsafe(no_mangle)]
 pub extern "C" fn motion_trace_text(
     alloc: Global,
@@ -65,8 +69,8 @@ pub extern "C" fn motion_trace_text(
     from: u64,
     room: &mut [u8],
 ) -> u64
-    ensures count { result ≡ length (piece_of (trace_of (held motion.old)) from (length room.old)) }
-    ensures copied { room.new ≡ piece_of (trace_of (held motion.old)) from (length room.old) ++
+    ensures count { result ≡ length (trace_segment_of (trace_of (held motion.old)) from (length room.old)) }
+    ensures copied { room.new ≡ trace_segment_of (trace_of (held motion.old)) from (length room.old) ++
         drop result room.old }
     ensures kept { held motion.new ≡ held motion.old }
 {
@@ -92,7 +96,7 @@ fn make_trace(alloc: Global, machine: &mut Machine, answers: &[DriveIn]) -> u32
     if !is_whole(&machine.kernel) {
         return LATER;
     }
-    if answers.len() != machine.kernel.bank().config().axes().len() {
+    if answers.len() != machine.kernel.segment().config().axes().len() {
         return LENGTH;
     }
     match trace_written(alloc, machine, answers) {
@@ -104,39 +108,39 @@ fn make_trace(alloc: Global, machine: &mut Machine, answers: &[DriveIn]) -> u32
     }
 }
 
-// Whether nothing was before the bank, so that it is the whole history.
+// Whether nothing was before the segment, so that it is the whole history.
 fn is_whole(kernel: &LastingKernel) -> bool
     ensures { IsTrue result ↔ (kernel.now.past ≡ []) }
 {
-    // law: what was before the bank is counted
+    // law: what was before the segment is counted
     kernel.keeps_laws();
-    kernel.bank().before().entries == 0
+    kernel.segment().before().entries == 0
 }
 
-// Makes the piece of a trace that a machine's bank is, and keeps it.
-fn make_piece(alloc: Global, machine: &mut Machine, answers: &[DriveIn]) -> u32
+// Makes the trace segment that a machine's segment is, and keeps it.
+fn make_trace_segment(alloc: Global, machine: &mut Machine, answers: &[DriveIn]) -> u32
     ensures length { (result ≡ 6) ↔
         (length answers.now ≢ length machine.old.kernel.kernel.config.axes) }
-    ensures made { result ≡ 0 → MakesPiece machine.old answers.now (Some machine.new) }
+    ensures made { result ≡ 0 → MakesTraceSegment machine.old answers.now (Some machine.new) }
     ensures codes { result ≢ 0 → result ≢ 6 → result ≡ 3 }
     ensures kept { result ≢ 0 → machine.new ≡ machine.old }
 {
-    if answers.len() != machine.kernel.bank().config().axes().len() {
+    if answers.len() != machine.kernel.segment().config().axes().len() {
         return LENGTH;
     }
-    match piece_written(alloc, machine.kernel.bank(), answers) {
-        Some(piece) => {
-            machine.trace = Some(piece);
+    match trace_segment_written(alloc, machine.kernel.segment(), answers) {
+        Some(trace_segment) => {
+            machine.trace = Some(trace_segment);
             OK
         }
         None => NO_MEMORY,
     }
 }
 
-// Copies a text from a place on, as far as there is room, and tells how many bytes.
+// Copies a text from a place on, as far as there is room, and says how many bytes.
 fn copy_from(text: &[u8], from: u64, room: &mut [u8]) -> u64
-    ensures count { result ≡ length (piece_of text.now from (length room.old)) }
-    ensures copied { room.new ≡ piece_of text.now from (length room.old) ++ drop result room.old }
+    ensures count { result ≡ length (trace_segment_of text.now from (length room.old)) }
+    ensures copied { room.new ≡ trace_segment_of text.now from (length room.old) ++ drop result room.old }
 {
     if from >= text.len() as u64 {
         return 0;

@@ -48,8 +48,8 @@ no-tasks s wanted k n e = absurd (cc)
 abbrev pub AsksNoRun : Option Request → Type 0
 AsksNoRun asked = (option_and_then files_of asked ≡ None) × (option_and_then tasks_of asked ≡ None)
 
--- where no run is asked, or it isn't a run's, a status that is told of what was given comes exactly
--- where a file leads to it, or a load
+-- where no run is asked, or it isn't a run's, a status that is reported of what was given comes
+-- exactly where a file leads to it, or a load
 pub told-comes : FollowPlans → (files : FileMap) (rose refused : Type 0) (Started : ℕ → Type 0)
     (asked : Option Request) (old new : Output) (s wanted : Status) →
     EndsByRequest (Some files) rose refused Started asked old new s → is_told wanted ≡ true →
@@ -171,7 +171,7 @@ illegal-comes follow files rose refused Started asked old new s place e =
     (λ r is. subst (λ a. Asks (IsIllegal place) files (option_and_then file_of a) → ⊥) (sym is)
     (λ h. h))
 
--- what tells of a text comes of a file, or of the files of a run
+-- what is about a text comes of a file, or of the files of a run
 text-only : (s wanted : Status) (A B : Type 0) → ComesExactly s wanted A → (B → ⊥) →
     ComesExactly s wanted (A ⊎ B)
 text-only s wanted A B e none = same-cause s wanted A (A ⊎ B) (λ h. inl h) (λ h. only h) e

@@ -1,4 +1,4 @@
--- Usage and the faults, whatever the files tell.
+-- Usage and the faults, whatever the files give.
 use Rattle.std.specs.Prelude.{◌≡◌, ◌≢◌, ◌⊎◌, refl, ℕ, true, false, Option, Some, None, IsSomeAnd, Err, List}
 use Rattle.std.specs.Option.{option_and_then}
 use Rattle.std.proofs.Common.{◌∙◌, inl, inr, sym, ap, subst}
@@ -241,7 +241,7 @@ write-why follow told rose refused Started (Some (of_load seed)) old new s e h =
 write-why follow told rose refused Started (Some (of_report r)) old new s e h =
     report-unwritten told rose r old new s e h
 
--- where the files are there and nothing fails, no fault comes but want of memory
+-- where the files are there and nothing fails, no fault comes but out of memory
 in-vain : (files : FileMap) (P : Job → List ℕ → Type 0) (asked : Option FileJob) →
     AsksInVain (Some files) asked → Asks P files asked → ⊥
 in-vain files P None v h = v

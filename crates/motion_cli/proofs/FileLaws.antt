@@ -11,13 +11,13 @@ use Rattle.job_ends.specs.declared.status.Status.TheVariants as status
 use Rattle.outside.specs.Told.{FileMap, IsLonger, LacksFile}
 use Rattle.outside.specs.declared.files.FilesFault.{FilesFault}
 use Rattle.outside.specs.declared.files.FilesFault.TheVariants as files
-use Rattle.piece_job.specs.Begins.{begins_as_piece}
+use Rattle.segment_job.specs.Begins.{begins_as_trace_segment}
 use Rattle.trace_jobs.specs.Plans.{check_plan, migrate_plan}
 use Rattle.trace_text.specs.writing.Writes.{Output}
 use Rattle.motion_cli.proofs.PlanLaws.{by-plan, comes, faulted, not-told, same-cause, told-unfaulted}
 use Rattle.job_ends.specs.Causes.{ComesExactly}
-use Rattle.motion_cli.specs.Causes.{CauseOf, IsTooLong, JudgingCause, LeadsTo}
-use Rattle.motion_cli.specs.Ends.{EndsByFile, EndsByFound, EndsByJudging, EndsByText}
+use Rattle.motion_cli.specs.Causes.{CauseOf, IsTooLong, VerifyingCause, LeadsTo}
+use Rattle.motion_cli.specs.Ends.{EndsByFile, EndsByFound, EndsByVerifying, EndsByText}
 use Rattle.motion_cli.specs.Plans.{most_of}
 use Rattle.command_words.specs.Requests.{FileJob}
 use Rattle.command_words.specs.declared.request.Job.{Job}
@@ -43,22 +43,22 @@ pub record EndsBySome (old new : Output) (Cause : Status → Type 0) (s : Status
   pub plan : Plan
   pub by : EndsFor old new plan Cause s
 
--- a text is judged as it begins
-pub judged-as : (is piece : Bool) (name text : List ℕ) (old new : Output) (s : Status) →
-    is ≡ piece → EndsByJudging is name text old new s → EndsByJudging piece name text old new s
-judged-as is piece name text old new s e = subst (λ b. EndsByJudging b name text old new s) e
+-- a text is verified as it begins
+pub verified-as : (is trace_segment : Bool) (name text : List ℕ) (old new : Output) (s : Status) →
+    is ≡ trace_segment → EndsByVerifying is name text old new s → EndsByVerifying trace_segment name text old new s
+verified-as is trace_segment name text old new s e = subst (λ b. EndsByVerifying b name text old new s) e
 
-judged-for : (piece : Bool) (name text : List ℕ) (old new : Output) (s : Status) →
-    EndsByJudging piece name text old new s → EndsBySome old new (JudgingCause piece text) s
-judged-for true name text old new s e = record { plan = e.plan; by = e.by }
-judged-for false name text old new s e = record { plan = check_plan name text; by = e.by }
+verified-for : (trace_segment : Bool) (name text : List ℕ) (old new : Output) (s : Status) →
+    EndsByVerifying trace_segment name text old new s → EndsBySome old new (VerifyingCause trace_segment text) s
+verified-for true name text old new s e = record { plan = e.plan; by = e.by }
+verified-for false name text old new s e = record { plan = check_plan name text; by = e.by }
 
 -- a job with a text ends by a plan, for its cause
 pub ends-for : (job : Job) (name text : List ℕ) (old new : Output) (s : Status) →
     EndsByText job name text old new s → EndsBySome old new (CauseOf job text) s
 ends-for Bench name text old new s e = record { plan = bench_plan name text; by = e.by }
 ends-for Check name text old new s e =
-    judged-for (begins_as_piece text) name text old new s e
+    verified-for (begins_as_trace_segment text) name text old new s e
 ends-for Migrate name text old new s e = record { plan = migrate_plan name text; by = e.by }
 
 -- the plan by which it ended, by what a read of the file found
@@ -74,7 +74,7 @@ ends-by r Unread old new s e = e
 ends-by r Longer old new s e = e
 ends-by r (Content text) old new s e = (ends-for r.job r.name text old new s e).by.ends
 
--- ---- what is told of a text
+-- ---- what is reported of a text
 
 no-longer : (job : Job) (o : Option (List ℕ)) (P : List ℕ → Type 0) →
     ((text : List ℕ) → P text → length text ≤ most_of job) →
@@ -102,7 +102,7 @@ unread-fault follow old new name s e = by (by-plan follow old new (unread_plan 1
     by (inl h) = ap is_fault h
     by (inr h) = h
 
--- a status that is told comes exactly of its cause
+-- a status that is reported comes exactly of its cause
 pub found-comes : FollowPlans → (files : FileMap) (rose : Type 0) (r : FileJob) (old new : Output)
     (s wanted : Status) → is_told wanted ≡ true → (found : Found) →
     IsFound (Some files) rose r.name (most_of r.job) found → EndsByFound r found old new s →

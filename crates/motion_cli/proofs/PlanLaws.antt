@@ -25,7 +25,7 @@ pub by-plan : FollowPlans → (old new : Output) (p : Plan) (s : Status) → End
 by-plan follow old new p s e =
     by-statuses s p.status (Rose old.count new.count) (follow.statuses old new p s e)
 
--- a status that is told of what was given is not this one
+-- a status that is reported of what was given is not this one
 pub not-told : (s wanted : Status) → is_told s ≡ true → is_told wanted ≡ false → s ≢ wanted
 not-told s wanted t f e = let bad : true ≡ false = sym t ∙ ap is_told e ∙ f in absurd (cc)
 

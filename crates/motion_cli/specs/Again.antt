@@ -16,7 +16,8 @@ BenchTracesAreLegal = (files : Option FileMap) (name : List ℕ) (old new : Opti
     (h : Headline files name old new) →
     IsLegalTrace (found_trace h.bench.version Bench h.bench.config h.history h.drives)
 
--- what is read of the trace of a run is a legal trace, however many jobs were there before and after
+-- what is read of the trace of a run is a legal trace, however many jobs were there before and
+-- after
 abbrev pub RunTracesAreLegal : Type 0
 RunTracesAreLegal = (files : Option FileMap) (config program : List ℕ) (old new : Option (List ℕ))
     (before after : ℕ) (s : Status)

@@ -8,8 +8,8 @@ use Rattle.job_ends.specs.declared.status.Status.TheVariants as status
 use Rattle.machine_config.specs.declared.machine.Machine.{Machine}
 use Rattle.motion_history.specs.declared.refused.TextRefused.{TextRefused}
 use Rattle.outside.specs.Told.{FileMap, LacksFile}
-use Rattle.piece_job.specs.Begins.{begins_as_piece}
-use Rattle.piece_job.specs.Causes.{PieceCause}
+use Rattle.segment_job.specs.Begins.{begins_as_trace_segment}
+use Rattle.segment_job.specs.Causes.{TraceSegmentCause}
 use Rattle.plc_program.specs.Reading.{Outcome}
 use Rattle.run_job.specs.Causes.{plant_in}
 use Rattle.st_check.specs.Reading as st
@@ -25,7 +25,7 @@ abbrev pub Asks : (Job → List ℕ → Type 0) → FileMap → Option FileJob �
 Asks P files None = ⊥
 Asks P files (Some r) = IsSomeAnd (files r.name) (P r.job)
 
--- the words ask for a file that the told files lack
+-- the words ask for a file that the reported files lack
 abbrev pub AsksInVain : Option FileMap → Option FileJob → Type 0
 AsksInVain told asked = IsSomeAnd asked (λ (r : FileJob). LacksFile told r.name)
 
@@ -64,16 +64,16 @@ IsTooLong job text = most_of job < length text
 abbrev pub IsThere : Job → List ℕ → Type 0
 IsThere job text = Unit {0}
 
--- the cause of each status where a text is checked: as a piece where it begins as one, else as a
--- trace
-abbrev pub JudgingCause : Bool → List ℕ → Status → Type 0
-JudgingCause true text = PieceCause text
-JudgingCause false text = CheckCause text
+-- the cause of each status where a text is checked: as a trace segment where it begins as one, else
+-- as a trace
+abbrev pub VerifyingCause : Bool → List ℕ → Status → Type 0
+VerifyingCause true text = TraceSegmentCause text
+VerifyingCause false text = CheckCause text
 
 -- the cause of each status of a job
 abbrev pub CauseOf : Job → List ℕ → Status → Type 0
 CauseOf Bench text = BenchCause text
-CauseOf Check text = JudgingCause (begins_as_piece text) text
+CauseOf Check text = VerifyingCause (begins_as_trace_segment text) text
 CauseOf Migrate text = MigrateCause text
 
 -- a text that is not too long leads to a status, by the causes of its job
@@ -89,12 +89,13 @@ IsRefused word r = LeadsTo (status.TextRefused word r.place r.rule)
 abbrev pub RunsTo : Result (Unit {0}) RunFault → Job → List ℕ → Type 0
 RunsTo ending = LeadsTo (status_of ending)
 
--- it is a legal trace, or a legal piece of one, that is to be checked, with so many entries
+-- it is a legal trace, or a legal trace segment of one, that is to be checked, with this many
+-- entries
 abbrev pub IsChecked : ℕ → Job → List ℕ → Type 0
 IsChecked entries = LeadsTo (status.Legal entries)
 
--- it is a trace that is to be checked or migrated, or a piece that is to be checked, and is not
--- legal: this is the number of its first record that is not the machine's
+-- it is a trace that is to be checked or migrated, or a trace segment that is to be checked, and is
+-- not legal: this is the number of its first record that is not the machine's
 abbrev pub IsIllegal : ℕ → Job → List ℕ → Type 0
 IsIllegal place = LeadsTo (status.Illegal place)
 

@@ -6,8 +6,8 @@ use Rattle.job_ends.specs.Plans.{too_long_plan, unread_plan}
 use Rattle.job_ends.specs.declared.status.Status.{Status}
 use Rattle.load_job.specs.Ends.{EndsByLoad}
 use Rattle.outside.specs.Told.{FileMap}
-use Rattle.piece_job.specs.Begins.{begins_as_piece}
-use Rattle.piece_job.specs.Ends.{EndsByPiece}
+use Rattle.segment_job.specs.Begins.{begins_as_trace_segment}
+use Rattle.segment_job.specs.Ends.{EndsByTraceSegment}
 use Rattle.run_job.specs.Ends.{EndsByRun}
 use Rattle.st_job.specs.Ends.{EndsBySt}
 use Rattle.trace_jobs.specs.Ends.{EndsByCheck, EndsByMigrate}
@@ -18,16 +18,17 @@ use Rattle.command_words.specs.Requests.{FileJob, Request, asked_of, of_file, of
 use Rattle.command_words.specs.declared.request.Job.{Job}
 use Rattle.command_words.specs.declared.request.Job.TheVariants.{Bench, Check, Migrate}
 
--- it ended as the check of a text leads to: of a piece where it begins as one, else of a trace
-abbrev pub EndsByJudging : Bool → List ℕ → List ℕ → Output → Output → Status → Type 0
-EndsByJudging true name text old new s = EndsByPiece name text old new s
-EndsByJudging false name text old new s = EndsByCheck name text old new s
+-- it ended as the check of a text leads to: of a trace segment where it begins as one, else of a
+-- trace
+abbrev pub EndsByVerifying : Bool → List ℕ → List ℕ → Output → Output → Status → Type 0
+EndsByVerifying true name text old new s = EndsByTraceSegment name text old new s
+EndsByVerifying false name text old new s = EndsByCheck name text old new s
 
 -- it ended as the job leads to with a text
 abbrev pub EndsByText : Job → List ℕ → List ℕ → Output → Output → Status → Type 0
 EndsByText Bench name text old new s = EndsByBench name text old new s
 EndsByText Check name text old new s =
-    EndsByJudging (begins_as_piece text) name text old new s
+    EndsByVerifying (begins_as_trace_segment text) name text old new s
 EndsByText Migrate name text old new s = EndsByMigrate name text old new s
 
 -- it ended as what a read of the file found leads to
@@ -43,8 +44,8 @@ pub record EndsByFile (told : Option FileMap) (rose : Type 0) (r : FileJob) (old
   pub is_found : IsFound told rose r.name (most_of r.job) found
   pub ends : EndsByFound r found old new s
 
--- how the program ends: words that are no request are told what is one; else it is as the file, the
--- run, the load, the tasks or the report leads to, or there was no memory to read the file
+-- how the program ends: words that are no request are given what is one; else it is as the file,
+-- the run, the load, the tasks or the report leads to, or there was no memory to read the file
 abbrev pub EndsByRequest : Option FileMap → Type 0 → Type 0 → (ℕ → Type 0) → Option Request →
     Output → Output → Status → Type 0
 EndsByRequest told rose refused Started None old new s = EndsBy old new usage_plan s

@@ -6,13 +6,13 @@ use Rattle.job_ends.specs.declared.status.Status.TheVariants as status
 use Rattle.command_words.specs.declared.request.Job.{Job}
 use Rattle.command_words.specs.declared.request.Job.TheVariants.{Bench, Check, Migrate}
 
--- the line that tells which words the program takes
+-- the line that says which words the program takes
 abbrev pub usage_line : List ℕ
 usage_line = concat
     (codes "usage: motion bench FILE | run CONFIG PROGRAM | check TRACE | gen SEED | migrate TRACE"
     ∷ codes " | st CONFIG FILE | switches TRACE FILE | standby FILE CUT | scope TRACE WORKERS\n" ∷ [])
 
--- what faulty words lead to: they are told what the program takes
+-- what faulty words lead to: they are given what the program takes
 abbrev pub usage_plan : Plan
 usage_plan = record { status = status.Usage; text = usage_line }
 

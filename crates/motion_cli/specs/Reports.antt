@@ -29,7 +29,7 @@ LacksFor files (of_scope trace) word = status_in files trace ≡ status.ReadFaul
 abbrev pub AsksWithAll : FileMap → Option Report → Type 0
 AsksWithAll files asked = IsSomeAnd asked (λ (r : Report). (word : ℕ) → LacksFor files r word → ⊥)
 
--- the words ask for a report, and the told files lack that of this word
+-- the words ask for a report, and the reported files lack that of this word
 abbrev pub ReportsInVain : Option FileMap → Option Report → ℕ → Type 0
 ReportsInVain told asked word =
     IsSomeAnd told (λ files. IsSomeAnd asked (λ (r : Report). LacksFor files r word))

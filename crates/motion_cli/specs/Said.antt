@@ -22,7 +22,7 @@ use Rattle.switch_job.specs.Switched.{Switched}
 use Rattle.trace_jobs.specs.Migrated.{Migrated}
 use Rattle.trace_text.specs.writing.Writes.{Output}
 
--- by its words, the told files, the counts of faults and what was written, a status says this
+-- by its words, the reported files, the counts of faults and what was written, a status says this
 pub record IsSaid (told : Option FileMap) (rose unstarted : Type 0) (Started : ℕ → Type 0)
     (words : List (List ℕ)) (old new : Output) (s : Status) : Type 0 where
   -- Ok to `gen`: the line of the load that the seed generates
@@ -97,7 +97,7 @@ pub record IsSaid (told : Option FileMap) (rose unstarted : Type 0) (Started : �
       AsksReport (status.Illegal place) files (report_of words))
   -- writing failed
   pub write_fault : s ≡ status.WriteFault → Rose old.count new.count
-  -- where files are there and no count of faults rose, no fault comes but want of memory
+  -- where files are there and no count of faults rose, no fault comes but out of memory
   pub faultless : (files : FileMap) → told ≡ Some files →
       ((Asks IsThere files (request_of words) ⊎ AsksRun LacksNone files (run_of words)) ⊎
       AsksTasks LacksNone files (tasks_run_of words)) ⊎ AsksWithAll files (report_of words) →

@@ -104,16 +104,16 @@ fn top_of_words<F: Files, K: Sink, H: Host + Wait + Sync, G: Gate + Drop + Send 
 /// Does what the words ask for with the files, writes to the output, and answers how it ended. A
 /// run starts its threads by the spawner, and each turn of a task passes a twin of the gate.
 ///
-/// Where it answers Ok, CyclesOver or HistoryFull to `bench`, `run` or `st`, what was written is the
-/// trace of a bench or of a run, as the headlines say, and `standby` is as `bench`; where it answers
-/// Ok to `migrate`, the trace that was read, in version 2; to `gen`, the line of the load that the
-/// seed generates; to `switches`, the edges of the switches in a legal trace; to `scope`, the report
-/// of the trace. Where it answers Legal to `check`, the text is a legal trace; or it begins with
-/// `piece,` and is a piece of one, a machine may begin as its head tells, the trace behind the head
-/// is legal from that machine on, and behind the line stands the head with which the next piece must
-/// begin. Each status comes of its cause; and where the files are there and no count of faults
-/// rose, no fault comes but want of memory. A run waits for its threads, so that it may never
-/// return.
+/// Where it answers Ok, CyclesOver or HistoryFull to `bench`, `run` or `st`, what was written is
+/// the trace of a bench or of a run, as the headlines say, and `standby` is as `bench`; where it
+/// answers Ok to `migrate`, the trace that was read, in version 2; to `gen`, the line of the load
+/// that the seed generates; to `switches`, the edges of the switches in a legal trace; to `scope`,
+/// the report of the trace. Where it answers Legal to `check`, the text is a legal trace; or it
+/// begins with `trace_segment,` and is a trace segment of one, a machine may begin as its header
+/// says, the trace after the header is legal from that machine on, and after the line stands the
+/// header with which the next trace segment must begin. Each status comes of its cause; and where
+/// the files are there and no count of faults rose, no fault comes but out of memory. A run waits
+/// for its threads, so that it may never return.
 pub fn top<F: Files, K: Sink, H: Host + Wait + Sync, G: Gate + Drop + Send + 'static>(
     rt: &H,
     alloc: Global,

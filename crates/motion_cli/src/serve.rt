@@ -15,16 +15,16 @@ use command_words::{Job, Request};
 use job_ends::{Status, say_unread};
 use load_job::run_load;
 use outside::{Files, Gate, Host, MOST_JOBS, Sink, Spawner};
-use piece_job::{check_piece_text, is_piece};
 use run_job::{PlantJob, RunNames, run_files};
 use scope_job::scope_file;
+use segment_job::{check_trace_segment_text, is_trace_segment};
 use st_job::st_files;
 use std::alloc::Global;
 use std::sync::Wait;
 use switch_job::switch_files;
 use trace_jobs::{check_text, migrate_text};
 
-/// Does what is asked, or tells what can be asked.
+/// Does what is asked, or says what can be asked.
 pub fn serve<F: Files, K: Sink, H: Host + Wait + Sync, G: Gate + Drop + Send + 'static>(
     rt: &H,
     alloc: Global,
@@ -93,7 +93,7 @@ fn serve_request<F: Files, K: Sink, H: Host + Wait + Sync, G: Gate + Drop + Send
     }
 }
 
-// What is to be done with a file, and behind how many events a bench is handed over to a standby.
+// What is to be done with a file, and after how many events a bench is handed over to a standby.
 #[derive(Clone, Copy)]
 struct Work {
     job: Job,
@@ -161,19 +161,19 @@ fn do_job<K: Sink>(alloc: Global, work: Work, name: &str, text: Vec<u8>, out: &m
 {
     match work.job {
         Job::Bench => run_text(alloc, name, text.as_slice(), work.cut, out),
-        Job::Check => judge_text(alloc, name, text, out),
+        Job::Check => verify_text(alloc, name, text, out),
         Job::Migrate => migrate_text(alloc, name, text, out),
     }
 }
 
-// Judges a text: as a piece of a trace where it begins as one, else as a trace.
-fn judge_text<K: Sink>(alloc: Global, name: &str, text: Vec<u8>, out: &mut K) -> Status
+// Verifies a text: as a trace segment where it begins as one, else as a trace.
+fn verify_text<K: Sink>(alloc: Global, name: &str, text: Vec<u8>, out: &mut K) -> Status
     ensures { EndsByText Job.Check name.now text.items
         (record { count = K.count out.old; told = K.told out.old })
         (record { count = K.count out.new; told = K.told out.new }) result }
 {
-    if is_piece(text.as_slice()) {
-        check_piece_text(alloc, name, text, out)
+    if is_trace_segment(text.as_slice()) {
+        check_trace_segment_text(alloc, name, text, out)
     } else {
         check_text(alloc, name, text, out)
     }

@@ -72,7 +72,7 @@ append-distinct e flips (x ∷ xs) ys h k apart =
     (each-append _ xs ys (IsDistinct-head e x xs h) (each-weaker _ _ (λ y n. flips x y ∙ (or_parts (e y x) (list_any (e y) xs) n).0) ys apart))
     (append-distinct e flips xs ys (IsDistinct-tail e x xs h) k (each-weaker _ _ (λ y n. (or_parts (e y x) (list_any (e y) xs) n).1) ys apart))
 
--- the test tells a list without two equal numbers
+-- the test recognises a list without two equal numbers
 are_distinct-true : (ns : List ℕ) → are_distinct ns ≡ true → IsDistinct nat_eq ns
 unfolding IsDistinct
 are_distinct-true [] h = tt

@@ -36,7 +36,7 @@ pub cycles_of-few : (es : List Entry) → cycles_of es ≤ length es
 cycles_of-few [] = omega arith
 cycles_of-few (e ∷ es) = let h = cycles_of-few es in let k = cycle_count-few e in omega arith
 
--- so many entries are kept
+-- this many entries are kept
 pub length-entries_of : (s : Store) (es : List Stored) → length (entries_of s es) ≡ length es
 unfolding entries_of
 length-entries_of s es = length-map es _
@@ -57,7 +57,7 @@ pub entries_of-none : (s : Store) → entries_of s [] ≡ []
 unfolding entries_of
 entries_of-none s = refl
 
--- n times width is one width behind n - 1 times width
+-- n times width is one width after n - 1 times width
 before_last : (n width : ℕ) → 1 ≤ n → (n - 1) * width + width ≡ n * width
 before_last zero width some = absurd (omega arith)
 before_last (suc n) width some = let e : suc n - 1 ≡ n = omega arith in rw e (omega arith)
@@ -77,13 +77,13 @@ rows_at-more width n made rows more some there len =
     let enough : width ≤ length (drop ((n - 1) * width) rows) = omega arith in
     rw d (take-append-le width _ more enough)
 
--- the rows of the next cycle are all that stand behind those of the cycles before
+-- the rows of the next cycle are all that stand after those of the cycles before
 pub rows_at-next : {X : Type 0} (width made : ℕ) (rows : List X) → length (drop (made * width) rows) ≡ width →
     rows_at width (made + 1) rows ≡ drop (made * width) rows
 rows_at-next width made rows len =
     ap (λ k. take width (drop (k * width) rows)) (add_sub made) ∙ take_all width (drop (made * width) rows) (omega arith)
 
--- a store that has what another has, and more behind it
+-- a store that has what another has, and more after it
 pub record Extends (s more : Store) (called made : ℕ) : Type 0 where
   pub axes : more.axes ≡ s.axes
   pub groups : more.groups ≡ s.groups
@@ -97,7 +97,7 @@ pub record Extends (s more : Store) (called made : ℕ) : Type 0 where
   pub group_rows : more.group_rows ≡ s.group_rows ++ new_groups
   pub all_groups : made * s.groups ≤ length s.group_rows
 
--- an element that is there stays where more stand behind
+-- an element that is there stays where more stand after
 slice_get-front : {X : Type 0} (xs ys : List X) (i : ℕ) → i < length xs → slice_get (xs ++ ys) i ≡ slice_get xs i
 slice_get-front [] ys i l = absurd (omega arith)
 slice_get-front (x ∷ xs) ys zero l = refl

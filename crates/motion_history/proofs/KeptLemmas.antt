@@ -16,7 +16,7 @@ use Rattle.motion_history.specs.Kept.{store_of, state_of, IsKept}
 use Rattle.motion_history.proofs.DistinctLemmas.{each-append}
 use Rattle.motion_history.proofs.HistoryLemmas.{Extends, cycles_of-more, length-entries_of, entries_of-none, entries_of-more, entries_of-extends, slice_get-entries_of, rows_at-next, AllMade-later, AllMade-at}
 
--- so many entries are kept
+-- this many entries are kept
 pub kept-length : (h : Inside) → length (state_of h).entries ≡ vec_len h.stored
 kept-length h = length-entries_of (store_of h) h.stored.items ∙ sym h.stored.ok.0
 
@@ -133,7 +133,8 @@ is_next h next e entry calls cycles k a g is counted room made = record {
   state = state-next h next e entry k a is;
 }
 
--- the history that contracts see has one more entry, and the rows of a cycle in the making as before
+-- the history that contracts see has one more entry, and the rows of a cycle in the making as
+-- before
 pub state-then : (h next : Inside) (s : HistoryState) (entry : Entry) → IsNext h next entry →
     (state_of next).rows ≡ (state_of h).rows → (state_of next).group_rows ≡ (state_of h).group_rows → state_of h ≡ s →
     state_of next ≡ record s { entries = s.entries ++ entry ∷ [] }
@@ -173,7 +174,7 @@ pub record AddsCall (h : Inside) (entries : Vec Stored Global) (calls : Vec Call
   pub call_room : vec_capacity calls ≡ vec_capacity h.calls
   pub last : place ≡ vec_len h.calls
 
--- the last element stands behind the others
+-- the last element stands after the others
 slice_get-last : {X : Type 0} (xs : List X) (x : X) → slice_get (xs ++ x ∷ []) (length xs) ≡ Some x
 slice_get-last [] x = refl
 slice_get-last (y ∷ xs) x = slice_get-last xs x
@@ -234,7 +235,7 @@ end-next h entries task k room items len capacity =
     } in
     is_next h next (stored.End task) _ 0 0 k adds grows refl refl room k.made
 
--- what stands behind the rows of all cycles is the cycle in the making
+-- what stands after the rows of all cycles is the cycle in the making
 behind : {X : Type 0} (rows : Vec X Global) (made width : ℕ) → made * width ≤ vec_len rows → length (drop (made * width) rows.items) ≡ width →
     (made + 1) * width ≡ vec_len rows
 behind rows made width there len =
@@ -242,7 +243,7 @@ behind rows made width there len =
     let d : length (drop (made * width) rows.items) ≡ length rows.items - made * width = length-drop _ rows.items in
     omega arith
 
--- behind the rows of as many cycles as there are, none stand
+-- after the rows of as many cycles as there are, none stand
 none_behind : {X : Type 0} (rows : Vec X Global) (n : ℕ) → n ≡ vec_len rows → drop n rows.items ≡ []
 none_behind rows n e = drop_all n rows.items (let l : vec_len rows ≡ length rows.items = rows.ok.0 in omega arith)
 
@@ -317,14 +318,14 @@ row-room rows made most width there more room few =
     let whole : (made + 1) * width ≤ most * width = mul-le-mul_right width (omega arith) in
     omega arith
 
--- a row stands behind those that a cycle in the making has
+-- a row stands after those that a cycle in the making has
 pub row-behind : {X : Type 0} (rows more : Vec X Global) (n : ℕ) (row : X) → n ≤ vec_len rows → more.items ≡ rows.items ++ row ∷ [] →
     drop n more.items ≡ drop n rows.items ++ row ∷ []
 row-behind rows more n row there items =
     let l : vec_len rows ≡ length rows.items = rows.ok.0 in
     ap (drop n) items ∙ drop-append-le n rows.items (row ∷ []) (omega arith)
 
--- the entries with more rows behind those of all cycles
+-- the entries with more rows after those of all cycles
 entries-same : (h next : Inside) → IsKept h → Extends (store_of h) (store_of next) (vec_len h.calls) h.made → next.stored ≡ h.stored →
     (state_of next).entries ≡ (state_of h).entries
 entries-same h next k x same =
@@ -433,7 +434,7 @@ IsThere-found h place e kept f =
     IsThere-made h e kept (AllMade-at (vec_len h.calls) h.made h.stored.items place e kept.numbers
     ((λ i. slice_get (sym f.same i) place) ∙ sym f.at ∙ f.some ∙ ap Some f.is))
 
--- what is found at a place of the array tells the entry at this place of the history
+-- what is found at a place of the array gives the entry at this place of the history
 pub entry-at : (h : Inside) (s : HistoryState) (place : ℕ) (es : List Stored) (o : Option Stored) → state_of h ≡ s →
     es ≡ h.stored.items → o ≡ slice_get es place → option_map (entry_of (store_of h)) o ≡ slice_get s.entries place
 entry-at h s place es o e same found =

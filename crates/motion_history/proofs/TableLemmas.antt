@@ -15,17 +15,17 @@ use Rattle.motion_history.specs.Faults.{IsPointsFault}
 abbrev pub HaveNoFault : Type 0
 HaveNoFault = (points : List (ℤ × ℤ)) (f : CamFault) → IsCamTable points → IsFault points f → ⊥
 
--- what is told of want of memory is no other fault
+-- what is reported of out of memory is no other fault
 not_told : (full : Bool) (f : ConfigFault) → f ≢ TooMany → f ≢ OutOfMemory → (if full then TooMany else OutOfMemory) ≡ f → ⊥
 not_told true f a b e = a (sym e)
 not_told false f a b e = b (sym e)
 
--- a fault is told exactly where it is the reason
+-- a fault is reported exactly where it is the reason
 abbrev pub IsExact : ℕ → List (ℤ × ℤ) → ConfigFault → Type 0
 IsExact tables points told = (f : ConfigFault) → f ≢ OutOfMemory →
     (told ≡ f → IsPointsFault tables points f) × (IsPointsFault tables points f → told ≡ f)
 
--- what is told where memory ran out
+-- what is reported where memory ran out
 without_memory : HaveNoFault → (tables : ℕ) (points : List (ℤ × ℤ)) (told : ConfigFault) → IsCamTable points →
     told ≡ (if nat_le MOST_TABLES tables then TooMany else OutOfMemory) → IsExact tables points told
 without_memory sound tables points told t h (Table g) n =
@@ -45,7 +45,7 @@ without_memory sound tables points told t h OutOfRange n = (λ e. absurd (not_to
 without_memory sound tables points told t h TooFew n = (λ e. absurd (not_told _ TooFew (λ x. cc) n (sym h ∙ e)), λ i. absurd i)
 without_memory sound tables points told t h OutOfMemory n = absurd (n refl)
 
--- what is told where the points have a fault
+-- what is reported where the points have a fault
 with_fault : HaveNoFault → (tables : ℕ) (points : List (ℤ × ℤ)) (fault : CamFault) (told : ConfigFault) → IsFault points fault →
     ((f : CamFault) → IsFault points f → fault ≡ f) → told ≡ Table fault → IsExact tables points told
 with_fault sound tables points fault told is only h (Table g) n =
@@ -58,7 +58,7 @@ with_fault sound tables points fault told is only h OutOfRange n = (λ e. absurd
 with_fault sound tables points fault told is only h TooFew n = (λ e. absurd (cc), λ i. absurd i)
 with_fault sound tables points fault told is only h OutOfMemory n = absurd (n refl)
 
--- no fault of points is want of memory
+-- no fault of points is out of memory
 other_than_memory : (points : List (ℤ × ℤ)) (f : CamFault) → IsFault points f → f ≢ cam.OutOfMemory
 other_than_memory points f is e = subst (λ (g : CamFault). IsFault points g) e is
 
@@ -67,7 +67,7 @@ pub record IsMade {A : Type 0} (points : List (ℤ × ℤ)) (r : Result A CamFau
   pub refused : (f : CamFault) → f ≢ cam.OutOfMemory → (r ≡ Err f → IsFault points f) × (IsFault points f → r ≡ Err f)
   pub memory : r ≡ Err cam.OutOfMemory → IsCamTable points
 
--- how an answer without a table is told
+-- how an answer without a table is reported
 pub record IsTold (tables : ℕ) (fault : CamFault) (told : ConfigFault) : Type 0 where
   pub points : fault ≢ cam.OutOfMemory → told ≡ Table fault
   pub memory : fault ≡ cam.OutOfMemory → told ≡ (if nat_le MOST_TABLES tables then TooMany else OutOfMemory)
@@ -78,7 +78,7 @@ by_fault sound tables points r fault told made is t other =
     with_fault sound tables points fault told ((made.refused fault other).0 is)
     (λ f i. let e : r ≡ Err f = (made.refused f (other_than_memory points f i)).1 i in cc) (t.points other)
 
--- an answer without a table is told exactly where it is the reason
+-- an answer without a table is reported exactly where it is the reason
 pub told-exact : {A : Type 0} → HaveNoFault → (tables : ℕ) (points : List (ℤ × ℤ)) (r : Result A CamFault) (fault : CamFault) (told : ConfigFault) →
     IsMade points r → r ≡ Err fault → IsTold tables fault told → IsExact tables points told
 told-exact sound tables points r cam.OutOfMemory told made is t = without_memory sound tables points told (made.memory is) (t.memory refl)

@@ -66,8 +66,8 @@ group_fault s name axes =
     then Some TooMany
     else if nat_lt (length axes) 2 then Some TooFew else None)
 
--- why the points of one more table beside so many are refused: they make none, or there are as many
--- tables as there may be
+-- why the points of one more table beside this many are refused: they make none, or there are as
+-- many tables as there may be
 abbrev pub IsPointsFault : ℕ → List (ℤ × ℤ) → ConfigFault → Type 0
 IsPointsFault tables points (Table fault) = IsFault points fault
 IsPointsFault tables points TooMany = IsCamTable points × (MOST_TABLES ≤ tables)

@@ -1,4 +1,4 @@
--- What a look at an entry tells.
+-- What a look at an entry gives.
 use Rattle.motion_history.specs.declared.entry.EntryLook.{EntryLook}
 use Rattle.motion_history.specs.declared.entry.EntryLook.TheVariants as look
 use Rattle.motion_history.specs.Entries.{Entry, call, cycle, end_of}

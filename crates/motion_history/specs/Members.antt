@@ -8,13 +8,13 @@ use Rattle.motion_history.specs.declared.config.GroupDef.{GroupDef}
 abbrev pub members_of : GroupDef → List ℕ
 members_of d = take d.count d.axes
 
--- the group of these axes: 0 stands behind them
+-- the group of these axes: 0 stands after them
 abbrev pub group_of : List ℕ → List ℕ → GroupDef
 group_of name axes =
     let behind = replicate (MOST_MEMBERS - length axes) 0 in
     record { name = name; count = length axes; axes = axes ++ behind }
 
--- a group has 2 to 6 axes that are there, and 0 stands behind them
+-- a group has 2 to 6 axes that are there, and 0 stands after them
 pub record IsGroup (axes : ℕ) (d : GroupDef) : Type 0 where
   pub some : 2 ≤ d.count
   pub few : d.count ≤ MOST_MEMBERS

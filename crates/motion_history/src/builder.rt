@@ -42,7 +42,7 @@ impl Model for Builder {
 }
 
 impl Builder {
-    /// A configuration without items, with room for so many cycles and entries of the history.
+    /// A configuration without items, with room for this many cycles and entries of the history.
     pub fn open(alloc: Global, cycles: u32, entries: u32) -> Result<Builder, ConfigFault>
         ensures ok { IfOk result (λ b. b ≡ record {
           axes = [];

@@ -33,7 +33,7 @@ impl FaultList {
         }
     }
 
-    /// Adds a step behind the others.
+    /// Adds a step after the others.
     pub fn push(&mut self, step: u32) -> Result<(), OutOfMemory>
         requires { length self.old + 1 < 2 ^ 32 }
         ensures ok { OnOk result (self.new ≡ self.old ++ step ∷ []) }
@@ -109,7 +109,7 @@ impl DriveDefs {
         DriveDefs { defs }
     }
 
-    /// Adds a drive behind the others.
+    /// Adds a drive after the others.
     pub fn push(&mut self, def: DriveDef) -> Result<(), OutOfMemory>
         requires { length self.old + 1 < 2 ^ 32 }
         ensures ok { OnOk result (self.new ≡ self.old ++ def ∷ []) }

@@ -75,7 +75,7 @@ pub fn call_at<'a>(calls: &'a [CallMade], place: u32) -> EntryLook<'a>
     }
 }
 
-/// The rows of a cycle, counted from 1, where each cycle has so many.
+/// The rows of a cycle, counted from 1, where each cycle has this many.
 pub fn rows_at<T>(rows: &[T], width: usize, number: u32) -> &[T]
     requires some { 1 ≤ number }
     requires there { number * width ≤ length rows.now }

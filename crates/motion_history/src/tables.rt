@@ -11,7 +11,7 @@ use cam_table::{CamFault, CamTable, points_have_one_fault};
 use out_of_memory::OutOfMemory;
 use std::alloc::Global;
 
-/// The table of these points, as one more beside so many.
+/// The table of these points, as one more beside this many.
 pub fn new_table(
     alloc: Global,
     points: &[(i64, i64)],

@@ -143,7 +143,7 @@ marked_cycled s es marks next e are is other made = rw made (record {
   each = λ t l. get_or-map quieted marks t Quiet Quiet (let n = are.long in let f = are.few in omega (arith, n, f, l)) ∙ ap quieted (are.each t l) ∙ sym (mark_cycled s es e t is (other t));
 })
 
--- the marks of so many tasks that are so, counted
+-- the marks of this many tasks that are so, counted
 pub counted : (p : TaskMark → Bool) (q : ℕ → Bool) (marks : List TaskMark) (n : ℕ) → n ≤ length marks → ((t : ℕ) → t < n → p (mark_at marks t) ≡ q t) →
     length (filter p (take n marks)) ≡ count_below q n
 unfolding count_below

@@ -22,7 +22,7 @@ pub by_if : {X : Type 0} (P : X → Type 0) (b : Bool) (x y : X) → P x → P y
 by_if P true x y p q = p
 by_if P false x y p q = q
 
--- telling leaves the number of instances
+-- reporting leaves the number of instances
 pub told_length : (ns : List Note) (is : List InstanceState) → length (told_notes ns is) ≡ length is
 told_length [] is = omega arith
 told_length (n ∷ ns) is = told_length ns _ ∙ length-set is _ _

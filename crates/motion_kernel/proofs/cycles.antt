@@ -2,5 +2,5 @@
 pub mod Steps
 pub mod Rows
 pub mod Entries
-pub mod Finders
+pub mod Polled
 pub mod OneAxis

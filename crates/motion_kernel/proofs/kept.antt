@@ -22,5 +22,5 @@ pub mod GroupsAndAxes
 pub mod GroupResets
 pub mod Cycles
 pub mod Machine
-pub mod Banked
+pub mod Segmented
 pub mod Kernel

@@ -44,7 +44,7 @@ pub record IsCycleOf (s : Setup) (m : Machine) (rows : List AxisRow) (grows : Li
   pub axes : rows ≡ (cycled s m (inputs_of rows)).axes
   pub groups : grows ≡ (cycled s m (inputs_of rows)).groups
 
--- an entry is the machine's, after so many cycles
+-- an entry is the machine's, after this many cycles
 abbrev pub IsOf : Setup → ℕ → Machine → Entry → Type 0
 IsOf s cycles m (call k i reply) = IsCall s k i × (reply ≡ reply_of s m k i)
 IsOf s cycles m (cycle n rows grows) = (n ≡ cycles + 1) × IsCycleOf s m rows grows
@@ -56,8 +56,8 @@ Follows s cycles m [] = Unit {0}
 Follows s cycles m (e ∷ es) =
     IsOf s cycles m e × Follows s (cycles + cycle_count e) (after s m e) es
 
--- a history is legal from a machine on: it keeps within the room of a configuration, and folding that
--- machine gives each reply and each row
+-- a history is legal from a machine on: it keeps within the room of a configuration, and folding
+-- that machine gives each reply and each row
 pub record IsLegalFrom (s : Setup) (m : Machine) (es : List Entry) : Type 0 where
   pub entries : length es ≤ s.entries
   pub cycles : cycles_of es ≤ s.cycles

@@ -9,6 +9,6 @@ pub mod Histories
 pub mod Tasks
 pub mod Marked
 pub mod KernelState
-pub mod Banks
+pub mod Segments
 pub mod Counted
 pub mod kept

@@ -23,7 +23,7 @@ pub record PlacedGroup : Type 0 where
   pub path : Option OnPath
 
 -- the machine: its axes, its groups and the instances of its blocks in the order of their numbers,
--- and the commands that wait, those of each axis and behind them those of each group. This
+-- and the commands that wait, those of each axis and after them those of each group. This
 -- project's profile
 pub record Machine : Type 0 where
   pub axes : List Axis
@@ -87,14 +87,14 @@ group_at m j = group_among m.groups j
 abbrev pub instance_at : List InstanceState → ℕ → InstanceState
 instance_at instances k = slice_index_or instances k no_instance
 
--- in which list the commands wait for a group: behind those of the axes
+-- in which list the commands wait for a group: after those of the axes
 abbrev pub list_of : Machine → ℕ → ℕ
 list_of m j = length m.axes + j
 
--- an axis with the commands that wait for it, of which nothing is told yet
+-- an axis with the commands that wait for it, of which nothing is reported yet
 abbrev pub axis_core_at : Machine → ℕ → axis.Core
 axis_core_at m n = axis.core_at (axis_at m n) m.queues n []
 
--- a group with its path and the commands that wait for it, of which nothing is told yet
+-- a group with its path and the commands that wait for it, of which nothing is reported yet
 abbrev pub group_core_at : Machine → ℕ → group.Core
 group_core_at m j = group.core_in (group_at m j).group (group_at m j).path m.queues (list_of m j) []

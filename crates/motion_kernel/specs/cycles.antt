@@ -1,6 +1,6 @@
 -- What a cycle makes of the machine.
 pub mod Asides
-pub mod Finders
+pub mod Polled
 pub mod GroupSteps
 pub mod AxisCycles
 pub mod GroupResets

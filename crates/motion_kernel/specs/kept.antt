@@ -2,5 +2,5 @@
 pub mod Machine
 pub mod Ready
 pub mod Rooms
-pub mod Banked
+pub mod Segmented
 pub mod Kernel

@@ -1,4 +1,4 @@
-// What an instance is told of its own call.
+// What an instance is notified of its own call.
 
 ghost use Rattle.std.specs.Prelude.{◌≡◌, ◌<◌, if◌then◌else◌, IfSome, Some, length, map, slice_get};
 ghost use Rattle.motion_kernel.specs.calls.Calls as spec;
@@ -9,7 +9,7 @@ use crate::parts::Parts;
 use command_pool::{BlockKind, Finish, Refusal};
 use fb_outputs::Instance;
 
-// What an instance is told of its own call.
+// What an instance is notified of its own call.
 fn tell_answer(kind: BlockKind, answer: Result<bool, Refusal>, instance: &mut Instance)
     ensures { instance.new ≡ spec.answered_instance kind answer instance.old }
 {

@@ -43,7 +43,7 @@ fn cycle_axis(
     row
 }
 
-// The row of an axis is the next of the history's, and its drive gets what it tells.
+// The row of an axis is the next of the history's, and its drive gets what it gives.
 fn put_row(row: AxisRow, axis: usize, history: &mut History, outs: &mut [DriveOut])
     requires cycle { cycles_of history.old.entries < history.old.cycles }
     requires room { length history.old.rows < history.old.axes }
@@ -56,7 +56,7 @@ fn put_row(row: AxisRow, axis: usize, history: &mut History, outs: &mut [DriveOu
 }
 
 /// All axes go through the cycle, one after another: their rows are the history's, and their drives
-/// get what these tell.
+/// get what these give.
 pub fn cycle_axes(
     layout: &Layout,
     around: &Around,

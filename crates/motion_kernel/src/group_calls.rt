@@ -24,7 +24,7 @@ use command_pool::{Notes, Refusal, Wanted};
 use fb_outputs::Inputs;
 use motion_history::BlockDef;
 
-/// The list in which commands wait for a group: behind those of the axes.
+/// The list in which commands wait for a group: after those of the axes.
 pub fn list_of(group: u8, parts: &Parts) -> u8
     requires { length parts.now.axes.items + group < 256 }
     ensures { result ≡ machine.list_of (machine_of parts.now) group }

@@ -77,8 +77,8 @@ pub fn step_groups(layout: &Layout, ins: &[DriveIn], parts: &mut Parts, steps: &
     }
 }
 
-// A pending GroupReset is done, where it may be; the row shows the group after it. It is out of line
-// as the group's step is.
+// A pending GroupReset is done, where it may be; the row shows the group after it. It is out of
+// line as the group's step is.
 #[inline(never)]
 fn reset_pending(layout: &Layout, group: u8, parts: &mut Parts) -> GroupRow
     requires sized { IsSized layout.now (machine_of parts.old) }

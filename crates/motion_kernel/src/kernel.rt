@@ -16,7 +16,7 @@ ghost use Rattle.motion_kernel.specs.KernelState.{KernelState, room_of, state_of
 ghost use Rattle.motion_kernel.specs.kept.Machine.{AreWhole};
 ghost use Rattle.motion_kernel.specs.Tasks.{live_tasks, quiet_tasks};
 
-use crate::banked::BankedKernel;
+use crate::segmented::SegmentedKernel;
 use crate::tasks::TaskMarks;
 use cia402_machine::{DriveIn, DriveOut};
 use fb_outputs::{Inputs, Outputs};
@@ -45,7 +45,7 @@ impl From<OutOfMemory> for OpenFault {
 /// A motion kernel. Contracts see it as its configuration, its history, and whether it was stopped.
 #[derive(Drop)]
 pub struct Kernel {
-    banked: BankedKernel,
+    segmented: SegmentedKernel,
     tasks: TaskMarks,
     stopped: bool,
 }
@@ -67,12 +67,12 @@ impl Kernel {
     pub fn open(alloc: Global, config: Config) -> Result<Kernel, OpenFault>
         ensures { IfOk result (λ k. k ≡ record { config = config; history = []; stopped = false }) }
     {
-        let banked = BankedKernel::open(alloc, config)?;
+        let segmented = SegmentedKernel::open(alloc, config)?;
         // law: a configuration has at most eight tasks
-        let _ = banked.history();
+        let _ = segmented.history();
         let tasks = TaskMarks::open();
         Ok(Kernel {
-            banked,
+            segmented,
             tasks,
             stopped: false,
         })
@@ -83,7 +83,7 @@ impl Kernel {
     pub fn touch(&mut self)
         ensures { self.new ≡ self.old }
     {
-        self.banked.touch();
+        self.segmented.touch();
     }
 
     /// Calls a block, which belongs to this task, and answers its outputs.
@@ -98,8 +98,8 @@ impl Kernel {
     {
         // law: a configuration has at most eight tasks
         configurations_are_sound();
-        let _ = self.banked.history();
-        let reply = self.banked.call(instance, inputs);
+        let _ = self.segmented.history();
+        let reply = self.segmented.call(instance, inputs);
         self.tasks.hear(task);
         reply
     }
@@ -120,7 +120,7 @@ impl Kernel {
               (cycled self.old.config (state_of self.old) ins.now).groups ∷ [];
         } }
     {
-        self.banked.cycle(ins, outs);
+        self.segmented.cycle(ins, outs);
         self.tasks.cycle();
     }
 
@@ -130,7 +130,7 @@ impl Kernel {
         requires task { task < length self.old.config.tasks }
         ensures { self.new ≡ record self.old { history = self.old.history ++ end_of task ∷ [] } }
     {
-        self.banked.end(task);
+        self.segmented.end(task);
         self.tasks.end(task);
     }
 
@@ -145,7 +145,7 @@ impl Kernel {
     pub fn config(&self) -> &Config
         ensures { result.now ≡ self.now.config }
     {
-        self.banked.config()
+        self.segmented.config()
     }
 
     /// How many entries more the history has room for.
@@ -155,14 +155,14 @@ impl Kernel {
         if self.stopped {
             return 0;
         }
-        self.banked.room_left()
+        self.segmented.room_left()
     }
 
     /// How many cycles more there may be.
     pub fn cycles_left(&self) -> u32
         ensures { result ≡ self.now.config.cycles - cycles_of self.now.history }
     {
-        self.banked.cycles_left()
+        self.segmented.cycles_left()
     }
 
     /// How many cycles were made, at most the configured number.
@@ -170,14 +170,14 @@ impl Kernel {
         ensures cycles { result ≡ cycles_of self.now.history }
         ensures few { result ≤ self.now.config.cycles }
     {
-        self.banked.cycles_made()
+        self.segmented.cycles_made()
     }
 
     /// How many tasks live: those that have not ended.
     pub fn live_tasks(&self) -> u8
         ensures { result ≡ live_tasks self.now.config self.now.history }
     {
-        self.tasks.live(self.banked.config().tasks().len())
+        self.tasks.live(self.segmented.config().tasks().len())
     }
 
     /// How many tasks are quiet: those that live and have made no entry since the last cycle or,
@@ -185,7 +185,7 @@ impl Kernel {
     pub fn quiet_tasks(&self) -> u8
         ensures { result ≡ quiet_tasks self.now.config self.now.history }
     {
-        self.tasks.quiet(self.banked.config().tasks().len())
+        self.tasks.quiet(self.segmented.config().tasks().len())
     }
 
     /// The history so far: a legal one, for a sound configuration whose groups are whole. That is
@@ -197,13 +197,13 @@ impl Kernel {
         ensures whole { AreWhole self.now.config }
         ensures bits { All HasBits self.now.history }
     {
-        self.banked.history()
+        self.segmented.history()
     }
 
     /// The last cycle, if there was one: its number and its rows.
     pub fn last_cycle(&self) -> Option<CycleLook<'_>>
         ensures { option_map cycle_told result ≡ last_cycle_of self.now.history }
     {
-        self.banked.last_cycle()
+        self.segmented.last_cycle()
     }
 }

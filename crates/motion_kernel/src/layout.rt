@@ -4,12 +4,12 @@
 ghost use Rattle.std.specs.Prelude.{◌≡◌, ◌<◌, ◌≤◌, ℕ, IfOk, IfSome, length};
 ghost use Rattle.motion_history.specs.Setup.{IsSetup};
 ghost use Rattle.std.specs.List.{AllByRecursion};
-ghost use Rattle.motion_kernel.specs.cycles.Finders.{finders_of};
+ghost use Rattle.motion_kernel.specs.cycles.Polled.{polled_of};
 ghost use Rattle.motion_kernel.specs.members.Laid.{AreMemberships};
 ghost use Rattle.motion_kernel.specs.members.Members.{member_at, members_at, membership_of};
 
-use crate::finders::finders_in;
 use crate::memberships::{Membership, membership_of};
+use crate::polled::polled_in;
 use motion_history::{BlockDef, CamTable, Config, configurations_are_sound};
 use std::alloc::{AllocError, Global};
 use std::marker::Model;
@@ -20,7 +20,7 @@ use std::marker::Model;
 pub struct Layout {
     config: Config,
     memberships: Vec<Option<Membership>>,
-    finders: Vec<u16>,
+    polled: Vec<u16>,
 }
 
 impl Model for Layout {
@@ -32,7 +32,7 @@ impl Model for Layout {
 
     ghost view = { λ l. l.config };
 
-    ghost invariant = { λ l. IsLaid l.config l.memberships.items l.finders.items };
+    ghost invariant = { λ l. IsLaid l.config l.memberships.items l.polled.items };
 }
 
 // Where each axis of a configuration stands in its group.
@@ -65,11 +65,11 @@ impl Layout {
         ensures { IfOk result (λ l. l ≡ config) }
     {
         let memberships = memberships_in(alloc, &config)?;
-        let finders = finders_in(alloc, &config)?;
+        let polled = polled_in(alloc, &config)?;
         Ok(Layout {
             config,
             memberships,
-            finders,
+            polled,
         })
     }
 
@@ -100,12 +100,12 @@ impl Layout {
     }
 
     /// The instances that find something at a cycle's end.
-    #[tactic(auto, using(crate::proofs::cycles::Finders::finders_there))]
-    pub fn finders(&self) -> &[u16]
-        ensures finders { result.now ≡ finders_of self.now }
+    #[tactic(auto, using(crate::proofs::cycles::Polled::all_polled_there))]
+    pub fn polled(&self) -> &[u16]
+        ensures polled { result.now ≡ polled_of self.now }
         ensures there { AllByRecursion (λ (k : ℕ). k < length self.now.blocks) result.now }
     {
-        self.finders.as_slice()
+        self.polled.as_slice()
     }
 
     /// The axes of a group, in its order.

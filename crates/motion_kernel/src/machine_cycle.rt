@@ -41,7 +41,7 @@ pub struct Aside {
 }
 
 impl Aside {
-    /// Room for so many axes and groups.
+    /// Room for this many axes and groups.
     pub fn open(alloc: Global, layout: &Layout) -> Result<Aside, AllocError>
         ensures { IfOk result (HasPlaces layout.now) }
     {
@@ -109,7 +109,7 @@ fn go_through(
 }
 
 /// A cycle of the machine: the rows of its axes and groups are the history's, and the drives get
-/// what these tell.
+/// what these give.
 pub fn cycle_machine(
     ins: &[DriveIn],
     layout: &Layout,

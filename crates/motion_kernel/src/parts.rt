@@ -14,7 +14,7 @@ use group_core::{GroupCore, LinePath};
 pub struct Parts {
     pub axes: Vec<AxisCore>,
     pub groups: Vec<GroupCore<LinePath>>,
-    /// The lists of the axes, and behind them those of the groups.
+    /// The lists of the axes, and after them those of the groups.
     pub pool: CommandPool,
     pub instances: Vec<Instance>,
 }

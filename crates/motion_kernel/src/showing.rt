@@ -99,7 +99,7 @@ fn found_by(instance: u16, block: &BlockDef, parts: &Parts) -> Option<bool>
     }
 }
 
-// An instance is told what it found.
+// An instance is given what it found.
 fn tell_found(instance: u16, block: &BlockDef, parts: &mut Parts)
     requires object { block.now.object < (if acts_on_group block.now.kind then length
         parts.old.groups.items else length parts.old.axes.items) }
@@ -124,7 +124,7 @@ fn tell_all_found(layout: &Layout, parts: &mut Parts)
     } }
 {
     configurations_are_sound();
-    for instance in layout.finders() {
+    for instance in layout.polled() {
         tell_found(
             *instance,
             &layout.config().blocks()[*instance as usize],
@@ -133,7 +133,7 @@ fn tell_all_found(layout: &Layout, parts: &mut Parts)
     }
 }
 
-// The owners of the active commands are told what these have reached.
+// The owners of the active commands are given what these have reached.
 fn show_owners(parts: &mut Parts)
     ensures shown { machine_of parts.new ≡ record (machine_of parts.old) {
       instances = spec.groups_shown (length (machine_of parts.old).groups)
@@ -147,7 +147,7 @@ fn show_owners(parts: &mut Parts)
     show_groups(parts.groups.as_slice(), parts.instances.as_mut_slice());
 }
 
-/// The instances are told what the cycle found.
+/// The instances are given what the cycle found.
 #[tactic(auto, unfolding(crate::specs::cycles::Showing::with_found))]
 pub fn show_cycle(layout: &Layout, parts: &mut Parts)
     requires { IsSized layout.now (machine_of parts.old) }

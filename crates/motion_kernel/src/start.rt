@@ -1,4 +1,4 @@
-// The machine with which a bank of a history begins.
+// The machine with which a segment of a history begins.
 
 ghost use Rattle.std.specs.Prelude.{◌≡◌, ◌↔◌, ◌<◌, ◌≤◌, ◌++◌, ◌∷◌, [], IfErr, IfOk, IsErr, OnErr, OnOk, length, slice_get, slice_set};
 ghost use Rattle.std.specs.Option.{option_copied, option_map};
@@ -56,7 +56,7 @@ impl Start {
         Some(self.parts.groups.get(group as usize)?.group())
     }
 
-    /// The command that waits at a place of a list, counted from 0. Behind the lists of the axes
+    /// The command that waits at a place of a list, counted from 0. After the lists of the axes
     /// stand those of the groups.
     pub fn waiting(&self, list: u8, place: u8) -> Option<&Wanted>
         requires { list < length self.now.queues }
@@ -100,7 +100,7 @@ impl Start {
         self.parts.groups[group as usize] = GroupCore::resume(now);
     }
 
-    /// Puts a command behind the last that waits in a list. Where eight wait it is given back.
+    /// Puts a command after the last that waits in a list. Where eight wait it is given back.
     pub fn push_waiting(&mut self, list: u8, wanted: Wanted) -> Result<(), Wanted>
         requires { list < length self.old.queues }
         ensures added { OnOk result (self.new ≡ record self.old {

@@ -1,4 +1,4 @@
-// What the instances of blocks are told.
+// What the instances of blocks are given.
 
 ghost use Rattle.std.specs.Prelude.{◌≡◌, [], length};
 ghost use Rattle.motion_kernel.specs.Seen.{machine_of};
@@ -8,7 +8,7 @@ use crate::parts::Parts;
 use command_pool::{Finish, Note, Notes};
 use fb_outputs::Instance;
 
-// Tells an instance, where it is there, how its command ended.
+// Reports an instance, where it is there, how its command ended.
 #[tactic(auto, using(crate::proofs::Lists::not_set))]
 fn finish(owner: u16, finish: Finish, instances: &mut [Instance])
     ensures { instances.new ≡ spec.told_end owner finish instances.old }
@@ -19,7 +19,7 @@ fn finish(owner: u16, finish: Finish, instances: &mut [Instance])
     }
 }
 
-// Tells instances how their commands ended, one after another.
+// Reports instances how their commands ended, one after another.
 fn finish_all(notes: &[Note], instances: &mut [Instance])
     ensures told { instances.new ≡ spec.told_notes notes.now instances.old }
     ensures long { length instances.new ≡ length instances.old }
@@ -29,7 +29,7 @@ fn finish_all(notes: &[Note], instances: &mut [Instance])
     }
 }
 
-/// Tells the instances of the machine how their commands ended, one after another.
+/// Reports the instances of the machine how their commands ended, one after another.
 pub fn tell(notes: &Notes, parts: &mut Parts)
     ensures told { machine_of parts.new ≡ record (machine_of parts.old) {
       instances = spec.told_notes notes.now (machine_of parts.old).instances;
@@ -41,7 +41,7 @@ pub fn tell(notes: &Notes, parts: &mut Parts)
     finish_all(notes.as_slice(), parts.instances.as_mut_slice());
 }
 
-/// Tells the instances of the machine the same, and leaves no notes.
+/// Reports the instances of the machine the same, and leaves no notes.
 pub fn tell_and_clear(notes: &mut Notes, parts: &mut Parts)
     ensures told { machine_of parts.new ≡ record (machine_of parts.old) {
       instances = spec.told_notes notes.old (machine_of parts.old).instances;

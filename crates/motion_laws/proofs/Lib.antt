@@ -11,7 +11,7 @@
 -- entries_keep_their_laws: entries/Kept
 -- moves_arrive_in_time: arrivals/Moves
 -- paths_end_in_time: arrivals/PathsEnd
--- results_are_told: results/Told
+-- results_are_told: results/Reported
 pub mod walk
 pub mod limits
 pub mod Histories

@@ -17,10 +17,10 @@ use Rattle.motion_laws.specs.limits.Safe.{IsSafe}
 
 -- each row keeps its axis's limits; the machine is safe after every entry; every entry keeps the
 -- laws of entries; the commands that lead an axis or a group to an end come there in time; each
--- entry makes of each instance what its commands tell, and each end is told; each result comes of
--- such an end, stays while Execute is true, and goes with it; commands end by their kinds; a move
--- is Done at its target; rows show that moves arrive in time; and the places of each row's axis
--- have counts
+-- entry makes of each instance what its commands give, and each end is reported; each result comes
+-- of such an end, stays while Execute is true, and goes with it; commands end by their kinds; a
+-- move is Done at its target; rows show that moves arrive in time; and the places of each row's
+-- axis have counts
 pub record KeepsLaws (s : Setup) (es : List Entry) : Type 0 where
   pub limits : KeepTheirLimits s es
   pub safe : (made more : List Entry) → es ≡ made ++ more → IsSafe s (machine_after s made)

@@ -1,4 +1,4 @@
--- Which ends the instances are told.
+-- Which ends the instances are notified.
 pub mod Effects
 pub mod Outcomes
 pub mod Results

@@ -14,12 +14,12 @@ use crate::refusal_laws::refusals_change_nothing;
 use crate::reply_laws::{replies_show_commands, replies_tell_one_result};
 use crate::row_laws::{rows_show_errors, rows_show_the_machine};
 
-/// In every entry of a past a call's reply tells one result, with the number of its error,
-/// and shows what command its block has behind it; a call that is refused, by the number of a
+/// In every entry of a past a call's reply reports one result, with the number of its error,
+/// and shows what command its block has after it; a call that is refused, by the number of a
 /// refusal, changes nothing but its instance; the states of axes and groups change by
 /// the entry's events in their order, as their diagrams lead; after it each instance shows Waiting
-/// or Active exactly where its command is; the rows of a cycle show the machine behind it, and
-/// errors exactly in the states of errors; and an error is told with the number that is shown.
+/// or Active exactly where its command is; the rows of a cycle show the machine after it, and
+/// errors exactly in the states of errors; and an error is reported with the number that is shown.
 pub fn entries_keep_their_laws()
     ensures { (s : Setup) (es : List Entry) → IsSetup s → AreWhole s → IsPast s es →
         KeepsEntries s es }

@@ -10,9 +10,9 @@ ghost use Rattle.motion_laws.specs.entries.Numbers.{ErrorsAreTold};
 use command_changes::{axis_changes_are_made, group_changes_are_made};
 use motion_kernel::machines_stay_kept;
 
-/// Errors are told as they are shown. In every entry of a past an error that is told as
+/// Errors are reported as they are shown. In every entry of a past an error that is reported as
 /// the end of a command on an axis or a group has the number that the axis or the group has after
-/// the entry, unless that is not in its ErrorStop then; it is told the instance whose command is
+/// the entry, unless that is not in its ErrorStop then; it is given the instance whose command is
 /// the active one, or, with 106, the one whose command waits first; and in ErrorStop and in
 /// GroupErrorStop the number stays. A group that comes to GroupErrorStop in a cycle has the number
 /// of one of its axes, unless a Reset of that axis was pending.

@@ -1,10 +1,10 @@
-// What every past keeps, in one, and so every legal history and what banks tell together: contracts
-// of functions that do nothing.
+// What every past keeps, in one, and so every legal history and what segments give together:
+// contracts of functions that do nothing.
 
 ghost use Rattle.std.specs.Prelude.{◌≡◌, ◌++◌, List};
 ghost use Rattle.motion_history.specs.Entries.{Entry, cycles_of};
 ghost use Rattle.motion_history.specs.Setup.{Setup, IsSetup};
-ghost use Rattle.motion_kernel.specs.Banks.{counted_on};
+ghost use Rattle.motion_kernel.specs.Segments.{counted_on};
 ghost use Rattle.motion_kernel.specs.Histories.{IsLegal, IsLegalFrom, IsPast, machine_from};
 ghost use Rattle.motion_kernel.specs.Machine.{machine_at_opening};
 ghost use Rattle.motion_laws.specs.Laws.{KeepsLaws};
@@ -18,20 +18,20 @@ use crate::result_laws::{
     done_moves_are_at_their_targets, results_are_told, results_come_of_ends, results_stay_shown,
 };
 use crate::row_laws::rows_show_that_moves_arrive;
-use motion_kernel::{banks_join, rows_are_counted};
+use motion_kernel::{rows_are_counted, segments_join};
 
-/// In every past each row keeps its axis's limits; and after every entry each axis that is
-/// driven and each path can be stopped within its limits, and at most eight commands wait for each
-/// axis and each group. Each entry keeps the laws of entries: a refused call changes nothing but
-/// its own instance, each reply tells one result, the states change by the entry's events,
-/// commands are where their instances show, the rows of a cycle show the machine behind it, and
-/// errors exactly in the states of errors, and an error is told with the number that is shown.
-/// Each move, Halt and Stop of an axis, and each line, GroupHalt and GroupStop of a group, comes to
-/// its end in time, and no blended move hangs; each end, be it a refusal, is told to the instance
-/// whose command it was, and to no other; each result that a reply tells comes of such an end,
-/// stays while Execute is true, and goes with it; commands end by their kinds; a move is Done at
-/// its target; rows show that moves arrive in time; and no Home moves an axis out of the counts of
-/// its drive.
+/// In every past each row keeps its axis's limits; and after every entry each axis that is driven
+/// and each path can be stopped within its limits, and at most eight commands wait for each axis
+/// and each group. Each entry keeps the laws of entries: a refused call changes nothing but its own
+/// instance, each reply reports one result, the states change by the entry's events, commands are
+/// where their instances show, the rows of a cycle show the machine after it, and errors exactly in
+/// the states of errors, and an error is reported with the number that is shown. Each move, Halt
+/// and Stop of an axis, and each line, GroupHalt and GroupStop of a group, comes to its end in
+/// time, and no blended move hangs; each end, be it a refusal, is reported to the instance whose
+/// command it was, and to no other; each result that a reply reports comes of such an end, stays
+/// while Execute is true, and goes with it; commands end by their kinds; a move is Done at its
+/// target; rows show that moves arrive in time; and no Home moves an axis out of the counts of its
+/// drive.
 pub fn pasts_keep_their_laws()
     ensures { (s : Setup) (es : List Entry) → IsSetup s → AreWhole s → IsPast s es →
         KeepsLaws s es }
@@ -59,22 +59,22 @@ pub fn histories_keep_their_laws()
     pasts_keep_their_laws();
 }
 
-/// Banks that follow each other, each legal from the machine to which those before it lead, are one
-/// past, their cycles counted on: so all laws hold of what a machine makes in any number of banks.
-/// A first bank is a past by itself, as a legal history is, and each later one makes of the past
-/// before it the next.
-pub fn banks_keep_their_laws()
-    ensures first { (s : Setup) (bank : List Entry) → IsLegal s bank → IsPast s bank }
-    ensures past { (s : Setup) (past bank : List Entry) → IsPast s past →
-        IsLegalFrom s (machine_from s (machine_at_opening s) past) bank →
-        IsPast s (past ++ counted_on (cycles_of past) bank) }
-    ensures machine { (s : Setup) (past bank : List Entry) →
-        machine_from s (machine_at_opening s) (past ++ counted_on (cycles_of past) bank)
-        ≡ machine_from s (machine_from s (machine_at_opening s) past) bank }
-    ensures laws { (s : Setup) (past bank : List Entry) → IsSetup s → AreWhole s →
-        IsPast s past → IsLegalFrom s (machine_from s (machine_at_opening s) past) bank →
-        KeepsLaws s (past ++ counted_on (cycles_of past) bank) }
+/// Segments that follow each other, each legal from the machine to which those before it lead, are
+/// one past, their cycles counted on: so all laws hold of what a machine makes in any number of
+/// segments. A first segment is a past by itself, as a legal history is, and each later one makes
+/// of the past before it the next.
+pub fn segments_keep_their_laws()
+    ensures first { (s : Setup) (segment : List Entry) → IsLegal s segment → IsPast s segment }
+    ensures past { (s : Setup) (past segment : List Entry) → IsPast s past →
+        IsLegalFrom s (machine_from s (machine_at_opening s) past) segment →
+        IsPast s (past ++ counted_on (cycles_of past) segment) }
+    ensures machine { (s : Setup) (past segment : List Entry) →
+        machine_from s (machine_at_opening s) (past ++ counted_on (cycles_of past) segment)
+        ≡ machine_from s (machine_from s (machine_at_opening s) past) segment }
+    ensures laws { (s : Setup) (past segment : List Entry) → IsSetup s → AreWhole s →
+        IsPast s past → IsLegalFrom s (machine_from s (machine_at_opening s) past) segment →
+        KeepsLaws s (past ++ counted_on (cycles_of past) segment) }
 {
-    banks_join();
+    segments_join();
     pasts_keep_their_laws();
 }

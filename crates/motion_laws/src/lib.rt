@@ -1,8 +1,8 @@
 //! What every past of the motion kernel keeps: the entries that it made from opening on, however
-//! many, as those of a legal history, or of banks that follow each other. Each law is the contract
-//! of a function that does nothing. It stands on `motion_kernel` and has no other code. Begin at
-//! [`pasts_keep_their_laws`], which says all of them; each of the others says one, in words of its
-//! own, with its definitions in specs/ by subject.
+//! many, as those of a legal history, or of segments that follow each other. Each law is the
+//! contract of a function that does nothing. It stands on `motion_kernel` and has no other code.
+//! Begin at [`pasts_keep_their_laws`], which says all of them; each of the others says one, in
+//! words of its own, with its definitions in specs/ by subject.
 #![tactic(auto)]
 
 mod arrival_laws;
@@ -23,7 +23,9 @@ pub use arrival_laws::{moves_arrive_in_time, paths_end_in_time};
 pub use entry_laws::entries_keep_their_laws;
 pub use error_laws::errors_are_told_as_shown;
 pub use event_laws::states_change_by_their_events;
-pub use history_laws::{banks_keep_their_laws, histories_keep_their_laws, pasts_keep_their_laws};
+pub use history_laws::{
+    histories_keep_their_laws, pasts_keep_their_laws, segments_keep_their_laws,
+};
 pub use kind_laws::commands_end_by_their_kinds;
 pub use limit_laws::{at_most_eight_wait, axes_stay_stoppable, rows_keep_limits};
 pub use outcome_laws::entries_make_outcomes;

@@ -20,7 +20,7 @@ use motion_kernel::machines_stay_kept;
 /// What an entry of a past makes of the command of an instance. A call of the instance
 /// itself makes of it what it is answered, where it is a rising edge: refused, active, waiting, or
 /// Done at once; else it only takes away a result that was shown, with Execute false. Any other
-/// entry ends it exactly where it tells so: Done at its end, aborted where it waits or is replaced,
+/// entry ends it exactly where it says so: Done at its end, aborted where it waits or is replaced,
 /// or by an error; makes it active exactly where it begins; and else leaves it as it was.
 pub fn entries_make_outcomes()
     ensures outcomes { (s : Setup) (made more : List Entry) (e : Entry) (k : ℕ) (b : BlockDef) →

@@ -21,7 +21,7 @@ use fb_outputs::replies_tell_one_result as instances_tell_one_result;
 use motion_history::configurations_are_sound;
 use motion_kernel::machines_stay_kept;
 
-/// Each reply of a past tells at most one of Busy, Done, CommandAborted and Error, and at
+/// Each reply of a past reports at most one of Busy, Done, CommandAborted and Error, and at
 /// most one of Active, Done, CommandAborted and Error, but that a Stop or GroupStop may be Active
 /// after its Done while its Execute is true. Where it shows an error, the ErrorID is one of a
 /// refusal, 1 to 19, or of an axis error, 101 to 106; else it is 0. For nothing happens to an
@@ -46,7 +46,7 @@ pub fn replies_tell_one_result()
 }
 
 /// The reply of a call shows what command its block has: in every past a block that is no
-/// Power is Busy exactly where it has a command behind the call, which is active, waits or is a
+/// Power is Busy exactly where it has a command after the call, which is active, waits or is a
 /// pending reset, and Active exactly where that is the active one; but a Stop or GroupStop may be
 /// Active with its Done.
 pub fn replies_show_commands()

@@ -21,7 +21,7 @@ use command_core::{
 use motion_history::configurations_are_sound;
 use motion_kernel::machines_stay_kept;
 
-/// In every past each end of a command is told to its instance, and to no other. Where the
+/// In every past each end of a command is reported to its instance, and to no other. Where the
 /// command of an instance ends in an entry that is no call of it, be it the active one, one that
 /// waits or a Reset's, the instance shows so at its next call: Done, CommandAborted, or Error with
 /// that error's number. One call takes this from it: a rising edge, which asks for a new command.
@@ -45,8 +45,8 @@ pub fn results_are_told()
     group_fates_are_told();
 }
 
-/// Each result that a reply of a past tells comes of an entry in which the command of its
-/// instance ended so, be it the call itself or an entry before it, and behind which no call of the
+/// Each result that a reply of a past reports comes of an entry in which the command of its
+/// instance ended so, be it the call itself or an entry before it, and after which no call of the
 /// instance was a rising edge.
 pub fn results_come_of_ends()
     ensures results { (s : Setup) (es : List Entry) → IsSetup s → AreWhole s → IsPast s es →
@@ -55,8 +55,8 @@ pub fn results_come_of_ends()
     entries_make_outcomes();
 }
 
-/// A result that a reply of a past tells stays while Execute is true: the next call of the
-/// instance with Execute still true tells it again. And it goes with it: where the next call has
+/// A result that a reply of a past reports stays while Execute is true: the next call of the
+/// instance with Execute still true gives it again. And it goes with it: where the next call has
 /// Execute false, its reply shows nothing.
 pub fn results_stay_shown()
     ensures results { (s : Setup) (es : List Entry) → IsSetup s → AreWhole s → IsPast s es →

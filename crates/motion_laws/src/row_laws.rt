@@ -19,7 +19,7 @@ use command_changes::axis_fates_are_told;
 use group_core::{errors_are_those_of_axes, errors_stand_in_error_stop as group_errors_stand};
 use motion_kernel::machines_stay_kept;
 
-/// The rows of a cycle show the machine behind it: the row of an axis its state, its error, whether
+/// The rows of a cycle show the machine after it: the row of an axis its state, its error, whether
 /// it is driven, its setpoint and its offset, and the row of a group its state and its error. So it
 /// is in every cycle of a machine that is kept, and in every entry of a past.
 pub fn rows_show_the_machine()
@@ -47,7 +47,7 @@ pub fn rows_show_errors()
 }
 
 /// Rows show that moves arrive in time: in every past, from the entry in which a move
-/// becomes active, and where the history has as many cycles behind it as the move's bound, a row of
+/// becomes active, and where the history has as many cycles after it as the move's bound, a row of
 /// its axis within these stands at the target, where the setpoint before it was, or the move was
 /// aborted, faulted or blended before.
 pub fn rows_show_that_moves_arrive()

@@ -4,7 +4,8 @@ use Rattle.std.specs.Int.{int_max}
 use Rattle.motion_numbers.specs.Greatest.{greatest, IsFound}
 use Rattle.motion_numbers.specs.Run.{run_of, reach_of, cut_at_zero}
 
--- the way to rest from a step u, braking by d each cycle, and the greatest step whose way fits a room
+-- the way to rest from a step u, braking by d each cycle, and the greatest step whose way fits a
+-- room
 pub record AreWays : Type 0 where
   -- a number cut at zero is the greater of it and zero
   pub cut : (z : ℤ) → pos (cut_at_zero z) ≡ int_max z (pos 0)

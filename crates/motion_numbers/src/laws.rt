@@ -1,8 +1,8 @@
 // Laws of ways to rest and of searches: the clauses say them, and nothing runs.
 ghost use Rattle.motion_numbers.specs.Laws.{AreWays, AreSearches};
 
-/// The way to rest from a step, braking by the same each cycle, and the greatest step whose way fits
-/// a room.
+/// The way to rest from a step, braking by the same each cycle, and the greatest step whose way
+/// fits a room.
 pub fn ways_to_rest()
     ensures { AreWays }
 {}

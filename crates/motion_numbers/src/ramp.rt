@@ -31,9 +31,9 @@ pub fn ramp_sum(u: u64, d: u64) -> u128
     terms as u128 * first_and_last as u128 / 2
 }
 
-/// Whether the way to rest from a step of size `u`, braking by `d` each cycle, fits a room. Twice the
-/// fall times the way is at most the square of the step and the fall together, so that mostly no
-/// division is needed to tell.
+/// Whether the way to rest from a step of size `u`, braking by `d` each cycle, fits a room. Twice
+/// the fall times the way is at most the square of the step and the fall together, so that mostly
+/// no division is needed to see it.
 pub fn way_fits(u: u64, d: u64, room: u64) -> bool
     requires step { u ≤ MOST_STEP }
     requires fall { 1 ≤ d }

@@ -3,7 +3,7 @@ use Rattle.std.proofs.Common.{◌≡◌, ℕ, zero, suc, ◌+◌, ◌<◌, ◌�
 use Rattle.std.specs.Prelude.{replicate, slice_get, slice_set}
 use Rattle.std.proofs.lemmas.Bool.{cases_lt as order}
 use Rattle.std.specs.declared.snapshot.Snapshot.{Snapshot}
-use Rattle.drive_jobs.specs.LineState.{LineState}
+use Rattle.drive_jobs.specs.DriveLinkState.{DriveLinkState}
 use Rattle.motion_plant.specs.Jobs.{AreJoined, line_job, seat_job}
 use Rattle.motion_plant.specs.declared.plant_job.PlantJob.{PlantJob}
 use Rattle.motion_plant.specs.declared.task_job.TaskJob.{TaskJob}
@@ -45,7 +45,7 @@ module _ {J : Type 0} where
         count = ap length set ∙ length_set mid (base + k) None ∙ is.count;
       }
 
-  -- some jobs, and then those behind them
+  -- some jobs, and then those after them
   pub joined_both : (old mid new : List (Option J)) (base next k m all : ℕ) →
       AreJoined old mid base k → AreJoined mid new next m → next ≡ base + k → all ≡ k + m →
       AreJoined old new base all
@@ -79,7 +79,7 @@ module _ {J : Type 0} where
       (λ n ge lt. none (suc n) (omega arith) (omega arith)) in
       (r.0, (λ j. e j ∷ r.1 j))
 
-  -- what was started behind the first jobs was joined
+  -- what was started after the first jobs was joined
   pub all_joined : (old mid new more : List (Option J)) (base k : ℕ) → mid ≡ old ++ more →
       base ≡ length old → k ≡ length more → AreJoined mid new base k →
       (k : ℕ) × (new ≡ old ++ replicate k None)
@@ -99,7 +99,7 @@ module _ {J : Type 0} where
 
 module _ {G : Type 0} where
   -- the drives and the tasks that were started were joined
-  pub started_joined : (old mid new : List (Option (PlantJob G))) (lines : List LineState)
+  pub started_joined : (old mid new : List (Option (PlantJob G))) (lines : List DriveLinkState)
       (seats : List (Snapshot (TaskJob G))) (base : ℕ) →
       mid ≡ (old ++ map line_job lines) ++ map seat_job seats → base ≡ length old →
       AreJoined mid new base (length lines + length seats) →

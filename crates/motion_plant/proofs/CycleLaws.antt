@@ -18,7 +18,7 @@ use Rattle.motion_plant.proofs.OwnEntries.{where_more}
 abbrev is_cycle : Setup → ℕ → Entry → Bool
 is_cycle s n e = maker_of s e == 0
 
--- the entries that the cycles made, with a cycle behind some and before others
+-- the entries that the cycles made, with a cycle after some and before others
 with_cycle : (s : Setup) (h before more : List Entry) (n : ℕ) (rows : List AxisRow)
     (grows : List GroupRow) → h ≡ before ++ cycle n rows grows ∷ more →
     entries_by s 0 h ≡ entries_where (is_cycle s) [] before ++

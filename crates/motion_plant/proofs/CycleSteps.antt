@@ -3,8 +3,8 @@ use Rattle.std.proofs.Common.{◌≡◌, ℕ, zero, suc, ◌<◌, ◌≤◌, Lis
 use Rattle.std.specs.Prelude.{slice_get}
 use Rattle.cia402_machine.specs.declared.drive.DriveIn.{DriveIn}
 use Rattle.cia402_machine.specs.declared.drive.DriveOut.{DriveOut}
-use Rattle.drive_jobs.specs.LineState.{LineState}
-use Rattle.kernel_turn.specs.PassState.{PassState}
+use Rattle.drive_jobs.specs.DriveLinkState.{DriveLinkState}
+use Rattle.kernel_turn.specs.PermitState.{PermitState}
 use Rattle.machine_drives.specs.Drives.{outputs_in}
 use Rattle.motion_plant.specs.Calls.{fixed_part}
 use Rattle.motion_plant.specs.Cycling.{Cycled, EndsBy, IsCycle, IsCycled, IsCycling, MadeCycle}
@@ -21,7 +21,7 @@ use Rattle.motion_plant.proofs.Lists.{each_more, get_before, snoc_length}
 use Rattle.motion_plant.proofs.Zips.{zip_get, zip_length}
 use Rattle.motion_plant.proofs.InStep.{Taken, grown_in, grown_out, in_jobs, out_jobs, out_outs, out_ins, out_ended, outs_more, taken_each}
 
-module _ (first : PassState) (ls0 ls ls1 : List LineState) (made : ℕ) (k k' : PassState)
+module _ (first : PermitState) (ls0 ls ls1 : List DriveLinkState) (made : ℕ) (k k' : PermitState)
     (xs : List DriveIn) (c : IsCycling first ls0 made k ls) (lx : length xs ≡ length ls)
     (is1 : ls1 ≡ zip_with with_answer ls xs) (same : fixed_part k' ≡ fixed_part k) where
   n1 : length ls1 ≡ length ls
@@ -50,7 +50,7 @@ module _ (first : PassState) (ls0 ls ls1 : List LineState) (made : ℕ) (k k' : 
     ends = ends;
   }
 
-  module _ (ls2 : List LineState) (ys : List DriveOut) (live : ℕ) (ly : length ys ≡ length ls)
+  module _ (ls2 : List DriveLinkState) (ys : List DriveOut) (live : ℕ) (ly : length ys ≡ length ls)
       (is2 : ls2 ≡ zip_with with_output ls1 ys) (owns : Owns (IsUpTo first.config 0) k'.own k'.seen)
       (m : MadeCycle first.config xs ys live k k') where
     ly1 : length ys ≡ length ls1
@@ -141,7 +141,7 @@ module _ (first : PassState) (ls0 ls ls1 : List LineState) (made : ℕ) (k k' : 
           most,
         )
 
-pub cycling_first : (k : PassState) (ls : List LineState) → k.own ≡ [] → Each (IsInStep []) ls →
+pub cycling_first : (k : PermitState) (ls : List DriveLinkState) → k.own ≡ [] → Each (IsInStep []) ls →
     length ls ≡ length k.config.axes → IsCycling k ls 0 k ls
 cycling_first k ls none each width =
     let m = entries_first k.own k.seen none in

@@ -4,7 +4,7 @@ use Rattle.cia402_machine.specs.declared.drive.DriveIn.{DriveIn}
 use Rattle.cia402_machine.specs.declared.drive.DriveOut.{DriveOut}
 use Rattle.kernel_turn.specs.Events.{cycle_of, outputs_of}
 use Rattle.motion_kernel.specs.KernelState.{with_entry}
-use Rattle.kernel_turn.specs.PassState.{PassState}
+use Rattle.kernel_turn.specs.PermitState.{PermitState}
 use Rattle.kernel_turn.specs.Turns.{CycleAnswered, FullOfEither}
 use Rattle.kernel_turn.specs.declared.turn.Turn.{Turn}
 use Rattle.kernel_turn.specs.declared.turn.Turn.TheVariants as turns
@@ -19,18 +19,18 @@ use Rattle.motion_kernel.specs.Tasks.{live_tasks, quiet_tasks}
 use Rattle.motion_plant.specs.declared.cycles.Ending.TheVariants as endings
 use Rattle.motion_plant.proofs.TurnLaws.{LeavesAll, left_twice, none_made, one_made}
 
-module _ (first old new : PassState) (ins : List DriveIn) (before outs : List DriveOut)
+module _ (first old new : PermitState) (ins : List DriveIn) (before outs : List DriveOut)
     (left : LeavesAll first old) (o : Owns (IsUpTo first.config 0) old.own old.seen) (turn : Turn ℕ)
     (answered : CycleAnswered ins before outs old new turn) where
   config_is : old.config ≡ first.config
-  config_is = ap (λ (p : PassState). p.config) left.fixed
+  config_is = ap (λ (p : PermitState). p.config) left.fixed
 
   pub cycle_none : (quiet cycles : ℕ) → turn ≡ turns.Early quiet cycles →
       Owns (IsUpTo first.config 0) new.own new.seen × LeavesAll first new × (outs ≡ before)
   cycle_none quiet cycles e =
       let a = subst (CycleAnswered ins before outs old new) e answered in
       let r = none_made (IsUpTo first.config 0) old new a.0 a.1 o a.2.found a.2.makes.0.kernel
-      a.2.pass in
+      a.2.permit in
       (r.0, left_twice first old new left r.1, a.3.0)
 
   -- no cycle is left
@@ -40,10 +40,10 @@ module _ (first old new : PassState) (ins : List DriveIn) (before outs : List Dr
   cycle_over entries cycles most e is same =
       let a = subst (CycleAnswered ins before outs old new) e answered in
       let r = none_made (IsUpTo first.config 0) old new a.0 a.1 o a.2.found a.2.makes.0.kernel
-      a.2.pass in
+      a.2.permit in
       let k = a.2.makes.0.cycles_is in
-      let s : cycles_of new.seen ≡ cycles_of a.0.history = ap (λ (p : PassState). cycles_of p.seen)
-      a.2.pass ∙ ap (λ (z : KernelState). cycles_of z.history) a.2.makes.0.kernel in
+      let s : cycles_of new.seen ≡ cycles_of a.0.history = ap (λ (p : PermitState). cycles_of p.seen)
+      a.2.permit ∙ ap (λ (z : KernelState). cycles_of z.history) a.2.makes.0.kernel in
       (r.0, left_twice first old new left r.1, a.3.0, omega arith)
 
   -- there is no room
@@ -55,11 +55,11 @@ module _ (first old new : PassState) (ins : List DriveIn) (before outs : List Dr
       let a = subst (CycleAnswered ins before outs old new) e answered in
       let f = subst (FullOfEither new) e full in
       let r = none_made (IsUpTo first.config 0) old new a.0 a.1 o a.2.found a.2.makes.0.kernel
-      a.2.pass in
+      a.2.permit in
       let l = left_twice first old new left r.1 in
-      let c : new.config ≡ first.config = ap (λ (p : PassState). p.config) l.fixed in
+      let c : new.config ≡ first.config = ap (λ (p : PermitState). p.config) l.fixed in
       let s : length new.seen ≡ length a.0.history =
-      ap (λ (p : PassState). length p.seen) a.2.pass ∙
+      ap (λ (p : PermitState). length p.seen) a.2.permit ∙
       ap (λ (z : KernelState). length z.history) a.2.makes.0.kernel in
       let en = ap (λ (z : Setup). z.entries) c in
       let cy = ap (λ (z : Setup). z.cycles) c in
@@ -84,7 +84,7 @@ module _ (first old new : PassState) (ins : List DriveIn) (before outs : List Dr
       ap (λ (s : Setup). cycle_with s f.history ins) config in
       let kernel = m.kernel ∙ ap (with_entry f) same in
       let r = one_made (IsUpTo first.config 0) old new f a.1 o a.2.found
-      (cycle_with first.config f.history ins) ticket (omega arith) kernel m.ticket_is a.2.pass
+      (cycle_with first.config f.history ins) ticket (omega arith) kernel m.ticket_is a.2.permit
       in
       let x = left.longer in
       let y = r.1.first in
@@ -92,8 +92,8 @@ module _ (first old new : PassState) (ins : List DriveIn) (before outs : List Dr
       let few = m.few in
       let cy = ap (λ (s : Setup). s.cycles) config in
       let seen : new.seen ≡ f.history ++ cycle_with first.config f.history ins ∷ [] =
-      ap (λ (p : PassState). p.seen) a.2.pass ∙ ap (λ (k : KernelState). k.history) kernel in
-      let last : new.seen ≡ a.1.history = ap (λ (p : PassState). p.seen) a.2.pass in
+      ap (λ (p : PermitState). p.seen) a.2.permit ∙ ap (λ (k : KernelState). k.history) kernel in
+      let last : new.seen ≡ a.1.history = ap (λ (p : PermitState). p.seen) a.2.permit in
       let count = m.cycles_is ∙ ap cycles_of (sym last) in
       let g_config : a.1.config ≡ first.config = ap (λ (k : KernelState). k.config) m.kernel ∙
       config in (

@@ -4,7 +4,7 @@ use Rattle.std.specs.Prelude.{slice_get, slice_index_or}
 use Rattle.axis_state.specs.declared.definition.AxisRow.{AxisRow}
 use Rattle.cia402_machine.specs.declared.drive.DriveIn.{DriveIn}
 use Rattle.cia402_machine.specs.declared.drive.DriveOut.{DriveOut}
-use Rattle.drive_jobs.specs.LineState.{LineState}
+use Rattle.drive_jobs.specs.DriveLinkState.{DriveLinkState}
 use Rattle.group_state.specs.declared.state.GroupRow.{GroupRow}
 use Rattle.machine_drives.specs.Drives.{outputs_in}
 use Rattle.motion_plant.specs.Cycling.{IsCycle}
@@ -53,46 +53,46 @@ outs_more s i cs before ins ys y is at =
     ∙ ap (λ o. outputs_in i (entries_of cs) ++ o ∷ [])
     (output_at rows i y (ap (λ zs. slice_get zs i) (sym is) ∙ at))
 
-in_outs : (l : LineState) (x : DriveIn) → (with_answer l x).outs ≡ l.outs
+in_outs : (l : DriveLinkState) (x : DriveIn) → (with_answer l x).outs ≡ l.outs
 unfolding with_answer
 in_outs l x = refl
 
-in_ins : (l : LineState) (x : DriveIn) → (with_answer l x).ins ≡ l.ins ++ x ∷ []
+in_ins : (l : DriveLinkState) (x : DriveIn) → (with_answer l x).ins ≡ l.ins ++ x ∷ []
 unfolding with_answer
 in_ins l x = refl
 
-in_ended : (l : LineState) (x : DriveIn) → (with_answer l x).ended ≡ l.ended
+in_ended : (l : DriveLinkState) (x : DriveIn) → (with_answer l x).ended ≡ l.ended
 unfolding with_answer
 in_ended l x = refl
 
-in_job : (l : LineState) (x : DriveIn) → job_of (with_answer l x) ≡ job_of l
+in_job : (l : DriveLinkState) (x : DriveIn) → job_of (with_answer l x) ≡ job_of l
 unfolding with_answer
 in_job l x = refl
 
-pub out_outs : (l : LineState) (x : DriveOut) → (with_output l x).outs ≡ l.outs ++ x ∷ []
+pub out_outs : (l : DriveLinkState) (x : DriveOut) → (with_output l x).outs ≡ l.outs ++ x ∷ []
 unfolding with_output
 out_outs l x = refl
 
-pub out_ins : (l : LineState) (x : DriveOut) → (with_output l x).ins ≡ l.ins
+pub out_ins : (l : DriveLinkState) (x : DriveOut) → (with_output l x).ins ≡ l.ins
 unfolding with_output
 out_ins l x = refl
 
-pub out_ended : (l : LineState) (x : DriveOut) → (with_output l x).ended ≡ l.ended
+pub out_ended : (l : DriveLinkState) (x : DriveOut) → (with_output l x).ended ≡ l.ended
 unfolding with_output
 out_ended l x = refl
 
-out_job : (l : LineState) (x : DriveOut) → job_of (with_output l x) ≡ job_of l
+out_job : (l : DriveLinkState) (x : DriveOut) → job_of (with_output l x) ≡ job_of l
 unfolding with_output
 out_job l x = refl
 
 -- one answer more was taken from each line
-pub record Taken (cs : List Logged) (xs : List DriveIn) (i : ℕ) (l : LineState) : Type 0 where
+pub record Taken (cs : List Logged) (xs : List DriveIn) (i : ℕ) (l : DriveLinkState) : Type 0 where
   pub outs : l.outs ≡ outputs_in i (entries_of cs)
   pub ins : length l.ins ≡ suc (length cs)
   pub here : slice_get l.ins (length cs) ≡ slice_get xs i
   pub goes_on : l.ended ≡ false
 
-pub taken_each : (cs : List Logged) (xs : List DriveIn) (ls ls' : List LineState) →
+pub taken_each : (cs : List Logged) (xs : List DriveIn) (ls ls' : List DriveLinkState) →
     Each (IsInStep cs) ls → ls' ≡ zip_with with_answer ls xs → Each (Taken cs xs) ls'
 taken_each cs xs ls ls' each is i z at =
     let r = zip_get with_answer ls xs i z (ap (λ l. slice_get l i) (sym is) ∙ at) in
@@ -105,7 +105,7 @@ taken_each cs xs ls ls' each is i z at =
       goes_on = in_ended r.0 r.1 ∙ s.goes_on;
     })
 
-pub outs_length : (s : Setup) (lines : List LineState) (i : ℕ) (cs : List Logged) →
+pub outs_length : (s : Setup) (lines : List DriveLinkState) (i : ℕ) (cs : List Logged) →
     Each (IsCycle s lines) cs → length (outputs_in i (entries_of cs)) ≡ length cs
 outs_length s lines i cs each = go cs (λ n c at. let e = each n c at in (e.ins, e.entry_is))
   where
@@ -118,9 +118,9 @@ outs_length s lines i cs each = go cs (λ n c at. let e = each n c at in (e.ins,
         ap (λ (x : Entry). length (outputs_in i (x ∷ entries_of cs))) e.1 ∙
         ap suc (go cs (λ n d at. each (suc n) d at))
 
-pub next_each : (s : Setup) (lines : List LineState) (cs : List Logged) (xs : List DriveIn)
-    (ls : List LineState) (made : ℕ) → Each (IsCycle s lines) cs → Each (Taken cs xs) ls →
-    made ≡ length cs → Each (λ i (x : LineState). (made + 1 ≡ length x.outs + 1) ×
+pub next_each : (s : Setup) (lines : List DriveLinkState) (cs : List Logged) (xs : List DriveIn)
+    (ls : List DriveLinkState) (made : ℕ) → Each (IsCycle s lines) cs → Each (Taken cs xs) ls →
+    made ≡ length cs → Each (λ i (x : DriveLinkState). (made + 1 ≡ length x.outs + 1) ×
     (x.ended ≡ false)) ls
 next_each s lines cs xs ls made cycles each count i l at =
     let t = each i l at in
@@ -128,8 +128,8 @@ next_each s lines cs xs ls made cycles each count i l at =
     (omega arith, t.goes_on)
 
 -- a cycle made before stays one as the lines grow
-grown : (s : Setup) (ls ls' : List LineState) (n : ℕ) (c : Logged) → IsCycle s ls n c → length ls' ≡
-    length ls → ((i : ℕ) (l' : LineState) → slice_get ls' i ≡ Some l' → (l : LineState) ×
+grown : (s : Setup) (ls ls' : List DriveLinkState) (n : ℕ) (c : Logged) → IsCycle s ls n c → length ls' ≡
+    length ls → ((i : ℕ) (l' : DriveLinkState) → slice_get ls' i ≡ Some l' → (l : DriveLinkState) ×
     (slice_get ls i ≡ Some l) × (slice_get l'.ins n ≡ slice_get l.ins n)) → IsCycle s ls' n c
 grown s ls ls' n c is width back = record {
   ins = is.ins;
@@ -139,7 +139,7 @@ grown s ls ls' n c is width back = record {
   taken = λ i l' at. let b = back i l' at in b.2 ∙ is.taken i b.0 b.1;
 }
 
-pub grown_in : (s : Setup) (cs : List Logged) (xs : List DriveIn) (ls ls' : List LineState) →
+pub grown_in : (s : Setup) (cs : List Logged) (xs : List DriveIn) (ls ls' : List DriveLinkState) →
     Each (IsInStep cs) ls → Each (IsCycle s ls) cs → length xs ≡ length ls →
     ls' ≡ zip_with with_answer ls xs → Each (IsCycle s ls') cs
 grown_in s cs xs ls ls' stand cycles width is n c at =
@@ -150,11 +150,11 @@ grown_in s cs xs ls ls' stand cycles width is n c at =
     let m = get_some cs n c at in (
       r.0,
       r.2,
-      ap (λ (l : LineState). slice_get l.ins n) (sym r.4) ∙ ap (λ l. slice_get l n)
+      ap (λ (l : DriveLinkState). slice_get l.ins n) (sym r.4) ∙ ap (λ l. slice_get l n)
           (in_ins r.0 r.1) ∙ get_before r.0.ins (r.1 ∷ []) n (omega arith),
     ))
 
-pub grown_out : (s : Setup) (cs : List Logged) (ys : List DriveOut) (ls ls' : List LineState) →
+pub grown_out : (s : Setup) (cs : List Logged) (ys : List DriveOut) (ls ls' : List DriveLinkState) →
     Each (IsCycle s ls) cs → length ys ≡ length ls → ls' ≡ zip_with with_output ls ys →
     Each (IsCycle s ls') cs
 grown_out s cs ys ls ls' cycles width is n c at =
@@ -163,14 +163,14 @@ grown_out s cs ys ls ls' cycles width is n c at =
     let r = zip_get with_output ls ys i l' (ap (λ l. slice_get l i) (sym is) ∙ there) in (
       r.0,
       r.2,
-      ap (λ (l : LineState). slice_get l.ins n) (sym r.4) ∙ ap (λ l. slice_get l n)
+      ap (λ (l : DriveLinkState). slice_get l.ins n) (sym r.4) ∙ ap (λ l. slice_get l n)
           (out_ins r.0 r.1),
     ))
 
-pub in_jobs : (ls ls' : List LineState) (xs : List DriveIn) → length xs ≡ length ls →
+pub in_jobs : (ls ls' : List DriveLinkState) (xs : List DriveIn) → length xs ≡ length ls →
     ls' ≡ zip_with with_answer ls xs → map job_of ls' ≡ map job_of ls
 in_jobs ls ls' xs len is = ap (map job_of) is ∙ zip_kept with_answer job_of ls xs len in_job
 
-pub out_jobs : (ls ls' : List LineState) (xs : List DriveOut) → length xs ≡ length ls →
+pub out_jobs : (ls ls' : List DriveLinkState) (xs : List DriveOut) → length xs ≡ length ls →
     ls' ≡ zip_with with_output ls xs → map job_of ls' ≡ map job_of ls
 out_jobs ls ls' xs len is = ap (map job_of) is ∙ zip_kept with_output job_of ls xs len out_job

@@ -5,10 +5,10 @@ use mathlib.Core.List.{IsPrefix}
 use Rattle.std.proofs.Common.{eq-eqb}
 use Rattle.std.proofs.lemmas.Bool.{cases_lt as order}
 use Rattle.std.specs.declared.snapshot.Snapshot.{Snapshot}
-use Rattle.drive_jobs.specs.LineState.{LineState}
-use Rattle.kernel_turn.specs.PassState.{PassState}
+use Rattle.drive_jobs.specs.DriveLinkState.{DriveLinkState}
+use Rattle.kernel_turn.specs.PermitState.{PermitState}
 use Rattle.kernel_turn.specs.Times.{one, times, once_below}
-use Rattle.kernel_turn.specs.Turns.{IsFound, IsJoined, IsLawful, pass_after_stop}
+use Rattle.kernel_turn.specs.Turns.{IsFound, IsJoined, IsLawful, permit_after_stop}
 use Rattle.motion_plant.specs.Cycling.{IsCycle, IsCycled}
 use Rattle.motion_plant.specs.Driven.{IsAlive}
 use Rattle.motion_plant.specs.Jobs.{job_lines}
@@ -29,13 +29,13 @@ use Rattle.motion_plant.specs.declared.task_job.TaskJobEnd.{TaskJobEnd}
 use Rattle.motion_plant.proofs.TurnLaws.{cycles_begin}
 use Rattle.motion_plant.proofs.Lists.{some_is}
 
-pub stopped_not : (first : PassState) (ls0 : List LineState) (k : PassState) (ls : List LineState)
+pub stopped_not : (first : PermitState) (ls0 : List DriveLinkState) (k : PermitState) (ls : List DriveLinkState)
     (ending : Ending) → IsCycled first ls0 k ls ending → (ending ≡ endings.Over → ⊥) →
     IsStopped first ls0 k ls ending
 stopped_not first ls0 k ls ending c never = record {
   kept = ap kept_part c.fixed;
-  out = ap (λ (p : PassState). p.out) c.fixed;
-  stops = λ e. ap (λ (p : PassState). p.made_stop) c.fixed;
+  out = ap (λ (p : PermitState). p.out) c.fixed;
+  stops = λ e. ap (λ (p : PermitState). p.made_stop) c.fixed;
   made = λ e. absurd (never e);
   owns = c.owns;
   columns = c.columns;
@@ -46,25 +46,25 @@ stopped_not first ls0 k ls ending c never = record {
   ends = c.ends;
 }
 
-pub stopped_over : (first : PassState) (ls0 : List LineState) (k k' : PassState)
-    (ls : List LineState) (f : KernelState) → IsCycled first ls0 k ls endings.Over → IsFound k f →
-    k' ≡ pass_after_stop k f → IsLawful k'.config k'.seen → IsStopped first ls0 k' ls endings.Over
+pub stopped_over : (first : PermitState) (ls0 : List DriveLinkState) (k k' : PermitState)
+    (ls : List DriveLinkState) (f : KernelState) → IsCycled first ls0 k ls endings.Over → IsFound k f →
+    k' ≡ permit_after_stop k f → IsLawful k'.config k'.seen → IsStopped first ls0 k' ls endings.Over
 stopped_over first ls0 k k' ls f c w is lawful =
     let h : f.history ≡ k.seen ++ w.begins.0 = sym w.begins.1 in
-    let seen : k'.seen ≡ k.seen ++ w.begins.0 = ap (λ (p : PassState). p.seen) is ∙ h in
-    let own : k'.own ≡ k.own = ap (λ (p : PassState). p.own) is in
+    let seen : k'.seen ≡ k.seen ++ w.begins.0 = ap (λ (p : PermitState). p.seen) is ∙ h in
+    let own : k'.own ≡ k.own = ap (λ (p : PermitState). p.own) is in
     let made : own_entries k'.own k'.seen ≡ own_entries k.own k.seen =
     (λ j. own_entries (own j) (seen j)) ∙ entries_prefix k.own k.seen w.begins.0 c.owns.below in
     let kept : kept_part k' ≡ kept_part first = ap kept_part is ∙ ap kept_part c.fixed in
-    let cy = ap (λ (p : PassState). p.config.cycles) kept in
+    let cy = ap (λ (p : PermitState). p.config.cycles) kept in
     let a = cycles_begin k.seen k'.seen (w.begins.0, sym seen) in
     let b = lawful.legal.cycles in
     let e = c.ends in
     record {
       kept = kept;
-      out = ap (λ (p : PassState). p.out) is ∙ ap (λ (p : PassState). p.out) c.fixed;
+      out = ap (λ (p : PermitState). p.out) is ∙ ap (λ (p : PermitState). p.out) c.fixed;
       stops = λ e. absurd (cc);
-      made = λ e. ap (λ (p : PassState). p.made_stop) is;
+      made = λ e. ap (λ (p : PermitState). p.made_stop) is;
       owns = subst (λ os. Owns (IsUpTo first.config 0) os k'.seen) (sym own)
           (subst (λ es. Owns (IsUpTo first.config 0) k.own es) (sym seen)
           (owns_prefix (IsUpTo first.config 0) k.own k.seen w.begins.0 c.owns));
@@ -92,7 +92,7 @@ or_left : (a b : Bool) → (a || b) ≡ false → a ≡ false
 or_left true b e = absurd (cc)
 or_left false b e = refl
 
-pub joined_first : (k : PassState) → Owns (IsUpTo k.config 0) k.own k.seen →
+pub joined_first : (k : PermitState) → Owns (IsUpTo k.config 0) k.own k.seen →
     IsJoinedUpTo (own_entries k.own k.seen) k 0 k
 joined_first k o = record {
   kept = refl;
@@ -105,17 +105,17 @@ joined_first k o = record {
   met = λ e. e;
 }
 
-module _ (cs : List Logged) (first old o new : PassState) (k : ℕ) (is : IsJoinedUpTo cs first k old)
+module _ (cs : List Logged) (first old o new : PermitState) (k : ℕ) (is : IsJoinedUpTo cs first k old)
     (b : Owns (IsBy first.config k) o.own o.seen) (j : IsJoined old o new) where
   own_is : new.own ≡ old.own ++ o.own
-  own_is = ap (λ (z : PassState). z.own) j.pass
+  own_is = ap (λ (z : PermitState). z.own) j.permit
 
   pub joined_more : k < first.out → o.made_stop ≡ false → IsJoinedUpTo cs first (suc k) new
   joined_more lt none =
-      let out = ap (λ (z : PassState). z.out) j.pass in
+      let out = ap (λ (z : PermitState). z.out) j.permit in
       let was = is.out in
       record {
-        kept = ap kept_part j.pass ∙ is.kept;
+        kept = ap kept_part j.permit ∙ is.kept;
         out = omega arith;
         owns = subst (λ w. Owns (IsUpTo first.config (suc k)) w new.seen) (sym own_is)
             (joined_owns first.config k old.own o.own old.seen o.seen new.seen j.begins
@@ -124,10 +124,10 @@ module _ (cs : List Logged) (first old o new : PassState) (k : ℕ) (is : IsJoin
             joined_old first.config k old.own o.own old.seen o.seen new.seen j.begins j.begins_other
             is.owns b 0 (omega arith) ∙ is.cycles;
         begins = entries_trans first.seen old.seen new.seen is.begins j.begins;
-        stops = ap (λ (z : PassState). z.made_stop) j.pass ∙
+        stops = ap (λ (z : PermitState). z.made_stop) j.permit ∙
             or_false old.made_stop o.made_stop none ∙ is.stops;
         met = λ e. is.met (or_left old.met_stop o.met_stop
-            (sym (ap (λ (z : PassState). z.met_stop) j.pass) ∙ e));
+            (sym (ap (λ (z : PermitState). z.met_stop) j.permit) ∙ e));
       }
 
   pub tasks_more : {G : Type 0} (seats : List (Snapshot (TaskJob G))) (seat : Snapshot (TaskJob G))
@@ -163,10 +163,10 @@ module _ (cs : List Logged) (first old o new : PassState) (k : ℕ) (is : IsJoin
 
 -- what a joined task leaves
 pub done_owns : {G : Type 0} (s : Setup) (t : ℕ) (j : TaskJob G) (e : TaskJobEnd) →
-    TaskDone j.pass j.task (job_lines j) e → j.pass.config ≡ s → j.task ≡ t →
-    Owns (IsBy s t) e.pass.own e.pass.seen
-done_owns s t j e d config task = subst (λ (c : Setup). Owns (IsBy c t) e.pass.own e.pass.seen)
-    config (subst (λ n. Owns (IsBy j.pass.config n) e.pass.own e.pass.seen) task d.owns)
+    TaskDone j.permit j.task (job_lines j) e → j.permit.config ≡ s → j.task ≡ t →
+    Owns (IsBy s t) e.permit.own e.permit.seen
+done_owns s t j e d config task = subst (λ (c : Setup). Owns (IsBy c t) e.permit.own e.permit.seen)
+    config (subst (λ n. Owns (IsBy j.permit.config n) e.permit.own e.permit.seen) task d.owns)
 
 -- all tickets are own at the close
 one_true : (b : Bool) → b ≡ true → one b ≡ 1

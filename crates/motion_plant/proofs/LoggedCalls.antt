@@ -7,7 +7,7 @@ use Rattle.motion_plant.specs.Makers.{IsBy, Logged, Owns, own_entries}
 use Rattle.motion_plant.specs.TaskEnds.{TaskDone, TaskMade}
 use Rattle.motion_plant.proofs.OwnEntries.{entries_none, owns_none}
 use Rattle.motion_history.specs.Entries.{Entry, call, end_of, cycles_of}
-use Rattle.kernel_turn.specs.PassState.{PassState}
+use Rattle.kernel_turn.specs.PermitState.{PermitState}
 use Rattle.motion_history.specs.Setup.{Setup}
 use Rattle.plc_program.specs.declared.program.Instruction.{Instruction}
 use Rattle.task_run.specs.Callers.{MayFollow, cycles_from}
@@ -93,7 +93,7 @@ ended_made lines t made made' before are calls ended more =
       whole = λ e. subst (IsEndedBy lines) (sym same) ended;
     }
 
--- a pass that has made nothing
+-- a permit that has made nothing
 pub owns_first : (P : Entry → Type 0) (own : List ℕ) (h : List Entry) → own ≡ [] → Owns P own h
 owns_first P own h e = subst (λ o. Owns P o h) (sym e) (owns_none P h)
 
@@ -108,7 +108,7 @@ last_call made made' before k i r c more is =
     last_more 0 (logged_calls made) (record { instance = k; inputs = i; reply = r; cycles = c }))
 
 -- a task whose program came to its end
-pub task_done : (first : PassState) (t : ℕ) (lines : List Instruction) (p q : PassState)
+pub task_done : (first : PermitState) (t : ℕ) (lines : List Instruction) (p q : PermitState)
     (ended : Bool) → fixed_part p ≡ fixed_part first → fixed_part q ≡ fixed_part p →
     Owns (IsBy p.config t) q.own q.seen → AreCalls (own_entries p.own p.seen) →
     TaskCalls lines (logged_calls (own_entries p.own p.seen)) →
@@ -116,9 +116,9 @@ pub task_done : (first : PassState) (t : ℕ) (lines : List Instruction) (p q : 
     (ended ≡ true → (before : List Entry) × (own_entries q.own q.seen ≡ own_entries p.own p.seen ++
     record { before = before; entry = end_of t } ∷ [])) →
     (ended ≡ false → own_entries q.own q.seen ≡ own_entries p.own p.seen) →
-    (ended ≡ false → IsCut q) → TaskDone first t lines (record { pass = q; ended = ended })
+    (ended ≡ false → IsCut q) → TaskDone first t lines (record { permit = q; ended = ended })
 task_done first t lines p q ended same same' owns are calls whole did never cut =
-    let config : p.config ≡ first.config = ap (λ (z : PassState). z.config) same in
+    let config : p.config ≡ first.config = ap (λ (z : PermitState). z.config) same in
     record {
       fixed = same' ∙ same;
       owns = subst (λ (s : Setup). Owns (IsBy s t) q.own q.seen) config owns;

@@ -5,11 +5,11 @@ use mathlib.Core.List.{IsPrefix}
 use Rattle.std.specs.declared.snapshot.Snapshot.{Snapshot}
 use Rattle.cia402_machine.specs.declared.drive.DriveIn.{DriveIn}
 use Rattle.drive_jobs.specs.Log.{IsLogOf}
-use Rattle.drive_jobs.specs.LineState.{LineState}
+use Rattle.drive_jobs.specs.DriveLinkState.{DriveLinkState}
 use Rattle.drive_jobs.specs.declared.drive_job.DriveJob.{DriveJob}
 use Rattle.drive_sim.specs.Runs.{answers_of, drive_after}
 use Rattle.drive_sim.specs.Steps.{answer_of}
-use Rattle.kernel_turn.specs.PassState.{PassState}
+use Rattle.kernel_turn.specs.PermitState.{PermitState}
 use Rattle.kernel_turn.specs.Turns.{IsClosed}
 use Rattle.machine_drives.specs.Drives.{outputs_in}
 use Rattle.motion_plant.specs.Cycling.{EndsBy}
@@ -51,7 +51,7 @@ or_right a false never = refl
 begin_length : (xs ys : List Entry) → IsPrefix xs ys → length xs ≤ length ys
 begin_length xs ys p = let e = ap length p.1 in let l = length-append xs p.0 in omega arith
 
-module _ (first k1 k2 : PassState) (m : ℕ) (lines lines1 lines2 : List LineState) (ending : Ending)
+module _ (first k1 k2 : PermitState) (m : ℕ) (lines lines1 lines2 : List DriveLinkState) (ending : Ending)
     (logs : List DriveLog) (f : KernelState) (stop : IsStopped first lines k1 lines1 ending)
     (end : lines2 ≡ map ended_line lines1) (log : Each (IsLogAt lines2) logs) (count : length logs ≡
     length lines1) (join : IsJoinedUpTo (own_entries k1.own k1.seen) k1 m k2)
@@ -60,10 +60,10 @@ module _ (first k1 k2 : PassState) (m : ℕ) (lines lines1 lines2 : List LineSta
   h = f.history
 
   c1 : k1.config ≡ first.config
-  c1 = ap (λ (p : PassState). p.config) stop.kept
+  c1 = ap (λ (p : PermitState). p.config) stop.kept
 
   config : f.config ≡ first.config
-  config = closed.config ∙ ap (λ (p : PassState). p.config) join.kept ∙ c1
+  config = closed.config ∙ ap (λ (p : PermitState). p.config) join.kept ∙ c1
 
   all_is_made : (t : ℕ) → entries_by first.config t h ≡ own_entries_by k1.config t k2.own k2.seen
   all_is_made t =
@@ -79,29 +79,29 @@ module _ (first k1 k2 : PassState) (m : ℕ) (lines lines1 lines2 : List LineSta
   cycles_are n c at = let e = stop.cycles n c (ap (λ cs. slice_get cs n) (sym cycles) ∙ at) in
       (e.ins, e.entry_is)
 
-  outs_are : (i : ℕ) (l : LineState) → slice_get lines1 i ≡ Some l → l.outs ≡ outputs_in i h
+  outs_are : (i : ℕ) (l : DriveLinkState) → slice_get lines1 i ≡ Some l → l.outs ≡ outputs_in i h
   outs_are i l at = (stop.columns i l at).outs ∙ ap (λ cs. outputs_in i (entries_of cs))
       (sym cycles) ∙ all_outputs first.config i h
 
   -- the line in this place at first
-  same_line : (i : ℕ) (l1 : LineState) → slice_get lines1 i ≡ Some l1 → (l : LineState) ×
+  same_line : (i : ℕ) (l1 : DriveLinkState) → slice_get lines1 i ≡ Some l1 → (l : DriveLinkState) ×
       (slice_get lines i ≡ Some l) × (l.job ≡ l1.job)
   same_line i l1 at = get_map_of job_of lines i l1.job (ap (λ xs. slice_get xs i) (sym stop.jobs) ∙
       get_map job_of lines1 i l1 at)
 
-  line_now : (i : ℕ) (l : LineState) → slice_get lines i ≡ Some l → (l1 : LineState) ×
+  line_now : (i : ℕ) (l : DriveLinkState) → slice_get lines i ≡ Some l → (l1 : DriveLinkState) ×
       (slice_get lines1 i ≡ Some l1) × (l1.job ≡ l.job)
   line_now i l at = get_map_of job_of lines1 i l.job (ap (λ xs. slice_get xs i) stop.jobs ∙
       get_map job_of lines i l at)
 
-  log_at : (i : ℕ) (g : DriveLog) → slice_get logs i ≡ Some g → (l1 : LineState) ×
+  log_at : (i : ℕ) (g : DriveLog) → slice_get logs i ≡ Some g → (l1 : DriveLinkState) ×
       (slice_get lines1 i ≡ Some l1) × IsLogOf l1.job.drive l1.outs l1.ins g
   log_at i g at =
       let r = log i g at in
       let s = get_map_of ended_line lines1 i r.0 (ap (λ ls. slice_get ls i) (sym end) ∙ r.1) in
-      (s.0, s.1, subst (λ (z : LineState). IsLogOf z.job.drive z.outs z.ins g) (sym s.2) r.2)
+      (s.0, s.1, subst (λ (z : DriveLinkState). IsLogOf z.job.drive z.outs z.ins g) (sym s.2) r.2)
 
-  drives : Each (λ i g. (l : LineState) × (slice_get lines i ≡ Some l) ×
+  drives : Each (λ i g. (l : DriveLinkState) × (slice_get lines i ≡ Some l) ×
       DriveMeets l.job.drive i h g) logs
   drives i g at =
       let r = log_at i g at in
@@ -138,7 +138,7 @@ module _ (first k1 k2 : PassState) (m : ℕ) (lines lines1 lines2 : List LineSta
             let r = log_at i g.0 g.1 in
             let one : r.0 ≡ b.0 = some_is r.0 b.0 (sym r.1 ∙ b.1) in
             let answers : IsPrefix b.0.ins (answers_of b.0.job.drive b.0.outs) =
-            subst (λ (z : LineState). IsPrefix z.ins (answers_of z.job.drive z.outs)) one
+            subst (λ (z : DriveLinkState). IsPrefix z.ins (answers_of z.job.drive z.outs)) one
             r.2.answers in
             let col = stop.columns i b.0 b.1 in
             let few = col.ins in
@@ -204,7 +204,7 @@ module _ (first k1 k2 : PassState) (m : ℕ) (lines lines1 lines2 : List LineSta
 
 -- each ended line's job is where it was started
 pub still_started : {G : Type 0} (jobs : List (Option (PlantJob G))) (base : ℕ)
-    (lines lines1 lines2 : List LineState) → Each (λ i l. slice_get jobs (base + i) ≡
+    (lines lines1 lines2 : List DriveLinkState) → Each (λ i l. slice_get jobs (base + i) ≡
     Some (line_job l)) lines → map job_of lines1 ≡ map job_of lines →
     lines2 ≡ map ended_line lines1 → Each (λ i l. slice_get jobs (base + i) ≡ Some (line_job l))
     lines2

@@ -4,14 +4,14 @@ use Rattle.std.specs.Prelude.{slice_get, false}
 use Rattle.std.specs.declared.snapshot.Snapshot.{Snapshot}
 use Rattle.atomic_table.specs.Seated.{TableId}
 use Rattle.axis_state.specs.declared.definition.AxisDef.{AxisDef}
-use Rattle.drive_jobs.specs.LineState.{LineState}
+use Rattle.drive_jobs.specs.DriveLinkState.{DriveLinkState}
 use Rattle.drive_sim.specs.Sim.{DriveSim}
-use Rattle.kernel_turn.specs.PassState.{PassState}
+use Rattle.kernel_turn.specs.PermitState.{PermitState}
 use Rattle.machine_drives.specs.Drives.{drive_at_opening, drives_at_opening}
 use Rattle.motion_plant.specs.Driven.{IsDriven}
 use Rattle.motion_plant.specs.Jobs.{IsSeat, job_lines, line_job, seat_job}
 use Rattle.motion_plant.specs.Joined.{IsSeated}
-use Rattle.motion_plant.specs.Lines.{IsInStep, IsNewLine, drive_of}
+use Rattle.motion_plant.specs.Lines.{IsInStep, IsNewLink, drive_of}
 use Rattle.motion_plant.specs.Makers.{entries_by}
 use Rattle.motion_plant.specs.Places.{Each}
 use Rattle.motion_plant.specs.Ran.{DriveMeets, PlantMeets, PlantRan}
@@ -35,14 +35,14 @@ started_more f before jobs jobs' xs xs' x new old more =
     (sym more)
 
 -- one line more
-pub line_more : (axes : List AxisDef) (defs : List DriveDef) (ls ls' : List LineState)
-    (l : LineState) (a : AxisDef) (d : DriveDef) (i : ℕ) → Each (IsNewLine axes defs) ls →
+pub line_more : (axes : List AxisDef) (defs : List DriveDef) (ls ls' : List DriveLinkState)
+    (l : DriveLinkState) (a : AxisDef) (d : DriveDef) (i : ℕ) → Each (IsNewLink axes defs) ls →
     ls' ≡ ls ++ l ∷ [] → length ls ≡ i → slice_get axes i ≡ Some a → slice_get defs i ≡ Some d →
     l.job.drive ≡ drive_at_opening a d → (l.outs ≡ []) × (l.ins ≡ []) × (l.ended ≡ false) →
-    Each (IsNewLine axes defs) ls'
+    Each (IsNewLink axes defs) ls'
 line_more axes defs ls ls' l a d i each more len at at' drive new =
-    subst (Each (IsNewLine axes defs)) (sym more) (each_more (IsNewLine axes defs) ls l each
-    (subst (λ n. IsNewLine axes defs n l) (sym len) (record {
+    subst (Each (IsNewLink axes defs)) (sym more) (each_more (IsNewLink axes defs) ls l each
+    (subst (λ n. IsNewLink axes defs n l) (sym len) (record {
       axis = a;
       def = d;
       axis_at = at;
@@ -54,7 +54,7 @@ line_more axes defs ls ls' l a d i each more len at at' drive new =
     })))
 
 -- one seat more
-pub seat_more : {G : Type 0} (program : List (List Instruction)) (k k' : PassState)
+pub seat_more : {G : Type 0} (program : List (List Instruction)) (k k' : PermitState)
     (seats seats' : List (Snapshot (TaskJob G))) (z : Snapshot (TaskJob G)) (i : ℕ) →
     Each (λ n z. IsSeat program k n z.value) seats → seats' ≡ seats ++ z ∷ [] →
     IsSeat program k' i z.value → k' ≡ record k { out = i } → length seats ≡ i →
@@ -66,19 +66,19 @@ seat_more program k k' seats seats' z i each more is same len =
       program_is = is.program_is;
       run = is.run;
       task = is.task;
-      table = is.table ∙ ap (λ (p : PassState). p.table) same;
-      config = is.config ∙ ap (λ (p : PassState). p.config) same;
+      table = is.table ∙ ap (λ (p : PermitState). p.table) same;
+      config = is.config ∙ ap (λ (p : PermitState). p.config) same;
       stops = is.stops;
     })))
 
-pub seats_own : {G : Type 0} (program : List (List Instruction)) (k : PassState) (table : TableId)
+pub seats_own : {G : Type 0} (program : List (List Instruction)) (k : PermitState) (table : TableId)
     (s : Setup) (seats : List (Snapshot (TaskJob G))) → Each (λ i z. IsSeat program k i z.value)
     seats → k.table ≡ table → k.config ≡ s → Each (IsSeated table s) seats
 seats_own program k table s seats each t c i z at = let j = each i z at in
     record { table_is = j.table ∙ t; task = j.task; config = j.config ∙ c; stops = j.stops }
 
-pub new_stand : (axes : List AxisDef) (defs : List DriveDef) (ls : List LineState) →
-    Each (IsNewLine axes defs) ls → Each (IsInStep []) ls
+pub new_stand : (axes : List AxisDef) (defs : List DriveDef) (ls : List DriveLinkState) →
+    Each (IsNewLink axes defs) ls → Each (IsInStep []) ls
 new_stand axes defs ls each i l at = let n = each i l at in record {
   outs = n.outs;
   ins =
@@ -87,8 +87,8 @@ new_stand axes defs ls each i l at = let n = each i l at in record {
 }
 
 -- the drives of the lines are those of the axes
-pub drives_are : (axes : List AxisDef) (defs : List DriveDef) (ls : List LineState) → length ls ≡
-    length axes → length defs ≡ length axes → Each (IsNewLine axes defs) ls → map drive_of ls ≡
+pub drives_are : (axes : List AxisDef) (defs : List DriveDef) (ls : List DriveLinkState) → length ls ≡
+    length axes → length defs ≡ length axes → Each (IsNewLink axes defs) ls → map drive_of ls ≡
     drives_at_opening axes defs
 drives_are [] [] [] a b each = refl
 drives_are [] [] (l ∷ ls) a b each = absurd (omega arith)
@@ -128,14 +128,14 @@ started_at f jobs before xs more base is len i x at =
     ∙ get_map f xs i x at
 
 module _ {G : Type 0} where
-  pub drives_started : (jobs before : List (Option (PlantJob G))) (lines : List LineState)
+  pub drives_started : (jobs before : List (Option (PlantJob G))) (lines : List DriveLinkState)
       (more : List (Option (PlantJob G))) (base : ℕ) → jobs ≡ (before ++ map line_job lines) ++
       more → base ≡ length before → Each (λ i l. slice_get jobs (base + i) ≡ Some (line_job l))
       lines
   drives_started jobs before lines more base is len = started_at line_job jobs before lines more
       base is len
 
-  pub tasks_started : (jobs before : List (Option (PlantJob G))) (lines : List LineState)
+  pub tasks_started : (jobs before : List (Option (PlantJob G))) (lines : List DriveLinkState)
       (seats : List (Snapshot (TaskJob G))) (base : ℕ) → jobs ≡ (before ++ map line_job lines) ++
       map seat_job seats → base ≡ length before →
       Each (λ i s. slice_get jobs (base + length lines + i) ≡ Some (seat_job s)) seats
@@ -144,11 +144,11 @@ module _ {G : Type 0} where
       (is ∙ sym (append-nil _)) (let a = length-append before (map (line_job {G = G}) lines) in
       let b = length_map (line_job {G = G}) lines in omega arith)
 
-  pub ran : (s : Setup) (k : PassState) (program : List (List Instruction)) (axes : List AxisDef)
-      (defs : List DriveDef) (lines : List LineState) (seats : List (Snapshot (TaskJob G)))
+  pub ran : (s : Setup) (k : PermitState) (program : List (List Instruction)) (axes : List AxisDef)
+      (defs : List DriveDef) (lines : List DriveLinkState) (seats : List (Snapshot (TaskJob G)))
       (h : List Entry) (logs : List DriveLog) → PlantMeets s lines seats h logs → length seats ≡
       length program → Each (λ i z. IsSeat program k i z.value) seats → length lines ≡ length axes →
-      length defs ≡ length axes → Each (IsNewLine axes defs) lines → length logs ≡ length lines →
+      length defs ≡ length axes → Each (IsNewLink axes defs) lines → length logs ≡ length lines →
       PlantRan s program (drives_at_opening axes defs) h logs
   ran s k program axes defs lines seats h logs m count seated width each new logged =
       let drives = drives_are axes defs lines width each new in

@@ -6,8 +6,8 @@ use Rattle.fb_outputs.specs.declared.inputs.Inputs.{Inputs}
 use Rattle.fb_outputs.specs.declared.outputs.Outputs.{Outputs}
 use Rattle.kernel_turn.specs.Events.{call_of}
 use Rattle.motion_kernel.specs.KernelState.{with_entry}
-use Rattle.kernel_turn.specs.PassState.{PassState}
-use Rattle.kernel_turn.specs.Turns.{CallAnswered, EndAnswered, FullOfEntries, IsFound, TakesTurn, pass_after}
+use Rattle.kernel_turn.specs.PermitState.{PermitState}
+use Rattle.kernel_turn.specs.Turns.{CallAnswered, EndAnswered, FullOfEntries, IsFound, TakesTurn, permit_after}
 use Rattle.kernel_turn.specs.declared.turn.Turn.{Turn}
 use Rattle.kernel_turn.specs.declared.turn.Turn.TheVariants as turns
 use Rattle.motion_plant.specs.Calls.{IsCut, fixed_part}
@@ -23,13 +23,13 @@ pub cycles_begin : (xs ys : List Entry) → IsPrefix xs ys → cycles_of xs ≤ 
 cycles_begin xs ys p = let e = ap cycles_of p.1 in let m = cycles_of-append xs p.0 in omega arith
 
 -- a turn that made nothing
-pub record LeavesAll (old new : PassState) : Type 0 where
+pub record LeavesAll (old new : PermitState) : Type 0 where
   pub fixed : fixed_part new ≡ fixed_part old
   pub made : own_entries new.own new.seen ≡ own_entries old.own old.seen
   pub longer : cycles_of old.seen ≤ cycles_of new.seen
 
--- one that made this entry behind these
-pub record Adds (old new : PassState) (before : List Entry) (e : Entry) : Type 0 where
+-- one that made this entry after these
+pub record Adds (old new : PermitState) (before : List Entry) (e : Entry) : Type 0 where
   pub fixed : fixed_part new ≡ fixed_part old
   pub made : own_entries new.own new.seen ≡ own_entries old.own old.seen ++ record {
     before =
@@ -39,14 +39,14 @@ pub record Adds (old new : PassState) (before : List Entry) (e : Entry) : Type 0
   pub first : cycles_of old.seen ≤ cycles_of before
   pub longer : cycles_of new.seen ≡ cycles_of before + cycle_count e
 
-module _ (P : Entry → Type 0) (old new : PassState) (f g : KernelState)
+module _ (P : Entry → Type 0) (old new : PermitState) (f g : KernelState)
     (o : Owns P old.own old.seen) (w : IsFound old f) where
-  pub none_made : g ≡ f → new ≡ pass_after old f g [] → Owns P new.own new.seen × LeavesAll old new
+  pub none_made : g ≡ f → new ≡ permit_after old f g [] → Owns P new.own new.seen × LeavesAll old new
   none_made same is =
       let h : f.history ≡ old.seen ++ w.begins.0 = sym w.begins.1 in
-      let seen : new.seen ≡ old.seen ++ w.begins.0 = ap (λ (p : PassState). p.seen) is ∙
+      let seen : new.seen ≡ old.seen ++ w.begins.0 = ap (λ (p : PermitState). p.seen) is ∙
       ap (λ (k : KernelState). k.history) same ∙ h in
-      let own : new.own ≡ old.own = ap (λ (p : PassState). p.own) is ∙ append-nil old.own in
+      let own : new.own ≡ old.own = ap (λ (p : PermitState). p.own) is ∙ append-nil old.own in
       let c = cycles_of-append old.seen w.begins.0 in
       let d = ap cycles_of seen in (
         subst (λ ns. Owns P ns new.seen) (sym own) (subst (λ es. Owns P old.own es) (sym seen)
@@ -60,14 +60,14 @@ module _ (P : Entry → Type 0) (old new : PassState) (f g : KernelState)
       )
 
   pub one_made : (e : Entry) (ticket : ℕ) → P e → g ≡ with_entry f e → ticket ≡ length f.history →
-      new ≡ pass_after old f g (ticket ∷ []) → Owns P new.own new.seen × Adds old new f.history e
+      new ≡ permit_after old f g (ticket ∷ []) → Owns P new.own new.seen × Adds old new f.history e
   one_made e ticket p same is_ticket is =
       let h : f.history ≡ old.seen ++ w.begins.0 = sym w.begins.1 in
       let mid : Owns P old.own f.history = subst (λ es. Owns P old.own es) (sym h)
       (owns_prefix P old.own old.seen w.begins.0 o) in
-      let seen : new.seen ≡ f.history ++ e ∷ [] = ap (λ (q : PassState). q.seen) is ∙
+      let seen : new.seen ≡ f.history ++ e ∷ [] = ap (λ (q : PermitState). q.seen) is ∙
       ap (λ (k : KernelState). k.history) same in
-      let own : new.own ≡ old.own ++ length f.history ∷ [] = ap (λ (q : PassState). q.own) is ∙
+      let own : new.own ≡ old.own ++ length f.history ∷ [] = ap (λ (q : PermitState). q.own) is ∙
       ap (λ t. old.own ++ t ∷ []) is_ticket in
       let c = cycles_of-append old.seen w.begins.0 in
       let b = ap cycles_of h in
@@ -95,7 +95,7 @@ by_task s t k i r h = go (slice_get s.blocks k) h
     go None h = absurd (h)
     go (Some b) h = ap suc h
 
-module _ (t : ℕ) (old new : PassState) where
+module _ (t : ℕ) (old new : PermitState) where
   pub call_made : (after k : ℕ) (i : Inputs) (turn : Turn Outputs) (ticket cycles : ℕ)
       (answer : Outputs) → Owns (IsBy old.config t) old.own old.seen →
       IsSomeAnd (slice_get old.config.blocks k) (λ (b : BlockDef). b.task ≡ t) →
@@ -111,7 +111,7 @@ module _ (t : ℕ) (old new : PassState) where
       let same : call_of f k i ≡ call k i answer = ap (call k i) (sym told.1) in
       let r = one_made (IsBy old.config t) old new f a.1 o a.2.found (call k i answer) ticket
       (by_task old.config t k i answer own) (m.kernel ∙ ap (with_entry f) same) m.ticket_is
-      a.2.pass in
+      a.2.permit in
       let c = m.cycles_is in
       let d = ap (λ (q : KernelState). cycles_of q.history) (m.kernel ∙ ap (with_entry f) same) in
       let n = cycles_of-append f.history (call k i answer ∷ []) in
@@ -125,7 +125,7 @@ module _ (t : ℕ) (old new : PassState) where
       LeavesAll old new
   call_full after k i turn entries cycles o answered e =
       let a = subst (CallAnswered after k i old new) e answered in
-      none_made (IsBy old.config t) old new a.0 a.1 o a.2.found a.2.makes.0.kernel a.2.pass
+      none_made (IsBy old.config t) old new a.0 a.1 o a.2.found a.2.makes.0.kernel a.2.permit
 
   pub call_early : (after k : ℕ) (i : Inputs) (turn : Turn Outputs) (quiet cycles : ℕ) →
       Owns (IsBy old.config t) old.own old.seen → CallAnswered after k i old new turn →
@@ -133,7 +133,7 @@ module _ (t : ℕ) (old new : PassState) where
       LeavesAll old new
   call_early after k i turn quiet cycles o answered e =
       let a = subst (CallAnswered after k i old new) e answered in
-      none_made (IsBy old.config t) old new a.0 a.1 o a.2.found a.2.makes.0.kernel a.2.pass
+      none_made (IsBy old.config t) old new a.0 a.1 o a.2.found a.2.makes.0.kernel a.2.permit
 
   pub end_made : (turn : Turn (Unit {0})) (ticket cycles : ℕ) (answer : Unit {0}) →
       Owns (IsBy old.config t) old.own old.seen → EndAnswered t old new turn →
@@ -143,7 +143,7 @@ module _ (t : ℕ) (old new : PassState) where
       let a = subst (EndAnswered t old new) e answered in
       let m = a.2.makes in
       let r = one_made (IsBy old.config t) old new a.0 a.1 o a.2.found (end_of t) ticket refl
-      m.kernel m.ticket_is a.2.pass in
+      m.kernel m.ticket_is a.2.permit in
       (a.0.history, r.0, r.1)
 
   pub end_full : (turn : Turn (Unit {0})) (entries cycles : ℕ) →
@@ -152,32 +152,32 @@ module _ (t : ℕ) (old new : PassState) where
       LeavesAll old new
   end_full turn entries cycles o answered e =
       let a = subst (EndAnswered t old new) e answered in
-      none_made (IsBy old.config t) old new a.0 a.1 o a.2.found a.2.makes.0.kernel a.2.pass
+      none_made (IsBy old.config t) old new a.0 a.1 o a.2.found a.2.makes.0.kernel a.2.permit
 
 -- a turn that found no room
-pub full_cut : {T : Type 0} (old new : PassState) (f g : KernelState) (e : Entry) (turn : Turn T)
+pub full_cut : {T : Type 0} (old new : PermitState) (f g : KernelState) (e : Entry) (turn : Turn T)
     (entries cycles : ℕ) → TakesTurn old new f g e turn → FullOfEntries new turn →
     turn ≡ turns.Full entries cycles → IsCut new
 full_cut old new f g e turn entries cycles takes full is =
     let t = subst (TakesTurn old new f g e) is takes in
     let m = subst (FullOfEntries new) is full in
-    let s : length new.seen ≡ length f.history = ap (λ (p : PassState). length p.seen) t.pass ∙
+    let s : length new.seen ≡ length f.history = ap (λ (p : PermitState). length p.seen) t.permit ∙
     ap (λ (z : KernelState). length z.history) t.makes.0.kernel in
     let n = t.makes.1 in
     λ met. let x = m met in omega arith
 
-pub left_twice : (a b c : PassState) → LeavesAll a b → LeavesAll b c → LeavesAll a c
+pub left_twice : (a b c : PermitState) → LeavesAll a b → LeavesAll b c → LeavesAll a c
 left_twice a b c p q = let x = p.longer in let y = q.longer in record {
   fixed = q.fixed ∙ p.fixed;
   made = q.made ∙ p.made;
   longer = omega arith;
 }
 
-pub left_first : (a : PassState) → LeavesAll a a
+pub left_first : (a : PermitState) → LeavesAll a a
 left_first a = record { fixed = refl; made = refl; longer = omega arith }
 
 -- what repeats of a call come to
-pub record CallMade (first new : PassState) (t after k : ℕ) (i : Inputs) (answer : Outputs)
+pub record CallMade (first new : PermitState) (t after k : ℕ) (i : Inputs) (answer : Outputs)
     (cycles : ℕ) : Type 0 where
   pub before : List Entry
   pub owns : Owns (IsBy first.config t) new.own new.seen
@@ -193,10 +193,10 @@ pub record CallMade (first new : PassState) (t after k : ℕ) (i : Inputs) (answ
   pub longer : cycles ≤ cycles_of new.seen
   pub few : cycles ≤ first.config.cycles
 
-module _ (t : ℕ) (first old new : PassState) (left : LeavesAll first old)
+module _ (t : ℕ) (first old new : PermitState) (left : LeavesAll first old)
     (o : Owns (IsBy first.config t) old.own old.seen) where
   config_is : old.config ≡ first.config
-  config_is = ap (λ (p : PassState). p.config) left.fixed
+  config_is = ap (λ (p : PermitState). p.config) left.fixed
 
   o' : Owns (IsBy old.config t) old.own old.seen
   o' = subst (λ (s : Setup). Owns (IsBy s t) old.own old.seen) (sym config_is) o

@@ -13,13 +13,13 @@ use Rattle.motion_kernel.specs.Tasks.{live_tasks, quiet_tasks}
 use Rattle.motion_kernel.specs.cycles.Cycles as machine
 use Rattle.motion_plant.specs.Makers.{Logged}
 
--- the machine's cycle behind these entries, for these answers
+-- the machine's cycle after these entries, for these answers
 abbrev pub cycle_with : Setup → List Entry → List DriveIn → Entry
 cycle_with s before ins =
     cycle (cycles_of before + 1) (machine.cycled s (machine_after s before) ins).axes
     (machine.cycled s (machine_after s before) ins).groups
 
--- behind this entry a task lives
+-- after this entry a task lives
 abbrev pub IsAlive : Setup → Logged → Type 0
 IsAlive s c = 0 < live_tasks s (c.before ++ c.entry ∷ [])
 

@@ -3,8 +3,8 @@ use Rattle.std.specs.Prelude.{◌≡◌, ◌<◌, ◌≤◌, ◌+◌, [], List, 
 use Rattle.std.specs.Arc.{arc_value}
 use Rattle.std.specs.declared.snapshot.Snapshot.{Snapshot}
 use Rattle.drive_jobs.specs.Answered.{IsDone}
-use Rattle.drive_jobs.specs.LineState.{LineState}
-use Rattle.kernel_turn.specs.PassState.{PassState}
+use Rattle.drive_jobs.specs.DriveLinkState.{DriveLinkState}
+use Rattle.kernel_turn.specs.PermitState.{PermitState}
 use Rattle.motion_history.specs.declared.sizes.TheConstants.{MOST_CYCLES}
 use Rattle.motion_plant.specs.Places.{Each}
 use Rattle.motion_plant.specs.TaskEnds.{TaskDone}
@@ -22,13 +22,13 @@ use Rattle.task_run.specs.Tasks.{first_state}
 abbrev pub job_lines : {G : Type 0} → TaskJob G → List Instruction
 job_lines t = lines_of (arc_value t.program) t.run
 
--- the job of a task may begin: its pass is of its kernel and has made nothing, and its run stands
+-- the job of a task may begin: its permit is of its kernel and has made nothing, and its run stands
 -- at the beginning of its task in a program of the machine
 pub record IsReady {G : Type 0} (t : TaskJob G) : Type 0 where
-  pub own : t.pass.table ≡ arc_value t.turn
-  pub unused : t.pass.own ≡ []
-  pub small : t.pass.config.cycles ≤ MOST_CYCLES
-  pub program : IsProgramOf t.pass.config (arc_value t.program)
+  pub own : t.permit.table ≡ arc_value t.turn
+  pub unused : t.permit.own ≡ []
+  pub small : t.permit.config.cycles ≤ MOST_CYCLES
+  pub program : IsProgramOf t.permit.config (arc_value t.program)
   pub run : IsRun (arc_value t.program) t.run (first_state (job_lines t))
   pub task : t.run.task ≡ t.task
 
@@ -40,12 +40,12 @@ Ready (jobs.Task t) = IsReady t
 -- a job has come to this end, which is of its kind
 abbrev pub Works : {G : Type 0} → PlantJob G → PlantJobEnd → Type 0
 Works (jobs.Drive d) (ends.Drive e) = IsDone d.drive d.end.ring e
-Works (jobs.Task t) (ends.Task e) = TaskDone t.pass t.task (job_lines t) e
+Works (jobs.Task t) (ends.Task e) = TaskDone t.permit t.task (job_lines t) e
 Works (jobs.Drive d) (ends.Task e) = ⊥
 Works (jobs.Task t) (ends.Drive e) = ⊥
 
 -- the job at the other end of a line, started
-abbrev pub line_job : {G : Type 0} → LineState → Option (PlantJob G)
+abbrev pub line_job : {G : Type 0} → DriveLinkState → Option (PlantJob G)
 line_job l = Some (jobs.Drive l.job)
 
 -- a task's job, started
@@ -53,7 +53,7 @@ abbrev pub seat_job : {G : Type 0} → Snapshot (TaskJob G) → Option (PlantJob
 seat_job s = Some (jobs.Task s.value)
 
 -- from this number on stand the jobs at the other ends of these lines
-abbrev pub AreDrivesAt : {G : Type 0} → List (Option (PlantJob G)) → ℕ → List LineState → Type 0
+abbrev pub AreDrivesAt : {G : Type 0} → List (Option (PlantJob G)) → ℕ → List DriveLinkState → Type 0
 AreDrivesAt started base lines =
     Each (λ i l. slice_get started (base + i) ≡ Some (line_job l)) lines
 
@@ -63,17 +63,17 @@ abbrev pub AreTasksAt : {G : Type 0} → List (Option (PlantJob G)) → ℕ →
 AreTasksAt started base seats =
     Each (λ i s. slice_get started (base + i) ≡ Some (seat_job s)) seats
 
--- the job of the task t of a program, by a pass that was split from this one
-pub record IsSeat {G : Type 0} (program : List (List Instruction)) (k : PassState) (t : ℕ)
+-- the job of the task t of a program, by a permit that was split from this one
+pub record IsSeat {G : Type 0} (program : List (List Instruction)) (k : PermitState) (t : ℕ)
     (j : TaskJob G) : Type 0 where
   pub program_is : arc_value j.program ≡ program
   pub run : j.run.task ≡ t
   pub task : j.task ≡ t
-  pub table : j.pass.table ≡ k.table
-  pub config : j.pass.config ≡ k.config
-  pub stops : j.pass.made_stop ≡ false
+  pub table : j.permit.table ≡ k.table
+  pub config : j.permit.config ≡ k.config
+  pub stops : j.permit.made_stop ≡ false
 
--- so many jobs, from a number on, were joined; the others stand as they stood
+-- this many jobs, from a number on, were joined; the others stand as they stood
 pub record AreJoined {J : Type 0} (old new : List (Option J)) (base k : ℕ) : Type 0 where
   pub before : (n : ℕ) → n < base → slice_get new n ≡ slice_get old n
   pub joined : (n : ℕ) → base ≤ n → n < base + k → slice_get new n ≡ Some None

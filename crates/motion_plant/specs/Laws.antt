@@ -15,7 +15,7 @@ AreDriven s drives h = (before more : List Entry) (n : ℕ) (rows : List AxisRow
     (grows : List GroupRow) → h ≡ before ++ cycle n rows grows ∷ more →
     IsDriven s drives (record { before = before; entry = cycle n rows grows })
 
--- behind each cycle but the last a task lives
+-- after each cycle but the last a task lives
 abbrev pub AreInTime : Setup → List Entry → Type 0
 AreInTime s h = (before more : List Entry) (n : ℕ) (rows : List AxisRow) (grows : List GroupRow) →
     h ≡ before ++ cycle n rows grows ∷ more → 0 < cycles_of more →

@@ -3,7 +3,7 @@ use Rattle.std.specs.Prelude.{◌≡◌, ◌≤◌, ℕ, List, [], ◌∷◌, �
 use Rattle.axis_state.specs.declared.definition.AxisDef.{AxisDef}
 use Rattle.cia402_machine.specs.declared.drive.DriveIn.{DriveIn}
 use Rattle.cia402_machine.specs.declared.drive.DriveOut.{DriveOut}
-use Rattle.drive_jobs.specs.LineState.{LineState}
+use Rattle.drive_jobs.specs.DriveLinkState.{DriveLinkState}
 use Rattle.drive_jobs.specs.Log.{IsLogOf}
 use Rattle.drive_jobs.specs.declared.drive_job.DriveJob.{DriveJob}
 use Rattle.drive_sim.specs.Sim.{DriveSim}
@@ -14,23 +14,23 @@ use Rattle.motion_plant.specs.Makers.{Logged}
 use Rattle.setpoint_ring.specs.declared.logs.DriveLog.{DriveLog}
 
 -- a line from which one answer more was taken
-unfoldable pub with_answer : LineState → DriveIn → LineState
+unfoldable pub with_answer : DriveLinkState → DriveIn → DriveLinkState
 with_answer l x = record l { ins = l.ins ++ x ∷ [] }
 
 -- a line into which one output more went
-unfoldable pub with_output : LineState → DriveOut → LineState
+unfoldable pub with_output : DriveLinkState → DriveOut → DriveLinkState
 with_output l x = record l { outs = l.outs ++ x ∷ [] }
 
 -- a line into which no output goes any more
-abbrev pub ended_line : LineState → LineState
+abbrev pub ended_line : DriveLinkState → DriveLinkState
 ended_line l = record l { ended = true }
 
 -- the job at the other end
-abbrev pub job_of : LineState → DriveJob
+abbrev pub job_of : DriveLinkState → DriveJob
 job_of l = l.job
 
 -- the drive at the other end, as it was when its job was started
-abbrev pub drive_of : LineState → DriveSim
+abbrev pub drive_of : DriveLinkState → DriveSim
 drive_of l = l.job.drive
 
 -- the entries themselves
@@ -38,7 +38,7 @@ abbrev pub entries_of : List Logged → List Entry
 entries_of cs = map (λ (c : Logged). c.entry) cs
 
 -- a line to the drive of this axis, through which nothing went yet
-pub record IsNewLine (axes : List AxisDef) (defs : List DriveDef) (n : ℕ) (l : LineState)
+pub record IsNewLink (axes : List AxisDef) (defs : List DriveDef) (n : ℕ) (l : DriveLinkState)
     : Type 0 where
   pub axis : AxisDef
   pub def : DriveDef
@@ -50,17 +50,17 @@ pub record IsNewLine (axes : List AxisDef) (defs : List DriveDef) (n : ℕ) (l :
   pub ended : l.ended ≡ false
 
 -- the line of this axis has the outputs of these cycles, and as many answers
-pub record IsInStep (cs : List Logged) (i : ℕ) (l : LineState) : Type 0 where
+pub record IsInStep (cs : List Logged) (i : ℕ) (l : DriveLinkState) : Type 0 where
   pub outs : l.outs ≡ outputs_in i (entries_of cs)
   pub ins : length l.ins ≡ length cs
   pub goes_on : l.ended ≡ false
 
 -- it has the outputs of these cycles, and at least as many answers
-pub record HasColumn (cs : List Logged) (i : ℕ) (l : LineState) : Type 0 where
+pub record HasColumn (cs : List Logged) (i : ℕ) (l : DriveLinkState) : Type 0 where
   pub outs : l.outs ≡ outputs_in i (entries_of cs)
   pub ins : length cs ≤ length l.ins
 
 -- the log of the line in this place
-abbrev pub IsLogAt : List LineState → ℕ → DriveLog → Type 0
+abbrev pub IsLogAt : List DriveLinkState → ℕ → DriveLog → Type 0
 IsLogAt lines i g =
-    (l : LineState) × (slice_get lines i ≡ Some l) × IsLogOf l.job.drive l.outs l.ins g
+    (l : DriveLinkState) × (slice_get lines i ≡ Some l) × IsLogOf l.job.drive l.outs l.ins g

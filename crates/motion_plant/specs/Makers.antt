@@ -30,7 +30,7 @@ abbrev pub with_front : Bool → Logged → List Logged → List Logged
 with_front true x xs = x ∷ xs
 with_front false x xs = xs
 
--- the entries that pass a test by place and entry, behind some others
+-- the entries that pass a test by place and entry, after some others
 abbrev pub entries_where : (ℕ → Entry → Bool) → List Entry → List Entry → List Logged
 entries_where test before [] = []
 entries_where test before (e ∷ es) =

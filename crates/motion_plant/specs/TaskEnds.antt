@@ -1,6 +1,6 @@
 -- What a task has made, and what it leaves. This project's profile.
 use Rattle.std.specs.Prelude.{◌≡◌, ℕ, suc, Bool, true, false, List, [], ◌∷◌, ◌++◌, map, if◌then◌else◌}
-use Rattle.kernel_turn.specs.PassState.{PassState}
+use Rattle.kernel_turn.specs.PermitState.{PermitState}
 use Rattle.motion_history.specs.Entries.{Entry, end_of}
 use Rattle.motion_history.specs.Setup.{Setup}
 use Rattle.motion_plant.specs.Calls.{IsCut, entry_of, fixed_part, logged_calls}
@@ -14,7 +14,7 @@ abbrev pub end_if : Bool → ℕ → List Entry
 end_if ended t = if ended then end_of t ∷ [] else []
 
 -- what a task has made: calls of its program, by the replies that they got; and where it has ended,
--- all of them and its end behind them
+-- all of them and its end after them
 pub record TaskMade (lines : List Instruction) (t : ℕ) (ended : Bool) (made : List Logged)
     : Type 0 where
   pub entries : map (λ (l : Logged). l.entry) made ≡
@@ -26,11 +26,11 @@ pub record TaskMade (lines : List Instruction) (t : ℕ) (ended : Bool) (made : 
 abbrev pub TaskMeets : Setup → List Instruction → ℕ → List Entry → Type 0
 TaskMeets s lines t h = (ended : Bool) × TaskMade lines t ended (entries_by s (suc t) h)
 
--- the job of a task is done: its pass has made what the task has made, and nothing else; and where
--- the task has not ended, the pass has met a stop or there was no room
-pub record TaskDone (before : PassState) (t : ℕ) (lines : List Instruction) (e : TaskJobEnd)
+-- the job of a task is done: its permit has made what the task has made, and nothing else; and
+-- where the task has not ended, the permit has met a stop or there was no room
+pub record TaskDone (before : PermitState) (t : ℕ) (lines : List Instruction) (e : TaskJobEnd)
     : Type 0 where
-  pub fixed : fixed_part e.pass ≡ fixed_part before
-  pub owns : Owns (IsBy before.config t) e.pass.own e.pass.seen
-  pub made : TaskMade lines t e.ended (own_entries e.pass.own e.pass.seen)
-  pub cut : e.ended ≡ false → IsCut e.pass
+  pub fixed : fixed_part e.permit ≡ fixed_part before
+  pub owns : Owns (IsBy before.config t) e.permit.own e.permit.seen
+  pub made : TaskMade lines t e.ended (own_entries e.permit.own e.permit.seen)
+  pub cut : e.ended ≡ false → IsCut e.permit

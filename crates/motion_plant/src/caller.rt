@@ -1,4 +1,4 @@
-// Who makes the calls of a task: a pass of the kernel's turns.
+// Who makes the calls of a task: a permit of the kernel's turns.
 
 ghost use Rattle.std.specs.Prelude.{◌≡◌, ◌≤◌, ◌+◌, ◌++◌, ◌∷◌, [], IfNone, IfSome, IsSomeAnd, List, false, slice_get, true};
 ghost use Rattle.motion_history.specs.Calls.{IsCall};
@@ -10,7 +10,7 @@ ghost use Rattle.task_run.specs.Callers.{cycles_from};
 
 use crossbeam_utils::Backoff;
 use fb_outputs::{Inputs, Outputs};
-use kernel_turn::{KernelTurn, Pass, Turn};
+use kernel_turn::{KernelTurn, Permit, Turn};
 use outside::Gate;
 use std::sync::Wait;
 use task_run::Caller;
@@ -23,7 +23,7 @@ pub struct TaskTurns<'a, G: Gate + Drop> {
     pub task: u8,
 }
 
-/// A call that is to be made, once so many cycles were made.
+/// A call that is to be made, once this many cycles were made.
 #[derive(Drop)]
 pub struct NextCall<'a> {
     pub after: u32,
@@ -31,38 +31,38 @@ pub struct NextCall<'a> {
     pub inputs: &'a Inputs,
 }
 
-/// Makes the calls of a task by a pass of a kernel's turns, each turn through a gate.
+/// Makes the calls of a task by a permit of a kernel's turns, each turn through a gate.
 #[derive(Drop)]
 pub struct TurnCaller<'a, G: Gate + Drop> {
     pub turns: &'a TaskTurns<'a, G>,
-    pub pass: Pass,
+    pub permit: Permit,
     pub asks_rest: bool,
     /// How many cycles came before the last call.
     pub last: u32,
     pub was_refused: bool,
-    pub ghost own: { pass.table ≡ turns.now.turn.now },
-    pub ghost owns: { Owns (IsBy pass.config turns.now.task) pass.own pass.seen },
-    pub ghost calls: { AreCalls (own_entries pass.own pass.seen) },
+    pub ghost own: { permit.table ≡ turns.now.turn.now },
+    pub ghost owns: { Owns (IsBy permit.config turns.now.task) permit.own permit.seen },
+    pub ghost calls: { AreCalls (own_entries permit.own permit.seen) },
     pub ghost last_is: { last ≡
-        cycles_from 0 (logged_calls (own_entries pass.own pass.seen)) },
-    pub ghost behind: { last ≤ cycles_of pass.seen },
-    pub ghost few: { last ≤ pass.config.cycles },
-    pub ghost small: { pass.config.cycles ≤ MOST_CYCLES },
-    pub ghost cut: { was_refused ≡ true → IsCut pass },
+        cycles_from 0 (logged_calls (own_entries permit.own permit.seen)) },
+    pub ghost behind: { last ≤ cycles_of permit.seen },
+    pub ghost few: { last ≤ permit.config.cycles },
+    pub ghost small: { permit.config.cycles ≤ MOST_CYCLES },
+    pub ghost cut: { was_refused ≡ true → IsCut permit },
 }
 
 impl<'a, G: Gate + Drop> Caller for TurnCaller<'a, G> {
-    type Fixed = Pass;
+    type Fixed = Permit;
 
     ghost use Rattle.motion_plant.specs.Calls.{fixed_part, logged_calls};
     ghost use Rattle.motion_plant.specs.Makers.{own_entries};
 
-    ghost fixed = { λ c. fixed_part c.pass };
+    ghost fixed = { λ c. fixed_part c.permit };
 
     ghost told = { λ c. record {
-      config = c.pass.config;
+      config = c.permit.config;
       task = c.turns.now.task;
-      calls = logged_calls (own_entries c.pass.own c.pass.seen);
+      calls = logged_calls (own_entries c.permit.own c.permit.seen);
       rests = c.asks_rest;
       refused = c.was_refused;
     } };
@@ -73,7 +73,7 @@ impl<'a, G: Gate + Drop> Caller for TurnCaller<'a, G> {
             instance,
             inputs,
         };
-        match call_until(rt, self.turns, &mut self.pass, &next) {
+        match call_until(rt, self.turns, &mut self.permit, &next) {
             Some((reply, cycles)) => {
                 self.last = cycles;
                 self.asks_rest = false;
@@ -104,32 +104,32 @@ fn first_cycle(rests: bool, last: u32) -> u32
 fn call_until<R: Wait, G: Gate + Drop>(
     rt: &R,
     turns: &TaskTurns<G>,
-    pass: &mut Pass,
+    permit: &mut Permit,
     next: &NextCall,
 ) -> Option<(Outputs, u32)>
-    requires own { pass.old.table ≡ turns.now.turn.now }
-    requires task { IsSomeAnd (slice_get pass.old.config.blocks next.now.instance)
+    requires own { permit.old.table ≡ turns.now.turn.now }
+    requires task { IsSomeAnd (slice_get permit.old.config.blocks next.now.instance)
         (λ b. b.task ≡ turns.now.task) }
-    requires call { IsCall pass.old.config next.now.instance next.now.inputs.now }
-    requires owns { Owns (IsBy pass.old.config turns.now.task) pass.old.own pass.old.seen }
-    ensures fixed { fixed_part pass.new ≡ fixed_part pass.old }
-    ensures owns { Owns (IsBy pass.old.config turns.now.task) pass.new.own pass.new.seen }
-    ensures longer { cycles_of pass.old.seen ≤ cycles_of pass.new.seen }
+    requires call { IsCall permit.old.config next.now.instance next.now.inputs.now }
+    requires owns { Owns (IsBy permit.old.config turns.now.task) permit.old.own permit.old.seen }
+    ensures fixed { fixed_part permit.new ≡ fixed_part permit.old }
+    ensures owns { Owns (IsBy permit.old.config turns.now.task) permit.new.own permit.new.seen }
+    ensures longer { cycles_of permit.old.seen ≤ cycles_of permit.new.seen }
     ensures some { IfSome result (λ r. (before : List Entry) ×
-        (own_entries pass.new.own pass.new.seen ≡ own_entries pass.old.own pass.old.seen ++
+        (own_entries permit.new.own permit.new.seen ≡ own_entries permit.old.own permit.old.seen ++
         record { before = before; entry = call next.now.instance next.now.inputs.now r.0 } ∷ []) ×
-        (r.1 ≡ cycles_of before) × (next.now.after ≤ r.1) × (cycles_of pass.old.seen ≤ r.1) ×
-        (r.1 ≤ cycles_of pass.new.seen) × (r.1 ≤ pass.old.config.cycles)) }
+        (r.1 ≡ cycles_of before) × (next.now.after ≤ r.1) × (cycles_of permit.old.seen ≤ r.1) ×
+        (r.1 ≤ cycles_of permit.new.seen) × (r.1 ≤ permit.old.config.cycles)) }
     ensures none { IfNone result
-        (own_entries pass.new.own pass.new.seen ≡ own_entries pass.old.own pass.old.seen) }
-    ensures cut { IfNone result (IsCut pass.new) }
+        (own_entries permit.new.own permit.new.seen ≡ own_entries permit.old.own permit.old.seen) }
+    ensures cut { IfNone result (IsCut permit.new) }
 {
     let backoff = Backoff::new();
     for _ in rt.forever() {
         turns.gate.before(turns.task);
         let answer = turns.turn.turn_call(
             rt,
-            pass,
+            permit,
             turns.task,
             next.after,
             next.instance,

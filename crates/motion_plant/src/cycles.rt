@@ -1,8 +1,8 @@
 // The cycles: an answer of each drive, a turn, and an output to each drive.
 
 ghost use Rattle.std.specs.Prelude.{◌≡◌, ◌<◌, ◌≤◌, ◌+◌, [], List, Some, false, length, slice_get, slice_set, vec_len};
-ghost use Rattle.drive_jobs.specs.LineState.{LineState};
-ghost use Rattle.kernel_turn.specs.PassState.{PassState};
+ghost use Rattle.drive_jobs.specs.DriveLinkState.{DriveLinkState};
+ghost use Rattle.kernel_turn.specs.PermitState.{PermitState};
 ghost use Rattle.motion_history.specs.declared.sizes.TheConstants.{MOST_CYCLES};
 ghost use Rattle.motion_plant.specs.Calls.{fixed_part};
 ghost use Rattle.motion_plant.specs.Cycling.{Cycled, IsCycled, IsCycling, Stepped};
@@ -13,14 +13,14 @@ ghost use Rattle.setpoint_ring.specs.declared.TheConstants.{MOST_OUTPUTS};
 
 use crate::rooms::CycleRoom;
 use crossbeam_utils::Backoff;
-use drive_jobs::Line;
-use kernel_turn::{DriveIn, DriveOut, KernelTurn, Pass, Turn};
+use drive_jobs::DriveLink;
+use kernel_turn::{DriveIn, DriveOut, KernelTurn, Permit, Turn};
 use std::sync::Wait;
 
 /// What the turns of one cycle came to.
 #[derive(Clone, Copy)]
 pub enum Step {
-    /// The cycle was made, and so many tasks live.
+    /// The cycle was made, and this many tasks live.
     Made { live: u8 },
     /// No cycle is left.
     Over,
@@ -40,7 +40,7 @@ pub enum Ending {
 }
 
 // Takes the next answer of each drive.
-fn take_all<R: Wait>(rt: &R, lines: &mut Vec<Line>, ins: &mut [DriveIn])
+fn take_all<R: Wait>(rt: &R, lines: &mut Vec<DriveLink>, ins: &mut [DriveIn])
     requires width { length ins.old ≡ length lines.old.items }
     ensures taken { lines.new.items ≡ zip_with with_answer lines.old.items ins.new }
     ensures width { length ins.new ≡ length ins.old }
@@ -52,9 +52,9 @@ fn take_all<R: Wait>(rt: &R, lines: &mut Vec<Line>, ins: &mut [DriveIn])
 
 // Takes the next answer of one drive.
 #[tactic(auto, unfolding(crate::specs::Lines::with_answer))]
-fn take_at<R: Wait>(rt: &R, lines: &mut Vec<Line>, i: usize) -> DriveIn
+fn take_at<R: Wait>(rt: &R, lines: &mut Vec<DriveLink>, i: usize) -> DriveIn
     requires there { i < length lines.old.items }
-    ensures taken { (x : LineState) → slice_get lines.old.items i ≡ Some x →
+    ensures taken { (x : DriveLinkState) → slice_get lines.old.items i ≡ Some x →
         lines.new.items ≡ slice_set lines.old.items i (with_answer x result) }
     ensures len { length lines.new.items ≡ length lines.old.items }
 {
@@ -63,12 +63,12 @@ fn take_at<R: Wait>(rt: &R, lines: &mut Vec<Line>, i: usize) -> DriveIn
 
 // Gives one drive the output of a cycle.
 #[tactic(auto, unfolding(crate::specs::Lines::with_output))]
-fn push_at<R: Wait>(rt: &R, lines: &mut Vec<Line>, i: usize, number: u32, out: DriveOut)
+fn push_at<R: Wait>(rt: &R, lines: &mut Vec<DriveLink>, i: usize, number: u32, out: DriveOut)
     requires there { i < length lines.old.items }
-    requires next { (x : LineState) → slice_get lines.old.items i ≡ Some x →
+    requires next { (x : DriveLinkState) → slice_get lines.old.items i ≡ Some x →
         (number ≡ length x.outs + 1) × (x.ended ≡ false) }
     requires few { number ≤ MOST_OUTPUTS }
-    ensures pushed { (x : LineState) → slice_get lines.old.items i ≡ Some x →
+    ensures pushed { (x : DriveLinkState) → slice_get lines.old.items i ≡ Some x →
         lines.new.items ≡ slice_set lines.old.items i (with_output x out) }
     ensures len { length lines.new.items ≡ length lines.old.items }
 {
@@ -76,9 +76,9 @@ fn push_at<R: Wait>(rt: &R, lines: &mut Vec<Line>, i: usize, number: u32, out: D
 }
 
 // Gives each drive its output of a cycle.
-fn push_all<R: Wait>(rt: &R, lines: &mut Vec<Line>, outs: &[DriveOut], number: u32)
+fn push_all<R: Wait>(rt: &R, lines: &mut Vec<DriveLink>, outs: &[DriveOut], number: u32)
     requires width { length outs.now ≡ length lines.old.items }
-    requires next { Each (λ i (x : LineState). (number ≡ length x.outs + 1) ×
+    requires next { Each (λ i (x : DriveLinkState). (number ≡ length x.outs + 1) ×
         (x.ended ≡ false)) lines.old.items }
     requires few { number ≤ MOST_OUTPUTS }
     ensures pushed { lines.new.items ≡ zip_with with_output lines.old.items outs.now }
@@ -92,24 +92,24 @@ fn push_all<R: Wait>(rt: &R, lines: &mut Vec<Line>, outs: &[DriveOut], number: u
 fn cycle_until<R: Wait>(
     rt: &R,
     turn: &KernelTurn,
-    pass: &mut Pass,
+    permit: &mut Permit,
     ins: &[DriveIn],
     outs: &mut [DriveOut],
     most: u32,
 ) -> Step
-    requires own { pass.old.table ≡ turn.now }
-    requires owns { Owns (IsUpTo pass.old.config 0) pass.old.own pass.old.seen }
-    requires width { (length ins.now ≡ length pass.old.config.axes) ×
-        (length outs.old ≡ length pass.old.config.axes) }
-    requires most { most ≡ pass.old.config.cycles }
-    ensures fixed { fixed_part pass.new ≡ fixed_part pass.old }
-    ensures owns { Owns (IsUpTo pass.old.config 0) pass.new.own pass.new.seen }
+    requires own { permit.old.table ≡ turn.now }
+    requires owns { Owns (IsUpTo permit.old.config 0) permit.old.own permit.old.seen }
+    requires width { (length ins.now ≡ length permit.old.config.axes) ×
+        (length outs.old ≡ length permit.old.config.axes) }
+    requires most { most ≡ permit.old.config.cycles }
+    ensures fixed { fixed_part permit.new ≡ fixed_part permit.old }
+    ensures owns { Owns (IsUpTo permit.old.config 0) permit.new.own permit.new.seen }
     ensures width { length outs.new ≡ length outs.old }
-    ensures step { Stepped pass.old.config ins.now outs.new pass.old pass.new result }
+    ensures step { Stepped permit.old.config ins.now outs.new permit.old permit.new result }
 {
     let backoff = Backoff::new();
     for _ in rt.forever() {
-        match turn.turn_cycle(rt, pass, ins, outs) {
+        match turn.turn_cycle(rt, permit, ins, outs) {
             Turn::Made { answer, .. } => return Step::Made { live: answer },
             Turn::Full { cycles, .. } => {
                 if cycles == most {
@@ -127,29 +127,29 @@ fn cycle_until<R: Wait>(
 fn one_cycle<R: Wait>(
     rt: &R,
     turn: &KernelTurn,
-    pass: &mut Pass,
-    lines: &mut Vec<Line>,
+    permit: &mut Permit,
+    lines: &mut Vec<DriveLink>,
     room: &mut CycleRoom,
 ) -> Step
-    requires own { pass.old.table ≡ turn.now }
-    requires cycling { (first : PassState) × (ls : List LineState) ×
-        IsCycling first ls room.old.made pass.old lines.old.items }
-    requires width { (vec_len room.old.ins ≡ length pass.old.config.axes) ×
-        (vec_len room.old.outs ≡ length pass.old.config.axes) }
-    requires few { (pass.old.config.cycles ≤ MOST_CYCLES) ×
-        (room.old.most ≡ pass.old.config.cycles) }
+    requires own { permit.old.table ≡ turn.now }
+    requires cycling { (first : PermitState) × (ls : List DriveLinkState) ×
+        IsCycling first ls room.old.made permit.old lines.old.items }
+    requires width { (vec_len room.old.ins ≡ length permit.old.config.axes) ×
+        (vec_len room.old.outs ≡ length permit.old.config.axes) }
+    requires few { (permit.old.config.cycles ≤ MOST_CYCLES) ×
+        (room.old.most ≡ permit.old.config.cycles) }
     ensures width { (vec_len room.new.ins ≡ vec_len room.old.ins) ×
         (vec_len room.new.outs ≡ vec_len room.old.outs) }
     ensures kept { (room.new.made ≡ room.old.made) × (room.new.most ≡ room.old.most) }
-    ensures own { (pass.new.table ≡ pass.old.table) × (pass.new.config ≡ pass.old.config) }
-    ensures cycled { (first : PassState) → (ls : List LineState) →
-        IsCycling first ls room.old.made pass.old lines.old.items →
-        Cycled first ls room.old.made pass.new lines.new.items result }
+    ensures own { (permit.new.table ≡ permit.old.table) × (permit.new.config ≡ permit.old.config) }
+    ensures cycled { (first : PermitState) → (ls : List DriveLinkState) →
+        IsCycling first ls room.old.made permit.old lines.old.items →
+        Cycled first ls room.old.made permit.new lines.new.items result }
 {
     let ins = room.ins.as_mut_slice();
     let outs = room.outs.as_mut_slice();
     take_all(rt, lines, ins);
-    match cycle_until(rt, turn, pass, ins, outs, room.most) {
+    match cycle_until(rt, turn, permit, ins, outs, room.most) {
         Step::Made { live } => {
             push_all(rt, lines, outs, room.made + 1);
             Step::Made { live }
@@ -164,22 +164,22 @@ fn one_cycle<R: Wait>(
 pub fn run_cycles<R: Wait>(
     rt: &R,
     turn: &KernelTurn,
-    pass: &mut Pass,
-    lines: &mut Vec<Line>,
+    permit: &mut Permit,
+    lines: &mut Vec<DriveLink>,
     room: &mut CycleRoom,
 ) -> Ending
-    requires own { pass.old.table ≡ turn.now }
-    requires fresh { (pass.old.own ≡ []) × Each (IsInStep []) lines.old.items ×
+    requires own { permit.old.table ≡ turn.now }
+    requires fresh { (permit.old.own ≡ []) × Each (IsInStep []) lines.old.items ×
         (room.old.made ≡ 0) }
-    requires width { (length lines.old.items ≡ length pass.old.config.axes) ×
-        (vec_len room.old.ins ≡ length pass.old.config.axes) ×
-        (vec_len room.old.outs ≡ length pass.old.config.axes) }
-    requires few { (pass.old.config.cycles ≤ MOST_CYCLES) ×
-        (room.old.most ≡ pass.old.config.cycles) }
-    ensures cycled { IsCycled pass.old lines.old.items pass.new lines.new.items result }
+    requires width { (length lines.old.items ≡ length permit.old.config.axes) ×
+        (vec_len room.old.ins ≡ length permit.old.config.axes) ×
+        (vec_len room.old.outs ≡ length permit.old.config.axes) }
+    requires few { (permit.old.config.cycles ≤ MOST_CYCLES) ×
+        (room.old.most ≡ permit.old.config.cycles) }
+    ensures cycled { IsCycled permit.old lines.old.items permit.new lines.new.items result }
 {
     for _ in rt.forever() {
-        match one_cycle(rt, turn, pass, lines, room) {
+        match one_cycle(rt, turn, permit, lines, room) {
             Step::Made { live } => {
                 room.made += 1;
                 if live == 0 {

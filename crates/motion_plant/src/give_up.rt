@@ -10,7 +10,7 @@ use crate::finish::end_all;
 use crate::joins::{join_drive, join_task};
 use crate::plant_job::PlantJob;
 use crate::rooms::{OpenKernel, Seats, StartedJobs};
-use drive_jobs::Line;
+use drive_jobs::DriveLink;
 use outside::{Gate, Host, Spawner};
 use std::sync::Wait;
 
@@ -18,7 +18,7 @@ use std::sync::Wait;
 fn drop_drives<H: Host + Wait, G: Gate + Drop + Send + 'static>(
     spawner: &mut Spawner<H, PlantJob<G>>,
     base: u32,
-    lines: &Vec<Line>,
+    lines: &Vec<DriveLink>,
 )
     requires started { AreDrivesAt spawner.old.jobs base lines.now.items }
     requires few { base + length lines.now.items ≤ MOST_JOBS }
@@ -48,7 +48,7 @@ fn drop_tasks<H: Host + Wait, G: Gate + Drop + Send + 'static>(
     }
 }
 
-/// Stops the kernel, so that the tasks end, tells the drives that no output comes, and joins all
+/// Stops the kernel, so that the tasks end, gives the drives that no output comes, and joins all
 /// that were started.
 pub fn give_up<H: Host + Wait, G: Gate + Drop + Send + 'static>(
     rt: &H,
@@ -59,19 +59,19 @@ pub fn give_up<H: Host + Wait, G: Gate + Drop + Send + 'static>(
     requires started { AreDrivesAt spawner.old.jobs jobs.base jobs.lines.items ×
         AreTasksAt spawner.old.jobs (jobs.base + length jobs.lines.items) jobs.seats.items }
     requires few { jobs.base + length jobs.lines.items + length jobs.seats.items ≤ MOST_JOBS }
-    requires own { opened.pass.table ≡ arc_value opened.turn }
+    requires own { opened.permit.table ≡ arc_value opened.turn }
     ensures same { spawner.new.faults ≡ spawner.old.faults }
     ensures joined { AreJoined spawner.old.jobs spawner.new.jobs jobs.base
         (length jobs.lines.items + length jobs.seats.items) }
 {
-    let OpenKernel { turn, mut pass } = opened;
+    let OpenKernel { turn, mut permit } = opened;
     let StartedJobs {
         base,
         mut lines,
         seats,
         ..
     } = jobs;
-    turn.turn_stop(rt, &mut pass);
+    turn.turn_stop(rt, &mut permit);
     end_all(&mut lines);
     drop_drives(spawner, base, &lines);
     drop_tasks(spawner, base + lines.len() as u32, &seats);

@@ -16,8 +16,8 @@ ghost use Rattle.outside.specs.declared.TheConstants.{MOST_JOBS};
 use crate::plant_job::{PlantJob, PlantJobEnd};
 use crate::rooms::{Seats, push_within};
 use crate::task_job::{TaskJob, TaskJobEnd};
-use drive_jobs::{DriveJobEnd, Line};
-use kernel_turn::{KernelTurn, Pass};
+use drive_jobs::{DriveJobEnd, DriveLink};
+use kernel_turn::{KernelTurn, Permit};
 use outside::{Gate, Host, Spawner};
 use setpoint_ring::DriveLog;
 use std::snapshot::Snapshot;
@@ -27,7 +27,7 @@ use std::sync::Wait;
 pub fn join_drive<H: Host + Wait, G: Gate + Drop + Send + 'static>(
     spawner: &mut Spawner<H, PlantJob<G>>,
     number: u32,
-    line: &Line,
+    line: &DriveLink,
 ) -> DriveJobEnd
     requires started { slice_get spawner.old.jobs number ≡ Some (line_job line.now) }
     ensures done { IsDone line.now.job.drive line.now.job.end.ring result }
@@ -47,7 +47,7 @@ pub fn join_task<H: Host + Wait, G: Gate + Drop + Send + 'static>(
     seat: &Snapshot<TaskJob<G>>,
 ) -> TaskJobEnd
     requires started { slice_get spawner.old.jobs number ≡ Some (seat_job seat.now) }
-    ensures done { TaskDone seat.now.value.pass seat.now.value.task
+    ensures done { TaskDone seat.now.value.permit seat.now.value.task
         (job_lines seat.now.value) result }
     ensures joined { spawner.new ≡
         record spawner.old { jobs = slice_set spawner.old.jobs number None } }
@@ -62,7 +62,7 @@ pub fn join_task<H: Host + Wait, G: Gate + Drop + Send + 'static>(
 fn finish_drive<H: Host + Wait, G: Gate + Drop + Send + 'static>(
     spawner: &mut Spawner<H, PlantJob<G>>,
     number: u32,
-    line: &mut Line,
+    line: &mut DriveLink,
 ) -> DriveLog
     requires started { slice_get spawner.old.jobs number ≡ Some (line_job line.old) }
     ensures log { IsLogOf line.old.job.drive line.old.outs line.old.ins result }
@@ -77,7 +77,7 @@ fn finish_drive<H: Host + Wait, G: Gate + Drop + Send + 'static>(
 pub fn finish_drives<H: Host + Wait, G: Gate + Drop + Send + 'static>(
     spawner: &mut Spawner<H, PlantJob<G>>,
     base: u32,
-    lines: &mut Vec<Line>,
+    lines: &mut Vec<DriveLink>,
     logs: &mut Vec<DriveLog>,
 )
     requires started { AreDrivesAt spawner.old.jobs base lines.old.items }
@@ -97,49 +97,49 @@ pub fn finish_drives<H: Host + Wait, G: Gate + Drop + Send + 'static>(
     }
 }
 
-// Joins a task, and its pass into the opening pass.
+// Joins a task, and its permit into the opening permit.
 fn finish_task<H: Host + Wait, G: Gate + Drop + Send + 'static>(
     spawner: &mut Spawner<H, PlantJob<G>>,
     number: u32,
     turn: &KernelTurn,
-    pass: &mut Pass,
+    permit: &mut Permit,
     seat: &Snapshot<TaskJob<G>>,
 )
     requires started { slice_get spawner.old.jobs number ≡ Some (seat_job seat.now) }
-    requires own { (pass.old.table ≡ turn.now) × (pass.old.opening ≡ true) ×
-        (seat.now.value.pass.table ≡ turn.now) }
+    requires own { (permit.old.table ≡ turn.now) × (permit.old.opening ≡ true) ×
+        (seat.now.value.permit.table ≡ turn.now) }
     ensures joined { spawner.new ≡
         record spawner.old { jobs = slice_set spawner.old.jobs number None } }
-    ensures taken { (e : TaskJobEnd) × TaskDone seat.now.value.pass seat.now.value.task
-        (job_lines seat.now.value) e × IsJoined pass.old e.pass pass.new }
+    ensures taken { (e : TaskJobEnd) × TaskDone seat.now.value.permit seat.now.value.task
+        (job_lines seat.now.value) e × IsJoined permit.old e.permit permit.new }
 {
-    let TaskJobEnd { pass: other, .. } = join_task(spawner, number, seat);
-    turn.join(pass, other);
+    let TaskJobEnd { permit: other, .. } = join_task(spawner, number, seat);
+    turn.join(permit, other);
 }
 
-/// Joins the tasks, whose jobs begin at a number, and their passes into the opening pass.
+/// Joins the tasks, whose jobs begin at a number, and their passes into the opening permit.
 pub fn finish_tasks<H: Host + Wait, G: Gate + Drop + Send + 'static>(
     spawner: &mut Spawner<H, PlantJob<G>>,
     base: u32,
     turn: &KernelTurn,
-    pass: &mut Pass,
+    permit: &mut Permit,
     seats: &Seats<G>,
 )
     requires started { AreTasksAt spawner.old.jobs base seats.now.items }
     requires few { base + length seats.now.items ≤ MOST_JOBS }
-    requires own { (pass.old.table ≡ turn.now) × (pass.old.opening ≡ true) ×
-        (pass.old.out ≡ length seats.now.items) }
-    requires seats { Each (IsSeated turn.now pass.old.config) seats.now.items }
-    requires owns { Owns (IsUpTo pass.old.config 0) pass.old.own pass.old.seen }
-    ensures joined { IsJoinedUpTo (own_entries pass.old.own pass.old.seen) pass.old
-        (length seats.now.items) pass.new }
-    ensures tasks { Each (λ i z. HasMade (job_lines z.value) pass.old.config i pass.new)
+    requires own { (permit.old.table ≡ turn.now) × (permit.old.opening ≡ true) ×
+        (permit.old.out ≡ length seats.now.items) }
+    requires seats { Each (IsSeated turn.now permit.old.config) seats.now.items }
+    requires owns { Owns (IsUpTo permit.old.config 0) permit.old.own permit.old.seen }
+    ensures joined { IsJoinedUpTo (own_entries permit.old.own permit.old.seen) permit.old
+        (length seats.now.items) permit.new }
+    ensures tasks { Each (λ i z. HasMade (job_lines z.value) permit.old.config i permit.new)
         seats.now.items }
     ensures same { (spawner.new.faults ≡ spawner.old.faults) ×
         (length spawner.new.jobs ≡ length spawner.old.jobs) }
     ensures gone { AreJoined spawner.old.jobs spawner.new.jobs base (length seats.now.items) }
 {
     for i in 0..seats.len() {
-        finish_task(spawner, base + i as u32, turn, pass, &seats[i]);
+        finish_task(spawner, base + i as u32, turn, permit, &seats[i]);
     }
 }

@@ -17,7 +17,7 @@ pub fn cycles_take_the_answers()
         AreDriven s drives h }
 {}
 
-/// Behind each cycle of a run but the last a task lives. Nothing runs.
+/// After each cycle of a run but the last a task lives. Nothing runs.
 pub fn cycles_end_with_the_tasks()
     ensures { (s : Setup) (program : List (List Instruction)) (drives : List DriveSim)
         (h : List Entry) (logs : List DriveLog) → PlantRan s program drives h logs →

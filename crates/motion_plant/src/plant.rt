@@ -3,7 +3,7 @@
 ghost use Rattle.std.specs.Prelude.{◌≡◌, ◌≤◌, ◌+◌, ◌++◌, ℕ, IfErr, IfOk, None, OnOk, length, replicate};
 ghost use Rattle.std.specs.Arc.{arc_value};
 ghost use Rattle.std.specs.List.{All};
-ghost use Rattle.kernel_turn.specs.Turns.{opening_pass};
+ghost use Rattle.kernel_turn.specs.Turns.{opening_permit};
 ghost use Rattle.machine_drives.specs.Drives.{drives_at_opening};
 ghost use Rattle.motion_history.specs.Drives.{IsDrive};
 ghost use Rattle.motion_plant.specs.Ran.{PlantRan};
@@ -34,7 +34,7 @@ pub struct Plant {
 
 // Opens a kernel and its turns.
 fn open_turn(alloc: Global, config: &Config) -> Result<OpenKernel, PlantFault>
-    ensures first { IfOk result (λ r. r.pass ≡ opening_pass (arc_value r.turn) config.now) }
+    ensures first { IfOk result (λ r. r.permit ≡ opening_permit (arc_value r.turn) config.now) }
     ensures memory { IfErr result (λ e. e ≡ PlantFault.OutOfMemory) }
 {
     let Ok(config) = config.copy(alloc) else {
@@ -43,13 +43,13 @@ fn open_turn(alloc: Global, config: &Config) -> Result<OpenKernel, PlantFault>
     let Ok(kernel) = Kernel::open(alloc, config) else {
         return Err(PlantFault::OutOfMemory);
     };
-    let Ok((turn, pass)) = KernelTurn::open(alloc, kernel) else {
+    let Ok((turn, permit)) = KernelTurn::open(alloc, kernel) else {
         return Err(PlantFault::OutOfMemory);
     };
     let Ok(turn) = Arc::new(alloc, turn) else {
         return Err(PlantFault::OutOfMemory);
     };
-    Ok(OpenKernel { turn, pass })
+    Ok(OpenKernel { turn, permit })
 }
 
 /// Runs a plant: a thread for each drive and each task, and the cycles here. Each turn of a task
@@ -98,7 +98,7 @@ pub fn run_plant<H: Host + Wait, G: Gate + Drop + Send + 'static>(
         program: &setup.program,
         gate,
     };
-    if let Err(fault) = start_tasks(spawner, &shared, &mut opened.pass, &mut jobs.seats) {
+    if let Err(fault) = start_tasks(spawner, &shared, &mut opened.permit, &mut jobs.seats) {
         give_up(rt, spawner, opened, jobs);
         return Err(fault);
     }

@@ -3,19 +3,19 @@
 ghost use Rattle.std.specs.Prelude.{◌≡◌, ◌<◌, ◌≤◌, ◌+◌, ◌++◌, ◌∷◌, [], IfOk, vec_capacity, vec_len};
 
 use crate::task_job::TaskJob;
-use drive_jobs::Line;
-use kernel_turn::{DriveIn, DriveOut, KernelTurn, Pass};
+use drive_jobs::DriveLink;
+use kernel_turn::{DriveIn, DriveOut, KernelTurn, Permit};
 use outside::Gate;
 use setpoint_ring::DriveLog;
 use std::alloc::{AllocError, Global};
 use std::snapshot::Snapshot;
 use std::sync::Arc;
 
-/// A kernel that was opened: its turns, and the opening pass.
+/// A kernel that was opened: its turns, and the opening permit.
 #[derive(Drop)]
 pub struct OpenKernel {
     pub turn: Arc<KernelTurn>,
-    pub pass: Pass,
+    pub permit: Permit,
 }
 
 /// The jobs of the tasks, as they were started, by their numbers.
@@ -26,7 +26,7 @@ pub type Seats<G> = Vec<Snapshot<TaskJob<G>>>;
 #[derive(Drop)]
 pub struct StartedJobs<G: Gate + Drop> {
     pub base: u32,
-    pub lines: Vec<Line>,
+    pub lines: Vec<DriveLink>,
     pub seats: Seats<G>,
     pub logs: Vec<DriveLog>,
 }
@@ -53,7 +53,7 @@ const NO_OUTPUT: DriveOut = DriveOut {
     target: 0,
 };
 
-/// Room for so many drives and tasks, of which none was started.
+/// Room for this many drives and tasks, of which none was started.
 pub fn make_room<G: Gate + Drop>(
     alloc: Global,
     base: u32,
@@ -77,7 +77,7 @@ pub fn make_room<G: Gate + Drop>(
     })
 }
 
-/// Room for the cycles of so many drives, of which none was made.
+/// Room for the cycles of this many drives, of which none was made.
 pub fn make_cycle_room(alloc: Global, drives: usize, most: u32) -> Result<CycleRoom, AllocError>
     requires few { drives ≤ 1000 }
     ensures width { IfOk result (λ r. (vec_len r.ins ≡ drives) × (vec_len r.outs ≡ drives)) }

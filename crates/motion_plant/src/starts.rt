@@ -3,14 +3,14 @@
 ghost use Rattle.std.specs.Prelude.{◌≡◌, ◌<◌, ◌≤◌, ◌+◌, ◌++◌, ◌∷◌, [], IfErr, IfOk, IsTrue, OnErr, OnOk, Some, None, false, true, length, map, slice_get, vec_capacity};
 ghost use Rattle.std.specs.Arc.{arc_value};
 ghost use Rattle.std.specs.List.{All, list_all};
-ghost use Rattle.kernel_turn.specs.PassState.{PassState};
-ghost use Rattle.kernel_turn.specs.Turns.{pass_after_split};
+ghost use Rattle.kernel_turn.specs.PermitState.{PermitState};
+ghost use Rattle.kernel_turn.specs.Turns.{permit_after_split};
 ghost use Rattle.kernel_turn.specs.declared.TheConstants.{MOST_OUT};
 ghost use Rattle.motion_history.specs.Drives.{IsDrive};
 ghost use Rattle.motion_history.specs.Ranges.{is_axis};
 ghost use Rattle.motion_history.specs.declared.sizes.TheConstants.{MOST_CYCLES, MOST_TASKS};
 ghost use Rattle.motion_plant.specs.Jobs.{IsSeat, line_job, seat_job};
-ghost use Rattle.motion_plant.specs.Lines.{IsNewLine};
+ghost use Rattle.motion_plant.specs.Lines.{IsNewLink};
 ghost use Rattle.motion_plant.specs.Places.{Each};
 ghost use Rattle.motion_plant.specs.declared.fault.PlantFault.TheVariants.{OutOfMemory, ThreadRefused};
 ghost use Rattle.outside.specs.Faults.{Rose};
@@ -21,9 +21,9 @@ use crate::plant_job::PlantJob;
 use crate::rooms::{Seats, push_within};
 use crate::task_job::TaskJob;
 use axis_state::AxisDef;
-use drive_jobs::{Line, start_line};
+use drive_jobs::{DriveLink, start_link};
 use drive_sim::Drive;
-use kernel_turn::{KernelTurn, Pass};
+use kernel_turn::{KernelTurn, Permit};
 use machine_drives::{drives_can_be_opened, open_drive};
 use motion_history::DriveDef;
 use outside::{Gate, Host, MOST_JOBS, Spawner};
@@ -38,7 +38,7 @@ fn start_drive<H: Host + Wait, G: Gate + Drop + Send + 'static>(
     spawner: &mut Spawner<H, PlantJob<G>>,
     alloc: Global,
     drive: Drive,
-) -> Result<Line, PlantFault>
+) -> Result<DriveLink, PlantFault>
     requires few { length spawner.old.jobs < MOST_JOBS }
     ensures started { IfOk result (λ l. spawner.new.jobs ≡ spawner.old.jobs ++ line_job l ∷ []) }
     ensures line { IfOk result (λ l. (l.job.drive ≡ drive) × (l.outs ≡ []) × (l.ins ≡ []) ×
@@ -50,7 +50,7 @@ fn start_drive<H: Host + Wait, G: Gate + Drop + Send + 'static>(
     ensures memory { IfErr result (λ e. e ≡ OutOfMemory →
         spawner.new.faults ≡ spawner.old.faults) }
 {
-    let Ok((line, job)) = start_line(alloc, drive) else {
+    let Ok((line, job)) = start_link(alloc, drive) else {
         return Err(PlantFault::OutOfMemory);
     };
     match spawner.start(PlantJob::Drive(job)) {
@@ -66,7 +66,7 @@ pub fn start_drives<H: Host + Wait, G: Gate + Drop + Send + 'static>(
     alloc: Global,
     axes: &[AxisDef],
     defs: &[DriveDef],
-    lines: &mut Vec<Line>,
+    lines: &mut Vec<DriveLink>,
 ) -> Result<(), PlantFault>
     requires axes { IsTrue (list_all is_axis axes.now) }
     requires drives { All IsDrive defs.now }
@@ -77,7 +77,7 @@ pub fn start_drives<H: Host + Wait, G: Gate + Drop + Send + 'static>(
     ensures started { spawner.new.jobs ≡ spawner.old.jobs ++ map line_job lines.new.items }
     ensures few { length lines.new.items ≤ length axes.now }
     ensures fresh { OnOk result ((length lines.new.items ≡ length axes.now) ×
-        Each (IsNewLine axes.now defs.now) lines.new.items) }
+        Each (IsNewLink axes.now defs.now) lines.new.items) }
     ensures refused { IfErr result (λ e. e ≡ ThreadRefused →
         Rose spawner.old.faults spawner.new.faults) }
     ensures memory { IfErr result (λ e. e ≡ OutOfMemory →
@@ -104,26 +104,26 @@ pub struct Shared<'a, G: Gate + Drop> {
     pub gate: &'a G,
 }
 
-// Starts a task by a pass that is split from this one, and shows its job.
+// Starts a task by a permit that is split from this one, and shows its job.
 fn start_task<H: Host + Wait, G: Gate + Drop + Send + 'static>(
     spawner: &mut Spawner<H, PlantJob<G>>,
     shared: &Shared<G>,
-    pass: &mut Pass,
+    permit: &mut Permit,
     task: u8,
 ) -> Result<Snapshot<TaskJob<G>>, PlantFault>
     requires few { length spawner.old.jobs < MOST_JOBS }
-    requires own { (pass.old.table ≡ arc_value shared.now.turn.now) × (pass.old.opening ≡ true) ×
-        (pass.old.out < MOST_OUT) }
-    requires small { pass.old.config.cycles ≤ MOST_CYCLES }
-    requires program { IsProgramOf pass.old.config (arc_value shared.now.program.now) }
+    requires own { (permit.old.table ≡ arc_value shared.now.turn.now) × (permit.old.opening ≡ true) ×
+        (permit.old.out < MOST_OUT) }
+    requires small { permit.old.config.cycles ≤ MOST_CYCLES }
+    requires program { IsProgramOf permit.old.config (arc_value shared.now.program.now) }
     requires task { task < length (arc_value shared.now.program.now) }
     ensures started { IfOk result (λ s.
         (spawner.new.jobs ≡ spawner.old.jobs ++ seat_job s ∷ []) ×
-        IsSeat (arc_value shared.now.program.now) pass.old task s.value ×
-        (pass.new ≡ pass_after_split pass.old)) }
+        IsSeat (arc_value shared.now.program.now) permit.old task s.value ×
+        (permit.new ≡ permit_after_split permit.old)) }
     ensures kept { OnErr result (spawner.new.jobs ≡ spawner.old.jobs) }
     ensures faults { OnOk result (spawner.new.faults ≡ spawner.old.faults) }
-    ensures own { pass.new.table ≡ pass.old.table }
+    ensures own { permit.new.table ≡ permit.old.table }
     ensures refused { IfErr result (λ e. e ≡ ThreadRefused →
         Rose spawner.old.faults spawner.new.faults) }
     ensures memory { IfErr result (λ e. e ≡ OutOfMemory →
@@ -139,7 +139,7 @@ fn start_task<H: Host + Wait, G: Gate + Drop + Send + 'static>(
     let run = TaskRun::open(shared.program, task);
     let job = TaskJob {
         turn,
-        pass: shared.turn.split(pass),
+        permit: shared.turn.split(permit),
         program,
         run,
         task,
@@ -157,7 +157,7 @@ fn start_task<H: Host + Wait, G: Gate + Drop + Send + 'static>(
 pub fn start_tasks<H: Host + Wait, G: Gate + Drop + Send + 'static>(
     spawner: &mut Spawner<H, PlantJob<G>>,
     shared: &Shared<G>,
-    pass: &mut Pass,
+    permit: &mut Permit,
     seats: &mut Seats<G>,
 ) -> Result<(), PlantFault>
     requires none { seats.old.items ≡ [] }
@@ -165,17 +165,17 @@ pub fn start_tasks<H: Host + Wait, G: Gate + Drop + Send + 'static>(
         (length (arc_value shared.now.program.now) ≤ MOST_TASKS) }
     requires few { length spawner.old.jobs + length (arc_value shared.now.program.now) ≤
         MOST_JOBS }
-    requires own { (pass.old.table ≡ arc_value shared.now.turn.now) × (pass.old.opening ≡ true) ×
-        (pass.old.out ≡ 0) }
-    requires small { pass.old.config.cycles ≤ MOST_CYCLES }
-    requires program { IsProgramOf pass.old.config (arc_value shared.now.program.now) }
+    requires own { (permit.old.table ≡ arc_value shared.now.turn.now) × (permit.old.opening ≡ true) ×
+        (permit.old.out ≡ 0) }
+    requires small { permit.old.config.cycles ≤ MOST_CYCLES }
+    requires program { IsProgramOf permit.old.config (arc_value shared.now.program.now) }
     ensures started { spawner.new.jobs ≡ spawner.old.jobs ++ map seat_job seats.new.items }
     ensures few { length seats.new.items ≤ length (arc_value shared.now.program.now) }
     ensures seats { OnOk result
         ((length seats.new.items ≡ length (arc_value shared.now.program.now)) ×
-        Each (λ n s. IsSeat (arc_value shared.now.program.now) pass.old n s.value) seats.new.items ×
-        (pass.new ≡ record pass.old { out = length (arc_value shared.now.program.now) })) }
-    ensures own { pass.new.table ≡ pass.old.table }
+        Each (λ n s. IsSeat (arc_value shared.now.program.now) permit.old n s.value) seats.new.items ×
+        (permit.new ≡ record permit.old { out = length (arc_value shared.now.program.now) })) }
+    ensures own { permit.new.table ≡ permit.old.table }
     ensures refused { IfErr result (λ e. e ≡ ThreadRefused →
         Rose spawner.old.faults spawner.new.faults) }
     ensures memory { IfErr result (λ e. e ≡ OutOfMemory →
@@ -183,7 +183,7 @@ pub fn start_tasks<H: Host + Wait, G: Gate + Drop + Send + 'static>(
     ensures faults { OnOk result (spawner.new.faults ≡ spawner.old.faults) }
 {
     for i in 0..shared.program.tasks() {
-        let seat = start_task(spawner, shared, pass, i)?;
+        let seat = start_task(spawner, shared, permit, i)?;
         push_within(seats, seat);
     }
     Ok(())

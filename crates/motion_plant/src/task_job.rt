@@ -1,4 +1,4 @@
-// The job of a task: its program, called by a pass of the kernel's turns, and its end.
+// The job of a task: its program, called by a permit of the kernel's turns, and its end.
 
 ghost use Rattle.std.specs.Prelude.{◌≡◌, ◌<◌, ◌≤◌, ◌++◌, ◌∷◌, [], List, false, length, true};
 ghost use Rattle.std.specs.Arc.{arc_value};
@@ -13,18 +13,18 @@ ghost use Rattle.task_run.specs.TaskCalls.{IsEndedBy, TaskCalls};
 ghost use Rattle.task_run.specs.Tasks.{first_state};
 
 use crate::caller::{TaskTurns, TurnCaller};
-use kernel_turn::{KernelTurn, Pass, Turn};
+use kernel_turn::{KernelTurn, Permit, Turn};
 use outside::Gate;
 use plc_program::Program;
 use std::sync::{Arc, Wait};
 use task_run::{TaskRun, run_task, tasks_have_their_own_lines};
 
-/// A task as it is given to a thread: its pass of the kernel's turns, its program and its run, and
-/// the gate of its turns.
+/// A task as it is given to a thread: its permit of the kernel's turns, its program and its run,
+/// and the gate of its turns.
 #[derive(Drop)]
 pub struct TaskJob<G: Gate + Drop> {
     pub turn: Arc<KernelTurn>,
-    pub pass: Pass,
+    pub permit: Permit,
     pub program: Arc<Program>,
     pub run: TaskRun,
     pub task: u8,
@@ -34,25 +34,25 @@ pub struct TaskJob<G: Gate + Drop> {
 /// A task's pass, and whether the task has ended.
 #[derive(Drop)]
 pub struct TaskJobEnd {
-    pub pass: Pass,
+    pub permit: Permit,
     pub ended: bool,
 }
 
 /// Runs a task's program, and ends the task where the program came to its end. Waits for its turns,
-/// and behind a rest for a cycle, so that it may never return.
+/// and after a rest for a cycle, so that it may never return.
 pub fn work_task<R: Wait, G: Gate + Drop>(rt: &R, job: TaskJob<G>) -> TaskJobEnd
-    requires own { job.pass.table ≡ arc_value job.turn }
-    requires unused { job.pass.own ≡ [] }
-    requires small { job.pass.config.cycles ≤ MOST_CYCLES }
-    requires program { IsProgramOf job.pass.config (arc_value job.program) }
+    requires own { job.permit.table ≡ arc_value job.turn }
+    requires unused { job.permit.own ≡ [] }
+    requires small { job.permit.config.cycles ≤ MOST_CYCLES }
+    requires program { IsProgramOf job.permit.config (arc_value job.program) }
     requires run { IsRun (arc_value job.program) job.run
         (first_state (lines_of (arc_value job.program) job.run)) }
     requires task { job.run.task ≡ job.task }
-    ensures done { TaskDone job.pass job.task (lines_of (arc_value job.program) job.run) result }
+    ensures done { TaskDone job.permit job.task (lines_of (arc_value job.program) job.run) result }
 {
     let TaskJob {
         turn,
-        pass,
+        permit,
         program,
         run,
         task,
@@ -63,49 +63,52 @@ pub fn work_task<R: Wait, G: Gate + Drop>(rt: &R, job: TaskJob<G>) -> TaskJobEnd
         gate: &gate,
         task,
     };
-    run_program(rt, &turns, pass, &program, run)
+    run_program(rt, &turns, permit, &program, run)
 }
 
 // Runs a program, and ends its task where it came to its end.
 fn run_program<R: Wait, G: Gate + Drop>(
     rt: &R,
     turns: &TaskTurns<G>,
-    pass: Pass,
+    permit: Permit,
     program: &Program,
     run: TaskRun,
 ) -> TaskJobEnd
-    requires own { pass.table ≡ turns.now.turn.now }
-    requires unused { pass.own ≡ [] }
-    requires small { pass.config.cycles ≤ MOST_CYCLES }
-    requires program { IsProgramOf pass.config program.now }
+    requires own { permit.table ≡ turns.now.turn.now }
+    requires unused { permit.own ≡ [] }
+    requires small { permit.config.cycles ≤ MOST_CYCLES }
+    requires program { IsProgramOf permit.config program.now }
     requires run { IsRun program.now run (first_state (lines_of program.now run)) }
     requires task { run.task ≡ turns.now.task }
-    ensures done { TaskDone pass turns.now.task (lines_of program.now run) result }
+    ensures done { TaskDone permit turns.now.task (lines_of program.now run) result }
 {
-    let (mut pass, through) = make_calls(rt, turns, pass, program, run);
+    let (mut permit, through) = make_calls(rt, turns, permit, program, run);
     if !through {
-        return TaskJobEnd { pass, ended: false };
+        return TaskJobEnd {
+            permit,
+            ended: false,
+        };
     }
-    let ended = end_task(rt, turns, &mut pass);
-    TaskJobEnd { pass, ended }
+    let ended = end_task(rt, turns, &mut permit);
+    TaskJobEnd { permit, ended }
 }
 
-// Makes the calls of a program, and tells whether it came to its end.
+// Makes the calls of a program, and says whether it came to its end.
 fn make_calls<R: Wait, G: Gate + Drop>(
     rt: &R,
     turns: &TaskTurns<G>,
-    pass: Pass,
+    permit: Permit,
     program: &Program,
     run: TaskRun,
-) -> (Pass, bool)
-    requires own { pass.table ≡ turns.now.turn.now }
-    requires unused { pass.own ≡ [] }
-    requires small { pass.config.cycles ≤ MOST_CYCLES }
-    requires program { IsProgramOf pass.config program.now }
+) -> (Permit, bool)
+    requires own { permit.table ≡ turns.now.turn.now }
+    requires unused { permit.own ≡ [] }
+    requires small { permit.config.cycles ≤ MOST_CYCLES }
+    requires program { IsProgramOf permit.config program.now }
     requires run { IsRun program.now run (first_state (lines_of program.now run)) }
     requires task { run.task ≡ turns.now.task }
-    ensures fixed { fixed_part result.0 ≡ fixed_part pass }
-    ensures owns { Owns (IsBy pass.config turns.now.task) result.0.own result.0.seen }
+    ensures fixed { fixed_part result.0 ≡ fixed_part permit }
+    ensures owns { Owns (IsBy permit.config turns.now.task) result.0.own result.0.seen }
     ensures calls { AreCalls (own_entries result.0.own result.0.seen) }
     ensures follows { TaskCalls (lines_of program.now run)
         (logged_calls (own_entries result.0.own result.0.seen)) }
@@ -117,32 +120,32 @@ fn make_calls<R: Wait, G: Gate + Drop>(
     let mut run = run;
     let mut caller = TurnCaller {
         turns,
-        pass,
+        permit,
         asks_rest: false,
         last: 0,
         was_refused: false,
     };
     let through = run_task(rt, program, &mut run, &mut caller);
-    let TurnCaller { pass, .. } = caller;
-    (pass, through)
+    let TurnCaller { permit, .. } = caller;
+    (permit, through)
 }
 
-// Ends a task where there is room, and tells whether there was.
-fn end_task<R: Wait, G: Gate + Drop>(rt: &R, turns: &TaskTurns<G>, pass: &mut Pass) -> bool
-    requires own { pass.old.table ≡ turns.now.turn.now }
-    requires task { turns.now.task < length pass.old.config.tasks }
-    requires owns { Owns (IsBy pass.old.config turns.now.task) pass.old.own pass.old.seen }
-    ensures fixed { fixed_part pass.new ≡ fixed_part pass.old }
-    ensures owns { Owns (IsBy pass.old.config turns.now.task) pass.new.own pass.new.seen }
+// Ends a task where there is room, and says whether there was.
+fn end_task<R: Wait, G: Gate + Drop>(rt: &R, turns: &TaskTurns<G>, permit: &mut Permit) -> bool
+    requires own { permit.old.table ≡ turns.now.turn.now }
+    requires task { turns.now.task < length permit.old.config.tasks }
+    requires owns { Owns (IsBy permit.old.config turns.now.task) permit.old.own permit.old.seen }
+    ensures fixed { fixed_part permit.new ≡ fixed_part permit.old }
+    ensures owns { Owns (IsBy permit.old.config turns.now.task) permit.new.own permit.new.seen }
     ensures ended { result ≡ true → (before : List Entry) ×
-        (own_entries pass.new.own pass.new.seen ≡ own_entries pass.old.own pass.old.seen ++
+        (own_entries permit.new.own permit.new.seen ≡ own_entries permit.old.own permit.old.seen ++
         record { before = before; entry = end_of turns.now.task } ∷ []) }
     ensures refused { result ≡ false →
-        own_entries pass.new.own pass.new.seen ≡ own_entries pass.old.own pass.old.seen }
-    ensures cut { result ≡ false → IsCut pass.new }
+        own_entries permit.new.own permit.new.seen ≡ own_entries permit.old.own permit.old.seen }
+    ensures cut { result ≡ false → IsCut permit.new }
 {
     turns.gate.before(turns.task);
-    let answer = turns.turn.turn_end(rt, pass, turns.task);
+    let answer = turns.turn.turn_end(rt, permit, turns.task);
     turns.gate.after(turns.task);
     match answer {
         Turn::Made { .. } => true,

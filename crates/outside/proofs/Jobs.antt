@@ -33,7 +33,7 @@ module _ {A B : Type 0} (f : A → B) where
   jobs_set (t ∷ threads) zero = refl
   jobs_set (t ∷ threads) (suc n) = ap (λ jobs. option_map f t ∷ jobs) (jobs_set threads n)
 
-  -- a thread that is put behind the others leaves their jobs at their places
+  -- a thread that is put after the others leaves their jobs at their places
   jobs_put : (threads : List (Option A)) (t : Option A) (n : ℕ) → n < length (map (option_map f) threads) → job_at (threads ++ t ∷ []) n ≡ job_at threads n
   jobs_put [] t n below = absurd (omega arith)
   jobs_put (u ∷ threads) t zero below = refl

@@ -2,7 +2,7 @@
 use Rattle.std.specs.Prelude.{◌≡◌, ℕ}
 use Rattle.outside.specs.declared.hold_gate.HoldGate.{HoldGate}
 
--- the gate holds the first turn of one task until the first of another, for so many looks
+-- the gate holds the first turn of one task until the first of another, for this many looks
 pub record Holds (gate : HoldGate) (held until looks : ℕ) : Type 0 where
   pub held_is : gate.held ≡ held
   pub until_is : gate.until ≡ until

@@ -1,4 +1,4 @@
--- What an object from outside tells of its content; nothing is said where it tells nothing.
+-- What an object from outside says of its content; nothing is said where it gives nothing.
 use Rattle.std.specs.Prelude.{◌≡◌, ℕ, ◌<◌, List, length, take, Option, Some, None, IfSome, IsSomeAnd}
 use Rattle.std.specs.Io.{StartsWith}
 use Rattle.std.specs.Io.KnownBytes.{Appends}
@@ -7,20 +7,20 @@ use Rattle.std.specs.Io.KnownBytes.{Appends}
 abbrev pub FileMap : Type 0
 FileMap = List ℕ → Option (List ℕ)
 
--- the told map has exactly these bytes under the name; this project's profile
+-- the known map has exactly these bytes under the name; this project's profile
 abbrev pub HasFile : Option FileMap → List ℕ → List ℕ → Type 0
 HasFile told name bytes = IfSome told (λ files. files name ≡ Some bytes)
 
--- the map is told and has no file of the name; this project's profile
+-- the map is reported and has no file of the name; this project's profile
 abbrev pub LacksFile : Option FileMap → List ℕ → Type 0
 LacksFile told name = IsSomeAnd told (λ files. files name ≡ None)
 
--- the told map has a file of the name, and it begins with these bytes; this project's profile
+-- the known map has a file of the name, and it begins with these bytes; this project's profile
 abbrev pub BeginsFile : Option FileMap → List ℕ → List ℕ → Type 0
 BeginsFile told name bytes =
     IfSome told (λ files. IsSomeAnd (files name) (λ file. StartsWith file bytes))
 
--- the told map has a file of the name, and it has more bytes than this; this project's profile
+-- the known map has a file of the name, and it has more bytes than this; this project's profile
 abbrev pub IsLonger : Option FileMap → List ℕ → ℕ → Type 0
 IsLonger told name budget =
     IfSome told (λ files. IsSomeAnd (files name) (λ file. budget < length file))

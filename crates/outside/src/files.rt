@@ -26,12 +26,13 @@ impl From<AllocError> for FilesFault {
     }
 }
 
-/// Files by their names. What is told of their content is a map from names to bytes, or nothing.
+/// Files by their names. What is reported of their content is a map from names to bytes, or
+/// nothing.
 pub trait Files {
     // How many faults there were, up to the end of 64 bits.
     ghost count: { Self → ℕ };
 
-    // What is told: the bytes of each name that has a file.
+    // What is reported: the bytes of each name that has a file.
     ghost told: { Self → Option (List ℕ → Option (List ℕ)) };
 
     /// Reads the whole file into `into`, which is emptied first, and takes at most `budget` bytes
@@ -47,7 +48,7 @@ pub trait Files {
         ensures longer { result ≡ Err FilesFault.TooLong →
             IsLonger (told self.old) name.now budget }
 
-        // A failure raises the count of faults, except that of a name the told map hasn't.
+        // A failure raises the count of faults, except that of a name the known map hasn't.
         ensures failed { result ≡ Err FilesFault.Failed →
             Rose (count self.old) (count self.new) ⊎ LacksFile (told self.old) name.now }
         ensures missing { LacksFile (told self.old) name.now → result ≡ Err FilesFault.Failed }

@@ -16,7 +16,7 @@ struct Held {
     gave_up: AtomicBool,
 }
 
-/// Holds the first turn of one task until the first turn of another was answered, for so many
+/// Holds the first turn of one task until the first turn of another was answered, for this many
 /// looks at most.
 #[derive(Drop)]
 pub struct HoldGate {
@@ -30,7 +30,7 @@ impl HoldGate {
     ghost use Rattle.outside.specs.Gates.{Holds};
 
     /// Holds the first turn of the task `held` until the first of `until` was answered, for at
-    /// most so many looks.
+    /// most this many looks.
     pub fn new(alloc: Global, held: u8, until: u8, looks: u64) -> Result<HoldGate, OutOfMemory>
         ensures { IfOk result (λ gate. Holds gate held until looks) }
     {

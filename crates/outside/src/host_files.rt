@@ -11,7 +11,7 @@ use std::{fs, rt};
 /// How many bytes a read takes at most.
 const PIECE: usize = 8192;
 
-/// The files of the host by their paths. They tell nothing of their content.
+/// The files of the host by their paths. They give nothing of their content.
 #[derive(Drop)]
 pub struct HostFiles<'a, R: rt::Files> {
     rt: &'a R,

@@ -33,7 +33,7 @@ impl MemorySink {
         })
     }
 
-    /// Makes room for so many bytes more.
+    /// Makes room for this many bytes more.
     pub fn reserve(&mut self, bytes: usize) -> Result<(), OutOfMemory>
         ensures room { OnOk result (length (bytes_of self.new) + bytes ≤ room_of self.new) }
         ensures bytes { bytes_of self.new ≡ bytes_of self.old }

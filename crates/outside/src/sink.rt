@@ -8,12 +8,12 @@ ghost use Rattle.outside.specs.Told.{AppendsPart};
 #[derive(Clone, Copy, Debug, PartialEq, Eq)]
 pub struct SinkFailed;
 
-/// An output that takes bytes. What is told of it is the bytes so far, or nothing.
+/// An output that takes bytes. What is reported of it is the bytes so far, or nothing.
 pub trait Sink {
     // How many faults there were, up to the end of 64 bits.
     ghost count: { Self → ℕ };
 
-    // What is told: the bytes so far.
+    // What is reported: the bytes so far.
     ghost told: { Self → Option (List ℕ) };
 
     /// Takes the first bytes of the piece and answers how many.

@@ -5,14 +5,14 @@ ghost use Rattle.std.specs.Io.KnownBytes.{WriteAppends};
 use crate::{Sink, SinkFailed};
 use std::io::{self, ErrorKind, Printer, Write};
 
-/// An output behind a writer. It tells what the writer holds, where that is known.
+/// An output behind a writer. It says what the writer holds, where that is known.
 #[derive(Drop)]
 pub struct WriterSink<W: Write> {
     writer: W,
     faults: u64,
 }
 
-/// The output of the process. It tells nothing of what was written.
+/// The output of the process. It gives nothing of what was written.
 pub type StdSink<'a, R> = WriterSink<Printer<'a, R>>;
 
 impl<W: Write> WriterSink<W> {

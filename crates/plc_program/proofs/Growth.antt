@@ -64,7 +64,7 @@ pub tasks-grow : (s t : Setup) → Grows s t → (task : ℕ) (tasks : List (Lis
 tasks-grow s t g task [] h = tt
 tasks-grow s t g task (lines ∷ more) h = (lines-grow s t g task lines h.0, tasks-grow s t g (suc task) more h.1)
 
--- a task without lines behind the others
+-- a task without lines after the others
 pub tasks-more : (s : Setup) (task : ℕ) (tasks : List (List Instruction)) → AreTasksOf s task tasks → AreTasksOf s task (tasks ++ [] ∷ [])
 tasks-more s task [] h = (tt, tt)
 tasks-more s task (lines ∷ more) h = (h.0, tasks-more s (suc task) more h.1)

@@ -47,7 +47,7 @@ use Rattle.machine_words.proofs.Lists.{all-push}
 tasks-are : (s : SoFar) → has_task s ≡ true → tasks_of s ≡ s.before ++ s.lines ∷ []
 tasks-are s h = rw h refl
 
--- the task that is under way stands behind those before
+-- the task that is under way stands after those before
 task-number : (first : Setup) (s : SoFar) → IsSoFar first s → has_task s ≡ true → task_of s ≡ length s.before
 task-number first s k h =
     let e : length (s.before ++ s.lines ∷ []) ≡ length s.setup.tasks = ap length (sym (tasks-are s h)) ∙ k.each in
@@ -56,7 +56,7 @@ task-number first s k h =
 
 -- ---- lines of instructions
 
--- an instruction that may stand behind the others of its task
+-- an instruction that may stand after the others of its task
 record IsNext (s : SoFar) (l : Instruction) : Type 0 where
   own : 1 ≤ length s.setup.axes → IsLineOf s.setup (task_of s) l
   counted : IsCounted l

@@ -19,14 +19,14 @@ pub unempty : {A : Type 0} (xs : List A) → xs ≡ [] → nat_le 1 (length xs) 
 unempty [] none some = absurd (cc)
 unempty (x ∷ xs) none some = absurd (cc)
 
--- a wait behind the others
+-- a wait after the others
 pub behind-push : (above lines : List Instruction) (line : Instruction) → AreBehindTheirCalls above lines → IsBehindItsCall (above ++ lines) line →
     AreBehindTheirCalls above (lines ++ line ∷ [])
 behind-push above [] line h one = (subst (λ q. IsBehindItsCall q line) (append-nil above) one, tt)
 behind-push above (next ∷ lines) line h one =
     (h.0, behind-push (above ++ next ∷ []) lines line h.1 (subst (λ q. IsBehindItsCall q line) (sym (append_assoc above (next ∷ []) lines)) one))
 
--- lines behind others end inside a repeat where they do behind those
+-- lines after others end inside a repeat where they do after those
 pub repeats-join : (inside after : Bool) (lines more : List Instruction) → repeating_after inside lines ≡ Some after →
     repeating_after inside (lines ++ more) ≡ repeating_after after more
 repeats-join inside after [] more h = let e : inside ≡ after = cc in ap (λ b. repeating_after b more) e

@@ -6,7 +6,7 @@ use Rattle.std.specs.Str.{bytes_eq}
 use Rattle.plc_program.specs.declared.form.Form.{Form}
 use Rattle.plc_program.specs.declared.form.Form.TheVariants as form
 
--- the forms of a line behind the first, in the order of a program
+-- the forms of a line after the first, in the order of a program
 abbrev pub forms : List Form
 forms = form.Task ∷ form.Block ∷ form.Call ∷ form.Wait ∷ form.Repeat ∷ form.Again ∷ []
 
@@ -23,7 +23,7 @@ word_of form.Again = codes "again"
 unfoldable pub form_of : List ℕ → Option Form
 form_of first = find (λ f. bytes_eq (word_of f) first) forms
 
--- how many words stand behind the first, at least
+-- how many words stand after the first, at least
 abbrev pub least_of : Form → ℕ
 least_of form.Task = 1
 least_of form.Block = 3
@@ -41,7 +41,7 @@ most_of form.Wait = Some 2
 most_of form.Repeat = Some 1
 most_of form.Again = Some 0
 
--- whether so many words may stand behind the first
+-- whether this many words may stand after the first
 unfoldable pub is_counted : Form → ℕ → Bool
 is_counted form count =
     nat_le (least_of form) count && option_map_or (nat_le count) (most_of form) true

@@ -34,7 +34,7 @@ block_meaning s task (name ∷ of_kind ∷ of_object ∷ []) = do
   })
 block_meaning s task _ = Err wrong_count
 
--- `wait BLOCK FLAG`, behind a call of the block in its task
+-- `wait BLOCK FLAG`, after a call of the block in its task
 unfoldable pub wait_meaning : SoFar → List (List ℕ) → Result Instruction ℕ
 wait_meaning s (name ∷ word ∷ []) = do
   k ← block_named s.setup (task_of s) name

@@ -10,7 +10,7 @@ use Rattle.plc_program.specs.declared.program.Instruction.TheVariants.{Call, Wai
 -- ---- a task by itself
 
 -- whether lines end inside a repeat, if they begin inside one or not; none where a repeat stands in
--- another, or an `again` behind none
+-- another, or an `again` after none
 abbrev pub repeating_after : Bool → List Instruction → Option Bool
 repeating_after inside [] = Some inside
 repeating_after inside (Call k i ∷ lines) = repeating_after inside lines
@@ -38,7 +38,7 @@ is_call_of k Again = false
 unfoldable pub is_called : ℕ → List Instruction → Bool
 is_called k lines = list_any (is_call_of k) lines
 
--- a wait for a block stands behind a call of it
+-- a wait for a block stands after a call of it
 abbrev pub IsBehindItsCall : List Instruction → Instruction → Type 0
 IsBehindItsCall above (Call k i) = Unit {0}
 IsBehindItsCall above (Wait k flag) = IsTrue (is_called k above)
@@ -51,7 +51,7 @@ AreBehindTheirCalls above [] = Unit {0}
 AreBehindTheirCalls above (line ∷ lines) =
     IsBehindItsCall above line × AreBehindTheirCalls (above ++ line ∷ []) lines
 
--- the lines of a task: repeats are counted, closed and not nested, each wait stands behind a call
+-- the lines of a task: repeats are counted, closed and not nested, each wait stands after a call
 -- of its block, and there are not too many
 pub record IsTask (lines : List Instruction) : Type 0 where
   pub few : length lines ≤ 10000

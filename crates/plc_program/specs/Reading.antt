@@ -45,7 +45,7 @@ unfoldable pub is_version : List (List ℕ) → Bool
 is_version (word ∷ number ∷ []) = is_program word && is_one number
 is_version _ = false
 
--- the first line tells the version
+-- the first line gives the version
 unfoldable pub version_meaning : SoFar → List (List ℕ) → Result SoFar ℕ
 version_meaning s words = do
   _ ← broken_unless (is_version words) no_version
@@ -60,7 +60,7 @@ may_stand s form.Wait = has_task s
 may_stand s form.Repeat = has_task s && not s.repeating
 may_stand s form.Again = has_task s && s.repeating
 
--- the form of a line by its first word, where it may stand and with as many words behind it as it
+-- the form of a line by its first word, where it may stand and with as many words after it as it
 -- has
 unfoldable pub form_in : SoFar → List ℕ → List (List ℕ) → Result Form ℕ
 form_in s first words = do
@@ -81,7 +81,7 @@ blocks_meaning s words = do
   t ← block_meaning s.setup (task_of s) words
   Ok (record s { setup = t })
 
--- whether a task stands inside a repeat behind a line
+-- whether a task stands inside a repeat after a line
 abbrev pub is_repeating : Bool → Instruction → Bool
 is_repeating inside (Call k i) = inside
 is_repeating inside (Wait k flag) = inside
@@ -100,7 +100,7 @@ with_line s line = do
   l ← line
   line_added s l
 
--- what the words behind the first mean in a line of each form
+-- what the words after the first mean in a line of each form
 unfoldable pub words_meaning : SoFar → Form → List (List ℕ) → Result SoFar ℕ
 words_meaning s form.Task words = tasks_meaning s words
 words_meaning s form.Block words = blocks_meaning s words
@@ -109,7 +109,7 @@ words_meaning s form.Wait words = with_line s (wait_meaning s words)
 words_meaning s form.Repeat words = with_line s (repeat_meaning words)
 words_meaning s form.Again words = line_added s Again
 
--- what a line means behind the first
+-- what a line means after the first
 unfoldable pub later_meaning : SoFar → List (List ℕ) → Result SoFar ℕ
 later_meaning s (first ∷ words) = do
   form ← form_in s first words
@@ -132,7 +132,7 @@ ending s = do
   _ ← broken_unless (not s.repeating) not_whole
   Ok (record { program = tasks_of s; setup = s.setup })
 
--- a rule of a program is told by the letter P
+-- a rule of a program is reported by the letter P
 abbrev pub letter : ℕ
 letter = 80
 

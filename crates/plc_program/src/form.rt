@@ -3,7 +3,7 @@
 ghost use Rattle.std.specs.Prelude.{◌≡◌};
 ghost use Rattle.plc_program.specs.Forms as spec;
 
-/// The forms of a line behind the first, by their first words.
+/// The forms of a line after the first, by their first words.
 #[derive(Clone, Copy, Debug, PartialEq, Eq)]
 pub enum Form {
     Task,
@@ -49,7 +49,7 @@ pub fn form_of(first: &[u8]) -> Option<Form>
         .copied()
 }
 
-/// Whether so many words may stand behind the first.
+/// Whether this many words may stand after the first.
 #[tactic(auto, unfolding(crate::specs::Forms::is_counted))]
 pub fn is_counted(form: Form, count: usize) -> bool
     ensures { result ≡ spec.is_counted form count }

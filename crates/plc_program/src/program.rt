@@ -19,7 +19,7 @@ pub enum Instruction {
     Call { instance: u16, inputs: Inputs },
     /// Calls a block as it was last called, until the flag, aborted or error is true.
     Wait { instance: u16, flag: Flag },
-    /// The lines up to `Again` so many times, 1 to 1,000,000.
+    /// The lines up to `Again` this many times, 1 to 1,000,000.
     Repeat { count: u32 },
     Again,
 }

@@ -94,7 +94,7 @@ impl ProgramReader {
         Ok(())
     }
 
-    // Takes a line behind the first.
+    // Takes a line after the first.
     #[tactic(auto, unfolding(crate::specs::Reading::later_meaning))]
     fn read_later(&mut self, words: &[&[u8]]) -> Result<(), LineFault>
         ensures { Takes (spec.later_meaning self.old (texts words.now)) self.new result }
@@ -140,7 +140,7 @@ impl ProgramReader {
         }
     }
 
-    // Takes the words behind the first.
+    // Takes the words after the first.
     #[tactic(auto, unfolding(crate::specs::Reading::words_meaning))]
     fn read_words(&mut self, form: Form, words: &[&[u8]]) -> Result<(), LineFault>
         ensures { Takes (spec.words_meaning self.old form (texts words.now)) self.new result }
@@ -221,7 +221,7 @@ impl ProgramReader {
     }
 }
 
-// Whether a task stands inside a repeat behind a line.
+// Whether a task stands inside a repeat after a line.
 fn is_repeating(inside: bool, line: &Instruction) -> bool
     ensures { result ≡ spec.is_repeating inside line.now }
 {

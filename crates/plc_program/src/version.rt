@@ -6,7 +6,7 @@ ghost use Rattle.plc_program.specs.Reading as spec;
 
 use line_text::says;
 
-/// Whether the words tell the version.
+/// Whether the words give the version.
 #[tactic(auto, unfolding(crate::specs::Reading::is_version))]
 pub fn is_version(words: &[&[u8]]) -> bool
     ensures { result ≡ spec.is_version (texts words.now) }

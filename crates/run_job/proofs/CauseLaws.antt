@@ -98,7 +98,7 @@ plant-given (Some files) config program m o g h =
     (given (Some files) most_bytes 1 config machine_of Configures m g)
     (given (Some files) most_bytes 2 program (program_of m.cycle_us m.config) (IsProgramOfMachine m) o h))
 
--- a status that tells how a history ended stands for a trace
+-- a status that says how a history ended stands for a trace
 ended-traced : (s : Status) (setup : Setup) (h : List Entry) → HasEnded s setup h →
     is_traced s ≡ true
 ended-traced status.Ok setup h e = refl
@@ -123,7 +123,7 @@ with-plant told rose refuses Started config program setup tasks drives old new s
 with-plant told rose refuses Started config program setup tasks drives old new s is (inr (inr h)) =
     inl h
 
--- files that give no plant were told by a plan, or memory ran out
+-- files that give no plant were reported by a plan, or memory ran out
 pub no-plant : (told : Option FileMap) (rose : Type 0) (config program : List ℕ) (old new : Output)
     (s : Status) → NoPlant told rose config program old new s →
     EndsEarly old new s ⊎ TellsBy told rose (λ files. plant_in files config program) old new s

@@ -73,7 +73,7 @@ kind-of told rose refuses config program p (inl (inr h)) = text-of-run p h.0
 kind-of told rose refuses config program p (inr (inl h, given)) = ap is_of_run h.0
 kind-of told rose refuses config program p (inr (inr t, given)) = traced-of-run p t
 
--- what tells of a file's text comes of the files
+-- what is about a file's text comes of the files
 of-files : (files : FileMap) (rose refuses : Type 0) (config program : List ℕ)
     (p wanted : Status) → is_of_text wanted ≡ true →
     LeadsTo (Some files) rose refuses config program p → p ≡ wanted →

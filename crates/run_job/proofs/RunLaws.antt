@@ -32,7 +32,7 @@ use Rattle.run_job.specs.Headline.{HasEnded}
 use Rattle.run_job.specs.Plans.{end_row, run_plan, status_of}
 use Rattle.run_job.specs.Plants.{GivesPlant}
 
--- the status tells why a run has ended
+-- the status says why a run has ended
 pub ended-so : (s : Setup) (h : List Entry) (e : RunEnding) →
     ((e ≡ ending.Ok) ↔ (live_tasks s h ≡ 0)) →
     ((e ≡ ending.CyclesOver) ↔ ((live_tasks s h ≢ 0) × (cycles_of h ≡ s.cycles))) →
@@ -60,7 +60,7 @@ wrote s h logs old new e rows given r written has is same writes back by = recor
   again = λ t. subst (λ ds. IsReadBack Two Run s h ds) same back;
 }
 
--- nothing was written, for want of memory
+-- nothing was written, for out of memory
 pub wrote-none : FollowPlans → (s : Setup) (h : List Entry) (logs : List DriveLog)
     (old new : Output) (e : RunEnding) (r : Status) → HasEnded (status_of e) s h →
     EndsEarly old new r → WritesTrace s h logs old new r

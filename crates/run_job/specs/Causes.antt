@@ -20,7 +20,7 @@ program_in files name m =
     text_in most_bytes 2 (files name) >>= λ text. reading_in 2 (program_of m.cycle_us m.config text)
 
 -- the machine that the first of two files configures, and its program that the second is; or what
--- is told of the first of them that gives none
+-- is reported of the first of them that gives none
 unfoldable pub plant_in : FileMap → List ℕ → List ℕ → Result (Machine × Outcome) Status
 plant_in files config program = do
   machine ← machine_in files config

@@ -27,7 +27,7 @@ use Rattle.run_job.specs.Headline.{HasEnded, RunHeadline}
 use Rattle.run_job.specs.Plans.{end_row, no_thread_plan, run_plan}
 use Rattle.run_job.specs.Plants.{GivesMachine, GivesProgram, NoPlant}
 
--- the trace of a history with these logs was written, with the status that tells how it ended
+-- the trace of a history with these logs was written, with the status that says how it ended
 pub record WritesTrace (setup : Setup) (h : List Entry) (logs : List DriveLog) (old new : Output)
     (s : Status) : Type 0 where
   pub status : Status
@@ -85,7 +85,7 @@ pub record EndsByRun (told : Option FileMap) (rose refused : Type 0) (Started : 
       IsSomeAnd told (λ files. plant_in files config program ≡ Err (status.ReadFault word))
   -- writing failed only where the count of its faults rose
   pub unwritten : s ≡ status.WriteFault → Rose old.count new.count
-  -- what tells of a file's text comes exactly where the files lead to it
+  -- what is about a file's text comes exactly where the files lead to it
   pub of_text : (files : FileMap) (wanted : Status) → told ≡ Some files →
       is_of_text wanted ≡ true →
       ComesExactly s wanted (plant_in files config program ≡ Err wanted)

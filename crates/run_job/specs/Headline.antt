@@ -66,14 +66,14 @@ pub record RunHeadline (files : Option FileMap) (config program : List ℕ)
   -- cycles before it
   pub driven : Each (λ n. IsDriven setup (drives_at_opening setup.axes machine.drives))
       (entries_by setup 0 history)
-  -- behind each cycle but the last a task lives
+  -- after each cycle but the last a task lives
   pub in_time : Each (λ n c. suc n < length (entries_by setup 0 history) → IsAlive setup c)
       (entries_by setup 0 history)
-  -- each drive's record tells an output in each cycle, and where these lead it
+  -- each drive's record gives an output in each cycle, and where these lead it
   pub drives : List DriveEndRow
   pub taken : drives ≡ map (drive_end (cycles_of history))
       (drives_after 0 (drives_at_opening setup.axes machine.drives) history)
-  -- the status tells how the history ends
+  -- the status says how the history ends
   pub ended : HasEnded s setup history
   -- what was written is the text of all this, in version 2
   pub written : Appends old new (trace_text Two Run setup history drives)

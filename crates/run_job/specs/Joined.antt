@@ -1,6 +1,6 @@
 -- The jobs of a spawner. This project's profile.
 use Rattle.std.specs.Prelude.{◌≡◌, ℕ, List, ◌++◌, Option, None, replicate}
 
--- so many jobs were started behind those before, and each of them was joined
+-- this many jobs were started after those before, and each of them was joined
 abbrev pub JoinsAll : {J : Type 0} → List (Option J) → List (Option J) → Type 0
 JoinsAll old new = (started : ℕ) × (new ≡ old ++ replicate started None)

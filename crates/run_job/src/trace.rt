@@ -38,8 +38,8 @@ pub fn write_run<K: Sink>(alloc: Global, end: &PlantEnd, out: &mut K) -> Status
     status_by(status, written)
 }
 
-// The trace of a run is read as that of its machine, its history and its drives: the kernel keeps of
-// its history, and a row of what its drive took, what a trace asks for. Nothing else runs.
+// The trace of a run is read as that of its machine, its history and its drives: the kernel keeps
+// of its history, and a row of what its drive took, what a trace asks for. Nothing else runs.
 fn trace_is_read_back(end: &PlantEnd, rows: &[DriveEndRow])
     requires each { length rows.now ≡ length end.now.kernel.config.axes }
     ensures { IsReadBack TraceVersion.Two Command.Run end.now.kernel.config end.now.kernel.history

@@ -18,6 +18,6 @@ pub record Scoped (files : Option FileMap) (name : List ℕ) (old new : Option (
   pub reading : trace_of text ≡ Ok trace
   -- what was written are the lines of its report, over all its entries
   pub written : Appends old new (report_text (report_of trace))
-  -- which tell of each axis the least and the greatest setpoint of its driven rows, in how many rows
-  -- it stood and how far it went; and of each block its calls
+  -- which give for each axis the least and the greatest setpoint of its driven rows, in how many
+  -- rows it stood and how far it went; and of each block its calls
   pub says : SaysOfEach trace

@@ -18,7 +18,7 @@ use trace_text::{Trace, read_trace};
 /// The most bytes of a trace: 256 MiB.
 const MOST_BYTES: u64 = 268_435_456;
 
-/// Writes the scope report of the trace that the file of this name is, made in so many pieces, at
+/// Writes the scope report of the trace that the file of this name is, made in this many shares, at
 /// least one, by joined work. The trace isn't checked, and the report is the same for every number
 /// of workers. Where the file gives no trace it says why.
 pub fn scope_file<F: Files, K: Sink, H: Threads + Sync>(

@@ -1,4 +1,4 @@
--- Entries are counted one after another, and pieces are put behind each other.
+-- Entries are counted one after another, and shares are put after each other.
 use Rattle.std.proofs.Common.{◌≡◌, ℕ, ◌+◌, ◌^◌, ◌<◌, ◌≤◌, ◌==◌, Bool, true, false, cond, Option, Some, None, List, [], ◌∷◌, ◌++◌, length, take, slice_index_or, refl, ap, sym, ◌∙◌, subst, arith, length-append}
 use Rattle.std.specs.Prelude.{slice_get, Result, Ok, IfOk}
 use Rattle.std.specs.List.{flat_map}
@@ -17,7 +17,7 @@ use Rattle.scope_report.specs.Cuts.{between_cuts}
 use Rattle.scope_report.specs.Joining.{CanMerge, CanSum, Merges, Sums}
 use Rattle.scope_report.specs.Merging.{merged, part_of}
 use Rattle.scope_report.specs.Parts.{PartState}
-use Rattle.scope_report.specs.Pieces.{Adds, HasRoom, IsPiece, PieceState}
+use Rattle.scope_report.specs.Shares.{Adds, HasRoom, IsShare, ShareState}
 use Rattle.scope_report.specs.Replies.{replies_in, replies_of, reply_of}
 use Rattle.scope_report.specs.Rows.{row_at, rows_in, rows_of}
 use Rattle.scope_report.specs.declared.counts.Counts.{Counts}
@@ -119,9 +119,9 @@ counts-same : (b : ℕ) (es : List Entry) (e : Entry) → replies_in b e ≡ [] 
     counts_of (replies_of b es) ≡ counts_of (replies_of b (es ++ e ∷ []))
 counts-same b es e none = ap counts_of (flat-same (replies_in b) es e none)
 
--- what is told of some entries goes on by one that is added
-pub goes-on : (n m : ℕ) (es : List Entry) (e : Entry) (old new : PieceState) →
-    IsPiece n m es old → Adds e old new → IsPiece n m (es ++ e ∷ []) new
+-- what is reported of some entries goes on by one that is added
+pub goes-on : (n m : ℕ) (es : List Entry) (e : Entry) (old new : ShareState) →
+    IsShare n m es old → Adds e old new → IsShare n m (es ++ e ∷ []) new
 goes-on n m es (call k i o) old new h adds = record {
   as_many_axes = ap length adds.0 ∙ h.as_many_axes;
   as_many_blocks = adds.1.len ∙ h.as_many_blocks;
@@ -146,8 +146,8 @@ goes-on n m es (cycle c rows groups) old new h adds = record {
       ∙ counts-same b es (cycle c rows groups) refl);
 }
 goes-on n m es (end_of t) old new h adds =
-    let axes = ap (λ (p : PieceState). p.axes) adds in
-    let blocks = ap (λ (p : PieceState). p.blocks) adds in
+    let axes = ap (λ (p : ShareState). p.axes) adds in
+    let blocks = ap (λ (p : ShareState). p.blocks) adds in
     record {
       as_many_axes = ap length axes ∙ h.as_many_axes;
       as_many_blocks = ap length blocks ∙ h.as_many_blocks;
@@ -159,7 +159,7 @@ goes-on n m es (end_of t) old new h adds =
     }
 
 -- and there is room for it
-pub has-room : (n m : ℕ) (es : List Entry) (p : PieceState) → IsPiece n m es p →
+pub has-room : (n m : ℕ) (es : List Entry) (p : ShareState) → IsShare n m es p →
     length es + 1 < 2 ^ 64 → HasRoom p
 has-room n m es p h few = record {
   axes = (λ a d lt. omega (arith, few, part-within a es _ (h.each_axis a d lt)));
@@ -171,12 +171,12 @@ has-room n m es p h few = record {
       });
 }
 
--- ---- a piece behind others
+-- ---- a share after others
 
-pub pieces-join : (n m : ℕ) (xs ys : List Entry) (p q r : PieceState) → IsPiece n m xs p →
-    IsPiece n m ys q → Merges p.axes q.axes r.axes → Sums p.blocks q.blocks r.blocks →
-    IsPiece n m (xs ++ ys) r
-pieces-join n m xs ys p q r hp hq axes blocks = record {
+pub shares-join : (n m : ℕ) (xs ys : List Entry) (p q r : ShareState) → IsShare n m xs p →
+    IsShare n m ys q → Merges p.axes q.axes r.axes → Sums p.blocks q.blocks r.blocks →
+    IsShare n m (xs ++ ys) r
+shares-join n m xs ys p q r hp hq axes blocks = record {
   as_many_axes = axes.len ∙ hp.as_many_axes;
   as_many_blocks = blocks.len ∙ hp.as_many_blocks;
   each_axis = (λ a d lt.
@@ -199,16 +199,16 @@ pieces-join n m xs ys p q r hp hq axes blocks = record {
 }
 
 -- there is room for both where there is for all entries
-pub can-merge : (n m : ℕ) (xs ys : List Entry) (p q : PieceState) → IsPiece n m xs p →
-    IsPiece n m ys q → length xs + length ys < 2 ^ 64 → CanMerge p.axes q.axes
+pub can-merge : (n m : ℕ) (xs ys : List Entry) (p q : ShareState) → IsShare n m xs p →
+    IsShare n m ys q → length xs + length ys < 2 ^ 64 → CanMerge p.axes q.axes
 can-merge n m xs ys p q hp hq few a d lt =
     let k : a < length q.axes = omega (arith, lt, hp.as_many_axes, hq.as_many_axes) in
     let x = part-within a xs _ (hp.each_axis a d lt) in
     let y = part-within a ys _ (hq.each_axis a d k) in
     omega (arith, x, y, few)
 
-pub can-sum : (n m : ℕ) (xs ys : List Entry) (p q : PieceState) → IsPiece n m xs p →
-    IsPiece n m ys q → length xs + length ys < 2 ^ 64 → CanSum p.blocks q.blocks
+pub can-sum : (n m : ℕ) (xs ys : List Entry) (p q : ShareState) → IsShare n m xs p →
+    IsShare n m ys q → length xs + length ys < 2 ^ 64 → CanSum p.blocks q.blocks
 can-sum n m xs ys p q hp hq few b d lt =
     let k : b < length q.blocks = omega (arith, lt, hp.as_many_blocks, hq.as_many_blocks) in
     let x = counts-within b xs _ (hp.each_block b d lt) in
@@ -219,15 +219,15 @@ can-sum n m xs ys p q hp hq few b d lt =
       errors = omega (arith, x.errors, y.errors, few);
     }
 
--- a piece for which there was memory
-pub piece-there : (P : PieceState → Type 0) (made : List (Result PieceState OutOfMemory)) (k : ℕ)
-    (r : Result PieceState OutOfMemory) (p : PieceState) → r ≡ slice_index_or made k r →
+-- a share for which there was memory
+pub share-there : (P : ShareState → Type 0) (made : List (Result ShareState OutOfMemory)) (k : ℕ)
+    (r : Result ShareState OutOfMemory) (p : ShareState) → r ≡ slice_index_or made k r →
     r ≡ Ok p → IfOk (slice_index_or made k r) P → P p
-piece-there P made k r p at ok h = subst (λ x. IfOk x P) (sym at ∙ ok) h
+share-there P made k r p at ok h = subst (λ x. IfOk x P) (sym at ∙ ok) h
 
-pub pieces-few : (a b : ℕ) (es : List Entry) → a ≤ b → length es < 2 ^ 64 →
+pub shares-few : (a b : ℕ) (es : List Entry) → a ≤ b → length es < 2 ^ 64 →
     length (take a es) + length (between_cuts a b es) < 2 ^ 64
-pieces-few a b es le few =
+shares-few a b es le few =
     let e = ap length (take-further a b es le) in
     let l = length-append (take a es) (between_cuts a b es) in
     grind (arith, common_steps)

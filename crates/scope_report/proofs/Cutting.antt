@@ -1,4 +1,4 @@
--- Pieces of a list.
+-- Shares of a list.
 use Rattle.std.proofs.Common.{◌≡◌, ℕ, zero, suc, ◌+◌, ◌-◌, ◌*◌, ◌<◌, ◌≤◌, List, [], ◌∷◌, ◌++◌, length, take, drop, get_or, Some, None, refl, ap, ◌∙◌, arith}
 use Rattle.std.proofs.lemmas.List.{take_more}
 use Rattle.std.specs.Prelude.{slice_get}
@@ -21,12 +21,12 @@ pub cut-more : {X : Type 0} (from place : ℕ) (xs : List X) (d : X) → from �
 cut-more from place xs d le lt =
     grind (arith, common_steps, take_more (drop from xs) (place - from) d)
 
--- a later piece begins no earlier
+-- a later share begins no earlier
 pub cut-further : (n w k : ℕ) → 0 < w → cut_at n w k ≤ cut_at n w (k + 1)
 cut-further n w k some =
     (le-div_iff_mul-le some).1 (let h = div-mul-le_self (n * k) w in grind arith)
 
--- the last piece ends at the end
+-- the last share ends at the end
 pub cut-last : (n w : ℕ) → 0 < w → cut_at n w w ≡ n
 cut-last n w some = mul-div_left n some
 

@@ -1,4 +1,4 @@
--- What is told of rows is that of two parts of them, put together.
+-- What is reported of rows is that of two parts of them, put together.
 use Rattle.std.proofs.Common.{◌≡◌, cond, ℤ, ◌+◌, Option, Some, None, List, [], ◌∷◌, ◌++◌, length, refl, ap, sym, ◌∙◌, arith, length-append, unsigned_abs, ◌-ℤ◌}
 use Rattle.std.specs.Int.{int_min, int_max}
 use Rattle.std.specs.Ordering.{int_eq}
@@ -91,7 +91,7 @@ travel-append xs ys =
     ∙ ap (λ n. travel_of (neighbours_of xs) + n) (sum_by-append f middle (neighbours_of ys))
     ∙ omega arith
 
--- what is told of rows is what is told of each of two parts of them, one behind the other
+-- what is reported of rows is what is reported of each of two parts of them, one after the other
 pub part-append : (xs ys : List AxisRow) → part_of (xs ++ ys) ≡ merged (part_of xs) (part_of ys)
 part-append xs ys =
     let n = setpoints-append xs ys in

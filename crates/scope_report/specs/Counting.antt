@@ -1,4 +1,4 @@
--- What is told of a block's replies. This project's profile.
+-- What is reported of a block's replies. This project's profile.
 use Rattle.std.specs.Prelude.{◌+◌, ◌<◌, ◌^◌, List, length, count_by}
 use Rattle.fb_outputs.specs.declared.outputs.Outputs.{Outputs}
 use Rattle.scope_report.specs.declared.counts.Counts.{Counts}

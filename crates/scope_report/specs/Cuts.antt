@@ -1,9 +1,9 @@
--- Where a list is cut into pieces. This project's profile.
+-- Where a list is cut into shares. This project's profile.
 use Rattle.std.specs.Prelude.{ℕ, ◌-◌, ◌*◌, ◌/◌, List, take, drop}
 
--- where a piece of so many begins
+-- where a share of this many begins
 abbrev pub cut_at : ℕ → ℕ → ℕ → ℕ
-cut_at count pieces piece = count * piece / pieces
+cut_at count shares share = count * share / shares
 
 -- the items from one place to another
 abbrev pub between_cuts : {X : Type 0} → ℕ → ℕ → List X → List X

@@ -3,7 +3,7 @@ use Rattle.std.specs.Prelude.{◌≡◌, ◌-◌, ◌*◌, ◌^◌, ◌≤◌, �
 use Rattle.scope_report.specs.Parts.{PartState}
 use Rattle.scope_report.specs.declared.part.Part.TheInside.{Inside}
 
--- what is told, by the fields
+-- what is reported, by the fields
 abbrev pub part_view : Inside → PartState
 part_view p = record {
   rows = p.rows;
@@ -17,7 +17,7 @@ part_view p = record {
 }
 
 -- there are a first and a last row only where there are rows; no count is above the number of rows,
--- and each row behind the first adds less than 2^64 to the travel
+-- and each row after the first adds less than 2^64 to the travel
 pub record IsPart (p : Inside) : Type 0 where
   pub few : p.rows < 2 ^ 64
   pub first : p.rows ≡ 0 → p.first ≡ None

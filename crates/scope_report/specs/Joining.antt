@@ -1,4 +1,4 @@
--- Pieces are put together, axis by axis and block by block. This project's profile.
+-- Shares are put together, axis by axis and block by block. This project's profile.
 use Rattle.std.specs.Prelude.{◌≡◌, ◌+◌, ◌^◌, ◌<◌, ℕ, List, length, slice_index_or}
 use Rattle.scope_report.specs.Counting.{CanAdd, added}
 use Rattle.scope_report.specs.Merging.{merged}
@@ -10,7 +10,7 @@ abbrev pub CanMerge : List PartState → List PartState → Type 0
 CanMerge old others = (a : ℕ) (d : PartState) → a < length old →
     (slice_index_or old a d).rows + (slice_index_or others a d).rows < 2 ^ 64
 
--- the part of each axis has that of the others behind it
+-- the part of each axis has that of the others after it
 pub record Merges (old others new : List PartState) : Type 0 where
   pub len : length new ≡ length old
   pub each : (a : ℕ) (d : PartState) → a < length old →

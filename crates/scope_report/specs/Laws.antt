@@ -23,7 +23,7 @@ abbrev pub IsGreatest : List ℤ → Option ℤ → Type 0
 IsGreatest xs None = xs ≡ []
 IsGreatest xs (Some greatest) = Contains xs greatest × All (λ x. x ≤ℤ greatest) xs
 
--- each number that has one behind it, with that one, in order
+-- each number that has one after it, with that one, in order
 pub record AreNeighbours (xs : List ℤ) (pairs : List (ℤ × ℤ)) : Type 0 where
   pub count : length pairs ≡ length xs - 1
   pub each : (place : ℕ) → place + 1 < length xs → slice_get pairs place ≡
@@ -35,7 +35,7 @@ pub record SaysOfRows (rows : List AxisRow) (r : AxisReport) : Type 0 where
   pub driven : r.driven ≡ length (driven_of rows)
   pub least : IsLeast (setpoints_of (driven_of rows)) r.least
   pub greatest : IsGreatest (setpoints_of (driven_of rows)) r.greatest
-  -- of each two setpoints behind each other: how many are equal, and the sum of their distances
+  -- of each two setpoints after each other: how many are equal, and the sum of their distances
   pub pairs : List (ℤ × ℤ)
   pub neighbours : AreNeighbours (setpoints_of rows) pairs
   pub still : r.still ≡ count_by (λ (p : ℤ × ℤ). int_eq p.0 p.1) pairs
@@ -46,7 +46,7 @@ pub record SaysOfAxis (t : TraceState) (axis : ℕ) (def : AxisDef) (r : AxisRep
   pub name : r.name ≡ def.name
   pub rows : SaysOfRows (rows_of axis (entries_of t)) r
 
--- the report of a trace tells of each axis and of each block of the trace, at its place
+-- the report of a trace is on each axis and of each block of the trace, at its place
 pub record SaysOfEach (t : TraceState) : Type 0 where
   pub axes : length (report_of t).axes ≡ length t.config.axes
   pub blocks : length (report_of t).blocks ≡ length t.config.blocks

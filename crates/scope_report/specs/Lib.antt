@@ -10,4 +10,4 @@ pub mod Inside
 pub mod Counting
 pub mod Joining
 pub mod Cuts
-pub mod Pieces
+pub mod Shares

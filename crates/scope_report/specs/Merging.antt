@@ -1,4 +1,4 @@
--- What is told of rows, by what is told of those before and of those behind. This project's
+-- What is reported of rows, by what is reported of those before and of those after. This project's
 -- profile.
 use Rattle.std.specs.Prelude.{ℤ, ◌+◌, Option, Some, None, List, [], ◌∷◌, length}
 use Rattle.std.specs.Int.{int_min, int_max}
@@ -20,7 +20,7 @@ abbrev pub last_of : List ℤ → Option ℤ
 last_of [] = None
 last_of (x ∷ xs) = Some (last_from x xs)
 
--- what is told of some rows
+-- what is reported of some rows
 abbrev pub part_of : List AxisRow → PartState
 part_of rows = record {
   rows = length rows;
@@ -33,7 +33,7 @@ part_of rows = record {
   last = last_of (setpoints_of rows);
 }
 
--- the neighbours that the last of some numbers and the first of those behind are
+-- the neighbours that the last of some numbers and the first of those after are
 abbrev pub between : Option ℤ → Option ℤ → List (ℤ × ℤ)
 between None b = []
 between (Some a) None = []
@@ -44,7 +44,7 @@ abbrev pub first_there : Option ℤ → Option ℤ → Option ℤ
 first_there None b = b
 first_there (Some a) b = Some a
 
--- what is told of two parts, one behind the other
+-- what is reported of two parts, one after the other
 abbrev pub merged : PartState → PartState → PartState
 merged a b = record {
   rows = a.rows + b.rows;

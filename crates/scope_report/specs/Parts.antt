@@ -1,8 +1,8 @@
 -- What contracts see of a part of an axis's rows. This project's profile.
 use Rattle.std.specs.Prelude.{ℕ, ℤ, Option}
 
--- what is told of some rows, and what is wanted to tell the same of these and of those behind them:
--- how many they are, their first setpoint and their last
+-- what is reported of some rows, and what is wanted to give the same of these and of those after
+-- them: how many they are, their first setpoint and their last
 pub record PartState : Type 0 where
   pub rows : ℕ
   pub driven : ℕ

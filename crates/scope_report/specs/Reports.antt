@@ -12,8 +12,8 @@ use Rattle.scope_report.specs.Setpoints.{driven_of, greatest_of, least_of, neigh
 use Rattle.scope_report.specs.declared.report.AxisReport.{AxisReport}
 use Rattle.scope_report.specs.declared.report.BlockReport.{BlockReport}
 
--- what is told of an axis by all its rows: how many are driven, the least and the greatest setpoint
--- of these, in how many rows it stands where it stood, and how far it went
+-- what is reported of an axis by all its rows: how many are driven, the least and the greatest
+-- setpoint of these, in how many rows it stands where it stood, and how far it went
 abbrev pub axis_report_of : List ℕ → List AxisRow → AxisReport
 axis_report_of name rows = record {
   name = name;
@@ -24,7 +24,8 @@ axis_report_of name rows = record {
   travel = travel_of (neighbours_of (setpoints_of rows));
 }
 
--- what is told of a block by all its replies: how many there are, and how many show Done and Error
+-- what is reported of a block by all its replies: how many there are, and how many show Done and
+-- Error
 abbrev pub block_report_of : List ℕ → List Outputs → BlockReport
 block_report_of name replies = record {
   name = name;
@@ -45,7 +46,7 @@ block_reports_from block [] es = []
 block_reports_from block (def ∷ defs) es =
     block_report_of def.name (replies_of block es) ∷ block_reports_from (suc block) defs es
 
--- what is told of each axis and of each block
+-- what is reported of each axis and of each block
 pub record ReportState : Type 0 where
   pub axes : List AxisReport
   pub blocks : List BlockReport

@@ -1,4 +1,4 @@
--- What is told of the setpoints of an axis. This project's profile.
+-- What is reported of the setpoints of an axis. This project's profile.
 use Rattle.std.specs.Prelude.{ℕ, ℤ, Option, Some, None, List, [], ◌∷◌, map, filter, count_by, ◌-ℤ◌, unsigned_abs}
 use Rattle.std.specs.List.{sum_by}
 use Rattle.std.specs.Int.{int_min, int_max}
@@ -31,7 +31,7 @@ least_of xs = pick_of int_min xs
 abbrev pub greatest_of : List ℤ → Option ℤ
 greatest_of xs = pick_of int_max xs
 
--- each number with the one behind it
+-- each number with the one after it
 abbrev pub pairs_from : ℤ → List ℤ → List (ℤ × ℤ)
 pairs_from x [] = []
 pairs_from x (y ∷ ys) = (x, y) ∷ pairs_from y ys

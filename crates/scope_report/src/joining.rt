@@ -1,4 +1,4 @@
-// Pieces are put together, axis by axis and block by block.
+// Shares are put together, axis by axis and block by block.
 
 ghost use Rattle.std.specs.Prelude.{◌≡◌, length};
 ghost use Rattle.scope_report.specs.Joining.{CanMerge, CanSum, Merges, Sums};
@@ -6,7 +6,7 @@ ghost use Rattle.scope_report.specs.Joining.{CanMerge, CanSum, Merges, Sums};
 use crate::counts::{Counts, sum};
 use crate::part::Part;
 
-/// Puts the parts of others behind these.
+/// Puts the parts of others after these.
 pub fn join_parts(parts: &mut [Part], others: &[Part])
     requires len { length others.now ≡ length parts.old }
     requires few { CanMerge parts.old others.now }

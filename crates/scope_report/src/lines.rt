@@ -50,7 +50,7 @@ fn axis_line(alloc: Global, axis: &AxisReport) -> Result<Vec<u8>, AllocError>
     let mut greatest = Buffer::new();
     let mut still = Buffer::new();
     let mut travel = Buffer::new();
-    let pieces: [&[u8]; 13] = [
+    let shares: [&[u8]; 13] = [
         b"axis ",
         axis.name.bytes(),
         b" driven ",
@@ -65,7 +65,7 @@ fn axis_line(alloc: Global, axis: &AxisReport) -> Result<Vec<u8>, AllocError>
         travel.format(axis.travel).as_bytes(),
         b"\n",
     ];
-    joined(alloc, &pieces)
+    joined(alloc, &shares)
 }
 
 // The line of a block.
@@ -76,7 +76,7 @@ fn block_line(alloc: Global, block: &BlockReport) -> Result<Vec<u8>, AllocError>
     let mut calls = Buffer::new();
     let mut done = Buffer::new();
     let mut errors = Buffer::new();
-    let pieces: [&[u8]; 9] = [
+    let shares: [&[u8]; 9] = [
         b"block ",
         block.name.bytes(),
         b" calls ",
@@ -87,16 +87,16 @@ fn block_line(alloc: Global, block: &BlockReport) -> Result<Vec<u8>, AllocError>
         errors.format(block.errors).as_bytes(),
         b"\n",
     ];
-    joined(alloc, &pieces)
+    joined(alloc, &shares)
 }
 
-// Texts behind each other.
-fn joined(alloc: Global, pieces: &[&[u8]]) -> Result<Vec<u8>, AllocError>
-    ensures { IfOk result (λ text. text.items ≡ flat_map (λ p. p.now) pieces.now) }
+// Texts after each other.
+fn joined(alloc: Global, shares: &[&[u8]]) -> Result<Vec<u8>, AllocError>
+    ensures { IfOk result (λ text. text.items ≡ flat_map (λ p. p.now) shares.now) }
 {
     let mut text = Vec::new(alloc);
-    for piece in pieces {
-        text.extend_from_slice(piece)?;
+    for share in shares {
+        text.extend_from_slice(share)?;
     }
     Ok(text)
 }

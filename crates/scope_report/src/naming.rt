@@ -1,4 +1,4 @@
-// What is told of a trace, with the names of its axes and blocks.
+// What is reported of a trace, with the names of its axes and blocks.
 
 ghost use Rattle.std.specs.Prelude.{◌≡◌, IfOk, List, length};
 ghost use Rattle.fb_outputs.specs.declared.outputs.Outputs.{Outputs};
@@ -6,23 +6,23 @@ ghost use Rattle.axis_state.specs.declared.definition.AxisRow.{AxisRow};
 ghost use Rattle.motion_history.specs.Entries.{Entry};
 ghost use Rattle.scope_report.specs.Counting.{counts_of};
 ghost use Rattle.scope_report.specs.Merging.{part_of};
-ghost use Rattle.scope_report.specs.Pieces.{AreCounts, AreParts, IsPieceOf};
+ghost use Rattle.scope_report.specs.Shares.{AreCounts, AreParts, IsShareOf};
 ghost use Rattle.scope_report.specs.Reports as spec;
 ghost use Rattle.trace_text.specs.TraceState.{entries_of};
 
 use crate::counts::Counts;
 use crate::part::Part;
-use crate::piece::Piece;
 use crate::report::{AxisReport, BlockReport, Report};
+use crate::share::Share;
 use axis_state::{AxisDef, Name};
 use motion_history::BlockDef;
 use out_of_memory::OutOfMemory;
 use std::alloc::Global;
 use trace_text::Trace;
 
-/// The report of a trace, by what is told of all its entries.
-pub fn name_all(alloc: Global, trace: &Trace, whole: &Piece) -> Result<Report, OutOfMemory>
-    requires { IsPieceOf trace.now.config (entries_of trace.now) whole.now }
+/// The report of a trace, by what is reported of all its entries.
+pub fn name_all(alloc: Global, trace: &Trace, whole: &Share) -> Result<Report, OutOfMemory>
+    requires { IsShareOf trace.now.config (entries_of trace.now) whole.now }
     ensures { IfOk result (λ report. report ≡ spec.report_of trace.now) }
 {
     let config = trace.config();
@@ -32,7 +32,7 @@ pub fn name_all(alloc: Global, trace: &Trace, whole: &Piece) -> Result<Report, O
     })
 }
 
-// The reports of axes, by what is told of each.
+// The reports of axes, by what is reported of each.
 fn name_axes(
     alloc: Global,
     axes: &[AxisDef],
@@ -51,7 +51,7 @@ fn name_axes(
     Ok(reports)
 }
 
-// The reports of blocks, by what is told of each.
+// The reports of blocks, by what is reported of each.
 fn name_blocks(
     alloc: Global,
     blocks: &[BlockDef],

@@ -1,4 +1,4 @@
-// What is told of a part of an axis's rows.
+// What is reported of a part of an axis's rows.
 
 ghost use Rattle.std.specs.Prelude.{◌≡◌, ◌+◌, ◌<◌, ◌≤◌, ◌^◌, [], ◌∷◌, None};
 ghost use Rattle.std.specs.Int.{int_min, int_max};
@@ -8,7 +8,7 @@ ghost use Rattle.scope_report.specs.Setpoints.{picked, still_of, travel_of};
 use axis_state::AxisRow;
 use std::marker::Model;
 
-/// What is told of some rows of an axis, and what joins it to those behind them.
+/// What is reported of some rows of an axis, and what joins it to those after them.
 #[derive(Drop)]
 pub struct Part {
     pub(crate) rows: u64,
@@ -67,7 +67,7 @@ impl Part {
         }
     }
 
-    /// Of these rows, and those of another part behind them.
+    /// Of these rows, and those of another part after them.
     pub fn with(&self, other: &Part) -> Part
         requires { self.now.rows + other.now.rows < 2 ^ 64 }
         ensures { result ≡ spec.merged self.now other.now }

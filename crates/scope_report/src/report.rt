@@ -1,11 +1,11 @@
-// What a scope report tells.
+// What a scope report reports.
 
 ghost use Rattle.std.specs.Prelude.{◌≡◌};
 
 use axis_state::Name;
 use std::marker::Model;
 
-/// What is told of an axis, over all rows of a trace.
+/// What is reported of an axis, over all rows of a trace.
 #[derive(Clone, Copy)]
 pub struct AxisReport {
     pub name: Name,
@@ -21,7 +21,7 @@ pub struct AxisReport {
     pub travel: u128,
 }
 
-/// What is told of a block, over all calls of a trace.
+/// What is reported of a block, over all calls of a trace.
 #[derive(Clone, Copy)]
 pub struct BlockReport {
     pub name: Name,
@@ -32,7 +32,7 @@ pub struct BlockReport {
     pub errors: u64,
 }
 
-/// What is told of each axis and of each block, in the order of the trace.
+/// What is reported of each axis and of each block, in the order of the trace.
 #[derive(Drop)]
 pub struct Report {
     pub(crate) axes: Vec<AxisReport>,
@@ -48,14 +48,14 @@ impl Model for Report {
 }
 
 impl Report {
-    /// What is told of each axis.
+    /// What is reported of each axis.
     pub fn axes(&self) -> &[AxisReport]
         ensures { result.now ≡ self.now.axes }
     {
         self.axes.as_slice()
     }
 
-    /// What is told of each block.
+    /// What is reported of each block.
     pub fn blocks(&self) -> &[BlockReport]
         ensures { result.now ≡ self.now.blocks }
     {

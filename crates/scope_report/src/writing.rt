@@ -12,7 +12,7 @@ use trace_text::{TraceFault, parts_are_beginnings};
 
 /// Writes the lines of a report: one for each axis and then one for each block, in the order of the
 /// trace. A fault of the output comes only where its count of faults rose; then the first bytes
-/// are written. For want of memory nothing is written.
+/// are written. For out of memory nothing is written.
 pub fn write_report<K: Sink>(alloc: Global, report: &Report, out: &mut K) -> Result<(), TraceFault>
     ensures { Writes (record { count = K.count out.old; told = K.told out.old })
         (record { count = K.count out.new; told = K.told out.new })

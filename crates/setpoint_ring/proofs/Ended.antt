@@ -1,4 +1,4 @@
--- What goes to the drive: outputs, and the end behind the last of them.
+-- What goes to the drive: outputs, and the end after the last of them.
 use Rattle.std.proofs.Common.{arith, ◌≡◌, ℕ, suc, ◌+◌, ◌-◌, ◌≤◌, ◌<◌, Bool, true, false, List, [], ◌∷◌, ◌++◌, length, length-append, append-nil, Option, Some, None, IfNone, refl, sym, ap, ◌∙◌, subst}
 use Rattle.std.specs.Prelude.{if◌then◌else◌}
 use mathlib.Core.List.{IsPrefix}
@@ -9,7 +9,7 @@ use Rattle.setpoint_ring.specs.declared.numbered.ToDrive.TheVariants.{Output, En
 use Rattle.setpoint_ring.specs.declared.outputs.Next.TheVariants as next
 use Rattle.setpoint_ring.specs.Order.{EndsLast, has_end, next_of, outputs_of}
 
--- behind outputs without an end go the others on
+-- after outputs without an end go the others on
 pub outputs_more : (xs ys : List ToDrive) → has_end xs ≡ false → outputs_of (xs ++ ys) ≡ outputs_of xs ++ outputs_of ys
 outputs_more [] ys going = refl
 outputs_more (Output x ∷ xs) ys going = ap (λ zs. x.item ∷ zs) (outputs_more xs ys going)
@@ -20,7 +20,7 @@ has_end_more [] ys going = refl
 has_end_more (Output x ∷ xs) ys going = has_end_more xs ys going
 has_end_more (End ∷ xs) ys going = absurd (cc)
 
--- what is put behind outputs without an end stands last
+-- what is put after outputs without an end stands last
 pub put_last : (xs : List ToDrive) (y : ToDrive) → has_end xs ≡ false → EndsLast (xs ++ y ∷ [])
 put_last [] (Output y) going = tt
 put_last [] End going = refl

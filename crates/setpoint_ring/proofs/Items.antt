@@ -22,7 +22,7 @@ module _ {T : Type 0} where
   last_more o [] x = refl
   last_more o (y ∷ xs) x = last_more (Some y) xs x
 
-  -- the last of a list is what was put behind the others
+  -- the last of a list is what was put after the others
   pub last_put : (before after : List (Numbered T)) (x : Numbered T) → after ≡ before ++ x ∷ [] → Some x.item ≡ last_or None (items_of after)
   last_put before after x e =
       sym (ap (λ xs. last_or None (items_of xs)) e ∙ ap (last_or None) (items_more before (x ∷ [])) ∙ last_more None (items_of before) x.item)

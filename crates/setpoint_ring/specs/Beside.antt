@@ -19,7 +19,7 @@ new_kernel_side r = record { ring = r; sent = []; taken = []; waiting = []; free
 abbrev pub new_drive_side : Ring → DriveSide
 new_drive_side r = record { ring = r; sent = []; taken = []; waiting = []; free = r.room; ended = false }
 
--- the two ends of one new ring with so many slots each way
+-- the two ends of one new ring with this many slots each way
 pub record AreNew (room : ℕ) (kernel : KernelSide) (drive : DriveSide) : Type 0 where
   pub room_is : kernel.ring.room ≡ room
   pub kernel_is : kernel ≡ new_kernel_side kernel.ring

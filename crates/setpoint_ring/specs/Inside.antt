@@ -43,7 +43,7 @@ drive_side_of d = record {
   ended = has_end (known_items d.outputs);
 }
 
--- the kernel's end counts what it sent and took, knows whether it sent the end, behind which nothing
+-- the kernel's end counts what it sent and took, knows whether it sent the end, after which nothing
 -- stands, and keeps a slot for it
 pub record IsKernelEnd (k : kernel.Inside) : Type 0 where
   pub sent_is : k.sent ≡ length (outputs_of (sent k.outputs))

@@ -19,14 +19,14 @@ has_end [] = false
 has_end (Output output ∷ more) = has_end more
 has_end (End ∷ more) = true
 
--- nothing stands behind the end
+-- nothing stands after the end
 abbrev pub EndsLast : List ToDrive → Type 0
 EndsLast [] = Unit {0}
 EndsLast (Output output ∷ more) = EndsLast more
 EndsLast (End ∷ more) = more ≡ []
 
 -- what goes to the drive next: an output is numbered next after those before it, which are numbered
--- from 1 without a gap, up to 200,000; nothing goes there behind the end
+-- from 1 without a gap, up to 200,000; nothing goes there after the end
 abbrev pub IsNextOutput : List ToDrive → ToDrive → Type 0
 IsNextOutput before (Output output) =
     (has_end before ≡ false) × (output.number ≡ length (outputs_of before) + 1) ×

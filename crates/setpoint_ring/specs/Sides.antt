@@ -5,14 +5,14 @@ use denote.RawPtr.{Ptr}
 use Rattle.cia402_machine.specs.declared.drive.DriveIn.{DriveIn}
 use Rattle.cia402_machine.specs.declared.drive.DriveOut.{DriveOut}
 
--- what tells the items' way from any other: where they lie, and under which names in proofs
+-- what distinguishes the items' way from any other: where they lie, and under which names in proofs
 pub record Way : Type 0 where
   pub words : Ptr
   pub slots : Ptr
   pub names : ℕ × (ℕ × ℕ)
   pub heap : Global
 
--- a drive's ring: outputs go one way and answers the other, each with so many slots
+-- a drive's ring: outputs go one way and answers the other, each with this many slots
 pub record Ring : Type 0 where
   pub outputs : Way
   pub answers : Way
@@ -43,7 +43,7 @@ pub record DriveSide : Type 0 where
   pub waiting : List DriveOut
   -- how many slots it knows to be free for answers
   pub free : ℕ
-  -- whether it saw the end in the ring, behind the outputs that wait
+  -- whether it saw the end in the ring, after the outputs that wait
   pub ended : Bool
 
 -- the drive saw the end, and no output waits before it

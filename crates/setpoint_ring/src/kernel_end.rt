@@ -72,7 +72,7 @@ impl KernelEnd {
         Some(answer)
     }
 
-    /// Sends the end behind the last output, for which a slot is always kept.
+    /// Sends the end after the last output, for which a slot is always kept.
     pub fn end(&mut self)
         ensures { self.new ≡ record self.old { ended = true } }
     {

@@ -14,14 +14,14 @@ pub struct Numbered<T> {
     pub item: T,
 }
 
-/// What goes to the drive: the outputs, and behind the last of them the end.
+/// What goes to the drive: the outputs, and after the last of them the end.
 #[derive(Clone, Copy, Debug, PartialEq, Eq)]
 pub enum ToDrive {
     Output(Numbered<DriveOut>),
     End,
 }
 
-/// Outputs are numbered from 1 without a gap, up to 200,000, and nothing comes behind the end.
+/// Outputs are numbered from 1 without a gap, up to 200,000, and nothing comes after the end.
 pub struct OutputsInOrder;
 
 impl Protocol<ToDrive> for OutputsInOrder {

@@ -1,4 +1,4 @@
--- Parts one after another, and one more behind them.
+-- Parts one after another, and one more after them.
 use Rattle.std.proofs.Common.{◌≡◌, Result, Ok, Err, OnOk, List, [], ◌∷◌, ◌++◌, map, ap, sym, ◌∙◌, append_assoc, append-nil}
 use Rattle.std.specs.List.{flat_map}
 use Rattle.std.proofs.lemmas.List.Concat.{flat_map-append}
@@ -9,11 +9,11 @@ pub all_of_push : {X : Type 0} (f : X → Parts) (xs : List X) (x : X) → all_o
 all_of_push f [] x = append-nil (f x)
 all_of_push f (y ∷ ys) x = ap (λ l. f y ++ l) (all_of_push f ys x) ∙ sym (append_assoc (f y) (all_of (map f ys)) (f x))
 
--- the same behind other parts, where the longer list has its own name
+-- the same after other parts, where the longer list has its own name
 pub pushed : {X : Type 0} (f : X → Parts) (front : Parts) (xs ys : List X) (x : X) → ys ≡ xs ++ x ∷ [] → front ++ all_of (map f ys) ≡ (front ++ all_of (map f xs)) ++ f x
 pushed f front xs ys x is = ap (λ l. front ++ all_of (map f l)) is ∙ ap (λ l. front ++ l) (all_of_push f xs x) ∙ sym (append_assoc front (all_of (map f xs)) (f x))
 
--- what an answer that is Ok tells, tells what follows
+-- what an answer that is Ok gives, says what follows
 pub on_ok_then : {A E : Type 0} (r : Result A E) (P Q : Type 0) → (P → Q) → OnOk r P → OnOk r Q
 on_ok_then (Ok x) P Q then_so h = then_so h
 on_ok_then (Err e) P Q then_so h = tt

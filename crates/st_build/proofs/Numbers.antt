@@ -1,4 +1,4 @@
--- Numbers from one on, behind each other.
+-- Numbers from one on, after each other.
 use Rattle.std.proofs.Common.{◌≡◌, ℕ, zero, suc, ◌+◌, length, List, [], ◌∷◌, ◌++◌, refl, ap, sym, ◌∙◌, arith}
 use Rattle.st_parts.specs.Parts.{numbers_from}
 

@@ -1,5 +1,5 @@
--- Chains: operands of one level of the grammar, joined from the left. IEC 61131-3, "Expressions"; which
--- operators have a level of their own is this project's grammar in docs/formats.md.
+-- Chains: operands of one level of the grammar, joined from the left. IEC 61131-3, "Expressions";
+-- which operators have a level of their own is this project's grammar in docs/formats.md.
 use Rattle.std.specs.Prelude.{◌≡◌, Bool, true, false, if◌then◌else◌, Option, List, [], ◌∷◌, ◌++◌, ◌-◌, length, slice_get}
 use Rattle.std.specs.Option.{option_map_or}
 use Rattle.st_tree.specs.declared.expression.Expr.{Expr}
@@ -40,8 +40,8 @@ first_of e = first_in e (out-Expr e)
 abbrev pub last_of : List Term → Option Term
 last_of terms = slice_get terms (length terms - 1)
 
--- whether an operand is a chain that goes on with an operator: that of its last term is of one level
--- with it
+-- whether an operand is a chain that goes on with an operator: that of its last term is of one
+-- level with it
 abbrev pub goes_on : Expr → Operator → Bool
 goes_on e op = option_map_or (λ (t : Term). are_of_one_level t.operator op) (last_of (terms_of e)) false
 

@@ -1,7 +1,7 @@
 //! Trees of programs in Structured Text from the parts that they spell: the second pass of a
 //! reader, which comes where the first found no rule broken. What it makes spells what it was
-//! given. It stands on the trees of `st_tree` and the parts of `st_parts`. Begin with `program`, then
-//! `statement`, then `expression`.
+//! given. It stands on the trees of `st_tree` and the parts of `st_parts`. Begin with `program`,
+//! then `statement`, then `expression`.
 #![tactic(auto)]
 
 mod cursor;

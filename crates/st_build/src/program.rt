@@ -63,7 +63,7 @@ fn variables_at(
     Ok(variables)
 }
 
-// So many numbers from this on.
+// This many numbers from this on.
 #[tactic(auto, using(crate::proofs::Numbers::length_numbers))]
 fn numbers_from(alloc: Global, first: usize, count: u16) -> Result<Vec<u16>, OutOfMemory>
     ensures numbered { IfOk result (λ v. v.items ≡ spec.numbers_from first (length v.items)) }
@@ -79,7 +79,7 @@ fn numbers_from(alloc: Global, first: usize, count: u16) -> Result<Vec<u16>, Out
     Ok(numbers)
 }
 
-// A number so many behind this.
+// A number this many after this.
 fn number_behind(first: usize, behind: u16) -> Option<u16>
     ensures { IfSome result (λ n. n ≡ first + behind) }
 {
@@ -90,7 +90,7 @@ fn number_behind(first: usize, behind: u16) -> Option<u16>
     Some(number as u16)
 }
 
-// How many blocks there are behind a task.
+// How many blocks there are after a task.
 fn blocks_behind(blocks: usize, task: &Task) -> Option<usize>
     ensures { IfSome result (λ n. n ≡ blocks + length (spec.blocks_of task.now)) }
 {

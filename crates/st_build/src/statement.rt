@@ -57,7 +57,7 @@ fn all_given_at(alloc: Global, parts: &[Part], at: &mut usize) -> Result<Vec<Giv
     Err(OutOfMemory)
 }
 
-// A call behind its value for `execute`.
+// A call after its value for `execute`.
 fn call_at(
     alloc: Global,
     parts: &[Part],
@@ -132,7 +132,7 @@ fn statement_at(
     }
 }
 
-// An `IF` behind its condition.
+// An `IF` after its condition.
 #[cycle(statement)]
 fn if_at(
     alloc: Global,
@@ -156,7 +156,7 @@ fn if_at(
     })
 }
 
-// A `CASE` behind its selector.
+// A `CASE` after its selector.
 #[cycle(statement)]
 fn case_at(
     alloc: Global,

@@ -28,7 +28,7 @@ at q = is_at (λ (k : Key). slice_cmp nat_cmp q k.items)
 abbrev pub order : Key → Key → Ordering
 order x y = slice_cmp nat_cmp x.items y.items
 
--- what a name has after an entry was put before others, in place of one, or behind one
+-- what a name has after an entry was put before others, in place of one, or after one
 put : {X : Type 0} (q : List ℕ) (k : Key) (v : X) (e : Key × X) (es more : List (Key × X)) (o : Ordering) → order k e.0 ≡ o →
     lookup (at q) more ≡ cond (bytes_eq q k.items) (Some v) (lookup (at q) es) →
     lookup (at q) (match_ordering o ((k, v) ∷ e ∷ es) ((e.0, v) ∷ es) (e ∷ more)) ≡ cond (bytes_eq q k.items) (Some v) (lookup (at q) (e ∷ es))

@@ -27,7 +27,7 @@ no_tokens : (line behind : ℕ) → tokens_from line behind [] ≡ []
 no_tokens line zero = refl
 no_tokens line (suc n) = refl
 
--- behind the last byte the text's end is taken
+-- after the last byte the text's end is taken
 pub finished : (s t : Stand) (line behind last : ℕ) (left text : List ℕ) → left ≡ [] →
     run s (tokens_from line behind left) ≡ run t (tokens_from 1 0 text) → last_line_from line last left ≡ last_line_from 1 1 text →
     step s (record { token = End; line = last }) ≡ run t (tokens_of text)
@@ -40,7 +40,7 @@ finished s t line behind last left text none leads ends =
     ap (λ n. step (run t (tokens_from 1 0 text)) (record { token = End; line = n })) end ∙
     sym (run_append t (tokens_from 1 0 text) (record { token = End; line = last_line_from 1 1 text } ∷ []))
 
--- what an answer that is Ok tells, tells what follows
+-- what an answer that is Ok gives, says what follows
 pub on_ok_then : {A E : Type 0} (r : Result A E) (P Q : Type 0) → (P → Q) → OnOk r P → OnOk r Q
 on_ok_then (Ok x) P Q then_so h = then_so h
 on_ok_then (Err e) P Q then_so h = tt

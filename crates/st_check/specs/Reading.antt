@@ -35,7 +35,7 @@ refused p items c = record {
   stopped = true;
 }
 
--- what a line of the table does with a token, where these items are expected behind the line's, and
+-- what a line of the table does with a token, where these items are expected after the line's, and
 -- where they lead to from what is known
 abbrev pub led_by : Line → Placed → List Item → Checked → (Checked → Stand) → Stand
 led_by (takes note more) p items c next = record {
@@ -105,8 +105,8 @@ before setup = record { expected = []; checked = opening_checked setup; stopped 
 abbrev pub opening : Setup → Stand
 opening setup = record (before setup) { expected = File ∷ [] }
 
--- what is read: the machine with the tasks and their blocks; and the program, told by the names of
--- its tasks and variables and by its parts
+-- what is read: the machine with the tasks and their blocks; and the program, reported by the names
+-- of its tasks and variables and by its parts
 pub record Outcome : Type 0 where
   pub setup : Setup
   pub names : List (List ℕ)
@@ -121,7 +121,7 @@ outcome_by (Some f) c = Err f
 unfoldable pub outcome_of : Checked → Result Outcome LineRefused
 outcome_of c = outcome_by c.fault c
 
--- a rule is told by the letter S
+-- a rule is reported by the letter S
 abbrev pub letter : ℕ
 letter = 83
 

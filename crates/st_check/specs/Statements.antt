@@ -38,7 +38,8 @@ statement line name c =
 unfoldable pub branches : ℕ → Checked → Checked
 branches line c = opens line (begins line None c)
 
--- S4 is told where a type of the statement is wrong and no name is, in the statement's first line
+-- S4 is reported where a type of the statement is wrong and no name is, in the statement's first
+-- line
 unfoldable pub typed : Checked → Checked
 typed c =
     broken_unless (not c.statement.is_mistyped || c.statement.is_lost) c.statement.line 4 c
@@ -49,7 +50,7 @@ is_variable (Some (sort.Variable k t)) = true
 is_variable (Some (sort.Block b)) = false
 is_variable None = false
 
--- `:=` behind a name: it is a variable's
+-- `:=` after a name: it is a variable's
 unfoldable pub sets : Checked → Checked
 sets c = lost_unless (is_variable c.statement.target) c.statement.line c
 
@@ -68,7 +69,7 @@ callee_of (Some (sort.Block b)) = Some b
 callee_of (Some (sort.Variable k t)) = None
 callee_of None = None
 
--- `(` behind a name: it is a block's
+-- `(` after a name: it is a block's
 unfoldable pub calls : Checked → Checked
 calls c =
     record (lost_unless (is_some (callee_of c.statement.target)) c.statement.line c) {
@@ -84,7 +85,7 @@ number_of (Some b) = b.number
 unfoldable pub executed : Checked → Checked
 executed c = with_part (part.Execute (number_of c.call.callee)) (taken type.Bool c)
 
--- a key that the block takes stands in its order behind those before
+-- a key that the block takes stands in its order after those before
 abbrev pub with_slot : ℕ → Slot → Checked → Checked
 with_slot line s c =
     record (broken_unless (nat_le c.call.next (rank_of s)) line 5 c) {

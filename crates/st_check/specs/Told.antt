@@ -1,4 +1,4 @@
--- What a call tells of a text that it read. This project's profile.
+-- What a call says of a text that it read. This project's profile.
 use Rattle.std.specs.Prelude.{◌≡◌, Result, Ok, Err}
 use Rattle.motion_history.specs.Setup.{Setup}
 use Rattle.motion_history.specs.declared.refused.TextFault.{TextFault}

@@ -34,7 +34,7 @@ fn number_of(callee: Option<Callee>) -> u16
 }
 
 impl Checker {
-    /// `(` behind a name.
+    /// `(` after a name.
     #[tactic(auto, unfolding(crate::specs::Statements::calls))]
     pub fn calls(&mut self)
         ensures { self.new ≡ spec.calls self.old }

@@ -58,7 +58,7 @@ impl Checker {
         self.opens(line);
     }
 
-    /// A wrong type of the statement is told.
+    /// A wrong type of the statement is reported.
     #[tactic(auto, unfolding(crate::specs::Statements::typed))]
     pub fn typed(&mut self)
         ensures { self.new ≡ spec.typed self.old }
@@ -68,7 +68,7 @@ impl Checker {
         self.need(fits, line, 4);
     }
 
-    /// `:=` behind a name.
+    /// `:=` after a name.
     #[tactic(auto, unfolding(crate::specs::Statements::sets))]
     pub fn sets(&mut self)
         ensures { self.new ≡ spec.sets self.old }

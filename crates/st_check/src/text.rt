@@ -59,7 +59,7 @@ fn machine_of(reader: Reader) -> Builder {
     machine
 }
 
-// What a reader tells at the end of its text.
+// What a reader gives at the end of its text.
 #[tactic(auto, unfolding(crate::specs::Reading::outcome_of))]
 fn answer_of(reader: Reader) -> (Builder, Result<Told, TextFault>)
     ensures { TellsBy (refused_by spec.letter (spec.outcome_of reader.checked))

@@ -1,4 +1,4 @@
-// Reading the tokens of a text, piece after piece.
+// Reading the tokens of a text, lexeme after lexeme.
 
 ghost use Rattle.std.specs.Prelude.{◌≡◌, ◌≤◌, ◌<◌, ◌+◌, ◌^◌, List, IfOk, OnOk, drop, length};
 ghost use Rattle.st_check.specs.Reading as spec;
@@ -7,9 +7,9 @@ ghost use Rattle.st_tokens.specs.Tokens.{Placed};
 
 use crate::reader::Reader;
 use out_of_memory::OutOfMemory;
-use st_tokens::{Token, piece_at};
+use st_tokens::{Token, lexeme_at};
 
-/// Where a reader walks: the line, that of the byte before, and how many bytes of the piece before
+/// Where a reader walks: the line, that of the byte before, and how many bytes of the lexeme before
 /// are left.
 #[derive(Clone, Copy)]
 struct Place {
@@ -18,7 +18,7 @@ struct Place {
     behind: usize,
 }
 
-// The line behind a byte.
+// The line after a byte.
 fn line_behind(line: u64, byte: u8) -> u64
     requires { line + 1 < 2 ^ 64 }
     ensures behind { result ≡ tokens.line_behind line byte }
@@ -27,8 +27,8 @@ fn line_behind(line: u64, byte: u8) -> u64
     if byte == b'\n' { line + 1 } else { line }
 }
 
-// Takes the token of a piece in this line, where it has one.
-fn take_piece(reader: &mut Reader, token: Option<Token>, line: u64) -> Result<(), OutOfMemory>
+// Takes the token of a lexeme in this line, where it has one.
+fn take_lexeme(reader: &mut Reader, token: Option<Token>, line: u64) -> Result<(), OutOfMemory>
     ensures { OnOk result ((more : List Placed) →
         spec.run reader.new more ≡ spec.run reader.old (tokens.with_token line token more)) }
 {
@@ -57,16 +57,16 @@ fn take_byte(reader: &mut Reader, place: Place, rest: &[u8]) -> Result<Place, Ou
             behind: place.behind - 1,
         });
     }
-    let piece = piece_at(rest);
-    take_piece(reader, piece.token, place.line)?;
+    let lexeme = lexeme_at(rest);
+    take_lexeme(reader, lexeme.token, place.line)?;
     Ok(Place {
         line,
         last: place.line,
-        behind: piece.behind,
+        behind: lexeme.behind,
     })
 }
 
-// What stands behind the first byte.
+// What stands after the first byte.
 fn behind_first(rest: &[u8]) -> &[u8]
     requires some { 1 ≤ length rest.now }
     ensures behind { result.now ≡ drop 1 rest.now }

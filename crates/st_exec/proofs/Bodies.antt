@@ -21,7 +21,7 @@ in_order_follows us ts =
     subst (λ l. Follows us (all_of (map stmt_code l)) (in_order (map (scan us) l))) (firsts us ts)
     (all_run us (map (λ t. (t, stmt_follows us t)) ts))
 
--- nothing comes behind the last statement
+-- nothing comes after the last statement
 then_over : (us : ℕ) (c : Course) → then_do c (goes_on us []) ≡ c
 then_over us (Over s) = refl
 then_over us (Waits calls) = refl

@@ -54,7 +54,7 @@ thousandths-small z small = rw (unsigned_abs-mul z (pos 1000000)) (omega (arith,
 dint-small : (z : ℤ) → IsDint z → IsSmall z
 dint-small z small = le_trans small (lit≤ tt)
 
--- a size that is spread over so many parts
+-- a size that is spread over this many parts
 spread-small : (b : Bool) (u c m : ℕ) → u ≤ 10 ^ 18 → c ≤ m → IsSmall (with_sign b (u * c / m))
 spread-small b u c m few less =
     let product : u * c ≤ m * 10 ^ 18 =

@@ -9,7 +9,7 @@ use Rattle.st_exec.specs.declared.instruction.Act.TheVariants.{Pass}
 use Rattle.st_exec.specs.declared.instruction.Instruction.{Instruction}
 use Rattle.st_exec.specs.declared.instruction.Instruction.TheVariants.{Do}
 
--- so many instructions are passed
+-- this many instructions are passed
 pub passed : (us : ℕ) (a rest : Code) (stack : List ℤ) (i : Inputs) (s : Stand) →
     run us (a ++ rest) (length a) stack i s ≡ run us rest 0 stack i s
 passed us [] rest stack i s = refl
@@ -24,7 +24,7 @@ passed_one us (first ∷ a) one rest stack i s =
     let next : length (first ∷ a) + 1 ≡ suc (length a + 1) = omega arith in
     ap (λ n. run us (first ∷ a ++ one ∷ rest) n stack i s) next ∙ passed_one us a one rest stack i s
 
--- a jump over code leads behind it
+-- a jump over code leads after it
 pub jumped : (us : ℕ) (a rest : Code) (stack : List ℤ) (i : Inputs) (s : Stand) →
     run us (Do (Pass (length a)) ∷ a ++ rest) 0 stack i s ≡ run us rest 0 stack i s
 jumped us a rest stack i s = passed us a rest stack i s
@@ -43,13 +43,13 @@ then_twice (Over s) f g = refl
 then_twice (Waits calls) f g = refl
 then_twice Missing f g = refl
 
--- to go on behind a call
+-- to go on after a call
 pub asked_then : (call : Asked) (s : Stand) (left : List Outputs) (go : Stand → Course) →
     then_do (asked call s left Over) go ≡ asked call s left go
 asked_then call s [] go = refl
 asked_then call s (reply ∷ left) go = refl
 
--- to go on behind a choice
+-- to go on after a choice
 pub then_choice : (b : Bool) (c d : Course) (go : Stand → Course) →
     then_do (if b then c else d) go ≡ (if b then then_do c go else then_do d go)
 then_choice true c d go = refl

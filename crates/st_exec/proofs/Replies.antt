@@ -17,7 +17,7 @@ use Rattle.st_exec.specs.declared.machine.Machine.{Machine}
 use Rattle.st_exec.specs.declared.task.StTask.{StTask}
 use Rattle.st_exec.proofs.Walking.{drop_at}
 
--- behind a call that got its reply, the course is that of what is left
+-- after a call that got its reply, the course is that of what is left
 at_reply : (us : ℕ) (code : Code) (place k : ℕ) (m n : Machine) (calls : List Asked) (reply : Outputs)
     (more : List Outputs) → slice_get code place ≡ Some (Ask k) → n.stack ≡ m.stack →
     n.inputs ≡ inputs_off → n.vars ≡ m.vars → n.last.items ≡ slice_set m.last.items k reply →

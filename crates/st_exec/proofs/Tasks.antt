@@ -35,7 +35,7 @@ program_has : (c : Compiled) (n : ℕ) → IsSound c → n < length c.tasks → 
 unfolding program_at
 program_has c n sound there = all_at (HasOperands c.us) c.tasks n no_program sound.operands there
 
--- nothing is left behind a code
+-- nothing is left over a code
 drop_past : (code : Code) (place : ℕ) → length code ≤ place → drop place code ≡ []
 drop_past code place past = grind (arith, common_steps)
 
@@ -81,7 +81,7 @@ at_ask us code place k m calls there =
     (record { calls = calls; vars = m.vars.items; last = m.last.items; left = [] }))
     (drop_at code place (Ask k) there)
 
--- behind a code the course is over
+-- after a code the course is over
 at_end : (us : ℕ) (code : Code) (place : ℕ) (m : Machine) (calls : List Asked) →
     length code ≤ place →
     from_place us code place m calls [] ≡
@@ -112,7 +112,7 @@ says_call c t u m p k r tree follows advances there is gives tree_is =
       asked = refl;
     })
 
--- the scan of a task that stands behind its code is over
+-- the scan of a task that stands after its code is over
 over : (c : Compiled) (t u : StTask) (m : Machine) (p : ℕ) (tree : Task) →
     Follows c t → Advances c.us (code_at c t) t.place t.machine p m → length (code_at c t) ≤ p →
     IsReset (record t { machine = m; place = p }) u → t.asked ≡ None →

@@ -32,7 +32,7 @@ drop_at xs n x there =
     let next : suc n ≡ n + 1 = omega arith in
     drop_from xs n x there ∙ ap (λ k. x ∷ drop k xs) next
 
--- what is left behind the instructions that are passed
+-- what is left over the instructions that are passed
 drop_behind : (code : Code) (place passed : ℕ) →
     drop (place + 1 + min passed (length code - (place + 1))) code ≡ drop passed (drop (place + 1) code)
 drop_behind code place passed = grind (arith, common_steps)
@@ -50,7 +50,7 @@ led_done us (Goes k stack i vars) passed m n code calls others left done last al
     rw (done.0, done.1, done.2, done.3, last) refl
 led_done us Lacks passed m n code calls others left done last all = absurd all
 
--- the course at an act, by what is left behind it
+-- the course at an act, by what is left over it
 at_act : (us : ℕ) (code : Code) (place : ℕ) (act : Act) (m : Machine) (calls : List Asked)
     (left : List Outputs) → slice_get code place ≡ Some (Do act) →
     from_place us code place m calls left ≡
@@ -63,7 +63,7 @@ at_act us code place act m calls left there =
     (record { calls = calls; vars = m.vars.items; last = m.last.items; left = left }))
     (drop_at code place (Do act) there)
 
--- the course behind an act, by the instructions that are passed
+-- the course after an act, by the instructions that are passed
 behind_act : (us : ℕ) (code : Code) (place passed : ℕ) (n : Machine) (calls : List Asked)
     (left : List Outputs) →
     from_place us code (place + 1 + min passed (length code - (place + 1))) n calls left ≡
@@ -76,7 +76,7 @@ behind_act us code place passed n calls left =
     (drop_behind code place passed) ∙
     sym (run_drop us passed (drop (place + 1) code) (stack_of n) n.inputs _)
 
--- behind an act the course is the same
+-- after an act the course is the same
 act_done : (us : ℕ) (code : Code) (place passed : ℕ) (act : Act) (m n : Machine) →
     slice_get code place ≡ Some (Do act) → Performs us act m passed n → MayRun us code place m →
     (calls : List Asked) (left : List Outputs) →
@@ -89,7 +89,7 @@ act_done us code place passed act m n there performs may calls left =
     (subst HasAll (at_act us code place act m may.calls [] there) may.operands) ∙
     sym (at_act us code place act m calls left there))
 
--- behind an act a run may go on
+-- after an act a run may go on
 pub may_go_on : (us : ℕ) (code : Code) (place passed stop : ℕ) (act : Act) (m n : Machine) →
     slice_get code place ≡ Some (Do act) → Performs us act m passed n → MayRun us code place m →
     stop ≡ place + 1 + min passed (length code - (place + 1)) → MayRun us code stop n
@@ -116,7 +116,7 @@ advances_on us code start place passed stop act first m n there performs may is 
   vars = performs.keeps.vars ∙ advances.vars;
 }
 
--- behind a code there is no instruction
+-- after a code there is no instruction
 pub past_code : (code : Code) (place : ℕ) → slice_get code place ≡ None → length code ≤ place
 past_code [] place none = omega arith
 past_code (x ∷ code) zero none = absurd (cc)

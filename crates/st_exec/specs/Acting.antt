@@ -28,7 +28,7 @@ pub record IsTaken (value : Option ℤ) (before after : Vec ℤ Global) : Type 0
   pub depth : vec_len after + length (option_to_list value) ≡ vec_len before
   pub room : vec_capacity after ≡ vec_capacity before
 
--- a machine has what an effect says, and so many instructions are passed
+-- a machine has what an effect says, and this many instructions are passed
 abbrev pub IsDone : Effect → ℕ → Machine → Type 0
 IsDone (Goes n stack i vars) passed m =
     (passed ≡ n) × (stack_of m ≡ stack) × (m.inputs ≡ i) × (m.vars.items ≡ vars)

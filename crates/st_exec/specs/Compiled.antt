@@ -24,7 +24,7 @@ pub record TaskProgram : Type 0 where
   pub start : List ℤ
   pub finished : Option ℕ
 
--- the codes of tasks, where a cycle has so many microseconds
+-- the codes of tasks, where a cycle has this many microseconds
 pub record Compiled : Type 0 where
   pub us : ℕ
   pub tasks : List TaskProgram

@@ -63,7 +63,7 @@ pub record IsAnswered (reply : Outputs) (before after : StTask) : Type 0 where
   pub got : after.got.items ≡ before.got.items ++ reply ∷ []
   pub asked : after.asked ≡ None
 
--- a task asks for the call behind those that were answered, for whose reply its scan waits
+-- a task asks for the call after those that were answered, for whose reply its scan waits
 pub record IsAsking (course : Course) (before : StTask) (call : Asked) (after : StTask) : Type 0 where
   pub calls : List Asked
   pub answered : length calls ≡ length before.got.items
@@ -95,7 +95,7 @@ Says finished course before ScanDone after =
 Says finished course before End after =
     IsOver course before after × (is_ended finished after.vars.items ≡ true)
 
--- a task has taken the reply of a block, and stands behind the call
+-- a task has taken the reply of a block, and stands after the call
 pub record HasReplied (reply : Outputs) (k : ℕ) (before after : StTask) : Type 0 where
   pub task : after.task ≡ before.task
   pub stack : after.machine.stack ≡ before.machine.stack

@@ -1,11 +1,11 @@
--- Code before other code: a jump that leads to where so many instructions are left.
+-- Code before other code: a jump that leads to where this many instructions are left.
 use Rattle.std.specs.Prelude.{ℕ, ◌+◌, ◌-◌, ℤ, List, [], ◌∷◌, ◌++◌, length}
 use Rattle.st_exec.specs.Code.{Code}
 use Rattle.st_exec.specs.declared.instruction.Act.TheVariants.{Pass, Take}
 use Rattle.st_exec.specs.declared.instruction.Use.TheVariants.{Match}
 use Rattle.st_exec.specs.declared.instruction.Instruction.TheVariants.{Do}
 
--- a side of a choice, and a jump to where so many of the instructions that come are left
+-- a side of a choice, and a jump to where this many of the instructions that come are left
 abbrev pub side_over : Code → ℕ → Code → Code
 side_over side left others = side ++ (Do (Pass (length others - left)) ∷ others)
 

@@ -13,8 +13,8 @@ use Rattle.st_exec.specs.declared.instruction.Instruction.TheVariants.{Do, Ask}
 use Rattle.st_exec.specs.Scan.{Course, Over, Missing, Stand, asked, begun, with_number}
 use Rattle.st_exec.specs.Values.{contrary_of, is_true, joined, negative_of, shown_of, variable_of}
 
--- what an act does: it passes so many instructions, and leaves a stack, inputs and variables; or an
--- operand is missing
+-- what an act does: it passes this many instructions, and leaves a stack, inputs and variables; or
+-- an operand is missing
 pub data Effect : Type 0 where
   Goes : ℕ → List ℤ → Inputs → List ℤ → Effect
   Lacks : Effect
@@ -49,12 +49,12 @@ effect_of us (Pass n) stack i vars last = Goes n stack i vars
 effect_of us (Take u) stack i vars last =
     with_top stack (λ a more. use_of us u a more i vars)
 
--- how a run goes on behind an effect
+-- how a run goes on after an effect
 abbrev pub led_on : Effect → Stand → (ℕ → List ℤ → Inputs → Stand → Course) → Course
 led_on (Goes n stack i vars) s go = go n stack i (record s { vars = vars })
 led_on Lacks s go = Missing
 
--- the course of a run of code: so many instructions are passed, then one after another is made
+-- the course of a run of code: this many instructions are passed, then one after another is made
 abbrev pub run : ℕ → List Instruction → ℕ → List ℤ → Inputs → Stand → Course
 run us [] n stack i s = Over s
 run us (first ∷ code) (suc n) stack i s = run us code n stack i s

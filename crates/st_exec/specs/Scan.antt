@@ -31,7 +31,7 @@ table_of z = if int_le (pos 0) z && int_le z (pos 65535) then unsigned_abs z els
 abbrev pub with_position : ℕ → ℤ → Inputs → Inputs
 with_position place z i = record i { positions = slice_set i.positions place z }
 
--- inputs with a DINT for a key, where a cycle has so many microseconds
+-- inputs with a DINT for a key, where a cycle has this many microseconds
 abbrev pub with_dint : ℕ → Key → ℤ → Inputs → Inputs
 with_dint us (Position place) z i = with_position place (thousandths z) i
 with_dint us Velocity z i = record i { velocity = per_cycle_of (thousandths z) us }
@@ -113,7 +113,7 @@ abbrev pub in_order : List (Stand → Course) → Stand → Course
 in_order [] s = Over s
 in_order (first ∷ more) s = then_do (first s) (in_order more)
 
--- the first branch with the value, or the statements behind ELSE
+-- the first branch with the value, or the statements after ELSE
 abbrev pub chosen : List (ℤ × (Stand → Course)) → (Stand → Course) → ℤ → Stand → Course
 chosen [] otherwise v s = otherwise s
 chosen (branch ∷ branches) otherwise v s =
@@ -139,7 +139,7 @@ scan_step us (Stmt-F.Case e branches otherwise) s =
 abbrev pub branch_step : Branch-F (Stand → Course) (ℤ × (Stand → Course)) → ℤ × (Stand → Course)
 branch_step b = (b.value, in_order b.body.items)
 
--- the scan of a statement, where a cycle has so many microseconds
+-- the scan of a statement, where a cycle has this many microseconds
 abbrev pub scan : ℕ → Stmt → Stand → Course
 scan us = fold-Stmt (Stand → Course) (ℤ × (Stand → Course)) (scan_step us) branch_step
 

@@ -138,8 +138,8 @@ fn codes_of(alloc: Global, tasks: &[Task]) -> Result<Vec<TaskCode>, OutOfMemory>
     Ok(codes)
 }
 
-/// The code of a program whose cycle is 100 to 100,000 microseconds long. What each task's code does
-/// is what its tree says (`StTask::next`).
+/// The code of a program whose cycle is 100 to 100,000 microseconds long. What each task's code
+/// does is what its tree says (`StTask::next`).
 pub fn compile(alloc: Global, program: &StProgram, cycle_us: u32) -> Result<StCode, OutOfMemory>
     requires { IsCycle cycle_us }
     ensures { IfOk result (λ c. c ≡ record {

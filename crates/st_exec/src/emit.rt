@@ -138,8 +138,8 @@ fn put_body(code: &mut CodeFromEnd, body: &[Stmt]) -> Result<(), OutOfMemory>
     Ok(())
 }
 
-// The code of a side of a choice, with a jump to where so many instructions are left; says how many
-// instructions these are.
+// The code of a side of a choice, with a jump to where this many instructions are left; says how
+// many instructions these are.
 #[cycle(statement)]
 fn put_side(code: &mut CodeFromEnd, body: &[Stmt], left: usize) -> Result<usize, OutOfMemory>
     requires { left ≤ length code.old }
@@ -153,7 +153,7 @@ fn put_side(code: &mut CodeFromEnd, body: &[Stmt], left: usize) -> Result<usize,
     Ok(code.len() - before)
 }
 
-// The codes of branches, with jumps to where so many instructions are left.
+// The codes of branches, with jumps to where this many instructions are left.
 #[cycle(statement)]
 fn put_branches(code: &mut CodeFromEnd, branches: &[Branch], left: usize) -> Result<(), OutOfMemory>
     requires { left ≤ length code.old }

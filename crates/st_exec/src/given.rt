@@ -42,7 +42,7 @@ pub fn begun(execute: bool) -> Inputs
     }
 }
 
-/// Gives an input the number of its key, where a cycle has so many microseconds.
+/// Gives an input the number of its key, where a cycle has this many microseconds.
 pub fn give_number(inputs: &mut Inputs, cycle_us: u32, key: Key, value: i32)
     requires { IsCycle cycle_us }
     ensures { inputs.new ≡ spec.with_number cycle_us key value inputs.old }

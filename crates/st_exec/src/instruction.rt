@@ -17,7 +17,7 @@ pub enum Act {
     Choose(BufferMode),
     /// Gives the inputs a master, by the number of its axis.
     Follow(u8),
-    /// Passes so many instructions.
+    /// Passes this many instructions.
     Pass(usize),
     /// Takes the value on top of the stack, and uses it.
     Take(Use),
@@ -38,9 +38,9 @@ pub enum Use {
     Begin,
     /// Gives it to an input.
     Give(Key),
-    /// Passes so many instructions where the truth doesn't hold.
+    /// Passes this many instructions where the truth doesn't hold.
     Unless(usize),
-    /// Puts it back where it isn't this value, and then passes so many instructions.
+    /// Puts it back where it isn't this value, and then passes this many instructions.
     Match { value: i32, passed: usize },
     /// Nothing.
     Forget,

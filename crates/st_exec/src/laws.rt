@@ -22,8 +22,8 @@ pub fn scans_have_their_operands()
         HasAll (scan_of us body vars last replies) }
 {}
 
-/// Each call that a scan of a program's task makes, whatever its variables and replies, is one of the
-/// machine of the program, where the machine has an axis; and its block is one of the task.
+/// Each call that a scan of a program's task makes, whatever its variables and replies, is one of
+/// the machine of the program, where the machine has an axis; and its block is one of the task.
 pub fn scans_call_the_machine()
     ensures { (s : Setup) → (tasks : List Task) → (us n : ℕ) → (task : Task) → IsCycle us →
         1 ≤ length s.axes → IsProgramOf s tasks → slice_get tasks n ≡ Some task →

@@ -1,6 +1,7 @@
-//! Structured Text tasks, run: what a scan of a task's tree is, the code that a tree is compiled to,
-//! and the machine that runs it and makes the calls of the scan, each once and in order. It stands on
-//! the trees of `st_tree` and on the units of `fixed_units`. Begin with specs/Scan.antt, then `task`.
+//! Structured Text tasks, run: what a scan of a task's tree is, the code that a tree is compiled
+//! to, and the machine that runs it and makes the calls of the scan, each once and in order. It
+//! stands on the trees of `st_tree` and on the units of `fixed_units`. Begin with specs/Scan.antt,
+//! then `task`.
 #![tactic(auto)]
 
 mod code;

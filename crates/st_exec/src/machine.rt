@@ -40,7 +40,8 @@ fn take(stack: &mut Vec<i32>) -> Option<i32>
 }
 
 impl Machine {
-    /// Makes an act, where a cycle has so many microseconds; says how many instructions it passes.
+    /// Makes an act, where a cycle has this many microseconds; says how many instructions it
+    /// passes.
     pub fn perform(&mut self, cycle_us: u32, act: Act) -> usize
         requires cycle { IsCycle cycle_us }
         requires room { vec_len self.old.stack < vec_capacity self.old.stack }
@@ -107,7 +108,7 @@ impl Machine {
     }
 }
 
-// So many instructions, where they are passed.
+// This many instructions, where they are passed.
 fn passed_where(passes: bool, passed: usize) -> usize
     ensures { result ≡ (if passes then passed else 0) }
 {

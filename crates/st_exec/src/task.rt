@@ -75,8 +75,8 @@ impl StTask {
         })
     }
 
-    /// Runs to the next call of the scan, or to its end. The code is the one that the task was opened
-    /// on, and each call that it gave before was answered. It takes no memory.
+    /// Runs to the next call of the scan, or to its end. The code is the one that the task was
+    /// opened on, and each call that it gave before was answered. It takes no memory.
     pub fn next(&mut self, code: &StCode) -> StNext
         requires follows { Follows code.now self.old }
         requires answered { self.old.asked ≡ None }
@@ -142,7 +142,7 @@ impl StTask {
         }
     }
 
-    // Takes the reply of a block, and goes behind its call.
+    // Takes the reply of a block, and goes after its call.
     fn take_reply(&mut self, instance: u16, outputs: &Outputs)
         requires room { vec_len self.old.got < vec_capacity self.old.got }
         requires place { self.old.place + 1 < 2 ^ 64 }
@@ -177,7 +177,7 @@ fn is_ended(finished: Option<usize>, vars: &[i32]) -> bool
     }
 }
 
-// An empty list with room for so many.
+// An empty list with room for this many.
 fn reserved<T>(alloc: Global, room: usize) -> Result<Vec<T>, OutOfMemory>
     ensures items { IfOk result (λ v. v.items ≡ []) }
     ensures room { IfOk result (λ v. room ≤ vec_capacity v) }

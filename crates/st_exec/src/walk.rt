@@ -17,7 +17,7 @@ pub struct Stop {
     pub asked: Option<u16>,
 }
 
-// The place behind an instruction that passes some of those behind it, in code of this length.
+// The place after an instruction that passes some of those after it, in code of this length.
 fn place_behind(place: usize, passed: usize, length: usize) -> usize
     requires { place < length }
     ensures { result ≡ place + 1 + min passed (length - (place + 1)) }
@@ -32,7 +32,7 @@ fn instruction_at(code: &[Instruction], place: usize) -> Option<Instruction>
     code.get(place).copied()
 }
 
-/// Runs code from a place up to its next call, or to its end, where a cycle has so many
+/// Runs code from a place up to its next call, or to its end, where a cycle has this many
 /// microseconds.
 pub fn walk(cycle_us: u32, code: &[Instruction], machine: &mut Machine, place: usize) -> Stop
     requires cycle { IsCycle cycle_us }

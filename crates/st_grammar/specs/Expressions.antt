@@ -1,6 +1,6 @@
--- The rows of expressions in the table of the grammar. Above each part stands the line of the grammar in
--- docs/formats.md; `{x}` is x as often as it comes, `[x]` is x or nothing. IEC 61131-3, in this
--- project's profile.
+-- The rows of expressions in the table of the grammar. Above each part stands the line of the
+-- grammar in docs/formats.md; `{x}` is x as often as it comes, `[x]` is x or nothing. IEC 61131-3,
+-- in this project's profile.
 use Rattle.std.specs.Prelude.{true, false, List, [], ◌∷◌}
 use Rattle.std.specs.Option.{option_map_or}
 use Rattle.fb_outputs.specs.Flags.{flag_named}
@@ -18,7 +18,7 @@ use Rattle.st_tree.specs.declared.expression.Operator.TheVariants as operator
 -- cmp = sum [(= | <> | < | <= | > | >=) sum]
 -- sum = prod {(+ | -) prod}   prod = un {* un}   un = [- | NOT] prim
 
--- what may stand behind an un that begins a prod, a sum, a cmp, a conj, an expr
+-- what may stand after an un that begins a prod, a sum, a cmp, a conj, an expr
 abbrev pub behind_unary : List Item
 behind_unary = item.Products ∷ []
 
@@ -37,7 +37,7 @@ behind_conjunction =
 
 -- ---- prim = number | TRUE | FALSE | name | name . flag | ( expr )
 
--- a prim, and what is expected behind it
+-- a prim, and what is expected after it
 abbrev pub primary : List Item → Token → Line
 primary behind (Number n) = takes (note.Number n) behind
 primary behind (Word word.True) = takes (note.Truth true) behind
@@ -46,7 +46,7 @@ primary behind (Name n) = takes (note.Name n) (item.Dot ∷ behind)
 primary behind (Sign sign.Open) = takes note.Opens (item.Expr ∷ item.Parenthesis ∷ behind)
 primary behind _ = refuses
 
--- an un, and what is expected behind it
+-- an un, and what is expected after it
 abbrev pub unary : List Item → Token → Line
 unary behind (Sign sign.Minus) = takes note.Nothing (item.Primary ∷ item.Minus ∷ behind)
 unary behind (Word word.Not) = takes note.Nothing (item.Primary ∷ item.Not ∷ behind)

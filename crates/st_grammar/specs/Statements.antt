@@ -1,6 +1,6 @@
--- The rows of statements in the table of the grammar. Above each part stands the line of the grammar in
--- docs/formats.md; `{x}` is x as often as it comes, `[x]` is x or nothing. IEC 61131-3, in this
--- project's profile.
+-- The rows of statements in the table of the grammar. Above each part stands the line of the
+-- grammar in docs/formats.md; `{x}` is x as often as it comes, `[x]` is x or nothing. IEC 61131-3,
+-- in this project's profile.
 use Rattle.std.specs.Prelude.{ℕ, true, false, if◌then◌else◌, codes, List, [], ◌∷◌}
 use Rattle.line_text.specs.Texts.{says}
 use Rattle.st_grammar.specs.Lines.{Line, takes, passes, refuses}

@@ -1,6 +1,6 @@
--- The rows of tasks and declarations in the table of the grammar. Above each part stands the line of the grammar in
--- docs/formats.md; `{x}` is x as often as it comes, `[x]` is x or nothing. IEC 61131-3, in this
--- project's profile.
+-- The rows of tasks and declarations in the table of the grammar. Above each part stands the line
+-- of the grammar in docs/formats.md; `{x}` is x as often as it comes, `[x]` is x or nothing. IEC
+-- 61131-3, in this project's profile.
 use Rattle.std.specs.Prelude.{true, false, [], ◌∷◌}
 use Rattle.std.specs.Option.{option_map_or}
 use Rattle.command_pool.specs.declared.kind.BlockKind.{BlockKind}

@@ -10,7 +10,7 @@ use fb_outputs::flag_named;
 use st_tokens::{Sign, Token, Word};
 use st_tree::Operator;
 
-// A prim, and what is expected behind it.
+// A prim, and what is expected after it.
 pub fn primary(behind: &'static [Item], token: &Token) -> Row
     ensures { line_of result ≡ spec.primary behind.now token.now }
 {
@@ -26,7 +26,7 @@ pub fn primary(behind: &'static [Item], token: &Token) -> Row
     }
 }
 
-// An un, and what is expected behind it.
+// An un, and what is expected after it.
 pub fn unary(behind: &'static [Item], token: &Token) -> Row
     ensures { line_of result ≡ spec.unary behind.now token.now }
 {
@@ -136,7 +136,7 @@ pub fn disjunctions(token: &Token) -> Row
     }
 }
 
-// What stands behind a name.
+// What stands after a name.
 pub fn dot(token: &Token) -> Row
     ensures { line_of result ≡ spec.dot token.now }
 {

@@ -22,7 +22,7 @@ pub enum Item {
     /// What a DINT begins with, or `;`.
     DintStart,
     Signed,
-    /// A number behind a minus.
+    /// A number after a minus.
     Negative,
     Open,
     Object,
@@ -32,7 +32,7 @@ pub enum Item {
     EndProgram,
     /// Statements, as many as there are.
     Statements,
-    /// `:=` or `(` behind a name.
+    /// `:=` or `(` after a name.
     BehindName,
     Execute,
     /// The expression for `execute` has ended.
@@ -53,7 +53,7 @@ pub enum Item {
     Of,
     /// Branches, and what ends them.
     Branches,
-    /// A branch's number behind a minus.
+    /// A branch's number after a minus.
     NegativeBranch,
     EndCase,
     Expr,
@@ -63,7 +63,7 @@ pub enum Item {
     Product,
     Unary,
     Primary,
-    /// `.` and a flag behind a name, or none.
+    /// `.` and a flag after a name, or none.
     Dot,
     Flag,
     /// The expression in parentheses has ended.
@@ -78,6 +78,6 @@ pub enum Item {
     Minus,
     /// The operand of `NOT` has ended.
     Not,
-    /// The operand behind this operator has ended.
+    /// The operand after this operator has ended.
     Join(Operator),
 }

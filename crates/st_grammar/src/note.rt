@@ -53,7 +53,7 @@ pub enum Note {
     Else,
     /// There is no `ELSE`, and the statement closes.
     NoElse { case: bool },
-    /// The statement closes behind its `ELSE`.
+    /// The statement closes after its `ELSE`.
     Closes { case: bool },
     Number(u32),
     Truth(bool),

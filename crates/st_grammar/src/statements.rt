@@ -95,7 +95,7 @@ pub fn keys(token: &Token) -> Row
     }
 }
 
-// What is expected behind a key.
+// What is expected after a key.
 fn value_of(key: &[u8]) -> &'static [Item]
     ensures { result.now ≡ (Item.Gets ∷ spec.value_of key.now) }
 {
@@ -216,7 +216,7 @@ pub fn branches(token: &Token) -> Row
     }
 }
 
-// A number behind a minus.
+// A number after a minus.
 pub fn negative_branch(token: &Token) -> Row
     ensures { line_of result ≡ spec.negative_branch token.now }
 {

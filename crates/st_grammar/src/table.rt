@@ -9,7 +9,7 @@ use crate::note::{Note, Row};
 use crate::{expressions, statements, tasks};
 use st_tokens::Token;
 
-/// What may stand behind an operand that begins a product, a sum, and so on.
+/// What may stand after an operand that begins a product, a sum, and so on.
 const BEHIND_UNARY: [Item; 1] = [Item::Products];
 
 const BEHIND_PRODUCT: [Item; 2] = [Item::Products, Item::Sums];

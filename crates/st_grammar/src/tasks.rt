@@ -216,7 +216,7 @@ pub fn signed(token: &Token) -> Row
     }
 }
 
-// A number behind a minus.
+// A number after a minus.
 pub fn negative(token: &Token) -> Row
     ensures { line_of result ≡ spec.negative token.now }
 {

@@ -46,7 +46,7 @@ abbrev pub MakeCalls : Cell → ℕ → List Task → Type 0
 MakeCalls c n [] = Unit {0}
 MakeCalls c n (u ∷ us) = MakesCalls c.setup c.cycle_us n u × MakeCalls c (suc n) us
 
--- behind the task's own turn come those of others
+-- after the task's own turn come those of others
 others-turn : (c : Cell) (n m : ℕ) (t : Task) (us : List Task) (es : List TaskStand)
     (d : TaskStand) (r : Run) → m < n → MakeCalls c n us → IsUp c m t r d →
     IsUp c m t (turns c n us es r).run d
@@ -57,7 +57,7 @@ others-turn c n m t (u ∷ us) (e ∷ es) d r l makes up =
 others-turn c n m t [] es d r l makes up = up
 others-turn c n m t (u ∷ us) [] d r l makes up = up
 
--- where the task stands behind the turns of all
+-- where the task stands after the turns of all
 pub record HasTurn (c : Cell) (m : ℕ) (t : Task) (i : ℕ) (x : Round) : Type 0 where
   pub stand : TaskStand
   pub there : slice_get x.stands i ≡ Some stand

@@ -114,7 +114,7 @@ traced-run (Ok u) = refl
 traced-run (Err CyclesOver) = refl
 traced-run (Err HistoryFull) = refl
 
--- files that don't give both were told by a plan, or memory ran out
+-- files that don't give both were reported by a plan, or memory ran out
 pub no-both : (told : Option FileMap) (rose : Type 0) (config program : List ℕ) (old new : Output)
     (s : Status) → NoController told rose config program old new s →
     EndsEarly old new s ⊎ TellsBy told rose (λ files. both_in files config program) old new s

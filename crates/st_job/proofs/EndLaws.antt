@@ -58,7 +58,7 @@ kind-of told rose config program p (inl (inl (word, is, h))) = ap is_of_st is
 kind-of told rose config program p (inl (inr h)) = text-of-st p h.0
 kind-of told rose config program p (inr (t, given)) = traced-of-st p t
 
--- what tells of a file's text comes of the files
+-- what is about a file's text comes of the files
 of-files : (files : FileMap) (rose : Type 0) (config program : List ℕ)
     (p wanted : Status) → is_of_text wanted ≡ true →
     LeadsTo (Some files) rose config program p → p ≡ wanted →

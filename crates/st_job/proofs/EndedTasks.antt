@@ -27,7 +27,7 @@ dead-at (e ∷ ds) zero d none at =
 dead-at (e ∷ ds) (suc m) d none at =
     dead-at ds m d (or_parts e.lives (any_lives ds) none).1 at
 
--- a task has ended behind whole scans
+-- a task has ended after whole scans
 record IsDead (c : Cell) (m : ℕ) (t : Task) (r : Run) : Type 0 where
   stand : TaskStand
   dead : stand.lives ≡ false
@@ -39,7 +39,7 @@ RoundsEnd more c m t = (ds : List TaskStand) (d : TaskStand) (r : Run) → slice
     IsUp c m t r d → c.setup.cycles - cycles_of r.history < more →
     (rounds more c ds r).ending ≡ Ok tt → IsDead c m t (rounds more c ds r)
 
--- a run that goes on behind rounds went on before them
+-- a run that goes on after rounds went on before them
 went-on : (more : ℕ) (c : Cell) (ds : List TaskStand) (r : Run) →
     (rounds more c ds r).ending ≡ Ok tt → r.ending ≡ Ok tt
 went-on more c ds r ok = elim (goes-or-ends r.ending) [
@@ -50,7 +50,7 @@ went-on more c ds r ok = elim (goes-or-ends r.ending) [
       absurd (cc)
 ]
 
--- and behind a cycle
+-- and after a cycle
 before-cycle : (c : Cell) (r : Run) → (made c.setup a_cycle r).ending ≡ Ok tt → r.ending ≡ Ok tt
 before-cycle c r ok = elim (goes-or-ends r.ending) [
   | inl on ↦ on

@@ -47,7 +47,7 @@ goes-by s e r (Err f) o h k =
     let bad : Err f ≡ Ok tt = ap (λ (x : Run). x.ending) (made-by s e r (Err f) o h) ∙ k in
     absurd (cc)
 
--- an event behind which the run goes on was made
+-- an event after which the run goes on was made
 pub goes : (s : Setup) (e : Event) (r : Run) → r.ending ≡ Ok tt → (made s e r).ending ≡ Ok tt →
     GoesOn s e r
 goes s e r o k = goes-by s e r (room_for s r.history (is_cycle e)) o refl k

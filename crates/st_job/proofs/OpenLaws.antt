@@ -28,7 +28,7 @@ use Rattle.st_job.specs.declared.player.Player.{Player}
 
 -- ---- one more is opened
 
--- the first so many tasks of a code are opened
+-- the first this many tasks of a code are opened
 pub record AreOpenedTo (code : Compiled) (i : ℕ) (ps : List Player) : Type 0 where
   pub count : length ps ≡ i
   pub playing : ArePlaying code 0 ps

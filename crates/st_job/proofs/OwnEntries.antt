@@ -19,7 +19,7 @@ pub none-replied : (calls : List Asked) → entries_of calls [] ≡ []
 none-replied [] = refl
 none-replied (a ∷ calls) = refl
 
--- calls behind those that got replies add no entry
+-- calls after those that got replies add no entry
 pub entries-first : (calls others : List Asked) (got : List Outputs) → length calls ≡ length got →
     entries_of (calls ++ others) got ≡ entries_of calls got
 entries-first [] others [] e = none-replied others

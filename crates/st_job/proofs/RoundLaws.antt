@@ -82,7 +82,7 @@ cycle-more add k k2 drives drives2 e =
           ∙ ap (λ (x : Run). cycles_of x.history) on.is ∙ cycled-adds add k.config r;
     }
 
--- ---- what comes behind the turns
+-- ---- what comes after the turns
 
 continued-on : (c : Cell) (on : List TaskStand → Run → Run) (x : Round) → any_lives x.stands ≡ true →
     continued c on x ≡ on x.stands (made c.setup a_cycle x.run)
@@ -126,7 +126,7 @@ pub record AreInRounds (p : Controller) (k : KernelState) (drives : List DriveSi
   pub so_far : rounds more (cell_of p) (map stand_of now) (run_at k drives (Ok tt)) ≡
       rounds (p.config.cycles + 1) (cell_of p) (map stand_of old) (run_at k0 drives0 (Ok tt))
 
--- the whole is what comes behind the turns of this round
+-- the whole is what comes after the turns of this round
 whole-by : (more : ℕ) (p : Controller) (k k0 : KernelState) (drives drives0 : List DriveSim)
     (now old : List Player) → (is : AreInRounds p k drives now k0 drives0 old) → is.more ≡ suc more →
     continued (cell_of p) (rounds more (cell_of p))
@@ -171,7 +171,7 @@ pub record HasRound (p : Controller) (k k2 : KernelState) (now now2 : List Playe
   pub made : (ds : List DriveSim) → HasMade (turns (cell_of p) 0 p.program.tasks.items
       (map stand_of now) (run_at k ds (Ok tt))) k2 ds (Ok tt) now2
 
--- no task lives behind it
+-- no task lives after it
 pub round-ends : (p : Controller) (k k2 k0 : KernelState) (drives drives0 : List DriveSim)
     (now now2 old : List Player) → AreInRounds p k drives now k0 drives0 old →
     HasRound p k k2 now now2 → any_lives (map stand_of now2) ≡ false →
@@ -186,7 +186,7 @@ round-ends p k k2 k0 drives drives0 now now2 old is round none =
     (sym (ap any_lives made.1) ∙ none))
     ∙ whole-by left.0 p k k0 drives drives0 now old is left.1
 
--- what comes behind the turns, where a task lives
+-- what comes after the turns, where a task lives
 lives-on : (more : ℕ) (p : Controller) (k k2 : KernelState) (drives : List DriveSim)
     (now now2 : List Player) (r3 : Run) → k.config ≡ p.config → HasRound p k k2 now now2 →
     any_lives (map stand_of now2) ≡ true → r3 ≡ made k2.config a_cycle (run_at k2 drives (Ok tt)) →

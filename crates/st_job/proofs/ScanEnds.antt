@@ -97,7 +97,7 @@ goes-over p n k k0 t t2 t0 sc says tree there drives =
     let whole = over-whole p n k k0 t t2 t0 false tree drives sc says there in
     (ap (λ (x : Turn). x.run) whole, ap (λ (x : Turn). x.stand) whole)
 
--- the last, with the task's end behind it, for which there was room
+-- the last, with the task's end after it, for which there was room
 pub ends-over : (p : Controller) (n : ℕ) (k k2 k0 : KernelState) (t t2 t0 : StTask) →
     IsScanning p n k t k0 t0 → SaysOver p t t2 true →
     ((drives : List DriveSim) → run_at k2 drives (Ok tt) ≡

@@ -28,7 +28,7 @@ use Rattle.st_job.specs.Ready.{AreReady, MakesCalls}
 use Rattle.st_job.specs.Rounds.{Turn, called, made_by, reply_behind, scan, scan_on, scanned, with_call}
 use Rattle.st_job.specs.declared.cell.Controller.{Controller}
 
--- the item behind others
+-- the item after others
 pub item-behind : {A : Type 0} (xs : List A) (x : A) → slice_get (xs ++ x ∷ []) (length xs) ≡ Some x
 item-behind [] x = refl
 item-behind (y ∷ ys) x = item-behind ys x
@@ -103,7 +103,7 @@ pub record IsScanning (p : Controller) (n : ℕ) (k : KernelState) (t : StTask) 
       scan_on steps (cell_of p) n tree (stand_at t0 true) t.got.items (run_at k drives (Ok tt)) ≡
       scan (cell_of p) n tree (stand_at t0 true) (run_at k0 drives (Ok tt))
 
--- behind a call there is an entry more, for which there was room
+-- after a call there is an entry more, for which there was room
 pub record IsOneMore (k k2 : KernelState) : Type 0 where
   pub config : k2.config ≡ k.config
   pub room : length k.history < k.config.entries
@@ -129,7 +129,7 @@ fewer-steps k k2 steps one enough =
     let room = one.room in
     let more = one.more in omega (arith, same, room, more, enough)
 
--- what is left of a scan behind a call leads to the same whole
+-- what is left of a scan after a call leads to the same whole
 so-far : (steps : ℕ) (c : Cell) (n : ℕ) (t : Task) (d : TaskStand) (got got2 : List Outputs)
     (r r2 : Run) (whole : Turn) (calls : List Asked) (a : Asked) →
     scan_of c.cycle_us t.body.items d.vars d.last got ≡ Waits (calls ++ a ∷ []) →
@@ -192,7 +192,7 @@ pub asks-stopped : (p : Controller) (n : ℕ) (k k2 : KernelState) (t : StTask) 
 asks-stopped p n k k2 t f number h tree there =
     h.says tree (ap (program_at p.code) number ∙ code-of p n tree there)
 
--- the reply is the machine's, behind whichever drives
+-- the reply is the machine's, after whichever drives
 same-reply : (p : Controller) (k : KernelState) (drives : List DriveSim) (instance : ℕ)
     (inputs : Inputs) (reply : Outputs) → k.config ≡ p.config →
     reply ≡ reply_of k.config (state_of k) instance inputs →
@@ -201,7 +201,7 @@ same-reply : (p : Controller) (k : KernelState) (drives : List DriveSim) (instan
 same-reply p k drives instance inputs reply config e =
     e ∙ ap (λ s. reply_of s (machine_after s k.history) instance inputs) config
 
--- behind a call and its reply the scan goes on
+-- after a call and its reply the scan goes on
 goes-on-by : (steps : ℕ) (p : Controller) (n : ℕ) (k k2 k0 : KernelState) (t t2 t0 : StTask) →
     (sc : IsScanning p n k t k0 t0) → (h : HasAsked p k k2 t t2) →
     k.config.entries - length k.history < steps →
@@ -304,7 +304,7 @@ scanning-begins p n k t config runs between =
           (stand_at t true) got (run_at k drives (Ok tt))) between.got;
     }
 
--- the room left is less behind a call
+-- the room left is less after a call
 pub less-room : (k k2 : KernelState) (i : ℕ) (inputs : Inputs) → k2.config ≡ k.config →
     run_at k2 [] (Ok tt) ≡ made k.config (a_call i inputs) (run_at k [] (Ok tt)) →
     k2.config.entries - length k2.history < k.config.entries - length k.history

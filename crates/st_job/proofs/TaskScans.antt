@@ -22,7 +22,7 @@ use Rattle.st_job.specs.TaskScans.{AreScans, IsMadeBy, end_if, entries_of, own_e
 
 -- ---- what holds of a task
 
--- the task has made whole scans, and stands behind them
+-- the task has made whole scans, and stands after them
 pub record IsWhole (c : Cell) (n : ℕ) (t : Task) (r : Run) (d : TaskStand) : Type 0 where
   pub scans : List (List Outputs)
   pub are : AreScans c n t scans (own_entries c.setup n r.history) d
@@ -33,7 +33,7 @@ pub record HasEnded (c : Cell) (n : ℕ) (t : Task) (r : Run) : Type 0 where
   pub ended : r.ending ≡ Err fault
   pub made : IsMadeBy c n t (own_entries c.setup n r.history)
 
--- the run goes on, and the task stands behind whole scans; or it has ended
+-- the run goes on, and the task stands after whole scans; or it has ended
 abbrev pub IsUp : Cell → ℕ → Task → Run → TaskStand → Type 0
 IsUp c n t r d = ((r.ending ≡ Ok tt) × IsWhole c n t r d) ⊎ HasEnded c n t r
 
@@ -146,7 +146,7 @@ one-whole c n t d got r r2 left last is over each e own =
       );
     }
 
--- the scan wasn't the last: nothing comes behind it
+-- the scan wasn't the last: nothing comes after it
 goes-on-over : (c : Cell) (n : ℕ) (t : Task) (d : TaskStand) (got : List Outputs) (r : Run)
     (left : Stand) → InScan c n t d got r →
     scan_of c.cycle_us t.body.items d.vars d.last got ≡ Over left →
@@ -158,7 +158,7 @@ goes-on-over c n t d got r left is over each e =
           (sym (append-nil (own_entries c.setup n r.history))),
     )
 
--- it was the last: the task's end comes behind it, if there is room for it
+-- it was the last: the task's end comes after it, if there is room for it
 ends-over : (c : Cell) (n : ℕ) (t : Task) (d : TaskStand) (got : List Outputs) (r : Run)
     (left : Stand) → InScan c n t d got r →
     scan_of c.cycle_us t.body.items d.vars d.last got ≡ Over left →
@@ -221,7 +221,7 @@ last-of (a ∷ b ∷ calls) (suc k) e =
       many = omega (arith, many);
     }
 
--- behind a call that was made the scan goes on with its reply
+-- after a call that was made the scan goes on with its reply
 called-in : (c : Cell) (n : ℕ) (t : Task) (d : TaskStand) (got : List Outputs) (r : Run)
     (before : List Asked) (a : Asked) → AsksInOrder c.cycle_us t.body.items →
     MakesCalls c.setup c.cycle_us n t → InScan c n t d got r →

@@ -59,7 +59,7 @@ drop-got (y ∷ ys) (suc i) x h = drop-got ys i x h
 
 -- ---- the turns that are left
 
--- the turns that are left lead to the whole, behind the stands of those that had theirs
+-- the turns that are left lead to the whole, after the stands of those that had theirs
 pub record IsLeft (left : Round) (before : List TaskStand) (whole : Round) : Type 0 where
   pub run : left.run ≡ whole.run
   pub stands : before ++ left.stands ≡ whole.stands
@@ -77,7 +77,7 @@ pub record AreInTurns (p : Controller) (i : ℕ) (k : KernelState) (now : List P
       (map stand_of (take i now))
       (turns (cell_of p) 0 p.program.tasks.items (map stand_of old) (run_at k0 drives (Ok tt)))
 
--- turns of a task and those behind it
+-- turns of a task and those after it
 one-left : (c : Cell) (i : ℕ) (t : Task) (ts : List Task) (d : TaskStand) (ds : List TaskStand)
     (r : Run) →
     turns c i (t ∷ ts) (d ∷ ds) r ≡ record {
@@ -100,7 +100,7 @@ left-is c i trees t now d r there l =
     ap (λ ts. turns c i ts (map stand_of (drop i now)) r) (drop-got trees i t there)
     ∙ ap (λ qs. turns c i (t ∷ drop (suc i) trees) (map stand_of qs) r) ps
 
--- the stands behind the turn of one more
+-- the stands after the turn of one more
 stands-more : (i : ℕ) (now : List Player) (q : Player) (stand : TaskStand)
     (others : List TaskStand) → i < length now → stand_of q ≡ stand →
     map stand_of (take (suc i) (slice_set now i q)) ++ others ≡

@@ -20,7 +20,7 @@ program_in files name m =
     text_in most_bytes 2 (files name) >>= λ text. reading_in 2 (reading_of m.config text)
 
 -- the machine that the first of two files configures, and what the second is read as for it; or
--- what is told of the first of them that gives none
+-- what is reported of the first of them that gives none
 unfoldable pub both_in : FileMap → List ℕ → List ℕ → Result (Machine × Outcome) Status
 both_in files config program = do
   machine ← machine_in files config

@@ -8,7 +8,7 @@ use Rattle.st_exec.specs.Compiled.{start_of}
 use Rattle.st_exec.specs.Values.{silent}
 use Rattle.st_tree.specs.declared.program.Task.{Task}
 
--- a machine with the trees of its tasks and the drives of its axes, whose cycle has so many
+-- a machine with the trees of its tasks and the drives of its axes, whose cycle has this many
 -- microseconds
 pub record Cell : Type 0 where
   pub setup : Setup

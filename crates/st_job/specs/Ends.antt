@@ -43,7 +43,7 @@ pub record EndsBySt (told : Option FileMap) (rose : Type 0) (config program : Li
       IsSomeAnd told (λ files. both_in files config program ≡ Err (status.ReadFault word))
   -- writing failed only where the count of its faults rose
   pub unwritten : s ≡ status.WriteFault → Rose old.count new.count
-  -- what tells of a file's text comes exactly where the files lead to it
+  -- what is about a file's text comes exactly where the files lead to it
   pub of_text : (files : FileMap) (wanted : Status) → told ≡ Some files →
       is_of_text wanted ≡ true →
       ComesExactly s wanted (both_in files config program ≡ Err wanted)

@@ -46,7 +46,7 @@ pub record StHeadline (files : Option FileMap) (config program : List ℕ)
   pub history : List Entry
   pub made : history ≡ (run_of cell).history
   -- each task made the calls of its scans by its own replies, in order and each once, and its end
-  -- behind its last scan
+  -- after its last scan
   pub scans : (n : ℕ) (t : Task) → slice_get cell.trees n ≡ Some t →
       IsMadeBy cell n t (own_entries cell.setup n history)
   pub answers : Takes cell.setup (drives_at_opening cell.setup.axes cell.drives) history
@@ -57,7 +57,7 @@ pub record StHeadline (files : Option FileMap) (config program : List ℕ)
   pub drives : List DriveEndRow
   pub taken : drives ≡ map (drive_end (cycles_of history))
       (drives_after 0 (drives_at_opening cell.setup.axes cell.drives) history)
-  -- the status tells why the rounds ended
+  -- the status says why the rounds ended
   pub ended : s ≡ status_of (run_of cell).ending
   -- what was written is the text of all this, in version 2
   pub written : Appends old new (trace_text Two Run cell.setup history drives)

@@ -24,7 +24,7 @@ entries_of calls replies = []
 abbrev pub end_if : Bool → ℕ → List Entry
 end_if ended n = if ended then end_of n ∷ [] else []
 
--- a whole scan of a task that lives: its calls got these replies, one each, and behind the last
+-- a whole scan of a task that lives: its calls got these replies, one each, and after the last
 -- scan comes the task's end
 pub record IsScan (c : Cell) (n : ℕ) (t : Task) (before : TaskStand) (replies : List Outputs)
     (after : TaskStand) (es : List Entry) : Type 0 where
@@ -40,7 +40,7 @@ pub record IsScan (c : Cell) (n : ℕ) (t : Task) (before : TaskStand) (replies 
   pub entries : es ≡ entries_of left.calls replies ++ end_if (is_last t left) n
 
 -- entries are those of whole scans of a task one after another, from its opening on, which leave it
--- there; their replies are told the latest first
+-- there; their replies are given the latest first
 abbrev pub AreScans : Cell → ℕ → Task → List (List Outputs) → List Entry → TaskStand → Type 0
 AreScans c n t [] es d = (es ≡ []) × (d ≡ task_at_opening t)
 AreScans c n t (replies ∷ earlier) es d =

@@ -25,7 +25,7 @@ pub fn rounds_are_in_step()
 
 /// The entries of each task in the history of a run are those of its scans, each with its own
 /// replies: the calls of a scan in their order and each once, from the variables and last replies
-/// that the scan before left, and the task's end behind its last. Where the run ends with Ok each
+/// that the scan before left, and the task's end after its last. Where the run ends with Ok each
 /// task has made its end. Nothing runs.
 pub fn tasks_make_their_scans()
     ensures made { (c : Cell) → AreReady c.setup c.cycle_us c.trees → (n : ℕ) (t : Task) →
@@ -40,9 +40,9 @@ pub fn tasks_make_their_scans()
     scans_have_their_operands();
 }
 
-/// The rounds of a machine end for their cause alone, before their tasks do: with CyclesOver exactly
-/// where a cycle comes and none is left, with HistoryFull exactly where an event comes with the
-/// history full, and if it is a cycle one is left. Nothing runs.
+/// The rounds of a machine end for their cause alone, before their tasks do: with CyclesOver
+/// exactly where a cycle comes and none is left, with HistoryFull exactly where an event comes with
+/// the history full, and if it is a cycle one is left. Nothing runs.
 pub fn rounds_end_for_their_cause()
     ensures { (c : Cell) → EndsForItsCause c }
 {

@@ -40,8 +40,8 @@ pub fn run_cell<K: Sink>(alloc: Global, cell: &Controller, out: &mut K) -> Statu
     status_by(status_of(ran.ending), write_run(alloc, cell, &ran, out))
 }
 
-// The trace of a run is read as that of its machine, its history and its drives: the kernel keeps of
-// its history, and each drive of its position, what a trace asks for. Nothing else runs.
+// The trace of a run is read as that of its machine, its history and its drives: the kernel keeps
+// of its history, and each drive of its position, what a trace asks for. Nothing else runs.
 fn trace_is_read_back(cell: &Controller, ran: &Ran)
     requires config { ran.now.kernel.config ≡ cell.now.config }
     requires each { length ran.now.drives.items ≡ length cell.now.config.axes }

@@ -15,11 +15,11 @@ use Rattle.st_tokens.specs.Tokens.{tokens_of}
 use Rattle.st_tree.specs.declared.program.StProgram.{StProgram}
 use Rattle.st_tree.specs.declared.program.Task.{Task}
 
--- what is told where no rule is broken
+-- what is reported where no rule is broken
 abbrev told : Checked → Outcome
 told c = record { setup = c.setup; names = c.names; parts = c.parts }
 
--- where something is read no rule is broken, and it is what is told
+-- where something is read no rule is broken, and it is what is reported
 whole_by : (fault : Option LineRefused) (c : Checked) (o : Outcome) → refused_by letter (outcome_by fault c) ≡ Ok o → (fault ≡ None) × (o ≡ told c)
 whole_by None c o h = (refl, cc)
 whole_by (Some f) c o h = absurd (cc)
@@ -50,7 +50,7 @@ read_is_text s text tasks after r =
       spelled = subst (λ (o : Outcome). Spells tasks o.names o.parts) all.1 r.spelled;
     }
 
--- a program of the text is told
+-- a program of the text is reported
 text_is_told : (s : Setup) (text : List ℕ) (tasks : List Task) (after : Setup) → (t : IsStText s text tasks after) → reading_of s text ≡ Ok (told t.last.checked)
 text_is_told s text tasks after t =
     let same : run (opening s) (tokens_of text) ≡ t.last = ap (run (opening s)) t.are ∙ t.leads in

@@ -25,7 +25,7 @@ ReadsBy read (Ok p) s = IsRead read p.tasks.items s
 ReadsBy read (Err (Refused r)) s = read ≡ Err r
 ReadsBy read (Err OutOfMemory) s = Unit {0}
 
--- trees spell what was told; or memory ran out
+-- trees spell what was reported; or memory ran out
 abbrev pub IsBuilt : Told → Result StProgram TextFault → Type 0
 IsBuilt told (Ok p) = Spells p.tasks.items told.names.items told.parts.items
 IsBuilt told (Err (Refused r)) = ⊥
@@ -38,7 +38,8 @@ pub record SpellTheSame (a b : List Task) : Type 0 where
   pub first : Spells a names parts
   pub second : Spells b names parts
 
--- what was read spells the same as these tasks, and leaves the machine as they do; or memory ran out
+-- what was read spells the same as these tasks, and leaves the machine as they do; or memory ran
+-- out
 abbrev pub ReadsSame : List Task → Setup → Result StProgram TextFault → Setup → Type 0
 ReadsSame tasks after (Ok p) s = SpellTheSame tasks p.tasks.items × (s ≡ after)
 ReadsSame tasks after (Err (Refused r)) s = ⊥

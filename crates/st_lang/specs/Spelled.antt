@@ -7,7 +7,7 @@ use Rattle.st_tokens.specs.Tokens.{Placed, tokens_of}
 use Rattle.st_tree.specs.declared.program.Task.{Task}
 
 -- a text is these tasks for a machine, and leaves the machine so: it has tokens that the grammar's
--- table leads from a file to the end without a rule broken, and what they tell is what the trees of
+-- table leads from a file to the end without a rule broken, and what they give is what the trees of
 -- the tasks spell
 pub record IsStText (s : Setup) (text : List ℕ) (tasks : List Task) (after : Setup) : Type 0 where
   pub tokens : List Placed

@@ -27,7 +27,7 @@ fn input_of(key: Key) -> Input
     }
 }
 
-// Whether a position is one of so many axes.
+// Whether a position is one of this many axes.
 fn is_placed(axes: usize, key: Key) -> bool
     ensures { result ≡ spec.is_placed axes key }
 {

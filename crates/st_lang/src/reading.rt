@@ -16,10 +16,11 @@ use st_tree::StProgram;
 use std::alloc::Global;
 use std::mem;
 
-/// The program that a text is for a machine, which gets its tasks and blocks. A text that is none is
-/// refused at its first line that breaks a rule, by the first rule that it breaks there: S1 to S6. A
-/// token that breaks S1 or S2 ends the reading. The machine may then hold some of the text's tasks
-/// and blocks. It takes memory for what is open, for the names of the text, and for the program.
+/// The program that a text is for a machine, which gets its tasks and blocks. A text that is none
+/// is refused at its first line that breaks a rule, by the first rule that it breaks there: S1 to
+/// S6. A token that breaks S1 or S2 ends the reading. The machine may then hold some of the text's
+/// tasks and blocks. It takes memory for what is open, for the names of the text, and for the
+/// program.
 pub fn read_st(alloc: Global, text: &[u8], config: &mut Builder) -> Result<StProgram, TextFault>
     requires tasks { config.old.tasks ≡ [] }
     // What is read is a program of the text.
@@ -58,7 +59,7 @@ fn read(alloc: Global, text: &[u8], machine: Builder) -> (Builder, Result<StProg
     }
 }
 
-// The trees of what was told, where the machine is whole with so many axes, and they fit it.
+// The trees of what was reported, where the machine is whole with this many axes, and they fit it.
 fn built(alloc: Global, machine: &Builder, axes: usize, told: &Told) -> Result<StProgram, TextFault>
     ensures built { IsBuilt told.now result }
     ensures setup { OnOk result (IsSetup machine.now) }
@@ -75,7 +76,7 @@ fn built(alloc: Global, machine: &Builder, axes: usize, told: &Told) -> Result<S
     }
 }
 
-// Whether a machine is whole and has so many axes.
+// Whether a machine is whole and has this many axes.
 fn is_whole(machine: &Builder, axes: usize) -> bool
     ensures { IsTrue result → IsSetup machine.now × (length machine.now.axes ≡ axes) }
 {

@@ -93,7 +93,7 @@ branches_parts branches = all_of (map branch_parts branches)
 
 -- ---- tasks
 
--- so many numbers from this on
+-- this many numbers from this on
 abbrev pub numbers_from : ℕ → ℕ → List ℕ
 numbers_from n zero = []
 numbers_from n (suc count) = n ∷ numbers_from (n + 1) count

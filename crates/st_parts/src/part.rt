@@ -3,13 +3,13 @@
 use command_pool::BufferMode;
 use st_tree::{Flag, Key, Operator, Start};
 
-/// A part of a program. The names of tasks and variables are told apart from them.
+/// A part of a program. The names of tasks and variables are distinguished from them.
 #[derive(Clone, Copy)]
 pub enum Part {
     Task,
     /// A variable of the task.
     Declared(Start),
-    /// The declarations have ended, with so many blocks.
+    /// The declarations have ended, with this many blocks.
     Body(u16),
     TaskEnd,
     Number(i32),

@@ -3,5 +3,5 @@ pub mod Comments
 pub mod Numbers
 pub mod Words
 pub mod Signs
-pub mod Pieces
+pub mod Lexemes
 pub mod Tokens

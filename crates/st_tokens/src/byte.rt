@@ -18,7 +18,7 @@ pub fn is_digit(b: u8) -> bool
     b'0' <= b && b <= b'9'
 }
 
-// Whether a byte may stand in a word behind its first.
+// Whether a byte may stand in a word after its first.
 fn is_name_byte(b: u8) -> bool
     ensures { result ≡ spec.is_name_byte b }
 {

@@ -20,7 +20,7 @@ pub enum Expr {
     Chain { first: Box<Expr>, terms: Vec<Term> },
 }
 
-/// An operator and the operand behind it.
+/// An operator and the operand after it.
 #[cycle(expression)]
 #[derive(Drop)]
 pub struct Term {

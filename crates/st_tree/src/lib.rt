@@ -1,7 +1,7 @@
-//! The tree of a program in Structured Text (IEC 61131-3, in this project's profile): its tasks, their
-//! variables and blocks, their statements and expressions. It stands on the names and modes of a
-//! machine alone, and has no code: a reader makes such trees, and a compiler walks them. Begin with
-//! `program`, then `statement`, then `expression`.
+//! The tree of a program in Structured Text (IEC 61131-3, in this project's profile): its tasks,
+//! their variables and blocks, their statements and expressions. It stands on the names and modes
+//! of a machine alone, and has no code: a reader makes such trees, and a compiler walks them. Begin
+//! with `program`, then `statement`, then `expression`.
 #![tactic(auto)]
 
 mod call;

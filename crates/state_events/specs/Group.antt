@@ -1,5 +1,5 @@
--- By which events of its diagram a group changes its state, in a call and in a cycle (PLCopen Motion
--- Control Part 4; their order within a cycle is this project's profile).
+-- By which events of its diagram a group changes its state, in a call and in a cycle (PLCopen
+-- Motion Control Part 4; their order within a cycle is this project's profile).
 use Rattle.std.specs.Prelude.{◌≡◌, ℤ, Bool, true, false, ◌&&◌, not, if◌then◌else◌, Option, Some, None, is_some, List, [], ◌∷◌, ◌++◌}
 use Rattle.std.specs.List.{list_any}
 use Rattle.command_pool.specs.declared.ending.Finish.{Finish}
@@ -78,7 +78,7 @@ reset_row false state.GroupErrorStop = event.ResetAllStandstill ∷ []
 reset_row true state.GroupErrorStop = event.ResetElse ∷ []
 reset_row moved s = []
 
--- behind the cycles of its axes a pending GroupReset that is done
+-- after the cycles of its axes a pending GroupReset that is done
 abbrev pub reset_events : GroupLook → Group → Group → List GroupEvent
 reset_events members before after =
     if is_some before.reset && not (is_some after.reset)

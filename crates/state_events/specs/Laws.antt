@@ -62,7 +62,7 @@ pub record AreGroupEvents : Type 0 where
       groups_kept.IsCoreKept (limits_in members) c →
       group.Lead c.group.state (group.step_events members c (cycled members c).group)
       (cycled members c).group.state
-  -- by the GroupResets behind the cycles of its axes
+  -- by the GroupResets after the cycles of its axes
   pub reset : (members : GroupLook) (on_path : Bool) (g : Group) →
       group.Lead g.state (group.reset_events members g (reset_where members on_path g))
       (reset_where members on_path g).state

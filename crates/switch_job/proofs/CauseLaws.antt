@@ -67,7 +67,7 @@ both-given files trace file b g =
     (given (Some files) most_of_switches 2 file (switches_of b.trace.config)
     (IsSwitchText b.trace.config) b.switches g.switches)
 
--- files that don't give both were told by a plan, or memory ran out
+-- files that don't give both were reported by a plan, or memory ran out
 pub no-both : (told : Option FileMap) (rose : Type 0) (trace file : List ℕ) (old new : Output)
     (s : Status) → NoBoth told rose trace file old new s →
     EndsEarly old new s ⊎ TellsBy told rose (λ files. both_in files trace file) old new s

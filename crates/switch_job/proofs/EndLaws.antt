@@ -52,7 +52,7 @@ decided-of-switches (status.TooLong word) t = refl
 decided-of-switches (status.TextRefused word place rule) t = refl
 decided-of-switches s t = absurd (cc)
 
--- what both lead to tells of them
+-- what both lead to says of them
 plan-of-both : (t : TraceState) (ss : List Switch) (o : Option Difference) →
     is_of_both (switched_plan t ss o).status ≡ true
 plan-of-both t ss None = refl
@@ -77,7 +77,7 @@ unfaulted-stays s p R (inr (inr e)) none f = inr e
 not-both : {A : Type 0} (r : Result A Status) (x : A) (s : Status) → r ≡ Ok x → r ≡ Err s → ⊥
 not-both r x s a b = let bad : Ok x ≡ Err s = sym a ∙ b in cc
 
--- a status that tells of a file's text has its cause
+-- a status that says of a file's text has its cause
 text-cause : (files : FileMap) (trace file : List ℕ) (s : Status) → is_of_text s ≡ true →
     both_in files trace file ≡ Err s → SwitchCause files trace file s
 text-cause files trace file (status.TooLong word) t e = e

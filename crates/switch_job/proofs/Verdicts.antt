@@ -1,4 +1,4 @@
--- What a verdict on a trace tells.
+-- What a verdict on a trace gives.
 use Rattle.std.specs.Prelude.{◌≡◌, ◌↔◌, refl, ℕ, Option, Some, None, List, length}
 use Rattle.std.proofs.Common.{◌∙◌, ap, sym}
 use Rattle.cam_switch.specs.declared.switch.Switch.{Switch}
@@ -24,7 +24,7 @@ tells-by t v n (Some x) d e law = (
       sym e ∙ law.1 l in cc),
 )
 
--- the verdict tells whether a trace is legal
+-- the verdict says whether a trace is legal
 pub tells-legal : (t : TraceState) (v : Verdict) → v ≡ verdict_of t →
     ((v ≡ verdict.Legal (length (entries_of t))) ↔ IsLegalTrace t) → TellsLegal t
 unfolding verdict_of

@@ -25,7 +25,7 @@ switches_in files name t =
     text_in most_of_switches 2 (files name) >>= λ text. reading_in 2 (switches_of t.config text)
 
 -- the trace that the first of two files is, and the switches that the second has on its axes; or
--- what is told of the first of them that gives none
+-- what is reported of the first of them that gives none
 unfoldable pub both_in : FileMap → List ℕ → List ℕ → Result (TraceState × List Switch) Status
 both_in files trace file = do
   t ← trace_in files trace
@@ -59,7 +59,7 @@ SwitchCause files trace file (status.TextRefused word place rule) =
     both_in files trace file ≡ Err (status.TextRefused word place rule)
 SwitchCause files trace file _ = ⊥
 
--- the statuses that tell of a trace and its switches
+-- the statuses that are about a trace and its switches
 abbrev pub is_of_both : Status → Bool
 is_of_both status.Ok = true
 is_of_both (status.Illegal place) = true

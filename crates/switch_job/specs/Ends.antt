@@ -13,8 +13,8 @@ use Rattle.switch_job.specs.Plans.{plan_of_switches}
 use Rattle.switch_job.specs.Switched.{Switched}
 use Rattle.switch_job.specs.declared.reading.Both.{Both}
 
--- how it ends where the files give a trace and switches on its axes: by the plan of both, and unless
--- a fault came the trace was judged
+-- how it ends where the files give a trace and switches on its axes: by the plan of both, and
+-- unless a fault came the trace was verified
 pub record EndsByBoth (told : Option FileMap) (trace file : List ℕ) (old new : Output) (s : Status)
     : Type 0 where
   pub both : Both

@@ -66,6 +66,6 @@ NoBoth told rose trace file old new s =
     NoTrace told rose trace old new s ⊎
     ((t : TraceState) × GivesTrace told trace t × NoSwitches told rose file t old new s)
 
--- that no record of a trace differs tells that it is legal, and nothing else tells that
+-- that no record of a trace differs says that it is legal, and nothing else says that
 abbrev pub TellsLegal : TraceState → Type 0
 TellsLegal t = (difference_in t ≡ None) ↔ IsLegalTrace t

@@ -1,6 +1,6 @@
 //! The job `switches`: the edges of a file's digital cam switches in a legal trace. It stands on
-//! `switch_text`, `trace_text` and `trace_check`, since edges are told of legal traces alone. Begin
-//! at [`switch_files`].
+//! `switch_text`, `trace_text` and `trace_check`, since edges are reported of legal traces alone.
+//! Begin at [`switch_files`].
 #![tactic(auto)]
 
 mod reading;

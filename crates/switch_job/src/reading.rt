@@ -21,7 +21,7 @@ const MOST_TRACE: u64 = 268_435_456;
 /// The most bytes of a switch file: 16 MiB.
 const MOST_SWITCHES: u64 = 16_777_216;
 
-/// A trace, as far as a judge of it wants it, and switches on its axes.
+/// A trace, as far as a verify of it wants it, and switches on its axes.
 #[derive(Drop)]
 pub struct Both {
     pub trace: Trace,
@@ -51,7 +51,7 @@ pub fn read_both<F: Files, K: Sink>(
     }
 }
 
-// The trace that the first file is, as far as a judge of it wants it.
+// The trace that the first file is, as far as a verify of it wants it.
 fn read_traced<F: Files, K: Sink>(
     alloc: Global,
     name: &str,
@@ -75,7 +75,7 @@ fn read_traced<F: Files, K: Sink>(
     }
 }
 
-// The trace that a text is, as far as a judge of it wants it; only that stays in memory.
+// The trace that a text is, as far as a verify of it wants it; only that stays in memory.
 fn trace_of(alloc: Global, text: Vec<u8>) -> Result<Trace, TextFault>
     ensures { ReadsHeld (traces.trace_of text.items) result }
 {

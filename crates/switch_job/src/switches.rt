@@ -21,8 +21,8 @@ use trace_jobs::say_difference;
 use trace_text::Trace;
 
 /// Writes the edges of the switches that the second file has, in the trace that the first file is,
-/// if the trace is legal; else tells its first record that is not the machine's. The trace is read
-/// and refused first, then the switch file; then the trace is judged.
+/// if the trace is legal; else gives its first record that is not the machine's. The trace is read
+/// and refused first, then the switch file; then the trace is verified.
 pub fn switch_files<F: Files, K: Sink>(
     alloc: Global,
     trace_name: &str,

@@ -23,7 +23,7 @@ use Rattle.switch_text.specs.declared.writing.EdgeLog.{EdgeLog}
 one-more : (n : ℕ) → n + 1 ≡ suc n
 one-more n = omega arith
 
--- the cycle at a place is the one behind those before it
+-- the cycle at a place is the one after those before it
 pub cycle-at : (es : List Entry) (place n : ℕ) (rows : List AxisRow) (groups : List GroupRow) →
     slice_get es place ≡ Some (cycle n rows groups) →
     slice_get (cycles_in es) (cycles_before es place) ≡ Some rows
@@ -58,7 +58,7 @@ watches-next go cs k rows (s ∷ ss) h =
     ap (λ w. w ∷ map (watch_after rows) (map (watch_at cs k) ss)) (go.next cs k rows s h)
     ∙ ap (λ ws. watch_at cs (suc k) s ∷ ws) (watches-next go cs k rows ss h)
 
--- their edges are told
+-- their edges are reported
 pub lines-next : WatchesGoOn → (cs : List (List AxisRow)) (k : ℕ) (rows : List AxisRow)
     (ss : List Switch) → slice_get cs k ≡ Some rows →
     flat_map (λ w. flat_map edge_line (option_to_list (edge_after (suc k) rows w)))
@@ -85,7 +85,7 @@ watches-first go cs (s ∷ ss) =
     ap (λ w. w ∷ map watch_of ss) (sym (go.first cs s))
     ∙ ap (λ ws. watch_at cs zero s ∷ ws) (watches-first go cs ss)
 
--- four texts behind a text
+-- four texts after a text
 pub four_pieces : (t a b c d : List ℕ) →
     (((t ++ a) ++ b) ++ c) ++ d ≡ t ++ concat (a ∷ b ∷ c ∷ d ∷ [])
 four_pieces t a b c d = grind (arith, common_steps)

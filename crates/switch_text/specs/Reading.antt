@@ -28,7 +28,7 @@ unfoldable pub is_version : List (List ℕ) → Bool
 is_version (word ∷ number ∷ []) = says word (codes "motion-switches") && says number (codes "1")
 is_version _ = false
 
--- the first line tells the version (K2)
+-- the first line gives the version (K2)
 unfoldable pub version_meaning : SoFar → List (List ℕ) → Result SoFar ℕ
 version_meaning s words = do
   _ ← broken_unless (is_version words) 2
@@ -63,7 +63,7 @@ switch_meaning s (first ∷ name ∷ axis ∷ on ∷ off ∷ hyst ∷ []) =
     if says first (codes "switch") then switch_at s name axis (places_of on off hyst) else Err 3
 switch_meaning s _ = Err 3
 
--- a line behind the first adds a switch; there are 64 at most (K7)
+-- a line after the first adds a switch; there are 64 at most (K7)
 unfoldable pub later_meaning : SoFar → List (List ℕ) → Result SoFar ℕ
 later_meaning s words = do
   switch ← switch_meaning s words
@@ -78,7 +78,7 @@ meaning s words = if s.begun then later_meaning s words else version_meaning s w
 unfoldable pub ending : SoFar → Result (List Switch) ℕ
 ending s = if length s.switches == 0 then Err 7 else Ok s.switches
 
--- a rule of a switch file is told by the letter K
+-- a rule of a switch file is reported by the letter K
 abbrev pub letter : ℕ
 letter = 75
 

@@ -12,7 +12,7 @@ use Rattle.switch_text.specs.declared.writing.EdgeLog.{EdgeLog}
 abbrev pub cycles_before : List Entry → ℕ → ℕ
 cycles_before es place = length (cycles_in (take place es))
 
--- switches stand behind the cycles before a place, and the lines of their edges there are told
+-- switches stand after the cycles before a place, and the lines of their edges there are reported
 pub record IsBehind (ss : List Switch) (es : List Entry) (place : ℕ) (log : EdgeLog) : Type 0 where
   pub cycles : log.cycles ≡ cycles_before es place
   pub watches : log.watches.items ≡ map (watch_at (cycles_in es) (cycles_before es place)) ss

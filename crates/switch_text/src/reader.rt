@@ -13,7 +13,7 @@ use line_text::{LineFault, LineReader, broken_unless, number_of, required, says}
 use motion_history::Config;
 use std::marker::Model;
 
-/// The first line with words doesn't tell the format and its version.
+/// The first line with words doesn't give the format and its version.
 const NO_VERSION: u8 = 2;
 
 /// The first word is unknown, or there are too few or too many words.
@@ -66,7 +66,7 @@ impl<'a> LineReader for SwitchReader<'a> {
     }
 }
 
-// Whether the words tell the version.
+// Whether the words give the version.
 #[tactic(auto, unfolding(crate::specs::Reading::is_version))]
 fn is_version(words: &[&[u8]]) -> bool
     ensures { result ≡ spec.is_version (texts words.now) }
@@ -88,7 +88,7 @@ impl<'a> SwitchReader<'a> {
         Ok(())
     }
 
-    // Takes a line behind the first.
+    // Takes a line after the first.
     #[tactic(auto, unfolding(crate::specs::Reading::later_meaning))]
     fn read_later(&mut self, words: &[&[u8]]) -> Result<(), LineFault>
         ensures { Takes (spec.later_meaning self.old (texts words.now)) self.new result }

@@ -15,9 +15,9 @@ use machine_words::refused_by;
 use motion_history::{Config, TextFault};
 use std::alloc::Global;
 
-/// The switches that a text is for the axes of a machine: 1 to 64. A text that is none is refused at
-/// its first line that breaks a rule, by the first rule that it breaks: K1 to K7. It takes memory
-/// for the words of one line at a time, besides the switches.
+/// The switches that a text is for the axes of a machine: 1 to 64. A text that is none is refused
+/// at its first line that breaks a rule, by the first rule that it breaks: K1 to K7. It takes
+/// memory for the words of one line at a time, besides the switches.
 pub fn read_switches(alloc: Global, text: &[u8], config: &Config) -> Result<Switches, TextFault>
     // What is read are the switches of the text.
     ensures found { IfOk result (IsSwitchText config.now text.now) }

@@ -16,9 +16,9 @@ use outside::{Sink, write_all};
 use std::alloc::{AllocError, Global};
 use trace_text::{Trace, TraceFault, parts_are_beginnings};
 
-/// Writes the edges of switches in the cycles of a trace: one line `NAME CYCLE on` or
-/// `NAME CYCLE off` per edge, by cycle, counted from 1, and then in the order of the switches. Where
-/// they aren't written whole, their first bytes are. It takes memory for all of them.
+/// Writes the edges of switches in the cycles of a trace: one line `NAME CYCLE on` or `NAME CYCLE
+/// off` per edge, by cycle, counted from 1, and then in the order of the switches. Where they
+/// aren't written whole, their first bytes are. It takes memory for all of them.
 pub fn write_edges<K: Sink>(
     alloc: Global,
     switches: &Switches,
@@ -48,7 +48,7 @@ fn write_text<K: Sink>(text: &[u8], out: &mut K) -> Result<(), TraceFault>
     }
 }
 
-/// Switches behind some cycles, and the lines of their edges there.
+/// Switches after some cycles, and the lines of their edges there.
 #[derive(Drop)]
 struct EdgeLog {
     watches: Vec<Watch>,

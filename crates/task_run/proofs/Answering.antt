@@ -14,7 +14,7 @@ use Rattle.plc_program.specs.declared.program.Instruction.TheVariants as lines
 use Rattle.task_run.specs.Tasks.{TaskState, after_reply, call_by, is_passed, last_call, next_in, next_of, state_after}
 use Rattle.task_run.specs.declared.run.Next.{Next}
 use Rattle.task_run.specs.declared.run.Next.TheVariants.{Call, Rest, End}
-use Rattle.task_run.specs.declared.place.Place.{Place}
+use Rattle.task_run.specs.declared.place.ProgramPosition.{ProgramPosition}
 use Rattle.task_run.specs.declared.run.TaskRun.{TaskRun}
 use Rattle.task_run.proofs.Called.{passed-contained, wait-called}
 use Rattle.task_run.proofs.Places.{IsBefore, before, ended}
@@ -43,7 +43,7 @@ reply-ended program run s o none r =
     subst P (sym none) (record { within = r.within; stands = subst (λ t. Stands (lines_of program run) run.place s.passed t) none r.stands; settled = r.settled; rests = refl })
 
 -- a reply that leads to the next line
-pub reply-passed : (program : List (List Instruction)) (run : TaskRun) (s : TaskState) (o : Outputs) (l : Instruction) (t : List Instruction) (place : Place) → s.to_come ≡ l ∷ t →
+pub reply-passed : (program : List (List Instruction)) (run : TaskRun) (s : TaskState) (o : Outputs) (l : Instruction) (t : List Instruction) (place : ProgramPosition) → s.to_come ≡ l ∷ t →
     is_passed l o ≡ true → IsRun program run s → Stands (lines_of program run) place (s.passed ++ l ∷ []) t → is_settled (lines_of program run) place.line ≡ true →
     IsRun program (record run { place = place; resting = false }) (state_after s o)
 unfolding state_after

@@ -1,4 +1,4 @@
--- The calls that a task makes stand in its lines, and each wait stands behind one of its block.
+-- The calls that a task makes stand in its lines, and each wait stands after one of its block.
 use Rattle.std.proofs.Common.{◌≡◌, ℕ, zero, suc, ◌==◌, Bool, true, false, ◌||◌, Option, Some, None, List, [], ◌∷◌, ◌++◌, refl, sym, ◌∙◌, ap, subst, append_assoc, inl, inr, arith}
 use Rattle.std.specs.Prelude.{cond, is_some, slice_get, take}
 use Rattle.std.specs.List.{AllByRecursion, Contains}
@@ -13,8 +13,8 @@ use Rattle.plc_program.specs.declared.program.Instruction.TheVariants.{Call, Wai
 use Rattle.task_run.specs.Standing.{IsInside, IsOutside, Stands, StandsBy}
 use Rattle.task_run.specs.Tasks.{inputs_in, last_call, later_of}
 use Rattle.task_run.specs.Written.{times}
-use Rattle.task_run.specs.declared.place.Pass.{Pass}
-use Rattle.task_run.specs.declared.place.Place.{Place}
+use Rattle.task_run.specs.declared.place.Repetition.{Repetition}
+use Rattle.task_run.specs.declared.place.ProgramPosition.{ProgramPosition}
 use Rattle.task_run.proofs.LastCalls.{inside-front, inside-take, last-join, last-outside, last-written, later-none}
 use Rattle.task_run.proofs.Lists.{all-front}
 
@@ -54,7 +54,7 @@ outside-contained k lines line p t i task s h =
     subst (λ ls. Contains ls (Call k i)) (sym s.split) (Contains-append_left s.front s.back (Call k i) (last-contained k s.front i same))
 
 -- a line of the body, or of what stands before its repeat
-body-contained : (lines : List Instruction) (line : ℕ) (pass : Pass) (p t : List Instruction) (x : Instruction) (s : IsInside lines line pass p t) → Contains (s.front ++ (s.run ++ s.still)) x → Contains lines x
+body-contained : (lines : List Instruction) (line : ℕ) (pass : Repetition) (p t : List Instruction) (x : Instruction) (s : IsInside lines line pass p t) → Contains (s.front ++ (s.run ++ s.still)) x → Contains lines x
 body-contained lines line pass p t x s h =
     let tail = s.still ++ (Again ∷ s.behind) in
     let back = Repeat s.count ∷ (s.run ++ tail) in
@@ -64,7 +64,7 @@ body-contained lines line pass p t x s h =
     subst (λ ls. Contains ls x) (sym s.split)
     (elim (Contains-append_cases s.front (s.run ++ s.still) x h) [ inl first ↦ Contains-append_left s.front back x first | inr b ↦ Contains-append_right s.front back x (behind b) ])
 
-inside-contained : (k : ℕ) (lines : List Instruction) (line : ℕ) (pass : Pass) (p t : List Instruction) (i : Inputs) → IsTask lines → IsInside lines line pass p t → last_call k p ≡ Some i → Contains lines (Call k i)
+inside-contained : (k : ℕ) (lines : List Instruction) (line : ℕ) (pass : Repetition) (p t : List Instruction) (i : Inputs) → IsTask lines → IsInside lines line pass p t → last_call k p ≡ Some i → Contains lines (Call k i)
 inside-contained k lines line pass p t i task s h =
     let body = times pass.made (s.run ++ s.still) in
     let same : last_call k (s.front ++ (body ++ s.run)) ≡ Some i =
@@ -76,12 +76,12 @@ inside-contained k lines line pass p t i task s h =
     elim (Contains-append_cases s.front (body ++ s.run) x (last-contained k (s.front ++ (body ++ s.run)) i same))
     [ inl first ↦ there (Contains-append_left s.front (s.run ++ s.still) x first) | inr b ↦ there (Contains-append_right s.front (s.run ++ s.still) x (in_body b)) ]
 
-contained_by : (k : ℕ) (lines : List Instruction) (line : ℕ) (o : Option Pass) (p t : List Instruction) (i : Inputs) → IsTask lines → StandsBy lines line o p t → last_call k p ≡ Some i → Contains lines (Call k i)
+contained_by : (k : ℕ) (lines : List Instruction) (line : ℕ) (o : Option Repetition) (p t : List Instruction) (i : Inputs) → IsTask lines → StandsBy lines line o p t → last_call k p ≡ Some i → Contains lines (Call k i)
 contained_by k lines line None p t i task s h = outside-contained k lines line p t i task s h
 contained_by k lines line (Some pass) p t i task s h = inside-contained k lines line pass p t i task s h
 
 -- the last call of a block that was passed is one of the lines
-pub passed-contained : (k : ℕ) (lines : List Instruction) (place : Place) (p t : List Instruction) (i : Inputs) → IsTask lines → Stands lines place p t → last_call k p ≡ Some i → Contains lines (Call k i)
+pub passed-contained : (k : ℕ) (lines : List Instruction) (place : ProgramPosition) (p t : List Instruction) (i : Inputs) → IsTask lines → Stands lines place p t → last_call k p ≡ Some i → Contains lines (Call k i)
 passed-contained k lines place p t i task s h = contained_by k lines place.line place.pass p t i task s h
 
 pub line-contained : (lines : List Instruction) (n : ℕ) (x : Instruction) → slice_get lines n ≡ Some x → Contains lines x
@@ -89,9 +89,9 @@ line-contained [] n x h = absurd (cc)
 line-contained (y ∷ lines) zero x h = let same : y ≡ x = cc in subst (λ z. Contains (z ∷ lines) x) (sym same) (first-contained x lines)
 line-contained (y ∷ lines) (suc n) x h = Contains-append_right (y ∷ []) lines x (line-contained lines n x h)
 
--- ---- a wait stands behind a call of its block
+-- ---- a wait stands after a call of its block
 
--- a wait in lines stands behind a call
+-- a wait in lines stands after a call
 wait-behind : (above lines : List Instruction) (n k : ℕ) (flag : Flag) → AreBehindTheirCalls above lines → slice_get lines n ≡ Some (Wait k flag) → is_called k (above ++ take n lines) ≡ true
 wait-behind above [] n k flag h at = absurd (cc)
 wait-behind above (x ∷ lines) zero k flag h at =
@@ -128,7 +128,7 @@ more-some true b c h = refl
 more-some false true c h = refl
 more-some false false c h = h
 
-inside-some : (k : ℕ) (lines : List Instruction) (line : ℕ) (pass : Pass) (p t : List Instruction) → IsTask lines → IsInside lines line pass p t →
+inside-some : (k : ℕ) (lines : List Instruction) (line : ℕ) (pass : Repetition) (p t : List Instruction) → IsTask lines → IsInside lines line pass p t →
     is_some (last_call k (take line lines)) ≡ true → is_some (last_call k p) ≡ true
 inside-some k lines line pass p t task s h =
     let front = last_call k s.front in
@@ -139,12 +139,12 @@ inside-some k lines line pass p t task s h =
     let some : is_some front || is_some run ≡ true = sym (some-later front run) ∙ ap is_some (sym taken) ∙ h in
     ap is_some (inside-front lines line pass p t k task s) ∙ some-later front (later_of body run) ∙ ap (λ b. is_some front || b) (some-later body run) ∙ more-some (is_some front) (is_some body) (is_some run) some
 
-some_by : (k : ℕ) (lines : List Instruction) (line : ℕ) (o : Option Pass) (p t : List Instruction) → IsTask lines → StandsBy lines line o p t → is_some (last_call k (take line lines)) ≡ true → is_some (last_call k p) ≡ true
+some_by : (k : ℕ) (lines : List Instruction) (line : ℕ) (o : Option Repetition) (p t : List Instruction) → IsTask lines → StandsBy lines line o p t → is_some (last_call k (take line lines)) ≡ true → is_some (last_call k p) ≡ true
 some_by k lines line None p t task s h = ap is_some (sym (last-outside k lines line p t task s)) ∙ h
 some_by k lines line (Some pass) p t task s h = inside-some k lines line pass p t task s h
 
 -- before a wait a call of its block was passed
-pub wait-called : (lines : List Instruction) (place : Place) (k : ℕ) (flag : Flag) (p t : List Instruction) → IsTask lines → slice_get lines place.line ≡ Some (Wait k flag) → Stands lines place p t →
+pub wait-called : (lines : List Instruction) (place : ProgramPosition) (k : ℕ) (flag : Flag) (p t : List Instruction) → IsTask lines → slice_get lines place.line ≡ Some (Wait k flag) → Stands lines place p t →
     is_some (last_call k p) ≡ true
 wait-called lines place k flag p t task at s =
     some_by k lines place.line place.pass p t task s (some-called k (take place.line lines) ∙ wait-behind [] lines place.line k flag task.waits at)

@@ -14,7 +14,7 @@ use Rattle.plc_program.specs.Programs.{IsTask}
 use Rattle.task_run.specs.Runs.{until_again}
 use Rattle.task_run.specs.Standing.{IsInside, IsOutside, is_plain}
 use Rattle.task_run.specs.Tasks.{inputs_in, last_call, later_of}
-use Rattle.task_run.specs.declared.place.Pass.{Pass}
+use Rattle.task_run.specs.declared.place.Repetition.{Repetition}
 use Rattle.task_run.proofs.Lists.{all-front}
 use Rattle.task_run.proofs.Places.{plain-back}
 use Rattle.task_run.specs.Written.{Open, times, written_from, written_out}
@@ -27,7 +27,7 @@ pub later-none : {A : Type 0} (a : Option A) → later_of None a ≡ a
 later-none None = refl
 later-none (Some x) = refl
 
--- a call that comes again behind another
+-- a call that comes again after another
 pub later-twice : {A : Type 0} (a b : Option A) → later_of b (later_of a b) ≡ later_of a b
 later-twice a (Some x) = refl
 later-twice None None = refl
@@ -115,7 +115,7 @@ last-outside k lines line p t task s =
     rw (s.split, s.line_is, s.passed_is, take-front s.front s.back) (sym (last-written k s.front counted s.closed))
 
 -- what is passed in a repeat
-pub inside-front : (lines : List Instruction) (line : ℕ) (pass : Pass) (p t : List Instruction) (k : ℕ) → IsTask lines → (s : IsInside lines line pass p t) →
+pub inside-front : (lines : List Instruction) (line : ℕ) (pass : Repetition) (p t : List Instruction) (k : ℕ) → IsTask lines → (s : IsInside lines line pass p t) →
     last_call k p ≡ later_of (last_call k s.front) (later_of (last_call k (times pass.made (s.run ++ s.still))) (last_call k s.run))
 inside-front lines line pass p t k task s =
     let tail = Repeat s.count ∷ (s.run ++ (s.still ++ (Again ∷ s.behind))) in
@@ -125,7 +125,7 @@ inside-front lines line pass p t k task s =
     ∙ ap (λ c. later_of (last_call k s.front) c) (last-join k (times pass.made (s.run ++ s.still)) s.run)
 
 -- the lines before this one
-pub inside-take : (lines : List Instruction) (line : ℕ) (pass : Pass) (p t : List Instruction) (s : IsInside lines line pass p t) → take line lines ≡ s.front ++ (Repeat s.count ∷ s.run)
+pub inside-take : (lines : List Instruction) (line : ℕ) (pass : Repetition) (p t : List Instruction) (s : IsInside lines line pass p t) → take line lines ≡ s.front ++ (Repeat s.count ∷ s.run)
 inside-take lines line pass p t s =
     let tail = s.still ++ (Again ∷ s.behind) in
     let front = s.front ++ (Repeat s.count ∷ s.run) in
@@ -133,7 +133,7 @@ inside-take lines line pass p t s =
     let long : line ≡ length front = s.line_is ∙ sym (length-append s.front (Repeat s.count ∷ s.run)) in
     rw (split, long) (take-front front tail)
 
-inside-drop : (lines : List Instruction) (line : ℕ) (pass : Pass) (p t : List Instruction) (s : IsInside lines line pass p t) → drop line lines ≡ s.still ++ (Again ∷ s.behind)
+inside-drop : (lines : List Instruction) (line : ℕ) (pass : Repetition) (p t : List Instruction) (s : IsInside lines line pass p t) → drop line lines ≡ s.still ++ (Again ∷ s.behind)
 inside-drop lines line pass p t s =
     let tail = s.still ++ (Again ∷ s.behind) in
     let front = s.front ++ (Repeat s.count ∷ s.run) in
@@ -142,7 +142,7 @@ inside-drop lines line pass p t s =
     rw (split, long) (drop-front front tail)
 
 -- in the first pass
-pub last-first : (k : ℕ) (lines : List Instruction) (line : ℕ) (pass : Pass) (p t : List Instruction) → IsTask lines → pass.made ≡ 0 → IsInside lines line pass p t →
+pub last-first : (k : ℕ) (lines : List Instruction) (line : ℕ) (pass : Repetition) (p t : List Instruction) → IsTask lines → pass.made ≡ 0 → IsInside lines line pass p t →
     last_call k (take line lines) ≡ last_call k p
 last-first k lines line pass p t task first s =
     let made : times pass.made (s.run ++ s.still) ≡ [] = ap (λ n. times n (s.run ++ s.still)) first in
@@ -154,7 +154,7 @@ both front (Some x) still = refl
 both front None still = ap (λ c. later_of front c) (sym (later-none still))
 
 -- in a later pass: in this pass, else in the pass before, else before the repeat
-pub last-later : (k : ℕ) (lines : List Instruction) (line : ℕ) (pass : Pass) (p t : List Instruction) → IsTask lines → 1 ≤ pass.made → IsInside lines line pass p t →
+pub last-later : (k : ℕ) (lines : List Instruction) (line : ℕ) (pass : Repetition) (p t : List Instruction) → IsTask lines → 1 ≤ pass.made → IsInside lines line pass p t →
     later_of (later_of (last_call k (take pass.start lines)) (last_call k (until_again (drop line lines)))) (last_call k (drop pass.start (take line lines))) ≡ last_call k p
 last-later k lines line pass p t task some s =
     let start : take pass.start lines ≡ s.front = rw (s.split, s.start_is) (take-front s.front _) in

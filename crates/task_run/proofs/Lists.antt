@@ -3,7 +3,7 @@ use Rattle.std.proofs.Common.{◌≡◌, ℕ, ◌+◌, suc, Some, List, [], ◌�
 use Rattle.std.specs.Prelude.{slice_get}
 use Rattle.std.specs.List.{AllByRecursion}
 
--- what stands behind some items
+-- what stands after some items
 pub get-behind : {A : Type 0} (front ys : List A) (n : ℕ) → slice_get (front ++ ys) (length front + n) ≡ slice_get ys n
 get-behind [] ys n = ap (λ k. slice_get ys k) (omega arith)
 get-behind (x ∷ front) ys n =
@@ -13,7 +13,7 @@ get-behind (x ∷ front) ys n =
 pub get-first : {A : Type 0} (front ys : List A) → slice_get (front ++ ys) (length front) ≡ slice_get ys 0
 get-first front ys = let e : length front ≡ length front + 0 = omega arith in rw e (get-behind front ys 0)
 
--- an item with what stands behind it
+-- an item with what stands after it
 pub record HasHead {A : Type 0} (xs : List A) (x : A) : Type 0 where
   pub tail : List A
   pub is : xs ≡ x ∷ tail

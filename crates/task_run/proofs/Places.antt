@@ -9,15 +9,15 @@ use Rattle.plc_program.specs.declared.program.Instruction.TheVariants.{Call, Wai
 use Rattle.task_run.specs.Runs.{is_call_or_none, is_settled}
 use Rattle.task_run.specs.Standing.{IsInside, IsOutside, Moves, Stands, StandsBy, is_plain}
 use Rattle.task_run.specs.Written.{times, written_out}
-use Rattle.task_run.specs.declared.place.Pass.{Pass}
-use Rattle.task_run.specs.declared.place.Place.{Place}
+use Rattle.task_run.specs.declared.place.Repetition.{Repetition}
+use Rattle.task_run.specs.declared.place.ProgramPosition.{ProgramPosition}
 use Rattle.task_run.proofs.Lists.{all-at, get-behind, get-first, head-of, length-push}
 use Rattle.task_run.proofs.Writing.{join, one-plain, plain-first, plain-repeats, repeat-ends, repeated, repeats-join, times-more, times-nothing}
 
 -- ---- which line a place stands before
 
 -- the line of a place in a repeat
-pub inside-line : (lines : List Instruction) (line : ℕ) (pass : Pass) (p t : List Instruction) (s : IsInside lines line pass p t) →
+pub inside-line : (lines : List Instruction) (line : ℕ) (pass : Repetition) (p t : List Instruction) (s : IsInside lines line pass p t) →
     slice_get lines line ≡ slice_get (s.still ++ (Again ∷ s.behind)) 0
 inside-line lines line pass p t s =
     let tail = s.still ++ (Again ∷ s.behind) in
@@ -34,7 +34,7 @@ at-again (Wait k flag ∷ still) behind h at = absurd (cc)
 at-again (Repeat count ∷ still) behind h at = absurd (cc)
 at-again (Again ∷ still) behind h at = absurd (cc)
 
--- the lines behind plain ones
+-- the lines after plain ones
 pub plain-back : (run still : List Instruction) → list_all is_plain (run ++ still) ≡ true → list_all is_plain still ≡ true
 plain-back [] still h = h
 plain-back (Call k i ∷ run) still h = plain-back run still h
@@ -86,14 +86,14 @@ outside-entered lines line count p t task at s =
           ∙ ap (λ n. times n ends.body ++ written_out ends.behind) less.1 ∙ append_assoc ends.body (times less.0 ends.body) (written_out ends.behind);
     }
 
-entered_by : (lines : List Instruction) (line : ℕ) (o : Option Pass) (count : ℕ) (p t : List Instruction) → IsTask lines → slice_get lines line ≡ Some (Repeat count) →
+entered_by : (lines : List Instruction) (line : ℕ) (o : Option Repetition) (count : ℕ) (p t : List Instruction) → IsTask lines → slice_get lines line ≡ Some (Repeat count) →
     StandsBy lines line o p t → IsInside lines (line + 1) (record { start = line; made = 0 }) p t
 entered_by lines line None count p t task at s = outside-entered lines line count p t task at s
 entered_by lines line (Some pass) count p t task at s =
     no-repeat s.still s.behind count (plain-back s.run s.still s.plain) (sym (inside-line lines line pass p t s) ∙ at)
 
 -- a place before a repeat goes on to its first line
-pub entered : (lines : List Instruction) (place : Place) (count : ℕ) → IsTask lines → slice_get lines place.line ≡ Some (Repeat count) →
+pub entered : (lines : List Instruction) (place : ProgramPosition) (count : ℕ) → IsTask lines → slice_get lines place.line ≡ Some (Repeat count) →
     Moves lines place (record { line = place.line + 1; pass = Some (record { start = place.line; made = 0 }) })
 entered lines place count task at p t s = entered_by lines place.line place.pass count p t task at s
 
@@ -113,7 +113,7 @@ unfolding written_out
 nothing = refl
 
 -- a repeat whose lines are not run again: it has none, or they were run as often as they are
-inside-left : (lines : List Instruction) (line : ℕ) (pass : Pass) (p t : List Instruction) (s : IsInside lines line pass p t) → slice_get lines line ≡ Some Again →
+inside-left : (lines : List Instruction) (line : ℕ) (pass : Repetition) (p t : List Instruction) (s : IsInside lines line pass p t) → slice_get lines line ≡ Some Again →
     (times s.left s.run ≡ []) → (times s.count s.run ≡ times pass.made s.run ++ s.run) → IsOutside lines (line + 1) p t
 inside-left lines line pass p t s at none all =
     let ended : s.still ≡ [] = at-again s.still s.behind (plain-back s.run s.still s.plain) (sym (inside-line lines line pass p t s) ∙ at) in
@@ -144,7 +144,7 @@ inside-left lines line pass p t s at none all =
     }
 
 -- its lines are none
-pub left-empty : (lines : List Instruction) (line : ℕ) (pass : Pass) → slice_get lines line ≡ Some Again → line ≡ pass.start + 1 → (p t : List Instruction) →
+pub left-empty : (lines : List Instruction) (line : ℕ) (pass : Repetition) → slice_get lines line ≡ Some Again → line ≡ pass.start + 1 → (p t : List Instruction) →
     IsInside lines line pass p t → IsOutside lines (line + 1) p t
 left-empty lines line pass at first p t s =
     let start = s.start_is in
@@ -154,7 +154,7 @@ left-empty lines line pass at first p t s =
     inside-left lines line pass p t s at (rw none (times-nothing s.left)) (rw none (times-nothing s.count ∙ sym (ap (λ ls. ls ++ []) (times-nothing pass.made))))
 
 -- they were run as often as they are
-pub left-counted : (lines : List Instruction) (line : ℕ) (pass : Pass) (count : ℕ) → slice_get lines line ≡ Some Again → count ≤ pass.made + 1 →
+pub left-counted : (lines : List Instruction) (line : ℕ) (pass : Repetition) (count : ℕ) → slice_get lines line ≡ Some Again → count ≤ pass.made + 1 →
     ((n : ℕ) → slice_get lines pass.start ≡ Some (Repeat n) → count ≡ n) → (p t : List Instruction) → IsInside lines line pass p t → IsOutside lines (line + 1) p t
 left-counted lines line pass count at few is p t s =
     let here : slice_get lines pass.start ≡ Some (Repeat s.count) = rw (s.split, s.start_is) (get-first s.front _) in
@@ -165,7 +165,7 @@ left-counted lines line pass count at few is p t s =
     inside-left lines line pass p t s at (rw none refl) (rw all (sym (times-more pass.made s.run)))
 
 -- its lines are run once more
-pub run-again : (lines : List Instruction) (line : ℕ) (pass : Pass) (count : ℕ) → slice_get lines line ≡ Some Again → pass.made + 1 < count →
+pub run-again : (lines : List Instruction) (line : ℕ) (pass : Repetition) (count : ℕ) → slice_get lines line ≡ Some Again → pass.made + 1 < count →
     ((n : ℕ) → slice_get lines pass.start ≡ Some (Repeat n) → count ≡ n) → (p t : List Instruction) → IsInside lines line pass p t →
     IsInside lines (pass.start + 1) (record { start = pass.start; made = pass.made + 1 }) p t
 run-again lines line pass count at more is p t s =
@@ -200,7 +200,7 @@ run-again lines line pass count at more is p t s =
           ∙ append_assoc s.run (times less.0 s.run) (written_out s.behind);
     }
 
--- ---- behind a line that makes calls
+-- ---- after a line that makes calls
 
 plain-one : (l : Instruction) → is_plain l ≡ true → repeating_after false (l ∷ []) ≡ Some false
 plain-one (Call k i) h = refl
@@ -259,7 +259,7 @@ next-of (x ∷ xs) behind rest l t settled h =
     let same : l ≡ x = cc in
     record { tail = xs; is = ap (λ y. y ∷ xs) (sym same); others = cc }
 
-inside-moved : (lines : List Instruction) (line : ℕ) (pass : Pass) (p t : List Instruction) (l : Instruction) → is_settled lines line ≡ true → IsInside lines line pass p (l ∷ t) →
+inside-moved : (lines : List Instruction) (line : ℕ) (pass : Repetition) (p t : List Instruction) (l : Instruction) → is_settled lines line ≡ true → IsInside lines line pass p (l ∷ t) →
     IsInside lines (line + 1) pass (p ++ l ∷ []) t
 inside-moved lines line pass p t l settled s =
     let here = subst (λ o. is_call_or_none o ≡ true) (inside-line lines line pass p (l ∷ t) s) settled in
@@ -291,13 +291,13 @@ inside-moved lines line pass p t l settled s =
       to_come_is = f.others ∙ ap (λ ls. f.tail ++ (times s.left ls ++ written_out s.behind)) body;
     }
 
-moved_by : (lines : List Instruction) (line : ℕ) (o : Option Pass) → is_settled lines line ≡ true → (p t : List Instruction) (l : Instruction) →
+moved_by : (lines : List Instruction) (line : ℕ) (o : Option Repetition) → is_settled lines line ≡ true → (p t : List Instruction) (l : Instruction) →
     StandsBy lines line o p (l ∷ t) → StandsBy lines (line + 1) o (p ++ l ∷ []) t
 moved_by lines line None settled p t l s = outside-moved lines line p t l settled s
 moved_by lines line (Some pass) settled p t l s = inside-moved lines line pass p t l settled s
 
--- behind a line that makes calls it is passed
-pub moved : (lines : List Instruction) (place : Place) → is_settled lines place.line ≡ true → (p t : List Instruction) (l : Instruction) →
+-- after a line that makes calls it is passed
+pub moved : (lines : List Instruction) (place : ProgramPosition) → is_settled lines place.line ≡ true → (p t : List Instruction) (l : Instruction) →
     Stands lines place p (l ∷ t) → Stands lines (record { line = place.line + 1; pass = place.pass }) (p ++ l ∷ []) t
 moved lines place settled p t l s = moved_by lines place.line place.pass settled p t l s
 
@@ -320,7 +320,7 @@ inside-ended : (still behind : List Instruction) → slice_get (still ++ (Again 
 inside-ended [] behind at {A} = absurd (cc)
 inside-ended (x ∷ still) behind at {A} = absurd (cc)
 
-before_by : (lines : List Instruction) (line : ℕ) (o : Option Pass) (l : Instruction) → slice_get lines line ≡ Some l → is_plain l ≡ true → (p t : List Instruction) →
+before_by : (lines : List Instruction) (line : ℕ) (o : Option Repetition) (l : Instruction) → slice_get lines line ≡ Some l → is_plain l ≡ true → (p t : List Instruction) →
     StandsBy lines line o p t → IsBefore t l
 before_by lines line None l at plain p t s =
     let h = head-of s.back l (sym (outside-line lines line p t s) ∙ at) in
@@ -328,16 +328,16 @@ before_by lines line None l at plain p t s =
 before_by lines line (Some pass) l at plain p t s =
     inside-before s.still s.behind l (sym (inside-line lines line pass p t s) ∙ at) plain t (times s.left (s.run ++ s.still) ++ written_out s.behind) s.to_come_is
 
-pub before : (lines : List Instruction) (place : Place) (l : Instruction) → slice_get lines place.line ≡ Some l → is_plain l ≡ true → (p t : List Instruction) →
+pub before : (lines : List Instruction) (place : ProgramPosition) (l : Instruction) → slice_get lines place.line ≡ Some l → is_plain l ≡ true → (p t : List Instruction) →
     Stands lines place p t → IsBefore t l
 before lines place l at plain p t s = before_by lines place.line place.pass l at plain p t s
 
-ended_by : (lines : List Instruction) (line : ℕ) (o : Option Pass) → slice_get lines line ≡ None → (p t : List Instruction) → StandsBy lines line o p t → t ≡ []
+ended_by : (lines : List Instruction) (line : ℕ) (o : Option Repetition) → slice_get lines line ≡ None → (p t : List Instruction) → StandsBy lines line o p t → t ≡ []
 ended_by lines line None at p t s = s.to_come_is ∙ nothing-left s.back (sym (outside-line lines line p t s) ∙ at)
 ended_by lines line (Some pass) at p t s = inside-ended s.still s.behind (sym (inside-line lines line pass p t s) ∙ at)
 
--- behind the last line nothing is to come
-pub ended : (lines : List Instruction) (place : Place) → slice_get lines place.line ≡ None → (p t : List Instruction) → Stands lines place p t → t ≡ []
+-- after the last line nothing is to come
+pub ended : (lines : List Instruction) (place : ProgramPosition) → slice_get lines place.line ≡ None → (p t : List Instruction) → Stands lines place p t → t ≡ []
 ended lines place at p t s = ended_by lines place.line place.pass at p t s
 
 -- ---- the first place
@@ -371,7 +371,7 @@ plain-front (Repeat count ∷ run) still h = absurd (cc)
 plain-front (Again ∷ run) still h = absurd (cc)
 
 -- it makes calls, where the body has a line before its `again`
-pub first-settled : (lines : List Instruction) (line : ℕ) (pass : Pass) → (line ≡ pass.start + 1 → ⊥) → (p t : List Instruction) → IsInside lines line pass p t →
+pub first-settled : (lines : List Instruction) (line : ℕ) (pass : Repetition) → (line ≡ pass.start + 1 → ⊥) → (p t : List Instruction) → IsInside lines line pass p t →
     is_settled lines (pass.start + 1) ≡ true
 first-settled lines line pass other p t s =
     let tail = s.still ++ (Again ∷ s.behind) in

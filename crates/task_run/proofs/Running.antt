@@ -13,11 +13,11 @@ use Rattle.task_run.specs.declared.caller.LoggedCall.{LoggedCall}
 use Rattle.task_run.specs.declared.run.Next.TheVariants.{Call, End, Rest}
 use Rattle.task_run.specs.declared.run.TaskRun.{TaskRun}
 
--- where a task stands behind these calls
+-- where a task stands after these calls
 abbrev pub told_state : List (List Instruction) → TaskRun → CallerState → TaskState
 told_state program first caller = state_behind (first_state (lines_of program first)) caller.calls
 
--- a run that began as the first stands behind the caller's calls. The task rests where the run
+-- a run that began as the first stands after the caller's calls. The task rests where the run
 -- still has to, or where the caller was asked to
 pub record IsUnderWay (program : List (List Instruction)) (first run : TaskRun) (before caller : CallerState) : Type 0 where
   pub same : IsSameTask before caller
@@ -151,7 +151,7 @@ way-rested program first run after before caller asked w next is r task =
       unrefused = w.unrefused;
     })
 
--- a task rests behind a call
+-- a task rests after a call
 made-some : (lines : List Instruction) (cs : List LoggedCall) → (state_behind (first_state lines) cs).rests ≡ true → 0 < length cs
 made-some lines [] h = absurd (cc)
 made-some lines (c ∷ cs) h = omega arith
@@ -172,7 +172,7 @@ way-refused program first run before caller refused k i w next is =
     let P : CallerState → Type 0 = λ d. TaskCalls (lines_of program first) d.calls × (IsEndedBy (lines_of program first) d.calls → ⊥) × IsSameTask before d in
     subst P (sym is) (w.calls, λ none. call-to-come s.passed s.to_come k i call.1 none, record { config = w.same.config; task = w.same.task })
 
--- a run that doesn't rest stands behind the calls that were made
+-- a run that doesn't rest stands after the calls that were made
 pub way-stands : (program : List (List Instruction)) (first run : TaskRun) (before caller : CallerState) →
     IsUnderWay program first run before caller → run.resting ≡ false →
     IsRun program run (record (told_state program first caller) { rests = false })

@@ -9,7 +9,7 @@ use Rattle.plc_program.specs.declared.program.Instruction.TheVariants.{Call, Wai
 use Rattle.task_run.specs.Standing.{is_plain}
 use Rattle.task_run.specs.Written.{Open, times, written_from, written_out}
 
--- so many times, and once more
+-- this many times, and once more
 pub times-more : (n : ℕ) (xs : List Instruction) → times n xs ++ xs ≡ xs ++ times n xs
 times-more zero xs = sym (append-nil xs)
 times-more (suc n) xs = append_assoc xs (times n xs) xs ∙ ap (λ ys. xs ++ ys) (times-more n xs)

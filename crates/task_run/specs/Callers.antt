@@ -14,13 +14,13 @@ pub record CallerState : Type 0 where
   pub rests : Bool
   pub refused : Bool
 
--- how many cycles came before the last of these calls, or so many where there is none
+-- how many cycles came before the last of these calls, or this many where there is none
 abbrev pub cycles_from : ℕ → List LoggedCall → ℕ
 cycles_from cycles [] = cycles
 cycles_from cycles (c ∷ calls) = cycles_from c.cycles calls
 
--- a call with so many cycles before it may follow one with those: it has no fewer, and where a rest
--- lies between the two it has more
+-- a call with this many cycles before it may follow one with those: it has no fewer, and where a
+-- rest lies between the two it has more
 pub record MayFollow (rests : Bool) (earlier cycles : ℕ) : Type 0 where
   pub behind : earlier ≤ cycles
   pub rested : rests ≡ true → earlier < cycles

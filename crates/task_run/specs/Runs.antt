@@ -11,7 +11,7 @@ abbrev pub is_call_or_none : Option Instruction → Bool
 is_call_or_none None = true
 is_call_or_none (Some line) = is_plain line
 
--- whether the line of this number makes calls, or stands behind the last
+-- whether the line of this number makes calls, or stands after the last
 abbrev pub is_settled : List Instruction → ℕ → Bool
 is_settled lines line = is_call_or_none (slice_get lines line)
 
@@ -27,7 +27,7 @@ until_again (Again ∷ lines) = []
 abbrev pub lines_of : List (List Instruction) → TaskRun → List Instruction
 lines_of program run = slice_index_or program run.task []
 
--- a run of a task of this program stands so: at a line that makes calls, or behind the last
+-- a run of a task of this program stands so: at a line that makes calls, or after the last
 pub record IsRun (program : List (List Instruction)) (run : TaskRun) (s : TaskState) : Type 0 where
   pub within : run.task < length program
   pub stands : Stands (lines_of program run) run.place s.passed s.to_come

@@ -5,8 +5,8 @@ use Rattle.plc_program.specs.Programs.{repeating_after}
 use Rattle.plc_program.specs.declared.program.Instruction.{Instruction}
 use Rattle.plc_program.specs.declared.program.Instruction.TheVariants.{Call, Wait, Repeat, Again}
 use Rattle.task_run.specs.Written.{times, written_out}
-use Rattle.task_run.specs.declared.place.Pass.{Pass}
-use Rattle.task_run.specs.declared.place.Place.{Place}
+use Rattle.task_run.specs.declared.place.Repetition.{Repetition}
+use Rattle.task_run.specs.declared.place.ProgramPosition.{ProgramPosition}
 
 -- whether a line makes calls
 abbrev pub is_plain : Instruction → Bool
@@ -16,7 +16,7 @@ is_plain (Repeat count) = false
 is_plain Again = false
 
 -- outside repeats a run stands before a line: what stands before it is passed, it and what stands
--- behind it is to come
+-- after it is to come
 pub record IsOutside (lines : List Instruction) (line : ℕ)
     (passed to_come : List Instruction) : Type 0 where
   pub front : List Instruction
@@ -28,9 +28,9 @@ pub record IsOutside (lines : List Instruction) (line : ℕ)
   pub to_come_is : to_come ≡ written_out back
 
 -- in a repeat it stands before a line of its body, or before its `again`. Passed is what stands
--- before the repeat, the body as often as it was run, and its lines before this one; to come are its
--- other lines, the body as often as it is still to be run, and what stands behind the repeat
-pub record IsInside (lines : List Instruction) (line : ℕ) (pass : Pass)
+-- before the repeat, the body as often as it was run, and its lines before this one; to come are
+-- its other lines, the body as often as it is still to be run, and what stands after the repeat
+pub record IsInside (lines : List Instruction) (line : ℕ) (pass : Repetition)
     (passed to_come : List Instruction) : Type 0 where
   pub front : List Instruction
   pub count : ℕ
@@ -48,22 +48,22 @@ pub record IsInside (lines : List Instruction) (line : ℕ) (pass : Pass)
   pub to_come_is : to_come ≡ still ++ (times left (run ++ still) ++ written_out behind)
 
 -- a run stands in a repeat or in none
-abbrev pub StandsBy : List Instruction → ℕ → Option Pass → List Instruction → List Instruction →
+abbrev pub StandsBy : List Instruction → ℕ → Option Repetition → List Instruction → List Instruction →
     Type 0
 StandsBy lines line None passed to_come = IsOutside lines line passed to_come
 StandsBy lines line (Some pass) passed to_come = IsInside lines line pass passed to_come
 
 -- a place stands where these lines are passed and those are to come
-abbrev pub Stands : List Instruction → Place → List Instruction → List Instruction → Type 0
+abbrev pub Stands : List Instruction → ProgramPosition → List Instruction → List Instruction → Type 0
 Stands lines place passed to_come = StandsBy lines place.line place.pass passed to_come
 
 -- a place stands at some point of the lines written out
-pub record IsPlace (lines : List Instruction) (place : Place) : Type 0 where
+pub record IsPlace (lines : List Instruction) (place : ProgramPosition) : Type 0 where
   pub passed : List Instruction
   pub to_come : List Instruction
   pub stands : Stands lines place passed to_come
 
 -- what stands at the one place stands at the other too
-abbrev pub Moves : List Instruction → Place → Place → Type 0
+abbrev pub Moves : List Instruction → ProgramPosition → ProgramPosition → Type 0
 Moves lines place other =
     (passed to_come : List Instruction) → Stands lines place passed to_come → Stands lines other passed to_come

@@ -45,7 +45,7 @@ call_by k (Some i) = Call k i
 call_by k None = End
 
 -- the next call where a task stands before these lines: a wait calls its block as it was last
--- called; behind the last line comes the end
+-- called; after the last line comes the end
 abbrev pub next_in : List Instruction → List Instruction → Next
 next_in passed [] = End
 next_in passed (lines.Call k i ∷ to_come) = Call k i

@@ -3,7 +3,7 @@ use Rattle.std.specs.Prelude.{ℕ, zero, suc, Option, Some, None, List, [], ◌�
 use Rattle.plc_program.specs.declared.program.Instruction.{Instruction}
 use Rattle.plc_program.specs.declared.program.Instruction.TheVariants.{Call, Wait, Repeat, Again}
 
--- lines so many times, one behind the other
+-- lines this many times, one after the other
 abbrev pub times : ℕ → List Instruction → List Instruction
 times zero lines = []
 times (suc n) lines = lines ++ times n lines

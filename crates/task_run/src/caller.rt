@@ -20,7 +20,7 @@ pub struct LoggedCall {
 }
 
 /// Makes the calls of a task, one after another, until one is refused. Contracts see it as a
-/// `CallerState`: it tells its configuration, its task, each call that was made with its reply and
+/// `CallerState`: it gives its configuration, its task, each call that was made with its reply and
 /// the number of cycles before it, whether a rest is asked for, and whether a call was refused.
 pub trait Caller {
     /// The type of what no call and no rest changes.
@@ -31,10 +31,10 @@ pub trait Caller {
     // What no call and no rest changes.
     ghost fixed: { Self → Self.Fixed };
 
-    // What the caller tells.
+    // What the caller gives.
     ghost told: { Self → CallerState };
 
-    /// Calls a block of the task and gives the reply, or none where the call is refused. Behind a
+    /// Calls a block of the task and gives the reply, or none where the call is refused. After a
     /// rest it waits for a cycle.
     fn call<R: Wait>(&mut self, rt: &R, instance: u16, inputs: &Inputs) -> Option<Outputs>
         requires own { IsBlockOf (told self.old).config (told self.old).task instance }

@@ -6,7 +6,7 @@ ghost use Rattle.task_run.specs.Standing.{IsInside, IsPlace, Stands};
 ghost use Rattle.task_run.specs.Tasks as spec;
 ghost use Rattle.task_run.specs.Runs.{until_again};
 
-use crate::place::{Pass, Place};
+use crate::place::{ProgramPosition, Repetition};
 use fb_outputs::Inputs;
 use plc_program::Instruction;
 
@@ -46,7 +46,7 @@ fn last_in_body(block: u16, lines: &[Instruction]) -> Option<Inputs>
 }
 
 // The inputs of the last call that was made of the block, in a repeat.
-fn last_inside(block: u16, lines: &[Instruction], line: u32, pass: Pass) -> Option<Inputs>
+fn last_inside(block: u16, lines: &[Instruction], line: u32, pass: Repetition) -> Option<Inputs>
     requires task { IsTask lines.now }
     requires place { (passed : List Instruction) × (to_come : List Instruction) ×
         IsInside lines.now line pass passed to_come }
@@ -66,7 +66,7 @@ fn last_inside(block: u16, lines: &[Instruction], line: u32, pass: Pass) -> Opti
 }
 
 /// The inputs of the last call that was made of the block, at this place.
-pub fn last_call(block: u16, lines: &[Instruction], place: Place) -> Option<Inputs>
+pub fn last_call(block: u16, lines: &[Instruction], place: ProgramPosition) -> Option<Inputs>
     requires task { IsTask lines.now }
     requires place { IsPlace lines.now place }
     ensures { (passed to_come : List Instruction) → Stands lines.now place passed to_come →

@@ -9,7 +9,7 @@ use plc_program::Instruction;
 
 /// A repeat that a run is in.
 #[derive(Clone, Copy)]
-pub struct Pass {
+pub struct Repetition {
     /// The line of the repeat.
     pub start: u32,
     /// How often its lines were run before.
@@ -18,15 +18,15 @@ pub struct Pass {
 
 /// A place in the lines of a task.
 #[derive(Clone, Copy)]
-pub struct Place {
+pub struct ProgramPosition {
     pub line: u32,
     /// The repeat in which it stands.
-    pub pass: Option<Pass>,
+    pub pass: Option<Repetition>,
 }
 
-/// The place from there on at which a line makes calls, or behind the last line: it stands at the
+/// The place from there on at which a line makes calls, or after the last line: it stands at the
 /// same point of the lines written out.
-pub fn settled(lines: &[Instruction], place: Place) -> Place
+pub fn settled(lines: &[Instruction], place: ProgramPosition) -> ProgramPosition
     requires task { IsTask lines.now }
     requires place { IsPlace lines.now place }
     ensures moves { Moves lines.now place result }
@@ -54,35 +54,35 @@ pub fn line_at(lines: &[Instruction], line: u32) -> Option<Instruction>
 }
 
 // The first line of the repeat in this line.
-fn entered(line: u32) -> Place
+fn entered(line: u32) -> ProgramPosition
     requires { line + 1 < 2 ^ 32 }
     ensures { result ≡ record {
       line = line + 1;
       pass = Some (record { start = line; made = 0 });
     } }
 {
-    Place {
+    ProgramPosition {
         line: line + 1,
-        pass: Some(Pass {
+        pass: Some(Repetition {
             start: line,
             made: 0,
         }),
     }
 }
 
-// The line behind the `again` in this line.
-fn behind(line: u32) -> Place
+// The line after the `again` in this line.
+fn behind(line: u32) -> ProgramPosition
     requires { line + 1 < 2 ^ 32 }
     ensures { result ≡ record { line = line + 1; pass = None } }
 {
-    Place {
+    ProgramPosition {
         line: line + 1,
         pass: None,
     }
 }
 
 // Whether the lines of a repeat are run again, at its `again`.
-fn is_run_again(lines: &[Instruction], line: u32, pass: Pass) -> bool
+fn is_run_again(lines: &[Instruction], line: u32, pass: Repetition) -> bool
     requires { slice_get lines.now line ≡ Some Instruction.Again }
     ensures again { result ≡ true → (passed to_come : List Instruction) →
         IsInside lines.now line pass passed to_come →
@@ -100,7 +100,7 @@ fn is_run_again(lines: &[Instruction], line: u32, pass: Pass) -> bool
 }
 
 // The first line of a repeat whose lines are run again, where they are, at its `again`.
-fn again(lines: &[Instruction], place: Place) -> Option<Place>
+fn again(lines: &[Instruction], place: ProgramPosition) -> Option<ProgramPosition>
     requires task { IsTask lines.now }
     requires place { IsPlace lines.now place }
     requires line { slice_get lines.now place.line ≡ Some Instruction.Again }
@@ -115,16 +115,16 @@ fn again(lines: &[Instruction], place: Place) -> Option<Place>
     if !is_run_again(lines, place.line, pass) {
         return None;
     }
-    Some(Place {
+    Some(ProgramPosition {
         line: pass.start + 1,
-        pass: Some(Pass {
+        pass: Some(Repetition {
             start: pass.start,
             made: pass.made + 1,
         }),
     })
 }
 
-// How often the lines behind a repeat are run.
+// How often the lines after a repeat are run.
 fn count_at(lines: &[Instruction], line: u32) -> u32
     ensures { (count : ℕ) → slice_get lines.now line ≡ Some (Instruction.Repeat count) →
         result ≡ count }
@@ -135,8 +135,8 @@ fn count_at(lines: &[Instruction], line: u32) -> u32
     }
 }
 
-/// The place behind a line that makes calls.
-pub fn moved(lines: &[Instruction], place: Place) -> Place
+/// The place after a line that makes calls.
+pub fn moved(lines: &[Instruction], place: ProgramPosition) -> ProgramPosition
     requires task { IsTask lines.now }
     requires place { (passed : List Instruction) × (line : Instruction) × (to_come : List Instruction) ×
         Stands lines.now place passed (line ∷ to_come) }
@@ -147,7 +147,7 @@ pub fn moved(lines: &[Instruction], place: Place) -> Place
         Stands lines.now result (passed ++ line ∷ []) to_come }
     ensures settled { is_settled lines.now result.line ≡ true }
 {
-    let next = Place {
+    let next = ProgramPosition {
         line: place.line + 1,
         pass: place.pass,
     };

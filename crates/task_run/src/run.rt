@@ -9,7 +9,7 @@ ghost use Rattle.task_run.specs.Tasks.{TaskState};
 
 use crate::last::last_call;
 use crate::outputs::is_passed;
-use crate::place::{Place, line_at, moved, settled};
+use crate::place::{ProgramPosition, line_at, moved, settled};
 use fb_outputs::{Inputs, Outputs};
 use plc_program::{Instruction, Program};
 
@@ -29,7 +29,7 @@ pub enum Next {
 #[derive(Clone, Copy)]
 pub struct TaskRun {
     pub(crate) task: u8,
-    pub(crate) place: Place,
+    pub(crate) place: ProgramPosition,
     pub(crate) resting: bool,
 }
 
@@ -43,7 +43,7 @@ impl TaskRun {
         ensures run { IsRun program.now result (spec.first_state (lines_of program.now result)) }
     {
         let lines = program.lines(task);
-        let first = Place {
+        let first = ProgramPosition {
             line: 0,
             pass: None,
         };
@@ -63,7 +63,7 @@ impl TaskRun {
         // A call stands in the task's lines; a wait's is the last call of its block.
         ensures line { (instance : ℕ) → (inputs : Inputs) → result ≡ Next.Call instance inputs →
             Contains (lines_of program.now self.now) (Instruction.Call instance inputs) }
-        // The end comes behind the last line alone.
+        // The end comes after the last line alone.
         ensures ended { result ≡ Next.End → (s : TaskState) → IsRun program.now self.now s →
             s.to_come ≡ [] }
     {

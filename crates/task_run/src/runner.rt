@@ -17,7 +17,7 @@ use std::sync::Wait;
 
 /// Makes the calls of a task's program, from the first on, until it ends or one is refused, and
 /// says whether it came to its end. The run was opened on this program, and was not used since; it
-/// then stands behind the calls that were made.
+/// then stands after the calls that were made.
 pub fn run_task<R: Wait, C: Caller>(
     rt: &R,
     program: &Program,
@@ -34,7 +34,7 @@ pub fn run_task<R: Wait, C: Caller>(
         IsEndedBy (lines_of program.now run.old) (C.told caller.new).calls }
     // It answers false exactly where a call was refused.
     ensures refused { (C.told caller.new).refused ≡ not result }
-    // The run stands behind the calls that were made, and rests no more.
+    // The run stands after the calls that were made, and rests no more.
     ensures stands { IsRun program.now run.new (record (state_behind
         (first_state (lines_of program.now run.old)) (C.told caller.new).calls) { rests = false }) }
     ensures task { run.new.task ≡ run.old.task }

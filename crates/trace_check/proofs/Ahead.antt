@@ -5,7 +5,7 @@ use Rattle.std.specs.Borrow.{Bor}
 use Rattle.csv.specs.declared.reader.Reader.{Reader}
 use Rattle.csv_records.specs.Records.{IsReading, TakesNext, slice_left}
 
--- so many of some records are read, and the others are left
+-- this many of some records are read, and the others are left
 pub record IsAhead (records : List (List (List ℕ))) (read : ℕ) (rdr : Reader (Bor (List ℕ))) : Type 0 where
   pub left : List (List (List ℕ))
   pub reading : IsReading slice_left rdr left

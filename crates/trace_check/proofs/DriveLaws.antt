@@ -19,7 +19,7 @@ use Rattle.trace_check.proofs.Firsts.{stops-at}
 use Rattle.trace_check.proofs.Numbered.{get-map, get-numbered, take-numbered}
 use Rattle.std.proofs.lemmas.Option.{slice_get-get_or}
 
--- the first so many drives took so many setpoints
+-- the first this many drives took this many setpoints
 abbrev pub TookSoFar : ℕ → List DriveEndRow → ℕ → Type 0
 TookSoFar c ds i = (j : ℕ) (d : DriveEndRow) → j < i → slice_get ds j ≡ Some d → with_taken c d ≡ d
 

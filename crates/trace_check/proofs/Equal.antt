@@ -1,4 +1,4 @@
--- What a comparison of two values has told.
+-- What a comparison of two values has reported.
 use Rattle.std.proofs.Common.{rules, ◌≡◌, true, refl, int_eq}
 use Rattle.std.specs.Prelude.{◌==◌, ◌&&◌}
 use Rattle.std.specs.Cmp.{booleans_Decides}

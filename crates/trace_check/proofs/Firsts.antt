@@ -34,7 +34,7 @@ pub first-none : (p : ℕ) (xs : List (List (List ℕ))) → first_difference p 
 first-none p [] = refl
 first-none p (x ∷ xs) = rw (same-self (padded x)) (first-none (p + 1) xs)
 
--- what follows doesn't matter behind the first that differs
+-- what follows doesn't matter after the first that differs
 pub first-stop : (p : ℕ) (xs ys us vs : List (List (List ℕ))) (d : Difference) → first_difference p xs ys ≡ Some d → first_difference p (xs ++ us) (ys ++ vs) ≡ Some d
 first-stop p [] ys us vs d h = absurd (cc)
 first-stop p (x ∷ xs) [] us vs d h = absurd (cc)

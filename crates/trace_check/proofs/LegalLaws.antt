@@ -10,7 +10,7 @@ use Rattle.motion_history.specs.Entries.{Entry, call, cycle, cycle_count, cycles
 use Rattle.motion_history.specs.Setup.{Setup}
 use Rattle.motion_history.specs.declared.refused.TraceVersion.{TraceVersion}
 use Rattle.motion_kernel.specs.Histories.{Follows, IsLegalFrom, IsOf, after, inputs_of, machine_from, replay}
-use Rattle.motion_kernel.specs.Banks.{BankedState}
+use Rattle.motion_kernel.specs.Segments.{SegmentedState}
 use Rattle.motion_kernel.specs.Machine.{Machine}
 use Rattle.trace_text.specs.Held.{IsHeldOf, keep_within}
 use Rattle.trace_text.specs.RowRanges.{found_row}
@@ -148,14 +148,14 @@ legal-held whole t m h l =
     let same : s ≡ t.config = ap (λ (x : TraceState). x.config) h.is in
     held-all whole t h (rw (← same) (keeps-of s t.found (omega (arith, long, entries)) (omega (arith, first, cycles, most))))
 
--- behind entries others are expected behind their records
+-- after entries others are expected after their records
 expected-append : (v : TraceVersion) (s : Setup) (m : Machine) (made es more : List Entry) → (rest : List (List (List ℕ))) × (expected_from v s m made (es ++ more) ≡ expected_from v s m made es ++ rest)
 expected-append v s m made [] more = (expected_from v s m made more, refl)
 expected-append v s m made (e ∷ es) more =
     let later = expected-append v s m (with_made_from s m made e) es more in
     (later.0, ap (λ x. expected_of v s m made e ++ x) later.1 ∙ sym (append_assoc (expected_of v s m made e) _ later.0))
 
--- a record that differs first whatever stands behind the entries that are held differs first
+-- a record that differs first whatever stands after the entries that are held differs first
 differs-more : (t : TraceState) (m : Machine) (d : Difference) (more : List FoundEntry) → DiffersAmong t m d → difference_from m (record t { found = t.found ++ more }) ≡ Some d
 unfolding difference_from expected_records found_records first_place
 differs-more t m d more h =
@@ -175,10 +175,10 @@ differs-more t m d more h =
 pub differs-held : (whole t : TraceState) (m : Machine) (d : Difference) → IsHeldOf whole t → DiffersAmong t m d → difference_from m whole ≡ Some d
 differs-held whole t m d held h = ap (difference_from m) held.is ∙ differs-more t m d held.more h
 
--- ---- what is judged
+-- ---- what is verified
 
 -- where all that is held was replayed it is all
-pub all-replayed : (whole t : TraceState) (m : Machine) (k : BankedState) (place : ℕ) → IsHeldOf whole t → IsUnderWay t m k (length t.found) place → IsLegalFrom k.config k.start k.history → whole ≡ t
+pub all-replayed : (whole t : TraceState) (m : Machine) (k : SegmentedState) (place : ℕ) → IsHeldOf whole t → IsUnderWay t m k (length t.found) place → IsLegalFrom k.config k.start k.history → whole ≡ t
 all-replayed whole t m k place h u legal =
     let fs = all-found t m k place u in
     let entries = legal.entries in
@@ -187,7 +187,7 @@ all-replayed whole t m k place h u legal =
     let cycles : cycles_of (map entry_of t.found) ≡ cycles_of k.history = ap (λ es. cycles_of (map entry_of es)) fs ∙ cycles-found t.version t.config k.history in
     held-all whole t h (rw (← u.config) (keeps-of k.config t.found (omega (arith, long, entries)) (omega (arith, cycles, most))))
 
-pub illegal-entry : (whole t : TraceState) (m : Machine) (s : Stop) (k : BankedState) → IsTraceKept t → IsHeldOf whole t → EntriesReplay t m k (Err s) → Judges m whole (Err s)
+pub illegal-entry : (whole t : TraceState) (m : Machine) (s : Stop) (k : SegmentedState) → IsTraceKept t → IsHeldOf whole t → EntriesReplay t m k (Err s) → Judges m whole (Err s)
 illegal-entry whole t m (stop.Differs d) k kept held h = (
   differs-held whole t m d held h,
   λ l.
@@ -197,10 +197,10 @@ illegal-entry whole t m (stop.Differs d) k kept held h = (
 )
 illegal-entry whole t m stop.OutOfMemory k kept held h = tt
 
-taken-as : (t : TraceState) (m : Machine) (k : BankedState) (place c : ℕ) → IsUnderWay t m k (length t.found) place → c ≡ cycles_of k.history → cycles_of (entries_of t) ≡ c
+taken-as : (t : TraceState) (m : Machine) (k : SegmentedState) (place c : ℕ) → IsUnderWay t m k (length t.found) place → c ≡ cycles_of k.history → cycles_of (entries_of t) ≡ c
 taken-as t m k place c u e = ap (λ fs. cycles_of (map entry_of fs)) (all-found t m k place u) ∙ cycles-found t.version t.config k.history ∙ sym e
 
-pub illegal-drive : (t : TraceState) (m : Machine) (s : Stop) (k : BankedState) (place c : ℕ) → IsTraceKept t → IsUnderWay t m k (length t.found) place → c ≡ cycles_of k.history →
+pub illegal-drive : (t : TraceState) (m : Machine) (s : Stop) (k : SegmentedState) (place c : ℕ) → IsTraceKept t → IsUnderWay t m k (length t.found) place → c ≡ cycles_of k.history →
     StopsAt place (drive_records t.config (map (with_taken c) t.drives)) (drive_records t.config t.drives) s → Judges m t (Err s)
 illegal-drive t m (stop.Differs d) k place c kept u e h =
     let same : difference_from m t ≡ Some d =
@@ -209,11 +209,11 @@ illegal-drive t m (stop.Differs d) k place c kept u e h =
 illegal-drive t m stop.OutOfMemory k place c kept u e h = tt
 
 -- so of the whole, where that is held
-pub illegal-drives : (whole t : TraceState) (m : Machine) (s : Stop) (k : BankedState) (place c : ℕ) → whole ≡ t → IsTraceKept t → IsUnderWay t m k (length t.found) place → c ≡ cycles_of k.history →
+pub illegal-drives : (whole t : TraceState) (m : Machine) (s : Stop) (k : SegmentedState) (place c : ℕ) → whole ≡ t → IsTraceKept t → IsUnderWay t m k (length t.found) place → c ≡ cycles_of k.history →
     StopsAt place (drive_records t.config (map (with_taken c) t.drives)) (drive_records t.config t.drives) s → Judges m whole (Err s)
 illegal-drives whole t m s k place c all kept u e h = subst (λ x. Judges m x (Err s)) (sym all) (illegal-drive t m s k place c kept u e h)
 
-pub legal-kernel : (t : TraceState) (m : Machine) (k : BankedState) (place c : ℕ) → IsUnderWay t m k (length t.found) place → c ≡ cycles_of k.history → map (with_taken c) t.drives ≡ t.drives →
+pub legal-kernel : (t : TraceState) (m : Machine) (k : SegmentedState) (place c : ℕ) → IsUnderWay t m k (length t.found) place → c ≡ cycles_of k.history → map (with_taken c) t.drives ≡ t.drives →
     IsLegalFrom k.config k.start k.history → Judges m t (Ok k)
 legal-kernel t m k place c u e same legal =
     let here : IsLegalFrom k.config m k.history = subst (λ x. IsLegalFrom k.config x k.history) u.start legal in (

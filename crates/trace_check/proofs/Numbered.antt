@@ -48,7 +48,7 @@ get-numbered f m (y ∷ xs) more zero k x e h =
     rw (is, mk) refl
 get-numbered f m (y ∷ xs) more (suc n) k x e h = get-numbered f (suc m) xs more n k x (omega (arith, e)) h
 
--- the record behind them
+-- the record after them
 pub get-behind : {X Y : Type 0} (f : ℕ → X → List (List ℕ)) (g : ℕ → Y → List (List ℕ)) (m k : ℕ) (xs : List X) (ys : List Y) (more : List (List (List ℕ))) (n : ℕ) → length xs ≡ length ys → length xs ≤ n →
     slice_get (numbered f m xs ++ more) n ≡ slice_get (numbered g k ys ++ more) n
 get-behind f g m k [] [] more n e l = refl

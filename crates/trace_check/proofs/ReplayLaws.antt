@@ -5,7 +5,7 @@ use Rattle.std.specs.List.{flat_map}
 use Rattle.std.specs.Option.{option_map}
 use Rattle.std.proofs.lemmas.List.{drop_all, length-append, length-map, map-append, take_all}
 use Rattle.motion_history.specs.Entries.{cycles_of}
-use Rattle.motion_kernel.specs.Banks.{BankedState}
+use Rattle.motion_kernel.specs.Segments.{SegmentedState}
 use Rattle.motion_kernel.specs.Machine.{Machine}
 use Rattle.motion_history.specs.Setup.{Setup}
 use Rattle.motion_history.specs.declared.refused.TraceVersion.{TraceVersion}
@@ -38,7 +38,7 @@ entry-at : (t : TraceState) (n : ℕ) (e : FoundEntry) → slice_get t.found n �
 entry-at t n e h = get-map entry_of t.found n ∙ ap (option_map entry_of) h
 
 -- what is left begins with the entry
-pub next-rest : (t : TraceState) (m : Machine) (k : BankedState) (count place : ℕ) (e : FoundEntry) (xs ys : List (List (List ℕ))) → IsUnderWay t m k count place → slice_get t.found count ≡ Some e →
+pub next-rest : (t : TraceState) (m : Machine) (k : SegmentedState) (count place : ℕ) (e : FoundEntry) (xs ys : List (List (List ℕ))) → IsUnderWay t m k count place → slice_get t.found count ≡ Some e →
     first_difference (first_place t) (expected_from t.version t.config m [] (entries_of t) ++ xs) (flat_map (found_entry_records t.config) t.found ++ ys) ≡
     first_difference place
     (expected_of t.version t.config m k.history (entry_of e) ++ (expected_from t.version t.config m (with_made_from t.config m k.history (entry_of e)) (drop (count + 1) (entries_of t)) ++ xs))
@@ -55,19 +55,19 @@ next-rest t m k count place e xs ys u at =
     ap (λ l. first_difference place (expected_of v s m k.history (entry_of e) ++ (expected_from v s m (with_made_from s m k.history (entry_of e)) (drop (count + 1) (entries_of t)) ++ xs)) l) (append_assoc (found_entry_records s e) _ ys)
 
 -- one entry more is replayed
-pub goes-on : (t : TraceState) (m : Machine) (k new : BankedState) (count place n : ℕ) (e : FoundEntry) → IsUnderWay t m k count place → slice_get t.found count ≡ Some e → IsEntryReplayed t e k.start k new n →
+pub goes-on : (t : TraceState) (m : Machine) (k new : SegmentedState) (count place n : ℕ) (e : FoundEntry) → IsUnderWay t m k count place → slice_get t.found count ≡ Some e → IsEntryReplayed t e k.start k new n →
     IsUnderWay t m new (count + 1) (place + n)
 goes-on t m k new count place n e u at replayed =
     let r : IsEntryReplayed t e m k new n = subst (λ x. IsEntryReplayed t e x k new n) u.start replayed in
-    let history : new.history ≡ with_made_from t.config m k.history (entry_of e) = ap (λ (x : BankedState). x.history) r.after in
+    let history : new.history ≡ with_made_from t.config m k.history (entry_of e) = ap (λ (x : SegmentedState). x.history) r.after in
     let made = u.made in
     let room = r.room in
     let small = u.small in
     let few = r.few in
     let long : length (k.history ++ made_from t.config m k.history (entry_of e) ∷ []) ≡ length k.history + 1 = length-append k.history (made_from t.config m k.history (entry_of e) ∷ []) in
     record {
-      config = ap (λ (x : BankedState). x.config) r.after ∙ u.config;
-      start = ap (λ (x : BankedState). x.start) r.after ∙ u.start;
+      config = ap (λ (x : SegmentedState). x.config) r.after ∙ u.config;
+      start = ap (λ (x : SegmentedState). x.start) r.after ∙ u.start;
       made = ap length history ∙ long ∙ ap (λ j. j + 1) made;
       room = omega (arith, made, room);
       small = omega (arith, small, few);
@@ -80,8 +80,8 @@ goes-on t m k new count place n e u at replayed =
           ap (λ h. first_difference (place + n) (expected_from t.version t.config m h (drop (count + 1) (entries_of t)) ++ xs) (flat_map (found_entry_records t.config) (drop (count + 1) t.found) ++ ys)) (sym history);
     }
 
--- a stop in an entry is the trace's, whatever stands behind the entries
-pub stops-here : (t : TraceState) (m : Machine) (k new : BankedState) (count place : ℕ) (e : FoundEntry) (s : Stop) → IsUnderWay t m k count place → slice_get t.found count ≡ Some e →
+-- a stop in an entry is the trace's, whatever stands after the entries
+pub stops-here : (t : TraceState) (m : Machine) (k new : SegmentedState) (count place : ℕ) (e : FoundEntry) (s : Stop) → IsUnderWay t m k count place → slice_get t.found count ≡ Some e →
     StopsAt place (expected_of t.version t.config k.start k.history (entry_of e)) (found_entry_records t.config e) s → EntriesReplay t m new (Err s)
 stops-here t m k new count place e (stop.Differs d) u at h = λ xs ys.
     let here = subst (λ x. StopsAt place (expected_of t.version t.config x k.history (entry_of e)) (found_entry_records t.config e) (stop.Differs d)) u.start h in
@@ -90,7 +90,7 @@ stops-here t m k new count place e (stop.Differs d) u at h = λ xs ys.
 stops-here t m k new count place e stop.OutOfMemory u at h = tt
 
 -- nothing is replayed at first
-pub opens : (t : TraceState) (k : BankedState) (place : ℕ) → k.config ≡ t.config → k.history ≡ [] → place ≡ first_place t → place ≤ 2000 → IsUnderWay t k.start k 0 place
+pub opens : (t : TraceState) (k : SegmentedState) (place : ℕ) → k.config ≡ t.config → k.history ≡ [] → place ≡ first_place t → place ≤ 2000 → IsUnderWay t k.start k 0 place
 opens t k place config history e small = record {
   config = config;
   start = refl;
@@ -102,7 +102,7 @@ opens t k place config history e small = record {
 }
 
 -- at the end the drives are left
-pub drives-left : (t : TraceState) (m : Machine) (k : BankedState) (place : ℕ) → IsUnderWay t m k (length t.found) place →
+pub drives-left : (t : TraceState) (m : Machine) (k : SegmentedState) (place : ℕ) → IsUnderWay t m k (length t.found) place →
     difference_from m t ≡ first_difference place (drive_records t.config (map (with_taken (cycles_of (entries_of t))) t.drives)) (drive_records t.config t.drives)
 unfolding difference_from expected_records found_records
 drives-left t m k place u =
@@ -111,7 +111,7 @@ drives-left t m k place u =
     u.rest _ _ ∙ rw (a, b) refl
 
 -- the entries are those of the kernel's history
-pub all-found : (t : TraceState) (m : Machine) (k : BankedState) (place : ℕ) → IsUnderWay t m k (length t.found) place → t.found ≡ map (found_entry t.version t.config) k.history
+pub all-found : (t : TraceState) (m : Machine) (k : SegmentedState) (place : ℕ) → IsUnderWay t m k (length t.found) place → t.found ≡ map (found_entry t.version t.config) k.history
 all-found t m k place u = sym (take_all (length t.found) t.found (omega arith)) ∙ u.found
 
 pub first-is : (t : TraceState) (place : ℕ) (s : Setup) → s ≡ t.config → ((v : TraceVersion) (c : Command) → place ≡ length (machine_records v c s) + 1) → place ≡ first_place t

@@ -28,7 +28,7 @@ found_entry_records s (found.Cycle c) =
     numbered (grow_fields s) 0 c.groups)
 found_entry_records s (found.End task) = end_fields s task ∷ []
 
--- the records of a trace behind its machine part, as they are found
+-- the records of a trace after its machine part, as they are found
 unfoldable pub found_records : TraceState → List (List (List ℕ))
 found_records t =
     flat_map (found_entry_records t.config) t.found ++ drive_records t.config t.drives

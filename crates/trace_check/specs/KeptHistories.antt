@@ -21,8 +21,8 @@ pub record IsKeptHistory (s : Setup) (es : List Entry) : Type 0 where
   pub legal : IsLegal s es
   pub bits : All HasBits es
 
--- the trace of a history and of what the drives took is read as that of the machine, the history and
--- the drives
+-- the trace of a history and of what the drives took is read as that of the machine, the history
+-- and the drives
 abbrev pub IsReadBack : TraceVersion → Command → Setup → List Entry → List DriveEndRow → Type 0
 IsReadBack v c s es ds = trace_of (trace_text v c s es ds) ≡ Ok (found_trace v c s es ds)
 

@@ -12,20 +12,20 @@ use Rattle.trace_text.specs.Trace.{drive_records, entry_records}
 use Rattle.trace_text.specs.TraceState.{TraceState, entries_of}
 use Rattle.trace_text.specs.declared.drive_end.DriveEndRow.{DriveEndRow}
 
--- the cycle that a machine makes after so many, with these answers of the drives
+-- the cycle that a machine makes after this many, with these answers of the drives
 abbrev pub cycle_of : Setup → ℕ → Machine → List DriveIn → Entry
 cycle_of s cycles m ins =
     let made = cycled s m ins in
     cycle (cycles + 1) made.axes made.groups
 
--- what a machine makes of the event of an entry, after so many cycles: a call has its reply, a
+-- what a machine makes of the event of an entry, after this many cycles: a call has its reply, a
 -- cycle its rows with the drives' answers given
 abbrev pub made_of : Setup → ℕ → Machine → Entry → Entry
 made_of s cycles m (call k inputs reply) = call k inputs (reply_of s m k inputs)
 made_of s cycles m (cycle n rows grows) = cycle_of s cycles m (inputs_of rows)
 made_of s cycles m (end_of task) = end_of task
 
--- what a machine makes of the event of an entry behind a history from it on
+-- what a machine makes of the event of an entry after a history from it on
 abbrev pub made_from : Setup → Machine → List Entry → Entry → Entry
 made_from s m es e = made_of s (cycles_of es) (machine_from s m es) e
 
@@ -33,11 +33,11 @@ made_from s m es e = made_of s (cycles_of es) (machine_from s m es) e
 abbrev pub with_made_from : Setup → Machine → List Entry → Entry → List Entry
 with_made_from s m es e = es ++ made_from s m es e ∷ []
 
--- the cycle that the machine makes behind a history, with these answers of the drives
+-- the cycle that the machine makes after a history, with these answers of the drives
 abbrev pub cycle_made : Setup → List Entry → List DriveIn → Entry
 cycle_made s es ins = cycle_of s (cycles_of es) (machine_after s es) ins
 
--- what the machine makes of the event of an entry behind a history
+-- what the machine makes of the event of an entry after a history
 abbrev pub made_after : Setup → List Entry → Entry → Entry
 made_after s es e = made_of s (cycles_of es) (machine_after s es) e
 
@@ -55,7 +55,7 @@ has_cycle s es (end_of task) = true
 abbrev pub has_room : Setup → List Entry → Entry → Bool
 has_room s es e = nat_lt (length es) s.entries && has_cycle s es e
 
--- the records that are expected of an entry behind a history from a machine on: those of what the
+-- the records that are expected of an entry after a history from a machine on: those of what the
 -- machine makes of it; where there is no room, a record of empty fields
 unfoldable pub expected_of : TraceVersion → Setup → Machine → List Entry → Entry →
     List (List (List ℕ))
@@ -69,11 +69,11 @@ expected_from v s m made [] = []
 expected_from v s m made (e ∷ es) =
     expected_of v s m made e ++ expected_from v s m (with_made_from s m made e) es
 
--- what a drive took, with a setpoint in each of so many cycles
+-- what a drive took, with a setpoint in each of this many cycles
 abbrev pub with_taken : ℕ → DriveEndRow → DriveEndRow
 with_taken cycles d = record d { taken = cycles }
 
--- the records that are expected of a trace behind its machine part: those of a machine, and those
+-- the records that are expected of a trace after its machine part: those of a machine, and those
 -- of the drives with the number of cycles taken
 unfoldable pub expected_records : Machine → TraceState → List (List (List ℕ))
 expected_records m t =

@@ -45,7 +45,7 @@ fn drive_record(
     )
 }
 
-// What a drive took, with a setpoint in each of so many cycles.
+// What a drive took, with a setpoint in each of this many cycles.
 fn taken_in(cycles: u32, drive: &DriveEndRow) -> DriveEndRow
     ensures { result ≡ with_taken cycles drive.now }
 {
@@ -76,7 +76,7 @@ fn wrong_drive(
     differing(place, expected, found)
 }
 
-/// Whether each drive took a setpoint in each of so many cycles, from a place on.
+/// Whether each drive took a setpoint in each of this many cycles, from a place on.
 pub fn check_drives(alloc: Global, trace: &Trace, cycles: u32, place: u64) -> Result<(), Stop>
     requires { place + length trace.now.drives < 2 ^ 64 }
     ensures compared { Compares place

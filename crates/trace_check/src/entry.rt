@@ -15,7 +15,7 @@ use crate::record::Record;
 use crate::rows::wrong_record;
 use crate::texts::{entry_record, found_record};
 use motion_history::EntryLook;
-use motion_kernel::BankedKernel;
+use motion_kernel::SegmentedKernel;
 use std::alloc::Global;
 use trace_text::Trace;
 
@@ -89,7 +89,7 @@ pub fn replay_entry(
     trace: &Trace,
     entry: u64,
     place: u64,
-    kernel: &mut BankedKernel,
+    kernel: &mut SegmentedKernel,
 ) -> Result<u64, Stop>
     requires kept { IsTraceKept trace.now }
     requires config { kernel.old.config ≡ trace.now.config }

@@ -3,7 +3,7 @@
 ghost use Rattle.std.specs.Prelude.{◌≡◌, ◌<◌, ◌++◌, ◌∷◌, [], IsTrue, length};
 ghost use Rattle.motion_history.specs.Entries.{cycles_of};
 ghost use Rattle.motion_history.specs.Looks.{told};
-ghost use Rattle.motion_kernel.specs.Banks.{machine_now};
+ghost use Rattle.motion_kernel.specs.Segments.{machine_now};
 ghost use Rattle.motion_kernel.specs.Histories.{inputs_of};
 ghost use Rattle.trace_check.specs.Events.{IsEvent};
 ghost use Rattle.trace_check.specs.Replays as spec;
@@ -12,7 +12,7 @@ ghost use Rattle.trace_check.specs.Replays.{cycle_of, with_made_from};
 use axis_state::AxisRow;
 use cia402_machine::{DriveIn, DriveOut};
 use motion_history::{EntryLook, MOST_AXES};
-use motion_kernel::BankedKernel;
+use motion_kernel::SegmentedKernel;
 
 /// An answer before it is given.
 const NO_ANSWER: DriveIn = DriveIn {
@@ -29,7 +29,7 @@ const NO_OUTPUT: DriveOut = DriveOut {
 };
 
 /// Whether the history has room for an entry more, and where it is a cycle also for that.
-pub fn has_room(kernel: &BankedKernel, entry: &EntryLook<'_>) -> bool
+pub fn has_room(kernel: &SegmentedKernel, entry: &EntryLook<'_>) -> bool
     ensures { result ≡ spec.has_room kernel.now.config kernel.now.history (told entry.now) }
 {
     let is_in_time = match entry {
@@ -50,7 +50,7 @@ fn take_answers(rows: &[AxisRow], answers: &mut [DriveIn])
 }
 
 // Goes through a cycle with the answers that these rows show.
-fn make_cycle(kernel: &mut BankedKernel, rows: &[AxisRow])
+fn make_cycle(kernel: &mut SegmentedKernel, rows: &[AxisRow])
     requires room { length kernel.old.history < kernel.old.config.entries }
     requires cycle { cycles_of kernel.old.history < kernel.old.config.cycles }
     requires rows { length rows.now ≡ length kernel.old.config.axes }
@@ -68,7 +68,7 @@ fn make_cycle(kernel: &mut BankedKernel, rows: &[AxisRow])
 }
 
 /// Makes the event of an entry, for which there is room.
-pub fn make(kernel: &mut BankedKernel, entry: &EntryLook<'_>)
+pub fn make(kernel: &mut SegmentedKernel, entry: &EntryLook<'_>)
     requires room { IsTrue (spec.has_room kernel.old.config kernel.old.history (told entry.now)) }
     requires event { IsEvent kernel.old.config (told entry.now) }
     ensures { kernel.new ≡ record kernel.old {

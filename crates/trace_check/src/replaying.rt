@@ -4,7 +4,7 @@ ghost use Rattle.std.specs.Prelude.{◌≡◌, ◌+◌, ◌≤◌, [], IfOk, len
 ghost use Rattle.trace_text.specs.Trace.{machine_records};
 ghost use Rattle.trace_text.specs.declared.command.Command.{Command};
 ghost use Rattle.motion_history.specs.declared.refused.TraceVersion.{TraceVersion};
-ghost use Rattle.motion_kernel.specs.Banks.{at_opening};
+ghost use Rattle.motion_kernel.specs.Segments.{at_opening};
 ghost use Rattle.trace_text.specs.Held.{IsHeldOf};
 ghost use Rattle.trace_text.specs.TraceKept.{IsTraceKept};
 ghost use Rattle.trace_text.specs.TraceState.{TraceState};
@@ -15,7 +15,7 @@ use crate::difference::{Difference, Stop};
 use crate::drives::check_drives;
 use crate::entry::replay_entry;
 use motion_history::{Config, MOST_ENTRIES, OutOfMemory};
-use motion_kernel::BankedKernel;
+use motion_kernel::SegmentedKernel;
 use std::alloc::Global;
 use trace_text::Trace;
 
@@ -23,12 +23,12 @@ use trace_text::Trace;
 #[derive(Drop)]
 pub enum Replayed {
     /// It is legal: the kernel has its history, the offsets of the rows too.
-    Legal(BankedKernel),
+    Legal(SegmentedKernel),
     /// The first record that differs.
     IllegalAt(Difference),
 }
 
-// The number of the first record behind the machine part.
+// The number of the first record after the machine part.
 fn first_place(config: &Config) -> u64
     ensures place { (v : TraceVersion) (c : Command) →
         result ≡ length (machine_records v c config.now) + 1 }
@@ -42,8 +42,8 @@ fn first_place(config: &Config) -> u64
         + config.blocks().len() as u64
 }
 
-// Replays all entries, and answers the number of the first record behind them.
-fn replay_entries(alloc: Global, trace: &Trace, kernel: &mut BankedKernel) -> Result<u64, Stop>
+// Replays all entries, and answers the number of the first record after them.
+fn replay_entries(alloc: Global, trace: &Trace, kernel: &mut SegmentedKernel) -> Result<u64, Stop>
     requires kept { IsTraceKept trace.now }
     requires config { kernel.old.config ≡ trace.now.config }
     requires empty { kernel.old.history ≡ [] }
@@ -61,10 +61,14 @@ fn replay_entries(alloc: Global, trace: &Trace, kernel: &mut BankedKernel) -> Re
 }
 
 // Replays a trace on a kernel up to the first record that differs.
-fn kernel_of(alloc: Global, trace: &Trace, mut kernel: BankedKernel) -> Result<BankedKernel, Stop>
+fn kernel_of(
+    alloc: Global,
+    trace: &Trace,
+    mut kernel: SegmentedKernel,
+) -> Result<SegmentedKernel, Stop>
     requires config { kernel.config ≡ trace.now.config }
     requires empty { kernel.history ≡ [] }
-    ensures judges { (whole : TraceState) → IsHeldOf whole trace.now →
+    ensures verifies { (whole : TraceState) → IsHeldOf whole trace.now →
         Judges kernel.start whole result }
     ensures before { IfOk result (λ k. k.before ≡ kernel.before) }
 {
@@ -83,11 +87,11 @@ fn kernel_of(alloc: Global, trace: &Trace, mut kernel: BankedKernel) -> Result<B
 
 /// Replays a trace from where a kernel of its configuration begins, one entry at a time, the
 /// answers of the drives being given. It takes memory for two records where they differ. What is
-/// told is so of each trace of which this is what is held.
+/// reported is so of each trace of which this is what is held.
 pub fn replay_from(
     alloc: Global,
     trace: &Trace,
-    kernel: BankedKernel,
+    kernel: SegmentedKernel,
 ) -> Result<Replayed, OutOfMemory>
     requires config { kernel.config ≡ trace.now.config }
     requires empty { kernel.history ≡ [] }
@@ -104,11 +108,11 @@ pub fn replay_from(
 }
 
 /// A kernel of a trace's configuration, at opening.
-pub fn open_kernel(alloc: Global, trace: &Trace) -> Result<BankedKernel, OutOfMemory>
+pub fn open_kernel(alloc: Global, trace: &Trace) -> Result<SegmentedKernel, OutOfMemory>
     ensures { IfOk result (λ k. k ≡ at_opening trace.now.config) }
 {
     let config = trace.config().copy(alloc)?;
-    BankedKernel::open(alloc, config)
+    SegmentedKernel::open(alloc, config)
 }
 
 /// Replays a trace on a kernel of its configuration, from opening on. It takes memory for the

@@ -53,7 +53,7 @@ pub fn entry_record(
     record_at(alloc, text.as_slice(), place)
 }
 
-/// The record of an entry as it is found, at a place in it: behind a row stands the place that was
+/// The record of an entry as it is found, at a place in it: after a row stands the place that was
 /// found with it.
 pub fn found_record(
     alloc: Global,

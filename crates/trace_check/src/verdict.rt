@@ -10,14 +10,14 @@ use crate::difference::Difference;
 use crate::record::Record;
 use crate::replaying::{Replayed, open_kernel, replay_from};
 use motion_history::OutOfMemory;
-use motion_kernel::BankedKernel;
+use motion_kernel::SegmentedKernel;
 use std::alloc::Global;
 use trace_text::Trace;
 
 /// The verdict on a trace.
 #[derive(Drop)]
 pub enum Verdict {
-    /// It is legal, and has so many entries.
+    /// It is legal, and has this many entries.
     Legal {
         entries: u64,
     },
@@ -29,13 +29,13 @@ pub enum Verdict {
     },
 }
 
-/// Judges a trace from where a kernel of its configuration begins: legal exactly where it is that
+/// Verifies a trace from where a kernel of its configuration begins: legal exactly where it is that
 /// of a history that is legal from there on, each drive having taken a setpoint in every cycle;
 /// else the first record that differs.
 pub fn check_from(
     alloc: Global,
     trace: &Trace,
-    kernel: BankedKernel,
+    kernel: SegmentedKernel,
 ) -> Result<Verdict, OutOfMemory>
     requires config { kernel.config ≡ trace.now.config }
     requires empty { kernel.history ≡ [] }
@@ -64,8 +64,8 @@ pub fn check_from(
     }
 }
 
-/// Judges a trace: legal exactly where it is that of a legal history of its machine, each drive
-/// having taken a setpoint in every cycle; else the first record that differs. What lies behind the
+/// Verifies a trace: legal exactly where it is that of a legal history of its machine, each drive
+/// having taken a setpoint in every cycle; else the first record that differs. What lies after the
 /// first entry for which there is no room changes no verdict, and needn't be held.
 pub fn check(alloc: Global, trace: &Trace) -> Result<Verdict, OutOfMemory>
     ensures verdict { IfOk result (λ v. v ≡ spec.verdict_of trace.now) }

@@ -65,7 +65,7 @@ all_small text number is few =
 pub short-back : (text : List ℕ) (n : ℕ) → decimal n ≡ text → n < 10 ^ 18 → Some (pos n) ≡ wide_number_of text
 short-back text n e small = sym (rw (← e) (wide-back (pos n) (omega (arith, ints, small))))
 
--- and behind a minus they spell the negative one
+-- and after a minus they spell the negative one
 minus_before : (n : ℕ) → 0 < n → signed_decimal (neg_ℤ (pos n)) ≡ 45 ∷ decimal n
 minus_before zero l = absurd (omega (arith, l))
 minus_before (suc n) l = refl

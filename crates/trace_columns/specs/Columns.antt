@@ -40,11 +40,11 @@ unsigned_of least most text = number_of (pos least) (pos most) text >>= λ z. So
 abbrev pub size_limited_of : List ℕ → Option ℤ
 size_limited_of text = number_of (neg_ℤ (pos MOST_NUMBER)) (pos MOST_NUMBER) text
 
--- the parts before the first colon and behind it
+-- the parts before the first colon and after it
 unfoldable pub halves_of : List ℕ → Option (List ℕ × List ℕ)
 halves_of text = position is_colon text >>= λ colon. Some (take colon text, drop (colon + 1) text)
 
--- a point X:Y: the numbers before its first colon and behind it
+-- a point X:Y: the numbers before its first colon and after it
 unfoldable pub point_of : List ℕ → Option (ℤ × ℤ)
 point_of text =
     halves_of text >>= λ h. size_limited_of h.0 >>= λ x. size_limited_of h.1 >>= λ y. Some (x, y)

@@ -42,7 +42,7 @@ pub fn hex_text(word: u16) -> [u8; 4]
     ]
 }
 
-// Puts a letter behind the others where its output is true.
+// Puts a letter after the others where its output is true.
 fn push_where(letters: &mut Vec<u8>, output: bool, letter: u8) -> Result<(), AllocError>
     ensures { OnOk result
         (letters.new.items ≡ letters.old.items ++ spec.letter_where output letter) }

@@ -27,7 +27,7 @@ pub fn wide_number_of(text: &[u8]) -> Option<i64>
     }
 }
 
-// The number that a field of at most 18 digits is, behind a minus or not, as it is spelled.
+// The number that a field of at most 18 digits is, after a minus or not, as it is spelled.
 #[inline]
 fn short_number_of(text: &[u8]) -> Option<i64>
     ensures { IfSome result (λ z. Some z ≡ spec.wide_number_of text.now) }
@@ -202,7 +202,7 @@ fn colon_in(text: &[u8]) -> Option<usize>
     text.iter().position(|b| *b == b':')
 }
 
-/// The parts of a field before its first colon and behind it.
+/// The parts of a field before its first colon and after it.
 #[tactic(auto, unfolding(crate::specs::Columns::halves_of))]
 pub fn halves_of(text: &[u8]) -> Option<(&[u8], &[u8])>
     ensures { option_map (λ h. (h.0.now, h.1.now)) result ≡ spec.halves_of text.now }

@@ -42,7 +42,7 @@ const DRIVE_STATES: [DriveState; 8] = [
     DriveState::Fault,
 ];
 
-/// The state of an axis of this name. Those that come most often are told by their bytes.
+/// The state of an axis of this name. Those that come most often are recognised by their bytes.
 #[tactic(auto, unfolding(crate::specs::Columns::axis_state_of, crate::specs::Fields::axis_state_text))]
 pub fn axis_state_of(name: &[u8]) -> Option<AxisState>
     ensures { result ≡ spec.axis_state_of name.now }

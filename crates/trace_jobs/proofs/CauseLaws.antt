@@ -16,37 +16,37 @@ use Rattle.trace_text.specs.reading.Reading.{trace_of}
 use Rattle.trace_text.specs.TraceState.{TraceState, entries_of}
 use Rattle.trace_text.specs.writing.Writes.{Output}
 use Rattle.trace_jobs.specs.Causes.{CheckCause, MigrateCause}
-use Rattle.trace_jobs.specs.Judged.{IsJudged, JudgesBy, tells_illegal, tells_legal}
-use Rattle.trace_jobs.specs.Plans.{check_plan, judged_plan, migrate_plan, migrated_plan, plan_of_check, plan_of_migrate}
+use Rattle.trace_jobs.specs.Verified.{IsVerified, JudgesBy, tells_illegal, tells_legal}
+use Rattle.trace_jobs.specs.Plans.{check_plan, verified_plan, migrate_plan, migrated_plan, plan_of_check, plan_of_migrate}
 
--- ---- that no record of a trace differs is told of those that are legal, and of no others
+-- ---- that no record of a trace differs is reported of those that are legal, and of no others
 
--- what a plan tells by the first record that differs
+-- what a plan gives by the first record that differs
 pub record TellsBy (t : TraceState) (p : Status) : Type 0 where
   pub legal : difference_in t ≡ None → tells_legal p ≡ true
   pub illegal : (d : Difference) → difference_in t ≡ Some d → tells_illegal p ≡ true
 
--- legality is told of the trace that a text is
+-- legality is reported of the trace that a text is
 abbrev pub LegalIsTold : List ℕ → Type 0
 LegalIsTold text =
     (t : TraceState) → trace_of text ≡ Ok t → (difference_in t ≡ None) ↔ IsLegalTrace t
 
-told-by : (t : TraceState) (p s : Status) → s ≡ p → TellsBy t p → IsJudged s t →
+told-by : (t : TraceState) (p s : Status) → s ≡ p → TellsBy t p → IsVerified s t →
     (o : Option Difference) → difference_in t ≡ o → (difference_in t ≡ None) ↔ IsLegalTrace t
-told-by t p s e tells judged None d =
-    (λ n. judged.legal (ap tells_legal e ∙ tells.legal n), λ l. d)
-told-by t p s e tells judged (Some x) d = (
+told-by t p s e tells verified None d =
+    (λ n. verified.legal (ap tells_legal e ∙ tells.legal n), λ l. d)
+told-by t p s e tells verified (Some x) d = (
   λ n. absurd (let bad : Some x ≡ None = sym d ∙ n in cc),
-  λ l. absurd (judged.illegal (ap tells_illegal e ∙ tells.illegal x d) l),
+  λ l. absurd (verified.illegal (ap tells_illegal e ∙ tells.illegal x d) l),
 )
 
 check-tells : (name text : List ℕ) (t : TraceState) → trace_of text ≡ Ok t →
     TellsBy t (check_plan name text).status
 check-tells name text t is = record {
   legal = λ e. ap (λ x. tells_legal (plan_of_reading plan_of_check 1 name x).status) is
-      ∙ ap (λ o. tells_legal (judged_plan (length (entries_of t)) o).status) e;
+      ∙ ap (λ o. tells_legal (verified_plan (length (entries_of t)) o).status) e;
   illegal = λ d e. ap (λ x. tells_illegal (plan_of_reading plan_of_check 1 name x).status) is
-      ∙ ap (λ o. tells_illegal (judged_plan (length (entries_of t)) o).status) e;
+      ∙ ap (λ o. tells_illegal (verified_plan (length (entries_of t)) o).status) e;
 }
 
 migrate-tells : (name text : List ℕ) (t : TraceState) → trace_of text ≡ Ok t →
@@ -60,26 +60,26 @@ migrate-tells name text t is = record {
 
 -- ---- a text that is checked
 
-told-judged : (n : ℕ) (o : Option Difference) → is_told (judged_plan n o).status ≡ true
-told-judged n None = refl
-told-judged n (Some d) = refl
+told-verified : (n : ℕ) (o : Option Difference) → is_told (verified_plan n o).status ≡ true
+told-verified n None = refl
+told-verified n (Some d) = refl
 
 check-told : (name : List ℕ) (reading : Result TraceState TextRefused) →
     is_told (plan_of_reading plan_of_check 1 name reading).status ≡ true
-check-told name (Ok t) = told-judged (length (entries_of t)) (difference_in t)
+check-told name (Ok t) = told-verified (length (entries_of t)) (difference_in t)
 check-told name (Err r) = refl
 
-judged-caused : (text : List ℕ) → LegalIsTold text → (t : TraceState) → trace_of text ≡ Ok t →
+verified-caused : (text : List ℕ) → LegalIsTold text → (t : TraceState) → trace_of text ≡ Ok t →
     (o : Option Difference) → difference_in t ≡ o →
-    CheckCause text (judged_plan (length (entries_of t)) o).status
-judged-caused text law t is None e =
+    CheckCause text (verified_plan (length (entries_of t)) o).status
+verified-caused text law t is None e =
     record { is = record { trace = t; reading = is; legal = (law t is).0 e }; count = refl }
-judged-caused text law t is (Some d) e =
+verified-caused text law t is (Some d) e =
     record { trace = t; reading = is; difference = d; first = e; place_is = refl }
 
 check-caused : (name text : List ℕ) → LegalIsTold text → (reading : Result TraceState TextRefused) →
     trace_of text ≡ reading → CheckCause text (plan_of_reading plan_of_check 1 name reading).status
-check-caused name text law (Ok t) is = judged-caused text law t is (difference_in t) refl
+check-caused name text law (Ok t) is = verified-caused text law t is (difference_in t) refl
 check-caused name text law (Err r) is = refused-cause (trace_of text) r is
 
 check-alone : (name text : List ℕ) → LegalIsTold text → (other : Status) → CheckCause text other →
@@ -87,11 +87,11 @@ check-alone : (name text : List ℕ) → LegalIsTold text → (other : Status) �
 check-alone name text law (status.Legal n) h =
     let t = h.is.trace in
     ap (λ x. (plan_of_reading plan_of_check 1 name x).status) h.is.reading
-    ∙ ap (λ o. (judged_plan (length (entries_of t)) o).status) ((law t h.is.reading).1 h.is.legal)
+    ∙ ap (λ o. (verified_plan (length (entries_of t)) o).status) ((law t h.is.reading).1 h.is.legal)
     ∙ ap status.Legal h.count
 check-alone name text law (status.Illegal place) h =
     ap (λ x. (plan_of_reading plan_of_check 1 name x).status) h.reading
-    ∙ ap (λ o. (judged_plan (length (entries_of h.trace)) o).status) h.first
+    ∙ ap (λ o. (verified_plan (length (entries_of h.trace)) o).status) h.first
     ∙ ap status.Illegal h.place_is
 check-alone name text law (status.TextRefused word place rule) h =
     refused-plan plan_of_check name (trace_of text) word place rule h
@@ -100,7 +100,7 @@ check-alone name text law other h = absurd h
 pub check-for : FollowPlans → (name text : List ℕ) (old new : Output) (s : Status) →
     EndsBy old new (check_plan name text) s → JudgesBy (λ t. trace_of text ≡ Ok t) s →
     EndsFor old new (check_plan name text) (CheckCause text) s
-check-for follow name text old new s e judged = record {
+check-for follow name text old new s e verified = record {
   ends = e;
   told = check-told name (trace_of text);
   caused = λ f. check-caused name text (law f) (trace_of text) refl;
@@ -109,7 +109,7 @@ check-for follow name text old new s e judged = record {
   where
     law : is_fault s ≡ false → LegalIsTold text
     law f = λ t is. told-by t _ s (follow.whole old new _ s e f).0 (check-tells name text t is)
-        (judged t is) (difference_in t) refl
+        (verified t is) (difference_in t) refl
 
 -- ---- a text that is migrated
 
@@ -150,7 +150,7 @@ migrate-alone name text law other h = absurd h
 pub migrate-for : FollowPlans → (name text : List ℕ) (old new : Output) (s : Status) →
     EndsBy old new (migrate_plan name text) s → JudgesBy (λ t. trace_of text ≡ Ok t) s →
     EndsFor old new (migrate_plan name text) (MigrateCause text) s
-migrate-for follow name text old new s e judged = record {
+migrate-for follow name text old new s e verified = record {
   ends = e;
   told = migrate-told name (trace_of text);
   caused = λ f. migrate-caused name text (law f) (trace_of text) refl;
@@ -159,4 +159,4 @@ migrate-for follow name text old new s e judged = record {
   where
     law : is_fault s ≡ false → LegalIsTold text
     law f = λ t is. told-by t _ s (follow.whole old new _ s e f).0 (migrate-tells name text t is)
-        (judged t is) (difference_in t) refl
+        (verified t is) (difference_in t) refl

@@ -25,13 +25,13 @@ use Rattle.trace_text.specs.declared.writing.write.TraceFault.TheVariants as fau
 use Rattle.trace_jobs.proofs.CauseLaws.{check-for, migrate-for}
 use Rattle.trace_jobs.proofs.MigratedLaws.{migrated-of}
 use Rattle.trace_jobs.specs.Ends.{EndsByCheck, EndsByMigrate}
-use Rattle.trace_jobs.specs.Judged.{IsReadAgain, JudgesBy, tells_illegal, tells_legal}
-use Rattle.trace_jobs.specs.Plans.{check_plan, judged_plan, migrate_plan, migrated_plan, plan_of_check, plan_of_migrate}
+use Rattle.trace_jobs.specs.Verified.{IsReadAgain, JudgesBy, tells_illegal, tells_legal}
+use Rattle.trace_jobs.specs.Plans.{check_plan, verified_plan, migrate_plan, migrated_plan, plan_of_check, plan_of_migrate}
 
 -- a trace that was replayed has this plan
 pub checked : (t : TraceState) (o : Option Difference) → difference_in t ≡ o →
-    plan_of_check t ≡ judged_plan (length (entries_of t)) o
-checked t o e = ap (judged_plan (length (entries_of t))) e
+    plan_of_check t ≡ verified_plan (length (entries_of t)) o
+checked t o e = ap (verified_plan (length (entries_of t))) e
 
 pub migrating : (t : TraceState) (o : Option Difference) → difference_in t ≡ o →
     plan_of_migrate t ≡ migrated_plan t o
@@ -53,10 +53,10 @@ said-not test f o old new (Ok v) p s n e = not-by test f o p s e.written n e.sta
 said-not test f o old new (Err x) p s n e = ap test e.status ∙ o
 
 -- what is read is the one trace
-pub judges-read : (reading : Result TraceState TextRefused) (trace : TraceState) (s : Status) →
+pub verifies-read : (reading : Result TraceState TextRefused) (trace : TraceState) (s : Status) →
     reading ≡ Ok trace → JudgesBy (λ t. t ≡ trace) s → JudgesBy (λ t. reading ≡ Ok t) s
-judges-read reading trace s r judges =
-    λ t h. judges t (let e : Ok t ≡ Ok trace = sym h ∙ r in cc)
+verifies-read reading trace s r verifies =
+    λ t h. verifies t (let e : Ok t ≡ Ok trace = sym h ∙ r in cc)
 
 -- the verdict by the first record that differs
 legal-by : (n entries : ℕ) (o : Option Difference) → verdict.Legal entries ≡ verdict_by n o →
@@ -85,41 +85,41 @@ pub illegal-of : (t : TraceState) (place : ℕ) (x y : List (List ℕ)) →
 unfolding verdict_of
 illegal-of t place x y e = illegal-by (length (entries_of t)) place x y (difference_in t) e
 
--- a legal trace is not told to be illegal
-pub judges-fair : (t : TraceState) (s : Status) → IsLegalTrace t → IsReadAgain t →
+-- a legal trace is not reported to be illegal
+pub verifies-fair : (t : TraceState) (s : Status) → IsLegalTrace t → IsReadAgain t →
     tells_illegal s ≡ false → JudgesBy (λ x. x ≡ t) s
-judges-fair t s fair again n = λ x same. record {
+verifies-fair t s fair again n = λ x same. record {
   legal = λ h. subst IsLegalTrace (sym same) fair;
   again = λ h. subst IsReadAgain (sym same) again;
   illegal = λ h. absurd (let bad : true ≡ false = sym h ∙ n in cc);
 }
 
 -- a trace that was found legal
-pub judges-legal : (t : TraceState) (v : Verdict) (entries : ℕ) (s : Status) →
+pub verifies-legal : (t : TraceState) (v : Verdict) (entries : ℕ) (s : Status) →
     v ≡ verdict.Legal entries → v ≡ verdict_of t →
     ((v ≡ verdict.Legal (length (entries_of t))) ↔ IsLegalTrace t) → IsReadAgain t →
     tells_illegal s ≡ false → JudgesBy (λ x. x ≡ t) s
-judges-legal t v entries s is e legal again n =
+verifies-legal t v entries s is e legal again n =
     let count = (legal-of t entries (sym is ∙ e)).1 in
     let fair : IsLegalTrace t = legal.0 (is ∙ ap verdict.Legal count) in
-    judges-fair t s fair again n
+    verifies-fair t s fair again n
 
--- a trace that is not legal is not told to be
-pub judges-unfair : (t : TraceState) (s : Status) → ¬ IsLegalTrace t → tells_legal s ≡ false →
+-- a trace that is not legal is not reported to be
+pub verifies-unfair : (t : TraceState) (s : Status) → ¬ IsLegalTrace t → tells_legal s ≡ false →
     JudgesBy (λ x. x ≡ t) s
-judges-unfair t s unfair n = λ u same. record {
+verifies-unfair t s unfair n = λ u same. record {
   legal = λ h. absurd (let bad : true ≡ false = sym h ∙ n in cc);
   again = λ h. absurd (let bad : true ≡ false = sym h ∙ n in cc);
   illegal = λ h l. unfair (subst IsLegalTrace same l);
 }
 
 -- a trace that was found not to be legal
-pub judges-illegal : (t : TraceState) (v : Verdict) (place : ℕ) (x y : List (List ℕ)) (s : Status) →
+pub verifies-illegal : (t : TraceState) (v : Verdict) (place : ℕ) (x y : List (List ℕ)) (s : Status) →
     v ≡ verdict.IllegalAt place x y →
     ((v ≡ verdict.Legal (length (entries_of t))) ↔ IsLegalTrace t) → tells_legal s ≡ false →
     JudgesBy (λ u. u ≡ t) s
-judges-illegal t v place x y s is legal n =
-    judges-unfair t s (λ l. let bad = sym is ∙ legal.1 l in absurd (cc bad)) n
+verifies-illegal t v place x y s is legal n =
+    verifies-unfair t s (λ l. let bad = sym is ∙ legal.1 l in absurd (cc bad)) n
 
 -- a text that is refused ends by its reading's plan
 pub refused-ends : (old new : Output) (plan : TraceState → Plan) (name : List ℕ)
@@ -129,7 +129,7 @@ pub refused-ends : (old new : Output) (plan : TraceState → Plan) (name : List 
 refused-ends old new plan name reading r s e =
     subst (λ p. EndsBy old new p s) (sym (ap (plan_of_reading plan 1 name) e))
 
--- a trace that is held ends by its reading's plan, and is judged
+-- a trace that is held ends by its reading's plan, and is verified
 pub read-ends : (old new : Output) (plan : TraceState → Plan) (name : List ℕ)
     (reading : Result TraceState TextRefused) (whole : TraceState) (s : Status) →
     reading ≡ Ok whole → EndsBy old new (plan whole) s →
@@ -144,14 +144,14 @@ refused-why reading f r e why =
     let P : TextFault → Type 0 = λ x. ReadsHeld reading (Err x) in subst P e why
 
 -- a text that is refused is no trace
-pub judges-none : (reading : Result TraceState TextRefused) (r : TextRefused) (s : Status) →
+pub verifies-none : (reading : Result TraceState TextRefused) (r : TextRefused) (s : Status) →
     reading ≡ Err r → JudgesBy (λ t. reading ≡ Ok t) s
-judges-none reading r s e = λ t h. let bad : Ok t ≡ Err r = sym h ∙ e in absurd (cc)
+verifies-none reading r s e = λ t h. let bad : Ok t ≡ Err r = sym h ∙ e in absurd (cc)
 
--- where the status tells nothing of a trace nothing is said
-pub judges-other : (IsRead : TraceState → Type 0) (s : Status) → tells_legal s ≡ false →
+-- where the status gives nothing of a trace nothing is said
+pub verifies-other : (IsRead : TraceState → Type 0) (s : Status) → tells_legal s ≡ false →
     tells_illegal s ≡ false → JudgesBy IsRead s
-judges-other IsRead s l i = λ t h. record {
+verifies-other IsRead s l i = λ t h. record {
   legal = λ e. absurd (let bad : true ≡ false = sym e ∙ l in cc);
   again = λ e. absurd (let bad : true ≡ false = sym e ∙ l in cc);
   illegal = λ e. absurd (let bad : true ≡ false = sym e ∙ i in cc);
@@ -161,15 +161,15 @@ judges-other IsRead s l i = λ t h. record {
 pub check-ended : FollowPlans → (name text : List ℕ) (old new : Output) (s : Status) →
     EndsBy old new (check_plan name text) s → JudgesBy (λ t. trace_of text ≡ Ok t) s →
     EndsByCheck name text old new s
-check-ended follow name text old new s e judged =
-    record { by = check-for follow name text old new s e judged; judged = judged }
+check-ended follow name text old new s e verified =
+    record { by = check-for follow name text old new s e verified; verified = verified }
 
 -- and so it was migrated
 pub migrate-ended : FollowPlans → (name text : List ℕ) (old new : Output) (s : Status) →
     EndsBy old new (migrate_plan name text) s → JudgesBy (λ t. trace_of text ≡ Ok t) s →
     EndsByMigrate name text old new s
-migrate-ended follow name text old new s e judged = record {
-  by = migrate-for follow name text old new s e judged;
-  judged = judged;
-  migrated = migrated-of follow name text old new s e judged;
+migrate-ended follow name text old new s e verified = record {
+  by = migrate-for follow name text old new s e verified;
+  verified = verified;
+  migrated = migrated-of follow name text old new s e verified;
 }

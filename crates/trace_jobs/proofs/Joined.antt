@@ -5,7 +5,7 @@ use Rattle.std.proofs.Common.{◌∙◌, ap, arith, sym}
 use Rattle.std.proofs.lemmas.List.{append_assoc, append-nil}
 use Rattle.trace_jobs.specs.Lines.{joined}
 
--- a field behind a comma
+-- a field after a comma
 abbrev behind_comma : List ℕ → List ℕ
 behind_comma f = 44 ∷ f
 

@@ -18,7 +18,7 @@ use Rattle.trace_text.specs.Trace.{trace_text}
 use Rattle.trace_text.specs.TraceState.{TraceState}
 use Rattle.trace_text.specs.writing.Writes.{Output}
 use Rattle.trace_jobs.proofs.HistoryLaws.{history_is}
-use Rattle.trace_jobs.specs.Judged.{JudgesBy, tells_legal}
+use Rattle.trace_jobs.specs.Verified.{JudgesBy, tells_legal}
 use Rattle.trace_jobs.specs.Migrated.{Migrated}
 use Rattle.trace_jobs.specs.Plans.{migrate_plan, migrated_plan, plan_of_migrate}
 
@@ -26,11 +26,11 @@ trace-migrated : FollowPlans → (name text : List ℕ) (old new : Output) (s : 
     (o : Option Difference) → trace_of text ≡ Ok t → EndsBy old new (migrated_plan t o) s →
     JudgesBy (λ x. trace_of text ≡ Ok x) s → (files : Option FileMap) → HasFile files name text →
     s ≡ status.Ok → Migrated files name old.told new.told
-trace-migrated follow name text old new s t (Some d) is e judged files file h =
+trace-migrated follow name text old new s t (Some d) is e verified files file h =
     let whole = follow.whole old new _ s e (ap is_fault h) in
     let bad : status.Ok ≡ status.Illegal d.place = sym h ∙ whole.0 in absurd (cc)
-trace-migrated follow name text old new s t None is e judged files file h =
-    let told = judged t is in
+trace-migrated follow name text old new s t None is e verified files file h =
+    let told = verified t is in
     let legal = told.legal (ap tells_legal h) in
     record {
       text = text;
@@ -52,15 +52,15 @@ read-migrated : FollowPlans → (name text : List ℕ) (old new : Output) (s : S
     EndsBy old new (plan_of_reading plan_of_migrate 1 name reading) s →
     JudgesBy (λ x. trace_of text ≡ Ok x) s → (files : Option FileMap) → HasFile files name text →
     s ≡ status.Ok → Migrated files name old.told new.told
-read-migrated follow name text old new s (Err r) is e judged files file h =
+read-migrated follow name text old new s (Err r) is e verified files file h =
     let whole = follow.whole old new _ s e (ap is_fault h) in
     let bad : status.Ok ≡ status.TextRefused 1 r.place r.rule = sym h ∙ whole.0 in absurd (cc)
-read-migrated follow name text old new s (Ok t) is e judged files file h =
-    trace-migrated follow name text old new s t (difference_in t) is e judged files file h
+read-migrated follow name text old new s (Ok t) is e verified files file h =
+    trace-migrated follow name text old new s t (difference_in t) is e verified files file h
 
 pub migrated-of : FollowPlans → (name text : List ℕ) (old new : Output) (s : Status) →
     EndsBy old new (migrate_plan name text) s → JudgesBy (λ x. trace_of text ≡ Ok x) s →
     (files : Option FileMap) → HasFile files name text → s ≡ status.Ok →
     Migrated files name old.told new.told
-migrated-of follow name text old new s e judged files file h =
-    read-migrated follow name text old new s (trace_of text) refl e judged files file h
+migrated-of follow name text old new s e verified files file h =
+    read-migrated follow name text old new s (trace_of text) refl e verified files file h

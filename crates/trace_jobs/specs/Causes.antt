@@ -15,7 +15,7 @@ pub record IsLegalText (text : List ℕ) : Type 0 where
   pub reading : trace_of text ≡ Ok trace
   pub legal : IsLegalTrace trace
 
--- a text is a legal trace with so many entries
+-- a text is a legal trace with this many entries
 pub record HasEntries (entries : ℕ) (text : List ℕ) : Type 0 where
   pub is : IsLegalText text
   pub count : length (entries_of is.trace) ≡ entries

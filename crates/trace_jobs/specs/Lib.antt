@@ -1,6 +1,6 @@
 pub mod Lines
 pub mod Plans
-pub mod Judged
+pub mod Verified
 pub mod Causes
 pub mod Migrated
 pub mod Ends

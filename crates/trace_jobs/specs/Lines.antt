@@ -1,4 +1,4 @@
--- The lines that tell how a trace was judged. This project's profile.
+-- The lines that say how a trace was verified. This project's profile.
 use Rattle.std.specs.Prelude.{ℕ, codes, decimal, List, [], ◌∷◌, ◌++◌}
 use Rattle.std.specs.List.{flat_map}
 use Rattle.trace_check.specs.declared.difference.Difference.{Difference}
@@ -8,11 +8,11 @@ abbrev pub joined : List (List ℕ) → List ℕ
 joined [] = []
 joined (f ∷ fs) = f ++ flat_map (λ g. 44 ∷ g) fs
 
--- the line that tells that a trace is legal, with so many entries
+-- the line that says that a trace is legal, with this many entries
 abbrev pub legal_line : ℕ → List ℕ
 legal_line entries = codes "legal " ++ decimal entries ++ codes "\n"
 
--- the lines that tell the first record of a trace that is not the machine's
+-- the lines that give the first record of a trace that is not the machine's
 abbrev pub illegal_lines : Difference → List ℕ
 illegal_lines d =
     codes "illegal " ++ decimal d.place ++ codes "\nexpected " ++ joined d.expected ++

@@ -17,17 +17,17 @@ use Rattle.trace_jobs.specs.Lines.{illegal_lines, legal_line}
 abbrev pub illegal_plan : Difference → Plan
 illegal_plan d = record { status = status.Illegal d.place; text = illegal_lines d }
 
--- what a trace leads to, by its first record that differs: that is told, or that there is none
-abbrev pub judged_plan : ℕ → Option Difference → Plan
-judged_plan entries None =
+-- what a trace leads to, by its first record that differs: that is reported, or that there is none
+abbrev pub verified_plan : ℕ → Option Difference → Plan
+verified_plan entries None =
     record { status = status.Legal entries; text = legal_line entries }
-judged_plan entries (Some d) = illegal_plan d
+verified_plan entries (Some d) = illegal_plan d
 
 -- what a trace that is checked leads to
 abbrev pub plan_of_check : TraceState → Plan
-plan_of_check t = judged_plan (length (entries_of t)) (difference_in t)
+plan_of_check t = verified_plan (length (entries_of t)) (difference_in t)
 
--- the history that the machine makes of the events of some entries, behind a history
+-- the history that the machine makes of the events of some entries, after a history
 abbrev pub history_from : Setup → List Entry → List Entry → List Entry
 history_from s made [] = made
 history_from s made (e ∷ es) = history_from s (with_made s made e) es

@@ -1,4 +1,4 @@
-//! The jobs `check` and `migrate`: a trace is replayed and judged, or written in version 2. It
+//! The jobs `check` and `migrate`: a trace is replayed and verified, or written in version 2. It
 //! stands on `trace_check`, `trace_text` and `job_ends`. Begin at [`check_text`] and
 //! [`migrate_text`].
 #![tactic(auto)]

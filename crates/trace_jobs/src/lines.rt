@@ -1,4 +1,4 @@
-// The lines that tell how a trace was judged.
+// The lines that say how a trace was verified.
 
 ghost use Rattle.std.specs.Prelude.{◌≡◌, IfOk, OnOk, ◌++◌, ◌∷◌, []};
 ghost use Rattle.trace_jobs.specs.Lines as spec;
@@ -7,7 +7,7 @@ use itoa::Buffer;
 use std::alloc::{AllocError, Global};
 use trace_check::{Difference, Record};
 
-/// The line that tells that a trace is legal, with so many entries.
+/// The line that says that a trace is legal, with this many entries.
 pub fn legal_line(alloc: Global, entries: u64) -> Result<Vec<u8>, AllocError>
     ensures { IfOk result (λ line. line.items ≡ spec.legal_line entries) }
 {
@@ -18,7 +18,7 @@ pub fn legal_line(alloc: Global, entries: u64) -> Result<Vec<u8>, AllocError>
     Ok(line)
 }
 
-// Adds a field behind a comma.
+// Adds a field after a comma.
 fn push_field(line: &mut Vec<u8>, field: &[u8]) -> Result<(), AllocError>
     ensures { OnOk result (line.new.items ≡ (line.old.items ++ (44 ∷ [])) ++ field.now) }
 {
@@ -38,7 +38,7 @@ fn push_record(line: &mut Vec<u8>, fields: &Record) -> Result<(), AllocError>
     Ok(())
 }
 
-// Adds a record behind what it is.
+// Adds a record after what it is.
 fn push_told(line: &mut Vec<u8>, told: &[u8], fields: &Record) -> Result<(), AllocError>
     ensures { OnOk result
         (line.new.items ≡ (line.old.items ++ told.now) ++ spec.joined fields.now) }
@@ -48,7 +48,7 @@ fn push_told(line: &mut Vec<u8>, told: &[u8], fields: &Record) -> Result<(), All
     Ok(())
 }
 
-/// The lines that tell the first record of a trace that is not the machine's.
+/// The lines that give the first record of a trace that is not the machine's.
 pub fn illegal_lines(alloc: Global, difference: &Difference) -> Result<Vec<u8>, AllocError>
     ensures { IfOk result (λ line. line.items ≡ spec.illegal_lines difference.now) }
 {

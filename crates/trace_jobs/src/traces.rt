@@ -1,10 +1,10 @@
-// A trace is replayed and judged, or written in version 2.
+// A trace is replayed and verified, or written in version 2.
 
 ghost use Rattle.std.specs.Prelude.{◌≡◌, None, false, IfOk};
 ghost use Rattle.job_ends.specs.Ends.{EndsBy};
 ghost use Rattle.trace_jobs.specs.Ends.{EndsByCheck, EndsByMigrate};
-ghost use Rattle.trace_jobs.specs.Judged.{JudgesBy, tells_illegal, tells_legal};
-ghost use Rattle.trace_jobs.specs.Plans.{illegal_plan, judged_plan, plan_of_check, plan_of_migrate};
+ghost use Rattle.trace_jobs.specs.Verified.{JudgesBy, tells_illegal, tells_legal};
+ghost use Rattle.trace_jobs.specs.Plans.{illegal_plan, verified_plan, plan_of_check, plan_of_migrate};
 ghost use Rattle.trace_text.specs.TraceKept.{IsTraceKept};
 ghost use Rattle.trace_text.specs.Held.{IsHeldOf, ReadsHeld};
 ghost use Rattle.trace_text.specs.TraceState.{TraceState};
@@ -18,7 +18,7 @@ use std::alloc::Global;
 use trace_check::{Difference, Replayed, Trace, Verdict, check, migrated_traces_are_legal, replay};
 use trace_text::{read_within_room, write_trace};
 
-/// Tells whether the trace that a text is is legal. The text is given up before it is judged.
+/// Says whether the trace that a text is is legal. The text is given up before it is verified.
 pub fn check_text<K: Sink>(alloc: Global, name: &str, text: Vec<u8>, out: &mut K) -> Status
     ensures { EndsByCheck name.now text.items
         (record { count = K.count out.old; told = K.told out.old })
@@ -32,7 +32,7 @@ pub fn check_text<K: Sink>(alloc: Global, name: &str, text: Vec<u8>, out: &mut K
     }
 }
 
-// The trace that a text is, as far as a judge of it wants it; only that stays in memory.
+// The trace that a text is, as far as a verify of it wants it; only that stays in memory.
 fn trace_of(alloc: Global, text: Vec<u8>) -> Result<Trace, TextFault>
     ensures reading { ReadsHeld (read.trace_of text.items) result }
     ensures kept { IfOk result (λ t. IsTraceKept t) }
@@ -40,10 +40,10 @@ fn trace_of(alloc: Global, text: Vec<u8>) -> Result<Trace, TextFault>
     read_within_room(alloc, text.as_slice())
 }
 
-// Tells whether a trace is legal.
+// Says whether a trace is legal.
 fn check_trace<K: Sink>(alloc: Global, trace: &Trace, out: &mut K) -> Status
     requires { IsTraceKept trace.now }
-    ensures judged { (whole : TraceState) → IsHeldOf whole trace.now →
+    ensures verified { (whole : TraceState) → IsHeldOf whole trace.now →
         JudgesBy (λ t. t ≡ whole) result }
     ensures ends { (whole : TraceState) → IsHeldOf whole trace.now →
         EndsBy (record { count = K.count out.old; told = K.told out.old })
@@ -73,7 +73,7 @@ fn check_trace<K: Sink>(alloc: Global, trace: &Trace, out: &mut K) -> Status
 }
 
 /// Writes the trace that a text is in version 2, if it is legal. The text is given up before it is
-/// judged.
+/// verified.
 pub fn migrate_text<K: Sink>(alloc: Global, name: &str, text: Vec<u8>, out: &mut K) -> Status
     ensures { EndsByMigrate name.now text.items
         (record { count = K.count out.old; told = K.told out.old })
@@ -90,7 +90,7 @@ pub fn migrate_text<K: Sink>(alloc: Global, name: &str, text: Vec<u8>, out: &mut
 // Writes a trace in version 2, if it is legal.
 fn migrate_trace<K: Sink>(alloc: Global, trace: &Trace, out: &mut K) -> Status
     requires { IsTraceKept trace.now }
-    ensures judged { (whole : TraceState) → IsHeldOf whole trace.now →
+    ensures verified { (whole : TraceState) → IsHeldOf whole trace.now →
         JudgesBy (λ t. t ≡ whole) result }
     ensures ends { (whole : TraceState) → IsHeldOf whole trace.now →
         EndsBy (record { count = K.count out.old; told = K.told out.old })
@@ -117,12 +117,12 @@ fn migrate_trace<K: Sink>(alloc: Global, trace: &Trace, out: &mut K) -> Status
     }
 }
 
-// Says that a trace is legal, with so many entries.
+// Says that a trace is legal, with this many entries.
 fn say_legal<K: Sink>(alloc: Global, entries: u64, out: &mut K) -> Status
     ensures illegal { tells_illegal result ≡ false }
     ensures ends { EndsBy (record { count = K.count out.old; told = K.told out.old })
         (record { count = K.count out.new; told = K.told out.new })
-        (judged_plan entries None) result }
+        (verified_plan entries None) result }
 {
     ends_follow_plans();
     let line = legal_line(alloc, entries);

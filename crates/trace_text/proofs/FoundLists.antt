@@ -1,4 +1,4 @@
--- Entries that are kept stay as they are where more is put behind what they hold.
+-- Entries that are kept stay as they are where more is put after what they hold.
 use Rattle.std.specs.Prelude.{◌≡◌, refl, ℕ, zero, suc, ◌+◌, ◌-◌, ◌<◌, ◌≤◌, ◌++◌, List, [], ◌∷◌, drop, length, map, slice_get}
 use Rattle.std.specs.List.{AllByRecursion}
 use Rattle.std.proofs.Common.{◌∙◌, sym, ap, arith}
@@ -13,7 +13,7 @@ use Rattle.trace_text.specs.declared.found_rooms.Kept.TheVariants as kept
 use Rattle.trace_text.specs.declared.found_rooms.Rooms.{Rooms}
 use Rattle.trace_text.specs.FoundLists.{AreKept, Grows, IsKeptSo, IsThere, Leads, called, entries_of, entry_in, part_of}
 
--- items that are there stay where more stand behind
+-- items that are there stay where more stand after
 pub part-stays : {X : Type 0} (xs ys : List X) (from count : ℕ) → Leads xs ys → from + count ≤ length xs → part_of ys from count ≡ part_of xs from count
 part-stays xs ys from count l there =
     let d : drop from (xs ++ l.more) ≡ drop from xs ++ l.more = drop-append-le from xs l.more (omega arith) in
@@ -26,7 +26,7 @@ longer xs ys n l there =
     let e : length ys ≡ length xs + length l.more = ap length l.is ∙ length-append xs l.more in
     omega arith
 
--- an item that is there stays where more stand behind
+-- an item that is there stays where more stand after
 get-front : {X : Type 0} (xs more : List X) (i : ℕ) → i < length xs → slice_get (xs ++ more) i ≡ slice_get xs i
 get-front [] more i l = absurd (omega arith)
 get-front (x ∷ xs) more zero l = refl
@@ -80,7 +80,7 @@ one-more-there r (x ∷ ks) k all there = (all.0, one-more-there r ks k all.1 th
 
 -- ---- the whole list
 
--- it is kept where more is put behind what its entries hold
+-- it is kept where more is put after what its entries hold
 pub stay-kept : (l m : Inside) → AreKept l → Grows l.rooms m.rooms → m.kept.items ≡ l.kept.items → m.cycles ≡ l.cycles → AreKept m
 stay-kept l m k g is n = record {
   there = rw is (all-there l.rooms m.rooms l.kept.items g k.there);

@@ -1,4 +1,4 @@
--- What a comparison of inputs has told.
+-- What a comparison of inputs has reported.
 use Rattle.std.proofs.Common.{rules, ◌≡◌, refl, true, int_eq}
 use Rattle.std.specs.Prelude.{◌==◌, ◌&&◌}
 use Rattle.std.specs.Cmp.{booleans_Decides}

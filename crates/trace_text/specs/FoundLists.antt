@@ -14,7 +14,7 @@ use Rattle.trace_text.specs.declared.found_rooms.Kept.{Kept}
 use Rattle.trace_text.specs.declared.found_rooms.Kept.TheVariants as kept
 use Rattle.trace_text.specs.declared.found_rooms.Rooms.{Rooms}
 
--- so many items from a place on
+-- this many items from a place on
 abbrev pub part_of : {X : Type 0} → List X → ℕ → ℕ → List X
 part_of items from count = take count (drop from items)
 
@@ -62,12 +62,12 @@ pub record IsKeptSo (r : Rooms) (e : FoundEntry) (k : Kept) : Type 0 where
   pub there : IsThere r k
   pub is : entry_in r k ≡ e
 
--- a list with what another has, and perhaps more behind it
+-- a list with what another has, and perhaps more after it
 pub record Leads {X : Type 0} (xs ys : List X) : Type 0 where
   pub more : List X
   pub is : ys ≡ xs ++ more
 
--- rooms with what others have, and perhaps more behind it
+-- rooms with what others have, and perhaps more after it
 pub record Grows (old new : Rooms) : Type 0 where
   pub calls : Leads old.calls.items new.calls.items
   pub rows : Leads old.rows.items new.rows.items

@@ -1,4 +1,4 @@
--- How far a trace is held by one who judges it. This project's profile.
+-- How far a trace is held by one who verifies it. This project's profile.
 use Rattle.std.specs.Prelude.{◌≡◌, ◌&&◌, ℕ, Bool, true, nat_le, Result, Ok, Err, List, [], ◌++◌, length, map}
 use Rattle.motion_history.specs.Entries.{cycles_of}
 use Rattle.motion_history.specs.Setup.{Setup}
@@ -8,7 +8,7 @@ use Rattle.motion_history.specs.declared.refused.TextRefused.{TextRefused}
 use Rattle.trace_text.specs.TraceState.{TraceState, entry_of}
 use Rattle.trace_text.specs.declared.found.FoundEntry.{FoundEntry}
 
--- whether entries keep within so many entries and cycles
+-- whether entries keep within this many entries and cycles
 abbrev pub are_within : ℕ → ℕ → List FoundEntry → Bool
 are_within entries cycles es =
     nat_le (length es) entries && nat_le (cycles_of (map entry_of es)) cycles
@@ -17,7 +17,7 @@ are_within entries cycles es =
 unfoldable pub keep_within : Setup → List FoundEntry → Bool
 keep_within s es = are_within s.entries s.cycles es
 
--- a trace is held so: all of it, or all but the entries behind some that don't keep within its room
+-- a trace is held so: all of it, or all but the entries after some that don't keep within its room
 pub record IsHeldOf (whole held : TraceState) : Type 0 where
   pub more : List FoundEntry
   pub is : whole ≡ record held { found = held.found ++ more }

@@ -42,7 +42,7 @@ unfoldable pub trace_records : TraceVersion → Command → Setup → List Entry
 trace_records v c s es ds =
     machine_records v c s ++ (flat_map (entry_records v s) es ++ drive_records s ds)
 
--- the text of records: those of each, one behind the other
+-- the text of records: those of each, one after the other
 unfoldable pub text_of : List (List (List ℕ)) → List ℕ
 text_of records = flat_map record_text records
 

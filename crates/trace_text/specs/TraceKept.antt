@@ -13,7 +13,7 @@ use Rattle.trace_text.specs.Writable.{IsMachine, IsWritableCall}
 use Rattle.trace_text.specs.declared.found.FoundEntry.{FoundEntry}
 use Rattle.trace_text.specs.declared.found.FoundEntry.TheVariants as found
 
--- how many places stand with so many rows: one with each, in version 2 alone
+-- how many places stand with this many rows: one with each, in version 2 alone
 abbrev pub places_with : TraceVersion → ℕ → ℕ
 places_with One rows = 0
 places_with Two rows = rows
@@ -42,8 +42,8 @@ IsEntryRead v s (found.Call k inputs reply) = IsWritableCall s k inputs reply
 IsEntryRead v s (found.Cycle c) = IsCycleRead v s c
 IsEntryRead v s (found.End task) = task < length s.tasks
 
--- the configuration of a trace has no fault, each entry is as it is read, and each drive has told
--- what it took, in the ranges of its columns
+-- the configuration of a trace has no fault, each entry is as it is read, and each drive has
+-- reported what it took, in the ranges of its columns
 pub record IsTraceKept (t : TraceState) : Type 0 where
   pub machine : IsMachine t.config
   pub entries : AllByRecursion (IsEntryRead t.version t.config) t.found

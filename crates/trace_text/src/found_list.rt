@@ -34,7 +34,7 @@ impl Model for FoundList {
     ghost invariant = { AreKept };
 }
 
-// So many cycles, and one more where an entry is one; beyond 2^32 - 1 that is want of memory.
+// This many cycles, and one more where an entry is one; beyond 2^32 - 1 that is out of memory.
 fn cycles_with(cycles: u32, entry: &FoundEntry) -> Result<u32, OutOfMemory>
     ensures { IfOk result (λ n. n ≡ cycles + cycle_count (entries.entry_of entry.now)) }
 {
@@ -66,7 +66,7 @@ impl FoundList {
         self.kept.len()
     }
 
-    /// Whether they keep within so many entries and cycles.
+    /// Whether they keep within this many entries and cycles.
     pub fn are_within(&self, entries: u32, cycles: u32) -> bool
         ensures { result ≡ held.are_within entries cycles self.now }
     {

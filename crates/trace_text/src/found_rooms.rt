@@ -42,7 +42,8 @@ pub(crate) enum Kept {
     End { task: u8 },
 }
 
-/// Where the rows of a cycle stand, and the places that its drives reported, and how many there are.
+/// Where the rows of a cycle stand, and the places that its drives reported, and how many there
+/// are.
 #[derive(Clone, Copy)]
 pub(crate) struct CyclePlace {
     number: u32,
@@ -54,7 +55,7 @@ pub(crate) struct CyclePlace {
     places: u8,
 }
 
-// The place behind so many items.
+// The place after this many items.
 fn place_behind(length: usize) -> Result<u32, OutOfMemory>
     ensures { IfOk result (λ place. place ≡ length) }
 {
@@ -74,7 +75,7 @@ fn count_of(length: usize) -> Result<u8, OutOfMemory>
     Ok(count)
 }
 
-// Puts items behind those of an array; tells from where on they stand, and how many.
+// Puts items after those of an array; says from where on they stand, and how many.
 fn put<T: Copy>(array: &mut Vec<T>, items: &[T]) -> Result<(u32, u8), OutOfMemory>
     ensures leads { spec.Leads array.old.items array.new.items }
     ensures part { IfOk result (λ p. spec.IsPart array.new.items p.0 p.1 items.now) }
@@ -86,7 +87,7 @@ fn put<T: Copy>(array: &mut Vec<T>, items: &[T]) -> Result<(u32, u8), OutOfMemor
     Ok((from, count))
 }
 
-// So many items of an array from a place on.
+// This many items of an array from a place on.
 fn part<T>(array: &[T], from: u32, count: u8) -> &[T]
     requires { from + count ≤ length array.now }
     ensures { result.now ≡ spec.part_of array.now from count }
@@ -107,7 +108,7 @@ impl Rooms {
         }
     }
 
-    /// Puts what an entry holds behind that of the others.
+    /// Puts what an entry holds after that of the others.
     pub(crate) fn put_entry(&mut self, entry: FoundEntry) -> Result<Kept, OutOfMemory>
         ensures grows { spec.Grows self.old self.new }
         ensures kept { IfOk result (spec.IsKeptSo self.new entry) }

@@ -1,7 +1,7 @@
 //! Traces: the text of a machine, its history and what its drives took, as records of
 //! comma-separated fields, written and read. It stands on `trace_columns` for fields, on
 //! `csv_records` for records, and on `machine_words` for names. Begin at [`write_trace`] and
-//! [`read_trace`], or [`read_within_room`] for one who judges, in the folders `writing` and
+//! [`read_trace`], or [`read_within_room`] for one who verifies, in the folders `writing` and
 //! `reading`; that what is written is read back is [`traces_are_read_back`].
 #![tactic(auto)]
 

@@ -49,7 +49,7 @@ pub fn write_whole<W: Write + Drop>(
     }
 }
 
-// These fields, and empty ones behind them.
+// These fields, and empty ones after them.
 fn padded<'a>(fields: &[&'a [u8]]) -> [&'a [u8]; FIELDS]
     requires { length fields.now ≤ FIELDS }
     ensures { map (λ f. f.now) result ≡ spec.padded (map (λ f. f.now) fields.now) }

@@ -1,4 +1,5 @@
--- Moves arrive in time: first the old step is slowed, then the axis speeds up and cruises, then it brakes onto the target.
+-- Moves arrive in time: first the old step is slowed, then the axis speeds up and cruises, then it
+-- brakes onto the target.
 use Rattle.std.proofs.Common.{◌≡◌, ℕ, zero, suc, ◌+◌, ◌-◌, ◌*◌, ◌/◌, ◌%◌, ◌≤◌, ◌<◌, ℤ, pos, neg_ℤ, ◌<ℤ◌, ◌≤ℤ◌, ◌-ℤ◌, ◌+ℤ◌, unsigned_abs, min, arith, refl, ◌∙◌, sym, ap, inl, inr}
 use Rattle.std.specs.Int.{div_ceil}
 use Rattle.std.proofs.lemmas.Int.{ints, by_lt_z}
@@ -309,7 +310,8 @@ module _ (ways : AreWays) (searches : AreSearches) (steps : AreSafeSteps) where
       fewer : (w e d u k : ℕ) → u ≤ w + e - d → d ≤ w → w + e < suc k * d → u + (w + e - d - u) < k * d
       fewer w e d u k below full few = omega arith
 
-  -- speeding up and cruising: at most i steps up, j steps of the velocity, k steps down and two more
+  -- speeding up and cruising: at most i steps up, j steps of the velocity, k steps down and two
+  -- more
   cruise-done : (t i j k : ℕ) (limits : Limits) (rates : Rates) (target before now : ℤ) (l w : ℕ) →
       IsUnderWay limits rates target before now → LiesAhead target before now l w → 0 < l →
       run_of (w - unsigned_abs rates.d) (unsigned_abs rates.d) ≤ l →

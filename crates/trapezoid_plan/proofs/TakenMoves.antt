@@ -34,7 +34,8 @@ velocity-within limits rates target before now goes =
     let within : IsMoveWithin limits rates target = goes.within in
     omega (arith, ints)
 
--- what is taken of a step that slows: it is slower by the deceleration, as far as rest, and doesn't turn back
+-- what is taken of a step that slows: it is slower by the deceleration, as far as rest, and doesn't
+-- turn back
 pub record IsBraked (v t d : ℤ) : Type 0 where
   pub slower : unsigned_abs t ≤ unsigned_abs v - unsigned_abs d
   pub forward : pos 0 ≤ℤ v → pos 0 ≤ℤ t
@@ -65,7 +66,8 @@ module _ (steps : AreSafeSteps) where
       down_is_safe limits before now u rates.a rates.d rates.d goes.limits_ok goes.kept within.acceleration within.deceleration
       may.ahead (omega (arith, ints)) may.deceleration may.acceleration (omega (arith, ints)) within.deceleration (omega (arith, ints))
 
-  -- upward, the step ahead is the taken step where it is within the window of a velocity v, up to the limit, and its run fits
+  -- upward, the step ahead is the taken step where it is within the window of a velocity v, up to
+  -- the limit, and its run fits
   pub taken-up : (limits : Limits) (rates : Rates) (target before now : ℤ) (v l w : ℕ) →
       IsUnderWay limits rates target before now → v ≤ unsigned_abs limits.vmax →
       (target -ℤ now) ≡ pos l → (now -ℤ before) ≡ pos w → 0 < l →

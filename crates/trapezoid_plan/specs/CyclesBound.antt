@@ -5,7 +5,9 @@ use Rattle.motion_numbers.specs.declared.TheConstants.{MOST_WAY}
 use Rattle.command_pool.specs.declared.rates.Rates.{Rates}
 use Rattle.motion_numbers.specs.Run.{run_of}
 
--- the cycles bound of a move that becomes active at the distance l with a step of size w: the cycles to brake, to speed up, to go the way and the way back of the braking at the velocity, to brake onto the target, and three more. This project's profile
+-- the cycles bound of a move that becomes active at the distance l with a step of size w: the
+-- cycles to brake, to speed up, to go the way and the way back of the braking at the velocity, to
+-- brake onto the target, and three more. This project's profile
 unfoldable pub cycles_of_sizes : ℕ → ℕ → Rates → ℕ
 cycles_of_sizes l w rates =
     w / unsigned_abs rates.d + 1 + div_ceil (unsigned_abs rates.v) (unsigned_abs rates.a)

@@ -5,7 +5,9 @@ use Rattle.motion_numbers.specs.Run.{run_of}
 pub use Rattle.kin_core.specs.Toward.{toward_zero}
 use Rattle.motion_numbers.specs.Greatest.{greatest}
 
--- u may follow the step w on a way of length l, all counted toward the target: it does not turn back, keeps the velocity, is within the deceleration below w and the acceleration above w, and its run by the deceleration fits the way. This project's profile
+-- u may follow the step w on a way of length l, all counted toward the target: it does not turn
+-- back, keeps the velocity, is within the deceleration below w and the acceleration above w, and
+-- its run by the deceleration fits the way. This project's profile
 pub record MayFollow (rates : Rates) (l w u : ℤ) : Type 0 where
   pub ahead : pos 0 ≤ℤ u
   pub velocity : u ≤ℤ rates.v
@@ -13,13 +15,16 @@ pub record MayFollow (rates : Rates) (l w u : ℤ) : Type 0 where
   pub acceleration : u ≤ℤ (w +ℤ rates.a)
   pub run : pos (run_of (unsigned_abs u) (unsigned_abs rates.d)) ≤ℤ l
 
--- toward a target ahead, u is the greatest step that may follow w; where w goes the other way, or none may, it is w moved by the deceleration toward zero. This project's profile
+-- toward a target ahead, u is the greatest step that may follow w; where w goes the other way, or
+-- none may, it is w moved by the deceleration toward zero. This project's profile
 pub record IsStepAhead (rates : Rates) (l w u : ℤ) : Type 0 where
   pub follows : pos 0 ≤ℤ w → (k : ℤ) → MayFollow rates l w k → MayFollow rates l w u
   pub greatest : pos 0 ≤ℤ w → (k : ℤ) → MayFollow rates l w k → k ≤ℤ u
   pub none : (pos 0 ≤ℤ w → (k : ℤ) → MayFollow rates l w k → ⊥) → u ≡ toward_zero w rates.d
 
--- u is the move step at the signed distance x and the old step v: counted in the direction of x it is the step ahead, and at the target v moved by the deceleration toward zero. This project's profile: a textbook trapezoid over the rate inputs of PLCopen Motion Control Part 1
+-- u is the move step at the signed distance x and the old step v: counted in the direction of x it
+-- is the step ahead, and at the target v moved by the deceleration toward zero. This project's
+-- profile: a textbook trapezoid over the rate inputs of PLCopen Motion Control Part 1
 pub record IsMoveStep (x v : ℤ) (rates : Rates) (u : ℤ) : Type 0 where
   pub forward : pos 0 <ℤ x → IsStepAhead rates x v u
   pub backward : x <ℤ pos 0 → IsStepAhead rates (neg_ℤ x) (neg_ℤ v) (neg_ℤ u)
@@ -36,7 +41,8 @@ unfoldable pub step_ahead_of : ℕ → ℕ → Rates → ℕ
 step_ahead_of l w rates =
     unwrap_or (greatest (unsigned_abs rates.v) (may_follow rates l w)) (w - unsigned_abs rates.d)
 
--- the move step at the signed distance x and the old step v: in the direction of x the step ahead, else v moved by the deceleration toward zero. This project's profile
+-- the move step at the signed distance x and the old step v: in the direction of x the step ahead,
+-- else v moved by the deceleration toward zero. This project's profile
 unfoldable pub move_step_of : ℤ → ℤ → Rates → ℤ
 move_step_of x v rates =
     if int_lt (pos 0) x && int_le (pos 0) v
@@ -45,7 +51,8 @@ move_step_of x v rates =
     then neg_ℤ (pos (step_ahead_of (unsigned_abs x) (unsigned_abs v) rates))
     else toward_zero v rates.d)
 
--- there is a step that may follow the step w on a way of length l, toward a target ahead. This project's profile
+-- there is a step that may follow the step w on a way of length l, toward a target ahead. This
+-- project's profile
 pub record HasStepAhead (rates : Rates) (l w : ℤ) : Type 0 where
   pub way : pos 0 <ℤ l
   pub forward : pos 0 ≤ℤ w

@@ -12,7 +12,10 @@ is_same_sign v w = (int_lt (pos 0) v && int_lt (pos 0) w) || (int_lt v (pos 0) &
 abbrev pub with_sign_of : ℤ → ℕ → ℤ
 with_sign_of w n = if int_lt w (pos 0) then neg_ℤ (pos n) else pos n
 
--- the step toward the step w after the step v: from rest or with w's sign faster by the acceleration and at most w, with w's sign slower by the deceleration and at least w, at w the same, else v moved by the deceleration toward zero. This project's profile, for MoveVelocity of PLCopen Motion Control Part 1
+-- the step toward the step w after the step v: from rest or with w's sign faster by the
+-- acceleration and at most w, with w's sign slower by the deceleration and at least w, at w the
+-- same, else v moved by the deceleration toward zero. This project's profile, for MoveVelocity of
+-- PLCopen Motion Control Part 1
 unfoldable pub velocity_step_of : ℤ → ℤ → Rates → ℤ
 velocity_step_of w v rates =
     if (is_same_sign v w || int_eq v (pos 0)) && nat_lt (unsigned_abs v) (unsigned_abs w)

@@ -1,7 +1,7 @@
 //! Moves, velocities and halts of one axis: the step that a command wants in a cycle. Only what is
-//! wanted is told here; what is safe, `kin_core` tells. It stands on `kin_core` and `ramp_root`.
-//! Begin at [`move_step`], [`velocity_step`] and [`halt_step`]; how long a move takes at most is
-//! [`cycles_bound`].
+//! wanted is reported here; what is safe, `kin_core` gives. It stands on `kin_core` and
+//! `ramp_root`. Begin at [`move_step`], [`velocity_step`] and [`halt_step`]; how long a move takes
+//! at most is [`cycles_bound`].
 #![tactic(auto)]
 
 mod cycles;

@@ -169,8 +169,8 @@ fn comes_to_rest(slowest: u64, fastest: u64, d: u64, way: u64) -> bool
     slowest <= fastest && ramp_sum(slowest, d) <= way as u128
 }
 
-// The step where the way allows neither the fastest one nor only the slowest: by a root. Out of line
-// it leaves the other cycles short.
+// The step where the way allows neither the fastest one nor only the slowest: by a root. Out of
+// line it leaves the other cycles short.
 #[inline(never)]
 fn step_between<L: Ledger>(
     fastest: u64,
@@ -188,8 +188,8 @@ fn step_between<L: Ledger>(
     fastest.min(reach(way, d, steps)).max(slowest)
 }
 
-// Whether the way to rest surely fits, told without a division: twice the fall times that way is at
-// most the square of the step and the fall together.
+// Whether the way to rest surely fits, found without a division: twice the fall times that way is
+// at most the square of the step and the fall together.
 fn surely_fits(step: u64, d: u64, way: u64) -> bool
     requires step { step ≤ MOST_STEP }
     requires fall { 1 ≤ d }

@@ -86,7 +86,7 @@ def record_fault(text: str, place: int, rule: str) -> Fault:
     """A record of a trace or a line of a segment's head."""
     if rule.startswith("G"):
         return Fault(rule, place)
-    head, _, body = text.partition("\n\n") if text.startswith("piece,") else ("", "", text)
+    head, _, body = text.partition("\n\n") if text.startswith("segment,") else ("", "", text)
     before = head.count("\n") + 2 if head else 0
     records = [number for number, line in enumerate(body.split("\n"), 1) if line]
     number = records[place - 1] if 0 < place <= len(records) else place

@@ -18,7 +18,7 @@ def kind_of(name: str) -> str:
     words = [line.split("#")[0].split() for line in head.splitlines()]
     first = next((line for line in words if line), [""])
     for mark, kind in (("motion-bench", "bench"), ("motion-program", "program"),
-                       ("motion-switches", "switches"), ("kind,a,b", "trace"), ("piece,", "piece"),
+                       ("motion-switches", "switches"), ("kind,a,b", "trace"), ("segment,", "piece"),
                        ("PROGRAM", "st"), ("(*", "st")):
         if first[0].startswith(mark):
             return kind

@@ -57,7 +57,7 @@ def line_of(file: str, record: int) -> int:
     where the file can't be read."""
     try:
         with open(file, encoding="utf-8", errors="replace") as lines:
-            if not lines.readline().startswith("piece,"):
+            if not lines.readline().startswith("segment,"):
                 return record
             for number, text in enumerate(lines, 2):
                 if not text.strip():

@@ -35,12 +35,12 @@ state_after_reset driven s = s
 abbrev pub after_reset : Axis → Axis
 after_reset a = record a { state = state_after_reset a.driven a.state; error = 0; reset = None }
 
--- the axis whose pending Reset is done where it may be, and what is told of it
+-- the axis whose pending Reset is done where it may be, and what is reported of it
 abbrev pub reset_axis : Option PendingReset → DriveIn → Axis → Axis
 reset_axis None input a = a
 reset_axis (Some p) input a = if may_reset input a then after_reset a else a
 
--- what is told of a pending Reset that is done
+-- what is reported of a pending Reset that is done
 abbrev pub reset_notes : Option PendingReset → DriveIn → Axis → List Note
 reset_notes None input a = []
 reset_notes (Some p) input a = if may_reset input a then told_to p.owner finish.Done else []

@@ -14,7 +14,7 @@ use Rattle.axis_core.specs.declared.axis.Axis.{Axis}
 use Rattle.axis_core.specs.declared.look.AxisLook.{AxisLook}
 use Rattle.axis_core.specs.declared.reason.Reason.{Reason}
 use Rattle.axis_state.specs.States.{is_error_stop}
-use Rattle.buffer_modes.specs.Owners.{is_owner}
+use Rattle.buffer_modes.specs.Owners.{owner_count}
 use Rattle.buffer_modes.specs.Queue.{is_active_at_once}
 use Rattle.buffer_modes.specs.declared.reset.PendingReset.{PendingReset}
 use Rattle.cia402_machine.specs.declared.drive.DriveIn.{DriveIn}
@@ -54,7 +54,7 @@ asked_brings : (r : Option Reason) (w : Wanted) (c : Core) → Brings (owner_bro
 asked_brings None w c =
     let target = known_target_of c.axis (last_of c.waiting) w in
     let b = admitted_brings w.kind (with_target target w) c in
-    record { brings = λ k. b.brings k ∙ ap (is_owner k) (with_brings w.kind target w); call = b.call }
+    record { brings = λ k. b.brings k ∙ ap (owner_count k) (with_brings w.kind target w); call = b.call }
 asked_brings (Some r) w c = record { brings = λ k. let z = nobody k in omega arith; call = tt }
 
 pub command_brings : (q : Asked) (c : Core) → Brings (owner_brought (refusal_of q) q.wanted) (command_changes q c)

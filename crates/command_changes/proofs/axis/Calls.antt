@@ -1,4 +1,4 @@
--- A call makes of an axis's commands the changes that are told.
+-- A call makes of an axis's commands the changes that are reported.
 use Rattle.std.specs.Prelude.{◌≡◌, refl, ℕ, Bool, true, false, Option, Some, None, List, [], ◌∷◌}
 use Rattle.std.proofs.Common.{◌∙◌, ap, sym}
 use Rattle.axis_core.specs.Calls.{axis_without_owner, core_after_admission, core_after_command, core_after_joining, core_after_power, core_after_verdict, core_with_queued, queue_in}
@@ -14,8 +14,8 @@ use Rattle.buffer_modes.specs.Queue.{is_active_at_once}
 use Rattle.buffer_modes.specs.declared.reset.PendingReset.{PendingReset}
 use Rattle.command_core.specs.Changes as change
 use Rattle.command_core.specs.Changes.{Change, all_changed, holds, joins, replaced}
-use Rattle.command_core.specs.Charge as charge
-use Rattle.command_core.specs.Charge.{Charge}
+use Rattle.command_core.specs.CommandState as command_state
+use Rattle.command_core.specs.CommandState.{CommandState}
 use Rattle.command_core.specs.Laws.{AreInOrder}
 use Rattle.command_pool.specs.Waiting.{last_of}
 use Rattle.command_pool.specs.declared.ending.Finish.TheVariants as finish
@@ -23,13 +23,13 @@ use Rattle.command_pool.specs.declared.kind.BlockKind.{BlockKind}
 use Rattle.command_pool.specs.declared.kind.BlockKind.TheVariants as kind
 use Rattle.command_pool.specs.declared.wanted.Wanted.{Wanted}
 use Rattle.command_changes.specs.Failing.{failing}
-use Rattle.command_changes.specs.Axis.{admitted_changes, asked_changes, charge_of, command_changes, is_stop, joined_changes, power_changes}
+use Rattle.command_changes.specs.Axis.{admitted_changes, asked_changes, command_state_of, command_changes, is_stop, joined_changes, power_changes}
 use Rattle.command_changes.proofs.Alike.{same_reset}
 use Rattle.command_changes.proofs.Choices.{either}
 
 -- these changes lead from one core to another
 abbrev pub Makes : Core → List Change → Core → Type 0
-Makes c xs d = charge_of d ≡ all_changed xs (charge_of c)
+Makes c xs d = command_state_of d ≡ all_changed xs (command_state_of c)
 
 -- who holds Stopping by a command
 pub holder : (k : BlockKind) (w : Wanted) → hold_by k w.owner ≡ change.hold_by (is_stop k) (Some w)
@@ -46,9 +46,9 @@ module _ (order : AreInOrder) where
       Makes c (joins w ∷ holds (is_stop w.kind) ∷ []) (record (core_with_queued w c) { axis = axis_under w (core_with_queued w c).axis })
   unfolding axis_under_by
   entered_makes w c h =
-      let after : Charge = all_changed (joins w ∷ []) (charge_of c) in
+      let after : CommandState = all_changed (joins w ∷ []) (command_state_of c) in
       ap (λ o. record after { active = Some w; hold = o }) (holder w.kind w)
-      ∙ ap (λ o. record after { active = o; hold = change.hold_by (is_stop w.kind) o }) (sym (order.at_once w (charge_of c) h))
+      ∙ ap (λ o. record after { active = o; hold = change.hold_by (is_stop w.kind) o }) (sym (order.at_once w (command_state_of c) h))
 
   joined_makes : (w : Wanted) (c : Core) → Makes c (joined_changes w c) (core_after_joining w c)
   joined_makes w c = either (Makes c) (is_active_at_once (queue_in c) w) _ _ _ _ (λ h. entered_makes w c h) (λ h. refl)
@@ -78,11 +78,11 @@ power_makes true c = refl
 power_makes false c = either (Makes c) (is_error_stop c.axis.state) [] (replaced finish.Aborted None [] ∷ holds false ∷ []) _ _ (λ h. refl) (λ h. refl)
 
 -- an owner that is taken away
-pub detach_makes : (owner : ℕ) (c : Core) → charge_of (core_without_owner owner c) ≡ charge.disowned owner (charge_of c)
+pub detach_makes : (owner : ℕ) (c : Core) → command_state_of (core_without_owner owner c) ≡ command_state.disowned owner (command_state_of c)
 unfolding axis_without_owner
 detach_makes owner c = rw (same_reset owner c.axis.reset) refl
 
 -- a path changes nothing
-pub path_makes : (on : Bool) (c : Core) → charge_of (record c { axis = axis_on_path on c.axis }) ≡ charge_of c
+pub path_makes : (on : Bool) (c : Core) → command_state_of (record c { axis = axis_on_path on c.axis }) ≡ command_state_of c
 unfolding axis_on_path
 path_makes on c = refl

@@ -1,4 +1,4 @@
--- A cycle makes of an axis's commands the changes that are told.
+-- A cycle makes of an axis's commands the changes that are reported.
 use Rattle.std.specs.Prelude.{◌≡◌, refl, ℕ, Bool, true, false, ◌&&◌, nat_eq, ℤ, ◌+ℤ◌, Option, Some, None, Result, Ok, Err, List, [], ◌∷◌, ◌++◌, slice_get, if◌then◌else◌}
 use Rattle.std.proofs.Common.{◌∙◌, ap, sym}
 use Rattle.std.proofs.lemmas.List.{append-nil}
@@ -28,7 +28,7 @@ use Rattle.command_pool.specs.declared.kind.BlockKind.TheVariants as kind
 use Rattle.command_pool.specs.declared.wanted.Wanted.{Wanted}
 use Rattle.motion_numbers.specs.Ranges.{is_outside}
 use Rattle.command_changes.specs.Failing.{failing}
-use Rattle.command_changes.specs.Axis.{advance_changes, answer_changes, charge_of, cycle_changes, ended_changes, ending_changes, is_stop, relative_changes, release_changes, reset_changes, step_changes, taking_changes}
+use Rattle.command_changes.specs.Axis.{advance_changes, answer_changes, command_state_of, cycle_changes, ended_changes, ending_changes, is_stop, relative_changes, release_changes, reset_changes, step_changes, taking_changes}
 use Rattle.command_changes.proofs.Choices.{by_if, either}
 use Rattle.command_changes.proofs.axis.Calls.{Makes, failed_makes, holder}
 
@@ -37,7 +37,7 @@ abbrev ending : Finish → List Wanted → Core → Core
 ending f ws c = record c { axis = record c.axis { active = None; reached = false }; waiting = ws; notes = c.notes ++ active_note f c.axis.active }
 
 abbrev Takes : Finish → Wanted → List Wanted → Core → List Change → Core → Type 0
-Takes f w ws c xs d = charge_of d ≡ all_changed xs (record (charge_of c) { waiting = w ∷ ws })
+Takes f w ws c xs d = command_state_of d ≡ all_changed xs (record (command_state_of c) { waiting = w ∷ ws })
 
 relative_makes : (f : Finish) (w : Wanted) (t : ℤ) (ws : List Wanted) (c : Core) → Takes f w ws c (relative_changes f w t c.axis) (core_under_from w t (ending f ws c))
 unfolding axis_under_by
@@ -46,11 +46,11 @@ relative_makes f w t ws c =
     either (Takes f w ws c) (is_outside c.axis.limits.lo t c.axis.limits.hi) (ends f None ∷ failing 106) (ends f (Some t) ∷ holds (is_stop w.kind) ∷ [])
     (core_after_error 106 failed) (record (ending f ws c) { axis = axis_under (with_target (Some t) w) (ending f ws c).axis })
     (λ h. failed_makes 106 failed)
-    (λ h. ap (λ o. record (all_changed (ends f (Some t) ∷ []) (record (charge_of c) { waiting = w ∷ ws })) { hold = o }) (holder w.kind (with_target (Some t) w)))
+    (λ h. ap (λ o. record (all_changed (ends f (Some t) ∷ []) (record (command_state_of c) { waiting = w ∷ ws })) { hold = o }) (holder w.kind (with_target (Some t) w)))
 
 begun_makes : (f : Finish) (w : Wanted) (ws : List Wanted) (c : Core) → Takes f w ws c (ends f None ∷ holds (is_stop w.kind) ∷ []) (record (ending f ws c) { axis = axis_under w (ending f ws c).axis })
 unfolding axis_under_by
-begun_makes f w ws c = ap (λ o. record (all_changed (ends f None ∷ []) (record (charge_of c) { waiting = w ∷ ws })) { hold = o }) (holder w.kind w)
+begun_makes f w ws c = ap (λ o. record (all_changed (ends f None ∷ []) (record (command_state_of c) { waiting = w ∷ ws })) { hold = o }) (holder w.kind w)
 
 taking_makes : (k : BlockKind) (t : Option ℤ) (f : Finish) (w : Wanted) (ws : List Wanted) (c : Core) → Takes f w ws c (taking_changes k t f w c.axis) (core_taken_by k t w (ending f ws c))
 taking_makes kind.MoveRelative None f w ws c = relative_makes f w (c.axis.setpoint +ℤ position_of w) ws c
@@ -58,7 +58,7 @@ taking_makes kind.MoveRelative (Some t) f w ws c = begun_makes f w ws c
 taking_makes _ t f w ws c = begun_makes f w ws c
 
 taken_makes : (f : Finish) (ws : List Wanted) (c : Core) → c.waiting ≡ ws →
-    charge_of (core_after_take_over ws (ending f c.waiting c)) ≡ all_changed (ended_changes f ws c.axis) (record (charge_of c) { waiting = ws })
+    command_state_of (core_after_take_over ws (ending f c.waiting c)) ≡ all_changed (ended_changes f ws c.axis) (record (command_state_of c) { waiting = ws })
 taken_makes f [] c e = rw e refl
 taken_makes f (w ∷ ws) c e = taking_makes w.kind w.target f w ws c
 
@@ -74,7 +74,7 @@ ending_makes (Some finish.Aborted) c = ended_makes finish.Aborted c
 
 -- a step leaves the commands
 abbrev pub Stays : Core → Axis → Type 0
-Stays c a = charge_of (record c { axis = a }) ≡ charge_of c
+Stays c a = command_state_of (record c { axis = a }) ≡ command_state_of c
 
 progress_stays : (x : BlockKind) (t : ℤ) (p : Progress) (c : Core) → Stays c (axis_after_progress x t p c.axis)
 progress_stays kind.Home t p c = refl
@@ -116,21 +116,21 @@ answered_makes input c =
     (λ h. refl) (λ h. failed_makes (answer_error_of c.axis input) c)
 
 reset_makes : (o : Option PendingReset) (input : DriveIn) (c : Core) → c.axis.reset ≡ o →
-    charge_of (record c { axis = reset_axis o input c.axis; notes = c.notes ++ reset_notes o input c.axis }) ≡ all_changed (reset_changes o input c.axis) (charge_of c)
-reset_makes None input c e = ap (λ ns. record (charge_of c) { notes = ns }) (append-nil c.notes)
+    command_state_of (record c { axis = reset_axis o input c.axis; notes = c.notes ++ reset_notes o input c.axis }) ≡ all_changed (reset_changes o input c.axis) (command_state_of c)
+reset_makes None input c e = ap (λ ns. record (command_state_of c) { notes = ns }) (append-nil c.notes)
 reset_makes (Some p) input c e = by (may_reset input c.axis)
   where
-    by : (b : Bool) → charge_of (record c {
+    by : (b : Bool) → command_state_of (record c {
       axis = (if b then after_reset c.axis else c.axis);
       notes = c.notes ++ (if b then told_to p.owner finish.Done else []);
-    }) ≡ all_changed (if b then resets ∷ [] else []) (charge_of c)
+    }) ≡ all_changed (if b then resets ∷ [] else []) (command_state_of c)
     by true = rw e refl
-    by false = ap (λ ns. record (charge_of c) { notes = ns }) (append-nil c.notes)
+    by false = ap (λ ns. record (command_state_of c) { notes = ns }) (append-nil c.notes)
 
 module _ (order : AreInOrder) where
   -- changes, and then others
   then_makes : (c d e : Core) (xs ys : List Change) → Makes c xs d → Makes d ys e → Makes c (xs ++ ys) e
-  then_makes c d e xs ys f g = g ∙ ap (all_changed ys) f ∙ sym (order.more xs ys (charge_of c))
+  then_makes c d e xs ys f g = g ∙ ap (all_changed ys) f ∙ sym (order.more xs ys (command_state_of c))
 
   stepped_makes : (look : AxisLook) (driven : Bool) (c : Core) → Makes c (step_changes look driven c) (core_after_step look driven c)
   stepped_makes look driven c =

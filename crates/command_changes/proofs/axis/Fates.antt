@@ -23,7 +23,7 @@ use Rattle.buffer_modes.specs.Queue.{is_active_at_once}
 use Rattle.buffer_modes.specs.declared.reset.PendingReset.{PendingReset}
 use Rattle.cia402_machine.specs.declared.drive.DriveIn.{DriveIn}
 use Rattle.command_core.specs.Changes.{Change, awaits, ends, holds, joins, replaced, resets}
-use Rattle.command_core.specs.Charge.{Charge}
+use Rattle.command_core.specs.CommandState.{CommandState}
 use Rattle.command_pool.specs.Waiting.{last_of}
 use Rattle.command_pool.specs.declared.ending.Finish.{Finish}
 use Rattle.command_pool.specs.declared.ending.Finish.TheVariants as finish
@@ -32,25 +32,25 @@ use Rattle.command_pool.specs.declared.kind.BlockKind.TheVariants as kind
 use Rattle.command_pool.specs.declared.wanted.Wanted.{Wanted}
 use Rattle.motion_numbers.specs.Ranges.{is_outside}
 use Rattle.command_changes.specs.Failing.{failing}
-use Rattle.command_changes.specs.Axis.{admitted_changes, advance_changes, asked_changes, charge_of, command_changes, cycle_changes, ending_changes, is_stop, joined_changes, power_changes, release_changes, reset_changes, step_changes, taking_changes}
+use Rattle.command_changes.specs.Axis.{admitted_changes, advance_changes, asked_changes, command_state_of, command_changes, cycle_changes, ending_changes, is_stop, joined_changes, power_changes, release_changes, reset_changes, step_changes, taking_changes}
 use Rattle.command_changes.proofs.Choices.{by_if, either}
 use Rattle.command_changes.proofs.Fates.{AreQuiet, By, before_quiet, both_quiet, single}
 
 -- a fate of the axis is that of these changes
 abbrev Fated : Core → Fate → List Change → Type 0
-Fated c f xs = By (charge_of c) f xs
+Fated c f xs = By (command_state_of c) f xs
 
 -- a command
 joined_fated : (w : Wanted) (c : Core) → Fated c (joined_fate w c) (joined_changes w c)
 joined_fated w c =
     by_if (Fated c (joined_fate w c)) (is_active_at_once (queue_in c) w) _ _
-    (λ h. single (joins w) (holds (is_stop w.kind) ∷ []) (charge_of c) ((λ d. refl), tt)) (λ h. single (joins w) [] (charge_of c) tt)
+    (λ h. single (joins w) (holds (is_stop w.kind) ∷ []) (command_state_of c) ((λ d. refl), tt)) (λ h. single (joins w) [] (command_state_of c) tt)
 
 left_fated : (w : Wanted) (c : Core) → Fated c (fates.replaced finish.Aborted c.axis.active (Some w)) (replaced finish.Aborted (Some w) [] ∷ holds false ∷ [])
-left_fated w c = single (replaced finish.Aborted (Some w) []) (holds false ∷ []) (charge_of c) ((λ d. refl), tt)
+left_fated w c = single (replaced finish.Aborted (Some w) []) (holds false ∷ []) (command_state_of c) ((λ d. refl), tt)
 
 admitted_fated : (k : BlockKind) (w : Wanted) (c : Core) → Fated c (admitted_fate k w c) (admitted_changes k w c)
-admitted_fated kind.Reset w c = single (awaits w.owner) [] (charge_of c) tt
+admitted_fated kind.Reset w c = single (awaits w.owner) [] (command_state_of c) tt
 admitted_fated kind.GearOut w c = left_fated (velocity_command w c.axis) c
 admitted_fated kind.CamOut w c = left_fated (velocity_command w c.axis) c
 admitted_fated _ w c = joined_fated w c
@@ -70,7 +70,7 @@ power_fated true c = record { ends = refl; begins = refl }
 power_fated false c =
     either (Fated c) (is_error_stop c.axis.state) goes_on (fates.replaced finish.Aborted c.axis.active None) [] _
     (λ h. record { ends = refl; begins = refl })
-    (λ h. single (replaced finish.Aborted None []) (holds false ∷ []) (charge_of c) ((λ d. refl), tt))
+    (λ h. single (replaced finish.Aborted None []) (holds false ∷ []) (command_state_of c) ((λ d. refl), tt))
 
 -- only an active command ends by a step
 ends_by : (active next : Option Wanted) (look : AxisLook) (a : Axis) → (advance_by_command active next look a).ending ≢ None → active ≢ None
@@ -88,7 +88,7 @@ advance_ends next look a =
     (λ e h. absurd (h refl)) (λ e. ends_at (place_on_path a look) next look a)
 
 -- it ends so, and the first that waits takes over
-taking_fated : (k : BlockKind) (t : Option ℤ) (blends : Bool) (f : Finish) (v w : Wanted) (ws : List Wanted) (a : Axis) (c : Charge) →
+taking_fated : (k : BlockKind) (t : Option ℤ) (blends : Bool) (f : Finish) (v w : Wanted) (ws : List Wanted) (a : Axis) (c : CommandState) →
     By (record c { active = Some v; waiting = w ∷ ws }) (record { ends = Some f; begins = taker_by k t w a; blends = blends }) (taking_changes k t f w a)
 taking_fated kind.MoveRelative None blends f v w ws a c =
     let target = a.setpoint +ℤ position_of w in
@@ -99,7 +99,7 @@ taking_fated kind.MoveRelative (Some t) blends f v w ws a c = record { ends = re
 taking_fated _ t blends f v w ws a c = record { ends = refl; begins = refl }
 
 -- it goes on, or ends
-ending_fated : (blends : Bool) (o : Option Finish) (active : Option Wanted) (ws : List Wanted) (a : Axis) (c : Charge) → (o ≢ None → active ≢ None) →
+ending_fated : (blends : Bool) (o : Option Finish) (active : Option Wanted) (ws : List Wanted) (a : Axis) (c : CommandState) → (o ≢ None → active ≢ None) →
     By (record c { active = active; waiting = ws }) (ending_fate blends o ws a) (ending_changes o ws a)
 ending_fated blends None active ws a c h = record { ends = refl; begins = refl }
 ending_fated blends (Some f) None ws a c h = absurd (h (λ n. cc) refl)
@@ -122,14 +122,14 @@ moved_fated : (look : AxisLook) (c : Core) → Fated c (moved_fate look c) (adva
 moved_fated look c =
     let next = slice_get c.waiting 0 in
     let step = advance_in_cycle next look c.axis in
-    before_quiet (moved_fate look c) (ending_changes step.ending c.waiting step.axis) (release_changes look (core_after_advance look c).axis) (charge_of c)
+    before_quiet (moved_fate look c) (ending_changes step.ending c.waiting step.axis) (release_changes look (core_after_advance look c).axis) (command_state_of c)
     (release_quiet look (core_after_advance look c).axis)
-    (ending_fated (is_blended c.axis.active c) step.ending c.axis.active c.waiting step.axis (charge_of c) (advance_ends next look c.axis))
+    (ending_fated (is_blended c.axis.active c) step.ending c.axis.active c.waiting step.axis (command_state_of c) (advance_ends next look c.axis))
 
 run_fated : (look : AxisLook) (driven : Bool) (c : Core) (rest : List Change) → AreQuiet rest →
     Fated c (if driven && c.axis.driven then moved_fate look c else goes_on) (step_changes look driven c ++ rest)
 run_fated look driven c rest q =
-    before_quiet _ (step_changes look driven c) rest (charge_of c) q
+    before_quiet _ (step_changes look driven c) rest (command_state_of c) q
     (either (Fated c) (driven && c.axis.driven) (moved_fate look c) goes_on (advance_changes look c) [] (λ h. moved_fated look c) (λ h. record { ends = refl; begins = refl }))
 
 -- an error ends it, and after that nothing ends
@@ -162,7 +162,7 @@ cycle_fated look c = by (nat_eq (answer_error_of c.axis look.input) 0)
     by true = run_fated look driven c (rest true) (reset_quiet (done true).reset look.input (done true))
     by false =
         let n = answer_error_of c.axis look.input in
-        single (replaced (finish.Error n) None []) (holds false ∷ (step_changes look driven (core_after_error n c) ++ rest false)) (charge_of c) (
+        single (replaced (finish.Error n) None []) (holds false ∷ (step_changes look driven (core_after_error n c) ++ rest false)) (command_state_of c) (
           (λ d. refl),
           both_quiet (step_changes look driven (core_after_error n c)) (rest false) (failed_quiet look driven n c)
               (reset_quiet (done false).reset look.input (done false)),

@@ -2,7 +2,7 @@
 -- GroupReset none.
 use Rattle.std.specs.Prelude.{◌≡◌, ℕ, Bool, false, not, ◌&&◌, nat_eq, ℤ, Option, Some, None, is_some, List, [], ◌∷◌, ◌++◌}
 use Rattle.std.proofs.Common.{arith}
-use Rattle.buffer_modes.specs.Owners.{is_owner, owner_by}
+use Rattle.buffer_modes.specs.Owners.{owner_count, owner_by}
 use Rattle.buffer_modes.specs.Queue.{is_active_at_once}
 use Rattle.buffer_modes.specs.declared.reset.PendingReset.{PendingReset}
 use Rattle.command_core.specs.Brought.{BringNone}
@@ -32,7 +32,7 @@ use Rattle.buffer_modes.proofs.Owners.{nobody}
 use Rattle.command_changes.proofs.Alike.{Brings, fails}
 use Rattle.command_changes.proofs.Choices.{by_if}
 
-pub nobody_brakes : (k : ℕ) (active : Option Wanted) → is_owner k (owner_by (braking_for active)) ≡ 0
+pub nobody_brakes : (k : ℕ) (active : Option Wanted) → owner_count k (owner_by (braking_for active)) ≡ 0
 nobody_brakes k None = nobody k
 nobody_brakes k (Some w) = nobody k
 

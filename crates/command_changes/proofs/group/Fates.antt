@@ -21,35 +21,35 @@ use Rattle.buffer_modes.specs.Laws.{AreTakenAway}
 use Rattle.buffer_modes.specs.Owners.{IsSame}
 use Rattle.buffer_modes.specs.Queue.{is_active_at_once}
 use Rattle.command_core.specs.Changes.{Change, awaits, holds, joins, replaced}
-use Rattle.command_core.specs.Charge.{Charge}
+use Rattle.command_core.specs.CommandState.{CommandState}
 use Rattle.command_pool.specs.declared.ending.Finish.{Finish}
 use Rattle.command_pool.specs.declared.ending.Finish.TheVariants as finish
 use Rattle.command_pool.specs.declared.kind.BlockKind.{BlockKind}
 use Rattle.command_pool.specs.declared.kind.BlockKind.TheVariants as kind
 use Rattle.command_pool.specs.declared.wanted.Wanted.{Wanted}
 use Rattle.command_changes.specs.Failing.{failing}
-use Rattle.command_changes.specs.Group.{admitted_changes, asked_changes, charge_of, command_changes, cycle_changes, ending_changes, halted_changes, is_stop, line_changes, power_off_changes, release_changes}
+use Rattle.command_changes.specs.Group.{admitted_changes, asked_changes, command_state_of, command_changes, cycle_changes, ending_changes, halted_changes, is_stop, line_changes, power_off_changes, release_changes}
 use Rattle.command_changes.proofs.Choices.{by_if, either}
 use Rattle.command_changes.proofs.Fates.{AreQuiet, By, before_quiet, both_quiet, single}
 
 -- a fate of the group is that of these changes
 abbrev Fated : Core → Fate → List Change → Type 0
-Fated c f xs = By (charge_of c) f xs
+Fated c f xs = By (command_state_of c) f xs
 
 -- a command
 line_fated : (w : Wanted) (c : Core) → Fated c (line_fate w c) (line_changes w c)
 line_fated w c =
     let at_once : Fate = if is_active_at_once (queue_in c) w then fates.replaced finish.Aborted c.group.active (Some w) else goes_on in
     either (Fated c) (waits_for_rest w c.path) (fates.replaced finish.Aborted c.group.active (braking_for c.group.active)) at_once _ _
-    (λ h. single (replaced finish.Aborted (braking_for c.group.active) (w ∷ [])) [] (charge_of c) tt)
+    (λ h. single (replaced finish.Aborted (braking_for c.group.active) (w ∷ [])) [] (command_state_of c) tt)
     (λ h. by_if (Fated c at_once) (is_active_at_once (queue_in c) w) _ _
-    (λ g. single (joins w) (holds (is_stop w.kind) ∷ []) (charge_of c) ((λ d. refl), tt)) (λ g. single (joins w) [] (charge_of c) tt))
+    (λ g. single (joins w) (holds (is_stop w.kind) ∷ []) (command_state_of c) ((λ d. refl), tt)) (λ g. single (joins w) [] (command_state_of c) tt))
 
 halted_fated : (w : Wanted) (c : Core) → Fated c (fates.replaced finish.Aborted c.group.active (Some w)) (halted_changes w)
-halted_fated w c = single (replaced finish.Aborted (Some w) []) (holds (is_stop w.kind) ∷ []) (charge_of c) ((λ d. refl), tt)
+halted_fated w c = single (replaced finish.Aborted (Some w) []) (holds (is_stop w.kind) ∷ []) (command_state_of c) ((λ d. refl), tt)
 
 admitted_fated : (k : BlockKind) (w : Wanted) (c : Core) → Fated c (admitted_fate k w c) (admitted_changes k w c)
-admitted_fated kind.GroupReset w c = single (awaits w.owner) [] (charge_of c) tt
+admitted_fated kind.GroupReset w c = single (awaits w.owner) [] (command_state_of c) tt
 admitted_fated kind.GroupStop w c = halted_fated w c
 admitted_fated kind.GroupHalt w c = halted_fated w c
 admitted_fated kind.MoveLinearAbsolute w c = line_fated w c
@@ -67,7 +67,7 @@ command_fated w jerk members c = asked_fated (refusal_of (asked_in c w jerk memb
 -- an error ends the active command
 failing_fated : (n : ℕ) (rest : List Change) (c : Core) → AreQuiet rest →
     Fated c (fates.replaced (finish.Error n) c.group.active None) (failing n ++ rest)
-failing_fated n rest c q = single (replaced (finish.Error n) None []) (holds false ∷ rest) (charge_of c) ((λ d. refl), q)
+failing_fated n rest c q = single (replaced (finish.Error n) None []) (holds false ∷ rest) (command_state_of c) ((λ d. refl), q)
 
 -- a Power off
 pub off_fated : (c : Core) → Fated c (power_off_fate c) (power_off_changes c)
@@ -92,7 +92,7 @@ path_ends g None h = absurd (h refl)
 path_ends g (Some p) h = advance_ends g p.motion h
 
 -- it goes on, or ends so and the first that waits takes over
-ending_fated : (o : Option Finish) (active : Option Wanted) (ws : List Wanted) (c : Charge) → (o ≢ None → active ≢ None) →
+ending_fated : (o : Option Finish) (active : Option Wanted) (ws : List Wanted) (c : CommandState) → (o ≢ None → active ≢ None) →
     By (record c { active = active; waiting = ws }) (ending_fate o ws) (ending_changes o ws)
 ending_fated None active ws c h = record { ends = refl; begins = refl }
 ending_fated (Some f) None ws c h = absurd (h (λ n. cc) refl)
@@ -108,7 +108,7 @@ none_quiet : (o : Option Finish) (ws : List Wanted) → o ≡ None → AreQuiet 
 none_quiet None ws e = tt
 none_quiet (Some f) ws e = absurd (cc)
 
--- the changes of a cycle behind an error of a member
+-- the changes of a cycle after an error of a member
 abbrev step_changes : GroupLook → Core → List Change
 step_changes members c =
     let after = cycles.moved members c in
@@ -118,8 +118,8 @@ stepped_fated : (members : GroupLook) (c : Core) → Fated c (ending_fate (endin
 stepped_fated members c =
     let after = cycles.moved members c in
     before_quiet (ending_fate (ending_of c.group c.path) c.waiting) (ending_changes (ending_of c.group c.path) c.waiting)
-    (release_changes members.stop_held after.group after.path) (charge_of c) (release_quiet members.stop_held after.group after.path)
-    (ending_fated (ending_of c.group c.path) c.group.active c.waiting (charge_of c) (path_ends c.group c.path))
+    (release_changes members.stop_held after.group after.path) (command_state_of c) (release_quiet members.stop_held after.group after.path)
+    (ending_fated (ending_of c.group c.path) c.group.active c.waiting (command_state_of c) (path_ends c.group c.path))
 
 failed_quiet : (members : GroupLook) (n : ℕ) (c : Core) → AreQuiet (step_changes members (failed n c))
 failed_quiet members n c =

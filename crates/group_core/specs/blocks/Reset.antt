@@ -33,12 +33,12 @@ abbrev pub after_reset : List AxisState → Group → Group
 after_reset axes g =
     record g { state = reset_from (list_any is_moved axes) g.state; error = 0; reset = None }
 
--- the group whose pending GroupReset is done where it may be, and what is told of it
+-- the group whose pending GroupReset is done where it may be, and what is reported of it
 abbrev pub reset_by : Option PendingReset → List AxisState → Bool → Group → Group
 reset_by None axes on_path g = g
 reset_by (Some r) axes on_path g = if may_reset on_path g then after_reset axes g else g
 
--- what is told of a pending GroupReset that is done
+-- what is reported of a pending GroupReset that is done
 abbrev pub reset_notes : Option PendingReset → Bool → Group → List Note
 reset_notes None on_path g = []
 reset_notes (Some r) on_path g = if may_reset on_path g then told_to r.owner finish.Done else []

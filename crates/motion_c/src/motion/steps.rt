@@ -6,8 +6,8 @@ ghost use Rattle.motion_c.specs.Held.{held};
 
 use super::Motion;
 use crate::machine::Machine;
+use crate::machine_pointer::MachinePointer;
 use crate::parts::Parts;
-use crate::seat::Seat;
 use std::alloc::Global;
 use std::mem::replace;
 
@@ -20,8 +20,8 @@ pub fn take(alloc: Global, motion: &mut Motion) -> Option<Box<Machine>>
         return None;
     }
     motion.state = 0;
-    let seat = replace(&mut motion.seat, Seat::none(alloc));
-    Some(seat.into_parts().into_box())
+    let machine_pointer = replace(&mut motion.machine_pointer, MachinePointer::none(alloc));
+    Some(machine_pointer.into_parts().into_box())
 }
 
 /// Puts a machine into a handle.
@@ -29,7 +29,7 @@ pub fn put(motion: &mut Motion, machine: Box<Machine>)
     ensures { held motion.new ≡ Some machine.value }
 {
     motion.state = 0;
-    motion.seat = Seat::of_parts(Parts::of(machine));
+    motion.machine_pointer = MachinePointer::of_parts(Parts::of(machine));
     motion.state = 1;
 }
 

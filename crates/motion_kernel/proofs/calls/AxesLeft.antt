@@ -24,7 +24,7 @@ use Rattle.motion_kernel.specs.declared.memberships.Membership.{Membership}
 use Rattle.motion_kernel.proofs.kept.Laws.{AxesKeepDefinitions}
 use Rattle.motion_kernel.proofs.Sizes.{by_if}
 
--- what a call of an axis leaves: so it is with an axis that is left alone, and with one call behind
+-- what a call of an axis leaves: so it is with an axis that is left alone, and with one call after
 -- another
 pub record CallsLeave (R : Axis → Axis → Type 0) : Type 0 where
   pub alone : (a : Axis) → R a a

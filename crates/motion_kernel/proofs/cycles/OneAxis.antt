@@ -71,7 +71,7 @@ row_once s (suc n) around m k b =
       | inr d ↦ index_before so_far.rows row k no_row (omega arith) ∙ row_once s n around m k (omega arith)
     ]
 
--- pending Resets and what the instances are told leave the axes, and what waits for them
+-- pending Resets and what the instances are given leave the axes, and what waits for them
 pub resets_axes : (s : Setup) (n : ℕ) (m : Machine) → (groups_reset s n m).machine.axes ≡ m.axes
 unfolding groups_reset
 resets_axes s zero m = refl

@@ -64,7 +64,7 @@ reset_more n s m =
     let same : n + 1 ≡ suc n = omega arith in
     ap (λ k. groups_reset s k m) same ∙ reset_next n s m
 
--- no axis's owner is told at first
+-- no axis's owner is notified at first
 pub shown_none : (axes : List Axis) (is : List InstanceState) → axes_shown 0 axes is ≡ is
 unfolding axes_shown
 shown_none axes is = refl
@@ -93,7 +93,7 @@ led_more n groups is =
     let same : n + 1 ≡ suc n = omega arith in
     ap (λ k. groups_shown k groups is) same ∙ led_next n groups is
 
--- no instance is told what it found at first
+-- no instance is given what it found at first
 pub found_none : (blocks : List BlockDef) (axes : List Axis) (groups : List PlacedGroup) (is : List InstanceState) → instances_found 0 blocks axes groups is ≡ is
 unfolding instances_found
 found_none blocks axes groups is = refl

@@ -29,7 +29,7 @@ use Rattle.motion_kernel.proofs.Sizes.{told_found_length}
 abbrev pub AreCounts : List DriveIn → Machine → Type 0
 AreCounts ins m = (n : ℕ) → n < length m.axes → IsCount (answer_at ins n).actual
 
--- as many instances as before are told
+-- as many instances as before are reported
 shown_length : (o : Option ℕ) (reached : Bool) (is : List InstanceState) → length (shown_active o reached is) ≡ length is
 shown_length None reached is = refl
 shown_length (Some k) reached is = length-set is k _
@@ -67,7 +67,7 @@ pub may_cycle : CycleLaws → (s : Setup) (m : Machine) (ins : List DriveIn) →
 may_cycle laws s m ins h =
     may_go_on laws.cams laws.members s m ins (stepped_in s ins m) (map pair_of m.axes) h (have_stepped s m ins (length m.groups) h (omega arith))
 
--- a machine is kept by a cycle, before its instances are told what it found and after that
+-- a machine is kept by a cycle, before its instances are given what it found and after that
 pub cycled_kept : CycleLaws → (s : Setup) (m : Machine) (ins : List DriveIn) → IsMachineKept s m → AreCounts ins m → IsMachineKept s (cycled s m ins).machine
 unfolding cycled
 cycled_kept laws s m ins h counts =

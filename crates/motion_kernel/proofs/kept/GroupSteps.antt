@@ -36,7 +36,8 @@ pub record IsLooking (s : Setup) (m : Machine) (j : ℕ) (look : GroupLook) : Ty
   pub kept : group.IsCoreKept (limits_in look) (group_core_at m j)
   pub limits : limits_in look ≡ map (limits_of s) (members_at s j)
 
--- the look of a group at a machine whose axes are those of a kept one, and which has the group as it was
+-- the look of a group at a machine whose axes are those of a kept one, and which has the group as
+-- it was
 looks_at : (s : Setup) (m after : Machine) (j error : ℕ) → IsMachineKept s m → j < length m.groups → after.axes ≡ m.axes →
     length after.instances ≡ length m.instances → (group_at after j).group.hold ≡ (group_at m j).group.hold →
     IsLooking s m j (group_look s after j error)

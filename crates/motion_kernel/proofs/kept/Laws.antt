@@ -1,4 +1,5 @@
--- The laws of axes and groups on which it rests that a machine stays kept: each repeats the clauses of a law's function.
+-- The laws of axes and groups on which it rests that a machine stays kept: each repeats the clauses
+-- of a law's function.
 use Rattle.std.specs.Prelude.{◌≡◌, ◌⊎◌, ◌<◌, ◌≤ℤ◌, All, IsTrue, ℕ, ℤ, Bool, true, false, nat_eq, Some, None, is_some, List, [], Ok}
 use Rattle.std.specs.List.{list_any}
 use Rattle.axis_core.specs.Along.{GoesAlong, HasFollowed, IsLeftAlone, KeepsDefinition}

@@ -1,4 +1,5 @@
--- What always holds of an axis in Standstill, and that the axes of a group of which none is moved are in it.
+-- What always holds of an axis in Standstill, and that the axes of a group of which none is moved
+-- are in it.
 use Rattle.std.specs.Prelude.{◌≡◌, ◌⊎◌, refl, ℕ, zero, suc, ◌<◌, ◌≤◌, Bool, false, Option, None, List, [], ◌∷◌, length, map, slice_index_or}
 use Rattle.std.specs.List.{list_any}
 use Rattle.std.proofs.Common.{arith, ap, sym, subst, ◌∙◌, inl, inr}

@@ -42,7 +42,7 @@ pub look_is : (s : Setup) (m : Machine) (j error : ℕ) (members : List ℕ) (ax
 unfolding group_look
 look_is s m j error members axes held hold ms all h e = rw (e, h, ms, all) refl
 
--- how many axes are seen is told at first
+-- how many axes are seen is reported at first
 pub seen_count : (n : ℕ) (axes : List Axis) (members : List ℕ) (look : GroupLook) → (with_members n axes members look).count ≡ look.count
 unfolding with_members
 seen_count zero axes members look = refl

@@ -78,7 +78,7 @@ shows zero axes members look room l k = record {
 shows (suc n) axes members look room l k =
     shows_more n axes members look (with_members n axes members look) room (omega arith) (omega arith) (shows n axes members look room (omega arith) (omega arith))
 
--- nothing stands behind the axes
+-- nothing stands after the axes
 none_at : (n i : ℕ) → slice_index_or (replicate n (pos 0)) i (pos 0) ≡ pos 0
 none_at zero i = refl
 none_at (suc n) zero = refl
@@ -87,7 +87,7 @@ none_at (suc n) (suc i) = none_at n i
 room_at_first : (count error : ℕ) (held : Bool) → HasRoom (look_at_none count error held)
 room_at_first count error held = record { limits = refl; setpoints = refl; states = refl }
 
--- what a group's look is: its axes at their places, and 0 behind them
+-- what a group's look is: its axes at their places, and 0 after them
 pub record IsShown (axes : List Axis) (members : List ℕ) (held : Bool) (error_told : ℕ) (look : GroupLook) : Type 0 where
   pub count : look.count ≡ length members
   pub error : look.error ≡ error_told
@@ -130,7 +130,7 @@ group_shown s m j error few =
     is_shown m.axes ms error held (with_members (length ms) m.axes ms (look_at_none (length ms) error held))
     (shows (length ms) m.axes ms (look_at_none (length ms) error held) (room_at_first (length ms) error held) (omega arith) few)
 
--- the error that a look tells
+-- the error that a look gives
 told_by : (n : ℕ) (axes : List Axis) (members : List ℕ) (look : GroupLook) → (with_members n axes members look).error ≡ look.error
 unfolding with_members
 told_by zero axes members look = refl

@@ -52,7 +52,7 @@ found_at xs i h l =
     let inside : nat_lt i (length xs) ≡ true = grind arith in
     rw (stands_at xs i h l, inside) refl
 
--- a number of a list behind stands nowhere in the one before it
+-- a number of a list after stands nowhere in the one before it
 stands_not : (axis : ℕ) (xs ys : List ℕ) → ((x : ℕ) → AllByRecursion (λ y. nat_eq x y ≡ false) ys → nat_eq x axis ≡ false) →
     IsDistinct nat_eq (xs ++ ys) → position_or_len (nat_eq axis) xs ≡ length xs
 unfolding IsDistinct

@@ -5,10 +5,10 @@ use Rattle.std.proofs.Common.{arith, ap, sym, subst, inl, inr, ◌∙◌}
 use Rattle.std.proofs.lemmas.Bool.{and_parts, cases_eq, cases_lt, ne_eqb}
 use Rattle.axis_core.specs.Calls.{axis_without_owner}
 use Rattle.axis_core.specs.Owners.{core_without_owner}
-use Rattle.buffer_modes.specs.Owners.{active_without, is_owner, one_of, owner_by, waits_of}
+use Rattle.buffer_modes.specs.Owners.{active_without, owner_count, one_of, owner_by, waits_of}
 use Rattle.buffer_modes.specs.Resets.{reset_owner, reset_without}
 use Rattle.buffer_modes.specs.declared.reset.PendingReset.{PendingReset}
-use Rattle.command_core.specs.Charge.{Charge, owns}
+use Rattle.command_core.specs.CommandState.{CommandState, owns}
 use Rattle.command_pool.specs.Kinds.{acts_on_group}
 use Rattle.command_pool.specs.Waiting.{detached, queue_of, without}
 use Rattle.command_pool.specs.declared.wanted.Wanted.{Wanted}
@@ -20,13 +20,13 @@ use Rattle.motion_history.specs.declared.config.BlockDef.{BlockDef}
 use Rattle.motion_kernel.specs.calls.Calls.{with_axis_core, with_group_core, without_owner}
 use Rattle.motion_kernel.specs.Machine.{Machine, axis_at, axis_core_at, group_at, group_core_at, list_of, no_axis, no_group}
 use Rattle.motion_kernel.specs.kept.Machine.{IsSized}
-use Rattle.motion_kernel.specs.owners.Blocks.{OwnersHaveBlocks, charge_at}
+use Rattle.motion_kernel.specs.owners.Blocks.{OwnersHaveBlocks, command_state_at}
 use Rattle.motion_kernel.specs.owners.Objects.{a_group, an_axis, IsThere, Object, has_commands_on, is_same, object_of}
 use Rattle.motion_kernel.proofs.kept.Detached.{placed_without}
 
 -- where nothing is an instance's, taking its own away changes nothing
-owner_stays : (k : ℕ) (o : Option ℕ) → is_owner k o ≡ 0 → without k o ≡ o
-unfolding is_owner
+owner_stays : (k : ℕ) (o : Option ℕ) → owner_count k o ≡ 0 → without k o ≡ o
+unfolding owner_count
 owner_stays k None e = refl
 owner_stays k (Some j) e = by (nat_eq j k) e
   where
@@ -34,11 +34,11 @@ owner_stays k (Some j) e = by (nat_eq j k) e
     by true e = absurd (cc)
     by false e = refl
 
-active_stays : (k : ℕ) (o : Option Wanted) → is_owner k (owner_by o) ≡ 0 → active_without k o ≡ o
+active_stays : (k : ℕ) (o : Option Wanted) → owner_count k (owner_by o) ≡ 0 → active_without k o ≡ o
 active_stays k None e = refl
 active_stays k (Some w) e = ap (λ (o : Option ℕ). let v : Wanted = record w { owner = o } in Some v) (owner_stays k w.owner e)
 
-reset_stays : (k : ℕ) (o : Option PendingReset) → is_owner k (reset_owner o) ≡ 0 → reset_without k o ≡ o
+reset_stays : (k : ℕ) (o : Option PendingReset) → owner_count k (reset_owner o) ≡ 0 → reset_without k o ≡ o
 reset_stays k None e = refl
 reset_stays k (Some p) e = ap (λ (o : Option ℕ). let v : PendingReset = record { owner = o } in Some v) (owner_stays k p.owner e)
 
@@ -57,11 +57,11 @@ waits_stay k (w ∷ ws) e =
     λ i. record w { owner = first i } ∷ rest i
 
 -- none of these commands is an instance's, nor is the hold
-record IsNobodys (k : ℕ) (c : Charge) : Type 0 where
+record IsNobodys (k : ℕ) (c : CommandState) : Type 0 where
   pub none : owns k c ≡ 0
   pub free : c.hold ≡ Some k → ⊥
 
-axis_stays : (k : ℕ) (m : Machine) (n : ℕ) → IsNobodys k (charge_at m (an_axis n)) → axis_without_owner k (axis_at m n) ≡ axis_at m n
+axis_stays : (k : ℕ) (m : Machine) (n : ℕ) → IsNobodys k (command_state_at m (an_axis n)) → axis_without_owner k (axis_at m n) ≡ axis_at m n
 unfolding axis_without_owner
 axis_stays k m n h =
     let a = axis_at m n in
@@ -71,7 +71,7 @@ axis_stays k m n h =
     let hold = hold_stays k a.hold h.free in
     λ i. record a { active = active i; reset = reset i; hold = hold i }
 
-group_stays : (k : ℕ) (m : Machine) (j : ℕ) → IsNobodys k (charge_at m (a_group j)) → placed_without k (group_at m j) ≡ group_at m j
+group_stays : (k : ℕ) (m : Machine) (j : ℕ) → IsNobodys k (command_state_at m (a_group j)) → placed_without k (group_at m j) ≡ group_at m j
 unfolding group_without
 group_stays k m j h =
     let g = group_at m j in
@@ -100,13 +100,13 @@ same_but f (x ∷ xs) (suc n) d l h =
 
 -- where its block does not act, nothing is an instance's
 beside : (s : Setup) (k : ℕ) (b : BlockDef) (m : Machine) → slice_get s.blocks k ≡ Some b → OwnersHaveBlocks s m →
-    (p : Object) → IsThere m p → is_same (object_of b) p ≡ false → IsNobodys k (charge_at m p)
+    (p : Object) → IsThere m p → is_same (object_of b) p ≡ false → IsNobodys k (command_state_at m p)
 beside s k b m at h p there other =
     let not_on : has_commands_on (slice_get s.blocks k) p ≡ true → ⊥ = λ e.
     let parts = and_parts (not (is_power b.kind)) (is_same (object_of b) p) (subst (λ x. has_commands_on x p ≡ true) at e) in
     let same : is_same (object_of b) p ≡ true = parts.1 in cc in
     record {
-      none = elim (cases_eq (owns k (charge_at m p)) 0) [
+      none = elim (cases_eq (owns k (command_state_at m p)) 0) [
         | inl z ↦ z
         | inr d ↦ absurd (not_on ((h p there k).commands (omega arith)))
       ];
@@ -115,7 +115,7 @@ beside s k b m at h p there other =
 
 module _ (s : Setup) (k : ℕ) (m : Machine) (sized : IsSized s m) where
   -- the lists of all that are not an instance's
-  list_stays : (o : Object) → ((p : Object) → IsThere m p → is_same o p ≡ false → IsNobodys k (charge_at m p)) →
+  list_stays : (o : Object) → ((p : Object) → IsThere m p → is_same o p ≡ false → IsNobodys k (command_state_at m p)) →
       (j : ℕ) → j < length m.queues → (j < length m.axes → is_same o (an_axis j) ≡ false) →
       (length m.axes + (j - length m.axes) ≡ j → is_same o (a_group (j - length m.axes)) ≡ false) →
       map (detached k) (queue_of m.queues j) ≡ queue_of m.queues j
@@ -139,7 +139,7 @@ module _ (s : Setup) (k : ℕ) (m : Machine) (sized : IsSized s m) where
   axis_freed b at h off l =
       let n = b.object in
       let is : object_of b ≡ an_axis n = ap (λ z. if z then a_group n else an_axis n) off in
-      let all : (p : Object) → IsThere m p → is_same (an_axis n) p ≡ false → IsNobodys k (charge_at m p) =
+      let all : (p : Object) → IsThere m p → is_same (an_axis n) p ≡ false → IsNobodys k (command_state_at m p) =
       λ p there other. beside s k b m at h p there (ap (λ o. is_same o p) is ∙ other) in
       let a = sized.axes in
       let c = sized.queues in
@@ -155,7 +155,7 @@ module _ (s : Setup) (k : ℕ) (m : Machine) (sized : IsSized s m) where
   group_freed b at h on l =
       let n = b.object in
       let is : object_of b ≡ a_group n = ap (λ z. if z then a_group n else an_axis n) on in
-      let all : (p : Object) → IsThere m p → is_same (a_group n) p ≡ false → IsNobodys k (charge_at m p) =
+      let all : (p : Object) → IsThere m p → is_same (a_group n) p ≡ false → IsNobodys k (command_state_at m p) =
       λ p there other. beside s k b m at h p there (ap (λ o. is_same o p) is ∙ other) in
       let a = sized.axes in
       let d = sized.groups in

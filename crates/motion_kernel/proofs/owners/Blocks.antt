@@ -3,28 +3,28 @@
 use Rattle.std.specs.Prelude.{◌≡◌, refl, ℕ, ◌+◌, ◌<◌, Bool, true, false, nat_eq, if◌then◌else◌, Option, Some, None, List, [], slice_get}
 use Rattle.std.proofs.Common.{arith, ap, sym, subst, inl, inr}
 use Rattle.std.proofs.lemmas.Bool.{cases_Bool, cases_eq, eqb-true}
-use Rattle.buffer_modes.specs.Owners.{told}
+use Rattle.buffer_modes.specs.Owners.{ends_given}
 use Rattle.command_core.specs.Brought.{BringNone, brought}
 use Rattle.command_core.specs.Changes.{Change, all_changed}
-use Rattle.command_core.specs.Charge.{Charge, disowned, owns}
+use Rattle.command_core.specs.CommandState.{CommandState, disowned, owns}
 use Rattle.command_core.specs.Laws.{AreToldOnce, HaveCommands}
 use Rattle.command_pool.specs.Waiting.{without}
 use Rattle.motion_history.specs.Setup.{Setup}
 use Rattle.motion_kernel.specs.Machine.{Machine}
 use Rattle.motion_kernel.specs.calls.Calls.{after_reply, with_execute}
 use Rattle.motion_kernel.specs.cycles.Showing.{with_found}
-use Rattle.motion_kernel.specs.owners.Blocks.{HasOnly, OwnersHaveBlocks, charge_at}
+use Rattle.motion_kernel.specs.owners.Blocks.{HasOnly, OwnersHaveBlocks, command_state_at}
 use Rattle.motion_kernel.specs.owners.Objects.{a_group, an_axis, Object, has_commands_on, is_same}
 use Rattle.motion_kernel.proofs.owners.commands.Events.{same_object}
 use Rattle.motion_kernel.proofs.walk.Events.{executed_alike, found_alike, freed_at, freed_there, replied_alike}
 use Rattle.motion_kernel.proofs.walk.Keeps.{Alike, Anyone, Asks, Event, Keeps, WalkLaws, freed}
 
--- nothing is told yet
-pub untold : (m : Machine) (o : Object) → (charge_at m o).notes ≡ []
+-- nothing is reported yet
+pub untold : (m : Machine) (o : Object) → (command_state_at m o).notes ≡ []
 untold m (an_axis n) = refl
 untold m (a_group j) = refl
 
-abbrev HasBlock : Setup → ℕ → Object → Charge → Type 0
+abbrev HasBlock : Setup → ℕ → Object → CommandState → Type 0
 HasBlock s k o c = HasOnly k c (has_commands_on (slice_get s.blocks k) o ≡ true)
 
 alike_has : (s : Setup) (m x : Machine) → Alike m x → OwnersHaveBlocks s m → OwnersHaveBlocks s x
@@ -41,7 +41,7 @@ hold_without k j (Some n) e = by (nat_eq n k) e
     by false e = e
 
 module _ (laws : WalkLaws) (once : AreToldOnce) (hold : HaveCommands) where
-  has_changed : (k : ℕ) (xs : List Change) (c : Charge) (X : Type 0) → c.notes ≡ [] → (0 < brought k xs → X) → HasOnly k c X →
+  has_changed : (k : ℕ) (xs : List Change) (c : CommandState) (X : Type 0) → c.notes ≡ [] → (0 < brought k xs → X) → HasOnly k c X →
       HasOnly k (record (all_changed xs c) { notes = [] }) X
   has_changed k xs c X none brings h = record { commands = commands; holds = holds }
     where
@@ -49,7 +49,7 @@ module _ (laws : WalkLaws) (once : AreToldOnce) (hold : HaveCommands) where
       some l = elim (cases_eq (owns k c) 0) [ inl z ↦ brings (omega arith) | inr d ↦ h.commands (omega arith) ]
 
       commands : 0 < owns k (all_changed xs c) → X
-      commands l = some (let o = once.once k xs c in let t : told k c.notes ≡ 0 = ap (told k) none in omega arith)
+      commands l = some (let o = once.once k xs c in let t : ends_given k c.notes ≡ 0 = ap (ends_given k) none in omega arith)
 
       holds : (all_changed xs c).hold ≡ Some k → X
       holds e = elim (hold.held k xs c none e) [ inl before ↦ h.holds before | inr has ↦ some has ]
@@ -58,9 +58,9 @@ module _ (laws : WalkLaws) (once : AreToldOnce) (hold : HaveCommands) where
       ((k : ℕ) → 0 < brought k xs → has_commands_on (slice_get s.blocks k) o ≡ true) → OwnersHaveBlocks s m → OwnersHaveBlocks s x
   event_has s m x o xs e brings h p there k = elim (cases_Bool (is_same o p)) [
     | inl same ↦
-        subst (λ q. HasBlock s k q (charge_at x q)) (same_object o p same)
+        subst (λ q. HasBlock s k q (command_state_at x q)) (same_object o p same)
         (subst (HasBlock s k o) (sym e.here)
-        (has_changed k xs (charge_at m o) (has_commands_on (slice_get s.blocks k) o ≡ true) (untold m o) (brings k) (h o e.there k)))
+        (has_changed k xs (command_state_at m o) (has_commands_on (slice_get s.blocks k) o ≡ true) (untold m o) (brings k) (h o e.there k)))
     | inr other ↦ subst (HasBlock s k p) (sym (e.beside p (e.as_many p there) other)) (h p (e.as_many p there) k)
   ]
 
@@ -68,7 +68,7 @@ module _ (laws : WalkLaws) (once : AreToldOnce) (hold : HaveCommands) where
   none_has s m x o xs e none h = event_has s m x o xs e (λ k l. absurd (let z = once.none k xs none in omega arith)) h
 
   -- an instance that is called anew has its earlier command no longer
-  has_freed : (k j : ℕ) (c : Charge) (X : Type 0) → HasOnly j c X → HasOnly j (disowned k c) X
+  has_freed : (k j : ℕ) (c : CommandState) (X : Type 0) → HasOnly j c X → HasOnly j (disowned k c) X
   has_freed k j c X h = record {
     commands = λ l. h.commands (elim (cases_Bool (nat_eq k j)) [
       | inl same ↦ absurd (let z = subst (λ n. owns n (disowned k c) ≡ 0) (eqb-true k j same) (once.taken_away k c) in omega arith)
@@ -81,7 +81,7 @@ module _ (laws : WalkLaws) (once : AreToldOnce) (hold : HaveCommands) where
   asked_has s k m z a h =
       let free : OwnersHaveBlocks s (freed k a.called m) = λ p there j.
       let was = freed_there k a.called m p there in
-      subst (HasBlock s j p) (sym (freed_at laws k a.called m p was)) (has_freed k j (charge_at m p) _ (h p was j)) in
+      subst (HasBlock s j p) (sym (freed_at laws k a.called m p was)) (has_freed k j (command_state_at m p) _ (h p was j)) in
       let brings : (j : ℕ) → 0 < brought j a.changes → has_commands_on (slice_get s.blocks j) a.object ≡ true =
       λ j l. elim (cases_Bool (nat_eq k j)) [
         | inl same ↦ subst (λ n. has_commands_on (slice_get s.blocks n) a.object ≡ true) (eqb-true k j same) a.on

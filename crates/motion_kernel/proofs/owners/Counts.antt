@@ -1,4 +1,4 @@
--- How many commands an instance has, how many it brings, and of how many ends it is told.
+-- How many commands an instance has, how many it brings, and of how many ends it is notified.
 use Rattle.std.specs.Prelude.{◌≡◌, refl, ℕ, zero, suc, ◌<◌, Bool, true, false, nat_eq, if◌then◌else◌, Option, Some, None, Ok, List, [], ◌∷◌, ◌++◌}
 use Rattle.std.proofs.Common.{arith, ap, sym, subst, ◌∙◌, inl, inr}
 use Rattle.std.proofs.lemmas.Bool.{cases_Bool, cases_eq, eq-eqb, eqb-false, eqb-true, ne_eqb}
@@ -8,7 +8,7 @@ use Rattle.axis_core.specs.Cores.{Core}
 use Rattle.axis_core.specs.Owners.{owner_brought, owner_brought_by}
 use Rattle.axis_core.specs.declared.reason.Reason as axis_reason
 use Rattle.buffer_modes.proofs.Owners.{nobody}
-use Rattle.buffer_modes.specs.Owners.{is_owner, one_of, told}
+use Rattle.buffer_modes.specs.Owners.{owner_count, one_of, ends_given}
 pub use Rattle.command_core.proofs.Ends.{other_note as other_owner}
 use Rattle.command_core.proofs.Holders.{owner_counts}
 use Rattle.command_pool.specs.Kinds.{acts_on_group}
@@ -34,28 +34,28 @@ use Rattle.motion_kernel.specs.owners.Commands.{commands_shown}
 use Rattle.motion_kernel.specs.calls.Telling.{told_end, told_notes}
 
 -- an instance is its own
-pub owner_is : (k : ℕ) → is_owner k (Some k) ≡ 1
-unfolding is_owner
+pub owner_is : (k : ℕ) → owner_count k (Some k) ≡ 1
+unfolding owner_count
 owner_is k = ap one_of (eq-eqb k k refl)
 
 one_zero : (b : Bool) → one_of b ≡ 0 → b ≡ false
 one_zero true e = absurd (cc)
 one_zero false e = refl
 
-pub owner_not : (k j : ℕ) → is_owner k (Some j) ≡ 0 → nat_eq j k ≡ false
-unfolding is_owner
+pub owner_not : (k j : ℕ) → owner_count k (Some j) ≡ 0 → nat_eq j k ≡ false
+unfolding owner_count
 owner_not k j e = one_zero (nat_eq j k) e
 
 -- an owner by its count
-pub found_in : (k : ℕ) (o : Option ℕ) → 0 < is_owner k o → o ≡ Some k
+pub found_in : (k : ℕ) (o : Option ℕ) → 0 < owner_count k o → o ≡ Some k
 found_in k None l = let n = nobody k in absurd (omega arith)
 found_in k (Some j) l = elim (cases_Bool (nat_eq j k)) [
   | inl e ↦ ap Some (eqb-true j k e)
   | inr d ↦ let n = other_owner k j d in absurd (omega arith)
 ]
 
--- an instance that is told nothing is as it was
-pub untold_stays : (k : ℕ) (ns : List Note) (is : List InstanceState) → told k ns ≡ 0 →
+-- an instance that is given nothing is as it was
+pub untold_stays : (k : ℕ) (ns : List Note) (is : List InstanceState) → ends_given k ns ≡ 0 →
     instance_at (told_notes ns is) k ≡ instance_at is k
 untold_stays k [] is e = refl
 untold_stays k (n ∷ ns) is e =
@@ -64,7 +64,7 @@ untold_stays k (n ∷ ns) is e =
     ∙ get_or-set_other is n.owner k (finished (instance_at is n.owner) n.finish) no_instance
     (λ s. eqb-false n.owner k other (sym s))
 
--- one that is told an end shows no command
+-- one that is given an end shows no command
 abbrev pub shown_by : List InstanceState → ℕ → ℕ
 shown_by is k = commands_shown (instance_at is k).progress
 
@@ -87,7 +87,7 @@ stays_ended k [] is e = e
 stays_ended k (n ∷ ns) is e = stays_ended k ns (told_end n.owner n.finish is)
     (one_ended is n.owner k n.finish e)
 
-pub told_shows_none : (k : ℕ) (ns : List Note) (is : List InstanceState) → 0 < told k ns →
+pub told_shows_none : (k : ℕ) (ns : List Note) (is : List InstanceState) → 0 < ends_given k ns →
     shown_by (told_notes ns is) k ≡ 0
 told_shows_none k [] is l = absurd (omega arith)
 told_shows_none k (n ∷ ns) is l = elim (cases_eq n.owner k) [
@@ -108,13 +108,13 @@ answered_one kind false i e = rw e refl
 -- the command that an instance brings to an axis is what it shows
 brings_one : (kind : BlockKind) (active : Bool) (i : InstanceState) (k : ℕ) (o : Option ℕ) →
     o ≡ Some k → is_done_at_once kind ≡ false →
-    commands_shown (answered_instance kind (Ok active) i).progress ≡ is_owner k o
+    commands_shown (answered_instance kind (Ok active) i).progress ≡ owner_count k o
 brings_one kind active i k o e d = answered_one kind active i d ∙ sym (owner_counts k o e)
 
 brings_axis : (kind : BlockKind) (i : InstanceState) (k : ℕ) (w : Wanted) (c : Core) →
     w.owner ≡ Some k → acts_on_group kind ≡ false →
     commands_shown (answered_instance kind (Ok (axis_calls.is_active_by kind w c)) i).progress
-    ≡ is_owner k (owner_brought_by kind w)
+    ≡ owner_count k (owner_brought_by kind w)
 brings_axis kind.GearOut i k w c e a = sym (nobody k)
 brings_axis kind.CamOut i k w c e a = sym (nobody k)
 brings_axis kind.GroupEnable i k w c e a = absurd (cc)
@@ -123,7 +123,7 @@ brings_axis x i k w c e a = brings_one x (axis_calls.is_active_by x w c) i k w.o
 
 pub answer_shows : (o : Option axis_reason.Reason) (i : InstanceState) (k : ℕ) (w : Wanted)
     (c : Core) → w.owner ≡ Some k → acts_on_group w.kind ≡ false →
-    commands_shown (answered_instance w.kind (axis_calls.answer_by o w c) i).progress ≡ is_owner k
+    commands_shown (answered_instance w.kind (axis_calls.answer_by o w c) i).progress ≡ owner_count k
     (owner_brought o w)
 answer_shows None i k w c e a = brings_axis w.kind i k w c e a
 answer_shows (Some r) i k w c e a = sym (nobody k)
@@ -152,7 +152,7 @@ brings_group : (x : BlockKind) (i : InstanceState) (k : ℕ) (w : Wanted) (c : g
     w.owner ≡ Some k → acts_on_group x ≡ true →
     (x ≡ kind.MoveCircularAbsolute → ⊥) →
     commands_shown (answered_instance x (Ok (group_calls.is_active_by x w c)) i).progress
-    ≡ is_owner k (group_owners.brought_by x w)
+    ≡ owner_count k (group_owners.brought_by x w)
 brings_group kind.GroupEnable i k w c e a n = sym (nobody k)
 brings_group kind.GroupDisable i k w c e a n = sym (nobody k)
 brings_group kind.GroupReset i k w c e a n = brings_one kind.GroupReset false i k w.owner e refl
@@ -167,7 +167,7 @@ pub group_answer_shows : (q : group_refusals.Asked) (o : Option group_reason.Rea
     group_refusals.refusal_of q ≡ o → (i : InstanceState) (k : ℕ) (c : groups.Core) →
     q.wanted.owner ≡ Some k → acts_on_group q.wanted.kind ≡ true →
     commands_shown (answered_instance q.wanted.kind (group_calls.answer_by o q.wanted c) i).progress
-    ≡ is_owner k (group_owners.brought o q.wanted)
+    ≡ owner_count k (group_owners.brought o q.wanted)
 group_answer_shows q None r i k c e a =
     brings_group q.wanted.kind i k q.wanted c e a (λ circle. circle_refused q circle r)
 group_answer_shows q (Some x) r i k c e a = sym (nobody k)

@@ -6,7 +6,7 @@ use Rattle.axis_core.specs.Cores as axes
 use Rattle.axis_core.specs.Refusals.{refusal_of}
 use Rattle.command_changes.specs.Axis as axis
 use Rattle.command_changes.specs.Group as group
-use Rattle.command_core.specs.Charge.{active_of}
+use Rattle.command_core.specs.CommandState.{active_of}
 use Rattle.command_pool.specs.Kinds.{acts_on_group}
 use Rattle.fb_outputs.specs.Steps as instance
 use Rattle.fb_outputs.specs.Steps.{is_power}
@@ -90,7 +90,7 @@ module _ (laws : WalkLaws) where
         others = λ j e. laws.axis.command_brings j q c ∙ other_brings j k (refusal_of q) q.wanted e refl;
         brings = answer_shows (refusal_of q) (instance_at x.instances k) k q.wanted c refl off ∙ sym (laws.axis.command_brings k q c);
         active = λ none. sym (own_active k q c (instance_at x.instances k) refl none)
-            ∙ sym (ap (λ (e : axes.Core). active_of k (axis.charge_of e)) written);
+            ∙ sym (ap (λ (e : axes.Core). active_of k (axis.command_state_of e)) written);
         fits = λ cores.
             let all = disowned_kept cores.kept_axes cores.definitions cores.kept_groups cores.counts s k (with_execute k i m) kept in
             laws.axis.command_fits c n (wanted_of k b.kind i) i.jerk (is_held_by_group (membership_of s n) free) (length s.tables)
@@ -140,6 +140,6 @@ module _ (laws : WalkLaws) where
         brings = group_answer_shows q (group_refusals.refusal_of q) refl (instance_at led.instances k) k c refl on
             ∙ sym (laws.group.command_brings k w i.jerk members c);
         active = λ none. sym (group_own_active k w i.jerk members c (instance_at led.instances k) refl none)
-            ∙ sym (ap (λ (e : groups.Core). active_of k (group.charge_of e)) written);
+            ∙ sym (ap (λ (e : groups.Core). active_of k (group.command_state_of e)) written);
         fits = λ cores. laws.group.command_fits w i.jerk members c;
       }

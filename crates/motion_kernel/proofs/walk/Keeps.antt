@@ -4,7 +4,7 @@ use Rattle.command_changes.specs.Laws.{AreAxisChanges, AreGroupChanges}
 use Rattle.command_core.specs.Brought.{BringNone, brought}
 use Rattle.command_core.specs.Calls as calls
 use Rattle.command_core.specs.Changes.{AllFit, Change, all_changed}
-use Rattle.command_core.specs.Charge.{active_of}
+use Rattle.command_core.specs.CommandState.{active_of}
 use Rattle.fb_outputs.specs.InstanceState.{InstanceState}
 use Rattle.fb_outputs.specs.Steps.{edge_of, is_power}
 use Rattle.fb_outputs.specs.declared.inputs.Inputs.{Inputs}
@@ -22,22 +22,23 @@ use Rattle.motion_kernel.proofs.kept.Laws.{AxesKeepDefinitions, AxesStayKept, Gr
 use Rattle.motion_kernel.proofs.kept.Machine.{MachinesStayKept}
 use Rattle.motion_kernel.specs.owners.Commands.{active_shown, commands_shown}
 use Rattle.motion_kernel.proofs.owners.kinds.Changes.{BringOwn}
-pub use Rattle.motion_kernel.specs.owners.Blocks.{charge_at}
+pub use Rattle.motion_kernel.specs.owners.Blocks.{command_state_at}
 use Rattle.motion_kernel.specs.owners.Objects.{IsThere, Object, has_commands_on, is_same}
 
 -- the commands are the same
 pub record Alike (m x : Machine) : Type 0 where
   pub as_many : (p : Object) → IsThere x p → IsThere m p
   pub there : (p : Object) → IsThere m p → IsThere x p
-  pub same : (p : Object) → charge_at x p ≡ charge_at m p
+  pub same : (p : Object) → command_state_at x p ≡ command_state_at m p
 
--- an event at one object: its commands change so, those of others don't, and the instances are told
+-- an event at one object: its commands change so, those of others don't, and the instances are
+-- notified
 pub record Event (m x : Machine) (o : Object) (xs : List Change) : Type 0 where
   pub there : IsThere m o
   pub as_many : (p : Object) → IsThere x p → IsThere m p
-  pub here : charge_at x o ≡ record (all_changed xs (charge_at m o)) { notes = [] }
-  pub beside : (p : Object) → IsThere m p → is_same o p ≡ false → charge_at x p ≡ charge_at m p
-  pub told : x.instances ≡ told_notes (all_changed xs (charge_at m o)).notes m.instances
+  pub here : command_state_at x o ≡ record (all_changed xs (command_state_at m o)) { notes = [] }
+  pub beside : (p : Object) → IsThere m p → is_same o p ≡ false → command_state_at x p ≡ command_state_at m p
+  pub told : x.instances ≡ told_notes (all_changed xs (command_state_at m o)).notes m.instances
 
 -- the machine in which an instance asks: it shows this, and has its earlier command no longer
 abbrev pub freed : ℕ → InstanceState → Machine → Machine
@@ -71,10 +72,10 @@ pub record Asks (s : Setup) (k : ℕ) (m z : Machine) : Type 0 where
   pub others : (j : ℕ) → nat_eq k j ≡ false → brought j changes ≡ 0
   pub kinds : BringOwn s changes
   pub brings : commands_shown shown.progress ≡ brought k changes
-  pub active : active_of k (charge_at (freed k called m) object) ≡ 0 →
-      active_shown shown.progress ≡ active_of k (charge_at asked object)
+  pub active : active_of k (command_state_at (freed k called m) object) ≡ 0 →
+      active_shown shown.progress ≡ active_of k (command_state_at asked object)
   -- and it finds its place
-  pub fits : CoresKept → AllFit changes (charge_at (freed k called m) object)
+  pub fits : CoresKept → AllFit changes (command_state_at (freed k called m) object)
 
 -- any instance may call
 abbrev pub Anyone : ℕ → Type 0
@@ -94,7 +95,8 @@ pub record Keeps (s : Setup) (May : ℕ → Type 0) (P Q : Machine → Type 0) :
   pub asked : (k : ℕ) (m z : Machine) → May k → Asks s k m z → P m → P z
   -- a reply is shown
   pub replied : (k : ℕ) (m : Machine) → May k → P m → P (after_reply k m)
-  -- a cycle begins, its events end commands and let others take over, and the instances are told
+  -- a cycle begins, its events end commands and let others take over, and the instances are
+  -- notified
   pub begins : (m : Machine) → IsSized s m → P m → Q m
   pub cycled : (m x : Machine) (o : Object) (xs : List Change) → Event m x o xs → BringNone xs →
       Q m → Q x

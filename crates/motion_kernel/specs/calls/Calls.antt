@@ -31,7 +31,7 @@ use Rattle.motion_kernel.specs.members.Members.{members_at, membership_of}
 use Rattle.motion_kernel.specs.calls.Telling.{told_notes}
 use Rattle.motion_kernel.specs.declared.memberships.Membership.{Membership}
 
--- the machine with an axis and what waits for it after an event, which the instances are told
+-- the machine with an axis and what waits for it after an event, which the instances are notified
 abbrev pub with_axis_core : Machine → ℕ → axis_cores.Core → Machine
 with_axis_core m n c = record m {
   axes = slice_set m.axes n c.axis;
@@ -40,7 +40,7 @@ with_axis_core m n c = record m {
 }
 
 -- the machine with a group, its path and what waits for it after an event, which the instances are
--- told
+-- reported
 abbrev pub with_group_core : Machine → ℕ → group_cores.Core → Machine
 with_group_core m j c = record m {
   groups = slice_set m.groups j (record { group = c.group; path = c.path });
@@ -117,8 +117,8 @@ members_led s j kind answer m =
     else if leaves_path kind answer then axes_led false (members_at s j) m
     else m
 
--- what an instance is told of its own call: the refusal, or whether the command is active or waits;
--- some are Done at once
+-- what an instance is notified of its own call: the refusal, or whether the command is active or
+-- waits; some are Done at once
 abbrev pub answered_instance : BlockKind → Result Bool Refusal → InstanceState → InstanceState
 answered_instance kind (Err r) i = instance.finished i (finish.Error r.number)
 answered_instance kind (Ok true) i = instance.started i true

@@ -1,4 +1,4 @@
--- What the instances of blocks are told (PLCopen Motion Control Part 1, general rules).
+-- What the instances of blocks are given (PLCopen Motion Control Part 1, general rules).
 use Rattle.std.specs.Prelude.{ℕ, Bool, true, false, nat_eq, Option, Some, None, List, [], ◌∷◌, slice_set}
 use Rattle.command_pool.specs.declared.ending.Finish.{Finish}
 use Rattle.command_pool.specs.declared.notes.Note.{Note}
@@ -10,7 +10,7 @@ use Rattle.motion_kernel.specs.Machine.{instance_at}
 abbrev pub told_end : ℕ → Finish → List InstanceState → List InstanceState
 told_end k f instances = slice_set instances k (instance.finished (instance_at instances k) f)
 
--- the instances after notes were told, one after another
+-- the instances after notes were reported, one after another
 abbrev pub told_notes : List Note → List InstanceState → List InstanceState
 told_notes [] instances = instances
 told_notes (n ∷ ns) instances = told_notes ns (told_end n.owner n.finish instances)

@@ -14,7 +14,7 @@ use Rattle.motion_kernel.specs.Machine.{Machine, PlacedGroup, axis_among, group_
 use Rattle.motion_kernel.specs.calls.Telling.{is_holder, shown_active}
 use Rattle.buffer_modes.specs.Owners.{owner_by}
 
--- the owner of an axis's active command is told what that has reached
+-- the owner of an axis's active command is given what that has reached
 abbrev pub axis_shown : Axis → List InstanceState → List InstanceState
 axis_shown a instances = shown_active (owner_by a.active) a.reached instances
 
@@ -48,7 +48,7 @@ found_by kind.Stop axes groups k n = Some (holds_axis k (axis_among axes n))
 found_by kind.GroupStop axes groups k j = Some (holds_group k (group_among groups j).group)
 found_by kind axes groups k n = None
 
--- an instance is told what it found
+-- an instance is given what it found
 abbrev pub told_found : Option Bool → ℕ → List InstanceState → List InstanceState
 told_found None k instances = instances
 told_found (Some found) k instances =
@@ -68,7 +68,7 @@ instances_found (suc n) blocks axes groups instances =
     instance_found (slice_get blocks n) axes groups n
     (instances_found n blocks axes groups instances)
 
--- the machine whose instances were told what the cycle found
+-- the machine whose instances were given what the cycle found
 unfoldable pub with_found : Setup → Machine → Machine
 with_found s m = record m {
   instances = instances_found (length s.blocks) s.blocks m.axes m.groups

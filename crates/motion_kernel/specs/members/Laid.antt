@@ -1,7 +1,7 @@
 -- How the layout of a machine is kept.
 use Rattle.std.specs.Prelude.{◌≡◌, ℕ, ◌<◌, Option, Some, List, length, slice_get}
 use Rattle.motion_history.specs.Setup.{Setup, IsSetup}
-use Rattle.motion_kernel.specs.cycles.Finders.{finders_of}
+use Rattle.motion_kernel.specs.cycles.Polled.{polled_of}
 use Rattle.motion_kernel.specs.members.Members.{membership_of}
 use Rattle.motion_kernel.specs.declared.memberships.Membership.{Membership}
 
@@ -16,4 +16,4 @@ pub record IsLaid (s : Setup) (memberships : List (Option Membership)) (finding 
     : Type 0 where
   pub setup : IsSetup s
   pub each : AreMemberships s (length s.axes) memberships
-  pub finders : finding ≡ finders_of s
+  pub polled : finding ≡ polled_of s

@@ -18,7 +18,7 @@ members_at s j = members_in (slice_get s.groups j)
 abbrev pub member_at : List ℕ → ℕ → ℕ
 member_at members place = slice_index_or members place 0
 
--- where an axis stands in the first group that has it: in this one, else in one of those behind it
+-- where an axis stands in the first group that has it: in this one, else in one of those after it
 abbrev pub place_or : ℕ → Option ℕ → Option Membership → Option Membership
 place_or group None behind = behind
 place_or group (Some place) behind = Some (record { group = group; place = place })

@@ -2,7 +2,7 @@
 -- rules).
 use Rattle.std.specs.Prelude.{◌≡◌, ℕ, if◌then◌else◌, slice_get}
 use Rattle.axis_core.specs.Owners as axis
-use Rattle.buffer_modes.specs.Owners.{is_owner, owner_by}
+use Rattle.buffer_modes.specs.Owners.{owner_count, owner_by}
 use Rattle.fb_outputs.specs.declared.instance.Progress.{Progress}
 use Rattle.fb_outputs.specs.declared.instance.Progress.TheVariants.{Idle, Waiting, Active, Ended}
 use Rattle.group_core.specs.Owners as group
@@ -24,8 +24,8 @@ commands_shown (Ended f shown) = 0
 
 -- whether an instance has the active command of it: 1, else 0
 abbrev pub active_at : Machine → ℕ → Object → ℕ
-active_at m k (an_axis n) = is_owner k (owner_by (axis_at m n).active)
-active_at m k (a_group j) = is_owner k (owner_by (group_at m j).group.active)
+active_at m k (an_axis n) = owner_count k (owner_by (axis_at m n).active)
+active_at m k (a_group j) = owner_count k (owner_by (group_at m j).group.active)
 
 -- whether an instance shows that its command is active: 1, else 0
 abbrev pub active_shown : Progress → ℕ

@@ -1,7 +1,7 @@
 -- Of which kind the commands of instances are (PLCopen Motion Control Part 1, general rules).
 use Rattle.std.specs.Prelude.{◌≡◌, ℕ, Bool, true, false, Option, Some, slice_get}
 use Rattle.std.specs.List.{AllByRecursion}
-use Rattle.command_core.specs.Charge.{Charge}
+use Rattle.command_core.specs.CommandState.{CommandState}
 use Rattle.command_pool.specs.declared.kind.BlockKind.{BlockKind}
 use Rattle.command_pool.specs.declared.kind.BlockKind.TheVariants as kind
 use Rattle.command_pool.specs.declared.wanted.Wanted.{Wanted}
@@ -25,7 +25,7 @@ IsOfAReset s o = (k : ℕ) (b : BlockDef) → o ≡ Some k → slice_get s.block
     is_reset b.kind ≡ true
 
 -- so are all commands of an axis or a group
-pub record AreOfTheirBlocks (s : Setup) (c : Charge) : Type 0 where
+pub record AreOfTheirBlocks (s : Setup) (c : CommandState) : Type 0 where
   pub active : (w : Wanted) → c.active ≡ Some w → IsOfItsBlock s w
   pub waiting : AllByRecursion (IsOfItsBlock s) c.waiting
   pub reset : IsOfAReset s c.reset

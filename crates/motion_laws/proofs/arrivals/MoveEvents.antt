@@ -164,7 +164,7 @@ carried_by laws n course a ws h = record {
       (subst (IsUnderWay n course) (sym e) (laws.courses.detach n course owner a h));
 }
 
--- so is a blended move, with the one behind it
+-- so is a blended move, with the one after it
 pub blend_on_it : (n : ℕ) (a : Axis) (ws : List Wanted) → IsBlending n a ws → BlendingGoesOn n 0 a ws
 blend_on_it n a ws h = record { left = n; sum = omega arith; under_way = h }
 

@@ -190,7 +190,7 @@ blend_ends laws s cycles m es n most whole h f l u b =
     (after s x e) (blended_on laws s x e n left kept there g))
     cycles m es most whole h f l u b
 
--- the entries behind some follow the machine after these
+-- the entries after some follow the machine after these
 pub behind : (s : Setup) (cycles : ℕ) (m : Machine) (es fs : List Entry) →
     Follows s cycles m (es ++ fs) → Follows s (cycles + cycles_of es) (replay s m es) fs
 behind s cycles m [] fs f = subst (λ c. Follows s c m fs) (omega arith) f

@@ -161,7 +161,7 @@ resets_size s (suc n) m =
     larger m so_far (with_group_core so_far n (core_after_reset s n so_far)) (resets_size s n m)
     (group_event_size so_far n (core_after_reset s n so_far))
 
--- a property of a group that a GroupReset and telling its notes keep
+-- a property of a group that a GroupReset and reporting its notes keep
 pub record IsLasting (Q : Core → Type 0) : Type 0 where
   pub untold : (c : Core) → Q c → Q (record c { notes = [] })
   pub reset : (look : GroupLook) (c : Core) → Q c → Q (reset_cycled look c)

@@ -19,7 +19,7 @@ use Rattle.motion_laws.specs.owners.Shown.{AreWhereShown, ShowsCommand}
 use Rattle.motion_laws.specs.entries.Refusals.{IsRefusalNumber, IsRefused, machine_refused}
 use Rattle.motion_laws.specs.entries.Replies.{IsReplyOf}
 use Rattle.motion_laws.specs.entries.Rows.{RowsShow}
-use Rattle.motion_kernel.proofs.Banks.{replay_append}
+use Rattle.motion_kernel.proofs.Segments.{replay_append}
 use Rattle.motion_laws.proofs.Histories.{past_so_far}
 
 -- the laws of entries

@@ -1,4 +1,4 @@
--- Errors are told as they are shown.
+-- Errors are reported as they are shown.
 pub mod Notes
 pub mod Axes
 pub mod Groups

@@ -1,4 +1,4 @@
--- Each reply tells one result.
+-- Each reply reports one result.
 pub mod AxisNumbers
 pub mod GroupNumbers
 pub mod Commands

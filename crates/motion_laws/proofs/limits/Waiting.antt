@@ -5,7 +5,7 @@ use Rattle.std.proofs.lemmas.Bool.{cases_Bool, cases_lt}
 use Rattle.std.proofs.lemmas.List.{length-map}
 use Rattle.command_core.specs.Brought.{BringNone}
 use Rattle.command_core.specs.Changes.{Change}
-use Rattle.command_core.specs.Charge.{Charge}
+use Rattle.command_core.specs.CommandState.{CommandState}
 use Rattle.command_core.specs.Laws.{WaitAtMost}
 use Rattle.command_pool.specs.Waiting.{detached, queue_of}
 use Rattle.command_pool.specs.declared.wanted.Wanted.{Wanted}
@@ -21,31 +21,31 @@ use Rattle.motion_laws.proofs.Histories.{past_kept}
 use Rattle.motion_kernel.proofs.owners.commands.Events.{same_object}
 use Rattle.motion_kernel.proofs.walk.Events.{executed_alike, found_alike, freed_at, freed_there, replied_alike}
 use Rattle.motion_laws.proofs.walk.Histories.{by_history}
-use Rattle.motion_kernel.proofs.walk.Keeps.{Alike, Anyone, Asks, CoresKept, Event, Keeps, WalkLaws, charge_at, freed}
+use Rattle.motion_kernel.proofs.walk.Keeps.{Alike, Anyone, Asks, CoresKept, Event, Keeps, WalkLaws, command_state_at, freed}
 
 -- at most eight commands wait for each axis and each group
 abbrev FewWait : Machine → Type 0
-FewWait m = (o : Object) → IsThere m o → length (charge_at m o).waiting ≤ 8
+FewWait m = (o : Object) → IsThere m o → length (command_state_at m o).waiting ≤ 8
 
 alike_few : (m x : Machine) → Alike m x → FewWait m → FewWait x
 alike_few m x a h p l =
     let was = a.as_many p l in
-    subst (λ (c : Charge). length c.waiting ≤ 8) (sym (a.same p)) (h p was)
+    subst (λ (c : CommandState). length c.waiting ≤ 8) (sym (a.same p)) (h p was)
 
 event_few : (m x : Machine) (o : Object) (xs : List Change) → Event m x o xs →
-    (length (charge_at m o).waiting ≤ 8 → length (charge_at x o).waiting ≤ 8) → FewWait m → FewWait x
+    (length (command_state_at m o).waiting ≤ 8 → length (command_state_at x o).waiting ≤ 8) → FewWait m → FewWait x
 event_few m x o xs e here h p l = elim (cases_Bool (is_same o p)) [
-  | inl same ↦ subst (λ q. length (charge_at x q).waiting ≤ 8) (same_object o p same) (here (h o e.there))
+  | inl same ↦ subst (λ q. length (command_state_at x q).waiting ≤ 8) (same_object o p same) (here (h o e.there))
   | inr other ↦
       let was = e.as_many p l in
-      subst (λ (c : Charge). length c.waiting ≤ 8) (sym (e.beside p was other)) (h p was)
+      subst (λ (c : CommandState). length c.waiting ≤ 8) (sym (e.beside p was other)) (h p was)
 ]
 
 -- changes that bring none add none
 none_few : WaitAtMost → (m x : Machine) (o : Object) (xs : List Change) → Event m x o xs → BringNone xs → FewWait m → FewWait x
 none_few law m x o xs e none h =
-    let same : length (charge_at x o).waiting ≡ _ = ap (λ (c : Charge). length c.waiting) e.here in
-    let less = law.before xs (charge_at m o) none in
+    let same : length (command_state_at x o).waiting ≡ _ = ap (λ (c : CommandState). length c.waiting) e.here in
+    let less = law.before xs (command_state_at m o) none in
     event_few m x o xs e (λ few. omega arith) h
 
 -- an instance that asks
@@ -53,12 +53,12 @@ asked_few : WalkLaws → CoresKept → WaitAtMost → (s : Setup) (k : ℕ) (m z
 asked_few laws cores law s k m z a h =
     let free : FewWait (freed k a.called m) = λ p l.
     let was = freed_there k a.called m p l in
-    let waits = ap (λ (c : Charge). length c.waiting) (freed_at laws k a.called m p was) in
-    let same = length-map (charge_at m p).waiting (detached k) in
+    let waits = ap (λ (c : CommandState). length c.waiting) (freed_at laws k a.called m p was) in
+    let same = length-map (command_state_at m p).waiting (detached k) in
     let before = h p was in
     omega arith in
-    let same : length (charge_at a.asked a.object).waiting ≡ _ = ap (λ (c : Charge). length c.waiting) a.event.here in
-    let eight = law.eight a.changes (charge_at (freed k a.called m) a.object) (a.fits cores) in
+    let same : length (command_state_at a.asked a.object).waiting ≡ _ = ap (λ (c : CommandState). length c.waiting) a.event.here in
+    let eight = law.eight a.changes (command_state_at (freed k a.called m) a.object) (a.fits cores) in
     alike_few a.asked z a.alike (event_few (freed k a.called m) a.asked a.object a.changes a.event
     (λ few. let most = eight few in omega arith) free)
 

@@ -4,13 +4,13 @@ use Rattle.std.proofs.Common.{arith, ap, sym, subst, ◌∙◌}
 use Rattle.std.proofs.lemmas.Bool.{eqb-false}
 use Rattle.std.proofs.lemmas.List.{get_or-set_other}
 use Rattle.axis_core.specs.Cores as cores
-use Rattle.buffer_modes.specs.Owners.{told}
+use Rattle.buffer_modes.specs.Owners.{ends_given}
 use Rattle.command_changes.specs.Axis as axis
 use Rattle.command_changes.specs.Group as group
 use Rattle.command_core.specs.Brought.{brought}
 use Rattle.command_core.specs.Calls as calls
 use Rattle.command_core.specs.Changes.{Change, all_changed}
-use Rattle.command_core.specs.Charge.{Charge, active_of, owns, waiting_of}
+use Rattle.command_core.specs.CommandState.{CommandState, active_of, owns, waiting_of}
 use Rattle.fb_outputs.specs.InstanceState.{InstanceState}
 use Rattle.group_core.specs.Cores as groups
 use Rattle.motion_history.specs.Setup.{Setup}
@@ -26,14 +26,14 @@ use Rattle.motion_kernel.proofs.owners.commands.Events.{Changes, IsGood, OwnerLa
 use Rattle.motion_kernel.proofs.owners.commands.Freed.{IsAsking, instances_without}
 use Rattle.motion_kernel.proofs.walk.Events.{axis_event, freed_at, freed_there, group_event}
 use Rattle.motion_kernel.proofs.owners.Blocks.{untold}
-use Rattle.motion_kernel.proofs.walk.Keeps.{Event, charge_at, freed}
+use Rattle.motion_kernel.proofs.walk.Keeps.{Event, command_state_at, freed}
 
 -- an instance's commands by those of the object
-pub commands_of : (m : Machine) (k : ℕ) (o : Object) → commands_at m k o ≡ owns k (charge_at m o)
+pub commands_of : (m : Machine) (k : ℕ) (o : Object) → commands_at m k o ≡ owns k (command_state_at m o)
 commands_of m k (an_axis n) = omega arith
 commands_of m k (a_group j) = omega arith
 
-pub active_in : (m : Machine) (k : ℕ) (o : Object) → active_at m k o ≡ active_of k (charge_at m o)
+pub active_in : (m : Machine) (k : ℕ) (o : Object) → active_at m k o ≡ active_of k (command_state_at m o)
 active_in m k (an_axis n) = refl
 active_in m k (a_group j) = refl
 
@@ -47,15 +47,15 @@ free_same k j i m d =
 module _ (laws : OwnerLaws) where
   -- an event that brings an instance nothing
   pub event_changes : (k : ℕ) (m x : Machine) (o : Object) (xs : List Change) → Event m x o xs → brought k xs ≡ 0 →
-      Changes k m x o (all_changed xs (charge_at m o)).notes
+      Changes k m x o (all_changed xs (command_state_at m o)).notes
   event_changes k m x o xs e none = record {
     there = e.there;
     as_many = e.as_many;
     here =
         let before = commands_of m k o in
         let now = commands_of x k o ∙ ap (owns k) e.here in
-        let once = laws.once.once k xs (charge_at m o) in
-        let nothing : told k (charge_at m o).notes ≡ 0 = ap (told k) (untold m o) in
+        let once = laws.once.once k xs (command_state_at m o) in
+        let nothing : ends_given k (command_state_at m o).notes ≡ 0 = ap (ends_given k) (untold m o) in
         omega arith;
     beside = λ p l d. commands_of x k p ∙ ap (owns k) (e.beside p l d) ∙ sym (commands_of m k p);
     told = e.told;
@@ -67,11 +67,11 @@ module _ (laws : OwnerLaws) where
     active =
         let before = active_in m k o in
         let now = active_in x k o ∙ ap (active_of k) e.here in
-        let more = laws.more.active k xs (charge_at m o) call in
+        let more = laws.more.active k xs (command_state_at m o) call in
         omega arith;
     waiting =
         let now = ap (waiting_of k) e.here in
-        let more = laws.more.waiting k xs (charge_at m o) in
+        let more = laws.more.waiting k xs (command_state_at m o) in
         omega arith;
     beside = λ p l d. active_in x k p ∙ ap (active_of k) (e.beside p l d) ∙ sym (active_in m k p);
   }
@@ -81,41 +81,41 @@ module _ (laws : OwnerLaws) where
   event_keeps_waiting k m x o xs e none = record {
     waiting =
         let now = ap (waiting_of k) e.here in
-        let more = laws.more.waiting k xs (charge_at m o) in
+        let more = laws.more.waiting k xs (command_state_at m o) in
         omega arith;
     beside = λ p l d. ap (waiting_of k) (e.beside p l d);
   }
 
   -- the same of an axis and of a group
   pub axis_changes : (s : Setup) (k n : ℕ) (m : Machine) (c : cores.Core) (xs : List Change) → IsSized s m → n < length m.axes →
-      axis.charge_of c ≡ all_changed xs (axis.charge_of (axis_core_at m n)) → brought k xs ≡ 0 →
+      axis.command_state_of c ≡ all_changed xs (axis.command_state_of (axis_core_at m n)) → brought k xs ≡ 0 →
       Changes k m (with_axis_core m n c) (an_axis n) c.notes
   axis_changes s k n m c xs sized l makes none =
-      subst (Changes k m (with_axis_core m n c) (an_axis n)) (sym (ap (λ (d : Charge). d.notes) makes))
+      subst (Changes k m (with_axis_core m n c) (an_axis n)) (sym (ap (λ (d : CommandState). d.notes) makes))
       (event_changes k m (with_axis_core m n c) (an_axis n) xs (axis_event s n m c xs sized l makes) none)
 
   pub group_changes : (s : Setup) (k j : ℕ) (m : Machine) (c : groups.Core) (xs : List Change) → IsSized s m → j < length m.groups →
-      group.charge_of c ≡ all_changed xs (group.charge_of (group_core_at m j)) → brought k xs ≡ 0 →
+      group.command_state_of c ≡ all_changed xs (group.command_state_of (group_core_at m j)) → brought k xs ≡ 0 →
       Changes k m (with_group_core m j c) (a_group j) c.notes
   group_changes s k j m c xs sized l makes none =
-      subst (Changes k m (with_group_core m j c) (a_group j)) (sym (ap (λ (d : Charge). d.notes) makes))
+      subst (Changes k m (with_group_core m j c) (a_group j)) (sym (ap (λ (d : CommandState). d.notes) makes))
       (event_changes k m (with_group_core m j c) (a_group j) xs (group_event s j m c xs sized l makes) none)
 
   -- where an instance asks, it has no command, and the others have theirs
-  pub free_none : (k : ℕ) (i : InstanceState) (m : Machine) (o : Object) → IsThere (freed k i m) o → owns k (charge_at (freed k i m) o) ≡ 0
-  free_none k i m o l = ap (owns k) (freed_at laws.walk k i m o (freed_there k i m o l)) ∙ laws.once.taken_away k (charge_at m o)
+  pub free_none : (k : ℕ) (i : InstanceState) (m : Machine) (o : Object) → IsThere (freed k i m) o → owns k (command_state_at (freed k i m) o) ≡ 0
+  free_none k i m o l = ap (owns k) (freed_at laws.walk k i m o (freed_there k i m o l)) ∙ laws.once.taken_away k (command_state_at m o)
 
   pub free_shown : (s : Setup) (k j : ℕ) (i : InstanceState) (m : Machine) → nat_eq k j ≡ false → ShownOf s j m → ShownOf s j (freed k i m)
   free_shown s k j i m d shown o l =
       let there = freed_there k i m o l in
-      commands_of (freed k i m) j o ∙ ap (owns j) (freed_at laws.walk k i m o there) ∙ laws.once.left j k (charge_at m o) d
+      commands_of (freed k i m) j o ∙ ap (owns j) (freed_at laws.walk k i m o there) ∙ laws.once.left j k (command_state_at m o) d
       ∙ sym (commands_of m j o) ∙ shown o there
       ∙ ap (λ (x : InstanceState). if has_commands_on (slice_get s.blocks j) o then commands_shown x.progress else 0) (sym (free_same k j i m d))
 
   pub active_left : (k j : ℕ) (i : InstanceState) (m : Machine) (o : Object) → nat_eq k j ≡ false → IsThere m o →
       active_at (freed k i m) j o ≡ active_at m j o
   active_left k j i m o d there =
-      active_in (freed k i m) j o ∙ ap (active_of j) (freed_at laws.walk k i m o there) ∙ laws.more.left j k (charge_at m o) d
+      active_in (freed k i m) j o ∙ ap (active_of j) (freed_at laws.walk k i m o there) ∙ laws.more.left j k (command_state_at m o) d
       ∙ sym (active_in m j o)
 
   pub free_active : (s : Setup) (k j : ℕ) (i : InstanceState) (m : Machine) → nat_eq k j ≡ false → ActiveOf s j m → ActiveOf s j (freed k i m)

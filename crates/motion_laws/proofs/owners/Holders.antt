@@ -3,7 +3,7 @@
 use Rattle.std.specs.Prelude.{◌≡◌, ℕ, ◌<◌, true, Some, List, slice_get}
 use Rattle.std.proofs.Common.{arith}
 use Rattle.cia402_machine.specs.declared.drive.DriveIn.{DriveIn}
-use Rattle.command_core.specs.Charge.{owns}
+use Rattle.command_core.specs.CommandState.{owns}
 use Rattle.command_core.specs.Laws.{AreToldOnce, HaveCommands}
 use Rattle.fb_outputs.specs.declared.inputs.Inputs.{Inputs}
 use Rattle.motion_history.specs.Calls.{IsCall}
@@ -14,7 +14,7 @@ use Rattle.motion_kernel.specs.Machine.{Machine, machine_at_opening}
 use Rattle.motion_kernel.specs.calls.Calls.{after_call}
 use Rattle.motion_kernel.specs.cycles.Cycles.{after_cycle}
 use Rattle.motion_kernel.specs.kept.Machine.{AreWhole, IsMachineKept}
-use Rattle.motion_kernel.specs.owners.Blocks.{OwnersHaveBlocks, charge_at}
+use Rattle.motion_kernel.specs.owners.Blocks.{OwnersHaveBlocks, command_state_at}
 use Rattle.motion_kernel.specs.owners.Commands.{CommandsAreShown}
 use Rattle.motion_kernel.specs.owners.Objects.{a_group, an_axis, IsThere, Object, has_commands_on}
 use Rattle.motion_kernel.proofs.owners.Blocks.{blocks_kept}
@@ -31,13 +31,13 @@ use Rattle.motion_laws.proofs.walk.Histories.{by_history}
 have_blocks : (s : Setup) (m : Machine) → CommandsAreShown s m → HoldersHaveBlocks s m → OwnersHaveBlocks s m
 have_blocks s m shown holders o there k = record { commands = commands o there; holds = holds o there }
   where
-    commands : (o : Object) → IsThere m o → 0 < owns k (charge_at m o) → has_commands_on (slice_get s.blocks k) o ≡ true
+    commands : (o : Object) → IsThere m o → 0 < owns k (command_state_at m o) → has_commands_on (slice_get s.blocks k) o ≡ true
     commands (an_axis n) there l =
         shown_where (has_commands_on (slice_get s.blocks k) (an_axis n)) (shown_by m.instances k) (let x = shown k (an_axis n) there in omega arith)
     commands (a_group j) there l =
         shown_where (has_commands_on (slice_get s.blocks k) (a_group j)) (shown_by m.instances k) (let x = shown k (a_group j) there in omega arith)
 
-    holds : (o : Object) → IsThere m o → (charge_at m o).hold ≡ Some k → has_commands_on (slice_get s.blocks k) o ≡ true
+    holds : (o : Object) → IsThere m o → (command_state_at m o).hold ≡ Some k → has_commands_on (slice_get s.blocks k) o ≡ true
     holds (an_axis n) there e = holders (an_axis n) there k e
     holds (a_group j) there e = holders (a_group j) there k e
 

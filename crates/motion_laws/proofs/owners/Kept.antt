@@ -4,12 +4,12 @@ use Rattle.std.proofs.Common.{arith, ap, sym, ◌∙◌}
 use Rattle.std.proofs.lemmas.Bool.{eqb-false}
 use Rattle.std.proofs.lemmas.List.{get_or-set_other, length-set}
 use Rattle.axis_core.specs.Calls.{core_after_power}
-use Rattle.buffer_modes.specs.Owners.{told}
+use Rattle.buffer_modes.specs.Owners.{ends_given}
 use Rattle.cia402_machine.specs.declared.drive.DriveIn.{DriveIn}
 use Rattle.command_changes.specs.Axis as axis
 use Rattle.command_core.specs.Brought.{brought}
 use Rattle.command_core.specs.Changes.{all_changed}
-use Rattle.command_core.specs.Charge.{active_of, owns}
+use Rattle.command_core.specs.CommandState.{active_of, owns}
 use Rattle.fb_outputs.specs.InstanceState.{InstanceState}
 use Rattle.fb_outputs.specs.Steps as instance
 use Rattle.fb_outputs.specs.declared.inputs.Inputs.{Inputs}
@@ -43,7 +43,7 @@ use Rattle.motion_kernel.proofs.owners.commands.Freed.{instances_without}
 use Rattle.motion_kernel.proofs.walk.Calls.{by_call}
 use Rattle.motion_kernel.proofs.walk.Cycles.{Good, by_axes, by_cycle, by_resets, by_steps}
 use Rattle.motion_laws.proofs.walk.Histories.{by_history}
-use Rattle.motion_kernel.proofs.walk.Keeps.{Anyone, Asks, Keeps, charge_at, freed}
+use Rattle.motion_kernel.proofs.walk.Keeps.{Anyone, Asks, Keeps, command_state_at, freed}
 
 -- within a cycle an instance that shows Active has no command that waits
 record AreWaiting (s : Setup) (m : Machine) : Type 0 where
@@ -54,7 +54,7 @@ record AreWaiting (s : Setup) (m : Machine) : Type 0 where
 answered_own : (s : Setup) (k : ℕ) (m z : Machine) (a : Asks s k m z) → instance_at z.instances k ≡ a.shown
 answered_own s k m z a =
     let free = freed k a.called m in
-    let notes = (all_changed a.changes (charge_at free a.object)).notes in
+    let notes = (all_changed a.changes (command_state_at free a.object)).notes in
     let one = ap length a.event.told in
     let two = told_length notes free.instances in
     let three = ap length (instances_without k (with_instance m k a.called)) in
@@ -85,11 +85,11 @@ module _ (laws : OwnerLaws) where
     where
       here : commands_at z k a.object ≡ brought k a.changes
       here =
-          let c = charge_at (freed k a.called m) a.object in
+          let c = command_state_at (freed k a.called m) a.object in
           let now = commands_of z k a.object ∙ ap (owns k) (a.alike.same a.object ∙ a.event.here) in
           let none = free_none laws k a.called m a.object a.event.there in
           let once = laws.once.once k a.changes c in
-          let nothing : told k c.notes ≡ 0 = ap (told k) (untold (freed k a.called m) a.object) in
+          let nothing : ends_given k c.notes ≡ 0 = ap (ends_given k) (untold (freed k a.called m) a.object) in
           let untold = laws.once.untold k a.changes c a.call none in
           omega arith
 

@@ -1,4 +1,4 @@
--- A call's reply tells how the call is answered.
+-- A call's reply says how the call is answered.
 use Rattle.std.specs.Prelude.{◌≡◌, refl, ℕ, Bool, true, false, if◌then◌else◌, Some, None, Result, Ok, Err, slice_get}
 use Rattle.std.proofs.Common.{ap, sym, subst, ◌∙◌}
 use Rattle.std.proofs.lemmas.Bool.{eq-eqb}
@@ -49,7 +49,7 @@ edge_ended s edge.High k b i y p f h = absurd (cc)
 edge_ended s edge.Falling k b i y p f h = absurd (cc)
 edge_ended s edge.Low k b i y p f h = absurd (cc)
 
--- and the reply of the call tells so
+-- and the reply of the call says so
 pub answer_told : (s : Setup) (m : Machine) (k : ℕ) (i : Inputs) (reply : Outputs) (b : BlockDef)
     (f : Finish) → IsSized s m → AreOfBlocks s m.instances → reply ≡ reply_of s m k i →
     slice_get s.blocks k ≡ Some b → is_power b.kind ≡ false →

@@ -1,4 +1,4 @@
--- A result that a reply tells comes of the entry in which its command ended so.
+-- A result that a reply reports comes of the entry in which its command ended so.
 use Rattle.std.specs.Prelude.{◌≡◌, refl, ℕ, zero, suc, Bool, true, false, ◌&&◌, not, nat_eq, if◌then◌else◌, Option, Some, None, Result, Ok, Err, List, [], ◌∷◌, ◌++◌, map}
 use Rattle.std.proofs.Common.{ap, sym, subst, ◌∙◌}
 use Rattle.std.proofs.lemmas.Bool.{eqb-true}
@@ -26,7 +26,7 @@ use Rattle.motion_kernel.specs.owners.Objects.{object_of}
 use Rattle.motion_laws.specs.results.Comes.{AreNoEdges, ComesOf}
 use Rattle.motion_laws.specs.results.Outcomes.{IsOutcome, answer_in, begins_command, end_answered, end_by_edge, end_of_command, finish_in, progress_answered, progress_at, progress_beside, progress_by, progress_by_call, progress_by_edge, progress_in}
 use Rattle.motion_laws.specs.results.Results.{Tells, is_rising, takes_away}
-use Rattle.motion_kernel.proofs.Banks.{replay_append}
+use Rattle.motion_kernel.proofs.Segments.{replay_append}
 
 -- an end that a call's answer is, or that was there before the call
 pub data Origin (now before : Type 0) : Type 0 where
@@ -172,7 +172,7 @@ comes_first s k b f h = absurd (let e : Idle ≡ Ended f h.shown = sym (opens_id
 pub ends_come : (s : Setup) (k : ℕ) (b : BlockDef) (es : List Entry) → Outcomes s k b es → Comes s k b es
 ends_come s k b es outcomes = comes_on s k b es [] es outcomes refl (comes_first s k b)
 
--- a reply that tells an end is one of a command that has ended
+-- a reply that gives an end is one of a command that has ended
 no_result : (f : Finish) (o : Outputs) → o.done ≡ false → o.aborted ≡ false → o.error ≡ false → Tells f o → ⊥
 no_result finish.Done o d a e t = cc
 no_result finish.Aborted o d a e t = cc

@@ -1,4 +1,4 @@
--- What the instances are told at a cycle's end leaves those without a command.
+-- What the instances are given at a cycle's end leaves those without a command.
 use Rattle.std.specs.Prelude.{◌≡◌, ◌≢◌, refl, ℕ, zero, suc, ◌≤◌, Bool, true, false, Option, Some, None, List, [], ◌∷◌, length, slice_get, slice_set}
 use Rattle.std.proofs.Common.{arith, ap, sym, ◌∙◌}
 use Rattle.std.proofs.lemmas.List.{get_or-set_other}
@@ -15,7 +15,7 @@ use Rattle.motion_kernel.specs.owners.Commands.{CommandsAreShown, commands_shown
 use Rattle.motion_laws.proofs.owners.commands.Cycles.{axis_active_shown, group_active_shown}
 use Rattle.motion_laws.proofs.results.Events.{progress_in}
 
--- what the instances are told at a cycle's end leaves those without a command
+-- what the instances are given at a cycle's end leaves those without a command
 owner_spares : (o : Option ℕ) (reached : Bool) (is : List InstanceState) (k : ℕ) →
     ((j : ℕ) → o ≡ Some j → j ≢ k) → instance_at (shown_active o reached is) k ≡ instance_at is k
 owner_spares None reached is k other = refl

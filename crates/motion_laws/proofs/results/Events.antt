@@ -20,7 +20,7 @@ use Rattle.motion_kernel.proofs.owners.commands.Events.{Changes, ShownOf, most_o
 abbrev pub progress_in : List InstanceState → ℕ → Progress
 progress_in is k = (instance_at is k).progress
 
--- an instance that was told an end which no call has shown
+-- an instance that was given an end which no call has shown
 abbrev pub HasEnded : Finish → ℕ → Machine → Type 0
 HasEnded f k m = progress_in m.instances k ≡ Ended f false
 

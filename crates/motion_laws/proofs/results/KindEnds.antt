@@ -20,7 +20,7 @@ use Rattle.axis_state.specs.States.{is_error_stop}
 use Rattle.axis_state.specs.declared.definition.AxisRow.{AxisRow}
 use Rattle.buffer_modes.specs.Fates.{Fate, goes_on, replaced}
 use Rattle.buffer_modes.specs.Owners.{owner_by}
-use Rattle.command_core.specs.Charge.{Charge, active_of}
+use Rattle.command_core.specs.CommandState.{CommandState, active_of}
 use Rattle.command_pool.specs.Kinds.{acts_on_group}
 use Rattle.command_pool.specs.declared.ending.Finish.{Finish}
 use Rattle.command_pool.specs.declared.ending.Finish.TheVariants as finish
@@ -56,7 +56,7 @@ use Rattle.motion_kernel.proofs.kept.Laws.{ConfigurationsAreSound}
 use Rattle.motion_kernel.specs.owners.Commands.{active_at}
 use Rattle.motion_kernel.specs.owners.Kinds.{AreOfTheirBlocks, is_reset}
 use Rattle.motion_kernel.specs.owners.Objects.{IsThere, Object, a_group, an_axis, object_of}
-use Rattle.motion_kernel.specs.owners.Blocks.{charge_at}
+use Rattle.motion_kernel.specs.owners.Blocks.{command_state_at}
 use Rattle.motion_laws.specs.results.KindEnds.{EndByKinds, GivesWay, may_be_done, may_give_way}
 use Rattle.motion_laws.specs.results.Outcomes.{answer_in, end_answered, end_by_edge, end_of_command, finish_in}
 use Rattle.motion_laws.specs.results.Results.{KeepsResults, ResultsAreTold, end_in}
@@ -199,12 +199,12 @@ group_kept look c =
     (λ e. done_kept ending (path_done c.group c.path) (sym (group_ends ending c.waiting) ∙ e))
 
 -- whose command is the active one
-record HasActive (k : ℕ) (c : Charge) : Type 0 where
+record HasActive (k : ℕ) (c : CommandState) : Type 0 where
   command : Wanted
   is : c.active ≡ Some command
   own : command.owner ≡ Some k
 
-has_active : (k : ℕ) (c : Charge) → active_of k c ≡ 1 → HasActive k c
+has_active : (k : ℕ) (c : CommandState) → active_of k c ≡ 1 → HasActive k c
 has_active k c h = by c.active refl (found_in k (owner_by c.active) (omega arith))
   where
     by : (o : Option Wanted) → c.active ≡ o → owner_by o ≡ Some k → HasActive k c
@@ -222,7 +222,7 @@ fits_done _ x h = absurd (cc)
 
 active_done : (s : Setup) (m : Machine) (c : ℕ) (rows : List AxisRow) (grows : List GroupRow)
     (o : Object) → IsMachineKept s m → IsThere m o → (w : Wanted) →
-    (charge_at m o).active ≡ Some w → end_in s m (cycle c rows grows) o ≡ Some finish.Done →
+    (command_state_at m o).active ≡ Some w → end_in s m (cycle c rows grows) o ≡ Some finish.Done →
     may_be_done w.kind ≡ true
 active_done s m c rows grows (an_axis n) h l w is e =
     let core = axis_core_at m n in
@@ -244,14 +244,14 @@ reset_done _ h = absurd (cc)
 cycle_done : (s : Setup) (m : Machine) (c : ℕ) (rows : List AxisRow) (grows : List GroupRow)
     (more : List Entry) (k : ℕ) (b : BlockDef) → IsMachineKept s m → IsThere m (object_of b) →
     KeepsResults s m (cycle c rows grows) more k →
-    AreOfTheirBlocks s (charge_at m (object_of b)) → slice_get s.blocks k ≡ Some b →
+    AreOfTheirBlocks s (command_state_at m (object_of b)) → slice_get s.blocks k ≡ Some b →
     end_of_command s m (cycle c rows grows) k (object_of b) ≡ Some finish.Done →
     may_be_done b.kind ≡ true
 cycle_done s m c rows grows more k b h l told kinds at e =
     let o = object_of b in
     elim (told.done o l e) [
       | inl act ↦
-          let has = has_active k (charge_at m o) (sym (active_in m k o) ∙ act) in
+          let has = has_active k (command_state_at m o) (sym (active_in m k o) ∙ act) in
           sym (ap may_be_done (kinds.active has.command has.is k b has.own at))
           ∙ active_done s m c rows grows o h l has.command has.is (sym (told.end o l act refl) ∙ e)
       | inr reset ↦ reset_done b.kind (kinds.reset k b reset at)
@@ -263,8 +263,8 @@ waits_there ws h =
     λ e. let none : false ≡ true = sym (ap (λ vs. is_some (slice_get vs 0)) e) ∙ h in cc
 
 active_aborted : (s : Setup) (m : Machine) (c : ℕ) (rows : List AxisRow) (grows : List GroupRow)
-    (o : Object) (w : Wanted) → (charge_at m o).active ≡ Some w →
-    end_in s m (cycle c rows grows) o ≡ Some finish.Aborted → GivesWay w.kind (charge_at m o)
+    (o : Object) (w : Wanted) → (command_state_at m o).active ≡ Some w →
+    end_in s m (cycle c rows grows) o ≡ Some finish.Aborted → GivesWay w.kind (command_state_at m o)
 active_aborted s m c rows grows (an_axis n) w is e =
     let core = axis_core_at m n in
     let next = slice_get core.waiting 0 in
@@ -278,14 +278,14 @@ active_aborted s m c rows grows (a_group j) w is e =
 cycle_aborted : (s : Setup) (m : Machine) (c : ℕ) (rows : List AxisRow) (grows : List GroupRow)
     (more : List Entry) (k : ℕ) (b : BlockDef) → IsThere m (object_of b) →
     KeepsResults s m (cycle c rows grows) more k →
-    AreOfTheirBlocks s (charge_at m (object_of b)) → slice_get s.blocks k ≡ Some b →
+    AreOfTheirBlocks s (command_state_at m (object_of b)) → slice_get s.blocks k ≡ Some b →
     active_at m k (object_of b) ≡ 1 →
     end_of_command s m (cycle c rows grows) k (object_of b) ≡ Some finish.Aborted →
-    GivesWay b.kind (charge_at m (object_of b))
+    GivesWay b.kind (command_state_at m (object_of b))
 cycle_aborted s m c rows grows more k b l told kinds at act e =
     let o = object_of b in
-    let has = has_active k (charge_at m o) (sym (active_in m k o) ∙ act) in
-    subst (λ x. GivesWay x (charge_at m o)) (kinds.active has.command has.is k b has.own at)
+    let has = has_active k (command_state_at m o) (sym (active_in m k o) ∙ act) in
+    subst (λ x. GivesWay x (command_state_at m o)) (kinds.active has.command has.is k b has.own at)
     (active_aborted s m c rows grows o has.command has.is (sym (told.end o l act refl) ∙ e))
 
 -- in a call
@@ -323,7 +323,7 @@ call_done s m j i reply k b false h = absurd (call_not_done s m j i reply k (obj
 
 entry_done : (s : Setup) (m : Machine) (e : Entry) (more : List Entry) (k : ℕ) (b : BlockDef) →
     IsMachineKept s m → IsThere m (object_of b) → KeepsResults s m e more k →
-    AreOfTheirBlocks s (charge_at m (object_of b)) → slice_get s.blocks k ≡ Some b →
+    AreOfTheirBlocks s (command_state_at m (object_of b)) → slice_get s.blocks k ≡ Some b →
     finish_in s m e k b ≡ Some finish.Done → may_be_done b.kind ≡ true
 entry_done s m (call j i reply) more k b h l told kinds at e =
     call_done s m j i reply k b (nat_eq j k) e
@@ -333,9 +333,9 @@ entry_done s m (end_of task) more k b h l told kinds at e = absurd (cc)
 
 entry_aborted : (s : Setup) (m : Machine) (e : Entry) (more : List Entry) (k : ℕ) (b : BlockDef) →
     IsThere m (object_of b) → KeepsResults s m e more k →
-    AreOfTheirBlocks s (charge_at m (object_of b)) → slice_get s.blocks k ≡ Some b →
+    AreOfTheirBlocks s (command_state_at m (object_of b)) → slice_get s.blocks k ≡ Some b →
     cycle_count e ≡ 1 → active_at m k (object_of b) ≡ 1 →
-    finish_in s m e k b ≡ Some finish.Aborted → GivesWay b.kind (charge_at m (object_of b))
+    finish_in s m e k b ≡ Some finish.Aborted → GivesWay b.kind (command_state_at m (object_of b))
 entry_aborted s m (call j i reply) more k b l told kinds at one act e = absurd (omega arith)
 entry_aborted s m (cycle c rows grows) more k b l told kinds at one act e =
     cycle_aborted s m c rows grows more k b l told kinds at act e

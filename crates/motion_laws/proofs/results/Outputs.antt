@@ -1,4 +1,4 @@
--- What a call's reply tells, by how far the command of its instance then is.
+-- What a call's reply reports, by how far the command of its instance then is.
 use Rattle.std.specs.Prelude.{◌≡◌, refl, ℕ, Bool, false, ◌&&◌, if◌then◌else◌, Some, slice_get}
 use Rattle.std.proofs.Common.{ap, sym, subst, ◌∙◌}
 use Rattle.command_pool.specs.declared.ending.Finish.{Finish}
@@ -22,7 +22,7 @@ use Rattle.motion_laws.proofs.entries.replies.Histories.{kind_after}
 use Rattle.motion_kernel.proofs.owners.commands.Events.{there_where}
 use Rattle.motion_laws.proofs.results.outcomes.Own.{called_progress}
 
--- a result tells its end
+-- a result gives its end
 result_tells : (f : Finish) (holds : Bool) → Tells f (result_of holds f)
 result_tells finish.Done holds = refl
 result_tells finish.Aborted holds = refl
@@ -65,7 +65,7 @@ module _ (s : Setup) (m : Machine) (k : ℕ) (i : Inputs) (b : BlockDef) (sized 
       ∙ ap (outputs_called s m k i)
       (called_progress s k (there_where s.blocks k b at) b i m at other sized)
 
-  -- its reply tells an end, shown before or not
+  -- its reply reports an end, shown before or not
   pub reply_tells : (f : Finish) (shown : Bool) → progress_called s m k i b ≡ Ended f shown →
       Tells f (reply_of s m k i)
   reply_tells f shown ended =

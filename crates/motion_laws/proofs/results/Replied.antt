@@ -1,4 +1,4 @@
--- Each reply that tells a result comes of an end.
+-- Each reply that gives a result comes of an end.
 use Rattle.std.specs.Prelude.{◌≡◌, ℕ, zero, suc, true, false, Some, List, [], ◌∷◌, ◌++◌, slice_get, slice_set}
 use Rattle.std.proofs.Common.{ap, sym, subst, ◌∙◌}
 use Rattle.std.proofs.lemmas.List.{append_assoc}
@@ -49,7 +49,7 @@ pub last_reply : (s : Setup) (made : List Entry) (k : ℕ) (i : Inputs) (reply :
 unfolding machine_after
 last_reply s made k i reply past = (behind s 0 (machine_at_opening s) made (call k i reply ∷ []) past.follows).0.1
 
--- a reply that tells an end is one of a block that is no Power, and its instance then shows it
+-- a reply that gives an end is one of a block that is no Power, and its instance then shows it
 pub record EndsAt (s : Setup) (made : List Entry) (k : ℕ) (i : Inputs) (reply : Outputs) (b : BlockDef) (f : Finish) : Type 0 where
   pub other : is_power b.kind ≡ false
   pub after : progress_at (machine_after s (made ++ call k i reply ∷ [])) k ≡ Ended f true

@@ -1,4 +1,4 @@
--- A result that a reply tells stays while Execute is true, and goes with it.
+-- A result that a reply reports stays while Execute is true, and goes with it.
 use Rattle.std.specs.Prelude.{◌≡◌, refl, ℕ, Bool, true, false, Some, List, [], ◌∷◌, ◌++◌, slice_get}
 use Rattle.std.proofs.Common.{ap, sym, subst, ◌∙◌}
 use Rattle.std.proofs.lemmas.List.{append-nil, append_assoc}
@@ -40,12 +40,12 @@ pub machine_kept : MachinesStayKept → (s : Setup) (es : List Entry) → IsSetu
 unfolding machine_after
 machine_kept laws s es setup whole past = past_kept laws s es setup whole past
 
--- where results are told
+-- where results are reported
 abbrev pub AllAreTold : Type 0
 AllAreTold = (s : Setup) (es : List Entry) → IsSetup s → AreWhole s → IsPast s es → ResultsAreTold s es
 
--- the next call of an instance behind a reply that told a result: this still stands, and the reply
--- is as the call leaves it
+-- the next call of an instance after a reply that reported a result: this still stands, and the
+-- reply is as the call leaves it
 record IsCalledAgain (s : Setup) (m : Machine) (k : ℕ) (next : Inputs) (later : Outputs) (b : BlockDef) (f : Finish) : Type 0 where
   other : is_power b.kind ≡ false
   kept : IsMachineKept s m

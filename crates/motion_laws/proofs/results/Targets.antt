@@ -28,7 +28,7 @@ use Rattle.motion_laws.specs.arrivals.Moves.{KeepsMotion, MovesArrive}
 use Rattle.motion_kernel.specs.owners.Commands.{active_at}
 use Rattle.motion_kernel.specs.owners.Kinds.{AreOfTheirBlocks, is_reset}
 use Rattle.motion_kernel.specs.owners.Objects.{a_group, an_axis, object_of}
-use Rattle.motion_kernel.specs.owners.Blocks.{charge_at}
+use Rattle.motion_kernel.specs.owners.Blocks.{command_state_at}
 use Rattle.motion_laws.specs.results.Outcomes.{answer_in, end_answered, end_by_edge, end_of_command, finish_in}
 use Rattle.motion_laws.specs.results.Results.{KeepsResults, ResultsAreTold, end_in}
 use Rattle.motion_laws.specs.results.Targets.{IsDoneThere, MovesEndThere}
@@ -89,7 +89,7 @@ active_there k n m e = by (axis_at m n).active refl e
 
 -- in a cycle
 cycle_there : (s : Setup) (m : Machine) (e : Entry) (more : List Entry) (k : ℕ) (b : BlockDef) → b.object < length m.axes →
-    KeepsResults s m e more k → KeepsMotion s m e more b.object → AreOfTheirBlocks s (charge_at m (an_axis b.object)) →
+    KeepsResults s m e more k → KeepsMotion s m e more b.object → AreOfTheirBlocks s (command_state_at m (an_axis b.object)) →
     slice_get s.blocks k ≡ Some b → is_move b.kind ≡ true → end_of_command s m e k (an_axis b.object) ≡ Some finish.Done →
     (active_at m k (an_axis b.object) ≡ 1 → end_of_command s m e k (an_axis b.object) ≡ end_in s m e (an_axis b.object)) →
     IsDoneThere s m e k b
@@ -109,7 +109,7 @@ cycle_there s m e more k b l told moves kinds at move ends same =
     ]
 
 entry_there : (s : Setup) (m : Machine) (e : Entry) (more : List Entry) (k : ℕ) (b : BlockDef) → b.object < length m.axes →
-    KeepsResults s m e more k → KeepsMotion s m e more b.object → AreOfTheirBlocks s (charge_at m (an_axis b.object)) →
+    KeepsResults s m e more k → KeepsMotion s m e more b.object → AreOfTheirBlocks s (command_state_at m (an_axis b.object)) →
     slice_get s.blocks k ≡ Some b → is_move b.kind ≡ true → finish_in s m e k b ≡ Some finish.Done → IsDoneThere s m e k b
 entry_there s m (call j i reply) more k b l told moves kinds at move ends = absurd (call_not s m j i reply k b (nat_eq j k) move ends)
 entry_there s m (cycle c rows grows) more k b l told moves kinds at move ends =

@@ -1,4 +1,4 @@
--- Whoever loses its command is told how it ended, and shows it at its next call or in its own.
+-- Whoever loses its command is notified how it ended, and shows it at its next call or in its own.
 use Rattle.std.specs.Prelude.{◌≡◌, refl, ℕ, ◌+◌, Bool, true, false, not, ◌&&◌, if◌then◌else◌, Some, List, [], ◌∷◌, ◌++◌, slice_get}
 use Rattle.std.proofs.Common.{arith, ap, sym, subst, ◌∙◌}
 use Rattle.command_changes.specs.Fates.{AreAxisFates, AreGroupFates}
@@ -39,7 +39,7 @@ use Rattle.motion_laws.proofs.results.outcomes.Histories.{EntriesMakeOutcomes}
 use Rattle.motion_laws.proofs.results.outcomes.Others.{call_affects}
 use Rattle.motion_laws.proofs.results.outcomes.Shown.{cycle_affects, ends_as_told}
 
--- the laws on which it rests that results are told
+-- the laws on which it rests that results are reported
 pub record TellLaws : Type 0 where
   pub outcomes : OutcomeLaws
   pub axes : AreAxisFates
@@ -65,7 +65,7 @@ runs_on laws s cycles m (cycle c rows grows) whole h is = record {
 }
 runs_on laws s cycles m (end_of task) whole h is = h
 
--- an entry tells nothing to an instance without a command
+-- an entry gives nothing to an instance without a command
 untold_by : TellLaws → (s : Setup) (cycles : ℕ) (m : Machine) (e : Entry) (k : ℕ) → AreWhole s →
     IsRunning s m → IsOf s cycles m e → commands_shown (progress_in m.instances k) ≡ 0 →
     is_call_of k e ≡ false → progress_in (after s m e).instances k ≡ progress_in m.instances k
@@ -96,7 +96,7 @@ ended_by : (s : Setup) (m : Machine) (e : Entry) (k : ℕ) (o : Object) (f : Fin
 ended_by s m e k o f outcome ends =
     outcome ∙ ap (λ x. progress_by x (begins_command s m e k o) (progress_at m k)) ends
 
--- the instance that has the active command is told the end of its fate
+-- the instance that has the active command is given the end of its fate
 end_by : TellLaws → (s : Setup) (cycles : ℕ) (m : Machine) (e : Entry) (k : ℕ) (o : Object) →
     AreWhole s → IsRunning s m → IsOf s cycles m e → IsThere m o → active_at m k o ≡ 1 →
     is_call_of k e ≡ false → end_of_command s m e k o ≡ end_in s m e o
@@ -140,7 +140,7 @@ done_in_cycle s m (call j i reply) k o ends = absurd (call_not_done s m j i repl
 done_in_cycle s m (cycle c rows grows) k o ends = refl
 done_in_cycle s m (end_of task) k o ends = absurd (task_ends_none s m task k o finish.Done ends)
 
--- an end that was told stays until the instance is called
+-- an end that was reported stays until the instance is called
 record IsWaitingToTell (s : Setup) (f : Finish) (k : ℕ) (m : Machine) : Type 0 where
   running : IsRunning s m
   ended : HasEnded f k m
@@ -158,7 +158,7 @@ waits_on laws s cycles m (e ∷ es) more k f whole h follows none =
       ended = same ∙ h.ended;
     }) follows.1 none.1
 
--- a call that is no rising edge leaves an end that was told
+-- a call that is no rising edge leaves an end that was reported
 still_ended : (s : Setup) (a c : Bool) (k : ℕ) (b : BlockDef) (i : Inputs) (m : Machine)
     (f : Finish) → not a && c ≡ false →
     progress_by_edge s (edge_of a c) k b i m (Ended f false) ≡ Ended f false
@@ -178,7 +178,7 @@ next_tells s m k i f has h r =
     (ap (progress_by_edge s (edge_of before i.execute) k b i y) h.ended
     ∙ still_ended s before i.execute k b i y f r)
 
--- the reply of a call behind some entries
+-- the reply of a call after some entries
 answered : (s : Setup) (cycles : ℕ) (m : Machine) (before later : List Entry) (k : ℕ) (i : Inputs)
     (reply : Outputs) → Follows s cycles m (before ++ call k i reply ∷ later) →
     reply ≡ reply_of s (replay s m before) k i

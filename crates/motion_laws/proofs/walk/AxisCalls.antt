@@ -44,7 +44,7 @@ use Rattle.motion_kernel.proofs.walk.Requests.{by_request}
 abbrev pub AnyAsked : Asked → cores.Core → Type 0
 AnyAsked q c = Unit {0}
 
--- an axis with what waits for it, of which nothing is told yet
+-- an axis with what waits for it, of which nothing is reported yet
 abbrev pub core_of : Axis → List Wanted → cores.Core
 core_of a ws = record { axis = a; waiting = ws; notes = [] }
 

@@ -20,14 +20,14 @@ pub record Turned : Type 0 where
   pub turn : Turn
   pub machine : Machine
 
--- it is turned by an entry of so many cycles, or later
+-- it is turned by an entry of this many cycles, or later
 abbrev pub turned_by : Option Turn → ℕ → Machine → Option Turned → Option Turned
 turned_by (Some t) cycles m later = Some (record { cycles = cycles; turn = t; machine = m })
 turned_by None cycles m later =
     option_map (λ (t : Turned). record t { cycles = cycles + t.cycles }) later
 
 -- the first turn of the active command of an axis in some entries, if it has one there, where its
--- fate in each tells of one
+-- fate in each says of one
 abbrev pub turned_by_fates : (Fate → Option Turn) → Setup → ℕ → Machine → List Entry →
     Option Turned
 turned_by_fates turn s n m [] = None
@@ -42,27 +42,28 @@ turned_in s n m es = turned_by_fates turn_of s n m es
 abbrev pub move_end_in : Setup → ℕ → Machine → List Entry → Option Turned
 move_end_in s n m es = turned_by_fates end_turn_of s n m es
 
--- there is a turn, within so many cycles, of which this holds
+-- there is a turn, within this many cycles, of which this holds
 abbrev pub IsWithin : ℕ → (Turn → Machine → Type 0) → Option Turned → Type 0
 IsWithin most holds None = ⊥
 IsWithin most holds (Some t) = (t.cycles ≤ most) × holds t.turn t.machine
 
--- there is a turn, within so many cycles; where the command is then Done, the axis is at the end of
--- its course: at rest, and at the target if it has one
+-- there is a turn, within this many cycles; where the command is then Done, the axis is at the end
+-- of its course: at rest, and at the target if it has one
 abbrev pub IsTurnedWithin : ℕ → Course → ℕ → Option Turned → Type 0
 IsTurnedWithin most course n turned =
     IsWithin most (λ (t : Turn) (m : Machine). IsTurn t course (axis_at m n)) turned
 
--- there is an end, within so many cycles
+-- there is an end, within this many cycles
 abbrev pub IsMoveEndedWithin : ℕ → Option Turned → Type 0
 IsMoveEndedWithin most ended = IsWithin most (λ (t : Turn) (m : Machine). Unit {0}) ended
 
--- what an entry makes of the active command of an axis, with the entries behind it
+-- what an entry makes of the active command of an axis, with the entries after it
 pub record KeepsMotion (s : Setup) (m : Machine) (e : Entry) (more : List Entry) (n : ℕ)
     : Type 0 where
   -- how it ends and which one begins is what the axis shows
   pub fate : IsFate (axis_fate s m e n) (axis_at m n).active (axis_at (after s m e) n).active
-  -- a move, a Halt or a Stop that begins is turned within its bound, where there are so many cycles
+  -- a move, a Halt or a Stop that begins is turned within its bound, where there are this many
+  -- cycles
   pub in_time : (w : Wanted) (course : Course) → (axis_fate s m e n).begins ≡ Some w →
       course_of w ≡ Some course → bound_of course (axis_at (after s m e) n) ≤ cycles_of more →
       IsTurnedWithin (bound_of course (axis_at (after s m e) n)) course n
@@ -74,7 +75,7 @@ pub record KeepsMotion (s : Setup) (m : Machine) (e : Entry) (more : List Entry)
       IsMoveDone (blended_with c.axis w (slice_get c.waiting 0)) (target_of w) c.axis.setpoint
       (axis_at (after s m e) n)
   -- a blended move ends, where a step may follow in its blend, within as many cycles as its target
-  -- is units away, and one, where there are so many: it crosses or stands there, or is aborted or
+  -- is units away, and one, where there are this many: it crosses or stands there, or is aborted or
   -- faulted
   pub crosses : (w : Wanted) (second : SecondMove) →
       let c = axis_core_at (after s m e) n in

@@ -22,7 +22,7 @@ pub record Ended : Type 0 where
   pub finish : Finish
   pub path : Option OnPath
 
--- it ends by an entry of so many cycles, or later
+-- it ends by an entry of this many cycles, or later
 abbrev pub ended_by : Option Finish → ℕ → Option OnPath → Option Ended → Option Ended
 ended_by (Some f) cycles p later = Some (record { cycles = cycles; finish = f; path = p })
 ended_by None cycles p later =
@@ -35,8 +35,8 @@ ended_in s j m (e ∷ es) =
     ended_by (group_fate s m e j).ends (cycle_count e) (path_in s m e j)
     (ended_in s j (after s m e) es)
 
--- it ends, within so many cycles; where it is then Done, the group is at the end of its course: at
--- rest, and at the end of the path if it leads there
+-- it ends, within this many cycles; where it is then Done, the group is at the end of its course:
+-- at rest, and at the end of the path if it leads there
 abbrev pub IsEndedWithin : ℕ → Course → Option Ended → Type 0
 IsEndedWithin most course None = ⊥
 IsEndedWithin most course (Some t) = (t.cycles ≤ most) × IsEnd t.finish course t.path
@@ -48,14 +48,14 @@ AreAtEnd s m j w = (place : ℕ) → place < length (members_at s j) →
     (a.previous ≡ a.setpoint) ×
     (w.kind ≡ kind.MoveLinearAbsolute → a.setpoint ≡ coordinate_of w.targets place)
 
--- what an entry makes of the active command of a group, with the entries behind it
+-- what an entry makes of the active command of a group, with the entries after it
 pub record KeepsCourse (s : Setup) (m : Machine) (e : Entry) (more : List Entry) (j : ℕ)
     : Type 0 where
   -- how it ends and which one begins is what the group shows
   pub fate : IsFate (group_fate s m e j) (group_at m j).group.active
       (group_at (after s m e) j).group.active
   -- a line, a GroupHalt or a GroupStop that begins ends within its bound on its path, where there
-  -- are so many cycles
+  -- are this many cycles
   pub in_time : (w : Wanted) (course : Course) (p : OnPath) → (group_fate s m e j).begins ≡ Some w →
       course_of w ≡ Some course → (group_at (after s m e) j).path ≡ Some p →
       bound_of course p.motion ≤ cycles_of more →

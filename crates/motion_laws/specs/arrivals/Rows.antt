@@ -13,7 +13,7 @@ use Rattle.motion_kernel.specs.Machine.{Machine, axis_at}
 use Rattle.motion_laws.specs.arrivals.AxisFates.{axis_fate}
 use Rattle.motion_laws.specs.arrivals.Moves.{Turned, turned_in}
 
--- within so many cycles a row of an axis stands at a target, where the setpoint before it was too
+-- within this many cycles a row of an axis stands at a target, where the setpoint before it was too
 pub record RowStands (s : Setup) (m : Machine) (n : ℕ) (target : ℤ) (most : ℕ)
     (es : List Entry) : Type 0 where
   pub before : List Entry
@@ -41,7 +41,7 @@ abbrev pub StandsWithin : Setup → Machine → ℕ → ℤ → ℕ → List Ent
 StandsWithin s m n target most es None = ⊥
 StandsWithin s m n target most es (Some t) = StandsBy s m n target most es t.turn
 
--- so it is with each move that begins, within its bound, where there are so many cycles
+-- so it is with each move that begins, within its bound, where there are this many cycles
 abbrev pub RowsStand : Setup → List Entry → Type 0
 RowsStand s es = (made more : List Entry) (e : Entry) (n : ℕ) (w : Wanted) (target : ℤ)
     (rates : Rates) → es ≡ made ++ e ∷ more → n < length s.axes →

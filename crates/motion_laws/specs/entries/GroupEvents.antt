@@ -37,7 +37,7 @@ moved_in s m ins =
 abbrev pub look_of_reset : Setup → Machine → List DriveIn → ℕ → GroupLook
 look_of_reset s m ins j = group_look s (groups_reset s j (moved_in s m ins)).machine j 0
 
--- its events in a cycle: those of its step, and behind the cycles of its axes a GroupReset's
+-- its events in a cycle: those of its step, and after the cycles of its axes a GroupReset's
 abbrev pub events_in_cycle : Setup → Machine → List DriveIn → Group → ℕ → List GroupEvent
 events_in_cycle s m ins after j =
     step_events (look_of_group s m ins j) (group_core_at m j) (stepped_group s m ins j)

@@ -34,7 +34,7 @@ KeepsReply s m (cycle n rows grows) = Unit {0}
 KeepsReply s m (end_of task) = Unit {0}
 
 -- a call is answered, the states change by their events, commands are where their instances show,
--- the rows show the machine, and errors exactly in the states of errors, and errors are told as
+-- the rows show the machine, and errors exactly in the states of errors, and errors are reported as
 -- they are shown
 pub record KeepsEntry (s : Setup) (m : Machine) (e : Entry) : Type 0 where
   pub reply : KeepsReply s m e

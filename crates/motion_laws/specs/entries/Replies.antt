@@ -1,4 +1,4 @@
--- What the replies of a history tell (PLCopen Motion Control Part 1, general rules).
+-- What the replies of a history report (PLCopen Motion Control Part 1, general rules).
 use Rattle.std.specs.Prelude.{◌≡◌, ℕ, ◌&&◌, true, Some, List, slice_get}
 use Rattle.std.specs.List.{AllByRecursion}
 use Rattle.command_pool.specs.declared.kind.BlockKind.{BlockKind}
@@ -11,8 +11,8 @@ use Rattle.motion_history.specs.Setup.{Setup}
 use Rattle.motion_history.specs.declared.config.BlockDef.{BlockDef}
 use Rattle.motion_kernel.specs.Machine.{instance_at}
 
--- a block's reply tells one result and one state, a Stop's alone two while its Execute is true; an
--- error has the number of a refusal or of an axis error, and no number stands without an error
+-- a block's reply reports one result and one state, a Stop's alone two while its Execute is true;
+-- an error has the number of a refusal or of an axis error, and no number stands without an error
 pub record IsReplyOf (b : BlockDef) (i : Inputs) (o : Outputs) : Type 0 where
   pub single : IsReply (is_stop b.kind && i.execute) o
   pub numbered : o.error ≡ true → is_error_number o.error_id ≡ true

@@ -26,7 +26,7 @@ pub record ShowMachine (m : Machine) (rows : List AxisRow) (grows : List GroupRo
   pub groups : (j : ℕ) (r : GroupRow) → slice_get grows j ≡ Some r →
       ShowsGroup r (group_at m j).group
 
--- the rows of a cycle show the machine behind it; other entries have none
+-- the rows of a cycle show the machine after it; other entries have none
 abbrev pub RowsShow : Machine → Entry → Type 0
 RowsShow m (call k i reply) = Unit {0}
 RowsShow m (cycle n rows grows) = ShowMachine m rows grows

@@ -22,7 +22,7 @@ pub record IsHeld (b : BlockDef) (reply : Outputs) : Type 0 where
   pub stop : is_stop b.kind ≡ true
   pub done : reply.done ≡ true
 
--- a reply shows Busy exactly while its instance has a command behind the call, and Active exactly
+-- a reply shows Busy exactly while its instance has a command after the call, and Active exactly
 -- while that is the active one, but for a Stop that holds
 pub record ShowsCommand (m : Machine) (k : ℕ) (b : BlockDef) (reply : Outputs) : Type 0 where
   pub busy : reply.busy ≡ true → commands_at m k (object_of b) ≡ 1

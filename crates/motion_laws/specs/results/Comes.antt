@@ -1,4 +1,4 @@
--- Where a result comes from that a reply of a history tells, and how long it is shown (PLCopen
+-- Where a result comes from that a reply of a history reports, and how long it is shown (PLCopen
 -- Motion Control Part 1, general rules).
 use Rattle.std.specs.Prelude.{◌≡◌, ℕ, false, Some, List, [], ◌∷◌, ◌++◌, slice_get}
 use Rattle.command_pool.specs.declared.ending.Finish.{Finish}
@@ -30,13 +30,13 @@ pub record ComesOf (s : Setup) (k : ℕ) (b : BlockDef) (f : Finish) (es : List 
   pub ends : finish_in s (machine_after s made) entry k b ≡ Some f
   pub since : AreNoEdges s k (after s (machine_after s made) entry) more
 
--- each reply that tells a result comes of such an entry, its own call or one before it
+-- each reply that gives a result comes of such an entry, its own call or one before it
 abbrev pub ResultsCome : Setup → List Entry → Type 0
 ResultsCome s es = (made more : List Entry) (k : ℕ) (i : Inputs) (reply : Outputs)
     (b : BlockDef) (f : Finish) → es ≡ made ++ call k i reply ∷ more →
     slice_get s.blocks k ≡ Some b → Tells f reply → ComesOf s k b f (made ++ call k i reply ∷ [])
 
--- and it stays while Execute is true: the next call of the instance tells it again, where it is no
+-- and it stays while Execute is true: the next call of the instance gives it again, where it is no
 -- edge
 abbrev pub ResultsStay : Setup → List Entry → Type 0
 ResultsStay s es = (made between more : List Entry) (k : ℕ) (i next : Inputs)

@@ -7,7 +7,7 @@ use Rattle.cia402_machine.specs.declared.drive.DriveIn.{DriveIn}
 use Rattle.command_changes.specs.Axis as axis
 use Rattle.command_changes.specs.Group as group
 use Rattle.command_core.specs.Changes.{Change, all_changed}
-use Rattle.command_core.specs.Charge.{Charge}
+use Rattle.command_core.specs.CommandState.{CommandState}
 use Rattle.command_core.specs.Fates.{fate_in}
 use Rattle.command_pool.specs.declared.notes.Note.{Note}
 use Rattle.fb_outputs.specs.declared.inputs.Inputs.{Inputs}
@@ -16,7 +16,7 @@ use Rattle.motion_history.specs.Entries.{Entry, call, cycle, end_of}
 use Rattle.motion_history.specs.Setup.{Setup}
 use Rattle.motion_kernel.specs.Histories.{inputs_of}
 use Rattle.motion_kernel.specs.Machine.{Machine, axis_core_at, group_core_at}
-use Rattle.motion_kernel.specs.owners.Blocks.{charge_at}
+use Rattle.motion_kernel.specs.owners.Blocks.{command_state_at}
 use Rattle.motion_kernel.specs.cycles.Cycles.{look_of_axis, look_of_group}
 use Rattle.motion_laws.specs.calls.Axis as on_axis
 use Rattle.motion_laws.specs.calls.Axis.{AxisCall}
@@ -28,10 +28,10 @@ use Rattle.motion_kernel.specs.owners.Objects.{a_group, an_axis, Object}
 
 -- what happens to the commands of an axis or a group: those that are there, and how they change
 pub record Effect : Type 0 where
-  pub commands : Charge
+  pub commands : CommandState
   pub changes : List Change
 
--- whom it tells of the end of a command, and how that ended
+-- whom it notifies of the end of a command, and how that ended
 abbrev pub notes_by : Effect → List Note
 notes_by x = (all_changed x.changes x.commands).notes
 
@@ -63,9 +63,9 @@ changes_by_request s r k i m (a_group j) =
 abbrev pub effect_by_request : Setup → Request → ℕ → Inputs → Machine → Object → Effect
 effect_by_request s r k i m o =
     let x = machine_asked r k i m in
-    record { commands = charge_at x o; changes = changes_by_request s r k i x o }
+    record { commands = command_state_at x o; changes = changes_by_request s r k i x o }
 
--- a cycle: an axis goes through it, and a group takes its step, and behind the cycles of the axes a
+-- a cycle: an axis goes through it, and a group takes its step, and after the cycles of the axes a
 -- GroupReset is done
 abbrev pub changes_in_cycle : Setup → Machine → List DriveIn → Object → List Change
 changes_in_cycle s m ins (an_axis n) =
@@ -79,5 +79,5 @@ abbrev pub effect_in : Setup → Machine → Entry → Object → Effect
 effect_in s m (call k i reply) o =
     effect_by_request s (request_of (slice_get s.blocks k) k i m) k i m o
 effect_in s m (cycle c rows grows) o =
-    record { commands = charge_at m o; changes = changes_in_cycle s m (inputs_of rows) o }
-effect_in s m (end_of task) o = record { commands = charge_at m o; changes = [] }
+    record { commands = command_state_at m o; changes = changes_in_cycle s m (inputs_of rows) o }
+effect_in s m (end_of task) o = record { commands = command_state_at m o; changes = [] }

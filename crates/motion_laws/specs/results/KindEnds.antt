@@ -1,6 +1,6 @@
 -- How commands end by their kinds (PLCopen Motion Control Part 1, Done and CommandAborted).
 use Rattle.std.specs.Prelude.{◌≡◌, ◌≢◌, ℕ, Bool, true, false, Some, List, [], ◌∷◌, ◌++◌, slice_get}
-use Rattle.command_core.specs.Charge.{Charge}
+use Rattle.command_core.specs.CommandState.{CommandState}
 use Rattle.command_pool.specs.declared.ending.Finish.TheVariants as finish
 use Rattle.command_pool.specs.declared.kind.BlockKind.{BlockKind}
 use Rattle.command_pool.specs.declared.kind.BlockKind.TheVariants as kind
@@ -11,7 +11,7 @@ use Rattle.motion_kernel.specs.Histories.{machine_after}
 use Rattle.motion_kernel.specs.Machine.{Machine}
 use Rattle.motion_kernel.specs.owners.Commands.{active_at}
 use Rattle.motion_kernel.specs.owners.Objects.{object_of}
-use Rattle.motion_kernel.specs.owners.Blocks.{charge_at}
+use Rattle.motion_kernel.specs.owners.Blocks.{command_state_at}
 use Rattle.motion_laws.specs.results.Outcomes.{finish_in}
 
 -- whether a command may be Done: not a Power, nor one that goes on until another one takes over;
@@ -32,7 +32,7 @@ may_give_way kind.CamIn = true
 may_give_way kind = false
 
 -- a command gives way: it is of such a kind, and another one waits
-pub record GivesWay (kind : BlockKind) (c : Charge) : Type 0 where
+pub record GivesWay (kind : BlockKind) (c : CommandState) : Type 0 where
   pub may : may_give_way kind ≡ true
   pub waits : c.waiting ≢ []
 
@@ -43,7 +43,7 @@ pub record EndsByKind (s : Setup) (m : Machine) (e : Entry) (k : ℕ) (b : Block
   pub done : finish_in s m e k b ≡ Some finish.Done → may_be_done b.kind ≡ true
   -- an active one that a cycle aborts gives way
   pub aborted : cycle_count e ≡ 1 → active_at m k (object_of b) ≡ 1 →
-      finish_in s m e k b ≡ Some finish.Aborted → GivesWay b.kind (charge_at m (object_of b))
+      finish_in s m e k b ≡ Some finish.Aborted → GivesWay b.kind (command_state_at m (object_of b))
 
 -- so does each entry of a history
 abbrev pub EndByKinds : Setup → List Entry → Type 0

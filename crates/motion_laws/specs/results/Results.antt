@@ -1,5 +1,5 @@
--- Which end of a command its instance is told, and when it shows it (PLCopen Motion Control Part 1,
--- general rules).
+-- Which end of a command its instance is notified, and when it shows it (PLCopen Motion Control
+-- Part 1, general rules).
 use Rattle.std.specs.Prelude.{◌≡◌, ◌⊎◌, ℕ, Bool, true, false, not, ◌&&◌, nat_eq, Option, Some, List, ◌∷◌, ◌++◌, slice_get}
 use Rattle.std.specs.List.{AllByRecursion}
 use Rattle.command_pool.specs.declared.ending.Finish.{Finish}
@@ -16,7 +16,7 @@ use Rattle.motion_kernel.specs.Histories.{after, machine_after, replay}
 use Rattle.motion_kernel.specs.Machine.{Machine, instance_at}
 use Rattle.motion_kernel.specs.owners.Objects.{IsThere, Object, a_group, an_axis, object_of}
 use Rattle.motion_kernel.specs.owners.Commands.{active_at, commands_shown}
-use Rattle.motion_kernel.specs.owners.Blocks.{charge_at}
+use Rattle.motion_kernel.specs.owners.Blocks.{command_state_at}
 use Rattle.motion_laws.specs.results.Outcomes.{IsOutcome, end_of_command, finish_in}
 
 -- how the active command of an axis or a group ends in an entry, if it does
@@ -40,7 +40,7 @@ takes_away m k (call j i reply) = nat_eq j k && is_rising m j i
 takes_away m k (cycle c rows grows) = false
 takes_away m k (end_of task) = false
 
--- a reply tells an end: Done, CommandAborted, or Error with the number of the error
+-- a reply reports an end: Done, CommandAborted, or Error with the number of the error
 abbrev pub Tells : Finish → Outputs → Type 0
 Tells finish.Done o = o.done ≡ true
 Tells finish.Aborted o = o.aborted ≡ true
@@ -50,13 +50,13 @@ Tells (finish.Error n) o = (o.error ≡ true) × (o.error_id ≡ n)
 abbrev pub AreNoCalls : ℕ → List Entry → Type 0
 AreNoCalls k es = AllByRecursion (λ e. is_call_of k e ≡ false) es
 
--- the next call of an instance in some entries tells the end, unless it is a rising edge
+-- the next call of an instance in some entries gives the end, unless it is a rising edge
 abbrev pub TellsNext : Setup → ℕ → Finish → Machine → List Entry → Type 0
 TellsNext s k f m es = (before later : List Entry) (i : Inputs) (reply : Outputs) →
     es ≡ before ++ call k i reply ∷ later → AreNoCalls k before →
     is_rising (replay s m before) k i ≡ false → Tells f reply
 
--- what an entry tells an instance, with the entries behind it
+-- what an entry gives an instance, with the entries after it
 pub record KeepsResults (s : Setup) (m : Machine) (e : Entry) (more : List Entry) (k : ℕ)
     : Type 0 where
   -- each entry makes of the instance what its own call or the changes of commands say
@@ -67,10 +67,10 @@ pub record KeepsResults (s : Setup) (m : Machine) (e : Entry) (more : List Entry
       end_of_command s m e k o ≡ end_in s m e o
   -- where it is Done it is the active one, or a reset
   pub done : (o : Object) → IsThere m o → end_of_command s m e k o ≡ Some finish.Done →
-      (active_at m k o ≡ 1) ⊎ ((charge_at m o).reset ≡ Some k)
+      (active_at m k o ≡ 1) ⊎ ((command_state_at m o).reset ≡ Some k)
   -- and then the entry is a cycle: no call makes a command Done but its own
   pub by_cycle : (o : Object) → end_of_command s m e k o ≡ Some finish.Done → cycle_count e ≡ 1
-  -- each end, be it of the active command, of one that waits or of a reset, is told at the
+  -- each end, be it of the active command, of one that waits or of a reset, is reported at the
   -- instance's next call, unless that is a rising edge
   pub told : (b : BlockDef) (f : Finish) → slice_get s.blocks k ≡ Some b →
       is_power b.kind ≡ false → is_call_of k e ≡ false →
@@ -79,7 +79,7 @@ pub record KeepsResults (s : Setup) (m : Machine) (e : Entry) (more : List Entry
   pub answered : (b : BlockDef) (i : Inputs) (reply : Outputs) (f : Finish) →
       e ≡ call k i reply → slice_get s.blocks k ≡ Some b → is_power b.kind ≡ false →
       finish_in s m e k b ≡ Some f → Tells f reply
-  -- and one without a command is told nothing
+  -- and one without a command is given nothing
   pub untold : commands_shown (instance_at m.instances k).progress ≡ 0 → is_call_of k e ≡ false →
       (instance_at (after s m e).instances k).progress ≡ (instance_at m.instances k).progress
 

@@ -1,4 +1,4 @@
-// Cam tables: which points make one, what is told of others, and where a follower is to stand.
+// Cam tables: which points make one, what is reported of others, and where a follower is to stand.
 
 use cam_table::{CamFault, CamTable};
 use follow_plan::{cam_position, gear_difference, gear_toward};

@@ -113,7 +113,8 @@ fn place(rt: &impl Abort, line: &LinePath, axis: u8, s: i64) -> i64 {
     line.place(axis, s)
 }
 
-// Two axes go along a line by 6, 2, 2: the path moves as an axis does, and each axis stands at its place.
+// Two axes go along a line by 6, 2, 2: the path moves as an axis does, and each axis stands at its
+// place.
 #[test]
 fn goes_along_a_line(rt: HostRuntime) {
     let line = line();

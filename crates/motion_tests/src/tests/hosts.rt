@@ -1,5 +1,5 @@
-// The host's files and output: reads and writes that a signal interrupts or that fail in the middle,
-// and an output that takes nothing.
+// The host's files and output: reads and writes that a signal interrupts or that fail in the
+// middle, and an output that takes nothing.
 
 use outside::{FilesFault, HostFiles, Sink, SinkFailed, StdSink, WriterSink, write_all};
 use std::fmt;
@@ -64,8 +64,8 @@ fn reads_no_shorter_file_where_a_read_fails(rt: HostRuntime) -> Result<(), Fail>
     Ok(())
 }
 
-// A writer that takes one byte of a piece and keeps it, and that fails once it has so many. A signal
-// interrupts it before each byte.
+// A writer that takes one byte of a trace segment and keeps it, and that fails once it has this
+// many. A signal interrupts it before each byte.
 #[derive(Drop)]
 struct OneByOne {
     bytes: Vec<u8>,

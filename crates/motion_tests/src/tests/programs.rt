@@ -1,5 +1,5 @@
-// Whole runs of the program over files, an output and a spawner in memory: what fails, and how each run
-// then ends. More runs are data in .ci.
+// Whole runs of the program over files, an output and a spawner in memory: what fails, and how each
+// run then ends. More runs are data in .ci.
 
 mod damaged;
 mod failing;

@@ -1,4 +1,5 @@
-// Ten moves on each of the 20 lists of one pool: the first is active, eight wait, the tenth is refused.
+// Ten moves on each of the 20 lists of one pool: the first is active, eight wait, the tenth is
+// refused.
 
 use buffer_modes::{QueueFull, admit};
 use command_pool::{BlockKind, BufferMode, CommandPool, Follow, Notes, OutOfMemory, Rates, Wanted};

@@ -1,5 +1,5 @@
-// Rings between a kernel and a drive: each end looks again where it knows of nothing, and two threads
-// pass outputs and answers, and the end.
+// Rings between a kernel and a drive: each end looks again where it knows of nothing, and two
+// threads pass outputs and answers, and the end.
 mod threads;
 
 ghost use Rattle.std.specs.Prelude.{◌≡◌, ◌≤◌, ◌+◌, ◌^◌, ◌<◌, [], length, false};
@@ -10,7 +10,7 @@ use setpoint_ring::{
 use std::alloc::Global;
 use std::test::Fail;
 
-// The output of this number, by which each is told from the others.
+// The output of this number, by which each is distinguished from the others.
 fn output(number: u32) -> Numbered<DriveOut>
     ensures { result.number ≡ number }
 {
@@ -130,7 +130,8 @@ impl Pair {
         })
     }
 
-    // Sends so many outputs and answers, as far as slots are free, and returns how many each in all.
+    // Sends this many outputs and answers, as far as slots are free, and returns how many each in
+    // all.
     fn send(&mut self, outputs: u32, answers: u32) -> (u32, u32) {
         for _ in 0..outputs {
             self.kernel.send();

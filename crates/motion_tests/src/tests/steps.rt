@@ -33,7 +33,7 @@ fn may_come(limits: &Limits, before: i64, now: i64, next: i64) -> bool {
     placed && slow && least <= new && new <= old.wrapping_add(limits.amax)
 }
 
-// Whether some list of at most so many setpoints goes on admissibly and ends with the same twice.
+// Whether some list of at most this many setpoints goes on admissibly and ends with the same twice.
 fn stops_by_search(limits: &Limits, before: i64, now: i64, setpoints: u32) -> bool {
     if setpoints == 0 {
         return false;

@@ -6,7 +6,7 @@ mod faults;
 
 use drive_sim::Drive;
 use kernel_uses::{
-    draw_line, judge_text, machine_of_a_group, machine_of_one_axis, move_axis, reset_axis,
+    draw_line, machine_of_a_group, machine_of_one_axis, move_axis, reset_axis, verify_text,
     write_run,
 };
 use motion_kernel::Kernel;
@@ -42,7 +42,7 @@ fn has_a_legal_trace(alloc: Global, kernel: &Kernel, drives: &[Drive]) -> bool
     let Ok(()) = write_run(alloc, kernel, drives, &mut out) else {
         return false;
     };
-    let Ok(verdict) = judge_text(alloc, out.bytes()) else {
+    let Ok(verdict) = verify_text(alloc, out.bytes()) else {
         return false;
     };
     let entries = kernel.history().entries();

@@ -58,7 +58,7 @@ taken-from : (b : Bool) (w : Wanted) (ws : List Wanted) (target : ℤ) (c : Core
 taken-from true w ws target c s h = failed 106 (record c { axis = record c.axis { active = Some w } }) s
 taken-from false w ws target c s h = begun (with_target (Some target) w) c.axis h
 
--- what waits behind the command that ends
+-- what waits after the command that ends
 abbrev pub idle : Core → List Wanted → List Note → Core
 idle c ws notes = record c { axis = record c.axis { active = None; reached = false }; waiting = ws; notes = notes }
 

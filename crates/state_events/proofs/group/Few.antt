@@ -65,7 +65,8 @@ reset_few members before after =
     by-if (λ (es : List GroupEvent). length es ≤ 1) (is_some before.reset && not (is_some after.reset)) _ []
     (λ h. row_few (list_any is_moved (states_in members)) before.state) (λ h. omega arith)
 
--- where a command ends GroupStopping is not left: a line takes over to GroupMoving, and the last one ends in GroupStandby
+-- where a command ends GroupStopping is not left: a line takes over to GroupMoving, and the last
+-- one ends in GroupStandby
 abbrev After : GroupState → List GroupEvent → Bool → Bool → Bool → List GroupEvent
 After s es p q r = es ++ event_where (is_stopping (state_by s es) && p && q && r) event.StopReleased
 

@@ -76,7 +76,7 @@ end-read v c last s m _ is f task l = absurd is
 
 -- ---- cycles
 
--- where a reader stands in a cycle, and where behind a record of it
+-- where a reader stands in a cycle, and where after a record of it
 abbrev in_rows : TraceVersion → Command → Kind → Setup → List FoundEntry → CycleFound → SoFar
 in_rows v c last s f y = record { stage = stage.Rows; last = last; version = v; command = c; setup = s; cycle = y; found = f; drives = [] }
 

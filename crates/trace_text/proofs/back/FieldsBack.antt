@@ -74,7 +74,7 @@ limits-back g d r =
       number-back g d.limits.dmax (omega (arith, ints, p, q, m)),
     ) refl
 
--- the increment of an axis, its start and whether it is ready, and two empty fields behind them
+-- the increment of an axis, its start and whether it is ready, and two empty fields after them
 pub placed-back : Given → (d : AxisDef) → AreAxisRanges d → (behind : List (List ℕ)) → are_empty behind ≡ true →
     placed_of (signed_decimal d.inc ∷ signed_decimal d.start ∷ flag_text d.ready ∷ behind) ≡ Ok (record { inc = d.inc; start = d.start; ready = d.ready })
 unfolding placed_of

@@ -1,4 +1,4 @@
--- The items of a machine are read back, each behind those before it.
+-- The items of a machine are read back, each after those before it.
 use Rattle.std.specs.Prelude.{◌≡◌, refl, ℕ, zero, suc, ◌+◌, ◌-◌, ◌<◌, ◌≤◌, true, false, if◌then◌else◌, nat_eq, nat_le, nat_lt, ℤ, Some, None, Ok, List, [], ◌∷◌, ◌++◌, drop, length, map, replicate, slice_get}
 use Rattle.std.specs.List.{AllByRecursion, IsDistinct, flat_map, position}
 use Rattle.std.specs.Fmt.{signed_decimal}
@@ -91,7 +91,7 @@ blocks-named s m =
 pub item-of : {X : Type 0} (P : X → Type 0) (xs before : List X) (x : X) (behind : List X) → xs ≡ before ++ x ∷ behind → AllByRecursion P xs → P x
 item-of {X} P xs before x behind e h = each-at P before x behind (subst (λ (l : List X). AllByRecursion P l) e h)
 
--- so many items stand before one
+-- this many items stand before one
 count-before : {X : Type 0} (xs before : List X) (x : X) (behind : List X) (most : ℕ) → xs ≡ before ++ x ∷ behind → length xs ≤ most → nat_le most (length before) ≡ false
 count-before xs before x behind most e few =
     let n : length (before ++ x ∷ behind) ≡ length before + suc (length behind) = length-append before (x ∷ behind) in

@@ -1,4 +1,4 @@
--- Records that are read one behind the other.
+-- Records that are read one after the other.
 use Rattle.std.specs.Prelude.{◌≡◌, refl, ℕ, ◌+◌, true, nat_le, Result, Ok, Err, List, [], ◌∷◌, ◌++◌, map}
 use Rattle.std.proofs.Common.{◌∙◌, sym, subst, append_assoc}
 use Rattle.std.proofs.lemmas.List.{append-nil, map-append}
@@ -17,7 +17,7 @@ pub record Leads (rs : List (List (List ℕ))) (s t : SoFar) : Type 0 where
 pub leads-none : (s : SoFar) → Leads [] s s
 leads-none s = record { reads = λ n. refl }
 
--- a record, and those behind it
+-- a record, and those after it
 pub leads-more : (r : List (List ℕ)) (rs : List (List (List ℕ))) (s t u : SoFar) → meaning s (padded r) ≡ Ok t → Leads rs t u → Leads (r ∷ rs) s u
 leads-more r rs s t u e more = record { reads = λ n. rw e (more.reads (n + 1)) }
 
@@ -36,13 +36,13 @@ then-from n (r ∷ rs) b s t u p q =
     bind-step (meaning s r) (n + 1) (λ v. records_meaning (n + 1) v rs) (λ v. records_meaning (n + 1) v (rs ++ b)) t u
     (λ v e. then-from (n + 1) rs b v t u e q) p
 
--- records, and others behind them
+-- records, and others after them
 pub leads-then : (a b : List (List (List ℕ))) (s t u : SoFar) → Leads a s t → Leads b t u → Leads (a ++ b) s u
 leads-then a b s t u p q = record {
   reads = λ n. rw (map-append padded a b) (then-from n (map padded a) (map padded b) s t u (p.reads n) q.reads);
 }
 
--- items of a kind lead to where they all are, behind an item of the kind or an earlier one
+-- items of a kind lead to where they all are, after an item of the kind or an earlier one
 pub record LeadsItems (rs : List (List (List ℕ))) (s : SoFar) (at : Kind → SoFar) (k : Kind) : Type 0 where
   pub last : Kind
   pub rank : nat_le (rank_of last) (rank_of k) ≡ true

@@ -48,7 +48,7 @@ before-differ e [] x ys h = tt
 before-differ e (z ∷ xs) x ys h =
     (each-at (λ y. e z y ≡ false) xs x ys (IsDistinct-head e z (xs ++ x ∷ ys) h), before-differ e xs x ys (IsDistinct-tail e z (xs ++ x ∷ ys) h))
 
--- the same where the items are the names of others, with more before and behind
+-- the same where the items are the names of others, with more before and after
 pub names-differ : {X : Type 0} (f : X → List ℕ) (first : List (List ℕ)) (before : List X) (x : X) (behind : List X) (last names : List (List ℕ)) →
     names ≡ first ++ (map f (before ++ x ∷ behind) ++ last) → IsDistinct bytes_eq names →
     AllByRecursion (λ y. bytes_eq y (f x) ≡ false) (first ++ map f before)

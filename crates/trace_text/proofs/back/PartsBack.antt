@@ -42,7 +42,7 @@ pub each-back : {A : Type 0} (read : List ℕ → Result A ℕ) (f : A → List 
 each-back read f [] h = refl
 each-back read f (x ∷ xs) h = rw (h.0, each-back read f xs h.1) refl
 
--- items that fail a test, and one behind them that passes
+-- items that fail a test, and one after them that passes
 prefix-at : {X : Type 0} (p : X → Bool) (xs : List X) (y : X) (ys : List X) → AllByRecursion (λ x. p x ≡ false) xs → p y ≡ true →
     prefix_len (λ x. not (p x)) (xs ++ y ∷ ys) ≡ length xs
 prefix-at p [] y ys h e = rw e refl
@@ -64,7 +64,7 @@ drop-behind : {X : Type 0} (xs : List X) (y : X) (ys : List X) → drop (suc (le
 drop-behind [] y ys = refl
 drop-behind (x ∷ xs) y ys = drop-behind xs y ys
 
--- parts before a colon and behind it
+-- parts before a colon and after it
 pub halves-back : (a b : List ℕ) → IsWithout 58 a → halves_of (a ++ 58 ∷ b) ≡ Some (a, b)
 unfolding halves_of
 halves-back a b h = rw (position-at is_colon a 58 b h refl, take-front a (58 ∷ b), add-one, drop-behind a 58 b) refl

@@ -75,7 +75,7 @@ KeptAt stage.Entries s = AreRead s
 KeptAt stage.Rows s = InRows s
 KeptAt stage.Drives s = AreRead s
 
--- what holds behind every record
+-- what holds after every record
 record Kept (s : SoFar) : Type 0 where
   stage : KeptAt s.stage s
   arrays : HasArrays s.setup

@@ -7,7 +7,7 @@ use Rattle.csv_records.specs.Records.{IsReading, TakesNext, slice_left}
 use Rattle.trace_text.specs.reading.Reading.{meaning, records_meaning}
 use Rattle.trace_text.specs.reading.SoFar.{SoFar}
 
--- so many records are taken, and the others are left
+-- this many records are taken, and the others are left
 pub record IsUnderWay (records : List (List (List ℕ))) (opening now : SoFar) (place : ℕ) (rdr : Reader (Bor (List ℕ))) : Type 0 where
   pub left : List (List (List ℕ))
   pub reading : IsReading slice_left rdr left

@@ -25,6 +25,6 @@ pub join-more : {X : Type 0} (c : ℕ) (f : X → List ℕ) (xs : List X) (i : �
     new ≡ join_with_byte c (map f (take (i + 1) xs))
 join-more c f xs i d text new part l p q e = rw (e, p, q, add-one) (sym (join-suc c f xs i d l))
 
--- three parts one behind the other
+-- three parts one after the other
 pub three-parts : (first second third a b c : List ℕ) → third ≡ second ++ c → second ≡ first ++ b → first ≡ a → third ≡ a ++ (b ++ c)
 three-parts first second third a b c p q r = p ∙ rw (q, r) (append_assoc a b c)

@@ -1,4 +1,4 @@
--- Empty fields behind those that there are.
+-- Empty fields after those that there are.
 use Rattle.std.specs.Prelude.{◌≡◌, refl, ℕ, zero, suc, ◌-◌, List, [], ◌∷◌, ◌++◌, drop, length, map, replicate}
 use Rattle.std.specs.Borrow.{Bor}
 use Rattle.std.proofs.Common.{◌∙◌}

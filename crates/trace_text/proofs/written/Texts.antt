@@ -48,7 +48,7 @@ items-text f (x ∷ xs) = ap (λ t. record_text (f x) ++ t) (items-text f xs)
 five : (a b c d e : List ℕ) → (((a ++ b) ++ c) ++ d) ++ e ≡ a ++ (b ++ (c ++ (d ++ e)))
 five a b c d e = append_assoc ((a ++ b) ++ c) d e ∙ append_assoc (a ++ b) c (d ++ e) ∙ append_assoc a b (c ++ (d ++ e))
 
--- five texts one behind the other
+-- five texts one after the other
 five-texts : (a b c d e : List (List (List ℕ))) →
     (((text_of a ++ text_of b) ++ text_of c) ++ text_of d) ++ text_of e ≡ text_of (a ++ (b ++ (c ++ (d ++ e))))
 five-texts a b c d e =
@@ -91,11 +91,11 @@ pub entry_end : (v : TraceVersion) (s : Setup) (task : ℕ) → record_text (end
 unfolding entry_text entry_records
 entry_end v s task = sym (text_of-one (end_fields s task))
 
--- three texts one behind the other
+-- three texts one after the other
 three-texts : (a b c : List (List (List ℕ))) → (text_of a ++ text_of b) ++ text_of c ≡ text_of (a ++ (b ++ c))
 three-texts a b c = sym (rw (text_of-append a (b ++ c), text_of-append b c) (sym (append_assoc (text_of a) (text_of b) (text_of c))))
 
--- the parts one behind the other
+-- the parts one after the other
 pub trace_parts : (v : TraceVersion) (c : Command) (s : Setup) (es : List Entry) (ds : List DriveEndRow) →
     trace_text v c s es ds ≡ all_text v c s es ds
 unfolding all_text trace_text trace_records entry_text drives_text

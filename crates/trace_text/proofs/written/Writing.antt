@@ -41,14 +41,14 @@ WritesPrefix-then old mid new x y a p = record {
   appended = Appends-trans old mid new x p.written a p.appended;
 }
 
--- a piece, and what was written behind it
+-- a piece, and what was written after it
 pub Writes-then : (old mid new : Output) (x y : List ℕ) (r : Result (Unit {0}) TraceFault) →
     Appends old.told mid.told x → mid.count ≡ old.count → Writes mid new y r → Writes old new (x ++ y) r
 Writes-then old mid new x y (Ok u) a e w = (Appends-trans old.told mid.told new.told x y a w.0, w.1 ∙ e)
 Writes-then old mid new x y (Err fault.WriteFault) a e w = (rw (← e) w.0, WritesPrefix-then old.told mid.told new.told x y a w.1)
 Writes-then old mid new x y (Err fault.OutOfMemory) a e w = (w.0 ∙ e, WritesPrefix-then old.told mid.told new.told x y a w.1)
 
--- a piece that was not written whole, and nothing behind it
+-- a piece that was not written whole, and nothing after it
 pub Writes-stopped : (old new : Output) (x y : List ℕ) (e : TraceFault) → Writes old new x (Err e) → Writes old new (x ++ y) (Err e)
 Writes-stopped old new x y fault.WriteFault w = (w.0, WritesPrefix-more old.told new.told x y w.1)
 Writes-stopped old new x y fault.OutOfMemory w = (w.0, WritesPrefix-more old.told new.told x y w.1)
@@ -74,7 +74,7 @@ parts f es k m =
     ap (flat_map f) (sym (take-append-drop m (drop k es))) ∙ flat_map-append f (take m (drop k es)) (drop m (drop k es)) in
     three _ _ _ _ a b ∙ sym (append_assoc (flat_map f (take k es)) (flat_map f (take m (drop k es))) (flat_map f (drop m (drop k es))))
 
--- the entries are those before a piece, those of it, and those behind it
+-- the entries are those before a piece, those of it, and those after it
 pub all-pieces : {X : Type 0} (f : X → List ℕ) (es : List X) (n : ℕ) → n * 200 ≤ length es →
     flat_map f es ≡ (flat_map f (take (min (n * 200) (length es)) es) ++ flat_map f (take (min (length es - n * 200) 200) (drop (n * 200) es))) ++
     flat_map f (drop (min (length es - n * 200) 200) (drop (n * 200) es))
@@ -110,7 +110,7 @@ Appends-piece f es n count entries old mid new same l c text more =
     let P : List ℕ → Type 0 = Appends old new in
     subst P (sym all) (Appends-trans old mid new _ _ text more)
 
--- three texts one behind the other
+-- three texts one after the other
 pub trace-then : (old mid later new : Output) (x y z : List ℕ) (r : Result (Unit {0}) TraceFault) →
     Appends old.told mid.told x × (mid.count ≡ old.count) → Appends mid.told later.told y × (later.count ≡ mid.count) →
     Writes later new z r → Writes old new ((x ++ y) ++ z) r

@@ -1,4 +1,4 @@
--- The calls, cycles and ends of a trace, read from its records: each is the fields behind its kind.
+-- The calls, cycles and ends of a trace, read from its records: each is the fields after its kind.
 -- This project's profile.
 use Rattle.std.specs.Prelude.{ℕ, ◌-◌, ◌^◌, Result, Ok, Err, List, [], ◌∷◌, slice_get}
 use Rattle.fb_outputs.specs.declared.outputs.Outputs.{Outputs}

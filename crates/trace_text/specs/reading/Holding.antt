@@ -19,7 +19,8 @@ abbrev pub StandsAt : SoFar → SoFar → Option (List FoundEntry) → Type 0
 StandsAt whole now None = whole ≡ now
 StandsAt whole now (Some first) = BeginsWith first whole now
 
--- a record is taken: so the reader stands where it leads, or the rule is told; or memory ran out
+-- a record is taken: so the reader stands where it leads, or the rule is reported; or memory ran
+-- out
 abbrev pub TakesApart : Result SoFar ℕ → SoFar → Option (List FoundEntry) →
     Result (Unit {0}) LineFault → Type 0
 TakesApart meaning now first (Ok u) =
@@ -27,8 +28,8 @@ TakesApart meaning now first (Ok u) =
 TakesApart meaning now first (Err (line.Rule number)) = meaning ≡ Err number
 TakesApart meaning now first (Err line.OutOfMemory) = Unit {0}
 
--- records are taken: so the reader stands where they lead, and their number is told; or the first
--- that breaks a rule is told; or memory ran out
+-- records are taken: so the reader stands where they lead, and their number is reported; or the
+-- first that breaks a rule is reported; or memory ran out
 abbrev pub TakesRecords : List (List (List ℕ)) → SoFar → SoFar → Option (List FoundEntry) →
     Result ℕ LinesFault → Type 0
 TakesRecords records old new first (Ok last) =
@@ -38,7 +39,7 @@ TakesRecords records old new first (Err (lines.Refused place)) =
     records_meaning 0 old records ≡ Err place
 TakesRecords records old new first (Err lines.OutOfMemory) = Unit {0}
 
--- a trace is held by a reader: all of it, or all but the entries behind some that don't keep within
+-- a trace is held by a reader: all of it, or all but the entries after some that don't keep within
 -- its room; where it is to be held whole, it is
 pub record IsHeldSoFar (within_room : Bool) (whole now : SoFar) : Type 0 where
   pub more : List FoundEntry
@@ -46,8 +47,8 @@ pub record IsHeldSoFar (within_room : Bool) (whole now : SoFar) : Type 0 where
   pub spent : keep_within now.setup now.found ≡ true → more ≡ []
   pub all : within_room ≡ false → more ≡ []
 
--- records are taken: so the trace to which they lead is held, and their number is told; or the first
--- that breaks a rule is told; or memory ran out
+-- records are taken: so the trace to which they lead is held, and their number is reported; or the
+-- first that breaks a rule is reported; or memory ran out
 abbrev pub HoldsRecords : Bool → List (List (List ℕ)) → SoFar → SoFar → Result ℕ LinesFault → Type 0
 HoldsRecords within_room records old new (Ok last) =
     (whole : SoFar) × (records_meaning 0 old records ≡ Ok whole) ×

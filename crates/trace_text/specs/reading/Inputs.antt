@@ -25,7 +25,7 @@ use Rattle.trace_text.specs.declared.reading.inputs.Last.{Last}
 use Rattle.trace_text.specs.reading.InputFields.{InputTexts}
 use Rattle.trace_text.specs.reading.RuleNumbers.{no_value}
 
--- so many positions, joined by semicolons, and 0 behind them
+-- this many positions, joined by semicolons, and 0 after them
 unfoldable pub joined_positions : ℕ → List ℕ → Result (List ℤ) ℕ
 joined_positions axes text = do
   places ← each_of number (parts_of text)
@@ -49,7 +49,7 @@ mode_of k text = if takes k Mode then value (mode_named text) else unused text A
 abbrev pub no_master : Followed
 no_master = record { master = 0; numerator = pos 1; denominator = pos 1; table = 0 }
 
--- the parts before the first colon and behind it; a field without one breaks its rule
+-- the parts before the first colon and after it; a field without one breaks its rule
 unfoldable pub halves : List ℕ → Result (List ℕ × List ℕ) ℕ
 halves text = value (halves_of text)
 

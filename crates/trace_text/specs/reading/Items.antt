@@ -1,4 +1,4 @@
--- The items of a machine, read from the records of a trace: each is the fields behind its kind.
+-- The items of a machine, read from the records of a trace: each is the fields after its kind.
 -- This project's profile.
 use Rattle.std.specs.Prelude.{ℕ, ℤ, Bool, ◌&&◌, ◌||◌, is_some, Result, Ok, Err, List, [], ◌∷◌, ◌++◌}
 use Rattle.std.specs.List.{slice_split}
@@ -42,7 +42,7 @@ limits_of (lo ∷ hi ∷ vmax ∷ amax ∷ dmax ∷ []) = do
   Ok (record { lo = l; hi = h; vmax = v; amax = a; dmax = d })
 limits_of _ = Err no_value
 
--- the increment of an axis, its start and whether it is ready; nothing stands behind them
+-- the increment of an axis, its start and whether it is ready; nothing stands after them
 unfoldable pub placed_of : List (List ℕ) → Result Placed ℕ
 placed_of (inc ∷ start ∷ ready ∷ unused) = do
   i ← number inc

@@ -50,11 +50,11 @@ rank_of Task = 3
 rank_of Block = 4
 rank_of _ = 5
 
--- whether an item of a kind may stand here: in the machine part, and behind no later kind
+-- whether an item of a kind may stand here: in the machine part, and after no later kind
 abbrev pub is_item_here : SoFar → Kind → Bool
 is_item_here s kind = is_stage s.stage stage.Machine && nat_le (rank_of s.last) (rank_of kind)
 
--- whether an entry may begin here: behind the machine part, and in no cycle
+-- whether an entry may begin here: after the machine part, and in no cycle
 abbrev pub is_entry_here : SoFar → Bool
 is_entry_here s = is_stage s.stage stage.Machine || is_stage s.stage stage.Entries
 

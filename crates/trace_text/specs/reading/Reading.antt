@@ -82,7 +82,7 @@ command_of text =
     if says text (command_text command.Bench) then Some command.Bench
     else if says text (command_text command.Run) then Some command.Run else None
 
--- the second record is of kind `trace`, and tells the version, who made the trace, and its room
+-- the second record is of kind `trace`, and gives the version, who made the trace, and its room
 unfoldable pub trace_meaning : SoFar → List (List ℕ) → Result SoFar ℕ
 trace_meaning s (first ∷ version ∷ made_by ∷ room) = do
   _ ← broken_unless (says first (codes "trace")) no_header
@@ -149,7 +149,7 @@ drives_meaning s fields = do
   _ ← whole s.setup
   Ok (record s { stage = stage.Drives; drives = s.drives ++ d ∷ [] })
 
--- what the fields behind the kind mean in a record of each kind
+-- what the fields after the kind mean in a record of each kind
 unfoldable pub fields_meaning : SoFar → Kind → List (List ℕ) → Result SoFar ℕ
 fields_meaning s kind.Axis fields = with_item s kind.Axis (axis_meaning s.version s.setup fields)
 fields_meaning s kind.Group fields = with_item s kind.Group (group_meaning s.setup fields)
@@ -163,7 +163,7 @@ fields_meaning s kind.Grow fields = grows_meaning s fields
 fields_meaning s kind.End fields = with_entry s (end_meaning s.setup fields)
 fields_meaning s kind.Drive fields = drives_meaning s fields
 
--- a record behind the second: its kind stands here, and its fields have values
+-- a record after the second: its kind stands here, and its fields have values
 unfoldable pub later_meaning : SoFar → List (List ℕ) → Result SoFar ℕ
 later_meaning s (first ∷ fields) = do
   k ← ok_or (kind_of first) out_of_place
@@ -184,13 +184,14 @@ meaning s fields = do
   _ ← broken_unless (length fields == 12) not_twelve
   twelve_meaning s fields
 
--- what records mean one after another, so many records in: the first that breaks a rule is refused
+-- what records mean one after another, this many records in: the first that breaks a rule is
+-- refused
 abbrev pub records_meaning : ℕ → SoFar → List (List (List ℕ)) → Result SoFar LineRefused
 records_meaning before s [] = Ok s
 records_meaning before s (first ∷ more) =
     at_line (before + 1) (meaning s first) >>= λ t. records_meaning (before + 1) t more
 
--- whether each drive has told what it took
+-- whether each drive has reported what it took
 abbrev pub is_ended : SoFar → Bool
 is_ended s = is_stage s.stage stage.Drives && (length s.drives == length s.setup.axes)
 
@@ -211,7 +212,7 @@ ending s = do
 unfoldable pub reading_of : List (List (List ℕ)) → Result TraceState LineRefused
 reading_of records = records_meaning 0 opening records >>= λ s. at_line (length records) (ending s)
 
--- a rule of a trace is told by the letter T
+-- a rule of a trace is reported by the letter T
 abbrev pub letter : ℕ
 letter = 84
 

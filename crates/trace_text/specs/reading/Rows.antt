@@ -1,5 +1,5 @@
 -- The rows of cycles, and what the drives took, read from the records of a trace: each is the
--- fields behind its kind. This project's profile.
+-- fields after its kind. This project's profile.
 use Rattle.std.specs.Prelude.{ℕ, ℤ, pos, neg_ℤ, ◌-◌, ◌^◌, Option, Some, None, Result, Ok, Err, List, [], ◌∷◌}
 use Rattle.std.specs.Str.{bytes_eq}
 use Rattle.axis_state.specs.declared.definition.AxisRow.{AxisRow}

@@ -1,4 +1,4 @@
--- Where a trace stands behind some of its records. This project's profile.
+-- Where a trace stands after some of its records. This project's profile.
 use Rattle.std.specs.Prelude.{List}
 use Rattle.motion_history.specs.Setup.{Setup}
 use Rattle.motion_history.specs.declared.refused.TraceVersion.{TraceVersion}

@@ -14,7 +14,7 @@ pub record WritesPrefix (old new : Option (List ℕ)) (text : List ℕ) : Type 0
   pub whole : text ≡ written ++ left
   pub appended : Appends old new written
 
--- what an output tells: its count of faults, and its bytes
+-- what an output gives: its count of faults, and its bytes
 pub record Output : Type 0 where
   pub count : ℕ
   pub told : Option (List ℕ)

@@ -1,4 +1,4 @@
-// The entries of a trace that are held while it is read: all, or those alone that a judge wants.
+// The entries of a trace that are held while it is read: all, or those alone that a verify wants.
 
 ghost use Rattle.std.specs.Prelude.{◌≡◌, Bool, None, OnOk, false};
 ghost use Rattle.trace_text.specs.Held.{keep_within};
@@ -19,7 +19,7 @@ fn keeps_within(reader: &TraceReader) -> bool
     reader.found.are_within(machine.entries(), machine.cycles())
 }
 
-/// Sets the first entries apart, once they don't keep within the room; those behind them are given
+/// Sets the first entries apart, once they don't keep within the room; those after them are given
 /// up.
 pub fn set_apart(reader: &mut TraceReader, first: &mut Option<FoundList>)
     ensures { (whole : SoFar) → StandsAt whole reader.old first.old →
@@ -34,7 +34,7 @@ pub fn set_apart(reader: &mut TraceReader, first: &mut Option<FoundList>)
 
 /// Gives a reader the first entries back that were set apart. The room has stood since the machine
 /// part, so they don't keep within it; if they did, which no text brings about, the answer would be
-/// want of memory.
+/// out of memory.
 pub fn give_back(reader: &mut TraceReader, first: Option<FoundList>) -> Result<(), OutOfMemory>
     ensures held { (within_room : Bool) (whole : SoFar) → (within_room ≡ false → first ≡ None) →
         StandsAt whole reader.old first → OnOk result (IsHeldSoFar within_room whole reader.new) }

@@ -20,7 +20,7 @@ pub enum Stage {
     Drives,
 }
 
-/// The kinds of records behind the second.
+/// The kinds of records after the second.
 #[derive(Clone, Copy, Debug)]
 pub enum Kind {
     Axis,
@@ -71,7 +71,7 @@ fn kind_text(kind: Kind) -> &'static str
     }
 }
 
-/// The kind of a record by its first field. The most frequent is told by its bytes.
+/// The kind of a record by its first field. The most frequent is recognised by its bytes.
 #[tactic(auto, unfolding(crate::specs::reading::Kinds::kind_of, crate::specs::reading::Kinds::kind_text))]
 pub fn kind_of(first: &[u8]) -> Option<Kind>
     ensures { result ≡ spec.kind_of first.now }

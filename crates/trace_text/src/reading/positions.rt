@@ -41,7 +41,7 @@ fn no_positions(text: &[u8]) -> Result<[i64; MOST_MEMBERS], LineFault>
     Ok([0; MOST_MEMBERS])
 }
 
-// So many positions, joined by semicolons.
+// This many positions, joined by semicolons.
 #[tactic(auto, unfolding(crate::specs::reading::Inputs::joined_positions))]
 fn joined_positions(
     alloc: Global,

@@ -41,9 +41,9 @@ pub fn read_trace(alloc: Global, text: &[u8]) -> Result<Trace, TextFault>
     read_held(alloc, text, false)
 }
 
-/// The same for one who judges the trace: entries behind the first for which its machine has no
-/// room needn't be kept, though their text is read as that of the others. How few are kept no clause
-/// says.
+/// The same for one who verifies the trace: entries after the first for which its machine has no
+/// room needn't be kept, though their text is read as that of the others. How few are kept no
+/// clause says.
 pub fn read_within_room(alloc: Global, text: &[u8]) -> Result<Trace, TextFault>
     ensures reading { ReadsHeld (spec.trace_of text.now) result }
     ensures kept { IfOk result (λ t. IsTraceKept t) }
@@ -51,7 +51,7 @@ pub fn read_within_room(alloc: Global, text: &[u8]) -> Result<Trace, TextFault>
     read_held(alloc, text, true)
 }
 
-// The trace that a text is: all of it, or all but entries behind some that don't keep within its
+// The trace that a text is: all of it, or all but entries after some that don't keep within its
 // room.
 #[tactic(auto, unfolding(crate::specs::reading::Reading::trace_of, crate::specs::reading::Reading::reading_of))]
 fn read_held(alloc: Global, text: &[u8], within_room: bool) -> Result<Trace, TextFault>
@@ -231,7 +231,7 @@ fn trace_of(reader: TraceReader, last: u64) -> Result<Trace, TextFault>
     })
 }
 
-// Whether each drive has told what it took.
+// Whether each drive has reported what it took.
 fn is_ended(reader: &TraceReader) -> bool
     ensures { result ≡ spec.is_ended reader.now }
 {

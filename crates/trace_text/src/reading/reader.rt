@@ -102,7 +102,7 @@ impl TraceReader {
         Ok(())
     }
 
-    // Takes a record behind the second.
+    // Takes a record after the second.
     #[tactic(auto, unfolding(crate::specs::reading::Reading::later_meaning))]
     fn read_later(&mut self, fields: &[&[u8]]) -> Result<(), LineFault>
         ensures { Takes (spec.later_meaning self.old (texts fields.now)) self.new result }
@@ -117,7 +117,7 @@ impl TraceReader {
         self.read_kind(kind, fields)
     }
 
-    // Takes the fields behind the kind.
+    // Takes the fields after the kind.
     #[tactic(auto, unfolding(crate::specs::reading::Reading::fields_meaning))]
     fn read_kind(&mut self, kind: Kind, fields: &[&[u8]]) -> Result<(), LineFault>
         ensures { Takes (spec.fields_meaning self.old kind (texts fields.now)) self.new result }

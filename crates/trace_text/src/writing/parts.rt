@@ -12,7 +12,7 @@ use itoa::Buffer;
 use motion_history::{BlockDef, Config, GroupDef, MOST_MEMBERS, axis_name, name_text};
 use std::alloc::{AllocError, Global};
 
-// Puts a part behind so many others, with a semicolon between.
+// Puts a part after this many others, with a semicolon between.
 fn push_part(text: &mut Vec<u8>, before: usize, part: &[u8]) -> Result<(), AllocError>
     ensures { OnOk result (text.new.items ≡
         text.old.items ++ ((if before == 0 then [] else 59 ∷ []) ++ part.now)) }
@@ -23,7 +23,7 @@ fn push_part(text: &mut Vec<u8>, before: usize, part: &[u8]) -> Result<(), Alloc
     text.extend_from_slice(part)
 }
 
-// Puts a number behind so many others, with a semicolon between.
+// Puts a number after this many others, with a semicolon between.
 fn push_number_part(text: &mut Vec<u8>, before: usize, number: i64) -> Result<(), AllocError>
     ensures { OnOk result (text.new.items ≡
         text.old.items ++ ((if before == 0 then [] else 59 ∷ []) ++ signed_decimal number)) }
@@ -56,7 +56,7 @@ pub fn members_text(alloc: Global, config: &Config, group: &GroupDef) -> Result<
     Ok(text)
 }
 
-// Puts a number behind a text, and a colon before it.
+// Puts a number after a text, and a colon before it.
 fn push_number(text: &mut Vec<u8>, number: i64) -> Result<(), AllocError>
     ensures { OnOk result (text.new.items ≡ text.old.items ++ (58 ∷ signed_decimal number)) }
 {

@@ -102,7 +102,7 @@ fn write_entry_at<W: Write + Drop>(
     }
 }
 
-// Writes so many entries from a place on.
+// Writes this many entries from a place on.
 fn write_entries<W: Write + Drop>(
     alloc: Global,
     wtr: &mut Writer<W>,
@@ -125,7 +125,7 @@ fn write_entries<W: Write + Drop>(
     Ok(())
 }
 
-/// The text of so many entries from a place on.
+/// The text of this many entries from a place on.
 pub fn entries_piece(
     alloc: Global,
     version: TraceVersion,

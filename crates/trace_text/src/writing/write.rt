@@ -66,7 +66,7 @@ fn put_drives<K: Sink>(
     put(drives_piece(alloc, config, drives), out)
 }
 
-// Writes so many entries from a place on.
+// Writes this many entries from a place on.
 fn put_entries<K: Sink>(
     alloc: Global,
     version: TraceVersion,

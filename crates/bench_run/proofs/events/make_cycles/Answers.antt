@@ -1,4 +1,4 @@
--- So many cycles, or up to the one that ends the run.
+-- This many cycles, or up to the one that ends the run.
 use Rattle.std.specs.Prelude.{[], ◌∷◌}
 use Rattle.std.proofs.Common.{◌∙◌}
 use Rattle.std.proofs.lemmas.Result.{err_from_is_err_and}

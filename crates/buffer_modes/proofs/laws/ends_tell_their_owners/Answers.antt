@@ -1,4 +1,4 @@
--- How often owners are told, and of what.
+-- How often owners are notified, and of what.
 use Rattle.buffer_modes.proofs.Fates.{replaces, tells}
 use Rattle.buffer_modes.proofs.Owners.{few-active, few-waiting, nobody, told-active, told-more, told-once, told-reset, told-waiting, waits-more}
 use Rattle.buffer_modes.proofs.laws.ends_tell_their_owners.Goals as goal

@@ -1,4 +1,4 @@
--- The masked bits tell the state.
+-- The masked bits give the state.
 use Rattle.std.proofs.Common.{arith, refl, ◌∙◌, sym}
 use Rattle.std.proofs.lemmas.Bool.Decides.{nat_tests}
 use Rattle.cia402_machine.proofs.Told.{state_of_word-masked}

@@ -1,4 +1,4 @@
--- The patterns tell the state.
+-- The patterns give the state.
 use Rattle.cia402_machine.proofs.Told.{told-is, told-none}
 use Rattle.cia402_machine.proofs.statusword.state_of.Goals as goal
 

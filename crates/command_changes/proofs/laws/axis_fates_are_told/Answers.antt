@@ -1,4 +1,4 @@
--- The fates of an axis are told.
+-- The fates of an axis are reported.
 use Rattle.command_changes.proofs.Fates.{fated}
 use Rattle.command_changes.proofs.axis.Fates.{command_fated, cycle_fated, detach_fated, path_fated, power_fated}
 use Rattle.command_changes.proofs.laws.axis_fates_are_told.Goals as goal

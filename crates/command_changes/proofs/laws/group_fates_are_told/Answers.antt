@@ -1,4 +1,4 @@
--- The fates of a group are told.
+-- The fates of a group are reported.
 use Rattle.group_core.proofs.Ends.{reset-active-same}
 use Rattle.command_changes.proofs.Fates.{fated}
 use Rattle.command_changes.proofs.group.Fates.{command_fated, cycle_fated, detach_fated, off_fated}

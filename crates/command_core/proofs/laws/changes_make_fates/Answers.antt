@@ -1,4 +1,4 @@
--- Changes make fates, and tell them.
+-- Changes make fates, and give them.
 use Rattle.command_core.proofs.Ends.{ends_by_fate}
 use Rattle.command_core.proofs.Fates.{fates, goes_on_same, tells}
 use Rattle.command_core.proofs.laws.changes_make_fates.Goals as goal

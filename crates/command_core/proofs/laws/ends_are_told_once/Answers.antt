@@ -1,4 +1,4 @@
--- Each end is told once.
+-- Each end is reported once.
 use Rattle.command_core.proofs.Owners.{left, none_brought, once, taken_away, untold}
 use Rattle.command_core.proofs.laws.ends_are_told_once.Goals as goal
 

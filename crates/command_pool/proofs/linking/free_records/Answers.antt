@@ -1,4 +1,4 @@
--- One more record is linked to the place behind it.
+-- One more record is linked to the place after it.
 use Rattle.std.proofs.Common.{refl, arith}
 use Rattle.command_pool.specs.Layout.{links_of, rising}
 use Rattle.command_pool.proofs.Records.{links_of-push}

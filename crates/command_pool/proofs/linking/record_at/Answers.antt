@@ -6,7 +6,7 @@ use Rattle.command_pool.proofs.Detached.{first_within}
 use Rattle.command_pool.proofs.Times.{counted}
 use Rattle.command_pool.proofs.linking.record_at.Goals as goal
 
--- the place that is looked for is among those behind the first
+-- the place that is looked for is among those after the first
 behind : (links : List ℕ) (at passed count place : ℕ) → passed < place → passed < count →
     slice_get (places links at (count - passed)) (place - passed) ≡
     slice_get (places links (get_or links at 0) (count - (passed + 1))) (place - (passed + 1))
@@ -16,7 +16,7 @@ behind links at passed count place before there =
     let far : place - passed ≡ suc (place - (passed + 1)) = omega arith in
     rw (left, far) refl
 
--- the places behind the first are records', too
+-- the places after the first are records', too
 later : (links : List ℕ) (at passed count most : ℕ) → passed < count →
     ((k : ℕ) → 0 < times k (places links at (count - passed)) → k < most) →
     (k : ℕ) → 0 < times k (places links (get_or links at 0) (count - (passed + 1))) → k < most

@@ -1,4 +1,4 @@
--- The texts that are collected are the arguments behind the first.
+-- The texts that are collected are the arguments after the first.
 use Rattle.std.proofs.Common.{ap, sym, Global, ◌∙◌}
 use Rattle.std.specs.Prelude.{map, Ok}
 use Rattle.std.specs.Iterator.Adapters.{skip_source}

@@ -11,7 +11,7 @@ returns-in_default-clause-reading c =
     let none = rw c.in_default.is at cut in
     c.read_digits.ensures.reading ∙ sym (size_reading-whole c.args.number.now (whole_number c.args.number.now none))
 
--- what stands behind the point isn't digits
+-- what stands after the point isn't digits
 pub returns-then-not-is_digits-clause-reading : goal.returns-then-not-is_digits-clause-reading
 returns-then-not-is_digits-clause-reading c =
     let cut = split_once_first 46 c.args.number.now c.split_once.result c.split_once.ensures.cases (omega arith) in
@@ -19,7 +19,7 @@ returns-then-not-is_digits-clause-reading c =
     sym (size_reading-not_number c.args.number.now _ _ (cut_number c.args.number.now _ _ within whole fraction)
     (sym c.is_digits.ensures ∙ c.if-not-is_digits.true))
 
--- digits stand behind the point
+-- digits stand after the point
 pub returns-clause-reading : goal.returns-clause-reading
 returns-clause-reading c =
     let cut = split_once_first 46 c.args.number.now c.split_once.result c.split_once.ensures.cases (omega arith) in

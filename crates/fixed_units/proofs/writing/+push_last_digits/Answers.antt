@@ -11,7 +11,7 @@ returns-then-places-eq0 t c =
     sym (append-nil c.args.into.now)
     ∙ ap (λ l. c.args.into.now ++ l) (sym (last_digits-none c.args.places c.args.number c.if-places-eq0.true))
 
--- the last digit stands behind the others
+-- the last digit stands after the others
 pub returns : goal.returns
 returns t c =
     let some : 0 < c.args.places = omega arith in

@@ -18,7 +18,7 @@ pub push-requires-2 : goal.push-requires-2
 push-requires-2 t c =
     rw (c.push_whole.ensures, length-append) (omega (arith, length-decimal_step c.args.number c.if-number-lt10.false c.ranges.number.fits))
 
--- the last digit stands behind the others
+-- the last digit stands after the others
 pub returns : goal.returns
 returns t c =
     push-behind _ _ _ _ _ _ c.push-2.ensures c.push_whole.ensures (decimal_step c.args.number c.if-number-lt10.false c.ranges.number.fits)

@@ -16,7 +16,7 @@ push_fraction-requires-clause-room c =
     let digits = length-decimal-le 11 (c.unsigned_abs-size.result / 1000000000) (omega arith) (omega arith) (omega arith) in
     rw (c.push_whole.ensures, length-append, c.begin_with_sign.ensures) (omega (arith, length-sign_text, digits))
 
--- sign, whole number and fraction stand one behind the other
+-- sign, whole number and fraction stand one after the other
 pub returns : goal.returns
 returns c =
     let range : FitsSigned w64 c.args.value = c.ranges.value in

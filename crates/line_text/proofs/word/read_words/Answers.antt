@@ -40,7 +40,7 @@ loop-place-preserved c =
           })
     ]
 
--- what is left of a line behind a place
+-- what is left of a line after a place
 rest-is : (line : List ℕ) (end place : ℕ) → end ≡ place → take (length line - end) (drop end line) ≡ drop place line
 rest-is line end place e = take_rest line end ∙ ap (λ n. drop n line) e
 

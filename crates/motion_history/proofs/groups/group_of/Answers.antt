@@ -1,4 +1,4 @@
--- The axes stand first, and 0 behind them.
+-- The axes stand first, and 0 after them.
 use Rattle.std.proofs.Common.{◌≡◌, ◌-◌, ℕ, drop, length}
 use Rattle.std.specs.Prelude.{replicate}
 use Rattle.std.proofs.lemmas.List.{drop-replicate}

@@ -1,4 +1,4 @@
--- A table that is not made is refused by its points, by the number of tables, or for want of memory.
+-- A table that is not made is refused by its points, by the number of tables, or for out of memory.
 use Rattle.std.proofs.Common.{Err, ap}
 use Rattle.motion_history.proofs.TableLemmas.{told-exact}
 use Rattle.motion_history.proofs.tables.new_table.Goals as goal

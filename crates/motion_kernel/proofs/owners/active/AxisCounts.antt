@@ -8,7 +8,7 @@ use Rattle.axis_core.specs.Refusals as axis_refusals
 use Rattle.axis_core.specs.Refusals.{Asked}
 use Rattle.axis_core.specs.blocks.Moves.{known_target_of, with_target}
 use Rattle.axis_core.specs.declared.reason.Reason as axis_reason
-use Rattle.buffer_modes.specs.Owners.{is_owner, owner_by}
+use Rattle.buffer_modes.specs.Owners.{owner_count, owner_by}
 use Rattle.buffer_modes.specs.Queue.{admitted, behind, is_aborting, is_active_at_once}
 use Rattle.command_pool.specs.Waiting.{last_of}
 use Rattle.command_pool.specs.declared.kind.BlockKind.{BlockKind}
@@ -24,7 +24,7 @@ use Rattle.command_core.proofs.Holders.{owner_counts}
 
 -- whether an instance has the active command, and how many of its commands wait, a reset among them
 abbrev pub active_of : ℕ → Core → ℕ
-active_of k c = is_owner k (owner_by c.axis.active)
+active_of k c = owner_count k (owner_by c.axis.active)
 
 -- an instance's own command is active where it shows so
 pub not_at_once : (active : Option Wanted) (ws : List Wanted) (w : Wanted) (aborts : Bool) →
@@ -60,7 +60,7 @@ joined_active k w c false e own none =
       axis = axis_under w
           (core_with_queued w c).axis;
     } else core_with_queued w c)) e
-    ∙ ap (λ a. is_owner k (owner_by a))
+    ∙ ap (λ a. owner_count k (owner_by a))
     (not_at_once c.axis.active c.waiting w (is_aborting w.mode) refl e) ∙ none
 
 left_active : (k : ℕ) (w : Wanted) (c : Core) → active_of k (core_after_leaving w c) ≡ 0

@@ -1,7 +1,7 @@
 -- How many commands of an instance are active on a group, and how many wait: by each event of it.
 use Rattle.std.specs.Prelude.{◌≡◌, refl, ℕ, Bool, true, false, not, ◌&&◌, ℤ, if◌then◌else◌, Option, Some, None, Ok}
 use Rattle.std.proofs.Common.{ap, sym, ◌∙◌}
-use Rattle.buffer_modes.specs.Owners.{is_owner, owner_by}
+use Rattle.buffer_modes.specs.Owners.{owner_count, owner_by}
 use Rattle.buffer_modes.specs.Queue.{is_aborting, is_active_at_once}
 use Rattle.command_pool.specs.declared.kind.BlockKind.{BlockKind}
 use Rattle.command_pool.specs.declared.kind.BlockKind.TheVariants as kind
@@ -19,7 +19,7 @@ use Rattle.motion_kernel.specs.owners.Commands.{active_shown}
 use Rattle.motion_kernel.proofs.owners.active.AxisCounts.{not_at_once, active_by}
 
 abbrev pub group_active_of : ℕ → groups.Core → ℕ
-group_active_of k c = is_owner k (owner_by c.group.active)
+group_active_of k c = owner_count k (owner_by c.group.active)
 
 -- an instance's own command of a group is active where it shows so
 line_active : (k : ℕ) (members : GroupLook) (w : Wanted) (c : groups.Core) (waits once : Bool) →
@@ -34,7 +34,7 @@ line_active k members w c true true r o e n = nobody_brakes k c.group.active
 line_active k members w c true false r o e n = nobody_brakes k c.group.active
 line_active k members w c false true r o e n = owner_counts k w.owner e
 line_active k members w c false false r o e n =
-    ap (λ a. is_owner k (owner_by a))
+    ap (λ a. owner_count k (owner_by a))
     (not_at_once c.group.active c.waiting w (is_aborting w.mode) refl o) ∙ n
 
 group_own_admitted : (k : ℕ) (x : BlockKind) (members : GroupLook) (w : Wanted) (c : groups.Core)

@@ -6,7 +6,7 @@ use Rattle.std.proofs.lemmas.List.{get_or-set_same}
 use Rattle.axis_core.specs.Owners as axis
 use Rattle.axis_core.specs.Owners.{owner_brought}
 use Rattle.axis_core.specs.declared.reason.Reason as axis_reasons
-use Rattle.buffer_modes.specs.Owners.{is_owner}
+use Rattle.buffer_modes.specs.Owners.{owner_count}
 use Rattle.command_pool.specs.declared.kind.BlockKind.{BlockKind}
 use Rattle.command_pool.specs.declared.kind.BlockKind.TheVariants as kind
 use Rattle.command_pool.specs.declared.wanted.Wanted.{Wanted}
@@ -23,13 +23,13 @@ use Rattle.motion_kernel.proofs.owners.commands.Events.{ShownOf, beside_none, no
 
 -- a command that is asked of an axis
 pub other_brings : (j k : ℕ) (o : Option axis_reasons.Reason) (w : Wanted) → nat_eq k j ≡ false →
-    w.owner ≡ Some k → is_owner j (owner_brought o w) ≡ 0
+    w.owner ≡ Some k → owner_count j (owner_brought o w) ≡ 0
 other_brings j k None w d e = other_brings_by w.kind
   where
-    none : is_owner j w.owner ≡ 0
-    none = ap (is_owner j) e ∙ other_owner j k d
+    none : owner_count j w.owner ≡ 0
+    none = ap (owner_count j) e ∙ other_owner j k d
 
-    other_brings_by : (x : BlockKind) → is_owner j (axis.owner_brought_by x w) ≡ 0
+    other_brings_by : (x : BlockKind) → owner_count j (axis.owner_brought_by x w) ≡ 0
     other_brings_by kind.GearOut = nobody j
     other_brings_by kind.CamOut = nobody j
     other_brings_by _ = none
@@ -54,16 +54,16 @@ all_shown s k m own others j = elim (cases_Bool (nat_eq k j)) [
 ]
 
 pub other_brings_group : (j k : ℕ) (o : Option group_reasons.Reason) (w : Wanted) →
-    nat_eq k j ≡ false → w.owner ≡ Some k → is_owner j (group.brought o w) ≡ 0
+    nat_eq k j ≡ false → w.owner ≡ Some k → owner_count j (group.brought o w) ≡ 0
 other_brings_group j k None w d e = other_brings_by w.kind
   where
-    none : is_owner j w.owner ≡ 0
-    none = ap (is_owner j) e ∙ other_owner j k d
+    none : owner_count j w.owner ≡ 0
+    none = ap (owner_count j) e ∙ other_owner j k d
 
-    no_owner : is_owner j None ≡ 0
+    no_owner : owner_count j None ≡ 0
     no_owner = nobody j
 
-    other_brings_by : (x : BlockKind) → is_owner j (group.brought_by x w) ≡ 0
+    other_brings_by : (x : BlockKind) → owner_count j (group.brought_by x w) ≡ 0
     other_brings_by kind.GroupReset = none
     other_brings_by kind.GroupStop = none
     other_brings_by kind.GroupHalt = none

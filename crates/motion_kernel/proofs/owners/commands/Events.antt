@@ -4,7 +4,7 @@ use Rattle.std.proofs.Common.{arith, ap, sym, subst, ◌∙◌, inl, inr}
 use Rattle.std.proofs.lemmas.Bool.{and_parts, cases_Bool, cases_eq, eq-eqb, eqb-true}
 use Rattle.std.proofs.lemmas.List.{length-set}
 use Rattle.axis_core.specs.Cores as cores
-use Rattle.buffer_modes.specs.Owners.{told}
+use Rattle.buffer_modes.specs.Owners.{ends_given}
 use Rattle.command_pool.specs.declared.notes.Note.{Note}
 use Rattle.command_core.specs.Laws.{AreToldOnce, HaveCommands, HaveNoMore}
 use Rattle.fb_outputs.specs.InstanceState.{InstanceState}
@@ -72,18 +72,18 @@ ShownOf s k m = (o : Object) → IsThere m o →
     (if has_commands_on (slice_get s.blocks k) o then shown_by m.instances k else 0)
 
 -- what an event changes of an instance's commands: at one object, those that it has and those of
--- whose end it is told stay the same together
+-- of whose end it is notified stay the same together
 pub record Changes (k : ℕ) (m x : Machine) (o : Object) (ns : List Note) : Type 0 where
   pub there : IsThere m o
   pub as_many : (p : Object) → IsThere x p → IsThere m p
-  pub here : commands_at x k o + told k ns ≡ commands_at m k o
+  pub here : commands_at x k o + ends_given k ns ≡ commands_at m k o
   pub beside : (p : Object) → IsThere m p → is_same o p ≡ false →
       commands_at x k p ≡ commands_at m k p
   pub told : x.instances ≡ told_notes ns m.instances
 
--- one that is told nothing has its commands as before
+-- one that is given nothing has its commands as before
 pub untold_commands : (k : ℕ) (m x : Machine) (o : Object) (ns : List Note) → Changes k m x o ns →
-    told k ns ≡ 0 →
+    ends_given k ns ≡ 0 →
     (p : Object) → IsThere m p → commands_at x k p ≡ commands_at m k p
 untold_commands k m x o ns h none p there = elim (cases_Bool (is_same o p)) [
   | inl e ↦ subst (λ q. commands_at x k q ≡ commands_at m k q) (same_object o p e)
@@ -117,9 +117,9 @@ pub none_beside : (b : Bool) (n c : ℕ) → b ≡ false → c ≡ 0 → c ≡ (
 none_beside true n c e h = absurd (cc)
 none_beside false n c e h = h
 
--- one that is told has none any more
+-- one that is reported has none any more
 pub told_shown : (s : Setup) (k : ℕ) (m x : Machine) (o : Object) (ns : List Note) →
-    Changes k m x o ns → 0 < told k ns → ShownOf s k m → ShownOf s k x
+    Changes k m x o ns → 0 < ends_given k ns → ShownOf s k m → ShownOf s k x
 told_shown s k m x o ns h l shown p there =
     let b = slice_get s.blocks k in
     let was = shown o h.there in
@@ -142,7 +142,7 @@ told_shown s k m x o ns h l shown p there =
     ]
 
 pub untold_shown : (s : Setup) (k : ℕ) (m x : Machine) (o : Object) (ns : List Note) →
-    Changes k m x o ns → told k ns ≡ 0 → ShownOf s k m → ShownOf s k x
+    Changes k m x o ns → ends_given k ns ≡ 0 → ShownOf s k m → ShownOf s k x
 untold_shown s k m x o ns h e shown p there =
     let b = slice_get s.blocks k in
     let same : shown_by x.instances k ≡ shown_by m.instances k =
@@ -153,7 +153,7 @@ untold_shown s k m x o ns h e shown p there =
 
 pub event_shown : (s : Setup) (k : ℕ) (m x : Machine) (o : Object) (ns : List Note) →
     Changes k m x o ns → ShownOf s k m → ShownOf s k x
-event_shown s k m x o ns h shown = elim (cases_eq (told k ns) 0) [
+event_shown s k m x o ns h shown = elim (cases_eq (ends_given k ns) 0) [
   | inl e ↦ untold_shown s k m x o ns h e shown
   | inr d ↦ told_shown s k m x o ns h (omega arith) shown
 ]

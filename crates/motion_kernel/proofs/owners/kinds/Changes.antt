@@ -6,7 +6,7 @@ use Rattle.buffer_modes.specs.Owners.{active_without}
 use Rattle.buffer_modes.specs.Queue.{Commands, active_note, behind, is_aborting}
 use Rattle.command_core.specs.Brought.{BringNone, BringsNone}
 use Rattle.command_core.specs.Changes.{Change, joins, replaced, ends, awaits, resets, holds, all_changed, changed, taken_over, with_known}
-use Rattle.command_core.specs.Charge.{Charge, disowned}
+use Rattle.command_core.specs.CommandState.{CommandState, disowned}
 use Rattle.command_pool.specs.Waiting.{detached, without}
 use Rattle.command_pool.specs.declared.wanted.Wanted.{Wanted}
 use Rattle.motion_history.specs.Setup.{Setup}
@@ -80,11 +80,11 @@ module _ (s : Setup) where
   known_own None w h = h
   known_own (Some t) w h = h
 
-  taken_own : (t : Option ℤ) (ws : List Wanted) (c : Charge) → AllByRecursion (IsOfItsBlock s) ws → AreOfTheirBlocks s c → AreOfTheirBlocks s (taken_over t ws c)
+  taken_own : (t : Option ℤ) (ws : List Wanted) (c : CommandState) → AllByRecursion (IsOfItsBlock s) ws → AreOfTheirBlocks s c → AreOfTheirBlocks s (taken_over t ws c)
   taken_own t [] c h a = a
   taken_own t (w ∷ ws) c h a = record { active = some_own (with_known t w) (known_own t w h.0); waiting = h.1; reset = a.reset }
 
-  one_own : (x : Change) (c : Charge) → BringsOwn s x → AreOfTheirBlocks s c → AreOfTheirBlocks s (changed x c)
+  one_own : (x : Change) (c : CommandState) → BringsOwn s x → AreOfTheirBlocks s c → AreOfTheirBlocks s (changed x c)
   one_own (joins w) c h a =
       let q = joined_own (is_aborting w.mode) c.active c.waiting w a.active a.waiting h in
       record { active = q.first; waiting = q.rest; reset = a.reset }
@@ -96,7 +96,7 @@ module _ (s : Setup) where
   one_own resets c h a = record { active = a.active; waiting = a.waiting; reset = no_reset }
   one_own (holds stops) c h a = record { active = a.active; waiting = a.waiting; reset = a.reset }
 
-  pub all_own : (xs : List Change) (c : Charge) → BringOwn s xs → AreOfTheirBlocks s c → AreOfTheirBlocks s (all_changed xs c)
+  pub all_own : (xs : List Change) (c : CommandState) → BringOwn s xs → AreOfTheirBlocks s c → AreOfTheirBlocks s (all_changed xs c)
   all_own [] c h a = a
   all_own (x ∷ xs) c h a = all_own xs (changed x c) h.1 (one_own x c h.0 a)
 
@@ -120,7 +120,7 @@ module _ (s : Setup) where
   left_waiting gone [] h = tt
   left_waiting gone (w ∷ ws) h = (left_own gone w h.0, left_waiting gone ws h.1)
 
-  pub disowned_own : (gone : ℕ) (c : Charge) → AreOfTheirBlocks s c → AreOfTheirBlocks s (disowned gone c)
+  pub disowned_own : (gone : ℕ) (c : CommandState) → AreOfTheirBlocks s c → AreOfTheirBlocks s (disowned gone c)
   disowned_own gone c a = record {
     active = left_active gone c.active a.active;
     waiting = left_waiting gone c.waiting a.waiting;

@@ -1,4 +1,4 @@
--- One axis's owner after another is told.
+-- One axis's owner after another is notified.
 use Rattle.std.proofs.Common.{◌∙◌, sym, arith}
 use Rattle.std.proofs.lemmas.List.{get_or_default}
 use Rattle.motion_kernel.specs.cycles.Showing.{axis_shown}

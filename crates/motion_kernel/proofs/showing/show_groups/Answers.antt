@@ -1,4 +1,4 @@
--- One group's owner after another is told.
+-- One group's owner after another is notified.
 use Rattle.std.proofs.Common.{◌∙◌, ap, sym, arith, map}
 use Rattle.motion_kernel.specs.cycles.Showing.{group_shown}
 use Rattle.motion_kernel.specs.Seen.{placed}

@@ -1,7 +1,7 @@
 use Rattle.std.proofs.Common.{◌≡◌, take}
 use Rattle.motion_kernel.specs.kept.Machine.{IsSized}
 use Rattle.motion_kernel.specs.Seen.{machine_of}
-use Rattle.motion_kernel.proofs.cycles.Finders.{told_by}
+use Rattle.motion_kernel.proofs.cycles.Polled.{told_by}
 use Rattle.motion_kernel.proofs.showing.tell_all_found.Given as goal
 
 abbrev pub invariant-loop-instance : goal.invariant-loop-instance

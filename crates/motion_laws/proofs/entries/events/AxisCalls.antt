@@ -49,7 +49,7 @@ module _ (laws : AreAxisEvents) where
   led_goes false a = both (λ es (x : Axis). Lead a.state es x.state) (is_on_path a) _ _ (axis_on_path false a) a
       (λ e. laws.path false a) (λ e. refl)
 
-  -- every event of the axis is told
+  -- every event of the axis is reported
   events_said : (a : Axis) (ws : List Wanted) → IsSaid call_events IsWell a ws (λ es x us. Lead a.state es x.state)
   events_said a ws = record {
     rests = refl;

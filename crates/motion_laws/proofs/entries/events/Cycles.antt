@@ -83,7 +83,7 @@ groups_go laws s (suc n) m l =
       rest = λ k b. get_or-set_other x.groups n k g no_group (λ e. omega arith) ∙ so_far.rest k (omega arith);
     }
 
--- what the instances are told of a cycle's end leaves the groups
+-- what the instances are given of a cycle's end leaves the groups
 found_groups : (s : Setup) (m : Machine) → (with_found s m).groups ≡ m.groups
 unfolding with_found
 found_groups s m = refl

@@ -16,7 +16,7 @@ use Rattle.motion_laws.proofs.walk.GroupCalls.{IsSaid, said_by_call}
 use Rattle.state_events.specs.Group.{Lead, command_events}
 use Rattle.state_events.specs.Laws.{AreGroupEvents}
 
--- every event of the group is told
+-- every event of the group is reported
 events_said : AreGroupEvents → (c : Core) → IsSaid call_events c (λ es x. Lead c.group.state es x.group.state)
 events_said laws c = record {
   rests = refl;

@@ -1,4 +1,4 @@
--- An axis has the error that its cycle tells.
+-- An axis has the error that its cycle gives.
 use Rattle.std.specs.Prelude.{◌≡◌, ◌≢◌, ◌⊎◌, refl, ℕ, Bool, true, false, ◌&&◌, nat_eq, if◌then◌else◌, ℤ, ◌+ℤ◌, Option, Some, None, List, [], ◌∷◌, slice_get}
 use Rattle.std.proofs.Common.{ap, subst, sym, ◌∙◌, inl, inr}
 use Rattle.std.proofs.lemmas.Bool.{cases_Bool}
@@ -18,13 +18,13 @@ use Rattle.axis_state.specs.States.{is_error_stop, is_stopping}
 use Rattle.axis_state.specs.declared.diagram.AxisEvent.TheVariants.{StopReleased}
 use Rattle.axis_state.specs.declared.state.AxisState.{AxisState}
 use Rattle.axis_state.specs.declared.state.AxisState.TheVariants as state
-use Rattle.buffer_modes.specs.Owners.{is_owner, owner_by}
+use Rattle.buffer_modes.specs.Owners.{owner_count, owner_by}
 use Rattle.buffer_modes.specs.Queue.{active_note, end_notes}
 use Rattle.buffer_modes.specs.declared.reset.PendingReset.{PendingReset}
 use Rattle.cia402_machine.specs.declared.drive.DriveIn.{DriveIn}
 use Rattle.command_changes.proofs.axis.Cycles.{advance_stays}
-use Rattle.command_changes.specs.Axis.{charge_of}
-use Rattle.command_core.specs.Charge.{Charge}
+use Rattle.command_changes.specs.Axis.{command_state_of}
+use Rattle.command_core.specs.CommandState.{CommandState}
 use Rattle.command_pool.specs.Waiting.{told_to}
 use Rattle.command_pool.specs.declared.ending.Finish.{Finish}
 use Rattle.command_pool.specs.declared.ending.Finish.TheVariants as finish
@@ -36,16 +36,16 @@ use Rattle.motion_numbers.specs.Ranges.{is_outside}
 use Rattle.motion_laws.specs.entries.Numbers.{MayFail, waits_first}
 use Rattle.motion_laws.proofs.entries.numbers.Notes.{AllTell, IsPlain, Nothing, Shows, aborts_plain, active_plain, all_told, done_plain, more, plain, untold, weaker}
 
--- each error that is told is the axis's
-abbrev Tells : Charge → Core → Type 0
+-- each error that is reported is the axis's
+abbrev Tells : CommandState → Core → Type 0
 Tells c d = AllTell (Shows c d.axis.error) d.notes
 
 none_told : (P : ℕ → ℕ → Type 0) (c : Core) → c.notes ≡ [] → AllTell P c.notes
 none_told P c e = untold P c.notes e
 
 -- all commands end by an error
-failed_tells : (n : ℕ) (c : Charge) (d : Core) → AllTell (Shows c n) d.notes →
-    ((k : ℕ) → is_owner k (owner_by d.axis.active) ≡ 1 → MayFail k c n) →
+failed_tells : (n : ℕ) (c : CommandState) (d : Core) → AllTell (Shows c n) d.notes →
+    ((k : ℕ) → owner_count k (owner_by d.axis.active) ≡ 1 → MayFail k c n) →
     Tells c (core_after_error n d)
 unfolding core_after_error
 failed_tells n c d h may =
@@ -55,19 +55,19 @@ failed_tells n c d h may =
     (λ k e. (may k e, refl)))
 
 answered_tells : (input : DriveIn) (d : Core) → d.notes ≡ [] →
-    Tells (charge_of d) (core_after_answer input d)
+    Tells (command_state_of d) (core_after_answer input d)
 answered_tells input d e =
     let n = answer_error_of d.axis input in
-    by_if (Tells (charge_of d)) (nat_eq n 0) d (core_after_error n d)
-    (none_told (Shows (charge_of d) d.axis.error) d e)
-    (failed_tells n (charge_of d) d (none_told (Shows (charge_of d) n) d e) (λ k h. inl h))
+    by_if (Tells (command_state_of d)) (nat_eq n 0) d (core_after_error n d)
+    (none_told (Shows (command_state_of d) d.axis.error) d e)
+    (failed_tells n (command_state_of d) d (none_told (Shows (command_state_of d) n) d e) (λ k h. inl h))
 
 -- the active command ends, and the first that waits takes over
 from_nothing : (P : ℕ → ℕ → Type 0) (d : Core) → AllTell Nothing d.notes → AllTell P d.notes
 from_nothing P d h = weaker Nothing P d.notes (λ k x n. absurd n) h
 
-taken_tells : (x : BlockKind) (t : Option ℤ) (w : Wanted) (c : Charge) (d : Core) →
-    ((k : ℕ) → is_owner k w.owner ≡ 1 → waits_first k c.waiting ≡ 1) → AllTell Nothing d.notes →
+taken_tells : (x : BlockKind) (t : Option ℤ) (w : Wanted) (c : CommandState) (d : Core) →
+    ((k : ℕ) → owner_count k w.owner ≡ 1 → waits_first k c.waiting ≡ 1) → AllTell Nothing d.notes →
     Tells c (core_taken_by x t w d)
 unfolding axis_under_by
 taken_tells kind.MoveRelative None w c d first h =
@@ -81,7 +81,7 @@ taken_tells kind.MoveRelative None w c d first h =
 taken_tells kind.MoveRelative (Some t) w c d first h = from_nothing (Shows c d.axis.error) d h
 taken_tells _ t w c d first h = from_nothing (Shows c d.axis.error) d h
 
-over_tells : (ws : List Wanted) (c : Charge) (d : Core) → c.waiting ≡ ws →
+over_tells : (ws : List Wanted) (c : CommandState) (d : Core) → c.waiting ≡ ws →
     AllTell Nothing d.notes → Tells c (core_after_take_over ws d)
 over_tells [] c d e h = from_nothing (Shows c d.axis.error) d h
 over_tells (w ∷ ws) c d e h =
@@ -89,18 +89,18 @@ over_tells (w ∷ ws) c d e h =
     (λ k own. ap (waits_first k) e ∙ own) h
 
 ended_tells : (f : Finish) (d : Core) → IsPlain f → d.notes ≡ [] →
-    Tells (charge_of d) (core_after_end f d)
+    Tells (command_state_of d) (core_after_end f d)
 unfolding core_after_end
 ended_tells f d p e =
-    over_tells d.waiting (charge_of d) _ refl
+    over_tells d.waiting (command_state_of d) _ refl
     (more Nothing d.notes (active_note f d.axis.active) (none_told Nothing d e)
     (active_plain Nothing d.axis.active f p))
 
 ending_tells : (o : Option Finish) (d : Core) → d.notes ≡ [] →
-    Tells (charge_of d) (core_after_ending o d)
-ending_tells None d e = none_told (Shows (charge_of d) d.axis.error) d e
+    Tells (command_state_of d) (core_after_ending o d)
+ending_tells None d e = none_told (Shows (command_state_of d) d.axis.error) d e
 ending_tells (Some (finish.Error n)) d e =
-    failed_tells n (charge_of d) d (none_told (Shows (charge_of d) n) d e) (λ k h. inl h)
+    failed_tells n (command_state_of d) d (none_told (Shows (command_state_of d) n) d e) (λ k h. inl h)
 ending_tells (Some finish.Done) d e = ended_tells finish.Done d done_plain e
 ending_tells (Some finish.Aborted) d e = ended_tells finish.Aborted d aborts_plain e
 
@@ -112,22 +112,22 @@ stop_reset : (look : AxisLook) (a : Axis) → (axis_after_stop look a).reset ≡
 stop_reset look a = by_if (λ (x : Axis). x.reset ≡ a.reset) (leaves_stopping look a) _ a refl refl
 
 going_tells : (look : AxisLook) (d : Core) → d.notes ≡ [] →
-    Tells (charge_of d) (core_after_going_on look d)
+    Tells (command_state_of d) (core_after_going_on look d)
 going_tells look d e =
     let step = advance_in_cycle (slice_get d.waiting 0) look d.axis in
     let x = core_after_advance look d in
-    let told : Tells (charge_of d) x =
+    let told : Tells (command_state_of d) x =
     subst (λ c. Tells c x) (advance_stays (slice_get d.waiting 0) look d)
     (ending_tells step.ending (record d { axis = step.axis }) e) in
-    subst (λ n. AllTell (Shows (charge_of d) n) x.notes) (sym (stop_error look x.axis)) told
+    subst (λ n. AllTell (Shows (command_state_of d) n) x.notes) (sym (stop_error look x.axis)) told
 
 step_tells : (look : AxisLook) (driven : Bool) (d : Core) → d.notes ≡ [] →
-    Tells (charge_of d) (core_after_step look driven d)
+    Tells (command_state_of d) (core_after_step look driven d)
 step_tells look driven d e =
-    by_if (Tells (charge_of d)) (driven && d.axis.driven) _ _ (going_tells look d e)
-    (none_told (Shows (charge_of d) d.axis.error) d e)
+    by_if (Tells (command_state_of d)) (driven && d.axis.driven) _ _ (going_tells look d e)
+    (none_told (Shows (command_state_of d) d.axis.error) d e)
 
--- a step of an axis in ErrorStop tells nothing, and leaves the error
+-- a step of an axis in ErrorStop gives nothing, and leaves the error
 record IsStill (d x : Core) : Type 0 where
   notes : x.notes ≡ d.notes
   error : x.axis.error ≡ d.axis.error
@@ -183,22 +183,22 @@ step_still look driven d h =
     })
 
 -- after the answer and the step
-still_tells : (c : Charge) (d x : Core) → IsStill d x → Tells c d → Tells c x
+still_tells : (c : CommandState) (d x : Core) → IsStill d x → Tells c d → Tells c x
 still_tells c d x still h =
     subst (λ n. AllTell (Shows c n) x.notes) (sym still.error)
     (subst (AllTell (Shows c d.axis.error)) (sym still.notes) h)
 
 stepped_tells : (look : AxisLook) (driven : Bool) (d : Core) → d.notes ≡ [] →
-    Tells (charge_of d) (core_after_step look driven (core_after_answer look.input d))
+    Tells (command_state_of d) (core_after_step look driven (core_after_answer look.input d))
 unfolding core_after_error
 stepped_tells look driven d e =
     let n = answer_error_of d.axis look.input in
     let failed = core_after_error n d in
-    by_if (λ y. Tells (charge_of d) (core_after_step look driven y)) (nat_eq n 0) d failed
+    by_if (λ y. Tells (command_state_of d) (core_after_step look driven y)) (nat_eq n 0) d failed
     (step_tells look driven d e)
-    (still_tells (charge_of d) failed (core_after_step look driven failed)
+    (still_tells (command_state_of d) failed (core_after_step look driven failed)
     (step_still look driven failed refl)
-    (failed_tells n (charge_of d) d (none_told (Shows (charge_of d) n) d e) (λ k h. inl h)))
+    (failed_tells n (command_state_of d) d (none_told (Shows (command_state_of d) n) d e) (λ k h. inl h)))
 
 -- a Reset leaves the error, or ErrorStop
 abbrev pub KeepsError : Axis → Axis → Type 0
@@ -230,24 +230,24 @@ reset_plain P (Some p) input a =
     by_if (AllTell P) (may_reset input a) (told_to p.owner finish.Done) []
     (plain P p.owner finish.Done done_plain) tt
 
--- an error that is told in a cycle
-abbrev pub IsTold : Charge → Axis → ℕ → ℕ → Type 0
+-- an error that is reported in a cycle
+abbrev pub IsTold : CommandState → Axis → ℕ → ℕ → Type 0
 IsTold c a k x = MayFail k c x × ((a.error ≡ x) ⊎ (is_error_stop a.state ≡ false))
 
-then_told : (c : Charge) (a x : Axis) → KeepsError a x → (k n : ℕ) → Shows c a.error k n →
+then_told : (c : CommandState) (a x : Axis) → KeepsError a x → (k n : ℕ) → Shows c a.error k n →
     IsTold c x k n
 then_told c a x keeps k n h = (h.0, elim keeps [ inl e ↦ inl (e ∙ h.1) | inr e ↦ inr e ])
 
 pub cycle_told : (look : AxisLook) (d : Core) → d.notes ≡ [] →
-    AllTell (IsTold (charge_of d) (core_after_cycle look d).axis) (core_after_cycle look d).notes
+    AllTell (IsTold (command_state_of d) (core_after_cycle look d).axis) (core_after_cycle look d).notes
 unfolding core_after_cycle
 cycle_told look d e =
     let x = core_after_step look (is_driven d.axis look.input) (core_after_answer look.input d) in
     let now = reset_axis x.axis.reset look.input x.axis in
-    let P = IsTold (charge_of d) now in
+    let P = IsTold (command_state_of d) now in
     more P x.notes (reset_notes x.axis.reset look.input x.axis)
-    (weaker (Shows (charge_of d) x.axis.error) P x.notes
-    (then_told (charge_of d) x.axis now (reset_keeps x.axis.reset look.input x.axis))
+    (weaker (Shows (command_state_of d) x.axis.error) P x.notes
+    (then_told (command_state_of d) x.axis now (reset_keeps x.axis.reset look.input x.axis))
     (stepped_tells look (is_driven d.axis look.input) d e))
     (reset_plain P x.axis.reset look.input x.axis)
 

@@ -1,4 +1,4 @@
--- Errors are told as they are shown in a call.
+-- Errors are reported as they are shown in a call.
 use Rattle.std.specs.Prelude.{◌≡◌, ◌⊎◌, refl, ℕ, ◌<◌, Bool, true, false, Option, Some, None, List, [], length, slice_get}
 use Rattle.std.proofs.Common.{arith, ap, sym, subst, ◌∙◌, inl, inr}
 use Rattle.axis_core.specs.Calls.{axis_without_owner, core_after_admission, core_after_command, core_after_joining, core_after_power, core_after_verdict, core_with_queued}
@@ -16,7 +16,7 @@ use Rattle.axis_core.specs.Calls.{queue_in}
 use Rattle.command_changes.specs.Failing.{failing}
 use Rattle.command_changes.specs.Group.{power_off_changes}
 use Rattle.command_core.specs.Changes.{Change, all_changed}
-use Rattle.command_core.specs.Charge.{Charge, queue_of}
+use Rattle.command_core.specs.CommandState.{CommandState, queue_of}
 use Rattle.command_pool.specs.Waiting as waiting
 use Rattle.command_pool.specs.Waiting.{last_of}
 use Rattle.command_pool.specs.declared.ending.Finish.TheVariants as finish
@@ -43,7 +43,7 @@ use Rattle.motion_kernel.specs.calls.Requests.{machine_asked, request_of}
 use Rattle.motion_laws.specs.entries.Numbers.{TellsErrors}
 use Rattle.motion_kernel.specs.owners.Objects.{a_group, an_axis}
 use Rattle.motion_laws.specs.results.Effects.{changes_by_request, effect_by_request, group_changes}
-use Rattle.motion_kernel.specs.owners.Blocks.{charge_at}
+use Rattle.motion_kernel.specs.owners.Blocks.{command_state_at}
 use Rattle.motion_laws.specs.results.Outcomes.{end_of_command}
 use Rattle.motion_laws.proofs.entries.numbers.Groups.{KeepsError, command_keeps, off_same}
 use Rattle.motion_laws.proofs.entries.numbers.Notes.{AllTell, Nothing, Shows, all_told, more, told_in, untold}
@@ -118,15 +118,15 @@ axis_error s m k i n h l =
     (axis_said (axis_at m n) (waiting.queue_of m.queues n))
     (record { axis = omega arith; list = omega arith }) (λ b at other off same. tt)
 
--- and tells none of its commands an error
+-- and gives none of its commands an error
 axis_quiet : (s : Setup) (m : Machine) (k : ℕ) (i : Inputs) (reply : Outputs) (n j error : ℕ) →
     end_of_command s m (call k i reply) j (an_axis n) ≡ Some (finish.Error error) → ⊥
 axis_quiet s m k i reply n j error e =
     let r = request_of (slice_get s.blocks k) k i m in
     let x = machine_asked r k i m in
     told_in Nothing j error _ (none_told Nothing (changes_by_request s r k i x (an_axis n))
-    (charge_at x (an_axis n)) (axis_none (on_axis.by_request s r k i x n) (axis_core_at x n))
-    (untold Nothing (charge_at x (an_axis n)).notes (nothing_told x (an_axis n)))) e
+    (command_state_at x (an_axis n)) (axis_none (on_axis.by_request s r k i x n) (axis_core_at x n))
+    (untold Nothing (command_state_at x (an_axis n)).notes (nothing_told x (an_axis n)))) e
 
 pub axis_called : (s : Setup) (m : Machine) (k : ℕ) (i : Inputs) (reply : Outputs) (n : ℕ) →
     IsMachineKept s m → n < length m.axes → TellsErrors s m (call k i reply) (an_axis n)
@@ -186,8 +186,8 @@ says laws s m k i j whole made h l =
     (group_said (group_core_at m j)) (record { group = omega arith; list = omega arith })
     (λ b at. laws.may_call s k b i m whole at made h) h
 
--- so it has the error that it tells
-failing_told : (n : ℕ) (c : Charge) → c.notes ≡ [] →
+-- so it has the error that it gives
+failing_told : (n : ℕ) (c : CommandState) → c.notes ≡ [] →
     AllTell (Shows c n) (all_changed (failing n) c).notes
 failing_told n c e =
     more (Shows c n) c.notes (end_notes (finish.Error n) (queue_of c))
@@ -197,7 +197,7 @@ failing_told n c e =
 group_told : WalkLaws → (s : Setup) (m : Machine) (k : ℕ) (i : Inputs) (reply : Outputs)
     (j owner error : ℕ) → AreWhole s → IsCall s k i → IsMachineKept s m → j < length m.groups →
     end_of_command s m (call k i reply) owner (a_group j) ≡ Some (finish.Error error) →
-    Shows (charge_at m (a_group j)) (group_at (after_call s m k i) j).group.error owner error
+    Shows (command_state_at m (a_group j)) (group_at (after_call s m k i) j).group.error owner error
 group_told laws s m k i reply j owner error whole made h l e =
     let r = request_of (slice_get s.blocks k) k i m in
     let x = effect_by_request s r k i m (a_group j) in
@@ -208,7 +208,7 @@ group_told laws s m k i reply j owner error whole made h l e =
           (untold Nothing x.commands.notes
           (nothing_told (machine_asked r k i m) (a_group j)))) e)
       | inr fails ↦
-          let c = charge_at m (a_group j) in
+          let c = command_state_at m (a_group j) in
           let told : AllTell (Shows c 102) (all_changed x.changes x.commands).notes =
           subst (λ xs. AllTell (Shows c 102) (all_changed xs x.commands).notes) (sym fails.changes)
           (subst (λ d. AllTell (Shows c 102) (all_changed (failing 102) d).notes)

@@ -1,4 +1,4 @@
--- Errors are told as they are shown in a cycle.
+-- Errors are reported as they are shown in a cycle.
 use Rattle.std.specs.Prelude.{◌≡◌, ◌≢◌, ◌⊎◌, refl, ℕ, zero, suc, ◌<◌, ◌≤◌, true, false, nat_eq, if◌then◌else◌, is_some, None, List, [], ◌∷◌, length, slice_set}
 use Rattle.std.proofs.Common.{arith, ap, sym, subst, ◌∙◌, inl, inr}
 use Rattle.std.proofs.lemmas.Bool.{cases_Bool, cases_eq}
@@ -11,7 +11,7 @@ use Rattle.cia402_machine.specs.declared.drive.DriveIn.{DriveIn}
 use Rattle.command_changes.specs.Axis as axis
 use Rattle.command_changes.specs.Group as group
 use Rattle.command_core.specs.Changes.{all_changed}
-use Rattle.command_core.specs.Charge.{Charge}
+use Rattle.command_core.specs.CommandState.{CommandState}
 use Rattle.group_core.specs.Cores.{Core}
 use Rattle.group_core.specs.Cycles.{cycled}
 use Rattle.group_core.specs.declared.group.Group.{Group}
@@ -51,11 +51,11 @@ axis_cycled laws s m c rows grows n h l =
     let core = axis_core_at m n in
     let goes = goes_through s m ins n h (laws.machines.may_go_on s m ins h) l in
     let changes = laws.axis in
-    let P : Axis → ℕ → ℕ → Type 0 = axes.IsTold (axis.charge_of core) in
+    let P : Axis → ℕ → ℕ → Type 0 = axes.IsTold (axis.command_state_of core) in
     let after = axis_at (after_cycle s m ins) n in
     let told : AllTell (P after)
-    (all_changed (axis.cycle_changes look core) (axis.charge_of core)).notes =
-    subst (AllTell (P after)) (ap (λ (d : Charge). d.notes) (changes.cycle look core))
+    (all_changed (axis.cycle_changes look core) (axis.command_state_of core)).notes =
+    subst (AllTell (P after)) (ap (λ (d : CommandState). d.notes) (changes.cycle look core))
     (subst (λ a. AllTell (P a) (core_after_cycle look core).notes) (sym goes.after)
     (axes.cycle_told look core refl)) in
     record {
@@ -220,14 +220,14 @@ group_cycled laws s m c rows grows j h l =
     let ins = inputs_of rows in
     let look = look_of_group s m ins j in
     let core = group_core_at m j in
-    let charge = group.charge_of core in
+    let command_state = group.command_state_of core in
     let changes = laws.group in
     let left = group_kept s m ins j h l in
     let keeps = left.error in
-    let P = Shows charge (cycled look core).group.error in
+    let P = Shows command_state (cycled look core).group.error in
     let told = resets_plain P (group.cycle_changes look core)
-    (group_core_at (moved_in s m ins) j) charge
-    (subst (AllTell P) (ap (λ (d : Charge). d.notes) (changes.cycle look core))
+    (group_core_at (moved_in s m ins) j) command_state
+    (subst (AllTell P) (ap (λ (d : CommandState). d.notes) (changes.cycle look core))
     (cycle_tells look core refl)) in
     record {
       shown = λ k error e.

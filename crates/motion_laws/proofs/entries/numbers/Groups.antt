@@ -1,4 +1,4 @@
--- A group has the error that its cycle tells.
+-- A group has the error that its cycle gives.
 use Rattle.std.specs.Prelude.{◌≡◌, ◌⊎◌, refl, ℕ, Bool, true, false, not, ◌&&◌, nat_eq, if◌then◌else◌, ℤ, pos, Option, Some, None, is_some, List, [], ◌∷◌, ◌++◌}
 use Rattle.std.specs.List.{list_any}
 use Rattle.std.specs.Ordering.{int_eq}
@@ -6,9 +6,9 @@ use Rattle.std.proofs.Common.{ap, subst, sym, ◌∙◌, inl, inr}
 use Rattle.std.proofs.lemmas.Bool.{cases_Bool}
 use Rattle.buffer_modes.specs.Queue.{active_note, end_notes, is_active_at_once}
 use Rattle.buffer_modes.specs.declared.reset.PendingReset.{PendingReset}
-use Rattle.command_changes.specs.Group.{charge_of, reset_changes, reset_changes_by}
+use Rattle.command_changes.specs.Group.{command_state_of, reset_changes, reset_changes_by}
 use Rattle.command_core.specs.Changes.{Change, all_changed, changed, resets}
-use Rattle.command_core.specs.Charge.{Charge}
+use Rattle.command_core.specs.CommandState.{CommandState}
 use Rattle.command_pool.specs.Waiting.{told_to}
 use Rattle.command_pool.specs.declared.ending.Finish.{Finish}
 use Rattle.command_pool.specs.declared.ending.Finish.TheVariants as finish
@@ -34,15 +34,15 @@ use Rattle.group_state.specs.declared.state.GroupState.TheVariants as state
 use Rattle.motion_kernel.proofs.Sizes.{by_if}
 use Rattle.motion_laws.proofs.entries.numbers.Notes.{AllTell, Nothing, Shows, active_plain, all_told, done_plain, more, plain, untold, weaker}
 
--- each error that is told is the group's
-abbrev Tells : Charge → Core → Type 0
+-- each error that is reported is the group's
+abbrev Tells : CommandState → Core → Type 0
 Tells c d = AllTell (Shows c d.group.error) d.notes
 
 -- all commands end by an error of a member
-failed_tells : (n : ℕ) (d : Core) → d.notes ≡ [] → Tells (charge_of d) (failed n d)
+failed_tells : (n : ℕ) (d : Core) → d.notes ≡ [] → Tells (command_state_of d) (failed n d)
 unfolding failed
 failed_tells n d e =
-    let c = charge_of d in
+    let c = command_state_of d in
     more (Shows c n) d.notes
     (end_notes (finish.Error n) (record { active = d.group.active; waiting = d.waiting }))
     (untold (Shows c n) d.notes e)
@@ -71,7 +71,7 @@ path_done g (Some p) =
     by_if (λ (x : Advance). OnlyDone x.ending) (is_error_stop g.state) _ _ tt
     (with_done g.active p.motion)
 
-over_tells : (members : GroupLook) (places : List ℤ) (ws : List Wanted) (c : Charge) (d : Core) →
+over_tells : (members : GroupLook) (places : List ℤ) (ws : List Wanted) (c : CommandState) (d : Core) →
     AllTell Nothing d.notes → Tells c (taken_over members places ws d)
 over_tells members places [] c d h =
     weaker Nothing (Shows c d.group.error) d.notes (λ k x n. absurd n) h
@@ -79,18 +79,18 @@ over_tells members places (w ∷ ws) c d h =
     weaker Nothing (Shows c d.group.error) d.notes (λ k x n. absurd n) h
 
 ended_tells : (members : GroupLook) (places : List ℤ) (o : Option Finish) (d : Core) →
-    OnlyDone o → d.notes ≡ [] → Tells (charge_of d) (ended_by members places o d)
+    OnlyDone o → d.notes ≡ [] → Tells (command_state_of d) (ended_by members places o d)
 unfolding ended
-ended_tells members places None d only e = untold (Shows (charge_of d) d.group.error) d.notes e
+ended_tells members places None d only e = untold (Shows (command_state_of d) d.group.error) d.notes e
 ended_tells members places (Some finish.Done) d only e =
-    over_tells members places d.waiting (charge_of d) _
+    over_tells members places d.waiting (command_state_of d) _
     (more Nothing d.notes (active_note finish.Done d.group.active) (untold Nothing d.notes e)
     (active_plain Nothing d.group.active finish.Done done_plain))
 ended_tells members places (Some finish.Aborted) d only e = absurd only
 ended_tells members places (Some (finish.Error n)) d only e = absurd only
 
 moved_tells : (members : GroupLook) (d : Core) → d.notes ≡ [] →
-    Tells (charge_of d) (moved members d)
+    Tells (command_state_of d) (moved members d)
 moved_tells members d e =
     let path = path_after d.group d.path in
     ended_tells members (places_at path members.setpoints) (ending_of d.group d.path)
@@ -121,26 +121,26 @@ released_error : (held : Bool) (g : Group) (p : Option OnPath) →
 released_error held g p =
     by_if (λ (x : Group). x.error ≡ g.error) (leaves_stopping held g p) _ g refl refl
 
-then_tells : (held : Bool) (c : Charge) (d : Core) → Tells c d →
+then_tells : (held : Bool) (c : CommandState) (d : Core) → Tells c d →
     Tells c (over_at_rest (released held d))
 then_tells held c d h =
     subst (λ n. AllTell (Shows c n) d.notes) (sym (released_error held d.group d.path)) h
 
 stepped_tells : (members : GroupLook) (d : Core) → d.notes ≡ [] →
-    Tells (charge_of d) (moved members (answered members.error d))
+    Tells (command_state_of d) (moved members (answered members.error d))
 unfolding failed
 stepped_tells members d e =
     let x = failed members.error d in
-    by_if (λ y. Tells (charge_of d) (moved members y))
+    by_if (λ y. Tells (command_state_of d) (moved members y))
     (not (nat_eq members.error 0) && may_fail d.group.state) x d
-    (subst (Tells (charge_of d)) (sym (moved_still members x refl))
+    (subst (Tells (command_state_of d)) (sym (moved_still members x refl))
     (failed_tells members.error d e)) (moved_tells members d e)
 
 pub cycle_tells : (members : GroupLook) (d : Core) → d.notes ≡ [] →
-    AllTell (Shows (charge_of d) (cycled members d).group.error) (cycled members d).notes
+    AllTell (Shows (command_state_of d) (cycled members d).group.error) (cycled members d).notes
 unfolding cycled
 cycle_tells members d e =
-    then_tells members.stop_held (charge_of d) (moved members (answered members.error d))
+    then_tells members.stop_held (command_state_of d) (moved members (answered members.error d))
     (stepped_tells members d e)
 
 -- in GroupErrorStop a cycle leaves the error
@@ -186,15 +186,15 @@ reset_keeps members on_path g = by g.reset
         by_if (KeepsError g) (may_reset on_path g) (after_reset (states_in members) g) g
         (inr (reset_leaves (list_any is_moved (states_in members)) g.state)) (inl refl)
 
--- and tells no error
-reset_plain : (P : ℕ → ℕ → Type 0) (o : Option PendingReset) (on : Bool) (g : Group) (c : Charge) →
+-- and gives no error
+reset_plain : (P : ℕ → ℕ → Type 0) (o : Option PendingReset) (on : Bool) (g : Group) (c : CommandState) →
     AllTell P c.notes → AllTell P (all_changed (reset_changes_by o on g) c).notes
 reset_plain P None on g c h = h
 reset_plain P (Some r) on g c h =
     by_if (λ xs. AllTell P (all_changed xs c).notes) (may_reset on g) (resets ∷ []) []
     (more P c.notes (told_to c.reset finish.Done) h (plain P c.reset finish.Done done_plain)) h
 
-pub resets_plain : (P : ℕ → ℕ → Type 0) (xs : List Change) (d : Core) (c : Charge) →
+pub resets_plain : (P : ℕ → ℕ → Type 0) (xs : List Change) (d : Core) (c : CommandState) →
     AllTell P (all_changed xs c).notes → AllTell P (all_changed (xs ++ reset_changes d) c).notes
 unfolding reset_changes
 resets_plain P [] d c h = reset_plain P d.group.reset (is_some d.path) d.group c h

@@ -1,4 +1,4 @@
--- Errors are told as they are shown, in every entry of a past.
+-- Errors are reported as they are shown, in every entry of a past.
 use Rattle.std.specs.Prelude.{refl, List, ◌∷◌, ◌++◌}
 use Rattle.std.proofs.Common.{arith}
 use Rattle.motion_history.specs.Entries.{Entry, call, cycle, end_of}

@@ -1,12 +1,12 @@
--- Which errors some notes tell.
+-- Which errors some notes report.
 use Rattle.std.specs.Prelude.{◌≡◌, ◌≢◌, refl, ℕ, nat_eq, if◌then◌else◌, Option, Some, None, List, [], ◌∷◌, ◌++◌}
 use Rattle.std.specs.List.{AllByRecursion}
 use Rattle.std.proofs.Common.{ap, subst, sym, ◌∙◌, inl, inr}
 use Rattle.std.proofs.lemmas.Bool.{cases_Bool, eq-eqb, eqb-true}
-use Rattle.buffer_modes.specs.Owners.{is_owner, owner_by}
+use Rattle.buffer_modes.specs.Owners.{owner_count, owner_by}
 use Rattle.buffer_modes.specs.Queue.{Commands, active_note, end_notes}
 use Rattle.command_core.proofs.Ends.{own_note}
-use Rattle.command_core.specs.Charge.{Charge}
+use Rattle.command_core.specs.CommandState.{CommandState}
 use Rattle.command_core.specs.Ends.{end_among}
 use Rattle.command_pool.specs.Waiting.{notes_of, told_to}
 use Rattle.command_pool.specs.declared.ending.Finish.{Finish}
@@ -20,10 +20,10 @@ abbrev pub Nothing : ℕ → ℕ → Type 0
 Nothing k x = ⊥
 
 -- an error that the commands may end by, and that is this one
-abbrev pub Shows : Charge → ℕ → ℕ → ℕ → Type 0
+abbrev pub Shows : CommandState → ℕ → ℕ → ℕ → Type 0
 Shows c error k x = MayFail k c x × (error ≡ x)
 
--- each error that some notes tell is one of these, by owner and number
+-- each error that some notes report is one of these, by owner and number
 abbrev pub AllTell : (ℕ → ℕ → Type 0) → List Note → Type 0
 AllTell P ns = AllByRecursion (λ (n : Note). (x : ℕ) → n.finish ≡ finish.Error x → P n.owner x) ns
 
@@ -87,21 +87,21 @@ all_plain P c f h =
     more P (active_note f c.active) (notes_of finish.Aborted c.waiting)
     (active_plain P c.active f h) (waiting_plain P c.waiting)
 
--- the owner of the active command is told the error, and those that wait none
-owner_told : (P : ℕ → ℕ → Type 0) (n : ℕ) (o : Option ℕ) → ((k : ℕ) → is_owner k o ≡ 1 → P k n) →
+-- the owner of the active command is given the error, and those that wait none
+owner_told : (P : ℕ → ℕ → Type 0) (n : ℕ) (o : Option ℕ) → ((k : ℕ) → owner_count k o ≡ 1 → P k n) →
     AllTell P (told_to o (finish.Error n))
 owner_told P n None h = tt
 owner_told P n (Some k) h =
     ((λ x e. subst (P k) (same_number n x e) (h k (own_note k k (eq-eqb k k refl)))), tt)
 
 active_told : (P : ℕ → ℕ → Type 0) (n : ℕ) (active : Option Wanted) →
-    ((k : ℕ) → is_owner k (owner_by active) ≡ 1 → P k n) →
+    ((k : ℕ) → owner_count k (owner_by active) ≡ 1 → P k n) →
     AllTell P (active_note (finish.Error n) active)
 active_told P n None h = tt
 active_told P n (Some w) h = owner_told P n w.owner h
 
 pub all_told : (P : ℕ → ℕ → Type 0) (n : ℕ) (c : Commands) →
-    ((k : ℕ) → is_owner k (owner_by c.active) ≡ 1 → P k n) →
+    ((k : ℕ) → owner_count k (owner_by c.active) ≡ 1 → P k n) →
     AllTell P (end_notes (finish.Error n) c)
 all_told P n c h =
     more P (active_note (finish.Error n) c.active) (notes_of finish.Aborted c.waiting)

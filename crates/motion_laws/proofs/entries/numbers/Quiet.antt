@@ -1,4 +1,4 @@
--- Which calls tell no error.
+-- Which calls give no error.
 use Rattle.std.specs.Prelude.{◌≡◌, ◌⊎◌, refl, ℕ, Bool, true, false, nat_eq, ℤ, Option, Some, None, List, [], ◌∷◌}
 use Rattle.std.proofs.Common.{inl, inr}
 use Rattle.axis_core.specs.Calls as axis_calls
@@ -13,7 +13,7 @@ use Rattle.command_changes.specs.Axis as axis
 use Rattle.command_changes.specs.Failing.{failing}
 use Rattle.command_changes.specs.Group as group
 use Rattle.command_core.specs.Changes.{Change, all_changed, awaits, changed, ends, holds, joins, replaced, resets}
-use Rattle.command_core.specs.Charge.{Charge, queue_of}
+use Rattle.command_core.specs.CommandState.{CommandState, queue_of}
 use Rattle.command_pool.specs.Waiting.{last_of}
 use Rattle.command_pool.specs.declared.ending.Finish.TheVariants as finish
 use Rattle.command_pool.specs.declared.kind.BlockKind.{BlockKind}
@@ -41,7 +41,7 @@ use Rattle.motion_laws.specs.calls.Group.{GroupCall, by_power_off}
 use Rattle.motion_kernel.specs.calls.Requests.{Request, for_axis_command, for_group_command, for_nothing, for_power}
 use Rattle.motion_kernel.specs.owners.Objects.{a_group}
 use Rattle.motion_laws.specs.results.Effects.{Effect, axis_changes, effect_by_request, group_changes}
-use Rattle.motion_kernel.specs.owners.Blocks.{charge_at}
+use Rattle.motion_kernel.specs.owners.Blocks.{command_state_at}
 use Rattle.motion_laws.proofs.entries.numbers.Notes.{AllTell, aborts_plain, all_plain, more, plain}
 
 -- changes by which no command ends by an error
@@ -53,7 +53,7 @@ TellNone (holds stops ∷ xs) = TellNone xs
 TellNone (replaced finish.Aborted next ws ∷ xs) = TellNone xs
 TellNone (x ∷ xs) = ⊥
 
-pub none_told : (P : ℕ → ℕ → Type 0) (xs : List Change) (c : Charge) → TellNone xs →
+pub none_told : (P : ℕ → ℕ → Type 0) (xs : List Change) (c : CommandState) → TellNone xs →
     AllTell P c.notes → AllTell P (all_changed xs c).notes
 none_told P [] c q h = h
 none_told P (joins w ∷ xs) c q h =
@@ -133,13 +133,13 @@ axis_none on_axis.rests c = tt
 -- and on a group a Power off of a member alone, by 102
 pub record FailsGroup (m : Machine) (j : ℕ) (x : Effect) : Type 0 where
   pub changes : x.changes ≡ failing 102
-  pub commands : x.commands ≡ charge_at m (a_group j)
+  pub commands : x.commands ≡ command_state_at m (a_group j)
 
 abbrev MayFailGroup : Machine → ℕ → Effect → Type 0
 MayFailGroup m j x = TellNone x.changes ⊎ FailsGroup m j x
 
 abbrev Makes : Machine → ℕ → List Change → Type 0
-Makes m j xs = MayFailGroup m j (record { commands = charge_at m (a_group j); changes = xs })
+Makes m j xs = MayFailGroup m j (record { commands = command_state_at m (a_group j); changes = xs })
 
 group_off : (m : Machine) (j : ℕ) → Makes m j (group.power_off_changes (group_core_at m j))
 unfolding group.power_off_changes

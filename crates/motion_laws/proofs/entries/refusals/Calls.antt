@@ -31,7 +31,7 @@ use Rattle.motion_kernel.specs.Histories.{Follows, IsPast, after, machine_after,
 use Rattle.motion_kernel.specs.looks.GroupLooks.{group_look}
 use Rattle.motion_kernel.specs.Machine.{Machine, axis_core_at, group_core_at, instance_at, machine_at_opening}
 use Rattle.motion_laws.specs.entries.Refusals.{IsRefusalNumber, IsRefused, machine_refused}
-use Rattle.motion_kernel.proofs.Banks.{replay_append}
+use Rattle.motion_kernel.proofs.Segments.{replay_append}
 use Rattle.motion_kernel.proofs.walk.Requests.{by_request}
 use Rattle.motion_laws.proofs.entries.refusals.Instances.{axis_as_it_is, group_as_it_is, shows_no_error, written_shows, rise_of, ChangesNothing, RefusesWell, admitted_well, asking_machine, refused_well}
 

@@ -1,4 +1,4 @@
--- Each end that an axis tells has an error's number, where it is an error.
+-- Each end that an axis gives has an error's number, where it is an error.
 use Rattle.std.specs.Prelude.{◌≡◌, refl, ℕ, Bool, true, false, ◌&&◌, ◌||◌, nat_eq, ℤ, ◌-ℤ◌, if◌then◌else◌, Option, Some, None, Result, Ok, Err, List, [], ◌∷◌, ◌++◌, slice_get}
 use Rattle.axis_core.specs.Calls.{core_after_admission, core_after_command, core_after_joining, core_after_leaving, core_after_power, core_after_verdict, queue_in}
 use Rattle.axis_core.specs.Cores.{Core, core_after_end, core_after_ending, core_after_error, core_after_take_over, core_taken_by, core_under_from}
@@ -77,7 +77,7 @@ pub group_numbered : (r : group_reason.Reason) → is_error_number (group_refusa
 group_numbered group_reasons.NotPowered = refl
 group_numbered _ = refl
 
--- what an axis has told so far
+-- what an axis has reported so far
 abbrev TellsNumbers : Core → Type 0
 TellsNumbers c = AreNumbered c.notes
 

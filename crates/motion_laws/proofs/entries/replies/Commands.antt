@@ -46,7 +46,7 @@ pub record InstancesTellOne : Type 0 where
       (outputs_of (after_all (opened kind) happenings)).error ≡ true →
       is_error_number (outputs_of (after_all (opened kind) happenings)).error_id ≡ true
 
--- the laws on which it rests that replies tell one result
+-- the laws on which it rests that replies report one result
 pub record ReplyLaws : Type 0 where
   pub machines : MachinesStayKept
   pub instances : InstancesTellOne

@@ -140,7 +140,7 @@ resets_of_blocks s (suc n) m h =
     (group_reset_told (group_look s x n 0) core tt)
     (resets_of_blocks s n m h)
 
--- what the instances are told at its end
+-- what the instances are given at its end
 shown_so : (s : Setup) (o : Option ℕ) (reached : Bool) (is : List InstanceState) →
     AreOfBlocks s is → AreOfBlocks s (shown_active o reached is)
 shown_so s None reached is h = h

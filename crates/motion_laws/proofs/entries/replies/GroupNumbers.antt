@@ -1,4 +1,4 @@
--- Each end that a group tells has an error's number, where it is an error.
+-- Each end that a group gives has an error's number, where it is an error.
 use Rattle.std.specs.Prelude.{◌≡◌, refl, ℕ, Bool, true, false, not, ◌&&◌, nat_eq, ℤ, if◌then◌else◌, Option, Some, None, is_some, List, [], ◌∷◌}
 use Rattle.std.specs.Ordering.{int_eq}
 use Rattle.std.proofs.Common.{inl, inr}
@@ -31,7 +31,7 @@ use Rattle.motion_kernel.specs.Machine.{axis_among}
 use Rattle.motion_kernel.proofs.Sizes.{by_if}
 use Rattle.motion_laws.proofs.entries.replies.AxisNumbers.{AreNumbered, both, one_told, active_told, all_told, queue_told, EndsWell, IsNumberOrNone, answer_numbered, replaced_told}
 
--- what a group has told so far
+-- what a group has reported so far
 abbrev GroupTells : groups.Core → Type 0
 GroupTells c = AreNumbered c.notes
 

@@ -1,4 +1,4 @@
--- Each reply of a past tells one result.
+-- Each reply of a past reports one result.
 use Rattle.std.specs.Prelude.{◌≡◌, refl, ℕ, zero, suc, ◌<◌, Bool, true, ◌&&◌, Some, List, [], ◌∷◌, ◌++◌, length, slice_get, slice_set}
 use Rattle.std.proofs.Common.{arith, ap, sym, subst, ◌∙◌}
 use Rattle.std.proofs.lemmas.List.{get_or-set_same}
@@ -60,7 +60,7 @@ kind_after i (replies.ending f ∷ hs) = kind_after (finished i f) hs
 kind_after i (replies.cycle reached ∷ hs) = kind_after (with_reached i reached) hs
 kind_after i (replies.reply ∷ hs) = kind_after (instance.shown i) hs
 
--- so its reply tells one result
+-- so its reply reports one result
 replies_so : InstancesTellOne → (b : BlockDef) (i : Inputs) (j : InstanceState) →
     HasHappened b.kind j → j.execute ≡ i.execute → IsReplyOf b i (outputs_of j)
 replies_so laws b i j h e =

@@ -1,4 +1,4 @@
--- Each reply of a past shows what command its block has behind the call.
+-- Each reply of a past shows what command its block has after the call.
 use Rattle.std.specs.Prelude.{◌≡◌, refl, ◌⊎◌, ℕ, zero, suc, Bool, true, false, ◌&&◌, if◌then◌else◌, Some, List, [], ◌∷◌, ◌++◌, slice_get, slice_set}
 use Rattle.std.proofs.Common.{ap, sym, subst, ◌∙◌, inl, inr}
 use Rattle.std.proofs.lemmas.List.{append_assoc}
@@ -104,7 +104,7 @@ no_power v other =
     subst (λ (o : Outputs). ShowsProgress (is_stop v.kind) o v.progress)
     (sym (by_progress v other)) (outputs_show (is_stop v.kind) v.execute v.reached v.progress)
 
--- a reply and the machine behind it
+-- a reply and the machine after it
 reply_shows : (s : Setup) (m : Machine) (k : ℕ) (i : Inputs) (b : BlockDef) → slice_get s.blocks k ≡ Some b → is_power b.kind ≡ false →
     AreOfBlocks s m.instances → IsThere (after_call s m k i) (object_of b) → AreWhereShown s (after_call s m k i) →
     ShowsCommand (after_call s m k i) k b (reply_of s m k i)

@@ -1,4 +1,4 @@
--- The rows of every entry of a past show the machine behind it.
+-- The rows of every entry of a past show the machine after it.
 use Rattle.std.specs.Prelude.{List, ◌∷◌, ◌++◌}
 use Rattle.motion_history.specs.Entries.{Entry, call, cycle, end_of}
 use Rattle.motion_history.specs.Setup.{Setup, IsSetup}

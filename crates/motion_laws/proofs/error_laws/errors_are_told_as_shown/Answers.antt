@@ -1,4 +1,4 @@
--- Errors are told as they are shown, by the laws of the machine and of changes.
+-- Errors are reported as they are shown, by the laws of the machine and of changes.
 use Rattle.motion_laws.proofs.entries.numbers.Histories.{errors_told}
 use Rattle.motion_laws.proofs.error_laws.errors_are_told_as_shown.Goals as goal
 

@@ -1,4 +1,4 @@
--- Commands end by their kinds, by what is told and what the kinds do.
+-- Commands end by their kinds, by what is reported and what the kinds do.
 use Rattle.motion_kernel.proofs.kept.Machine.{MachinesStayKept}
 use Rattle.motion_laws.proofs.results.KindEnds.{end_by_kinds}
 use Rattle.motion_kernel.proofs.walk.Keeps.{WalkLaws}

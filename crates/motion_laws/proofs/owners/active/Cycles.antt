@@ -3,7 +3,7 @@ use Rattle.std.specs.Prelude.{◌≡◌, refl, ℕ, zero, suc, ◌<◌, Bool, tr
 use Rattle.std.proofs.Common.{arith, ap, sym, subst, ◌∙◌, inl, inr}
 use Rattle.std.proofs.lemmas.Bool.{cases_Bool, cases_eq}
 use Rattle.axis_core.specs.declared.axis.Axis.{Axis}
-use Rattle.buffer_modes.specs.Owners.{is_owner, owner_by}
+use Rattle.buffer_modes.specs.Owners.{owner_count, owner_by}
 use Rattle.command_pool.specs.declared.wanted.Wanted.{Wanted}
 use Rattle.fb_outputs.specs.InstanceState.{InstanceState}
 use Rattle.fb_outputs.specs.Steps as instance
@@ -24,7 +24,7 @@ use Rattle.motion_laws.proofs.owners.active.Told.{IsTold, most_active, axes_are_
 use Rattle.motion_laws.proofs.owners.active.Waiting.{WaitsOf, at_most}
 use Rattle.motion_kernel.proofs.walk.Events.{there_same}
 
-owner_found : (k : ℕ) (active : Option Wanted) → 0 < is_owner k (owner_by active) →
+owner_found : (k : ℕ) (active : Option Wanted) → 0 < owner_count k (owner_by active) →
     owner_by active ≡ Some k
 owner_found k None l = let n = nobody k in absurd (omega arith)
 owner_found k (Some w) l = found_in k w.owner l

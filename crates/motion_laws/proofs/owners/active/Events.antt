@@ -3,7 +3,7 @@ use Rattle.std.specs.Prelude.{◌≡◌, refl, ℕ, ◌+◌, ◌≤◌, false, n
 use Rattle.std.proofs.Common.{arith, ap, sym, subst, ◌∙◌, inl, inr}
 use Rattle.std.proofs.lemmas.Bool.{cases_Bool, cases_eq, eqb-false, eqb-true}
 use Rattle.std.proofs.lemmas.List.{get_or-set_other}
-use Rattle.buffer_modes.specs.Owners.{told}
+use Rattle.buffer_modes.specs.Owners.{ends_given}
 use Rattle.command_pool.specs.declared.notes.Note.{Note}
 use Rattle.fb_outputs.specs.InstanceState.{InstanceState}
 use Rattle.fb_outputs.specs.declared.instance.Progress.{Progress}
@@ -13,8 +13,8 @@ use Rattle.motion_kernel.specs.calls.Calls.{with_instance}
 use Rattle.motion_kernel.specs.Machine.{Machine, instance_at, no_instance}
 use Rattle.motion_kernel.specs.owners.Commands.{ActiveAreShown, CommandsAreShown, active_at, active_shown, commands_at, commands_shown}
 use Rattle.motion_kernel.specs.owners.Objects.{IsThere, Object, has_commands_on, is_same, a_group, an_axis}
-use Rattle.command_core.specs.Charge.{waiting_of}
-use Rattle.motion_kernel.proofs.walk.Keeps.{charge_at}
+use Rattle.command_core.specs.CommandState.{waiting_of}
+use Rattle.motion_kernel.proofs.walk.Keeps.{command_state_at}
 use Rattle.motion_kernel.proofs.owners.Counts.{told_shows_none, shown_by, untold_stays}
 use Rattle.motion_kernel.proofs.owners.commands.Events.{Changes, ShownOf, event_shown, none_if, same_object}
 
@@ -29,7 +29,7 @@ active_by is k = active_shown (instance_at is k).progress
 
 -- how many commands of an instance wait for an axis or group, a reset among them
 abbrev pub waits_at : Machine → ℕ → Object → ℕ
-waits_at m k o = waiting_of k (charge_at m o)
+waits_at m k o = waiting_of k (command_state_at m o)
 
 -- commands are active or wait
 pub all_are : (m : Machine) (k : ℕ) (o : Object) → commands_at m k o ≡ active_at m k o + waits_at m k o
@@ -66,7 +66,7 @@ pub record KeepsActive (k : ℕ) (m x : Machine) (o : Object) : Type 0 where
   pub beside : (p : Object) → IsThere m p → is_same o p ≡ false → active_at x k p ≡ active_at m k p
 
 untold_active : (s : Setup) (k : ℕ) (m x : Machine) (o : Object) (ns : List Note) →
-    Changes k m x o ns → KeepsActive k m x o → told k ns ≡ 0 →
+    Changes k m x o ns → KeepsActive k m x o → ends_given k ns ≡ 0 →
     ActiveOf s k m → ActiveOf s k x
 untold_active s k m x o ns h keeps none active p there =
     let b = has_commands_on (slice_get s.blocks k) p in
@@ -88,7 +88,7 @@ untold_active s k m x o ns h keeps none active p there =
 pub event_active : (s : Setup) (k : ℕ) (m x : Machine) (o : Object) (ns : List Note) →
     Changes k m x o ns → KeepsActive k m x o → ShownOf s k m → ActiveOf s k m →
     ActiveOf s k x
-event_active s k m x o ns h keeps shown active = elim (cases_eq (told k ns) 0) [
+event_active s k m x o ns h keeps shown active = elim (cases_eq (ends_given k ns) 0) [
   | inl e ↦ untold_active s k m x o ns h keeps e active
   | inr d ↦
       none_is_active s k x (event_shown s k m x o ns h shown)

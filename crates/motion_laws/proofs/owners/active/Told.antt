@@ -1,9 +1,9 @@
--- Whose command is active is told so at a cycle's end, and nobody else.
+-- Whose command is active is given so at a cycle's end, and nobody else.
 use Rattle.std.specs.Prelude.{◌≡◌, refl, ℕ, zero, suc, ◌<◌, ◌≤◌, Bool, true, false, Option, Some, None, List, [], ◌∷◌, length, slice_set}
 use Rattle.std.proofs.Common.{arith, sym, subst, ◌∙◌, inl, inr}
 use Rattle.std.proofs.lemmas.Bool.{cases_eq}
 use Rattle.std.proofs.lemmas.List.{get_or-set_other}
-use Rattle.buffer_modes.specs.Owners.{owner_by, told}
+use Rattle.buffer_modes.specs.Owners.{owner_by, ends_given}
 use Rattle.fb_outputs.specs.InstanceState.{InstanceState}
 use Rattle.fb_outputs.specs.Steps as instance
 use Rattle.fb_outputs.specs.declared.instance.Progress.{Progress}
@@ -24,7 +24,8 @@ pub record HasActive (m : Machine) (k : ℕ) : Type 0 where
   pub there : IsThere m object
   pub active : active_at m k object ≡ 1
 
--- instances of which some were told that they are active: each that is was, or has such a command
+-- instances of which some were reported that they are active: each that is was, or has such a
+-- command
 pub record IsTold (m : Machine) (is : List InstanceState) : Type 0 where
   pub same : AsShown m is
   pub only : (k : ℕ) → active_by m.instances k ≡ 0 → 0 < active_by is k → HasActive m k
@@ -35,7 +36,7 @@ most_active Waiting = omega arith
 most_active Active = omega arith
 most_active (Ended f shown) = omega arith
 
--- one that is told shows it, and no other shows it less
+-- one that is reported shows it, and no other shows it less
 grows : (is : List InstanceState) (j k : ℕ) (v : InstanceState) → active_shown v.progress ≡ 1 →
     active_by is k ≤ active_by (slice_set is j v) k
 grows [] j k v e = omega arith
@@ -87,22 +88,22 @@ group_has m j k l e = record {
 pub axes_are_told : (s : Setup) (m : Machine) (n : ℕ) (is : List InstanceState) → CommandsAreShown s m →
     n ≤ length m.axes → IsTold m is → IsTold m (axes_shown n m.axes is)
 unfolding axes_shown
-axes_are_told s m zero is h l told = told
-axes_are_told s m (suc n) is h l told =
+axes_are_told s m zero is h l told = ends_given
+axes_are_told s m (suc n) is h l ends_given =
     told_one m (owner_by (axis_at m n).active) (axis_at m n).reached (axes_shown n m.axes is)
     (λ k e. axis_active_shown s m n k h (omega arith) e)
-    (λ k e. axis_has m n k (omega arith) e) (axes_are_told s m n is h (omega arith) told)
+    (λ k e. axis_has m n k (omega arith) e) (axes_are_told s m n is h (omega arith) ends_given)
 
 pub groups_are_told : (s : Setup) (m : Machine) (n : ℕ) (is : List InstanceState) →
     CommandsAreShown s m → n ≤ length m.groups → IsTold m is → IsTold m (groups_shown n m.groups is)
 unfolding groups_shown
-groups_are_told s m zero is h l told = told
-groups_are_told s m (suc n) is h l told =
+groups_are_told s m zero is h l told = ends_given
+groups_are_told s m (suc n) is h l ends_given =
     told_one m (owner_by (group_at m n).group.active) false (groups_shown n m.groups is)
     (λ k e. group_active_shown s m n k h (omega arith) e)
-    (λ k e. group_has m n k (omega arith) e) (groups_are_told s m n is h (omega arith) told)
+    (λ k e. group_has m n k (omega arith) e) (groups_are_told s m n is h (omega arith) ends_given)
 
--- no more of them are told less
+-- no more of them are given less
 told_grows : (o : Option ℕ) (reached : Bool) (is : List InstanceState) (k : ℕ) →
     active_by is k ≤ active_by (shown_active o reached is) k
 told_grows None reached is k = omega arith
@@ -119,7 +120,7 @@ groups_grow (suc n) groups is k =
     (groups_shown n groups is) k in
     omega arith
 
--- whoever owns an active command is told
+-- whoever owns an active command is notified
 told_is : (m : Machine) (o : Option ℕ) (reached : Bool) (is : List InstanceState) (k : ℕ) →
     AsShown m is → shown_by m.instances k ≡ 1 → o ≡ Some k →
     active_by (shown_active o reached is) k ≡ 1

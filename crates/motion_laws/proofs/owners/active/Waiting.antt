@@ -2,7 +2,7 @@
 use Rattle.std.specs.Prelude.{◌≡◌, ℕ, ◌+◌, ◌≤◌, Bool, true, false, if◌then◌else◌, List, slice_get}
 use Rattle.std.proofs.Common.{arith, ap, sym, subst, ◌∙◌, inl, inr}
 use Rattle.std.proofs.lemmas.Bool.{cases_Bool, cases_eq}
-use Rattle.buffer_modes.specs.Owners.{told}
+use Rattle.buffer_modes.specs.Owners.{ends_given}
 use Rattle.command_pool.specs.declared.notes.Note.{Note}
 use Rattle.fb_outputs.specs.InstanceState.{InstanceState}
 use Rattle.motion_history.specs.Setup.{Setup}
@@ -42,7 +42,7 @@ at_most false c n e l = omega arith
 
 pub event_waits : (s : Setup) (k : ℕ) (m x : Machine) (o : Object) (ns : List Note) →
     Changes k m x o ns → KeepsWaiting k m x o → ShownOf s k m → WaitsOf s k m → WaitsOf s k x
-event_waits s k m x o ns h keeps shown waits p there = elim (cases_eq (told k ns) 0) [
+event_waits s k m x o ns h keeps shown waits p there = elim (cases_eq (ends_given k ns) 0) [
   | inl e ↦
       let was = h.as_many p there in
       let same : active_by x.instances k ≡ active_by m.instances k =

@@ -1,7 +1,7 @@
 -- Commands are where they are shown after a cycle.
 use Rattle.std.specs.Prelude.{◌≡◌, refl, ℕ, zero, suc, ◌<◌, ◌≤◌, Bool, true, false, if◌then◌else◌, Option, Some, None, List, length, slice_get}
 use Rattle.std.proofs.Common.{arith, ap, sym, ◌∙◌}
-use Rattle.buffer_modes.specs.Owners.{is_owner, owner_by}
+use Rattle.buffer_modes.specs.Owners.{owner_count, owner_by}
 use Rattle.command_pool.specs.declared.wanted.Wanted.{Wanted}
 use Rattle.fb_outputs.specs.InstanceState.{InstanceState}
 use Rattle.fb_outputs.specs.Steps as instance
@@ -16,15 +16,15 @@ use Rattle.motion_kernel.proofs.owners.Counts.{owner_is, shown_by}
 use Rattle.motion_laws.proofs.owners.commands.Calls.{one_shown}
 use Rattle.motion_kernel.proofs.owners.commands.Events.{most_one, instances_shown}
 
--- what the instances are told at its end: an active command's instance shows one already
+-- what the instances are given at its end: an active command's instance shows one already
 pub at_least : (b : Bool) (n c : ℕ) → 1 ≤ c → c ≡ (if b then n else 0) → n ≤ 1 → n ≡ 1
 at_least true n c l e m = omega arith
 at_least false n c l e m = absurd (omega arith)
 
-pub active_owner : (k : ℕ) (active : Option Wanted) → owner_by active ≡ Some k → is_owner k
+pub active_owner : (k : ℕ) (active : Option Wanted) → owner_by active ≡ Some k → owner_count k
     (owner_by active) ≡ 1
 active_owner k None e = absurd (cc)
-active_owner k (Some w) e = ap (is_owner k) e ∙ owner_is k
+active_owner k (Some w) e = ap (owner_count k) e ∙ owner_is k
 
 pub axis_active_shown : (s : Setup) (m : Machine) (n k : ℕ) → CommandsAreShown s m →
     n < length m.axes → owner_by (axis_at m n).active ≡ Some k → shown_by m.instances k ≡ 1

@@ -7,7 +7,7 @@ use Rattle.axis_core.specs.Cycles.{axis_at_opening}
 use Rattle.axis_state.specs.declared.definition.AxisDef.{AxisDef}
 use Rattle.buffer_modes.specs.Resets.{reset_owner}
 use Rattle.command_core.specs.Changes.{Change, all_changed}
-use Rattle.command_core.specs.Charge.{Charge}
+use Rattle.command_core.specs.CommandState.{CommandState}
 use Rattle.motion_history.specs.Entries.{Entry}
 use Rattle.motion_history.specs.Setup.{Setup, IsSetup}
 use Rattle.motion_history.specs.declared.config.GroupDef.{GroupDef}
@@ -21,24 +21,24 @@ use Rattle.motion_kernel.proofs.owners.commands.Events.{same_object}
 use Rattle.motion_kernel.proofs.owners.kinds.Changes.{BringOwn, all_none_own, all_own, disowned_own}
 use Rattle.motion_kernel.proofs.walk.Events.{executed_alike, found_alike, freed_at, freed_there, replied_alike}
 use Rattle.motion_laws.proofs.walk.Histories.{by_history}
-use Rattle.motion_kernel.proofs.walk.Keeps.{Alike, Anyone, Asks, Event, Keeps, WalkLaws, charge_at, freed}
+use Rattle.motion_kernel.proofs.walk.Keeps.{Alike, Anyone, Asks, Event, Keeps, WalkLaws, command_state_at, freed}
 
 -- of each axis and each group
 abbrev pub KindsMatch : Setup → Machine → Type 0
-KindsMatch s m = (p : Object) → IsThere m p → AreOfTheirBlocks s (charge_at m p)
+KindsMatch s m = (p : Object) → IsThere m p → AreOfTheirBlocks s (command_state_at m p)
 
 module _ (laws : WalkLaws) (s : Setup) where
   alike_match : (m x : Machine) → Alike m x → KindsMatch s m → KindsMatch s x
   alike_match m x a h p l = subst (AreOfTheirBlocks s) (sym (a.same p)) (h p (a.as_many p l))
 
-  -- what is told is no command
-  untold_match : (c : Charge) → AreOfTheirBlocks s c → AreOfTheirBlocks s (record c { notes = [] })
+  -- what is reported is no command
+  untold_match : (c : CommandState) → AreOfTheirBlocks s c → AreOfTheirBlocks s (record c { notes = [] })
   untold_match c a = record { active = a.active; waiting = a.waiting; reset = a.reset }
 
   event_match : (m x : Machine) (o : Object) (xs : List Change) → Event m x o xs → BringOwn s xs → KindsMatch s m → KindsMatch s x
   event_match m x o xs e own h p l = elim (cases_Bool (is_same o p)) [
-    | inl same ↦ subst (λ q. AreOfTheirBlocks s (charge_at x q)) (same_object o p same)
-        (subst (AreOfTheirBlocks s) (sym e.here) (untold_match (all_changed xs (charge_at m o)) (all_own s xs (charge_at m o) own (h o e.there))))
+    | inl same ↦ subst (λ q. AreOfTheirBlocks s (command_state_at x q)) (same_object o p same)
+        (subst (AreOfTheirBlocks s) (sym e.here) (untold_match (all_changed xs (command_state_at m o)) (all_own s xs (command_state_at m o) own (h o e.there))))
     | inr d ↦ subst (AreOfTheirBlocks s) (sym (e.beside p (e.as_many p l) d)) (h p (e.as_many p l))
   ]
 
@@ -47,7 +47,7 @@ module _ (laws : WalkLaws) (s : Setup) where
       let free = freed k a.called m in
       let freed_match : KindsMatch s free = λ p l.
       let there = freed_there k a.called m p l in
-      subst (AreOfTheirBlocks s) (sym (freed_at laws k a.called m p there)) (disowned_own s k (charge_at m p) (h p there)) in
+      subst (AreOfTheirBlocks s) (sym (freed_at laws k a.called m p there)) (disowned_own s k (command_state_at m p) (h p there)) in
       alike_match a.asked z a.alike (event_match free a.asked a.object a.changes a.event a.kinds freed_match)
 
   kinds_kept : Keeps s Anyone (KindsMatch s) (KindsMatch s)
@@ -62,7 +62,7 @@ module _ (laws : WalkLaws) (s : Setup) where
   }
 
 -- at opening there are none
-no_command : (s : Setup) (c : Charge) → c.active ≡ None → c.waiting ≡ [] → c.reset ≡ None → AreOfTheirBlocks s c
+no_command : (s : Setup) (c : CommandState) → c.active ≡ None → c.waiting ≡ [] → c.reset ≡ None → AreOfTheirBlocks s c
 no_command s c a w r = record {
   active = λ v e. absurd (let z : None ≡ Some v = sym a ∙ e in cc);
   waiting = subst (AllByRecursion (IsOfItsBlock s)) (sym w) tt;
@@ -93,9 +93,9 @@ group_resets (d ∷ ds) (suc j) = group_resets ds j
 
 opening_match : (s : Setup) → KindsMatch s (machine_at_opening s)
 opening_match s (an_axis n) l =
-    no_command s (charge_at (machine_at_opening s) (an_axis n)) (axis_rests s.axes n) (none_waits (length s.axes + length s.groups) n) (axis_resets s.axes n)
+    no_command s (command_state_at (machine_at_opening s) (an_axis n)) (axis_rests s.axes n) (none_waits (length s.axes + length s.groups) n) (axis_resets s.axes n)
 opening_match s (a_group j) l =
-    no_command s (charge_at (machine_at_opening s) (a_group j)) (group_rests s.groups j)
+    no_command s (command_state_at (machine_at_opening s) (a_group j)) (group_rests s.groups j)
     (none_waits (length s.axes + length s.groups) (list_of (machine_at_opening s) j)) (group_resets s.groups j)
 
 -- in every past

@@ -1,4 +1,4 @@
--- Each reply tells one result, by the laws of the machine and of instances.
+-- Each reply reports one result, by the laws of the machine and of instances.
 use Rattle.motion_laws.proofs.entries.replies.Commands.{InstancesTellOne, ReplyLaws}
 use Rattle.motion_laws.proofs.entries.replies.Entries.{call_of_blocks, cycle_of_blocks, opening_of_blocks}
 use Rattle.motion_laws.proofs.entries.replies.Histories.{entry_of_block, reply_of_block}

@@ -1,4 +1,4 @@
--- Done moves are at their targets, by what is told and where moves arrive.
+-- Done moves are at their targets, by what is reported and where moves arrive.
 use Rattle.motion_kernel.proofs.kept.Machine.{MachinesStayKept}
 use Rattle.motion_laws.proofs.results.Targets.{moves_end_there}
 use Rattle.motion_kernel.proofs.walk.Keeps.{WalkLaws}

@@ -1,4 +1,4 @@
--- Results are told, by what each entry makes of an instance.
+-- Results are reported, by what each entry makes of an instance.
 use Rattle.motion_kernel.proofs.kept.Machine.{MachinesStayKept}
 use Rattle.motion_laws.proofs.results.Told.{TellLaws, results_told}
 use Rattle.motion_laws.proofs.result_laws.results_are_told.Goals as goal

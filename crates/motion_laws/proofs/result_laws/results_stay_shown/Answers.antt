@@ -1,4 +1,4 @@
--- Results stay, and go with Execute, by what is told.
+-- Results stay, and go with Execute, by what is reported.
 use Rattle.motion_kernel.proofs.kept.Machine.{MachinesStayKept}
 use Rattle.motion_laws.proofs.results.Stays.{results_go, results_stay}
 use Rattle.motion_laws.proofs.result_laws.results_stay_shown.Goals as goal

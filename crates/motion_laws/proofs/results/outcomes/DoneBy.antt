@@ -1,10 +1,10 @@
--- In which entries an instance is told that its command is Done.
+-- In which entries an instance is notified that its command is Done.
 use Rattle.std.specs.Prelude.{◌≡◌, ◌⊎◌, ℕ, Some, [], slice_get}
 use Rattle.std.proofs.Common.{arith, subst, sym, inl, inr}
 use Rattle.std.proofs.lemmas.Bool.{cases_eq}
-use Rattle.buffer_modes.specs.Owners.{is_owner}
+use Rattle.buffer_modes.specs.Owners.{owner_count}
 use Rattle.command_changes.specs.Group as group
-use Rattle.command_core.specs.Charge.{Charge, active_of}
+use Rattle.command_core.specs.CommandState.{CommandState, active_of}
 use Rattle.command_pool.specs.declared.ending.Finish.TheVariants as finish
 use Rattle.fb_outputs.specs.declared.inputs.Inputs.{Inputs}
 use Rattle.fb_outputs.specs.declared.outputs.Outputs.{Outputs}
@@ -21,7 +21,7 @@ use Rattle.motion_kernel.specs.owners.Commands.{active_at}
 use Rattle.motion_kernel.specs.owners.Objects.{a_group, an_axis, IsThere, Object}
 use Rattle.motion_laws.specs.owners.Shown.{AreWhereShown}
 use Rattle.motion_laws.specs.results.Effects.{changes_by_request, changes_in_cycle}
-use Rattle.motion_kernel.specs.owners.Blocks.{charge_at}
+use Rattle.motion_kernel.specs.owners.Blocks.{command_state_at}
 use Rattle.motion_laws.specs.results.Outcomes.{end_of_command}
 use Rattle.motion_laws.proofs.owners.Events.{active_in, commands_of}
 use Rattle.motion_kernel.proofs.owners.Blocks.{untold}
@@ -37,7 +37,7 @@ request_none : (s : Setup) (r : Request) (k : ℕ) (i : Inputs) (m : Machine) (o
 request_none s r k i m (an_axis n) = axis_none (on_axis.by_request s r k i m n) (axis_core_at m n)
 request_none s r k i m (a_group j) = group_none (on_group.by_request s r k i m j) (group_core_at m j)
 
-quiet_done : (k : ℕ) (c : Charge) → c.notes ≡ [] → NoDone k c.notes
+quiet_done : (k : ℕ) (c : CommandState) → c.notes ≡ [] → NoDone k c.notes
 quiet_done k c e = subst (NoDone k) (sym e) tt
 
 pub call_not_done : (s : Setup) (m : Machine) (j : ℕ) (i : Inputs) (reply : Outputs) (k : ℕ) (o : Object) →
@@ -45,23 +45,23 @@ pub call_not_done : (s : Setup) (m : Machine) (j : ℕ) (i : Inputs) (reply : Ou
 call_not_done s m j i reply k o e =
     let r = request_of (slice_get s.blocks j) j i m in
     let x = machine_asked r j i m in
-    none_done k _ (all_none k (changes_by_request s r j i x o) (charge_at x o) (request_none s r j i x o)
-    (quiet_done k (charge_at x o) (untold x o))) e
+    none_done k _ (all_none k (changes_by_request s r j i x o) (command_state_at x o) (request_none s r j i x o)
+    (quiet_done k (command_state_at x o) (untold x o))) e
 
 -- an instance whose command is Done had the active one, or a reset
 pub done_by : (s : Setup) (m : Machine) (e : Entry) (k : ℕ) (o : Object) → AreWhereShown s m → IsThere m o →
-    end_of_command s m e k o ≡ Some finish.Done → (active_at m k o ≡ 1) ⊎ ((charge_at m o).reset ≡ Some k)
+    end_of_command s m e k o ≡ Some finish.Done → (active_at m k o ≡ 1) ⊎ ((command_state_at m o).reset ≡ Some k)
 done_by s m (call j i reply) k o h l e = absurd (call_not_done s m j i reply k o e)
 done_by s m (cycle c rows grows) k o h l e =
-    let charge = charge_at m o in
+    let command_state = command_state_at m o in
     let xs = changes_in_cycle s m (inputs_of rows) o in
     let few = one_there s k m o (h.commands k) l in
     let all = commands_of m k o in
     let act = active_in m k o in
-    elim (cases_eq (active_of k charge) 0) [
-      | inl none ↦ elim (cases_eq (is_owner k charge.reset) 0) [
-        | inl free ↦ absurd (none_done k _ (one_end k xs charge (one o) none free (quiet_done k charge (untold m o))) e)
-        | inr own ↦ inr (found_in k charge.reset (omega arith))
+    elim (cases_eq (active_of k command_state) 0) [
+      | inl none ↦ elim (cases_eq (owner_count k command_state.reset) 0) [
+        | inl free ↦ absurd (none_done k _ (one_end k xs command_state (one o) none free (quiet_done k command_state (untold m o))) e)
+        | inr own ↦ inr (found_in k command_state.reset (omega arith))
       ]
       | inr some ↦ inl (omega arith)
     ]

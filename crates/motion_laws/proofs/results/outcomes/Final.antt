@@ -1,13 +1,13 @@
--- What an instance shows after an entry, by the commands that it has before and behind it.
+-- What an instance shows after an entry, by the commands that it has before and after it.
 use Rattle.std.specs.Prelude.{◌≡◌, refl, ℕ, ◌<◌, Bool, true, false, Option, Some, None, List, []}
 use Rattle.std.proofs.Common.{arith, ap, sym, ◌∙◌, inl, inr}
 use Rattle.std.proofs.lemmas.Bool.{cases_eq, eqb-true}
-use Rattle.buffer_modes.specs.Owners.{is_owner, owner_by, told}
+use Rattle.buffer_modes.specs.Owners.{owner_count, owner_by, ends_given}
 use Rattle.buffer_modes.proofs.Owners.{nobody}
 use Rattle.command_core.proofs.Ends.{none_among}
 use Rattle.command_core.specs.Brought.{brought}
 use Rattle.command_core.specs.Changes.{Change, all_changed}
-use Rattle.command_core.specs.Charge.{Charge, active_of, owns}
+use Rattle.command_core.specs.CommandState.{CommandState, active_of, owns}
 use Rattle.command_core.specs.Ends.{end_among}
 use Rattle.command_core.specs.Fates.{fate_in}
 use Rattle.command_core.specs.Laws.{AreInOrder, AreOfChanges}
@@ -29,14 +29,14 @@ pub record OutcomeLaws : Type 0 where
   pub fates : AreOfChanges
 
 -- whose command is active
-holder_owns : (k : ℕ) (w : Option Wanted) → is_holder k (owner_by w) ≡ true → is_owner k (owner_by w) ≡ 1
+holder_owns : (k : ℕ) (w : Option Wanted) → is_holder k (owner_by w) ≡ true → owner_count k (owner_by w) ≡ 1
 holder_owns k w h = by (owner_by w) h
   where
-    by : (o : Option ℕ) → is_holder k o ≡ true → is_owner k o ≡ 1
+    by : (o : Option ℕ) → is_holder k o ≡ true → owner_count k o ≡ 1
     by None e = absurd (cc)
-    by (Some j) e = ap (λ i. is_owner k (Some i)) (eqb-true j k e) ∙ owner_is k
+    by (Some j) e = ap (λ i. owner_count k (Some i)) (eqb-true j k e) ∙ owner_is k
 
-not_holder : (k : ℕ) (o : Option ℕ) → is_holder k o ≡ false → is_owner k o ≡ 0
+not_holder : (k : ℕ) (o : Option ℕ) → is_holder k o ≡ false → owner_count k o ≡ 0
 not_holder k None h = nobody k
 not_holder k (Some j) h = other_owner k j h
 
@@ -57,8 +57,8 @@ same_shown Waiting Active h i a = absurd (omega (arith, a))
 same_shown Active Waiting h i a = absurd (omega (arith, a))
 same_shown Active Active h i a = refl
 
--- what an instance shows before and after changes: its commands, or the end that it is told
-pub record IsShownBy (k : ℕ) (c : Charge) (xs : List Change) (p told_so now : Progress) : Type 0 where
+-- what an instance shows before and after changes: its commands, or the end that it is reported
+pub record IsShownBy (k : ℕ) (c : CommandState) (xs : List Change) (p told_so now : Progress) : Type 0 where
   pub none : brought k xs ≡ 0
   pub notes : c.notes ≡ []
   pub before : owns k c ≡ commands_shown p
@@ -70,7 +70,7 @@ pub record IsShownBy (k : ℕ) (c : Charge) (xs : List Change) (p told_so now : 
 
 module _ (laws : OutcomeLaws) where
   -- where none of its commands ends, as many are active as before, unless one begins
-  still_active : (k : ℕ) (c : Charge) (xs : List Change) → brought k xs ≡ 0 → told k (all_changed xs c).notes ≡ told k c.notes →
+  still_active : (k : ℕ) (c : CommandState) (xs : List Change) → brought k xs ≡ 0 → ends_given k (all_changed xs c).notes ≡ ends_given k c.notes →
       is_holder k (owner_by (fate_in xs c).begins) ≡ false → active_of k (all_changed xs c) ≡ active_of k c
   still_active k c xs none few other = by (fate_in xs c).begins refl (fate_in xs c).ends refl
     where
@@ -78,7 +78,7 @@ module _ (laws : OutcomeLaws) where
           active_of k (all_changed xs c) ≡ active_of k c
       by (Some w) eb e ee =
           let fate = laws.fates.fates xs c in
-          let now = ap (λ o. is_owner k (owner_by o)) (fate.begins w eb) in
+          let now = ap (λ o. owner_count k (owner_by o)) (fate.begins w eb) in
           let is : is_holder k w.owner ≡ false = ap (λ o. is_holder k (owner_by o)) (sym eb) ∙ other in
           let zero = not_holder k w.owner is in
           let waits = laws.owners.more.waiting k xs c in
@@ -86,30 +86,30 @@ module _ (laws : OutcomeLaws) where
           omega arith
       by None eb (Some f) ee =
           let fate = laws.fates.fates xs c in
-          let now = ap (λ o. is_owner k (owner_by o)) (fate.ends (λ z. let w : Some f ≡ None = sym ee ∙ z in cc) eb) in
+          let now = ap (λ o. owner_count k (owner_by o)) (fate.ends (λ z. let w : Some f ≡ None = sym ee ∙ z in cc) eb) in
           let zero = nobody k in
           let waits = laws.owners.more.waiting k xs c in
           let once = laws.owners.once.once k xs c in
           omega arith
-      by None eb None ee = ap (λ o. is_owner k (owner_by o)) (laws.fates.goes_on xs c ee eb)
+      by None eb None ee = ap (λ o. owner_count k (owner_by o)) (laws.fates.goes_on xs c ee eb)
 
-  begun_active : (k : ℕ) (c : Charge) (xs : List Change) → is_holder k (owner_by (fate_in xs c).begins) ≡ true → active_of k (all_changed xs c) ≡ 1
+  begun_active : (k : ℕ) (c : CommandState) (xs : List Change) → is_holder k (owner_by (fate_in xs c).begins) ≡ true → active_of k (all_changed xs c) ≡ 1
   begun_active k c xs h = by (fate_in xs c).begins refl
     where
       by : (b : Option Wanted) → (fate_in xs c).begins ≡ b → active_of k (all_changed xs c) ≡ 1
       by None eb = absurd (let z : is_holder k None ≡ true = ap (λ o. is_holder k (owner_by o)) (sym eb) ∙ h in cc)
       by (Some w) eb =
           let fate = laws.fates.fates xs c in
-          ap (λ o. is_owner k (owner_by o)) (fate.begins w eb)
+          ap (λ o. owner_count k (owner_by o)) (fate.begins w eb)
           ∙ holder_owns k (Some w) (ap (λ o. is_holder k (owner_by o)) (sym eb) ∙ h)
 
-  -- an end that is told
-  told_outcome : (k : ℕ) (c : Charge) (xs : List Change) (p so now : Progress) (begins : Bool) → IsShownBy k c xs p so now →
-      0 < told k (all_changed xs c).notes → now ≡ progress_by (end_among k (all_changed xs c).notes) begins p
+  -- an end that is reported
+  told_outcome : (k : ℕ) (c : CommandState) (xs : List Change) (p so now : Progress) (begins : Bool) → IsShownBy k c xs p so now →
+      0 < ends_given k (all_changed xs c).notes → now ≡ progress_by (end_among k (all_changed xs c).notes) begins p
   told_outcome k c xs p so now begins h some =
       let ns = (all_changed xs c).notes in
       let once = laws.owners.once.once k xs c in
-      let nothing : told k c.notes ≡ 0 = ap (told k) h.notes in
+      let nothing : ends_given k c.notes ≡ 0 = ap (ends_given k) h.notes in
       let none = h.none in
       let before = h.before in
       let most = most_one p in
@@ -118,15 +118,15 @@ module _ (laws : OutcomeLaws) where
       h.stays (ap commands_shown is) ∙ is ∙ ap (λ e. progress_by e begins p) (sym ends.is)
 
   -- no end, but perhaps a begin
-  untold_outcome : (k : ℕ) (c : Charge) (xs : List Change) (p so now : Progress) → IsShownBy k c xs p so now →
-      told k (all_changed xs c).notes ≡ 0 → now ≡ progress_by None (is_holder k (owner_by (fate_in xs c).begins)) p
+  untold_outcome : (k : ℕ) (c : CommandState) (xs : List Change) (p so now : Progress) → IsShownBy k c xs p so now →
+      ends_given k (all_changed xs c).notes ≡ 0 → now ≡ progress_by None (is_holder k (owner_by (fate_in xs c).begins)) p
   untold_outcome k c xs p so now h zero = by (is_holder k (owner_by (fate_in xs c).begins)) refl
     where
       by : (b : Bool) → is_holder k (owner_by (fate_in xs c).begins) ≡ b → now ≡ progress_by None b p
       by true e = only_active now (sym h.active_after ∙ begun_active k c xs e)
       by false e =
           let once = laws.owners.once.once k xs c in
-          let nothing : told k c.notes ≡ 0 = ap (told k) h.notes in
+          let nothing : ends_given k c.notes ≡ 0 = ap (ends_given k) h.notes in
           let none = h.none in
           let before = h.before in
           let after = h.after in
@@ -139,12 +139,12 @@ module _ (laws : OutcomeLaws) where
                 same_shown p now (omega arith) (omega arith) (sym h.active_after ∙ still ∙ h.active_before)
           ]
 
-  pub outcome : (k : ℕ) (c : Charge) (xs : List Change) (p so now : Progress) → IsShownBy k c xs p so now →
+  pub outcome : (k : ℕ) (c : CommandState) (xs : List Change) (p so now : Progress) → IsShownBy k c xs p so now →
       now ≡ progress_by (end_among k (all_changed xs c).notes) (is_holder k (owner_by (fate_in xs c).begins)) p
   outcome k c xs p so now h =
       let ns = (all_changed xs c).notes in
       let begins = is_holder k (owner_by (fate_in xs c).begins) in
-      elim (cases_eq (told k ns) 0) [
+      elim (cases_eq (ends_given k ns) 0) [
         | inl zero ↦ untold_outcome k c xs p so now h zero ∙ ap (λ e. progress_by e begins p) (sym (none_among k ns zero))
         | inr some ↦ told_outcome k c xs p so now begins h (omega arith)
       ]

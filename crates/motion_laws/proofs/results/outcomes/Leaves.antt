@@ -5,7 +5,7 @@ use Rattle.std.proofs.Common.{arith, ap, sym, subst, ◌∙◌, inl, inr}
 use Rattle.std.proofs.lemmas.Bool.{cases_Bool, cases_eq, eqb-true}
 use Rattle.command_core.specs.Brought.{brought}
 use Rattle.command_core.specs.Changes.{Change, all_changed}
-use Rattle.command_core.specs.Charge.{Charge}
+use Rattle.command_core.specs.CommandState.{CommandState}
 use Rattle.command_core.specs.Laws.{AreInOrder}
 use Rattle.fb_outputs.specs.InstanceState.{InstanceState}
 use Rattle.motion_history.specs.Setup.{Setup}
@@ -17,71 +17,71 @@ use Rattle.motion_kernel.proofs.owners.Blocks.{untold}
 use Rattle.motion_kernel.proofs.owners.commands.Events.{OwnerLaws, ShownOf, beside_none, is_itself, same_object}
 use Rattle.motion_laws.proofs.results.Events.{IsSpared, event_spares, progress_in}
 use Rattle.motion_laws.proofs.results.outcomes.Notes.{progress_told, told_exact, told_more}
-use Rattle.motion_kernel.proofs.walk.Keeps.{Event, charge_at}
+use Rattle.motion_kernel.proofs.walk.Keeps.{Event, command_state_at}
 
 -- both are as they were
 pub record Spares (k : ℕ) (o : Object) (m x : Machine) : Type 0 where
-  pub charge : charge_at x o ≡ charge_at m o
+  pub command_state : command_state_at x o ≡ command_state_at m o
   pub progress : progress_in x.instances k ≡ progress_in m.instances k
 
--- these changes were made, and the instance was told of them
+-- these changes were made, and the instance was notified of them
 pub record Leaves (k : ℕ) (o : Object) (xs : List Change) (m x : Machine) : Type 0 where
-  pub charge : charge_at x o ≡ record (all_changed xs (charge_at m o)) { notes = [] }
+  pub command_state : command_state_at x o ≡ record (all_changed xs (command_state_at m o)) { notes = [] }
   pub progress : progress_in x.instances k
-      ≡ progress_told k (all_changed xs (charge_at m o)).notes (progress_in m.instances k)
+      ≡ progress_told k (all_changed xs (command_state_at m o)).notes (progress_in m.instances k)
 
 module _ (k : ℕ) (o : Object) where
   pub spares_none : (m : Machine) → Spares k o m m
-  spares_none m = record { charge = refl; progress = refl }
+  spares_none m = record { command_state = refl; progress = refl }
 
   pub spares_more : (m x y : Machine) → Spares k o m x → Spares k o x y → Spares k o m y
-  spares_more m x y a b = record { charge = b.charge ∙ a.charge; progress = b.progress ∙ a.progress }
+  spares_more m x y a b = record { command_state = b.command_state ∙ a.command_state; progress = b.progress ∙ a.progress }
 
-  -- some events before, and behind
+  -- some events before, and after
   pub leaves_behind : (xs : List Change) (m x y : Machine) → Spares k o m x → Leaves k o xs x y → Leaves k o xs m y
   leaves_behind xs m x y a b = record {
-    charge = b.charge ∙ ap (λ c. record (all_changed xs c) { notes = [] }) a.charge;
-    progress = b.progress ∙ (λ i. progress_told k (all_changed xs (a.charge i)).notes (a.progress i));
+    command_state = b.command_state ∙ ap (λ c. record (all_changed xs c) { notes = [] }) a.command_state;
+    progress = b.progress ∙ (λ i. progress_told k (all_changed xs (a.command_state i)).notes (a.progress i));
   }
 
   pub leaves_before : (xs : List Change) (m x y : Machine) → Leaves k o xs m x → Spares k o x y → Leaves k o xs m y
-  leaves_before xs m x y a b = record { charge = b.charge ∙ a.charge; progress = b.progress ∙ a.progress }
+  leaves_before xs m x y a b = record { command_state = b.command_state ∙ a.command_state; progress = b.progress ∙ a.progress }
 
   -- nothing is changed
   pub leaves_none : (m x : Machine) → Spares k o m x → Leaves k o [] m x
   leaves_none m x a = record {
-    charge = a.charge ∙ ap (λ ns. record (charge_at m o) { notes = ns }) (untold m o);
+    command_state = a.command_state ∙ ap (λ ns. record (command_state_at m o) { notes = ns }) (untold m o);
     progress = a.progress ∙ ap (λ ns. progress_told k ns (progress_in m.instances k)) (sym (untold m o));
   }
 
   pub spares_of : (m x : Machine) → Leaves k o [] m x → Spares k o m x
   spares_of m x a = record {
-    charge = a.charge ∙ ap (λ ns. record (charge_at m o) { notes = ns }) (sym (untold m o));
+    command_state = a.command_state ∙ ap (λ ns. record (command_state_at m o) { notes = ns }) (sym (untold m o));
     progress = a.progress ∙ ap (λ ns. progress_told k ns (progress_in m.instances k)) (untold m o);
   }
 
   -- some changes, and then others
   pub leaves_more : AreInOrder → (xs ys : List Change) (m x y : Machine) → Leaves k o xs m x → Leaves k o ys x y → Leaves k o (xs ++ ys) m y
   leaves_more order xs ys m x y a b =
-      let c = charge_at m o in
+      let c = command_state_at m o in
       let d = all_changed xs c in
       let p = progress_in m.instances k in
-      let later : Charge → Charge = λ e. all_changed ys e in
+      let later : CommandState → CommandState = λ e. all_changed ys e in
       let all : all_changed (xs ++ ys) c
       ≡ record (later (record d { notes = [] })) { notes = d.notes ++ (later (record d { notes = [] })).notes } =
       order.more xs ys c ∙ order.notes ys d in
       record {
-        charge = b.charge ∙ ap (λ e. record (later e) { notes = [] }) a.charge ∙ ap (λ (e : Charge). record e { notes = [] }) (sym all);
-        progress = b.progress ∙ (λ i. progress_told k (later (a.charge i)).notes (a.progress i))
+        command_state = b.command_state ∙ ap (λ e. record (later e) { notes = [] }) a.command_state ∙ ap (λ (e : CommandState). record e { notes = [] }) (sym all);
+        progress = b.progress ∙ (λ i. progress_told k (later (a.command_state i)).notes (a.progress i))
             ∙ sym (told_more k d.notes (later (record d { notes = [] })).notes p)
-            ∙ ap (λ (e : Charge). progress_told k e.notes p) (sym all);
+            ∙ ap (λ (e : CommandState). progress_told k e.notes p) (sym all);
       }
 
   -- an event there
   pub event_leaves : (xs : List Change) (m x : Machine) → Event m x o xs → k < length m.instances → Leaves k o xs m x
   event_leaves xs m x e place = record {
-    charge = e.here;
-    progress = ap (λ is. progress_in is k) e.told ∙ told_exact k (all_changed xs (charge_at m o)).notes m.instances place;
+    command_state = e.here;
+    progress = ap (λ is. progress_in is k) e.told ∙ told_exact k (all_changed xs (command_state_at m o)).notes m.instances place;
   }
 
 -- changes of one object are these of another, where they are the same, and else none
@@ -131,7 +131,7 @@ module _ (laws : OwnerLaws) (s : Setup) (k : ℕ) (o : Object) (on : has_command
   pub event_beside : (p : Object) (ys : List Change) (m x : Machine) → Event m x p ys → is_same p o ≡ false → is_same o p ≡ false → IsThere m o →
       brought k ys ≡ 0 → ShownOf s k m → Spares k o m x
   event_beside p ys m x e d b there none shown = record {
-    charge = e.beside o there d;
+    command_state = e.beside o there d;
     progress = ap (λ (i : InstanceState). i.progress)
         (event_spares s k m x p _ (event_changes laws k m x p ys e none) shown (spared_beside s k m.instances o p on b));
   }

@@ -9,7 +9,7 @@ use Rattle.command_changes.specs.Axis as axis
 use Rattle.command_changes.specs.Fates.{AreAxisFates, AreGroupFates}
 use Rattle.command_changes.specs.Group as group
 use Rattle.command_core.specs.Changes.{Change, joins, replaced, ends, awaits, resets, holds, changed}
-use Rattle.command_core.specs.Charge.{Charge, queue_of}
+use Rattle.command_core.specs.CommandState.{CommandState, queue_of}
 use Rattle.command_core.specs.Fates.{fate_in, fate_of, followed_by}
 use Rattle.command_pool.specs.declared.ending.Finish.{Finish}
 use Rattle.command_pool.specs.declared.ending.Finish.TheVariants as finish
@@ -40,7 +40,7 @@ followed_not None None g h k = k
 followed_not None (Some w) g h k = h
 followed_not (Some f) b g h k = h
 
-then_not : (x : Change) (xs : List Change) (c : Charge) → NotDone (fate_of x c).ends →
+then_not : (x : Change) (xs : List Change) (c : CommandState) → NotDone (fate_of x c).ends →
     NotDone (fate_in xs (changed x c)).ends → NotDone (fate_in (x ∷ xs) c).ends
 then_not x xs c h k =
     followed_not (fate_of x c).ends (fate_of x c).begins (fate_in xs (changed x c)) h k
@@ -56,7 +56,7 @@ joined_not : (b : Bool) (before : Option Wanted) (w : Wanted) →
 joined_not true before w = replaced_not finish.Aborted before (Some w) (λ e. cc)
 joined_not false before w = λ e. cc
 
-fate_not : (xs : List Change) (c : Charge) → EndsNoneDone xs → NotDone (fate_in xs c).ends
+fate_not : (xs : List Change) (c : CommandState) → EndsNoneDone xs → NotDone (fate_in xs c).ends
 fate_not [] c h = λ e. cc
 fate_not (holds stops ∷ xs) c h =
     then_not (holds stops) xs c (λ e. cc) (fate_not xs (changed (holds stops) c) h)
@@ -96,7 +96,7 @@ axis_not_done laws s m k i n =
     let r = request_of (slice_get s.blocks k) k i m in
     let x = on_axis.by_request s r k i (machine_asked r k i m) n in
     let c = axis_core_at (machine_asked r k i m) n in
-    λ e. fate_not (axis_changes x c) (axis.charge_of c) (axis_none x c) (axis_ends laws x c ∙ e)
+    λ e. fate_not (axis_changes x c) (axis.command_state_of c) (axis_none x c) (axis_ends laws x c ∙ e)
 
 pub group_not_done : AreGroupFates → (s : Setup) (m : Machine) (k : ℕ) (i : Inputs) (j : ℕ) →
     NotDone (on_group.by_call group_entry.call_fate s (slice_get s.blocks k) k i m j).ends
@@ -104,4 +104,4 @@ group_not_done laws s m k i j =
     let r = request_of (slice_get s.blocks k) k i m in
     let x = on_group.by_request s r k i (machine_asked r k i m) j in
     let c = group_core_at (machine_asked r k i m) j in
-    λ e. fate_not (group_changes x c) (group.charge_of c) (group_none x c) (group_ends laws x c ∙ e)
+    λ e. fate_not (group_changes x c) (group.command_state_of c) (group_none x c) (group_ends laws x c ∙ e)

@@ -3,7 +3,7 @@ use Rattle.std.specs.Prelude.{◌≡◌, refl, ℕ, ◌<◌, ◌≤◌, false, n
 use Rattle.std.proofs.Common.{arith, ap, sym, ◌∙◌, inl, inr}
 use Rattle.std.proofs.lemmas.Bool.{cases_Bool, eqb-false, eqb-true}
 use Rattle.std.proofs.lemmas.List.{get_or-set_other, length-set}
-use Rattle.buffer_modes.specs.Owners.{told}
+use Rattle.buffer_modes.specs.Owners.{ends_given}
 use Rattle.command_core.proofs.Ends.{other_note, own_note}
 use Rattle.command_core.specs.Ends.{end_among}
 use Rattle.command_pool.specs.declared.ending.Finish.{Finish}
@@ -41,7 +41,7 @@ one_told k j f is there = elim (cases_Bool (nat_eq j k)) [
       ∙ ap (λ b. if b then Ended f false else progress_in is k) (sym d)
 ]
 
--- so it is with an instance among those that are told
+-- so it is with an instance among those that are reported
 pub told_exact : (k : ℕ) (ns : List Note) (is : List InstanceState) → k < length is →
     progress_in (told_notes ns is) k ≡ progress_told k ns (progress_in is k)
 told_exact k [] is there = refl
@@ -51,7 +51,7 @@ told_exact k (n ∷ ns) is there =
     ∙ ap (progress_told k ns) (one_told k n.owner n.finish is there)
 
 -- where no note is for it, it is as it was
-pub none_told : (k : ℕ) (ns : List Note) (p : Progress) → told k ns ≡ 0 → progress_told k ns p ≡ p
+pub none_told : (k : ℕ) (ns : List Note) (p : Progress) → ends_given k ns ≡ 0 → progress_told k ns p ≡ p
 none_told k [] p none = refl
 none_told k (n ∷ ns) p none = elim (cases_Bool (nat_eq n.owner k)) [
   | inl e ↦ absurd (let own = own_note k n.owner e in omega arith)
@@ -63,7 +63,7 @@ pub record EndsAmong (k : ℕ) (ns : List Note) : Type 0 where
   pub finish : Finish
   pub is : end_among k ns ≡ Some finish
 
-pub some_among : (k : ℕ) (ns : List Note) → 0 < told k ns → EndsAmong k ns
+pub some_among : (k : ℕ) (ns : List Note) → 0 < ends_given k ns → EndsAmong k ns
 some_among k [] some = absurd (omega arith)
 some_among k (n ∷ ns) some = elim (cases_Bool (nat_eq n.owner k)) [
   | inl e ↦ record { finish = n.finish; is = ap (λ b. if b then Some n.finish else end_among k ns) e }
@@ -73,7 +73,7 @@ some_among k (n ∷ ns) some = elim (cases_Bool (nat_eq n.owner k)) [
       record { finish = later.finish; is = ap (λ b. if b then Some n.finish else end_among k ns) d ∙ later.is }
 ]
 
-pub told_once : (k : ℕ) (ns : List Note) (p : Progress) → told k ns ≤ 1 → progress_told k ns p ≡ progress_by (end_among k ns) false p
+pub told_once : (k : ℕ) (ns : List Note) (p : Progress) → ends_given k ns ≤ 1 → progress_told k ns p ≡ progress_by (end_among k ns) false p
 told_once k [] p few = refl
 told_once k (n ∷ ns) p few = elim (cases_Bool (nat_eq n.owner k)) [
   | inl e ↦

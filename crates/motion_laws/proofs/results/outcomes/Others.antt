@@ -9,7 +9,7 @@ use Rattle.command_changes.specs.Axis as axis
 use Rattle.command_changes.specs.Group as group
 use Rattle.command_core.specs.Brought.{brought}
 use Rattle.command_core.specs.Changes.{Change, all_changed}
-use Rattle.command_core.specs.Charge.{active_of, owns}
+use Rattle.command_core.specs.CommandState.{active_of, owns}
 use Rattle.command_pool.specs.Kinds.{acts_on_group}
 use Rattle.command_pool.specs.declared.kind.BlockKind.TheVariants as kind
 use Rattle.fb_outputs.specs.InstanceState.{InstanceState}
@@ -54,14 +54,14 @@ use Rattle.motion_laws.proofs.results.outcomes.Final.{OutcomeLaws, outcome}
 use Rattle.motion_laws.proofs.results.outcomes.Leaves.{IsWhere, Leaves, Spares, axis_where, elsewhere, event_where, group_where, leaves_before, leaves_behind, leaves_none, spares_more, spares_none, spares_of, where_brings}
 use Rattle.motion_laws.proofs.results.outcomes.Notes.{progress_told}
 use Rattle.motion_laws.proofs.results.outcomes.Shown.{Affects, shown_by}
-use Rattle.motion_kernel.proofs.walk.Events.{axis_event, charge_same, freed_at, group_event, members_alike, members_instances}
-use Rattle.motion_kernel.proofs.walk.Keeps.{Event, charge_at}
+use Rattle.motion_kernel.proofs.walk.Events.{axis_event, command_state_same, freed_at, group_event, members_alike, members_instances}
+use Rattle.motion_kernel.proofs.walk.Keeps.{Event, command_state_at}
 use Rattle.motion_kernel.proofs.walk.Requests.{by_request}
 
 -- another instance is set
 set_spares : (k j : ℕ) (o : Object) (m : Machine) (i : InstanceState) → nat_eq j k ≡ false → Spares k o m (with_instance m j i)
 set_spares k j o m i d = record {
-  charge = charge_same m (slice_set m.instances j i) o;
+  command_state = command_state_same m (slice_set m.instances j i) o;
   progress = ap (λ (x : InstanceState). x.progress) (beside m j k i d);
 }
 
@@ -123,11 +123,11 @@ module _ (laws : OwnerLaws) (s : Setup) (k j : ℕ) (d : nat_eq j k ≡ false) w
   -- what is found where the instance has its commands as before
   affects_in : (o : Object) (xs : List Change) (m found after : Machine) → Leaves k o xs found after →
       progress_in found.instances k ≡ progress_in m.instances k →
-      brought k xs ≡ 0 → owns k (charge_at found o) ≡ owns k (charge_at m o) → active_of k (charge_at found o) ≡ active_of k (charge_at m o) →
-      Affects k o (record { commands = charge_at found o; changes = xs }) m after
+      brought k xs ≡ 0 → owns k (command_state_at found o) ≡ owns k (command_state_at m o) → active_of k (command_state_at found o) ≡ active_of k (command_state_at m o) →
+      Affects k o (record { commands = command_state_at found o; changes = xs }) m after
   affects_in o xs m found after a same none owned active = record {
-    charge = a.charge;
-    progress = a.progress ∙ ap (progress_told k (all_changed xs (charge_at found o)).notes) same;
+    command_state = a.command_state;
+    progress = a.progress ∙ ap (progress_told k (all_changed xs (command_state_at found o)).notes) same;
     notes = untold found o;
     none = none;
     owns = owned;
@@ -142,7 +142,7 @@ module _ (laws : OwnerLaws) (s : Setup) (k j : ℕ) (d : nat_eq j k ≡ false) w
       let none = nothing_changes s j i y o in
       affects_in o (changes_by_request s for_nothing j i y o) m y after
       (subst (λ xs. Leaves k o xs y after) (sym none) (leaves_none k o y after a))
-      spared.progress (ap (brought k) none) (ap (owns k) spared.charge) (ap (active_of k) spared.charge)
+      spared.progress (ap (brought k) none) (ap (owns k) spared.command_state) (ap (active_of k) spared.command_state)
 
   -- a Power
   power_event : (n : ℕ) (enable : Bool) (m : Machine) → IsSized s m → n < length m.axes →
@@ -239,7 +239,7 @@ module _ (laws : OwnerLaws) (s : Setup) (k j : ℕ) (d : nat_eq j k ≡ false) w
       let spared = set_spares k j o m v d in
       let sized = sized_instance s m j v h.sized in
       affects_in o _ m y _ (power_leaves o on n i.execute i y sized l (there_sized s m y o h.sized sized there) (beside_own s k j m v d (h.shown k)))
-      spared.progress (power_brings o n i.execute i y) (ap (owns k) spared.charge) (ap (active_of k) spared.charge)
+      spared.progress (power_brings o n i.execute i y) (ap (owns k) spared.command_state) (ap (active_of k) spared.command_state)
 
   -- a rising edge, where the calling instance's earlier command is its own no longer
   record IsFree (o : Object) (free : Machine) : Type 0 where
@@ -259,13 +259,13 @@ module _ (laws : OwnerLaws) (s : Setup) (k j : ℕ) (d : nat_eq j k ≡ false) w
 
   asking_affects : (o : Object) (i : Inputs) (m after : Machine) (ys zs : List Change) (p : Object) → IsThere m o →
       Leaves k o zs (without_owner j (with_execute j i m)) after → IsWhere p o ys zs → brought k ys ≡ 0 →
-      Affects k o (record { commands = charge_at (without_owner j (with_execute j i m)) o; changes = zs }) m after
+      Affects k o (record { commands = command_state_at (without_owner j (with_execute j i m)) o; changes = zs }) m after
   asking_affects o i m after ys zs p there leaves places none =
       let v = instance.called (instance_at m.instances j) i.execute in
       affects_in o zs m (without_owner j (with_execute j i m)) after leaves (ap (λ (x : InstanceState). x.progress) (free_same j k v m d))
       (where_brings k p o ys zs places none)
-      (ap (owns k) (freed_at laws.walk j v m o there) ∙ laws.once.left k j (charge_at m o) d)
-      (ap (active_of k) (freed_at laws.walk j v m o there) ∙ laws.more.left k j (charge_at m o) d)
+      (ap (owns k) (freed_at laws.walk j v m o there) ∙ laws.once.left k j (command_state_at m o) d)
+      (ap (active_of k) (freed_at laws.walk j v m o there) ∙ laws.more.left k j (command_state_at m o) d)
 
   -- of a block on an axis
   axis_affects : (o : Object) → has_commands_on (slice_get s.blocks k) o ≡ true → (b : BlockDef) (i : Inputs) (m : Machine) → IsGood s m →
@@ -321,7 +321,7 @@ module _ (laws : OwnerLaws) (s : Setup) (k j : ℕ) (d : nat_eq j k ≡ false) w
       (event_where laws s k o on (a_group n) ys zs free made (group_event s n free e ys size (omega arith) (laws.walk.group.command w i.jerk members c))
       places now.there none now.shown (place_sized s free k o size on))
       (spares_more k o made led _
-      (record { charge = alike.same o; progress = ap (λ is. progress_in is k) (members_instances s n b.kind answer made) })
+      (record { command_state = alike.same o; progress = ap (λ is. progress_in is k) (members_instances s n b.kind answer made) })
       (set_spares k j o led _ d))) places none
 
 -- a call of another instance
@@ -340,7 +340,7 @@ call_affects laws s m j k i o whole made kept h there on d =
     let of_axis : (b : BlockDef) → slice_get s.blocks j ≡ Some b → b.kind ≡ kind.Power → b.object < length m.axes =
     λ b at is. let inside : b.object < length s.axes = subst (λ y. There b (acts_on_group y)) is (within b at) in omega arith in
     by_request s j i m (λ r y. Affects k o (effect_by_request s r j i m o) m y) (record {
-      absent = λ none. nothing_affects owners s k j d o i m m (record { charge = sym spared.charge; progress = sym spared.progress });
+      absent = λ none. nothing_affects owners s k j d o i m m (record { command_state = sym spared.command_state; progress = sym spared.progress });
       quiet = λ b at other e. nothing_affects owners s k j d o i m (with_execute j i m) (spares_none k o (with_execute j i m));
       power = λ b at is. power_affects owners s k j d o on b.object i m good (of_axis b at is) there;
       axis_command = λ b at other e off. axis_affects owners s k j d o on b i m good (subst (There b) off (within b at)) there;
@@ -358,4 +358,4 @@ call_outcome laws s m j k i reply o whole made kept h there on d =
     let now = laws.owners.walk.machines.call s m j i whole made kept in
     outcome laws k effect.commands effect.changes _ _ _
     (shown_by s k o effect m x after on there (there_sized s m after o kept.sized now.sized there) h (call_all_shown laws.owners s m j i whole made kept h)
-    (call_affects laws s m j k i o whole made kept h there on d) last.charge (λ none. last.progress))
+    (call_affects laws s m j k i o whole made kept h there on d) last.command_state (λ none. last.progress))

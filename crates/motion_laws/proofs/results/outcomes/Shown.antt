@@ -5,7 +5,7 @@ use Rattle.cia402_machine.specs.declared.drive.DriveIn.{DriveIn}
 use Rattle.axis_state.specs.declared.definition.AxisRow.{AxisRow}
 use Rattle.command_core.specs.Brought.{brought}
 use Rattle.command_core.specs.Changes.{all_changed}
-use Rattle.command_core.specs.Charge.{active_of, owns}
+use Rattle.command_core.specs.CommandState.{active_of, owns}
 use Rattle.command_core.specs.Ends.{end_among}
 use Rattle.group_state.specs.declared.state.GroupRow.{GroupRow}
 use Rattle.motion_history.specs.Entries.{cycle}
@@ -29,20 +29,21 @@ use Rattle.motion_laws.proofs.results.outcomes.Cycles.{cycle_brings, cycle_leave
 use Rattle.motion_laws.proofs.results.outcomes.Final.{IsShownBy, OutcomeLaws, outcome}
 use Rattle.motion_laws.proofs.results.outcomes.Notes.{progress_told}
 use Rattle.motion_kernel.proofs.walk.Events.{found_alike}
-use Rattle.motion_kernel.proofs.walk.Keeps.{charge_at}
+use Rattle.motion_kernel.proofs.walk.Keeps.{command_state_at}
 
--- what happens to the commands of an axis or a group, and to an instance that has its commands there
+-- what happens to the commands of an axis or a group, and to an instance that has its commands
+-- there
 pub record Affects (k : ℕ) (o : Object) (x : Effect) (m after : Machine) : Type 0 where
-  pub charge : charge_at after o ≡ record (all_changed x.changes x.commands) { notes = [] }
+  pub command_state : command_state_at after o ≡ record (all_changed x.changes x.commands) { notes = [] }
   pub progress : progress_in after.instances k ≡ progress_told k (notes_by x) (progress_in m.instances k)
   pub notes : x.commands.notes ≡ []
   pub none : brought k x.changes ≡ 0
-  pub owns : owns k x.commands ≡ owns k (charge_at m o)
-  pub active : active_of k x.commands ≡ active_of k (charge_at m o)
+  pub owns : owns k x.commands ≡ owns k (command_state_at m o)
+  pub active : active_of k x.commands ≡ active_of k (command_state_at m o)
 
--- it shows its commands before and behind
+-- it shows its commands before and after
 pub shown_by : (s : Setup) (k : ℕ) (o : Object) (x : Effect) (m told after : Machine) → has_commands_on (slice_get s.blocks k) o ≡ true →
-    IsThere m o → IsThere after o → AreWhereShown s m → AreWhereShown s after → Affects k o x m told → charge_at after o ≡ charge_at told o →
+    IsThere m o → IsThere after o → AreWhereShown s m → AreWhereShown s after → Affects k o x m told → command_state_at after o ≡ command_state_at told o →
     (commands_shown (progress_in told.instances k) ≡ 0 → progress_in after.instances k ≡ progress_in told.instances k) →
     IsShownBy k x.commands x.changes (progress_in m.instances k) (progress_in told.instances k) (progress_in after.instances k)
 shown_by s k o x m told after on here there before now a same stays = record {
@@ -50,8 +51,8 @@ shown_by s k o x m told after on here there before now a same stays = record {
   notes = a.notes;
   before = a.owns ∙ sym (commands_of m k o) ∙ shown_if _ _ (commands_at m k o) on (before.commands k o here);
   active_before = a.active ∙ sym (active_in m k o) ∙ shown_if _ _ (active_at m k o) on (before.active k o here);
-  after = ap (owns k) (sym (same ∙ a.charge)) ∙ sym (commands_of after k o) ∙ shown_if _ _ (commands_at after k o) on (now.commands k o there);
-  active_after = ap (active_of k) (sym (same ∙ a.charge)) ∙ sym (active_in after k o)
+  after = ap (owns k) (sym (same ∙ a.command_state)) ∙ sym (commands_of after k o) ∙ shown_if _ _ (commands_at after k o) on (now.commands k o there);
+  active_after = ap (active_of k) (sym (same ∙ a.command_state)) ∙ sym (active_in after k o)
       ∙ shown_if _ _ (active_at after k o) on (now.active k o there);
   tells = a.progress;
   stays = stays;
@@ -60,17 +61,17 @@ shown_by s k o x m told after on here there before now a same stays = record {
 -- a cycle
 pub cycle_affects : OutcomeLaws → (s : Setup) (m : Machine) (ins : List DriveIn) (k : ℕ) (o : Object) → IsMachineKept s m → AreWhereShown s m →
     IsThere m o → has_commands_on (slice_get s.blocks k) o ≡ true →
-    Affects k o (record { commands = charge_at m o; changes = changes_in_cycle s m ins o }) m (cycled s m ins).machine
+    Affects k o (record { commands = command_state_at m o; changes = changes_in_cycle s m ins o }) m (cycled s m ins).machine
 cycle_affects laws s m ins k o kept h l on =
     let good : IsGood s m = record { sized = kept.sized; shown = h.commands } in
     let made = cycle_leaves laws.owners s k m ins kept good laws.order o on l in
     record {
-      charge = made.charge;
+      command_state = made.command_state;
       progress = made.progress;
       notes = untold m o;
       none = cycle_brings laws.owners laws.order s m ins k o;
-      owns = λ i. owns k (charge_at m o);
-      active = λ i. active_of k (charge_at m o);
+      owns = λ i. owns k (command_state_at m o);
+      active = λ i. active_of k (command_state_at m o);
     }
 
 pub cycle_outcome : OutcomeLaws → (s : Setup) (m : Machine) (c : ℕ) (rows : List AxisRow) (grows : List GroupRow) (k : ℕ) (o : Object) →
@@ -82,13 +83,13 @@ cycle_outcome laws s m c rows grows k o kept h l on =
     let x = (cycled s m ins).machine in
     let sound = cycled_good laws.owners s k m ins kept good in
     let alike = found_alike s x in
-    let effect : Effect = record { commands = charge_at m o; changes = changes_in_cycle s m ins o } in
-    outcome laws k (charge_at m o) (changes_in_cycle s m ins o) _ _ _
+    let effect : Effect = record { commands = command_state_at m o; changes = changes_in_cycle s m ins o } in
+    outcome laws k (command_state_at m o) (changes_in_cycle s m ins o) _ _ _
     (shown_by s k o effect m x (after_cycle s m ins) on l (alike.there o (there_in s m x o good sound l)) h
     (cycle_all_shown laws.owners s m ins kept h) (cycle_affects laws s m ins k o kept h l on) (alike.same o)
     (λ none. found_spares s x k sound.shown none))
 
--- the instance whose active command ends is told so
+-- the instance whose active command ends is reported so
 pub ends_as_told : OutcomeLaws → (s : Setup) (m z : Machine) (k : ℕ) (o : Object) (x : Effect) → AreWhereShown s m → IsThere m o →
     active_at m k o ≡ 1 → Affects k o x m z → end_among k (notes_by x) ≡ (fate_by x).ends
 ends_as_told laws s m z k o x h l act a =

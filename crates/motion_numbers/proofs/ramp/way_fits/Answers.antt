@@ -1,4 +1,4 @@
--- A step of at most the fall is the whole way; for a longer one the square tells, or the sum.
+-- A step of at most the fall is the whole way; for a longer one the square gives, or the sum.
 use Rattle.std.proofs.Common.{arith}
 use Rattle.std.proofs.lemmas.Bool.{leb-true, le-leb}
 use Rattle.motion_numbers.proofs.Runs.{run_fits, run_small}

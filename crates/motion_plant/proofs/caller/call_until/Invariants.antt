@@ -5,6 +5,6 @@ use Rattle.motion_plant.proofs.caller.call_until.Given as goal
 
 abbrev pub invariant-loop : goal.invariant-loop
 invariant-loop g l = record {
-  left : LeavesAll l.fn.pass l.pass;
-  owns : Owns (IsBy l.fn.pass.config l.turns.task) l.pass.own l.pass.seen;
+  left : LeavesAll l.fn.permit l.permit;
+  owns : Owns (IsBy l.fn.permit.config l.turns.task) l.permit.own l.permit.seen;
 }

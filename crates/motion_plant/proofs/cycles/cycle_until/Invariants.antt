@@ -6,7 +6,7 @@ use Rattle.motion_plant.proofs.cycles.cycle_until.Given as goal
 
 abbrev pub invariant-loop : goal.invariant-loop
 invariant-loop g l = record {
-  left : LeavesAll l.fn.pass l.pass;
-  owns : Owns (IsUpTo l.fn.pass.config 0) l.pass.own l.pass.seen;
+  left : LeavesAll l.fn.permit l.permit;
+  owns : Owns (IsUpTo l.fn.permit.config 0) l.permit.own l.permit.seen;
   width : length l.outs ≡ length l.fn.outs;
 }

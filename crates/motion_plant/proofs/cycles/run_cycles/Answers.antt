@@ -9,8 +9,8 @@ loop-init g c =
     let none = c.requires.fresh.2 in
     let lines = c.args.lines.now.items in
     record {
-      cycling = subst (λ (n : ℕ). IsCycling c.args.pass.now lines n c.args.pass.now lines) (sym none)
-          (cycling_first c.args.pass.now lines c.requires.fresh.0 c.requires.fresh.1
+      cycling = subst (λ (n : ℕ). IsCycling c.args.permit.now lines n c.args.permit.now lines) (sym none)
+          (cycling_first c.args.permit.now lines c.requires.fresh.0 c.requires.fresh.1
           c.requires.width.0);
       ins = c.requires.width.1;
       outs = c.requires.width.2;

@@ -1,4 +1,4 @@
--- One line more is told of its end.
+-- One line more is reported of its end.
 use Rattle.std.proofs.Common.{rules, ap, ◌∙◌}
 use Rattle.std.specs.Prelude.{slice_set}
 use Rattle.motion_plant.specs.Lines.{ended_line}

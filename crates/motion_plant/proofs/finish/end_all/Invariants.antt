@@ -1,4 +1,4 @@
--- The lines so far are told of their end.
+-- The lines so far are reported of their end.
 use Rattle.std.proofs.Common.{◌≡◌, ◌++◌, map, take, drop}
 use Rattle.motion_plant.specs.Lines.{ended_line}
 use Rattle.motion_plant.proofs.finish.end_all.Given as goal

@@ -1,4 +1,4 @@
--- What comes behind the drives that were joined so far is as it was.
+-- What comes after the drives that were joined so far is as it was.
 use Rattle.std.proofs.Common.{◌≡◌, ◌≤◌, ◌+◌, ℕ}
 use Rattle.std.specs.Prelude.{slice_get}
 use Rattle.motion_plant.specs.Jobs.{AreJoined}

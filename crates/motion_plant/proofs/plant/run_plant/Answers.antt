@@ -1,10 +1,10 @@
 -- What was started stands from the first number on; and the run is that of the machine.
 use Rattle.std.proofs.Common.{rules, ◌++◌, ap, ◌∙◌, sym, arith, subst, [], length, map, append-nil}
 use Rattle.std.specs.Arc.{arc_value}
-use Rattle.kernel_turn.specs.PassState.{PassState}
+use Rattle.kernel_turn.specs.PermitState.{PermitState}
 use Rattle.motion_history.specs.Setup.{Setup}
 use Rattle.motion_plant.specs.Jobs.{line_job, seat_job}
-use Rattle.motion_plant.specs.Lines.{IsNewLine}
+use Rattle.motion_plant.specs.Lines.{IsNewLink}
 use Rattle.motion_plant.specs.Places.{Each}
 use Rattle.motion_plant.specs.Ran.{PlantMeets}
 use Rattle.motion_plant.proofs.AllJoined.{started_joined}
@@ -54,12 +54,12 @@ run_started-requires-clause-fresh g c κs within =
 pub returns-clause-ran : goal.returns-clause-ran
 returns-clause-ran g c =
     let f = c.in_default-start_tasks.ensures.seats in
-    let config = ap (λ (p : PassState). p.config) f.2 ∙
-    ap (λ (p : PassState). p.config) c.in_ok-opened.ensures.first in
+    let config = ap (λ (p : PermitState). p.config) f.2 ∙
+    ap (λ (p : PermitState). p.config) c.in_ok-opened.ensures.first in
     let fresh = c.in_default-start_drives.ensures.fresh in
     let axes = c.axes-axes.ensures.axes in
     let defs = c.as_slice-defs.ensures in
-    ran c.args.setup.now.config c.in_ok-opened.opened.pass (arc_value c.args.setup.now.program)
+    ran c.args.setup.now.config c.in_ok-opened.opened.permit (arc_value c.args.setup.now.program)
     c.args.setup.now.config.axes c.args.setup.now.drives c.start_drives.new.lines.items
     c.start_tasks.new.seats.items _ _
     (subst (λ (s : Setup). PlantMeets s c.start_drives.new.lines.items c.start_tasks.new.seats.items
@@ -69,8 +69,8 @@ returns-clause-ran g c =
     f.1
     (fresh.0 ∙ ap length axes)
     c.requires.each
-    (subst (λ ds. Each (IsNewLine c.args.setup.now.config.axes ds) c.start_drives.new.lines.items)
-    defs (subst (λ xs. Each (IsNewLine xs c.as_slice-defs.result.now) c.start_drives.new.lines.items)
+    (subst (λ ds. Each (IsNewLink c.args.setup.now.config.axes ds) c.start_drives.new.lines.items)
+    defs (subst (λ xs. Each (IsNewLink xs c.as_slice-defs.result.now) c.start_drives.new.lines.items)
     axes fresh.1))
     c.run_started.ensures.logs
 

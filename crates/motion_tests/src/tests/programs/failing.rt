@@ -1,4 +1,5 @@
-// Files that can't be read, outputs that fail or take a byte at a time, and starts that are refused.
+// Files that can't be read, outputs that fail or take a byte at a time, and starts that are
+// refused.
 
 use super::{ONE_MOVE_TRACE, ended, files_of, outcome};
 use job_ends::Status;

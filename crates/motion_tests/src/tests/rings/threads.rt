@@ -26,7 +26,7 @@ impl Kernel {
         unreachable!()
     }
 
-    // Sends so many outputs and takes as many answers, each in its order and once.
+    // Sends this many outputs and takes as many answers, each in its order and once.
     fn pass_all<R: Wait + Abort>(mut self, rt: &R, count: u32) -> KernelEnd
         ensures { result.ring ≡ self.end.ring }
     {
@@ -39,7 +39,7 @@ impl Kernel {
         end
     }
 
-    // Sends so many outputs, and the end right after the last of them.
+    // Sends this many outputs, and the end right after the last of them.
     fn send_all<R: Wait>(mut self, rt: &R, count: u32) -> KernelEnd
         ensures { result.ring ≡ self.end.ring }
     {
@@ -123,7 +123,7 @@ fn two_threads_pass_items_both_ways(rt: HostRuntime) -> Result<(), Fail> {
     expect_log(&rt, drive, count)
 }
 
-// The drive took so many outputs, in their order and each once, and sent as many answers.
+// The drive took this many outputs, in their order and each once, and sent as many answers.
 fn expect_log(rt: &impl Abort, drive: Drive, count: u32) -> Result<(), Fail> {
     if drive.sent == 0 {
         return Err(Fail::new("the drive sent nothing"));

@@ -77,7 +77,7 @@ pub(crate) fn call(task: u8, instance: u16, inputs: Inputs) -> FedEvent {
     }
 }
 
-/// A cycle in which so many drives answer that they stand at a place.
+/// A cycle in which this many drives answer that they stand at a place.
 pub(crate) fn cycle(count: u8, actual: i32) -> FedEvent {
     let answer = DriveIn {
         statusword: 0x0037,
@@ -195,7 +195,7 @@ impl Ends {
     }
 
     // Pushes an event and takes it.
-    pub(crate) fn pass(&mut self, event: FedEvent) -> Option<Fed> {
+    pub(crate) fn permit(&mut self, event: FedEvent) -> Option<Fed> {
         if self.push(event).is_err() {
             return None;
         }
@@ -205,7 +205,7 @@ impl Ends {
     // Passes the events of the move from a place up to another, and answers whether each is made.
     pub(crate) fn passes(&mut self, from: usize, to: usize) -> bool {
         for place in from..to {
-            if self.pass(event(place)) != Some(Fed::Applied) {
+            if self.permit(event(place)) != Some(Fed::Applied) {
                 return false;
             }
         }

@@ -46,7 +46,7 @@ fn a_stranger_changes_nothing(rt: HostRuntime) -> Result<(), Fail> {
         let mut ends = Ends::of_machine(rt.alloc(), 40, 20, 4)?;
         assert!(rt; ends.passes(0, 3), "{name}");
         assert_eq!(rt;
-            ends.pass(stranger),
+            ends.permit(stranger),
             Some(Fed::Stranger(stranger)),
             "{name}"
         );
@@ -91,7 +91,7 @@ fn what_finds_no_room_is_a_stranger(rt: HostRuntime) -> Result<(), Fail> {
     for (cycles, entries) in [(6, 20), (40, 7)] {
         let mut ends = Ends::of_machine(rt.alloc(), cycles, entries, 4)?;
         assert!(rt; ends.passes(0, 7));
-        assert_eq!(rt; ends.pass(event(7)), Some(Fed::Stranger(event(7))));
+        assert_eq!(rt; ends.permit(event(7)), Some(Fed::Stranger(event(7))));
         expect_move(&rt, ends.kernel().history(), 7);
     }
     Ok(())

@@ -55,7 +55,7 @@ fn makes_end(kernel: &mut Kernel, task: u8) -> bool {
 fn makes_on_both(first: &mut Kernel, ends: &mut Ends, count: usize) -> bool {
     for place in 0..count {
         let is_made = makes(first, &event(place));
-        let passed = ends.pass(event(place));
+        let passed = ends.permit(event(place));
         if !is_made || passed != Some(Fed::Applied) {
             return false;
         }
@@ -109,7 +109,7 @@ fn a_promoted_kernel_goes_on(rt: HostRuntime) -> Result<(), Fail> {
     Ok(())
 }
 
-// Takes so many events, each of which is made.
+// Takes this many events, each of which is made.
 fn take_all(mut standby: Standby, count: usize) -> (Standby, usize)
     ensures { result.0.ring ≡ standby.ring }
 {

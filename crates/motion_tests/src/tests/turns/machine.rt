@@ -3,10 +3,10 @@
 ghost use Rattle.std.specs.Prelude.{◌≡◌, ℕ, IfOk, [], false};
 ghost use Rattle.command_pool.specs.declared.kind.BlockKind.{BlockKind};
 ghost use Rattle.fb_outputs.specs.Inputs.{AreInputs};
-ghost use Rattle.kernel_turn.specs.Turns.{IsSamePass, opening_pass};
+ghost use Rattle.kernel_turn.specs.Turns.{IsSamePermit, opening_permit};
 
 use command_pool::{BlockKind, BufferMode};
-use kernel_turn::{DriveIn, DriveOut, Inputs, Kernel, KernelTurn, Outputs, Pass, Turn};
+use kernel_turn::{DriveIn, DriveOut, Inputs, Kernel, KernelTurn, Outputs, Permit, Turn};
 use motion_history::{Builder, Config, ConfigFault, Limits};
 use std::alloc::Global;
 use std::process::Abort;
@@ -41,13 +41,13 @@ pub(crate) fn opened(
     cycles: u32,
     entries: u32,
     tasks: u8,
-) -> Result<(Config, KernelTurn, Pass), Fail>
-    ensures opening { IfOk result (λ r. r.2 ≡ opening_pass r.1 r.0) }
+) -> Result<(Config, KernelTurn, Permit), Fail>
+    ensures opening { IfOk result (λ r. r.2 ≡ opening_permit r.1 r.0) }
 {
     let config = machine(alloc, cycles, entries, tasks)?;
     let kernel = Kernel::open(alloc, config.copy(alloc)?)?;
-    let (turns, pass) = KernelTurn::open(alloc, kernel)?;
-    Ok((config, turns, pass))
+    let (turns, permit) = KernelTurn::open(alloc, kernel)?;
+    Ok((config, turns, permit))
 }
 
 // The inputs of a block that takes none besides Enable.
@@ -75,18 +75,18 @@ pub(crate) fn call<R: Wait + Abort>(
     rt: &R,
     turns: &KernelTurn,
     config: &Config,
-    pass: &mut Pass,
+    permit: &mut Permit,
     instance: u16,
     after: u32,
 ) -> Turn<Outputs>
-    requires own { pass.old.table ≡ turns.now }
-    requires config { pass.old.config ≡ config.now }
-    ensures same { IsSamePass pass.old pass.new }
+    requires own { permit.old.table ≡ turns.now }
+    requires config { permit.old.config ≡ config.now }
+    ensures same { IsSamePermit permit.old permit.new }
 {
     assert!(rt; (instance as usize) < config.blocks().len());
     assert!(rt; !config.axes().is_empty());
     let task = config.blocks()[instance as usize].task;
-    turns.turn_call(rt, pass, task, after, instance, &enabled())
+    turns.turn_call(rt, permit, task, after, instance, &enabled())
 }
 
 /// A turn that goes through a cycle with a drive that stands still in Operation enabled.
@@ -94,11 +94,11 @@ pub(crate) fn cycle<R: Wait + Abort>(
     rt: &R,
     turns: &KernelTurn,
     config: &Config,
-    pass: &mut Pass,
+    permit: &mut Permit,
 ) -> Turn<u8>
-    requires own { pass.old.table ≡ turns.now }
-    requires config { pass.old.config ≡ config.now }
-    ensures same { IsSamePass pass.old pass.new }
+    requires own { permit.old.table ≡ turns.now }
+    requires config { permit.old.config ≡ config.now }
+    ensures same { IsSamePermit permit.old permit.new }
 {
     assert!(rt; config.axes().len() == 1);
     let answer = DriveIn {
@@ -111,7 +111,7 @@ pub(crate) fn cycle<R: Wait + Abort>(
         mode: 0,
         target: 0,
     }];
-    turns.turn_cycle(rt, pass, &[answer], &mut outs)
+    turns.turn_cycle(rt, permit, &[answer], &mut outs)
 }
 
 /// A turn that ends a task.
@@ -119,13 +119,13 @@ pub(crate) fn end<R: Wait + Abort>(
     rt: &R,
     turns: &KernelTurn,
     config: &Config,
-    pass: &mut Pass,
+    permit: &mut Permit,
     task: u8,
 ) -> Turn<()>
-    requires own { pass.old.table ≡ turns.now }
-    requires config { pass.old.config ≡ config.now }
-    ensures same { IsSamePass pass.old pass.new }
+    requires own { permit.old.table ≡ turns.now }
+    requires config { permit.old.config ≡ config.now }
+    ensures same { IsSamePermit permit.old permit.new }
 {
     assert!(rt; (task as usize) < config.tasks().len());
-    turns.turn_end(rt, pass, task)
+    turns.turn_end(rt, permit, task)
 }

@@ -1,10 +1,10 @@
 // The numbers that turns answer, in one thread.
 
 ghost use Rattle.std.specs.Prelude.{◌≡◌};
-ghost use Rattle.kernel_turn.specs.Turns.{IsSamePass};
+ghost use Rattle.kernel_turn.specs.Turns.{IsSamePermit};
 
 use crate::tests::turns::machine::{call, cycle, end, opened};
-use kernel_turn::{Kernel, KernelTurn, Pass, Turn};
+use kernel_turn::{Kernel, KernelTurn, Permit, Turn};
 use motion_history::Config;
 use std::alloc::Global;
 use std::process::Abort;
@@ -57,19 +57,19 @@ fn play<R: Wait + Abort>(
     rt: &R,
     turns: &KernelTurn,
     config: &Config,
-    pass: &mut Pass,
+    permit: &mut Permit,
     event: Event,
 ) -> Turn<u8>
-    requires own { pass.old.table ≡ turns.now }
-    requires config { pass.old.config ≡ config.now }
-    ensures same { IsSamePass pass.old pass.new }
+    requires own { permit.old.table ≡ turns.now }
+    requires config { permit.old.config ≡ config.now }
+    ensures same { IsSamePermit permit.old permit.new }
 {
     match event {
         Event::Call { instance, after } => {
-            without_answer(call(rt, turns, config, pass, instance, after))
+            without_answer(call(rt, turns, config, permit, instance, after))
         }
-        Event::Cycle => cycle(rt, turns, config, pass),
-        Event::End { task } => without_answer(end(rt, turns, config, pass, task)),
+        Event::Cycle => cycle(rt, turns, config, permit),
+        Event::End { task } => without_answer(end(rt, turns, config, permit, task)),
     }
 }
 
@@ -78,14 +78,14 @@ fn play_each<R: Wait + Abort>(
     rt: &R,
     turns: &KernelTurn,
     config: &Config,
-    first: &mut Pass,
-    second: &mut Pass,
+    first: &mut Permit,
+    second: &mut Permit,
     cases: &[Case],
 )
     requires first { (first.old.table ≡ turns.now) × (first.old.config ≡ config.now) }
     requires second { (second.old.table ≡ turns.now) × (second.old.config ≡ config.now) }
-    ensures first { IsSamePass first.old first.new }
-    ensures second { IsSamePass second.old second.new }
+    ensures first { IsSamePermit first.old first.new }
+    ensures second { IsSamePermit second.old second.new }
 {
     for case in cases {
         let told = if case.opening {
@@ -97,7 +97,7 @@ fn play_each<R: Wait + Abort>(
     }
 }
 
-// The kernel after the events of two passes on a machine with so many tasks and two cycles, and
+// The kernel after the events of two passes on a machine with this many tasks and two cycles, and
 // then a stop.
 fn play_all<R: Wait + Abort>(
     rt: &R,
@@ -163,12 +163,12 @@ fn mixes_the_turns_of_two_passes(rt: HostRuntime) -> Result<(), Fail> {
 
 #[test]
 fn makes_nothing_after_a_stop(rt: HostRuntime) -> Result<(), Fail> {
-    let (config, turns, mut pass) = opened(rt.alloc(), 2, 50, 1)?;
-    turns.turn_stop(&rt, &mut pass);
+    let (config, turns, mut permit) = opened(rt.alloc(), 2, 50, 1)?;
+    turns.turn_stop(&rt, &mut permit);
     let full = Turn::Full {
         entries: 0,
         cycles: 0,
     };
-    assert_eq!(rt; end(&rt, &turns, &config, &mut pass, 0), full);
+    assert_eq!(rt; end(&rt, &turns, &config, &mut permit, 0), full);
     Ok(())
 }

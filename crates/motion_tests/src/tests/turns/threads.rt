@@ -1,10 +1,10 @@
 // Turns in two threads: each entry has its own ticket.
 
 ghost use Rattle.std.specs.Prelude.{◌≡◌};
-ghost use Rattle.kernel_turn.specs.Turns.{IsSamePass};
+ghost use Rattle.kernel_turn.specs.Turns.{IsSamePermit};
 
 use crate::tests::turns::machine::{call, opened};
-use kernel_turn::{KernelTurn, Pass, Turn};
+use kernel_turn::{KernelTurn, Permit, Turn};
 use motion_history::Config;
 use std::process::Abort;
 use std::sync::Wait;
@@ -16,7 +16,7 @@ const CALLS: usize = 100;
 // A pass after its calls, with the tickets of those that were made.
 #[derive(Drop)]
 struct Called {
-    pass: Pass,
+    permit: Permit,
     tickets: [Option<u64>; CALLS],
 }
 
@@ -25,16 +25,16 @@ fn call_all<R: Wait + Abort>(
     rt: &R,
     turns: &KernelTurn,
     config: &Config,
-    mut pass: Pass,
+    mut permit: Permit,
     instance: u16,
 ) -> Called
-    requires own { pass.table ≡ turns.now }
-    requires config { pass.config ≡ config.now }
-    ensures same { IsSamePass pass result.pass }
+    requires own { permit.table ≡ turns.now }
+    requires config { permit.config ≡ config.now }
+    ensures same { IsSamePermit permit result.permit }
 {
     let mut tickets = [None; CALLS];
     for place in 0..CALLS {
-        tickets[place] = match call(rt, turns, config, &mut pass, instance, 0) {
+        tickets[place] = match call(rt, turns, config, &mut permit, instance, 0) {
             Turn::Made { ticket, .. } => Some(ticket),
             Turn::Full { entries, .. } => {
                 assert_eq!(rt; entries, u64::from(config.entries()));
@@ -43,7 +43,7 @@ fn call_all<R: Wait + Abort>(
             Turn::Early { .. } => rt.abort(),
         };
     }
-    Called { pass, tickets }
+    Called { permit, tickets }
 }
 
 // Marks the tickets, each of which must be new, and counts them.
@@ -84,17 +84,17 @@ fn two_threads_have_each_ticket_once(rt: HostRuntime) -> Result<(), Fail> {
             &rt,
             move || -> Called
                 requires { (first.table ≡ shared.now) × (first.config ≡ machine.now) }
-                ensures { IsSamePass first result.pass }
+                ensures { IsSamePermit first result.permit }
             { call_all(host, shared, machine, first, 0) },
             move || -> Called
                 requires { (second.table ≡ shared.now) × (second.config ≡ machine.now) }
-                ensures { IsSamePass second result.pass }
+                ensures { IsSamePermit second result.permit }
             { call_all(host, shared, machine, second, 1) },
         );
         expect_all(&rt, &one.tickets, &two.tickets, entries);
-        let mut pass = one.pass;
-        turns.join(&mut pass, two.pass);
-        let kernel = turns.close(&rt, pass);
+        let mut permit = one.permit;
+        turns.join(&mut permit, two.permit);
+        let kernel = turns.close(&rt, permit);
         assert_eq!(rt; kernel.history().entries(), entries as u64);
     }
     Ok(())

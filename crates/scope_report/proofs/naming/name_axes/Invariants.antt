@@ -1,6 +1,6 @@
 use Rattle.std.proofs.Common.{◌≡◌, List, take}
 use Rattle.motion_history.specs.Entries.{Entry}
-use Rattle.scope_report.specs.Pieces.{AreParts}
+use Rattle.scope_report.specs.Shares.{AreParts}
 use Rattle.scope_report.specs.Reports.{axis_reports_from}
 use Rattle.scope_report.proofs.naming.name_axes.Given as goal
 

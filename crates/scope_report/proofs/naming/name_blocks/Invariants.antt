@@ -1,6 +1,6 @@
 use Rattle.std.proofs.Common.{◌≡◌, List, take}
 use Rattle.motion_history.specs.Entries.{Entry}
-use Rattle.scope_report.specs.Pieces.{AreCounts}
+use Rattle.scope_report.specs.Shares.{AreCounts}
 use Rattle.scope_report.specs.Reports.{block_reports_from}
 use Rattle.scope_report.proofs.naming.name_blocks.Given as goal
 

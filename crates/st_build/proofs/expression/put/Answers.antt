@@ -1,4 +1,4 @@
--- One operand more has its parts behind.
+-- One operand more has its parts after.
 use Rattle.st_build.proofs.Lists.{with_operand}
 use Rattle.st_build.proofs.expression.put.Goals as goal
 

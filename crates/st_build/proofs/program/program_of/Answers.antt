@@ -1,4 +1,4 @@
--- One task more spells what was gone over behind those before.
+-- One task more spells what was gone over after those before.
 use Rattle.std.proofs.Common.{◌≡◌, ◌+◌, ◌++◌, drop, length, ap, sym, ◌∙◌, length-append}
 use Rattle.std.specs.List.{flat_map}
 use Rattle.st_parts.specs.Parts.{blocks_of, task_names, task_parts}

@@ -1,4 +1,4 @@
--- One statement or branch more spells what was gone over behind those before.
+-- One statement or branch more spells what was gone over after those before.
 use Rattle.std.proofs.Common.{drop}
 use Rattle.st_parts.specs.Parts.{branch_parts, stmt_parts}
 use Rattle.st_build.proofs.Lists.{pushed_over}

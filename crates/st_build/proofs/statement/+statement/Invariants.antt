@@ -1,4 +1,5 @@
--- Statements lie less deep than those around them. Those so far spell the parts that were gone over.
+-- Statements lie less deep than those around them. Those so far spell the parts that were gone
+-- over.
 use Rattle.std.proofs.Common.{◌≡◌, ◌++◌, ◌+◌, ◌*◌, drop}
 use Rattle.st_parts.specs.Parts.{body_parts, branches_parts}
 use Rattle.st_build.proofs.statement.+statement.Given as goal

@@ -1,4 +1,4 @@
--- What one key more gives spells what was gone over behind those before.
+-- What one key more gives spells what was gone over after those before.
 use Rattle.std.proofs.Common.{drop}
 use Rattle.st_parts.specs.Parts.{given_parts}
 use Rattle.st_build.proofs.Lists.{pushed_over}

@@ -1,4 +1,4 @@
--- An act leads on, and behind the code the run stops.
+-- An act leads on, and after the code the run stops.
 use Rattle.std.proofs.Common.{◌∙◌, ap, sym, Some}
 use Rattle.st_exec.proofs.Walking.{advances_on, may_go_on, past_code}
 use Rattle.st_exec.proofs.walk.walk.Goals as goal

@@ -12,7 +12,7 @@ use Rattle.st_job.specs.Opening.{AreOpened}
 use Rattle.st_job.proofs.OpenLaws.{legal-run, run-is, slice-back}
 use Rattle.st_job.proofs.run.run_rounds.Goals as goal
 
--- the kernel's history, with the drives as they are behind it, is the run's
+-- the kernel's history, with the drives as they are after it, is the run's
 pub returns-clause-made : goal.returns-clause-made
 returns-clause-made c =
     let p = c.args.cell.now in

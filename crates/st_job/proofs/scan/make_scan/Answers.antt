@@ -1,4 +1,4 @@
--- A scan goes on behind each call, and is over or ends the run.
+-- A scan goes on after each call, and is over or ends the run.
 use Rattle.std.specs.Prelude.{[], false, true}
 use Rattle.std.proofs.lemmas.Result.{err_from_is_err_and}
 use Rattle.st_job.proofs.ScanEnds.{ends-full, ends-over, goes-over, over-between, stops}

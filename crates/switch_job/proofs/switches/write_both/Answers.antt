@@ -1,4 +1,4 @@
--- The trace was judged, or there was no memory for it.
+-- The trace was verified, or there was no memory for it.
 use Rattle.std.specs.Prelude.{None}
 use Rattle.std.proofs.Common.{◌∙◌, ap, refl, sym}
 use Rattle.job_ends.proofs.Statuses.{same-plan}

@@ -1,4 +1,4 @@
--- The switches stand behind the entries so far.
+-- The switches stand after the entries so far.
 use Rattle.std.proofs.Common.{◌≤◌}
 use Rattle.trace_text.specs.TraceState.{entries_of}
 use Rattle.switch_text.specs.UnderWay.{IsBehind}

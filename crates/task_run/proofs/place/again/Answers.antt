@@ -1,4 +1,4 @@
--- At the end of a repeat a place goes back to its first line, or behind it.
+-- At the end of a repeat a place goes back to its first line, or after it.
 use Rattle.task_run.proofs.Places.{no-again}
 use Rattle.task_run.proofs.Settled.{inside-of, outside-of}
 use Rattle.task_run.proofs.place.again.Goals as goal

@@ -1,4 +1,4 @@
--- Behind a line that makes calls it is passed.
+-- After a line that makes calls it is passed.
 use Rattle.task_run.proofs.Places.{moved}
 use Rattle.task_run.proofs.place.moved.Goals as goal
 

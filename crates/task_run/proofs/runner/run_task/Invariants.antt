@@ -1,4 +1,4 @@
--- The run and the caller stand behind the calls that were made.
+-- The run and the caller stand after the calls that were made.
 use Rattle.std.proofs.Common.{◌≡◌}
 use Rattle.task_run.proofs.Running.{IsUnderWay}
 use Rattle.task_run.proofs.runner.run_task.Given as goal

@@ -3,7 +3,7 @@ use Rattle.std.specs.Prelude.{◌≡◌, refl, ◌<◌, length}
 use Rattle.std.proofs.Common.{◌∙◌, ap, arith}
 use Rattle.std.proofs.lemmas.List.{length-map}
 use Rattle.motion_history.specs.Setup.{Setup}
-use Rattle.motion_kernel.specs.Banks.{BankedState}
+use Rattle.motion_kernel.specs.Segments.{SegmentedState}
 use Rattle.trace_text.specs.TraceState.{entry_of}
 use Rattle.trace_check.proofs.Numbered.{there}
 use Rattle.trace_check.proofs.ReplayLaws.{first-is, goes-on, opens, stops-here}
@@ -52,4 +52,4 @@ loop-entry-preserved c =
     let e = there c.args.trace.now.found c.loop-entry.entry within in
     let made = c.in-Ok.ensures e.0 e.1 in
     let on = goes-on c.args.trace.now c.args.kernel.now.start c.loop-entry.kernel _ c.loop-entry.entry c.loop-entry.place _ e.0 c.loop-entry.invariant.0 e.1 made in
-    (on, ap (λ (k : BankedState). k.before) made.after ∙ c.loop-entry.invariant.1)
+    (on, ap (λ (k : SegmentedState). k.before) made.after ∙ c.loop-entry.invariant.1)

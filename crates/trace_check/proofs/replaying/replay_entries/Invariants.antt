@@ -1,4 +1,4 @@
--- So many entries are replayed, and what was before stays.
+-- This many entries are replayed, and what was before stays.
 use Rattle.std.specs.Prelude.{◌≡◌}
 use Rattle.trace_check.specs.Progress.{IsUnderWay}
 use Rattle.trace_check.proofs.replaying.replay_entries.Given as goal

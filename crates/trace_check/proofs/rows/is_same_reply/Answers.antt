@@ -1,4 +1,4 @@
--- What the comparison has told.
+-- What the comparison has reported.
 use Rattle.std.proofs.Common.{◌∙◌, sym}
 use Rattle.trace_check.proofs.Equal.{alike-outputs, same-outputs}
 use Rattle.trace_check.proofs.rows.is_same_reply.Goals as goal

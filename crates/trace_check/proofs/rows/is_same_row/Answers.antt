@@ -1,4 +1,4 @@
--- What the comparison has told.
+-- What the comparison has reported.
 use Rattle.std.proofs.Common.{◌∙◌, sym}
 use Rattle.trace_check.proofs.Equal.{alike-row, same-row}
 use Rattle.trace_check.proofs.rows.is_same_row.Goals as goal

@@ -1,4 +1,4 @@
--- The record at a place, with the place that was found behind a row.
+-- The record at a place, with the place that was found after a row.
 use Rattle.std.specs.Prelude.{◌≡◌, ◌-◌, suc}
 use Rattle.std.specs.Fmt.{signed_decimal}
 use Rattle.std.proofs.Common.{◌∙◌, sym, arith, FitsSigned, w64, to_z-of_z}

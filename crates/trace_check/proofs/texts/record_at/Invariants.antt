@@ -1,4 +1,4 @@
--- So many records are read.
+-- This many records are read.
 use Rattle.csv_records.specs.Records.{records_of}
 use Rattle.trace_check.proofs.Ahead.{IsAhead}
 use Rattle.trace_check.proofs.texts.record_at.Given as goal

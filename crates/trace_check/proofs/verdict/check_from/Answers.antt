@@ -1,5 +1,5 @@
 -- The verdict by the replay.
-use Rattle.trace_check.proofs.VerdictLaws.{judged-illegal, judged-legal, verdict-illegal, verdict-legal}
+use Rattle.trace_check.proofs.VerdictLaws.{verified-illegal, verified-legal, verdict-illegal, verdict-legal}
 use Rattle.trace_check.proofs.verdict.check_from.Goals as goal
 
 pub returns-in-Legal-clause-verdict : goal.returns-in-Legal-clause-verdict
@@ -14,8 +14,8 @@ returns-clause-verdict c =
 
 pub returns-in-Legal-clause-held : goal.returns-in-Legal-clause-held
 returns-in-Legal-clause-held c = λ whole held.
-    judged-legal whole c.args.trace.now c.args.kernel.start c.in-Legal.field-0 c.entries.result held (rw c.in-Legal.is at (c.in_ok-replay_from.ensures.held whole held)) c.entries.ensures.count
+    verified-legal whole c.args.trace.now c.args.kernel.start c.in-Legal.field-0 c.entries.result held (rw c.in-Legal.is at (c.in_ok-replay_from.ensures.held whole held)) c.entries.ensures.count
 
 pub returns-clause-held : goal.returns-clause-held
 returns-clause-held c = λ whole held.
-    judged-illegal whole c.args.kernel.start c.in-IllegalAt.field-0 (rw c.in-IllegalAt.is at (c.in_ok-replay_from.ensures.held whole held))
+    verified-illegal whole c.args.kernel.start c.in-IllegalAt.field-0 (rw c.in-IllegalAt.is at (c.in_ok-replay_from.ensures.held whole held))

@@ -1,4 +1,4 @@
--- Digit by digit behind the first eight.
+-- Digit by digit after the first eight.
 use Rattle.std.proofs.Common.{◌≡◌, ◌≤◌, ◌<◌, ◌^◌, length, subst, arith}
 use Rattle.trace_columns.proofs.ShortLaws.{IsRead, all_read, all_small, read_more, room_left}
 use Rattle.trace_columns.proofs.number.digits_of.Goals as goal

@@ -1,4 +1,4 @@
--- One field more, behind a comma.
+-- One field more, after a comma.
 use Rattle.std.specs.Prelude.{◌∷◌, ◌++◌, take}
 use Rattle.std.proofs.Common.{◌∙◌, ap, arith, sym}
 use Rattle.trace_jobs.specs.Lines.{joined}

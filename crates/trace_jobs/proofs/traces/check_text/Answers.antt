@@ -1,7 +1,7 @@
--- The trace was judged, its text is refused, or there was no memory for it.
+-- The trace was verified, its text is refused, or there was no memory for it.
 use Rattle.std.proofs.Common.{refl}
 use Rattle.trace_jobs.specs.Plans.{plan_of_check}
-use Rattle.trace_jobs.proofs.EndLaws.{check-ended, judges-none, judges-other, judges-read, read-ends, refused-ends, refused-why}
+use Rattle.trace_jobs.proofs.EndLaws.{check-ended, verifies-none, verifies-other, verifies-read, read-ends, refused-ends, refused-why}
 use Rattle.trace_jobs.proofs.traces.check_text.Goals as goal
 
 pub returns-in-Ok : goal.returns-in-Ok
@@ -9,17 +9,17 @@ returns-in-Ok g c =
     let r = c.in-Ok.ensures.reading in
     check-ended c.ends_follow_plans.ensures _ _ _ _ _
     (read-ends _ _ plan_of_check c.args.name.now _ r.0 _ r.1 (c.check_trace.ensures.ends r.0 r.2))
-    (judges-read _ _ _ r.1 (c.check_trace.ensures.judged r.0 r.2))
+    (verifies-read _ _ _ r.1 (c.check_trace.ensures.verified r.0 r.2))
 
 pub returns-in-Err-Refused : goal.returns-in-Err-Refused
 returns-in-Err-Refused g c =
     let why = refused-why _ _ _ c.in-Err-Refused.field-0-is c.in-Err-Refused.ensures.reading in
     check-ended c.ends_follow_plans.ensures _ _ _ _ _
     (refused-ends _ _ plan_of_check c.args.name.now _ _ _ why c.say_refused.ensures)
-    (judges-none _ _ _ why)
+    (verifies-none _ _ _ why)
 
 pub returns-in-Err-OutOfMemory : goal.returns-in-Err-OutOfMemory
 returns-in-Err-OutOfMemory g c =
     check-ended c.ends_follow_plans.ensures _ _ _ _ _
     (c.ends_follow_plans.ensures.early _ _ _ _ (record { status = refl; output = refl }))
-    (judges-other _ _ refl refl)
+    (verifies-other _ _ refl refl)

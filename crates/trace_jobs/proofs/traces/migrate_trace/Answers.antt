@@ -13,9 +13,9 @@ use Rattle.trace_text.specs.Trace.{trace_text}
 use Rattle.trace_text.specs.writing.Writes.{Output, Writes}
 use Rattle.job_ends.specs.Ends.{EndsBy}
 use Rattle.job_ends.proofs.Statuses.{same-plan}
-use Rattle.trace_jobs.specs.Judged.{tells_illegal}
+use Rattle.trace_jobs.specs.Verified.{tells_illegal}
 use Rattle.job_ends.specs.declared.status.Status.TheVariants as status
-use Rattle.trace_jobs.proofs.EndLaws.{judges-fair, judges-other, judges-unfair, migrating, not-by}
+use Rattle.trace_jobs.proofs.EndLaws.{verifies-fair, verifies-other, verifies-unfair, migrating, not-by}
 use Rattle.trace_jobs.proofs.HistoryLaws.{history_is}
 use Rattle.trace_jobs.proofs.traces.migrate_trace.Goals as goal
 
@@ -24,8 +24,8 @@ write_trace-written-requires-clause-drives g c =
     c.drives.ensures.each
     ∙ ap (λ (s : Setup). length s.axes) (sym c.config.ensures)
 
-pub returns-in-Ok-Legal-clause-judged : goal.returns-in-Ok-Legal-clause-judged
-returns-in-Ok-Legal-clause-judged g c = λ whole held.
+pub returns-in-Ok-Legal-clause-verified : goal.returns-in-Ok-Legal-clause-verified
+returns-in-Ok-Legal-clause-verified g c = λ whole held.
     let is = subst (IsReplayed whole) c.in-Ok-Legal.field-0-is (c.in-Ok-Legal.ensures.held whole held) in
     let fair : IsLegalTrace whole = record {
       history = c.in-Ok-Legal.kernel.history;
@@ -34,7 +34,7 @@ returns-in-Ok-Legal-clause-judged g c = λ whole held.
     } in
     let all = legal-held whole c.args.trace.now _ held fair in
     let kept : IsTraceKept whole = subst IsTraceKept (sym all) c.requires in
-    judges-fair whole c.status_by.result fair
+    verifies-fair whole c.status_by.result fair
     (λ es. c.migrated_traces_are_legal.ensures whole es kept)
     (not-by tells_illegal refl refl status.Ok c.status_by.result c.write_trace-written.result refl
     c.status_by.ensures)
@@ -71,18 +71,18 @@ returns-in-Ok-Legal-clause-ends g c = λ whole held.
       status = c.status_by.ensures;
     })
 
-pub returns-in-Ok-IllegalAt-clause-judged : goal.returns-in-Ok-IllegalAt-clause-judged
-returns-in-Ok-IllegalAt-clause-judged g c = λ whole held.
+pub returns-in-Ok-IllegalAt-clause-verified : goal.returns-in-Ok-IllegalAt-clause-verified
+returns-in-Ok-IllegalAt-clause-verified g c = λ whole held.
     let is = subst (IsReplayed whole) c.in-Ok-IllegalAt.field-0-is (c.in-Ok-IllegalAt.ensures.held whole held) in
-    judges-unfair whole c.say_difference.result is.1 c.say_difference.ensures.legal
+    verifies-unfair whole c.say_difference.result is.1 c.say_difference.ensures.legal
 
 pub returns-in-Ok-IllegalAt-clause-ends : goal.returns-in-Ok-IllegalAt-clause-ends
 returns-in-Ok-IllegalAt-clause-ends g c = λ whole held.
     let is = subst (IsReplayed whole) c.in-Ok-IllegalAt.field-0-is (c.in-Ok-IllegalAt.ensures.held whole held) in
     same-plan _ _ _ _ _ (sym (migrating whole _ is.0)) c.say_difference.ensures.ends
 
-pub returns-in-Err-clause-judged : goal.returns-in-Err-clause-judged
-returns-in-Err-clause-judged g c = λ whole held. judges-other (λ t. t ≡ whole) _ refl refl
+pub returns-in-Err-clause-verified : goal.returns-in-Err-clause-verified
+returns-in-Err-clause-verified g c = λ whole held. verifies-other (λ t. t ≡ whole) _ refl refl
 
 pub returns-in-Err-clause-ends : goal.returns-in-Err-clause-ends
 returns-in-Err-clause-ends g c = λ whole held.

@@ -1,6 +1,6 @@
 -- A difference was said, or there was no memory for its lines.
 use Rattle.std.proofs.Common.{refl}
-use Rattle.trace_jobs.specs.Judged.{tells_legal}
+use Rattle.trace_jobs.specs.Verified.{tells_legal}
 use Rattle.trace_jobs.proofs.EndLaws.{said-not}
 use Rattle.trace_jobs.proofs.traces.say_difference.Goals as goal
 

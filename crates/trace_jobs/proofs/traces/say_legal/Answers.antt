@@ -1,6 +1,6 @@
--- A legal trace was told of, or there was no memory for its line.
+-- A legal trace was reported, or there was no memory for its line.
 use Rattle.std.proofs.Common.{refl}
-use Rattle.trace_jobs.specs.Judged.{tells_illegal}
+use Rattle.trace_jobs.specs.Verified.{tells_illegal}
 use Rattle.trace_jobs.proofs.EndLaws.{said-not}
 use Rattle.trace_jobs.proofs.traces.say_legal.Goals as goal
 

@@ -1,4 +1,4 @@
--- Empty fields behind those that there are.
+-- Empty fields after those that there are.
 use Rattle.std.specs.Prelude.{refl}
 use Rattle.trace_text.proofs.written.Padding.{padded-is}
 use Rattle.trace_text.proofs.records.padded.Goals as goal

@@ -1,4 +1,4 @@
--- What the comparison has told.
+-- What the comparison has reported.
 use Rattle.std.proofs.Common.{◌∙◌, sym}
 use Rattle.trace_text.proofs.SameInputs.{alike-inputs, same-inputs}
 use Rattle.trace_text.proofs.same.are_same_inputs.Goals as goal

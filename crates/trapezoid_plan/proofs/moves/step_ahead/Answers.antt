@@ -1,5 +1,5 @@
--- Three cases of the step ahead in closed form; it follows, unless the old step slowed is faster or,
--- where no step above the slowest fits the way, the slowest doesn't either.
+-- Three cases of the step ahead in closed form; it follows, unless the old step slowed is faster
+-- or, where no step above the slowest fits the way, the slowest doesn't either.
 use Rattle.std.proofs.Common.{◌≡◌, ◌∙◌, ap, ℕ, ◌+◌, ◌-◌, ◌≤◌, ◌<◌, min, max, ℤ, pos, ◌≤ℤ◌, arith, unsigned_abs, to_z, of_z, w64}
 use Rattle.std.proofs.lemmas.Bool.{leb-true, le-leb}
 use Rattle.std.proofs.lemmas.Int.{ints}

@@ -1,4 +1,4 @@
--- What was told of the first command and what is still to be told of the others.
+-- What was reported of the first command and what is still to be reported of the others.
 use Rattle.std.proofs.Common.{◌∙◌, arith}
 use Rattle.command_pool.specs.declared.ending.Finish.TheVariants as finish
 use Rattle.command_pool.proofs.ClearLemmas.{takes_first}

@@ -1,4 +1,4 @@
--- What is left in the list is still to be told.
+-- What is left in the list is still to be reported.
 use Rattle.std.proofs.Common.{◌≡◌, ◌<◌, ◌≤◌, ◌+◌, ◌++◌, [], length}
 use Rattle.std.specs.Prelude.{slice_set}
 use Rattle.command_pool.specs.Waiting.{queue_of, notes_of}

@@ -12,7 +12,7 @@ pass_on-requires-clause-grows g c =
 pub returns-clause-answer : goal.returns-clause-answer
 returns-clause-answer g c =
     let same : c.deref_mut.result.now ≡ c.take-kernel.result = search rules in
-    (c.take-kernel.result, c.try_call-turn.new.kernel, turn_taken _ _ _ _ _ _ _ _ _ _ c.pass.view_is (search rules) c.take-kernel.ensures.holds (makes_same (λ k. call_of k c.args.instance c.args.inputs.now) _ _ _ _ same c.try_call-turn.ensures.makes) c.pass_on.ensures.passed, subst (λ (k : KernelState). CallTold c.args.after c.args.instance c.args.inputs.now k c.try_call-turn.result) same c.try_call-turn.ensures.told)
+    (c.take-kernel.result, c.try_call-turn.new.kernel, turn_taken _ _ _ _ _ _ _ _ _ _ c.permit.view_is (search rules) c.take-kernel.ensures.holds (makes_same (λ k. call_of k c.args.instance c.args.inputs.now) _ _ _ _ same c.try_call-turn.ensures.makes) c.pass_on.ensures.passed, subst (λ (k : KernelState). CallTold c.args.after c.args.instance c.args.inputs.now k c.try_call-turn.result) same c.try_call-turn.ensures.told)
 
 pub returns-clause-lawful : goal.returns-clause-lawful
 returns-clause-lawful g c =
@@ -22,4 +22,4 @@ returns-clause-lawful g c =
 pub returns-clause-unstopped : goal.returns-clause-unstopped
 returns-clause-unstopped g c =
     let same : c.deref_mut.result.now ≡ c.take-kernel.result = search rules in
-    made_unstopped _ _ _ _ _ _ (turn_taken _ _ _ _ _ _ _ _ _ _ c.pass.view_is refl c.take-kernel.ensures.holds (makes_same (λ k. call_of k c.args.instance c.args.inputs.now) _ _ _ _ same c.try_call-turn.ensures.makes) c.pass_on.ensures.passed)
+    made_unstopped _ _ _ _ _ _ (turn_taken _ _ _ _ _ _ _ _ _ _ c.permit.view_is refl c.take-kernel.ensures.holds (makes_same (λ k. call_of k c.args.instance c.args.inputs.now) _ _ _ _ same c.try_call-turn.ensures.makes) c.pass_on.ensures.passed)

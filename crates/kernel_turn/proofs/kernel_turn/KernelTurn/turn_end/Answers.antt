@@ -13,7 +13,7 @@ pass_on-requires-clause-grows g c =
 pub returns-clause-answer : goal.returns-clause-answer
 returns-clause-answer g c =
     let same : c.deref_mut.result.now ≡ c.take-kernel.result = search rules in
-    (c.take-kernel.result, c.try_end-turn.new.kernel, turn_taken _ _ _ _ _ _ _ _ _ _ c.pass.view_is (search rules) c.take-kernel.ensures.holds (makes_same (λ k. end_of c.args.task) _ _ _ _ same c.try_end-turn.ensures.makes) c.pass_on.ensures.passed, subst (λ (k : KernelState). EndTold k c.try_end-turn.result) same c.try_end-turn.ensures.told)
+    (c.take-kernel.result, c.try_end-turn.new.kernel, turn_taken _ _ _ _ _ _ _ _ _ _ c.permit.view_is (search rules) c.take-kernel.ensures.holds (makes_same (λ k. end_of c.args.task) _ _ _ _ same c.try_end-turn.ensures.makes) c.pass_on.ensures.passed, subst (λ (k : KernelState). EndTold k c.try_end-turn.result) same c.try_end-turn.ensures.told)
 
 pub returns-clause-lawful : goal.returns-clause-lawful
 returns-clause-lawful g c =
@@ -23,4 +23,4 @@ returns-clause-lawful g c =
 pub returns-clause-unstopped : goal.returns-clause-unstopped
 returns-clause-unstopped g c =
     let same : c.deref_mut.result.now ≡ c.take-kernel.result = search rules in
-    made_unstopped _ _ _ _ _ _ (turn_taken _ _ _ _ _ _ _ _ _ _ c.pass.view_is refl c.take-kernel.ensures.holds (makes_same (λ k. end_of c.args.task) _ _ _ _ same c.try_end-turn.ensures.makes) c.pass_on.ensures.passed)
+    made_unstopped _ _ _ _ _ _ (turn_taken _ _ _ _ _ _ _ _ _ _ c.permit.view_is refl c.take-kernel.ensures.holds (makes_same (λ k. end_of c.args.task) _ _ _ _ same c.try_end-turn.ensures.makes) c.pass_on.ensures.passed)

@@ -11,7 +11,7 @@ stop_on-requires-clause-grows g c =
 pub returns-clause-stopped : goal.returns-clause-stopped
 returns-clause-stopped g c =
     let same : c.deref_mut.result.now ≡ c.take-kernel.result = search rules in
-    (c.take-kernel.result, is_found _ _ _ _ _ c.pass.view_is c.take-kernel.ensures.holds, stop_taken _ _ _ _ _ _ _ _ c.pass.view_is (search rules) c.take-kernel.ensures.holds (c.stop.ensures ∙ ap (λ (k : KernelState). record k { stopped = true }) same) c.stop_on.ensures.passed)
+    (c.take-kernel.result, is_found _ _ _ _ _ c.permit.view_is c.take-kernel.ensures.holds, stop_taken _ _ _ _ _ _ _ _ c.permit.view_is (search rules) c.take-kernel.ensures.holds (c.stop.ensures ∙ ap (λ (k : KernelState). record k { stopped = true }) same) c.stop_on.ensures.passed)
 
 pub returns-clause-lawful : goal.returns-clause-lawful
 returns-clause-lawful g c =

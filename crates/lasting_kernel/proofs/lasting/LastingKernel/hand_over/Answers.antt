@@ -7,10 +7,10 @@ use Rattle.lasting_kernel.proofs.lasting.LastingKernel.hand_over.Goals as goal
 
 pub invariant_of-self : goal.invariant_of-self
 invariant_of-self c =
-    let k : LastingState = record { kernel = c.self.inside.roll.kernel; past = c.self.inside.roll.past.entries } in
+    let k : LastingState = record { kernel = c.self.inside.kernel_with_past.kernel; past = c.self.inside.kernel_with_past.past.entries } in
     let s = k.kernel.config in
     let has : HasPast k = c.self.invariant in
-    let past = c.banks_keep_their_laws.ensures.past s k.past k.kernel.history has.past (legal-behind k has c.history.ensures.legal) in
-    let machine = machine-behind k has (c.banks_keep_their_laws.ensures.machine s k.past k.kernel.history) in
+    let past = c.segments_keep_their_laws.ensures.past s k.past k.kernel.history has.past (legal-behind k has c.history.ensures.legal) in
+    let machine = machine-behind k has (c.segments_keep_their_laws.ensures.machine s k.past k.kernel.history) in
     let joined : c.replace.new.dest.entries ≡ whole_of k = ap (λ (p : Past). p.entries) c.replace.ensures.after ∙ c.joined-joined.ensures in
     subst HasPast (λ i. record { kernel = sym c.hand_over.ensures.kernel i; past = sym joined i }) (hand-over-has k has past machine)

@@ -1,4 +1,4 @@
--- Nothing was before the bank.
+-- Nothing was before the segment.
 use Rattle.lasting_kernel.proofs.Pasts.{opened-has}
 use Rattle.lasting_kernel.proofs.lasting.LastingKernel.open.Goals as goal
 

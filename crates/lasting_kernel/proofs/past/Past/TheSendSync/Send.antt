@@ -5,7 +5,7 @@ use denote.Struct.Owning.{fields, shape, to}
 use denote.Param.Send.{AllSend, IsSend, Quiet, owning_send, sendable, struct_send}
 use Rattle.lasting_kernel.specs.contracts.past.Past.{the_row, the_type}
 
--- what is left behind a value is that of its fields
+-- what is left over a value is that of its fields
 quiet : {D X : Type 0} (to : D → X) (e : Exit X) → Quiet e → Quiet (hidden (under to e))
 quiet to unchanged q = λ x w. tt
 quiet to (leaves L l S s r₀) q = λ d. q (to d)

@@ -1,5 +1,5 @@
--- `joined` makes a value of no bytes, whose ghost field is the entries before a bank and the bank's
--- behind them, as the reference shows them.
+-- `joined` makes a value of no bytes, whose ghost field is the entries before a segment and the
+-- segment's after them, as the reference shows them.
 use mathlib.Core.Path.{refl, sym, subst}
 use Prim.Native.Nat.{ℕ}
 use mathlib.Core.List.{List, [], ◌∷◌, ◌++◌}
@@ -32,15 +32,15 @@ use denote.Triple.Spec.{Meets, triple_of}
 use denote.Triple.Table.{entered}
 use denote.Triple.Walked.{says, Stays, stay_dropped, walk_of, ends_at, Goes-dropped, walk_Meets}
 use Rattle.motion_history.specs.Entries.{cycles_of}
-use Rattle.motion_kernel.specs.Banks.{counted_on}
-use Rattle.lasting_kernel.specs.contracts.roll.Roll as Roll
+use Rattle.motion_kernel.specs.Segments.{counted_on}
+use Rattle.lasting_kernel.specs.contracts.kernel_with_past.KernelWithPast as KernelWithPast
 use Rattle.lasting_kernel.specs.contracts.past.Past.joined.{ended, clauses}
 use Rattle.lasting_kernel.specs.contracts.past.Past.joined.Key.{name as #self}
 use Rattle.lasting_kernel.proofs.past.Past.joined.Statement as stated
 use Rattle.lasting_kernel.proofs.past.Past.joined.Code as code
 
 abbrev R : RattleType
-R = Roll.the_row
+R = KernelWithPast.the_row
 
 abbrev function : Fn
 function = code.function

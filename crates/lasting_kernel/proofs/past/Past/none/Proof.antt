@@ -30,14 +30,14 @@ use denote.Triple.Entry.{on_entry, alive}
 use denote.Triple.Spec.{Meets, triple_of}
 use denote.Triple.Table.{entered}
 use denote.Triple.Walked.{says, Stays, stay_dropped, walk_of, ends_at, Goes-dropped, walk_Meets}
-use Rattle.motion_kernel.specs.contracts.banked.BankedKernel as BankedKernel
+use Rattle.motion_kernel.specs.contracts.segmented.SegmentedKernel as SegmentedKernel
 use Rattle.lasting_kernel.specs.contracts.past.Past.none.{ended, clauses}
 use Rattle.lasting_kernel.specs.contracts.past.Past.none.Key.{name as #self}
 use Rattle.lasting_kernel.proofs.past.Past.none.Statement as stated
 use Rattle.lasting_kernel.proofs.past.Past.none.Code as code
 
 abbrev R : RattleType
-R = BankedKernel.the_row
+R = SegmentedKernel.the_row
 
 abbrev function : Fn
 function = code.function

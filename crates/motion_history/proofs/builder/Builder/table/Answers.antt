@@ -1,4 +1,4 @@
--- A table that is not made is refused by what is told of it.
+-- A table that is not made is refused by what is reported of it.
 use Rattle.std.proofs.Common.{◌≡◌, ◌∙◌, ℕ, Err, ap, length, subst, sym}
 use Rattle.motion_history.specs.Faults.{IsPointsFault}
 use Rattle.motion_history.specs.Setup.{Setup}

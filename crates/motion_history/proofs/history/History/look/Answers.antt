@@ -1,4 +1,4 @@
--- The look tells the entry that is kept at the place.
+-- The look gives the entry that is kept at the place.
 use Rattle.std.specs.Prelude.{Some, None}
 use Rattle.std.proofs.Common.{◌∙◌, ap, sym}
 use Rattle.motion_history.specs.Entries.{cycle}

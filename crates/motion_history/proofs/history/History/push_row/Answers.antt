@@ -1,4 +1,4 @@
--- The row stands behind those that the cycle in the making has.
+-- The row stands after those that the cycle in the making has.
 use Rattle.std.specs.Prelude.{◌∷◌, ◌++◌, []}
 use Rattle.std.proofs.Common.{◌∙◌, ap}
 use Rattle.motion_history.specs.Entries.{HistoryState}

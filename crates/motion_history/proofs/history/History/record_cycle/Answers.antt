@@ -1,4 +1,4 @@
--- The cycle stands at the end, with the rows that stand behind those of the cycles before it.
+-- The cycle stands at the end, with the rows that stand after those of the cycles before it.
 use Rattle.std.specs.Prelude.{◌≡◌, ◌<◌, ◌+◌, length, vec_len}
 use Rattle.std.proofs.Common.{◌∙◌, ap, sym, arith}
 use Rattle.motion_history.specs.Entries.{HistoryState, cycle, cycles_of}

@@ -11,5 +11,5 @@ invariant_of-self c =
     let k = c.self.inside in
     let task = subst (λ (x : KernelState). c.args.task < length x.config.tasks) (sym c.self.view_is) c.requires.task in
     let few : c.args.task < 8 = let f = c.self.invariant.tasks.few in omega (arith, f, task) in
-    kernel_next k (record k { banked = c.end.new.self; tasks = c.end-2.new.self }) (end_of c.args.task) c.self.invariant c.end.ensures
-    (marked_ended k.banked.config k.banked.history k.tasks.marks c.end-2.new.self.marks c.args.task c.self.invariant.tasks few c.end-2.ensures)
+    kernel_next k (record k { segmented = c.end.new.self; tasks = c.end-2.new.self }) (end_of c.args.task) c.self.invariant c.end.ensures
+    (marked_ended k.segmented.config k.segmented.history k.tasks.marks c.end-2.new.self.marks c.args.task c.self.invariant.tasks few c.end-2.ensures)

@@ -11,7 +11,7 @@ use Rattle.motion_kernel.proofs.kernel.Kernel.live_tasks.Goals as goal
 pub returns : goal.returns
 returns c =
     let k = c.self.inside in
-    let tasks : c.tasks.result.now ≡ k.banked.config.tasks = c.tasks.ensures ∙ ap (λ (s : Setup). s.tasks) c.config.ensures in
+    let tasks : c.tasks.result.now ≡ k.segmented.config.tasks = c.tasks.ensures ∙ ap (λ (s : Setup). s.tasks) c.config.ensures in
     c.live.ensures ∙ ap (λ (ts : List (List ℕ)). length (filter is_live (take (length ts) k.tasks.marks))) tasks
-    ∙ lives_counted k.banked.config k.banked.history k.tasks.marks c.self.invariant.tasks
+    ∙ lives_counted k.segmented.config k.segmented.history k.tasks.marks c.self.invariant.tasks
     ∙ ap (λ (x : KernelState). live_tasks x.config x.history) c.self.view_is

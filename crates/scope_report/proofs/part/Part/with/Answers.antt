@@ -9,7 +9,7 @@ pub record AddsNone (r1 r2 m : ℕ) : Type 0 where
   pub first : r1 ≡ 0 → m ≡ 0
   pub second : r2 ≡ 0 → m ≡ 0
 
--- at most 1 for each row behind the first
+-- at most 1 for each row after the first
 ones : (r1 r2 s1 s2 m : ℕ) → AddsNone r1 r2 m → s1 ≤ r1 - 1 → s2 ≤ r2 - 1 → m ≤ 1 →
     s1 + m + s2 ≤ r1 + r2 - 1
 ones zero r2 s1 s2 m none a b c = let z : m ≡ 0 = none.first refl in omega arith

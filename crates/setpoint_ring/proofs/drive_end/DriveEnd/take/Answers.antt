@@ -24,7 +24,7 @@ returns-in_err-output-clause-succeeds c = λ some.
 pub returns-in_err-output-clause-stays : goal.returns-in_err-output-clause-stays
 returns-in_err-output-clause-stays c = λ seen. end_stays _ _ c.in_err-output.ensures.none.2 (ap (λ (s : DriveSide). s.ended) c.self.view_is ∙ seen)
 
--- the output is kept behind those before it
+-- the output is kept after those before it
 pub invariant_of-self-2 : goal.invariant_of-self-2
 invariant_of-self-2 c =
     let taken = c.in_ok-output.ensures.taken in

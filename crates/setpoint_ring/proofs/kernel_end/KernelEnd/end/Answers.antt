@@ -5,7 +5,7 @@ use Rattle.setpoint_ring.proofs.Ended.{put_end, put_ended, put_ends}
 use Rattle.setpoint_ring.proofs.Fields.{kernel_same, outputs_same, way_same}
 use Rattle.setpoint_ring.proofs.kernel_end.KernelEnd.end.Goals as goal
 
--- the end is put behind the outputs
+-- the end is put after the outputs
 pub invariant_of-self : goal.invariant_of-self
 invariant_of-self c =
     let put = c.push_reserved.ensures.sent.0 in

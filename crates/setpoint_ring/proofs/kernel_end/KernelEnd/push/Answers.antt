@@ -5,7 +5,7 @@ use Rattle.setpoint_ring.proofs.Ended.{put_counted, put_ends, put_going, put_out
 use Rattle.setpoint_ring.proofs.Fields.{kernel_same, outputs_same, way_same}
 use Rattle.setpoint_ring.proofs.kernel_end.KernelEnd.push.Goals as goal
 
--- the output is put behind the others, and a slot stays for the end
+-- the output is put after the others, and a slot stays for the end
 pub invariant_of-self-2 : goal.invariant_of-self-2
 invariant_of-self-2 c =
     let put = c.push_reserved.ensures.sent.0 in

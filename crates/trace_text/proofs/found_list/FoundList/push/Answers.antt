@@ -1,4 +1,4 @@
--- The entries before stay as they are, and are there, and the new one stands behind them.
+-- The entries before stay as they are, and are there, and the new one stands after them.
 use Rattle.std.specs.Prelude.{◌++◌, ◌∷◌, [], refl}
 use Rattle.std.proofs.Common.{◌∙◌, ap}
 use Rattle.trace_text.proofs.FoundLists.{more-is, more-kept, stay-kept}

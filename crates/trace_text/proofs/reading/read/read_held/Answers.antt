@@ -1,4 +1,5 @@
--- What is read keeps what every trace does, and is the trace that the text is, as far as it is held.
+-- What is read keeps what every trace does, and is the trace that the text is, as far as it is
+-- held.
 use Rattle.std.proofs.Common.{◌∙◌, ap, sym}
 use Rattle.csv_records.specs.Records.{records_of}
 use Rattle.trace_text.specs.reading.Reading.{records_meaning}

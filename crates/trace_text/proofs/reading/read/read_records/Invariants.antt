@@ -1,4 +1,4 @@
--- So many records are taken.
+-- This many records are taken.
 use Rattle.std.specs.Prelude.{◌≡◌, None, false}
 use Rattle.csv_records.specs.Records.{records_of}
 use Rattle.trace_text.proofs.read.Apart.{GoesOn}

@@ -1,4 +1,4 @@
--- The parts one behind the other.
+-- The parts one after the other.
 use Rattle.std.proofs.Common.{◌∙◌, rules, w64, FitsSigned, to_z-of_z}
 use Rattle.trace_text.specs.Records.{follow_text}
 use Rattle.trace_text.proofs.written.Joined.{three-parts}

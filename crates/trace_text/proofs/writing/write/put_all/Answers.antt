@@ -1,4 +1,4 @@
--- The parts of the trace one behind the other.
+-- The parts of the trace one after the other.
 use Rattle.std.specs.Prelude.{Err}
 use Rattle.trace_text.specs.writing.Parts.{all_text}
 use Rattle.trace_text.proofs.written.Writing.{Writes-then, Writes-stopped, trace-then}

@@ -1,7 +1,0 @@
--- The groups so far are kept.
-use Rattle.std.proofs.Common.{ℕ, ◌<◌}
-use Rattle.motion_kernel.specs.kept.Machine.{IsGroupKept}
-use Rattle.machine_tests.proofs.machine.are_groups_kept.Given as goal
-
-abbrev pub invariant-loop-group : goal.invariant-loop-group
-invariant-loop-group l = (j : ℕ) → j < l.group → IsGroupKept l.config l.start j

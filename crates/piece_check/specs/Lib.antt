@@ -1,4 +1,0 @@
-pub mod Begun
-pub mod Next
-pub mod Judged
-pub mod Rows

@@ -1,4 +1,0 @@
-pub mod CauseLaws
-pub mod EndLaws
-pub mod PieceBegins
-pub mod TraceBegins

@@ -1,6 +1,0 @@
--- A legal piece was told of, or there was no memory for it.
-use Rattle.piece_job.proofs.pieces.say_legal.Goals as goal
-
-pub returns : goal.returns
-returns g c =
-    c.ends_follow_plans.ensures.said _ _ _ _ _ _ c.legal_text-text.ensures c.say.ensures

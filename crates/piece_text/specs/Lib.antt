@@ -1,9 +1,0 @@
-pub mod Fields
-pub mod Texts
-pub mod WantedFields
-pub mod Records
-pub mod Piece
-pub mod Parts
-pub mod reading
-pub mod Held
-pub mod ReadBack

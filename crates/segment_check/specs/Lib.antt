@@ -1,0 +1,4 @@
+pub mod Begun
+pub mod Next
+pub mod Verified
+pub mod Rows

@@ -1,0 +1,4 @@
+pub mod CauseLaws
+pub mod EndLaws
+pub mod TraceSegmentBegins
+pub mod TraceBegins

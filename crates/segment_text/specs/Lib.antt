@@ -1,0 +1,9 @@
+pub mod Fields
+pub mod Texts
+pub mod WantedFields
+pub mod Records
+pub mod TraceSegment
+pub mod Parts
+pub mod reading
+pub mod Held
+pub mod ReadBack
