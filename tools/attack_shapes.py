@@ -150,7 +150,7 @@ shape("program comments", f"run {TASKS}.toml {TEXT}", lambda n: filled("#\n", n)
 # Traces, and segments of them.
 TRACE = root_text("examples/first-move/first-move.trace")
 MACHINE = TRACE[:TRACE.index("call,")]
-SEGMENT = root_text(".ci/pieces/1.piece")
+SEGMENT = root_text(".ci/trace_segments/1.segment")
 CALL = "call,M,1,20,6,2,2,0,aborting,,BA,0\n"
 
 

@@ -22,7 +22,7 @@ TOOLS = {
     "trace_to_table": "trace_table", "trace_to_vcd": "vcd", "trace_timing": "timing",
     "scope_table": "scope", "switches": "switches", "cam_points": "cams", "manual": "manual"}
 FILES_OF = {
-    "bench": "bench", "run": "toml|prog", "check": "trace|piece", "migrate": "trace",
+    "bench": "bench", "run": "toml|prog", "check": "trace|segment", "migrate": "trace",
     "st": "toml|st", "switches": "trace|switches", "standby": "bench", "scope": "trace"}
 STATUSES = "ends with 0; with 6 where writing fails"
 ROOT = Path(__file__).resolve().parents[2]
@@ -177,7 +177,7 @@ def completion() -> str:
                            for option in action.option_strings if option.startswith("--"))
         parts.append(f'            {name}) COMPREPLY=($(compgen -W "{options}" -- "$word")) ;;\n')
     parts += ["        esac\n", "    else\n",
-              '        _motion_files "bench|toml|prog|st|trace|piece|switches|edges"\n', "    fi\n",
+              '        _motion_files "bench|toml|prog|st|trace|segment|switches|edges"\n', "    fi\n",
               "}\n\n", "complete -F _motion motion\n",
               f"complete -F _motion_tool {' '.join([*TOOLS, 'told'])}\n"]
     return "".join(parts)

@@ -38,9 +38,9 @@ class Words(unittest.TestCase):
             r"|hand(?:s|ed)? out|what always holds|behind")
     # Where they are the right ones: what stands in a queue or at a wall, the names of the library, sentences that define them.
     KEPT = {
-        "DECISIONS.md": {"behind"}, "blocks.md": {"behind"}, "definitions.md": {"piece"}, "formats.md": {"behind", "piece"},
-        "library.md": {"bank"}, "proved.md": {"behind", "heads"}, "reading-a-contract.md": {"head", "told"},
-        "segments.md": {"bank", "head", "piece"}, "speed.md": {"behind"}, "trust.md": {"behind"},
+        "DECISIONS.md": {"behind"}, "blocks.md": {"behind"}, "formats.md": {"behind"},
+        "proved.md": {"behind", "heads"}, "reading-a-contract.md": {"head", "told"},
+        "speed.md": {"behind"}, "trust.md": {"behind"},
     }
 
     def test_words_that_the_glossary_replaced_stay_away(self):

@@ -13,7 +13,7 @@ from motion_tools.trace import Trace, TraceError, lines_of
 
 OF_CONFIG = ("S3", "P6")                # rules about names that the configuration has
 KIND_OF_RULE = {"B": "bench", "P": "program", "S": "st", "K": "switches", "C": "config",
-                "T": "trace", "G": "piece"}
+                "T": "trace", "G": "segment"}
 
 
 def refusal(options: argparse.Namespace, name: str, place: int, rule: str) -> Finding:
@@ -65,7 +65,7 @@ def fault_of(options: argparse.Namespace, kind: str, text: str, place: int, rule
     if kind == "st":
         axes, groups = names_of(options)
         return chosen(st.faults_of(text, axes, groups), place, rule) or whole
-    if kind in ("trace", "piece"):
+    if kind in ("trace", "segment"):
         return record_fault(text, place, rule)
     axes, groups = names_of(options) if kind == "program" else ([], {})
     if kind == "switches":
@@ -83,7 +83,7 @@ def config_place(place: int, rule: str) -> str:
 
 
 def record_fault(text: str, place: int, rule: str) -> Fault:
-    """A record of a trace or a line of a segment's head."""
+    """A record of a trace or a line of a segment's header."""
     if rule.startswith("G"):
         return Fault(rule, place)
     head, _, body = text.partition("\n\n") if text.startswith("segment,") else ("", "", text)

@@ -5,7 +5,7 @@ import re
 
 def traces_among(files: list[str]) -> list[str]:
     """The traces and segments among some files."""
-    return [name for name in files if kind_of(name) in ("trace", "piece")]
+    return [name for name in files if kind_of(name) in ("trace", "segment")]
 
 
 def kind_of(name: str) -> str:
@@ -18,7 +18,7 @@ def kind_of(name: str) -> str:
     words = [line.split("#")[0].split() for line in head.splitlines()]
     first = next((line for line in words if line), [""])
     for mark, kind in (("motion-bench", "bench"), ("motion-program", "program"),
-                       ("motion-switches", "switches"), ("kind,a,b", "trace"), ("segment,", "piece"),
+                       ("motion-switches", "switches"), ("kind,a,b", "trace"), ("segment,", "segment"),
                        ("PROGRAM", "st"), ("(*", "st")):
         if first[0].startswith(mark):
             return kind

@@ -53,7 +53,7 @@ def illegal(files: list[str], output: list[str]) -> Finding:
 
 
 def line_of(file: str, record: int) -> int:
-    """The line of a record of a trace, which in a segment stands below the head and a blank line; 0
+    """The line of a record of a trace, which in a segment stands below the header and a blank line; 0
     where the file can't be read."""
     try:
         with open(file, encoding="utf-8", errors="replace") as lines:
