@@ -1,4 +1,4 @@
--- What always holds of an axis and of the commands that wait for it.
+-- The invariant of an axis and of the commands that wait for it.
 use Rattle.std.specs.Prelude.{◌≡◌, ◌⊎◌, ◌≤◌, Bool, true, false, ℤ, pos, neg_ℤ, ◌≤ℤ◌, ◌+ℤ◌, ◌-ℤ◌, unsigned_abs, Option, Some, None, List, [], ◌∷◌}
 use Rattle.axis_core.specs.Kinds.{may_wait}
 use Rattle.axis_core.specs.declared.axis.TheConstants.{MOST_SETPOINT}
@@ -168,7 +168,7 @@ pub record IsBased (l : Limits) (inc offset previous setpoint : ℤ) (driven : B
   pub count : IsCount (count_of setpoint offset inc)
   pub set : IsSet driven l previous setpoint
 
--- what always holds of an axis. This project's profile
+-- the invariant of an axis. This project's profile
 pub record IsAxisKept (a : Axis) : Type 0 where
   pub base : IsBased a.limits a.inc a.offset a.previous a.setpoint a.driven
   pub state : IsInState a.state a.driven (is_powered a) a.was_off a.previous a.setpoint a.active
@@ -196,7 +196,7 @@ MayQueue state.ContinuousMotion (Some w) = Unit {0}
 MayQueue state.SynchronizedMotion (Some w) = Unit {0}
 MayQueue s active = ⊥
 
--- what always holds of an axis and of the commands that wait for it. This project's profile
+-- the invariant of an axis and of the commands that wait for it. This project's profile
 pub record IsCoreKept (c : Core) : Type 0 where
   pub axis : IsAxisKept c.axis
   pub waiting : AreWaiting c.axis.limits c.waiting

@@ -110,7 +110,7 @@ fn cycle_axis(look: &AxisLook, axis: &mut Axis, pool: &mut CommandPool, list: u8
 }
 
 /// A cycle of the axis, and what it shows of it.
-pub fn cycle(
+pub fn cycle_and_show(
     look: &AxisLook,
     axis: &mut Axis,
     pool: &mut CommandPool,

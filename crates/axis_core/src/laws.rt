@@ -27,8 +27,8 @@ use axis_state::{
 };
 use kin_core::{braking_steps_are_only_cut, standing_is_kept, taken_steps_keep};
 
-/// What always holds of an axis and of the commands that wait for it holds at opening, and after
-/// every call and every cycle, whose row keeps the axis's limits.
+/// The invariant of an axis and of the commands that wait for it holds at opening, and after every
+/// call and every cycle, whose row keeps the axis's limits.
 pub fn axes_stay_kept()
     ensures opened { (d : AxisDef) → IsAxisDef d →
         IsCoreKept (record { axis = axis_at_opening d; waiting = []; notes = [] }) }

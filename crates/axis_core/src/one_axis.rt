@@ -222,6 +222,6 @@ impl AxisCore {
         ensures others { pool.new ≡ slice_set pool.old list (queue_of pool.new list) }
         ensures queue { IsQueueKept self.new (queue_of pool.new list) }
     {
-        crate::cycles::cycle(look, &mut self.axis, pool, list, notes)
+        crate::cycles::cycle_and_show(look, &mut self.axis, pool, list, notes)
     }
 }

@@ -14,7 +14,7 @@ use crate::axis::Axis;
 use command_pool::{Finish, Wanted};
 use kin_core::nearest_safe;
 use motion_numbers::MOST_WAY;
-use trapezoid_plan::{move_step, move_steps_are_safe, planned_step};
+use trapezoid_plan::{move_step, move_steps_are_safe, plan_move};
 
 /// SoftLimit: a step is not safe and brakes not.
 const SOFT_LIMIT: u16 = 103;
@@ -97,7 +97,7 @@ pub fn taken_toward(axis: &Axis, place: i64, wanted: &Wanted) -> i64
     ensures small { IsStep result }
 {
     move_steps_are_safe();
-    let planned = planned_step(way(axis.setpoint, place), old_step(axis), &wanted.rates);
+    let planned = plan_move(way(axis.setpoint, place), old_step(axis), &wanted.rates);
     if planned.follows {
         planned.step
     } else {

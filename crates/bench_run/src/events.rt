@@ -56,7 +56,7 @@ fn room_for(kernel: &PrimaryKernel, is_cycle: bool) -> Result<(), RunFault>
 
 // A cycle of the kernel and the drives, for which there is room.
 #[tactic(auto, unfolding(crate::specs::Run::cycled))]
-fn cycle(kernel: &mut PrimaryKernel, drives: &mut [Drive])
+fn cycle_once(kernel: &mut PrimaryKernel, drives: &mut [Drive])
     requires room { length kernel.old.kernel.history < kernel.old.kernel.config.entries }
     requires cycle { cycles_of kernel.old.kernel.history < kernel.old.kernel.config.cycles }
     requires going { IsGoing kernel.old.kernel drives.old }
@@ -84,7 +84,7 @@ pub fn make_cycle(kernel: &mut PrimaryKernel, drives: &mut [Drive]) -> Result<()
     ensures going { IsGoing kernel.new.kernel drives.new }
 {
     room_for(kernel, true)?;
-    cycle(kernel, drives);
+    cycle_once(kernel, drives);
     Ok(())
 }
 

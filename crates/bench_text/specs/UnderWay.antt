@@ -1,4 +1,4 @@
--- What always holds of a bench as far as it was read. This project's profile.
+-- The invariant of a bench as far as it was read. This project's profile.
 use Rattle.std.specs.Prelude.{◌≡◌, ◌≤◌, true, false, [], length}
 use Rattle.std.specs.List.{AllByRecursion}
 use Rattle.motion_history.specs.Drives.{IsDrive}

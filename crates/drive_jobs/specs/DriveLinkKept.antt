@@ -1,4 +1,4 @@
--- What contracts see of a line's inside, and what always holds of it. This project's profile.
+-- What contracts see of a line's inside, and the invariant of it. This project's profile.
 use Rattle.std.specs.Prelude.{◌≡◌, []}
 use Rattle.drive_jobs.specs.DriveLinkState.{DriveLinkState}
 use Rattle.drive_jobs.specs.declared.link.DriveLink.TheInside.{Inside}

@@ -1,4 +1,4 @@
--- What always holds of a group on its path and of the commands that wait for it.
+-- The invariant of a group on its path and of the commands that wait for it.
 use Rattle.std.specs.Prelude.{◌≡◌, ◌⊎◌, ℕ, ◌<◌, ◌≤◌, Bool, true, false, ℤ, pos, ◌≤ℤ◌, Option, Some, None, is_some, List, [], ◌∷◌, length}
 use Rattle.command_pool.specs.Kinds.{acts_on_group}
 use Rattle.command_pool.specs.Rates.{AreRates}
@@ -112,7 +112,7 @@ abbrev pub AreWaiting : ℕ → List Limits → List Wanted → Type 0
 AreWaiting axes limits [] = Unit {0}
 AreWaiting axes limits (w ∷ ws) = IsWaiting axes limits w × AreWaiting axes limits ws
 
--- what always holds of a group whose axes have these limits, of its path and of its queue
+-- the invariant of a group whose axes have these limits, of its path and of its queue
 pub record IsGroupKept
     (limits : List Limits) (g : Group) (p : Option OnPath) (ws : List Wanted) : Type 0 where
   pub axes : IsCount g.axes
@@ -123,7 +123,7 @@ pub record IsGroupKept
   pub waiting : AreWaiting g.axes limits ws
   pub queue : (ws ≡ []) ⊎ (g.state ≡ GroupMoving)
 
--- what always holds of a group, its path and the commands that wait
+-- the invariant of a group, its path and the commands that wait
 abbrev pub IsCoreKept : List Limits → Core → Type 0
 IsCoreKept limits c = IsGroupKept limits c.group c.path c.waiting
 

@@ -129,7 +129,7 @@ fn is_over(was_on_path: bool, track: &Option<Track<LinePath>>) -> bool
 
 /// A cycle of the group, and what it asks of the axes.
 #[tactic(auto, unfolding(crate::specs::Cycles::step_of))]
-pub fn cycle(
+pub fn cycle_and_show(
     members: &GroupLook,
     on: &mut GroupOnPath<LinePath>,
     pool: &mut CommandPool,

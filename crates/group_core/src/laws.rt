@@ -25,8 +25,8 @@ use kin_core::{braking_steps_are_only_cut, standing_is_kept, taken_steps_keep};
 use linear_path::{LinePath, steps_along_a_path_are_safe};
 use trapezoid_plan::{halts_come_to_rest_in_time, moves_arrive_in_time};
 
-/// What always holds of a group, of its path and of the commands that wait for it holds at opening,
-/// and after every call, every cycle and every GroupReset.
+/// The invariant of a group, of its path and of the commands that wait for it holds at opening, and
+/// after every call, every cycle and every GroupReset.
 pub fn groups_stay_kept()
     ensures opened { (axes : ℕ) (limits : List Limits) → IsCount axes →
         AreGroupLimits axes limits → IsCoreKept limits (opening axes) }

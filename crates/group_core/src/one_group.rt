@@ -209,6 +209,6 @@ impl GroupCore<LinePath> {
         ensures kept { IsCoreKept (limits_in members.now)
             (core_at self.new pool.new list notes.new) }
     {
-        crate::cycles::cycle(members, &mut self.on, pool, list, notes)
+        crate::cycles::cycle_and_show(members, &mut self.on, pool, list, notes)
     }
 }

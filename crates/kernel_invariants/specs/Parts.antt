@@ -1,4 +1,4 @@
--- Parts of what always holds of a group, and of where its axes stand.
+-- Parts of the invariant of a group, and of where its axes stand.
 use Rattle.std.specs.Prelude.{◌≡◌, ℕ, ◌<◌, pos, ◌≤ℤ◌, Option, Some}
 use Rattle.command_pool.specs.declared.wanted.Wanted.{Wanted}
 use Rattle.linear_path.specs.declared.line.LinePath.{LinePath}

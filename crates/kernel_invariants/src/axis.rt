@@ -1,4 +1,4 @@
-// Whether an axis is one of which what always holds is true.
+// Whether an axis satisfies the invariant.
 
 ghost use Rattle.std.specs.Prelude.{◌≡◌, ◌↔◌, IsTrue};
 ghost use Rattle.axis_core.specs.AxisKept.{IsAxisKept};
@@ -14,8 +14,8 @@ use base::is_based;
 use command::has_command;
 use state::is_in_state;
 
-/// Whether an axis is one of which what always holds is true: its numbers are in their ranges and
-/// its setpoints can be stopped within its limits, and its active command fits its state.
+/// Whether an axis satisfies the invariant: its numbers are in their ranges and its setpoints can
+/// be stopped within its limits, and its active command fits its state.
 pub fn is_axis_kept(axis: &Axis) -> bool
     ensures { IsTrue result ↔ IsAxisKept axis.now }
 {

@@ -1,5 +1,4 @@
-// Whether a group with its path and the commands that wait is one of which what always holds is
-// true.
+// Whether a group with its path and the commands that wait satisfies the invariant.
 
 ghost use Rattle.std.specs.Prelude.{◌≡◌, ◌↔◌, ◌⊎◌, IsTrue, ◌<◌, ◌≤◌, [], length, slice_get, Some};
 ghost use Rattle.command_pool.specs.Waiting.{queue_of};

@@ -1,4 +1,4 @@
-// Whether a machine is one of which what always holds is true.
+// Whether a machine satisfies the invariant.
 
 ghost use Rattle.std.specs.Prelude.{◌≡◌, ◌↔◌, IsTrue, ℕ, ◌<◌, length};
 ghost use Rattle.motion_kernel.specs.kept.Machine.{IsAxisKept, IsGroupKept, IsMachineKept, IsSized};
@@ -54,9 +54,9 @@ fn are_axes_kept(config: &Config, start: &Start) -> bool
     true
 }
 
-/// Whether a machine is one of which what always holds of its configuration is true: each axis and
-/// each group is as its state says, with numbers in their ranges and commands that fit; and an axis
-/// of a group is on its path where the group says so, and nowhere else.
+/// Whether a machine is one that satisfies the invariant of its configuration: each axis and each
+/// group is as its state says, with numbers in their ranges and commands that fit; and an axis of a
+/// group is on its path where the group says so, and nowhere else.
 pub fn is_machine_kept(config: &Config, start: &Start) -> bool
     requires sized { IsSized config.now start.now }
     ensures { IsTrue result ↔ IsMachineKept config.now start.now }

@@ -1,4 +1,4 @@
--- What always holds of a machine that a configuration makes, as its items are added and at the end.
+-- The invariant of a machine that a configuration makes, as its items are added and at the end.
 -- This project's profile.
 use Rattle.std.specs.Prelude.{◌≡◌, ◌≤◌, All, [], length}
 use Rattle.motion_history.specs.Drives.{IsDrive}

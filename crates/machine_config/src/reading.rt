@@ -33,7 +33,7 @@ pub fn read_config(alloc: Global, text: &[u8]) -> Result<Machine, TextFault>
         Reads (λ m. m) (Ok machine) result }
     // A text that configures none is refused so.
     ensures exact { Reads (λ m. m) (spec.machine_of text.now) result }
-    // What always holds of a machine.
+    // The invariant of a machine.
     ensures machine { IfOk result IsMachine }
 {
     reads_what_is_spelled();

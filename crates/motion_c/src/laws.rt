@@ -1,4 +1,4 @@
-// What always holds of the history after a handle.
+// The invariant of the history after a handle.
 
 ghost use Rattle.std.specs.Prelude.{◌≡◌, Some};
 ghost use Rattle.lasting_kernel.specs.Lasting.{HasPast, whole_of};

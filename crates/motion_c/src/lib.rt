@@ -3,7 +3,7 @@
 //! works on it and puts it back, so that the work itself is plain code over `lasting_kernel`, the
 //! readers of texts, `trace_text` and `segment_text`. A machine that runs for days gives its
 //! segment to a second handle (`src/swapping.rt`). Begin with `specs/Held.antt`, then
-//! `src/calling.rt`; `src/laws.rt` says what always holds of the history after a handle.
+//! `src/calling.rt`; `src/laws.rt` gives the laws of the history after a handle.
 #![tactic(auto)]
 
 mod calling;

@@ -1,4 +1,4 @@
--- What always holds of the machine stays so.
+-- The invariant of the machine stays so.
 pub mod Laws
 pub mod Opening
 pub mod Events

@@ -1,4 +1,4 @@
--- What always holds of the machine and of the kernel.
+-- The invariant of the machine and of the kernel.
 pub mod Machine
 pub mod Ready
 pub mod Rooms

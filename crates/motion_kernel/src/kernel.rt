@@ -121,7 +121,7 @@ impl Kernel {
         } }
     {
         self.segmented.cycle(ins, outs);
-        self.tasks.cycle();
+        self.tasks.quiet_all();
     }
 
     /// Ends a task. A second end of a task makes an entry and changes nothing else.

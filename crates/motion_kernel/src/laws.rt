@@ -25,11 +25,11 @@ use group_core::{
 };
 use motion_history::configurations_are_sound;
 
-/// What always holds of a machine holds at opening, and after every call and every cycle: each axis
-/// and each group is as its own laws say; an axis on its group's path stands at its places on it,
-/// and one of no group is on none; the axes of a group that is enabled and has no error have no
-/// command of their own, and are on its path exactly where it has one. So every block may be called
-/// with inputs of its kind, and every cycle made with whatever the drives answer.
+/// The invariant of a machine holds at opening, and after every call and every cycle: each axis and
+/// each group is as its own laws say; an axis on its group's path stands at its places on it, and
+/// one of no group is on none; the axes of a group that is enabled and has no error have no command
+/// of their own, and are on its path exactly where it has one. So every block may be called with
+/// inputs of its kind, and every cycle made with whatever the drives answer.
 pub fn machines_stay_kept()
     ensures opened { (s : Setup) → IsSetup s → AreWhole s → IsMachineKept s (machine_at_opening s) }
     ensures may_call { (s : Setup) (k : ℕ) (b : BlockDef) (i : Inputs) (m : Machine) → AreWhole s →

@@ -63,7 +63,7 @@ impl SegmentedKernel {
     pub fn open(alloc: Global, config: Config) -> Result<SegmentedKernel, OutOfMemory>
         ensures { IfOk result (λ k. k ≡ at_opening config) }
     {
-        // law: what always holds of a machine holds at opening
+        // law: the invariant of a machine holds at opening
         machines_stay_kept();
         owners_have_blocks();
         let layout = Layout::open(alloc, config)?;

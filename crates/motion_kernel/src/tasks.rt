@@ -88,7 +88,7 @@ impl TaskMarks {
     }
 
     /// A cycle is made: no task has made an entry since.
-    pub fn cycle(&mut self)
+    pub fn quiet_all(&mut self)
         ensures { self.new.marks ≡ map spec.quieted self.old.marks }
     {
         quiet(&mut self.marks);

@@ -1,4 +1,4 @@
--- What always holds of a program as far as it was read, for a machine.
+-- The invariant of a program as far as it was read, for a machine.
 use Rattle.std.specs.Prelude.{◌≡◌, ◌≤◌, false, Some, [], length}
 use Rattle.std.specs.List.{AllByRecursion}
 use Rattle.machine_words.specs.Units.{IsCycle}

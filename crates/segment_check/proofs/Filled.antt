@@ -19,7 +19,7 @@ use Rattle.motion_kernel.specs.owners.Blocks.{OwnersHaveBlocks}
 use Rattle.segment_check.specs.Begun.{IsFirstOrLater, MayBegin}
 use Rattle.segment_text.specs.declared.trace_segment.TraceSegment.{TraceSegment}
 
--- every axis of a machine that always holds is one
+-- every axis of a machine that satisfies the invariant is one
 pub axes_kept : (s : Setup) (m : Machine) → IsMachineKept s m → (n : ℕ) (a : Axis) → slice_get m.axes n ≡ Some a → IsAxisKept a
 axes_kept s m kept n a at =
     let is : axis_at m n ≡ a = get_or_from_slice_get m.axes n a no_axis at in

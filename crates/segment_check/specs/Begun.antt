@@ -23,7 +23,7 @@ abbrev pub IsFirstOrLater : Setup → Before → Machine → Type 0
 IsFirstOrLater s b m =
     b.segments ≡ 0 → header_text b m ≡ header_text nothing_before (machine_at_opening s)
 
--- a machine may begin so: what was before can be counted, the machine is one that always holds of
+-- a machine may begin so: what was before can be counted, the machine satisfies the invariant of
 -- the trace segment's configuration, whoever has a command in it, or holds stopping, is an instance
 -- whose block has its commands there, and it is at opening where nothing was before
 pub record MayBegin (p : TraceSegment) : Type 0 where

@@ -13,8 +13,8 @@ use group_core::{GroupOnPath, LinePath};
 use kernel_invariants::is_axis_kept;
 use motion_kernel::Start;
 
-/// Sets each axis to that of its number, as far as they are such as always hold, and says whether
-/// all are.
+/// Sets each axis to that of its number, as far as they satisfy the invariant, and says whether all
+/// are.
 pub fn set_axes(start: &mut Start, axes: &[Axis]) -> bool
     requires size { length start.old.axes ≡ length axes.now }
     requires few { length axes.now ≤ 255 }

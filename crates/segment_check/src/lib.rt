@@ -1,8 +1,8 @@
-//! Verifies a trace segment by itself: whether of the machine with which it begins what always
-//! holds is true, whoever has a command in it has a block there, and its trace is legal from there
-//! on; and gives the header with which the next trace segment must begin. It stands on
-//! `segment_text`, which reads, on `kernel_invariants`, which tests the machine, and on
-//! `trace_check`, which replays. Begin at [`check_trace_segment`] and [`Verdict`].
+//! Verifies a trace segment by itself: whether of the machine with which it begins the invariant is
+//! true, whoever has a command in it has a block there, and its trace is legal from there on; and
+//! gives the header with which the next trace segment must begin. It stands on `segment_text`,
+//! which reads, on `kernel_invariants`, which tests the machine, and on `trace_check`, which
+//! replays. Begin at [`check_trace_segment`] and [`Verdict`].
 #![tactic(auto)]
 
 mod filling;

@@ -76,9 +76,8 @@ fn is_first_or_later(
     Ok(own.as_slice() == first.as_slice())
 }
 
-// Makes of a machine at opening one that was read, and says whether it is one of which what always
-// holds is true, and in which whoever has a command is an instance whose block has its commands
-// there.
+// Makes of a machine at opening one that was read, and says whether it satisfies the invariant, and
+// in which whoever has a command is an instance whose block has its commands there.
 fn begin(config: &Config, machine: &MachineText, start: &mut Start) -> bool
     requires { start.old ≡ machine_at_opening config.now }
     ensures kept { IsTrue result ↔
@@ -102,8 +101,8 @@ fn is_sized(config: &Config, machine: &MachineText) -> bool
         && machine.instances.len() == config.blocks().len()
 }
 
-// Makes of a machine at opening one that was read, unless of one of its axes what always
-// holds isn't true.
+// Makes of a machine at opening one that was read, unless of one of its axes the invariant isn't
+// true.
 fn fill(config: &Config, machine: &MachineText, start: &mut Start) -> bool
     requires opened { start.old ≡ machine_at_opening config.now }
     requires sized { IsSized config.now machine.now }

@@ -1,4 +1,4 @@
--- Records and their fields, as they are read one after another, and what always holds of them.
+-- Records and their fields, as they are read one after another, and the invariant of them.
 pub mod SameLists
 pub mod RowLaws
 pub mod Eleven

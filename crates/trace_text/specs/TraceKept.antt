@@ -1,4 +1,4 @@
--- What always holds of a trace that was read. This project's profile.
+-- The invariant of a trace that was read. This project's profile.
 use Rattle.std.specs.Prelude.{◌≡◌, ◌^◌, ◌<◌, ◌≤◌, ℕ, pos, All, length}
 use Rattle.std.specs.List.{AllByRecursion}
 use Rattle.std.proofs.Common.{FitsSigned, w64}

@@ -17,6 +17,6 @@ pub use laws::{
     cycles_bounds_grow, halts_come_to_rest_in_time, move_steps_are_greatest, move_steps_are_safe,
     moves_arrive_in_time, moves_head_for_their_targets, moves_that_head_away_brake,
 };
-pub use moves::{PlannedStep, move_step, move_step_counted, planned_step};
+pub use moves::{PlannedStep, move_step, move_step_counted, plan_move};
 pub use ramp_root::reach;
 pub use velocities::velocity_step;

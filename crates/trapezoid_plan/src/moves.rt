@@ -35,11 +35,11 @@ pub fn move_step(distance: i64, old: i64, rates: &Rates) -> i64
     ways_to_rest();
     searches_find_the_greatest();
     steps_fall_toward_zero();
-    planned_step(distance, old, rates).step
+    plan_move(distance, old, rates).step
 }
 
 /// The same step, and whether it may follow: exactly where a step of the move may.
-pub fn planned_step(distance: i64, old: i64, rates: &Rates) -> PlannedStep
+pub fn plan_move(distance: i64, old: i64, rates: &Rates) -> PlannedStep
     requires rates { AreRates rates.now }
     requires distance { IsWay distance }
     requires old { IsStep old }
@@ -47,11 +47,11 @@ pub fn planned_step(distance: i64, old: i64, rates: &Rates) -> PlannedStep
     ensures follows { (result.follows ≡ true) ↔ HasMoveStep rates.now distance old }
     ensures small { IsStep result.step }
 {
-    planned_from::<Brand>(distance, old, rates, Blank::new(1))
+    plan_move_by::<Brand>(distance, old, rates, Blank::new(1))
 }
 
 // The same for any ledger, whose counter nobody reads.
-fn planned_from<L: Ledger>(distance: i64, old: i64, rates: &Rates, blank: Blank) -> PlannedStep
+fn plan_move_by<L: Ledger>(distance: i64, old: i64, rates: &Rates, blank: Blank) -> PlannedStep
     requires name { blank.name ≡ L.name }
     requires parts { blank.parts ≡ L.parts }
     requires some { 0 < blank.parts }
@@ -63,7 +63,7 @@ fn planned_from<L: Ledger>(distance: i64, old: i64, rates: &Rates, blank: Blank)
     ensures small { IsStep result.step }
 {
     let mut steps = Steps::<L>::open(blank);
-    planned_step_counted(distance, old, rates, &mut steps)
+    plan_move_counted(distance, old, rates, &mut steps)
 }
 
 /// The wanted step, with its calls of fits counted.
@@ -80,11 +80,11 @@ pub fn move_step_counted<L: Ledger>(
     ensures small { IsStep result }
     ensures cost { steps.new ≤ steps.old + 128 }
 {
-    planned_step_counted(distance, old, rates, steps).step
+    plan_move_counted(distance, old, rates, steps).step
 }
 
 // The planned step, with the same counted.
-fn planned_step_counted<L: Ledger>(
+fn plan_move_counted<L: Ledger>(
     distance: i64,
     old: i64,
     rates: &Rates,

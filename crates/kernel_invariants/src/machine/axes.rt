@@ -1,4 +1,4 @@
-// Whether an axis of a machine is one of which what always holds is true.
+// Whether an axis of a machine satisfies the invariant.
 
 ghost use Rattle.std.specs.Prelude.{◌≡◌, ◌↔◌, ◌⊎◌, IsTrue, ℕ, ◌<◌, [], length, slice_get, Some};
 ghost use Rattle.axis_core.specs.AxisKept.{AreWaiting, IsCoreKept, IsWaiting, MayQueue};

@@ -1,4 +1,4 @@
-// Whether a group of a machine is one of which what always holds is true.
+// Whether a group of a machine satisfies the invariant.
 
 ghost use Rattle.std.specs.Prelude.{◌≡◌, ◌↔◌, IsTrue, ℕ, ◌<◌, ◌≤◌, length, map, take};
 ghost use Rattle.motion_kernel.specs.Machine.{group_at};

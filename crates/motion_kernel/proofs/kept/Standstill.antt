@@ -1,5 +1,5 @@
--- What always holds of an axis in Standstill, and that the axes of a group of which none is moved
--- are in it.
+-- The invariant of an axis in Standstill, and that the axes of a group of which none is moved are
+-- in it.
 use Rattle.std.specs.Prelude.{◌≡◌, ◌⊎◌, refl, ℕ, zero, suc, ◌<◌, ◌≤◌, Bool, false, Option, None, List, [], ◌∷◌, length, map, slice_index_or}
 use Rattle.std.specs.List.{list_any}
 use Rattle.std.proofs.Common.{arith, ap, sym, subst, ◌∙◌, inl, inr}
@@ -19,7 +19,7 @@ use Rattle.motion_kernel.specs.Machine.{Machine, axis_at}
 use Rattle.motion_kernel.specs.members.Members.{member_at, members_at}
 use Rattle.motion_kernel.proofs.kept.Ready.{states_shown}
 
--- what always holds of an axis in Standstill
+-- the invariant of an axis in Standstill
 pub record StandsStill (c : cores.Core) : Type 0 where
   pub idle : c.axis.active ≡ None
   pub alone : c.waiting ≡ []

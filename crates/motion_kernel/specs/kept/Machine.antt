@@ -1,4 +1,4 @@
--- What always holds of the machine.
+-- The invariant of the machine.
 use Rattle.std.specs.Prelude.{◌≡◌, ℕ, ◌+◌, ◌<◌, true, false, if◌then◌else◌, pos, Option, Some, None, is_some, [], length, map, slice_index_or}
 use Rattle.axis_core.specs.AxisKept.{IsCoreKept}
 use Rattle.axis_core.specs.blocks.Path.{is_on_path}
@@ -62,18 +62,18 @@ abbrev pub IsPlaced : Option Membership → Machine → Core → Type 0
 IsPlaced None m c = is_on_path c.axis ≡ false
 IsPlaced (Some at) m c = IsMember (group_at m at.group) at.place c
 
--- what always holds of an axis of the machine
+-- the invariant of an axis of the machine
 pub record IsAxisKept (s : Setup) (m : Machine) (n : ℕ) : Type 0 where
   pub core : IsCoreKept (axis_core_at m n)
   pub limits : (axis_at m n).limits ≡ limits_of s n
   pub placed : IsPlaced (membership_of s n) m (axis_core_at m n)
 
--- what always holds of a group of the machine
+-- the invariant of a group of the machine
 pub record IsGroupKept (s : Setup) (m : Machine) (j : ℕ) : Type 0 where
   pub core : group.IsCoreKept (map (limits_of s) (members_at s j)) (group_core_at m j)
   pub count : (group_at m j).group.axes ≡ length (members_at s j)
 
--- what always holds of the machine
+-- the invariant of the machine
 pub record IsMachineKept (s : Setup) (m : Machine) : Type 0 where
   pub sized : IsSized s m
   pub axes : (n : ℕ) → n < length m.axes → IsAxisKept s m n

@@ -1,4 +1,4 @@
--- What always holds of a trace that is read.
+-- The invariant of a trace that is read.
 use Rattle.std.proofs.Common.{FitsSigned, w64, ◌^◌, ◌≡◌, ℕ, ◌+◌, ◌<◌, ◌≤◌, Bool, true, false, Some, None, Result, Ok, Err, List, [], ◌∷◌, ◌++◌, length, refl, sym, ◌∙◌, ap, subst, arith, inl, inr}
 use Rattle.std.specs.Prelude.{◌&&◌, ◌||◌, ◌==◌, codes, cond, nat_le}
 use Rattle.std.specs.List.{AllByRecursion}

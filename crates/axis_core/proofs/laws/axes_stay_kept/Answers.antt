@@ -1,4 +1,4 @@
--- What always holds of an axis is kept.
+-- The invariant of an axis is kept.
 use Rattle.std.specs.Prelude.{refl}
 use Rattle.std.proofs.Common.{inl}
 use Rattle.axis_core.proofs.KeptCommands.{commanded-kept}

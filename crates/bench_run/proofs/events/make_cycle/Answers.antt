@@ -15,5 +15,5 @@ returns-in_err-room_for-clause-made c =
 
 pub returns-clause-made : goal.returns-clause-made
 returns-clause-made c =
-    c.cycle.ensures.made ∙ made-by _ a_cycle (run_at c.args.kernel.now.kernel c.args.drives.now (Ok tt))
+    c.cycle_once.ensures.made ∙ made-by _ a_cycle (run_at c.args.kernel.now.kernel c.args.drives.now (Ok tt))
     (Ok tt) refl c.in_ok-room_for.ensures.value

@@ -1,4 +1,4 @@
--- What always holds, holds at the end of the text.
+-- The invariant holds at the end of the text.
 use Rattle.bench_text.proofs.Kept.{text-kept}
 use Rattle.bench_text.proofs.reading.read.Goals as goal
 

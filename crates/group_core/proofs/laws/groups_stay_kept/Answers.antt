@@ -1,4 +1,4 @@
--- What always holds of a group.
+-- The invariant of a group.
 use Rattle.group_core.proofs.KeptCalls.{commanded-kept, powered-kept}
 use Rattle.group_core.proofs.KeptCycles.{cycled-kept}
 use Rattle.group_core.proofs.KeptOthers.{disowned-kept, opened-kept, reset-kept}

@@ -1,4 +1,4 @@
--- What always holds, holds at the end of the text.
+-- The invariant holds at the end of the text.
 use Rattle.std.proofs.Common.{sym, subst}
 use Rattle.plc_program.specs.Programs.{AddsTasks}
 use Rattle.plc_program.proofs.Kept.{on-ok, text-kept}

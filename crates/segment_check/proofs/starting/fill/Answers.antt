@@ -1,4 +1,4 @@
--- Each axis of a machine that always holds is one.
+-- Each axis of a machine that satisfies the invariant is one.
 use Rattle.std.proofs.Common.{◌≡◌, ap, sym, ◌∙◌}
 use Rattle.std.specs.Prelude.{slice_get}
 use Rattle.motion_kernel.specs.Machine.{Machine}

@@ -9,7 +9,7 @@ pub returns-clause-definition : goal.returns-clause-definition
 returns-clause-definition c =
     let distance : FitsSigned w64 c.args.distance = c.ranges.distance in
     let old : FitsSigned w64 c.args.old = c.ranges.old in
-    let value : c.planned_step.result.step ≡ move_step_of c.args.distance c.args.old c.args.rates.now =
-    simp to_z-of_z at c.planned_step.ensures.value in
-    let fits : to_z w64 (of_z w64 c.planned_step.result.step) ≡ c.planned_step.result.step = omega (arith, ints) in
+    let value : c.plan_move.result.step ≡ move_step_of c.args.distance c.args.old c.args.rates.now =
+    simp to_z-of_z at c.plan_move.ensures.value in
+    let fits : to_z w64 (of_z w64 c.plan_move.result.step) ≡ c.plan_move.result.step = omega (arith, ints) in
     rw (fits ∙ value) (is-move-step c.ways_to_rest.ensures c.searches_find_the_greatest.ensures c.steps_fall_toward_zero.ensures c.args.distance c.args.old c.args.rates.now c.requires.rates)

@@ -18,8 +18,8 @@ invariant_of-self c =
     let m = machine_now k.segmented in
     let ins = c.args.ins.now in
     let e = cycle (cycles_of k.segmented.history + 1) (cycled s m ins).axes (cycled s m ins).groups in
-    kernel_next k (record k { segmented = c.cycle.new.self; tasks = c.cycle-2.new.self }) e c.self.invariant c.cycle.ensures.after
-    (marked_cycled s k.segmented.history k.tasks.marks c.cycle-2.new.self.marks e c.self.invariant.tasks refl (λ t. refl) c.cycle-2.ensures)
+    kernel_next k (record k { segmented = c.cycle.new.self; tasks = c.quiet_all.new.self }) e c.self.invariant c.cycle.ensures.after
+    (marked_cycled s k.segmented.history k.tasks.marks c.quiet_all.new.self.marks e c.self.invariant.tasks refl (λ t. refl) c.quiet_all.ensures)
 
 pub returns-clause-outs : goal.returns-clause-outs
 returns-clause-outs c =

@@ -1,6 +1,6 @@
 -- What the row of a cycle asks of the axis.
 use Rattle.axis_core.proofs.KeptCycles.{distance-by}
-use Rattle.axis_core.proofs.cycles.cycle.Goals as goal
+use Rattle.axis_core.proofs.cycles.cycle_and_show.Goals as goal
 
 pub row-requires-clause-least : goal.row-requires-clause-least
 row-requires-clause-least c = c.cycle_axis.ensures.kept.axis.base.least

@@ -8,8 +8,8 @@ use Rattle.motion_numbers.specs.Laws.{AreWays, AreSearches}
 use Rattle.trapezoid_plan.proofs.MoveSteps.{follow-sizes, sizes-follow, ahead-follows}
 use Rattle.kin_core.specs.Toward.{toward_zero}
 use Rattle.trapezoid_plan.proofs.StepsAhead.{move_step-forward, move_step-backward, move_step-slowed}
-use Rattle.trapezoid_plan.proofs.moves.planned_step_counted.Goals as goal
-use Rattle.trapezoid_plan.proofs.moves.planned_step_counted.Goals.{else-distance-gt0-via-then-distance-gt0+else-old-ge0, else-distance-gt0-via-else-distance-gt0, else-distance-lt0-via-then-distance-lt0+else-old-le0, else-distance-lt0-via-else-distance-lt0}
+use Rattle.trapezoid_plan.proofs.moves.plan_move_counted.Goals as goal
+use Rattle.trapezoid_plan.proofs.moves.plan_move_counted.Goals.{else-distance-gt0-via-then-distance-gt0+else-old-ge0, else-distance-gt0-via-else-distance-gt0, else-distance-lt0-via-then-distance-lt0+else-old-le0, else-distance-lt0-via-else-distance-lt0}
 
 -- a step that may follow in sizes is one ahead
 has-ahead : (rates : Rates) (x v u : ℤ) (l w : ℕ) → pos 0 <ℤ x → pos 0 ≤ℤ v → l ≡ unsigned_abs x →
