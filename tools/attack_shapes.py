@@ -88,7 +88,7 @@ st("one number", lambda n: program("n := " + filled("1", n) + ";"))
 st("semicolons", lambda n: program(filled(";", n)))
 
 
-# Configurations: what stands behind the keys of the top.
+# Configurations: what stands after the keys of the top.
 TOP = "cycle_us = 1000\ncycles = 20\nentries = 40\n"
 AXIS = ("[[axis]]\nname = 'X'\nlo = -10\nhi = 400\nvmax = 1000\namax = 5000\n"
         "increment = '0.001'\nstart = 0\n")
@@ -121,7 +121,7 @@ config("tables behind quotes", lambda n: "x = ['''\n''', " + filled("{a=1},", n)
 config("tables behind a comment", lambda n: "x = ['#', " + filled("{a=1},", n) + "]\n")
 
 
-# Benches and programs: what stands behind the machine.
+# Benches and programs: what stands after the machine.
 BENCH = root_text("examples/first-move/first-move.bench").split("call")[0]
 PROGRAM = root_text(f"{TASKS}.prog")
 

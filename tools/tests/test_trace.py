@@ -88,7 +88,7 @@ class Reading(unittest.TestCase):
             self.assertEqual({drive.taken for drive in trace.drives}, {cycles}, path)
 
 
-# What is put in place of what, and the record that is refused for it, with what is told of it.
+# What is put in place of what, and the record that is refused for it, with what is reported of it.
 FAULTS = [
     (HOMED, "", 0, "the text is empty"),
     ("kind,a,b", "kind,b,a", 1, "in the position of the header"),
