@@ -3,6 +3,7 @@
 import os
 import pathlib
 import re
+import subprocess
 import unittest
 
 ROOT = pathlib.Path(__file__).resolve().parents[2]
@@ -29,6 +30,24 @@ class Links(unittest.TestCase):
                         self.assertTrue(target.exists())
                         if anchor and target.suffix == ".md":
                             self.assertIn(anchor, anchors(target))
+
+
+class Crates(unittest.TestCase):
+    """Each crate's README, and the table that is made of them."""
+
+    def test_the_table_of_crates_is_that_of_their_pages(self):
+        done = subprocess.run([ROOT / "tools" / "crate_table"], capture_output=True, text=True)
+        self.assertEqual((done.returncode, done.stdout), (0, ""))
+
+    def test_a_crate_has_what_its_page_names(self):
+        for page in sorted((ROOT / "crates").glob("*/README.md")):
+            files = [file for part in ("src", "specs") for file in (page.parent / part).rglob("*.*t*")]
+            names = {word for file in files for word in re.findall(r"\w+", file.read_text(encoding="utf-8"))}
+            names |= {file.stem for file in files} | {path.parent.name for path in files}
+            begin = page.read_text(encoding="utf-8").split("\n\n")[2]
+            for name in re.findall(r"`(?:specs/|src/)?(\w+)(?:\.\w+)?`", begin):
+                with self.subTest(crate=page.parent.name, name=name):
+                    self.assertTrue(name in names or (ROOT / "crates" / name).is_dir())
 
 
 class Words(unittest.TestCase):
