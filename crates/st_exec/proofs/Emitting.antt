@@ -4,7 +4,7 @@ use Rattle.std.proofs.lemmas.Grind.{common_steps}
 use Rattle.st_tree.specs.declared.expression.Expr.{Expr}
 use Rattle.st_tree.specs.declared.statement.Branch.{Branch}
 use Rattle.st_tree.specs.declared.statement.Stmt.{Stmt}
-use Rattle.st_tree.specs.declared.statement.Stmt.TheFolds.{fold-kernel_with_past-Stmt}
+use Rattle.st_tree.specs.declared.statement.Stmt.TheFolds.{fold-roll-Stmt}
 use Rattle.st_tree.specs.declared.statement.Stmt.TheOpen.{Stmt-F}
 use Rattle.st_tree.specs.declared.statement.Stmt.TheVariants.{Case, rolls-Case}
 use Rattle.st_exec.specs.Code.{Code, all_of, branch_code, branch_code_step, branches_before, branches_code, expr_code, stmt_code, stmt_code_step}
@@ -50,7 +50,7 @@ pub case_code : (t : Stmt) (e : Expr) (bs : Vec Branch Global) (otherwise : Vec 
     branches_code (map branch_code bs.items) (all_of (map stmt_code otherwise.items))
 case_code t e bs otherwise is =
     ap stmt_code (is ∙ sym (rolls-Case e bs otherwise)) ∙
-    fold-kernel_with_past-Stmt Code (ℤ × Code) stmt_code_step branch_code_step (Stmt-F.Case e bs otherwise)
+    fold-roll-Stmt Code (ℤ × Code) stmt_code_step branch_code_step (Stmt-F.Case e bs otherwise)
 
 -- what an answer that is Ok gives, says what follows
 pub on_ok_then : {A E : Type 0} (r : Result A E) (P Q : Type 0) → (P → Q) → OnOk r P → OnOk r Q

@@ -4,8 +4,8 @@ use Rattle.fb_outputs.specs.declared.inputs.Inputs.{Inputs}
 use Rattle.st_tree.specs.declared.expression.Expr.{Expr}
 use Rattle.st_tree.specs.declared.expression.Term.{Term}
 use Rattle.st_tree.specs.declared.expression.Expr.TheOpen.{Expr-F, Term-F}
-use Rattle.st_tree.specs.declared.expression.Expr.TheViews.{kernel_with_past-Expr, kernel_with_past-Term}
-use Rattle.st_tree.specs.declared.expression.Expr.TheFolds.{ind-Expr, fold-Term, fold-kernel_with_past-Expr, fold-kernel_with_past-Term, map-Expr, map-Term}
+use Rattle.st_tree.specs.declared.expression.Expr.TheViews.{roll-Expr, roll-Term}
+use Rattle.st_tree.specs.declared.expression.Expr.TheFolds.{ind-Expr, fold-Term, fold-roll-Expr, fold-roll-Term, map-Expr, map-Term}
 use Rattle.st_exec.specs.Code.{Code, all_of, expr_code, expr_code_step, term_code, term_code_step}
 use Rattle.st_exec.specs.Machine.{run}
 use Rattle.st_exec.specs.declared.instruction.Act.TheVariants.{Take}
@@ -47,19 +47,19 @@ level_runs : (us : ℕ) (x : Expr-F Expr Term) →
     ((rest : Code) (stack : List ℤ) (i : Inputs) (s : Stand) →
     run us (expr_code_step (map-Expr _ _ _ _ expr_code term_code x) ++ rest) 0 stack i s ≡
     run us rest 0 (value_step (map-Expr _ _ _ _ value_of term_value x) s.vars s.last ∷ stack) i s) →
-    Runs us (kernel_with_past-Expr x)
+    Runs us (roll-Expr x)
 level_runs us x same = record {
   runs = λ rest stack i s.
       ap (λ c. run us (c ++ rest) 0 stack i s)
-      (fold-kernel_with_past-Expr Code Code expr_code_step term_code_step x) ∙
+      (fold-roll-Expr Code Code expr_code_step term_code_step x) ∙
       (same rest stack i s ∙
       sym (ap (λ (v : Value). run us rest 0 (v s.vars s.last ∷ stack) i s)
-      (fold-kernel_with_past-Expr Value (ℤ → Value) value_step term_step x)));
+      (fold-roll-Expr Value (ℤ → Value) value_step term_step x)));
 }
 
 -- the code of one level puts its value on the stack where those of its parts do
 parts_run : (us : ℕ) (y : Expr-F ((e : Expr) × Runs us e) ((t : Term) × Joins us t)) →
-    Runs us (kernel_with_past-Expr (map-Expr _ _ _ _ (λ e. e.0) (λ t. t.0) y))
+    Runs us (roll-Expr (map-Expr _ _ _ _ (λ e. e.0) (λ t. t.0) y))
 parts_run us (Expr-F.Number n) = level_runs us (Expr-F.Number n) (λ rest stack i s. refl)
 parts_run us (Expr-F.Truth b) = level_runs us (Expr-F.Truth b) (λ rest stack i s. refl)
 parts_run us (Expr-F.Variable x) = level_runs us (Expr-F.Variable x) (λ rest stack i s. refl)
@@ -77,19 +77,19 @@ parts_run us (Expr-F.Chain first terms) = level_runs us _ (λ rest stack i s.
 
 -- the code of a term does too
 operand_runs : (us : ℕ) (y : Term-F ((e : Expr) × Runs us e) ((t : Term) × Joins us t)) →
-    Joins us (kernel_with_past-Term (map-Term _ _ _ _ (λ e. e.0) (λ t. t.0) y))
+    Joins us (roll-Term (map-Term _ _ _ _ (λ e. e.0) (λ t. t.0) y))
 operand_runs us y = record {
   joins = λ rest stack v i s.
       ap (λ c. run us (c ++ rest) 0 (v ∷ stack) i s)
-      (fold-kernel_with_past-Term Code Code expr_code_step term_code_step (map-Term _ _ _ _ (λ e. e.0) (λ t. t.0) y)) ∙
+      (fold-roll-Term Code Code expr_code_step term_code_step (map-Term _ _ _ _ (λ e. e.0) (λ t. t.0) y)) ∙
       (ap (λ l. run us l 0 (v ∷ stack) i s) (append_assoc (expr_code y.operand.0) _ rest) ∙
       (y.operand.1.runs (Do (Take (Join y.operator)) ∷ rest) (v ∷ stack) i s ∙
       sym (ap (λ (f : ℤ → Value). run us rest 0 (f v s.vars s.last ∷ stack) i s)
-      (fold-kernel_with_past-Term Value (ℤ → Value) value_step term_step (map-Term _ _ _ _ (λ e. e.0) (λ t. t.0) y)))));
+      (fold-roll-Term Value (ℤ → Value) value_step term_step (map-Term _ _ _ _ (λ e. e.0) (λ t. t.0) y)))));
 }
 
 -- the code of an expression puts its value on the stack
 pub expr_runs : (us : ℕ) (e : Expr) → Runs us e
 expr_runs us = ind-Expr (Runs us) (Joins us)
-    (λ x y is. subst (λ z. Runs us (kernel_with_past-Expr z)) is (parts_run us y))
-    (λ x y is. subst (λ z. Joins us (kernel_with_past-Term z)) is (operand_runs us y))
+    (λ x y is. subst (λ z. Runs us (roll-Expr z)) is (parts_run us y))
+    (λ x y is. subst (λ z. Joins us (roll-Term z)) is (operand_runs us y))

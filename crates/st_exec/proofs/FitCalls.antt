@@ -17,8 +17,8 @@ use Rattle.st_tree.specs.declared.program.Task.{Task}
 use Rattle.st_tree.specs.declared.statement.Branch.{Branch}
 use Rattle.st_tree.specs.declared.statement.Stmt.{Stmt}
 use Rattle.st_tree.specs.declared.statement.Stmt.TheOpen.{Stmt-F}
-use Rattle.st_tree.specs.declared.statement.Stmt.TheViews.{kernel_with_past-Stmt, kernel_with_past-Branch}
-use Rattle.st_tree.specs.declared.statement.Stmt.TheFolds.{ind-Stmt, fold-Branch, fold-kernel_with_past-Stmt, fold-kernel_with_past-Branch, map-Stmt, map-Branch}
+use Rattle.st_tree.specs.declared.statement.Stmt.TheViews.{roll-Stmt, roll-Branch}
+use Rattle.st_tree.specs.declared.statement.Stmt.TheFolds.{ind-Stmt, fold-Branch, fold-roll-Stmt, fold-roll-Branch, map-Stmt, map-Branch}
 use Rattle.st_exec.specs.Laws.{AreCallsOf, IsCallOf}
 use Rattle.st_exec.specs.Scan.{Asked, Course, Over, Waits, Missing, Stand, asked, at_first, branch_step, call_of, chosen, in_order, scan, scan_of, scan_step, then_do}
 use Rattle.st_exec.specs.Values.{is_true, value_of}
@@ -144,20 +144,20 @@ parts_call m task us cycle some (Stmt-F.Case e branches otherwise) fit = record 
 stmt_calls : (m : Setup) (task us : ℕ) → IsCycle us → 1 ≤ length m.axes → (t : Stmt) →
     StmtCalls m task us t
 stmt_calls m task us cycle some = ind-Stmt (StmtCalls m task us) (BranchCalls m task us)
-    (λ x y is. subst (λ z. StmtCalls m task us (kernel_with_past-Stmt z)) is (record {
+    (λ x y is. subst (λ z. StmtCalls m task us (roll-Stmt z)) is (record {
       fitting = λ fit.
           let inner = map-Stmt _ _ _ _ (λ t. t.0) (λ b. b.0) y in
-          subst (Calls m task) (sym (fold-kernel_with_past-Stmt (Stand → Course) (ℤ × (Stand → Course)) (scan_step us)
+          subst (Calls m task) (sym (fold-roll-Stmt (Stand → Course) (ℤ × (Stand → Course)) (scan_step us)
           branch_step inner)) (parts_call m task us cycle some y
-          (subst IsTrue (fold-kernel_with_past-Stmt Bool Bool (fits_step m task) branch_fits_step inner) fit));
+          (subst IsTrue (fold-roll-Stmt Bool Bool (fits_step m task) branch_fits_step inner) fit));
     }))
-    (λ x y is. subst (λ z. BranchCalls m task us (kernel_with_past-Branch z)) is (record {
+    (λ x y is. subst (λ z. BranchCalls m task us (roll-Branch z)) is (record {
       fitting = λ fit.
           let inner = map-Branch _ _ _ _ (λ t. t.0) (λ b. b.0) y in
-          subst (λ (p : ℤ × (Stand → Course)). Calls m task p.1) (sym (fold-kernel_with_past-Branch (Stand → Course)
+          subst (λ (p : ℤ × (Stand → Course)). Calls m task p.1) (sym (fold-roll-Branch (Stand → Course)
           (ℤ × (Stand → Course)) (scan_step us) branch_step inner))
           (all_calls m task us y.body.items
-          (subst IsTrue (fold-kernel_with_past-Branch Bool Bool (fits_step m task) branch_fits_step inner) fit));
+          (subst IsTrue (fold-roll-Branch Bool Bool (fits_step m task) branch_fits_step inner) fit));
     }))
 
 -- ---- whole scans

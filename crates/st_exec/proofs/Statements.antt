@@ -9,8 +9,8 @@ use Rattle.st_tree.specs.declared.expression.Expr.{Expr}
 use Rattle.st_tree.specs.declared.statement.Branch.{Branch}
 use Rattle.st_tree.specs.declared.statement.Stmt.{Stmt}
 use Rattle.st_tree.specs.declared.statement.Stmt.TheOpen.{Stmt-F, Branch-F}
-use Rattle.st_tree.specs.declared.statement.Stmt.TheViews.{kernel_with_past-Stmt, kernel_with_past-Branch}
-use Rattle.st_tree.specs.declared.statement.Stmt.TheFolds.{ind-Stmt, fold-Branch, fold-kernel_with_past-Stmt, fold-kernel_with_past-Branch, map-Stmt, map-Branch}
+use Rattle.st_tree.specs.declared.statement.Stmt.TheViews.{roll-Stmt, roll-Branch}
+use Rattle.st_tree.specs.declared.statement.Stmt.TheFolds.{ind-Stmt, fold-Branch, fold-roll-Stmt, fold-roll-Branch, map-Stmt, map-Branch}
 use Rattle.st_exec.specs.Code.{Code, all_of, branch_code, branch_code_step, branches_code, expr_code, given_code, sides_code, stmt_code, stmt_code_step}
 use Rattle.st_exec.specs.Machine.{Goes, led_on, run}
 use Rattle.st_exec.specs.Scan.{Course, Over, Stand, asked, begun, branch_step, call_of, chosen, in_order, scan, scan_step, then_do, with_all, with_given}
@@ -159,21 +159,21 @@ all_run us (t ∷ ts) = record {
 level_follows : (us : ℕ) (x : Stmt-F Stmt Branch) →
     Follows us (stmt_code_step (map-Stmt _ _ _ _ stmt_code branch_code x))
     (scan_step us (map-Stmt _ _ _ _ (scan us) (branch_scan us) x)) →
-    IsScanned us (kernel_with_past-Stmt x)
+    IsScanned us (roll-Stmt x)
 level_follows us x same = record {
   follows = record {
     runs = λ rest s.
         ap (λ c. goes_on us (c ++ rest) s)
-        (fold-kernel_with_past-Stmt Code (ℤ × Code) stmt_code_step branch_code_step x) ∙
+        (fold-roll-Stmt Code (ℤ × Code) stmt_code_step branch_code_step x) ∙
         (same.runs rest s ∙
         sym (ap (λ (f : Stand → Course). then_do (f s) (goes_on us rest))
-        (fold-kernel_with_past-Stmt (Stand → Course) (ℤ × (Stand → Course)) (scan_step us) branch_step x)));
+        (fold-roll-Stmt (Stand → Course) (ℤ × (Stand → Course)) (scan_step us) branch_step x)));
   };
 }
 
 -- a level whose parts follow their scans
 parts_follow : (us : ℕ) (y : Stmt-F ((t : Stmt) × IsScanned us t) ((b : Branch) × IsBranch us b)) →
-    IsScanned us (kernel_with_past-Stmt (map-Stmt _ _ _ _ (λ t. t.0) (λ b. b.0) y))
+    IsScanned us (roll-Stmt (map-Stmt _ _ _ _ (λ t. t.0) (λ b. b.0) y))
 parts_follow us (Stmt-F.Set x e) = level_follows us (Stmt-F.Set x e) (record {
   runs = λ rest s.
       ap (λ l. goes_on us l s) (append_assoc (expr_code e) _ rest) ∙
@@ -199,22 +199,22 @@ parts_follow us (Stmt-F.Case e branches otherwise) = level_follows us _ (record 
 -- a branch whose statements follow their scans
 branch_follows : (us : ℕ)
     (y : Branch-F ((t : Stmt) × IsScanned us t) ((b : Branch) × IsBranch us b)) →
-    IsBranch us (kernel_with_past-Branch (map-Branch _ _ _ _ (λ t. t.0) (λ b. b.0) y))
+    IsBranch us (roll-Branch (map-Branch _ _ _ _ (λ t. t.0) (λ b. b.0) y))
 branch_follows us y = record {
   value = ap (λ (p : ℤ × Code). p.0)
-      (fold-kernel_with_past-Branch Code (ℤ × Code) stmt_code_step branch_code_step
+      (fold-roll-Branch Code (ℤ × Code) stmt_code_step branch_code_step
       (map-Branch _ _ _ _ (λ t. t.0) (λ b. b.0) y)) ∙
       sym (ap (λ (p : ℤ × (Stand → Course)). p.0)
-      (fold-kernel_with_past-Branch (Stand → Course) (ℤ × (Stand → Course)) (scan_step us) branch_step
+      (fold-roll-Branch (Stand → Course) (ℤ × (Stand → Course)) (scan_step us) branch_step
       (map-Branch _ _ _ _ (λ t. t.0) (λ b. b.0) y)));
   follows = record {
     runs = λ rest s.
         ap (λ (p : ℤ × Code). goes_on us (p.1 ++ rest) s)
-        (fold-kernel_with_past-Branch Code (ℤ × Code) stmt_code_step branch_code_step
+        (fold-roll-Branch Code (ℤ × Code) stmt_code_step branch_code_step
         (map-Branch _ _ _ _ (λ t. t.0) (λ b. b.0) y)) ∙
         ((all_run us y.body.items).runs rest s ∙
         sym (ap (λ (p : ℤ × (Stand → Course)). then_do (p.1 s) (goes_on us rest))
-        (fold-kernel_with_past-Branch (Stand → Course) (ℤ × (Stand → Course)) (scan_step us) branch_step
+        (fold-roll-Branch (Stand → Course) (ℤ × (Stand → Course)) (scan_step us) branch_step
         (map-Branch _ _ _ _ (λ t. t.0) (λ b. b.0) y))));
   };
 }
@@ -222,5 +222,5 @@ branch_follows us y = record {
 -- the code of a statement runs as its scan goes
 pub stmt_follows : (us : ℕ) (t : Stmt) → IsScanned us t
 stmt_follows us = ind-Stmt (IsScanned us) (IsBranch us)
-    (λ x y is. subst (λ z. IsScanned us (kernel_with_past-Stmt z)) is (parts_follow us y))
-    (λ x y is. subst (λ z. IsBranch us (kernel_with_past-Branch z)) is (branch_follows us y))
+    (λ x y is. subst (λ z. IsScanned us (roll-Stmt z)) is (parts_follow us y))
+    (λ x y is. subst (λ z. IsBranch us (roll-Branch z)) is (branch_follows us y))

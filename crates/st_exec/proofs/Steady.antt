@@ -6,8 +6,8 @@ use Rattle.fb_outputs.specs.declared.outputs.Outputs.{Outputs}
 use Rattle.st_tree.specs.declared.statement.Branch.{Branch}
 use Rattle.st_tree.specs.declared.statement.Stmt.{Stmt}
 use Rattle.st_tree.specs.declared.statement.Stmt.TheOpen.{Stmt-F, Branch-F}
-use Rattle.st_tree.specs.declared.statement.Stmt.TheViews.{kernel_with_past-Stmt, kernel_with_past-Branch}
-use Rattle.st_tree.specs.declared.statement.Stmt.TheFolds.{ind-Stmt, fold-kernel_with_past-Stmt, fold-kernel_with_past-Branch, map-Stmt, map-Branch}
+use Rattle.st_tree.specs.declared.statement.Stmt.TheViews.{roll-Stmt, roll-Branch}
+use Rattle.st_tree.specs.declared.statement.Stmt.TheFolds.{ind-Stmt, fold-roll-Stmt, fold-roll-Branch, map-Stmt, map-Branch}
 use Rattle.st_exec.specs.Laws.{IsFirstOf, AsksInOrder, asks_of}
 use Rattle.st_exec.specs.Scan.{Asked, Course, Over, Waits, Missing, Stand, asked, at_first, branch_step, call_of, chosen, in_order, scan, scan_of, scan_step, then_do}
 use Rattle.st_exec.specs.Values.{is_true, value_of}
@@ -193,14 +193,14 @@ parts_steady us (Stmt-F.Case e branches otherwise) =
 
 stmt_steady : (us : ℕ) (t : Stmt) → ScansSteadily us t
 stmt_steady us = ind-Stmt (ScansSteadily us) (BranchesSteadily us)
-    (λ x y is. subst (λ z. ScansSteadily us (kernel_with_past-Stmt z)) is (record {
+    (λ x y is. subst (λ z. ScansSteadily us (roll-Stmt z)) is (record {
       steady =
-          subst IsSteady (sym (fold-kernel_with_past-Stmt (Stand → Course) (ℤ × (Stand → Course)) (scan_step us)
+          subst IsSteady (sym (fold-roll-Stmt (Stand → Course) (ℤ × (Stand → Course)) (scan_step us)
           branch_step (map-Stmt _ _ _ _ (λ t. t.0) (λ b. b.0) y))) (parts_steady us y);
     }))
-    (λ x y is. subst (λ z. BranchesSteadily us (kernel_with_past-Branch z)) is (record {
+    (λ x y is. subst (λ z. BranchesSteadily us (roll-Branch z)) is (record {
       steady =
-          subst (λ (p : ℤ × (Stand → Course)). IsSteady p.1) (sym (fold-kernel_with_past-Branch (Stand → Course)
+          subst (λ (p : ℤ × (Stand → Course)). IsSteady p.1) (sym (fold-roll-Branch (Stand → Course)
           (ℤ × (Stand → Course)) (scan_step us) branch_step (map-Branch _ _ _ _ (λ t. t.0) (λ b. b.0) y)))
           (all_steady us y.body.items);
     }))

@@ -5,8 +5,8 @@ use Rattle.fb_outputs.specs.declared.outputs.Outputs.{Outputs}
 use Rattle.st_tree.specs.declared.statement.Branch.{Branch}
 use Rattle.st_tree.specs.declared.statement.Stmt.{Stmt}
 use Rattle.st_tree.specs.declared.statement.Stmt.TheOpen.{Stmt-F}
-use Rattle.st_tree.specs.declared.statement.Stmt.TheViews.{kernel_with_past-Stmt, kernel_with_past-Branch}
-use Rattle.st_tree.specs.declared.statement.Stmt.TheFolds.{ind-Stmt, fold-kernel_with_past-Stmt, fold-kernel_with_past-Branch, map-Stmt, map-Branch}
+use Rattle.st_tree.specs.declared.statement.Stmt.TheViews.{roll-Stmt, roll-Branch}
+use Rattle.st_tree.specs.declared.statement.Stmt.TheFolds.{ind-Stmt, fold-roll-Stmt, fold-roll-Branch, map-Stmt, map-Branch}
 use Rattle.st_exec.specs.Scan.{Asked, Course, HasAll, Over, Waits, Missing, Stand, asked, at_first, branch_step, call_of, chosen, in_order, scan, scan_of, scan_step, then_do}
 use Rattle.st_exec.specs.Values.{is_true, value_of}
 use Rattle.st_exec.proofs.Statements.{branch_scan}
@@ -61,14 +61,14 @@ parts_whole us (Stmt-F.Case e branches otherwise) s =
 
 stmt_whole : (us : ℕ) (t : Stmt) → ScansWhole us t
 stmt_whole us = ind-Stmt (ScansWhole us) (BranchesWhole us)
-    (λ x y is. subst (λ z. ScansWhole us (kernel_with_past-Stmt z)) is (record {
+    (λ x y is. subst (λ z. ScansWhole us (roll-Stmt z)) is (record {
       whole =
-          subst IsWhole (sym (fold-kernel_with_past-Stmt (Stand → Course) (ℤ × (Stand → Course)) (scan_step us)
+          subst IsWhole (sym (fold-roll-Stmt (Stand → Course) (ℤ × (Stand → Course)) (scan_step us)
           branch_step (map-Stmt _ _ _ _ (λ t. t.0) (λ b. b.0) y))) (parts_whole us y);
     }))
-    (λ x y is. subst (λ z. BranchesWhole us (kernel_with_past-Branch z)) is (record {
+    (λ x y is. subst (λ z. BranchesWhole us (roll-Branch z)) is (record {
       whole =
-          subst (λ (p : ℤ × (Stand → Course)). IsWhole p.1) (sym (fold-kernel_with_past-Branch (Stand → Course)
+          subst (λ (p : ℤ × (Stand → Course)). IsWhole p.1) (sym (fold-roll-Branch (Stand → Course)
           (ℤ × (Stand → Course)) (scan_step us) branch_step (map-Branch _ _ _ _ (λ t. t.0) (λ b. b.0) y)))
           (all_whole us y.body.items);
     }))
