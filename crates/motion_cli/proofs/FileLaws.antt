@@ -1,6 +1,6 @@
 -- How the program ends by what a read of the file found.
 use Rattle.std.specs.Prelude.{◌≡◌, ◌⊎◌, ◌≤◌, ◌<◌, refl, ℕ, Bool, true, false, Option, Some, None, IsSomeAnd, List, length}
-use Rattle.std.proofs.Common.{◌∙◌, inl, inr, sym, ap, subst, arith}
+use Rattle.std.proofs.Common.{inl, inr, sym, ap, subst, arith}
 use Rattle.bench_job.specs.Plans.{bench_plan}
 use Rattle.job_ends.specs.Causes.{EndsFor, is_fault, is_told}
 use Rattle.job_ends.specs.Ends.{Content, EndsBy, EndsEarly, EndsUnread, Found, IsFound, Longer, Unread}
@@ -14,7 +14,7 @@ use Rattle.outside.specs.declared.files.FilesFault.TheVariants as files
 use Rattle.segment_job.specs.Begins.{begins_as_trace_segment}
 use Rattle.trace_jobs.specs.Plans.{check_plan, migrate_plan}
 use Rattle.trace_text.specs.writing.Writes.{Output}
-use Rattle.motion_cli.proofs.PlanLaws.{by-plan, comes, faulted, not-told, same-cause, told-unfaulted}
+use Rattle.motion_cli.proofs.PlanLaws.{by-plan, comes, not-told, same-cause, told-unfaulted}
 use Rattle.job_ends.specs.Causes.{ComesExactly}
 use Rattle.motion_cli.specs.Causes.{TextCause, IsTooLong, VerifyingCause, LeadsTo}
 use Rattle.motion_cli.specs.Ends.{EndsByFile, EndsByFound, EndsByVerifying, EndsByText}

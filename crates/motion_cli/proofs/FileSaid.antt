@@ -1,6 +1,6 @@
 -- What the end of a job with a file says of its status.
 use Rattle.std.specs.Prelude.{◌≡◌, ◌≢◌, ◌⊎◌, refl, ℕ, Bool, true, false, not, Option, Some, None, IsSomeAnd, List}
-use Rattle.std.proofs.Common.{◌∙◌, inl, inr, sym, ap, subst}
+use Rattle.std.proofs.Common.{inl, inr, ap}
 use Rattle.command_words.specs.Requests.{FileJob, of_file}
 use Rattle.command_words.specs.declared.request.Job.{Job}
 use Rattle.command_words.specs.declared.request.Job.TheVariants.{Bench, Check, Migrate}

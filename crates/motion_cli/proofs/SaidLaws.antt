@@ -26,7 +26,7 @@ use Rattle.motion_cli.specs.Causes.{Cause, HasRoom, Lacks, LeadsTo, is_decided, 
 use Rattle.motion_cli.specs.Ends.{EndsByFile, EndsByRequest}
 use Rattle.motion_cli.specs.Plans.{most_of, usage_plan}
 use Rattle.motion_cli.specs.Reports.{EndsByReport}
-use Rattle.motion_cli.specs.Said.{FileStands, GivesRun, IsSaid, IsSaidOf, NoneUnstarted, RanToEnd, ReportStands, Stands}
+use Rattle.motion_cli.specs.Said.{FileStands, GivesRun, IsSaid, IsSaidOf, ReportStands, Stands}
 
 -- ---- of any request
 
@@ -173,12 +173,12 @@ file-said : FollowPlans → ((text : List ℕ) → HasRoomFor text → BenchCaus
     IsSaidOf told rose unstarted Started (of_file r) old new s
 file-said follow law told rose unstarted Started r old new s e =
     let is : (files : FileMap) → told ≡ Some files → IsFound (Some files) rose r.name (most_of r.job) e.found =
-        λ files t. subst (λ x. IsFound x rose r.name (most_of r.job) e.found) t e.is_found in
+    λ files t. subst (λ x. IsFound x rose r.name (most_of r.job) e.found) t e.is_found in
     let unread : (word : ℕ) → s ≡ status.ReadFault word → rose ⊎ IsSomeAnd told (λ files. Lacks files (of_file r) word) =
-        λ word h. file-unread follow told rose r old new s word e.found e.is_found e.ends h in
+    λ word h. file-unread follow told rose r old new s word e.found e.is_found e.ends h in
     let unwritten : s ≡ status.WriteFault → Rose old.count new.count =
-        λ h. follow.write old new (plan_of r e.found old new s e.ends) s (ends-by r e.found old new s e.ends)
-            (not-write r e.found old new s e.ends) h in
+    λ h. follow.write old new (plan_of r e.found old new s e.ends) s (ends-by r e.found old new s e.ends)
+    (not-write r e.found old new s e.ends) h in
     let faultless = faultless-of told rose (of_file r) old new s unread unwritten in
     record {
       written = file-stands follow told rose r.job r.name old new s e.found e.is_found e.ends;
@@ -249,9 +249,9 @@ load-said follow told rose unstarted Started seed old new s e =
     let statuses = follow.statuses old new (load_plan seed) s ends in
     let kind : is_of_load s ≡ true = load-statuses s (Rose old.count new.count) statuses in
     let unread : (word : ℕ) → s ≡ status.ReadFault word → rose ⊎ IsSomeAnd told (λ files. Lacks files (of_load seed) word) =
-        λ word h. absurd (let bad : false ≡ true = sym (ap is_of_load h) ∙ kind in cc) in
+    λ word h. absurd (let bad : false ≡ true = sym (ap is_of_load h) ∙ kind in cc) in
     let unwritten : s ≡ status.WriteFault → Rose old.count new.count =
-        λ h. follow.write old new (load_plan seed) s ends (λ x. absurd (cc)) h in
+    λ h. follow.write old new (load_plan seed) s ends (λ x. absurd (cc)) h in
     record {
       written = e.line;
       comes = λ files wanted t d.
@@ -271,9 +271,9 @@ report-said : (told : Option FileMap) (rose unstarted : Type 0) (Started : ℕ �
     IsSaidOf told rose unstarted Started (of_report r) old new s
 report-said told rose unstarted Started r old new s e =
     let unread : (word : ℕ) → s ≡ status.ReadFault word → rose ⊎ IsSomeAnd told (λ files. Lacks files (of_report r) word) =
-        λ word h. report-unread told rose r old new s word e h in
+    λ word h. report-unread told rose r old new s word e h in
     let unwritten : s ≡ status.WriteFault → Rose old.count new.count =
-        λ h. report-unwritten told rose r old new s e h in
+    λ h. report-unwritten told rose r old new s e h in
     record {
       written = report-stands told rose r old new s e;
       comes = λ files wanted t d. report-comes files rose r old new s wanted

@@ -2,7 +2,7 @@
 -- project's profile.
 use Rattle.std.specs.Prelude.{◌≡◌, ◌≤◌, ◌<◌, ℕ, Bool, true, false, not, Option, None, IsSomeAnd, Err, List, length}
 use Rattle.bench_job.specs.Causes.{BenchCause, HasRoomFor}
-use Rattle.command_words.specs.Requests.{FileJob, Report, Request, of_file, of_load, of_report, of_run, of_scope, of_switches, of_tasks}
+use Rattle.command_words.specs.Requests.{Report, Request, of_file, of_load, of_report, of_run, of_scope, of_switches, of_tasks}
 use Rattle.command_words.specs.declared.request.Job.{Job}
 use Rattle.command_words.specs.declared.request.Job.TheVariants.{Bench, Check, Migrate}
 use Rattle.job_ends.specs.Causes.{is_fault}
@@ -17,7 +17,7 @@ use Rattle.scope_job.specs.Causes.{is_of_scope, status_in}
 use Rattle.segment_job.specs.Begins.{begins_as_trace_segment}
 use Rattle.segment_job.specs.Causes.{TraceSegmentCause}
 use Rattle.st_job.specs.Causes as st
-use Rattle.switch_job.specs.Causes as switches
+use Rattle.switch_job.specs.Causes as switch_job
 use Rattle.switch_job.specs.Causes.{SwitchCause, is_of_switches}
 use Rattle.trace_jobs.specs.Causes.{CheckCause, MigrateCause}
 
@@ -59,7 +59,7 @@ ReportCause files (of_scope trace) wanted = status_in files trace ≡ wanted
 -- the files lack that of this word where it is to be read for a report
 abbrev pub LacksFor : FileMap → Report → ℕ → Type 0
 LacksFor files (of_switches trace switches) word =
-    switches.both_in files trace switches ≡ Err (status.ReadFault word)
+    switch_job.both_in files trace switches ≡ Err (status.ReadFault word)
 LacksFor files (of_scope trace) word = status_in files trace ≡ status.ReadFault word
 
 -- the statuses that a report may end with

@@ -1,5 +1,5 @@
 -- How the commands that report of a trace end. This project's profile.
-use Rattle.std.specs.Prelude.{ℕ, Option, List}
+use Rattle.std.specs.Prelude.{Option}
 use Rattle.command_words.specs.Requests.{Report, of_scope, of_switches}
 use Rattle.job_ends.specs.declared.status.Status.{Status}
 use Rattle.outside.specs.Told.{FileMap}

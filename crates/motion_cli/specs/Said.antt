@@ -1,6 +1,6 @@
 -- What is said of how the program ends, by what was asked: what was written stands for, and the
 -- cause of each status. This project's profile.
-use Rattle.std.specs.Prelude.{◌≡◌, ◌⊎◌, ℕ, Bool, true, false, Option, Some, None, IsSomeAnd, List}
+use Rattle.std.specs.Prelude.{◌≡◌, ◌⊎◌, ℕ, true, false, Option, Some, None, IsSomeAnd, List}
 use Rattle.std.specs.Result.{IsOk}
 use Rattle.bench_job.specs.Headline.{Headline}
 use Rattle.command_words.specs.Requests.{Report, Request, of_file, of_load, of_report, of_run, of_scope, of_switches, of_tasks}

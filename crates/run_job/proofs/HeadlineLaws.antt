@@ -8,7 +8,6 @@ use Rattle.job_ends.proofs.Statuses.{untraced}
 use Rattle.job_ends.specs.Causes.{is_traced}
 use Rattle.job_ends.specs.Follows.{FollowPlans}
 use Rattle.job_ends.specs.declared.status.Status.{Status}
-use Rattle.job_ends.specs.declared.status.Status.TheVariants as status
 use Rattle.machine_drives.specs.Drives.{drives_at_opening}
 use Rattle.motion_plant.specs.Ran.{DriveMeets}
 use Rattle.outside.specs.Told.{FileMap}
@@ -92,7 +91,7 @@ ended follow back told rose refuses Started config program old new s course =
     let reading = λ (files : FileMap). plant_in files config program in
     let by = planned told rose refuses Started config program old new s course in
     let known : (files : FileMap) → told ≡ Some files → Planned (Some files) rose reading (Given refuses) old new s =
-        λ files e. subst (λ x. Planned x rose reading (Given refuses) old new s) e by in
+    λ files e. subst (λ x. Planned x rose reading (Given refuses) old new s) e by in
     record {
       course = course;
       headline = headline-of follow back told rose refuses Started config program old new s course;

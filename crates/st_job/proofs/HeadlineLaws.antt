@@ -7,7 +7,6 @@ use Rattle.job_ends.proofs.Readings.{none-traced}
 use Rattle.job_ends.specs.Causes.{is_traced}
 use Rattle.job_ends.specs.Follows.{FollowPlans}
 use Rattle.job_ends.specs.declared.status.Status.{Status}
-use Rattle.job_ends.specs.declared.status.Status.TheVariants as status
 use Rattle.machine_drives.specs.Drives.{drive_end, drives_at_opening}
 use Rattle.motion_history.specs.Entries.{cycles_of}
 use Rattle.outside.specs.Told.{FileMap}
@@ -88,7 +87,7 @@ ended follow laws told rose config program old new s course =
     let reading = λ (files : FileMap). both_in files config program in
     let by = planned told rose config program old new s course in
     let known : (files : FileMap) → told ≡ Some files → Planned (Some files) rose reading Traced old new s =
-        λ files e. subst (λ x. Planned x rose reading Traced old new s) e by in
+    λ files e. subst (λ x. Planned x rose reading Traced old new s) e by in
     record {
       course = course;
       headline = headline-of follow laws told rose config program old new s course;
