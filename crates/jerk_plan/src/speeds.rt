@@ -2,8 +2,8 @@
 
 ghost use Rattle.std.specs.Prelude.{◌≡◌, ℕ, ◌+◌, ◌-◌, ◌*◌, ◌≤◌, min, nat_le, if◌then◌else◌};
 ghost use Rattle.motion_numbers.specs.Run.{reach_of};
-ghost use Rattle.jerk_core.specs.Rates.{AreJerkRates, IsKeptBy};
-ghost use Rattle.jerk_plan.specs.Wanted.{IsMoveSpeed, slowed_of, velocity_of};
+ghost use Rattle.jerk_core.specs.Rates.{AreJerkRates};
+ghost use Rattle.jerk_plan.specs.Wanted.{IsSpeedOfMove, slowed_of, velocity_of};
 
 use jerk_core::{JerkRates, braked, greatest_safe, keeps};
 use motion_numbers::{MOST_STEP, greatest_ramp};
@@ -14,8 +14,7 @@ pub fn move_speed(rates: &JerkRates, way: u64, last: u64, speed: u64) -> u64
     requires rates { AreJerkRates rates.now }
     requires last { last ≤ 2 * MOST_STEP }
     requires speed { speed ≤ MOST_STEP }
-    ensures ahead { IsKeptBy rates.now way last speed → IsMoveSpeed rates.now way last speed result }
-    ensures slows { (IsKeptBy rates.now way last speed → ⊥) → result ≡ slowed_of rates.now last speed }
+    ensures wanted { IsSpeedOfMove rates.now way last speed result }
     ensures small { result ≤ 2 * MOST_STEP }
 {
     if keeps(rates, way, last, speed) {

@@ -2,8 +2,7 @@
 
 ghost use Rattle.std.specs.Prelude.{◌≡◌, ◌↔◌, ◌+◌, ◌*◌, ◌≤◌, ℤ, ◌+ℤ◌, ◌-ℤ◌, unsigned_abs};
 ghost use Rattle.motion_numbers.specs.Ranges.{IsPlace, IsStep, IsWay};
-ghost use Rattle.jerk_core.specs.Admissible.{IsSafeByJerk};
-ghost use Rattle.otg.specs.Open.{IsOpen, IsStepOf, limits_of, shifted_of};
+ghost use Rattle.otg.specs.Open.{IsOpen, IsStepOf, IsStepTaken, IsWantedStep, shifted_of};
 
 use crate::generator::{Otg, limits, own_rates, setpoints};
 use crate::opening::{INVALID, OK, is_open};
@@ -42,7 +41,7 @@ fn shifted(otg: &Otg, next: i64) -> Otg
 // The next setpoint.
 fn next_setpoint(otg: &Otg) -> i64
     requires opened { IsOpen otg.now }
-    ensures safe { IsSafeByJerk (limits_of otg.now) otg.now.first otg.now.before otg.now.current result }
+    ensures taken { IsStepTaken otg.now (result -ℤ otg.now.current) }
 {
     moved(otg.current, taken_step(otg))
 }
@@ -50,7 +49,7 @@ fn next_setpoint(otg: &Otg) -> i64
 // The step that is nearest to the command's among the safe ones.
 fn taken_step(otg: &Otg) -> i64
     requires opened { IsOpen otg.now }
-    ensures safe { IsSafeByJerk (limits_of otg.now) otg.now.first otg.now.before otg.now.current (otg.now.current +ℤ result) }
+    ensures taken { IsStepTaken otg.now result }
     ensures small { IsStep result }
 {
     nearest_safe(&limits(otg), &setpoints(otg), wanted_step(otg))
@@ -68,6 +67,7 @@ fn moved(setpoint: i64, step: i64) -> i64
 // The step that the command wants.
 fn wanted_step(otg: &Otg) -> i64
     requires opened { IsOpen otg.now }
+    ensures wanted { IsWantedStep otg.now result }
     ensures small { unsigned_abs result ≤ 2 * MOST_WAY }
 {
     let rates = own_rates(otg);
@@ -86,6 +86,7 @@ fn wanted_step(otg: &Otg) -> i64
 fn distance(otg: &Otg) -> i64
     requires opened { IsOpen otg.now }
     requires place { IsPlace otg.now.target }
+    ensures value { result ≡ (otg.now.target -ℤ otg.now.current) }
     ensures small { IsWay result }
 {
     difference(otg.current, otg.target, MOST_WAY)
@@ -94,6 +95,7 @@ fn distance(otg: &Otg) -> i64
 // The step of this cycle.
 fn this_step(otg: &Otg) -> i64
     requires opened { IsOpen otg.now }
+    ensures value { result ≡ (otg.now.current -ℤ otg.now.before) }
     ensures small { IsStep result }
 {
     difference(otg.before, otg.current, MOST_STEP)
@@ -102,6 +104,7 @@ fn this_step(otg: &Otg) -> i64
 // The step of the last cycle.
 fn last_step(otg: &Otg) -> i64
     requires opened { IsOpen otg.now }
+    ensures value { result ≡ (otg.now.before -ℤ otg.now.first) }
     ensures small { unsigned_abs result ≤ 2 * MOST_STEP }
 {
     difference(otg.first, otg.before, 2 * MOST_STEP)
