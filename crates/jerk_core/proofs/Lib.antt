@@ -5,3 +5,5 @@ pub mod Directions
 pub mod Kept
 pub mod Nearest
 pub mod Sides
+pub mod Triangles
+pub mod Phases

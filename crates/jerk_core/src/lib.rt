@@ -10,6 +10,7 @@ mod laws;
 mod limits;
 mod motions;
 mod rates;
+mod rest;
 mod taking;
 
 pub use ahead::{greatest_left, greatest_safe, keeps};
@@ -22,4 +23,5 @@ pub use laws::{
 pub use limits::JerkLimits;
 pub use motions::{Motion, Setpoints};
 pub use rates::JerkRates;
+pub use rest::way_to_rest;
 pub use taking::nearest_safe;
