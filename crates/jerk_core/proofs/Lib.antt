@@ -7,3 +7,4 @@ pub mod Nearest
 pub mod Sides
 pub mod Triangles
 pub mod Phases
+pub mod Shares

@@ -1,13 +1,14 @@
 // Kept motions and safe speeds, counted in the direction of the motion.
 
-ghost use Rattle.std.specs.Prelude.{◌≡◌, ◌↔◌, IsTrue, ℕ, ◌+◌, ◌-◌, ◌*◌, ◌≤◌, min, max};
+ghost use Rattle.std.specs.Prelude.{◌≡◌, ◌↔◌, IsTrue, ℕ, ◌+◌, ◌-◌, ◌*◌, ◌<◌, ◌≤◌, min, max};
 ghost use Rattle.motion_numbers.specs.Run.{run_of, reach_of};
 ghost use Rattle.jerk_core.specs.Braking.{braked_of, way_of};
 ghost use Rattle.jerk_core.specs.Rates.{AreJerkRates, IsKeptBy, IsLeftBy, IsSafeBy};
 
 use crate::braking::{braked, rest_fits};
 use crate::rates::JerkRates;
-use motion_numbers::{MOST_STEP, greatest_ramp, way_fits};
+use crate::reaching::greatest_fall;
+use motion_numbers::{MOST_STEP, way_fits};
 
 /// Whether the motion with the speeds `last` and `speed` keeps the rates, and can keep them until
 /// it has come to rest within the room.
@@ -59,7 +60,7 @@ fn fastest(rates: &JerkRates, last: u64, speed: u64) -> u64
     requires speed { speed ≤ rates.now.v }
     ensures value { result ≡ min (2 * speed + rates.now.j - last) (speed + min rates.now.a (reach_of (rates.now.v - speed) rates.now.j)) }
 {
-    let rise = greatest_ramp(rates.v - speed, rates.j, rates.a);
+    let rise = greatest_fall(rates.v - speed, rates.j, rates.a);
     (2 * speed + rates.j).saturating_sub(last).min(speed + rise)
 }
 
@@ -83,7 +84,7 @@ pub fn greatest_left(rates: &JerkRates, room: u64, speed: u64, least: u64, most:
     let mut fits = least;
     let mut fails = most;
     while fails - fits > 1 {
-        let middle = fits + (fails - fits) / 2;
+        let middle = between(least, fits, fails);
         if leaves_rest(rates, room, speed, middle) {
             fits = middle;
         } else {
@@ -91,6 +92,17 @@ pub fn greatest_left(rates: &JerkRates, room: u64, speed: u64, least: u64, most:
         }
     }
     fits
+}
+
+// A speed between one that fits and one that fails: as far beyond the first as that is beyond the
+// least, since most often the greatest is the least or one more, and at most in the middle.
+fn between(least: u64, fits: u64, fails: u64) -> u64
+    requires least { least ≤ fits }
+    requires gap { fits + 1 < fails }
+    ensures above { fits < result }
+    ensures below { result < fails }
+{
+    fits + (fits - least).max(1).min((fails - fits) / 2)
 }
 
 // Whether the speed `next` after `speed` and the way to rest after it fit the room.

@@ -4,8 +4,9 @@ ghost use Rattle.std.specs.Prelude.{◌≡◌, ◌↔◌, IsTrue, ◌+◌, ◌-�
 ghost use Rattle.motion_numbers.specs.Run.{run_of};
 ghost use Rattle.jerk_core.specs.Braking.{braked_of, way_of};
 
+use crate::reaching::greatest_fall;
 use crate::rest::way_to_rest;
-use motion_numbers::{MOST_STEP, greatest_ramp};
+use motion_numbers::MOST_STEP;
 
 /// The least speed that may follow the speeds `last` and `speed`, in internal units per cycle: it
 /// falls by at most `d`, and its change by at most `j`, so that its fall can be taken back.
@@ -21,7 +22,7 @@ pub fn braked(d: u64, j: u64, last: u64, speed: u64) -> u64
     if bend < speed {
         speed + (speed - bend)
     } else {
-        speed - greatest_ramp(speed, j, d.min(bend - speed))
+        speed - greatest_fall(speed, j, d.min(bend - speed))
     }
 }
 

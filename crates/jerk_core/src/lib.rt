@@ -10,7 +10,9 @@ mod laws;
 mod limits;
 mod motions;
 mod rates;
+mod reaching;
 mod rest;
+mod sums;
 mod taking;
 
 pub use ahead::{greatest_left, greatest_safe, keeps};
@@ -23,5 +25,6 @@ pub use laws::{
 pub use limits::JerkLimits;
 pub use motions::{Motion, Setpoints};
 pub use rates::JerkRates;
+pub use reaching::greatest_fall;
 pub use rest::way_to_rest;
 pub use taking::nearest_safe;

@@ -6,6 +6,8 @@ ghost use Rattle.motion_numbers.specs.Run.{run_of, reach_of};
 ghost use Rattle.jerk_core.specs.Braking.{way_of};
 ghost use Rattle.jerk_core.specs.Sums.{triangle_of, tetrahedron_of, IsRamp};
 
+use crate::reaching::{root_about, whole_falls};
+use crate::sums::{tetrahedron, triangle};
 use motion_numbers::{MOST_STEP, ramp_sum};
 
 /// The way to rest by braking, in internal units: the speeds of all its cycles, added up.
@@ -58,7 +60,8 @@ fn cycles_below(d: u64, j: u64, last: u64, speed: u64, most: u64) -> u64
     ensures ends { IsRamp d j last speed result → ⊥ }
     ensures within { result < most }
 {
-    let mut cycles = some_cycles(d, j, last, speed, about(j, last, speed).min(most - 1));
+    let guess = cycles_about(j, last, speed).min(most - 1);
+    let mut cycles = some_cycles(d, j, last, speed, guess);
     while is_ramp(d, j, last, speed, cycles) {
         cycles += 1;
     }
@@ -87,14 +90,12 @@ fn some_cycles(d: u64, j: u64, last: u64, speed: u64, guess: u64) -> u64
 
 // About as many cycles as the ramp has, as a first guess: the fall at its end is about the root of
 // v * j and of half of the square of the change of speed.
-fn about(j: u64, last: u64, speed: u64) -> u64
+fn cycles_about(j: u64, last: u64, speed: u64) -> u64
     requires j { 1 ≤ j }
 {
     let change = last.abs_diff(speed);
-    let fall = speed
-        .saturating_mul(j)
-        .saturating_add(change.saturating_mul(change) / 2)
-        .isqrt();
+    let square = change.saturating_mul(change) / 2;
+    let fall = root_about(speed.saturating_mul(j).saturating_add(square));
     if last <= speed {
         fall.saturating_add(change) / j
     } else {
@@ -201,23 +202,6 @@ fn way_of_landing(j: u64, last: u64, speed: u64) -> u128
     landing_sum(j, falls, left / (falls + 1), left % (falls + 1))
 }
 
-// How many falls by j there are whose sum is at most j times the share, from a first guess.
-fn whole_falls(share: u64, guess: u64) -> u64
-    requires share { share ≤ MOST_STEP }
-    requires guess { guess ≤ 2 * MOST_STEP }
-    ensures fits { triangle_of result ≤ share }
-    ensures greatest { share < triangle_of (suc result) }
-{
-    let mut falls = guess;
-    while triangle(falls) > share as u128 {
-        falls -= 1;
-    }
-    while triangle(falls + 1) <= share as u128 {
-        falls += 1;
-    }
-    falls
-}
-
 // The way of the landing, whose falls are `rest` and whole falls by j; `over` is what the speed has
 // more than their way.
 fn landing_sum(j: u64, falls: u64, rest: u64, over: u64) -> u128
@@ -230,22 +214,4 @@ fn landing_sum(j: u64, falls: u64, rest: u64, over: u64) -> u128
 {
     let even = rest as u128 * triangle(falls) + j as u128 * tetrahedron(falls);
     even + (over as u128 * (falls - over) as u128 + triangle(over))
-}
-
-// The numbers from 1 to n, added up.
-fn triangle(n: u64) -> u128
-    requires { n ≤ 3 * MOST_STEP }
-    ensures value { result ≡ triangle_of n }
-    ensures small { result ≤ 2 ^ 69 }
-{
-    n as u128 * (n + 1) as u128 / 2
-}
-
-// The triangles below the n-th, added up.
-fn tetrahedron(n: u64) -> u128
-    requires { n ≤ 3 * MOST_STEP }
-    ensures value { result ≡ tetrahedron_of n }
-    ensures small { result ≤ 2 ^ 104 }
-{
-    triangle(n) * n.saturating_sub(1) as u128 / 3
 }

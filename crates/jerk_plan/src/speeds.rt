@@ -5,8 +5,8 @@ ghost use Rattle.motion_numbers.specs.Run.{reach_of};
 ghost use Rattle.jerk_core.specs.Rates.{AreJerkRates};
 ghost use Rattle.jerk_plan.specs.Wanted.{IsSpeedOfMove, slowed_of, velocity_of};
 
-use jerk_core::{JerkRates, braked, greatest_safe, keeps};
-use motion_numbers::{MOST_STEP, greatest_ramp};
+use jerk_core::{JerkRates, braked, greatest_fall, greatest_safe, keeps};
+use motion_numbers::MOST_STEP;
 
 /// The wanted speed of a move with the way `way` to its target, in internal units per cycle. A move
 /// that can't stop before its target by its rates slows.
@@ -61,8 +61,8 @@ fn toward(rates: &JerkRates, wanted: u64, speed: u64) -> u64
     ensures small { result ≤ 2 * MOST_STEP }
 {
     if speed <= wanted {
-        speed + greatest_ramp(wanted - speed, rates.j, rates.a)
+        speed + greatest_fall(wanted - speed, rates.j, rates.a)
     } else {
-        speed - greatest_ramp(speed - wanted, rates.j, rates.d)
+        speed - greatest_fall(speed - wanted, rates.j, rates.d)
     }
 }

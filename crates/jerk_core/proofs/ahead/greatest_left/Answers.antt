@@ -1,5 +1,5 @@
 -- Only the way is looked at between the least speed and the greatest, and what is left by one speed is left by all below it.
-use Rattle.std.proofs.Common.{inl, inr, ℕ, ◌+◌, ◌-◌, ◌/◌, ◌<◌, ◌≤◌, arith}
+use Rattle.std.proofs.Common.{inl, inr, ℕ, ◌+◌, ◌-◌, ◌<◌, ◌≤◌, arith}
 use Rattle.std.proofs.lemmas.Bool.{cases_lt}
 use Rattle.motion_numbers.specs.Run.{reach_of}
 use Rattle.jerk_core.specs.declared.rates.JerkRates.{JerkRates}
@@ -16,10 +16,6 @@ left_between rates room speed least most x ok slow above below gains tops low fi
     kept_after rates.v rates.a rates.d rates.j room speed least x (omega (arith, ok.d_least)) (omega (arith, ok.j_least)) slow above
     (omega arith) (omega arith) low fits.0 fits.1
 
--- the middle of two speeds
-middle_below : (a b m : ℕ) → a < b → b ≤ m → a + (b - a) / 2 ≤ m
-middle_below a b m h p = omega arith
-
 pub returns-then-leaves_rest-clause-left : goal.returns-then-leaves_rest-clause-left
 returns-then-leaves_rest-clause-left c =
     left_between c.args.rates.now c.args.room c.args.speed c.args.least c.args.most c.args.most c.requires.rates c.requires.speed c.requires.order
@@ -30,12 +26,12 @@ loop-fails-preserved-then-leaves_rest-2 c =
     let order : c.loop-fails.fits < c.loop-fails.fails = c.loop-fails.invariant.order in
     let above : c.args.least ≤ c.loop-fails.fits = c.loop-fails.invariant.above in
     record {
-      order = omega arith;
-      above = omega arith;
+      order = omega (arith, c.between-middle.ensures.below);
+      above = omega (arith, c.between-middle.ensures.above);
       within = c.loop-fails.invariant.within;
       fitting = left_between c.args.rates.now c.args.room c.args.speed c.args.least c.args.most
-          (c.loop-fails.fits + (c.loop-fails.fails - c.loop-fails.fits) / 2) c.requires.rates c.requires.speed
-          (omega arith) (middle_below c.loop-fails.fits c.loop-fails.fails c.args.most order c.loop-fails.invariant.within)
+          c.between-middle.result c.requires.rates c.requires.speed
+          (omega (arith, c.between-middle.ensures.above)) (omega (arith, c.between-middle.ensures.below, c.loop-fails.invariant.within))
           c.requires.gains c.requires.tops c.requires.left (c.leaves_rest-in-loop-fails.ensures.0 c.if-leaves_rest-2.true);
       failing = c.loop-fails.invariant.failing;
     }

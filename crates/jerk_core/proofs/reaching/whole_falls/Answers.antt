@@ -2,7 +2,7 @@
 use Rattle.std.proofs.Common.{◌≡◌, ℕ, ◌+◌, ◌-◌, ◌<◌, ◌≤◌, zero, suc, arith}
 use Rattle.jerk_core.specs.Sums.{triangle_of}
 use Rattle.jerk_core.proofs.Triangles.{triangle_none, triangle_least}
-use Rattle.jerk_core.proofs.rest.whole_falls.Goals as goal
+use Rattle.jerk_core.proofs.reaching.whole_falls.Goals as goal
 
 -- what is too many is some
 some : (n share t : ℕ) → t ≡ triangle_of n → share < t → 1 ≤ n

@@ -1,6 +1,6 @@
 -- Half of the side and the next number multiplied.
 use Rattle.jerk_core.proofs.Triangles.{triangle_half}
-use Rattle.jerk_core.proofs.rest.triangle.Goals as goal
+use Rattle.jerk_core.proofs.sums.triangle.Goals as goal
 
 pub returns-clause-value : goal.returns-clause-value
 returns-clause-value c = triangle_half c.args.n

@@ -2,7 +2,7 @@
 use Rattle.std.proofs.Common.{◌-◌, ◌*◌, ◌≤◌}
 use Rattle.motion_numbers.specs.declared.TheConstants.{MOST_STEP}
 use Rattle.jerk_core.specs.Sums.{triangle_of}
-use Rattle.jerk_core.proofs.rest.whole_falls.Given as goal
+use Rattle.jerk_core.proofs.reaching.whole_falls.Given as goal
 
 abbrev pub invariant-loop-falls : goal.invariant-loop-falls
 invariant-loop-falls l = record {
