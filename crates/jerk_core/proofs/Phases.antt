@@ -1,13 +1,13 @@
 -- The way to rest in closed form: a ramp in which the change of speed falls by j, falls by d, and the landing, in which each fall is the greatest that can be taken back.
-use Rattle.std.proofs.Common.{inl, inr, ◌≡◌, ℕ, ◌+◌, ◌-◌, ◌*◌, ◌<◌, ◌≤◌, zero, suc, min, arith, refl, ap}
+use Rattle.std.proofs.Common.{inl, inr, ◌≡◌, ℕ, ◌+◌, ◌-◌, ◌*◌, ◌/◌, ◌%◌, ◌<◌, ◌≤◌, zero, suc, min, arith, refl, ap}
 use Rattle.std.proofs.lemmas.Bool.{cases_lt}
-use Rattle.std.proofs.lemmas.Nat.{mul-le}
+use Rattle.std.proofs.lemmas.Nat.{mul-le, div-add-mod', mod_below}
 use Rattle.motion_numbers.specs.Run.{run_of, reach_of}
 use Rattle.motion_numbers.proofs.Runs.{run_zero, run_unfold, run_ge, run_less}
 use Rattle.motion_numbers.proofs.Reaches.{reach_greatest, reach_is, below_reach_of}
 use Rattle.jerk_core.specs.Braking.{braked_of, way_of}
 use Rattle.jerk_core.specs.Sums.{triangle_of, tetrahedron_of, IsRamp}
-use Rattle.jerk_core.proofs.Triangles.{triangle_next, triangle_none, triangle_nothing, triangle_times, tetrahedron_nothing, tetrahedron_times, triangle_twice, run_whole}
+use Rattle.jerk_core.proofs.Triangles.{triangle_next, triangle_none, triangle_nothing, triangle_times, tetrahedron_nothing, tetrahedron_times, tetrahedron_sides, triangle_twice, run_whole, few_times}
 use Rattle.jerk_core.proofs.Ways.{way_unfold, way_zero}
 use Rattle.jerk_core.proofs.KeptMotions.{braked_tops}
 
@@ -310,3 +310,55 @@ ramp_of (suc n) d j w v most slows some moves goes top = by_ramp (ramp_goes n d 
           tops = omega (arith, ramp.tops most top);
           ends = λ over. ramp_ends n d j w v ramp.before ramp.now ramp.sum some ramp.is over;
         }
+
+-- the speed at the end of a ramp, by the one before it and the last fall
+pub ramp_last : (d j w v cycles most : ℕ) → 0 < cycles → (ramp : RampOf d j w v cycles most) → ramp.before + v ≡ ramp.now + (cycles * j + w)
+ramp_last d j w v zero most some ramp = absurd (omega arith)
+ramp_last d j w v (suc n) most some ramp =
+    let less : suc n - 1 ≡ n = omega arith in
+    let before : ramp.before + (n * w + j * triangle_of n) ≡ suc n * v = rw less at ramp.before_is in
+    omega (arith, before, ramp.now_is, triangle_times j n)
+
+-- twice its way
+pub ramp_double : (d j w v cycles most : ℕ) → (ramp : RampOf d j w v cycles most) →
+    suc cycles * (v + ramp.now) + j * tetrahedron_of cycles ≡ 2 * (ramp.sum + v)
+ramp_double d j w v cycles most ramp =
+    let times : suc cycles * (ramp.now + (cycles * w + j * triangle_of cycles)) ≡ suc cycles * (suc cycles * v) = ap (λ a. suc cycles * a) ramp.now_is in
+    let sides : j * (suc cycles * triangle_of cycles) ≡ j * (2 * tetrahedron_of (suc cycles) + tetrahedron_of cycles) =
+    ap (λ a. j * a) (tetrahedron_sides cycles) in
+    let twice_v : v * (2 * triangle_of cycles) ≡ v * (cycles * (cycles + 1)) = ap (λ a. v * a) (triangle_twice cycles) in
+    let twice_w : w * (2 * triangle_of cycles) ≡ w * (cycles * (cycles + 1)) = ap (λ a. w * a) (triangle_twice cycles) in
+    omega (arith, ramp.sum_is)
+
+-- a gain that can be taken back below the greatest step is few times j
+gain_few : (a j v : ℕ) → 1 ≤ j → v + run_of (a - j) j ≤ 10000000000 → a ≤ 150002 * j
+gain_few a j v some top =
+    let parts : (a - j) / j * j + (a - j) % j ≡ a - j = div-add-mod' (a - j) j in
+    let rest : (a - j) % j < j = mod_below (a - j) j some in
+    let way : run_of ((a - j) / j * j + (a - j) % j) j ≡ suc ((a - j) / j) * ((a - j) % j) + j * triangle_of ((a - j) / j) =
+    run_whole ((a - j) / j) ((a - j) % j) j some (omega arith) in
+    let same : run_of (a - j) j ≡ suc ((a - j) / j) * ((a - j) % j) + j * triangle_of ((a - j) / j) = rw parts at way in
+    let few : (a - j) / j ≤ 150000 = few_times ((a - j) / j) j some (omega arith) in
+    let span : (a - j) / j * j ≤ 150000 * j = mul-le ((a - j) / j) j 150000 j few (omega arith) in
+    omega arith
+
+-- so a ramp has few cycles
+pub ramp_few : (n d j w v : ℕ) → 1 ≤ j → v + run_of (v - w - j) j ≤ 10000000000 → IsRamp d j w v n → n ≤ 400000
+ramp_few n d j w v some top ramp =
+    let lands : run_of (suc n * j + w - v) j + (n * w + j * triangle_of n) ≤ suc n * v = ramp.lands in
+    elim (cases_lt w v) [
+      | inr falls ↦
+          let more : n * v ≤ n * w = mul-le n v n w (omega arith) falls in
+          let fits : n ≤ 150000 = few_times n j some (omega arith) in
+          omega arith
+      | inl rises ↦ elim (cases_lt 400000 n) [
+        | inr few ↦ few
+        | inl many ↦ absurd (
+            let gain : v - w ≤ 150002 * j = gain_few (v - w) j v some top in
+            let times : n * v ≤ n * (w + 150002 * j) = mul-le n v n (w + 150002 * j) (omega arith) (omega arith) in
+            let product : (n * j) * 400002 ≤ (n * j) * (n + 1) = mul-le (n * j) 400002 (n * j) (n + 1) (omega arith) (omega arith) in
+            let least : n * 1 ≤ n * j = mul-le n 1 n j (omega arith) some in
+            let twice : j * (2 * triangle_of n) ≡ j * (n * (n + 1)) = ap (λ a. j * a) (triangle_twice n) in
+            omega arith)
+      ]
+    ]

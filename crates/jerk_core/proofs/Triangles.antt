@@ -118,18 +118,49 @@ side_most n j m some h =
     let one : 1 * triangle_of n ≤ j * triangle_of n = mul-le 1 (triangle_of n) j (triangle_of n) some (omega arith) in
     omega (arith, triangle_least n)
 
+-- j times a triangle, by the falls
+pub triangle_product : (n j : ℕ) → n * j * (n + 1) / 2 ≡ j * triangle_of n
+triangle_product n j =
+    let twice : j * (2 * triangle_of n) ≡ j * (n * (n + 1)) = ap (λ a. j * a) (triangle_twice n) in
+    let whole : n * j * (n + 1) ≡ 2 * (j * triangle_of n) = omega arith in
+    rw whole (omega arith)
+
+-- a triangle within the greatest step has few terms
+pub few_terms : (n : ℕ) → triangle_of n ≤ 10000000000 → n ≤ 150000
+few_terms n h =
+    elim (cases_lt 150000 n) [
+      | inr few ↦ few
+      | inl more ↦ absurd (omega (arith, triangle_mono 150001 n (omega arith), triangle_twice 150001))
+    ]
+
+-- and so has j times one
+pub few_times : (n j : ℕ) → 1 ≤ j → j * triangle_of n ≤ 10000000000 → n ≤ 150000
+few_times n j some h =
+    few_terms n (let one : 1 * triangle_of n ≤ j * triangle_of n = mul-le 1 (triangle_of n) j (triangle_of n) some (omega arith) in omega arith)
+
+-- a triangle of few terms is small
+pub triangle_few : (n : ℕ) → n ≤ 500000 → triangle_of n ≤ 200000000000
+triangle_few n h = omega (arith, triangle_mono n 500000 h, triangle_twice 500000)
+
+-- and so is it times the side before
+pub tetrahedron_few : (n t k : ℕ) → n ≤ 500000 → t ≡ triangle_of n → k ≡ n - 1 → t * k ≤ 100000000000000000
+tetrahedron_few n t k h is before = mul-le t k 200000000000 500000 (omega (arith, triangle_few n h)) (omega arith)
+
 -- the parts of a landing's way are small
-pub landing_even_small : (j q r m : ℕ) → q ≤ m → r * suc q ≤ m → j * triangle_of q ≤ m → r * triangle_of q + j * tetrahedron_of q ≤ 2 * (m * m)
-landing_even_small j q r m few_q rest whole =
-    let first : (r * suc q) * q ≤ m * m = mul-le (r * suc q) q m m rest few_q in
-    let second : q * (j * triangle_of q) ≤ m * m = mul-le q (j * triangle_of q) m m few_q whole in
+pub landing_even_small : (j q r : ℕ) → q ≤ 150000 → r * suc q ≤ 10000000000 → j * triangle_of q ≤ 10000000000 →
+    r * triangle_of q + j * tetrahedron_of q ≤ 3000000000000000
+landing_even_small j q r few_q rest whole =
+    let first : (r * suc q) * q ≤ 10000000000 * 150000 = mul-le (r * suc q) q 10000000000 150000 rest few_q in
+    let second : q * (j * triangle_of q) ≤ 150000 * 10000000000 = mul-le q (j * triangle_of q) 150000 10000000000 few_q whole in
     let third : j * tetrahedron_of q ≤ j * (q * triangle_of q) = mul-le j (tetrahedron_of q) j (q * triangle_of q) (omega arith) (tetrahedron_most q) in
     let twice : r * (2 * triangle_of q) ≡ r * (q * (q + 1)) = ap (λ a. r * a) (triangle_twice q) in
     omega arith
 
-pub landing_over_small : (q e m : ℕ) → q ≤ m → e * (q - e) ≤ m * m
-landing_over_small q e m few_q =
-    elim (cases_lt q e) [
-      | inl more ↦ let none : q - e ≡ 0 = omega arith in rw none (omega arith)
-      | inr within ↦ mul-le e (q - e) m m (omega arith) (omega arith)
-    ]
+pub landing_over_small : (q e : ℕ) → q ≤ 150000 → e ≤ q → e * (q - e) ≤ 22500000000
+landing_over_small q e few_q within = mul-le e (q - e) 150000 150000 (omega arith) (omega arith)
+
+-- twice the sum of a ramp's speeds, by its sides
+pub tetrahedron_sides : (n : ℕ) → suc n * triangle_of n ≡ 2 * tetrahedron_of (suc n) + tetrahedron_of n
+tetrahedron_sides n =
+    let twice : n * (2 * triangle_of n) ≡ n * (n * (n + 1)) = ap (λ a. n * a) (triangle_twice n) in
+    omega (arith, twice, triangle_twice n, tetrahedron_six n, tetrahedron_next n)

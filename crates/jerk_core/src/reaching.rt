@@ -4,7 +4,7 @@ ghost use Rattle.std.specs.Prelude.{◌≡◌, ℕ, ◌+◌, ◌*◌, ◌<◌, �
 ghost use Rattle.motion_numbers.specs.Run.{run_of, reach_of};
 ghost use Rattle.jerk_core.specs.Sums.{triangle_of};
 
-use crate::sums::triangle;
+use crate::sums::{MOST_FALLS, triangle};
 use motion_numbers::{MOST_STEP, way_fits};
 
 /// The greatest fall up to `most` that can be taken back within the speed, where it falls by `j`
@@ -29,22 +29,23 @@ fn greatest_fall_of(speed: u64, j: u64) -> u64
     ensures { result ≡ reach_of speed j }
 {
     let share = speed / j;
-    let falls = whole_falls(share, root_about(2 * share).min(share));
-    falls * j + (speed - j * triangle(falls) as u64) / (falls + 1)
+    let falls = whole_falls(share, root_about(2 * share).min(MOST_FALLS));
+    falls * j + (speed - j * triangle(falls)) / (falls + 1)
 }
 
 /// How many falls by j there are whose sum is at most j times the share, from a first guess.
 pub(crate) fn whole_falls(share: u64, guess: u64) -> u64
     requires share { share ≤ MOST_STEP }
-    requires guess { guess ≤ 2 * MOST_STEP }
+    requires guess { guess ≤ MOST_FALLS }
+    ensures few { result ≤ MOST_FALLS }
     ensures fits { triangle_of result ≤ share }
     ensures greatest { share < triangle_of (suc result) }
 {
     let mut falls = guess;
-    while triangle(falls) > share as u128 {
+    while triangle(falls) > share {
         falls -= 1;
     }
-    while triangle(falls + 1) <= share as u128 {
+    while triangle(falls + 1) <= share {
         falls += 1;
     }
     falls

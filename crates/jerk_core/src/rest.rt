@@ -7,7 +7,7 @@ ghost use Rattle.jerk_core.specs.Braking.{way_of};
 ghost use Rattle.jerk_core.specs.Sums.{triangle_of, tetrahedron_of, IsRamp};
 
 use crate::reaching::{root_about, whole_falls};
-use crate::sums::{tetrahedron, triangle};
+use crate::sums::{MOST_CYCLES, MOST_FALLS, tetrahedron, triangle};
 use motion_numbers::{MOST_STEP, ramp_sum};
 
 /// The way to rest by braking, in internal units: the speeds of all its cycles, added up.
@@ -25,8 +25,8 @@ pub fn way_to_rest(d: u64, j: u64, last: u64, speed: u64) -> u128
         return way_of_falls(d, j, last, speed);
     }
     let before = speed_of_ramp(j, last, speed, cycles - 1);
-    let now = speed_of_ramp(j, last, speed, cycles);
-    way_of_ramp(j, last, speed, cycles) + way_of_falls(d, j, before, now)
+    let now = before + speed - (cycles * j + last);
+    way_of_ramp(j, speed, now, cycles) + way_of_falls(d, j, before, now)
 }
 
 // The cycles of the ramp.
@@ -35,13 +35,17 @@ fn ramp_cycles(d: u64, j: u64, last: u64, speed: u64) -> u64
     requires j_least { 1 ≤ j }
     requires j_most { j ≤ MOST_STEP }
     requires last { last ≤ 2 * MOST_STEP }
-    requires speed { speed ≤ MOST_STEP }
+    requires tops { speed + run_of (speed - last - j) j ≤ MOST_STEP }
     ensures goes { (n : ℕ) → result ≡ suc n → IsRamp d j last speed n }
     ensures ends { IsRamp d j last speed result → ⊥ }
     ensures span { result * j ≤ 2 * MOST_STEP }
+    ensures few { result ≤ MOST_CYCLES }
 {
     let most = (d + speed).saturating_sub(last) / j;
-    if most == 0 || is_ramp(d, j, last, speed, most - 1) {
+    if most == 0 {
+        return 0;
+    }
+    if is_ramp(d, j, last, speed, most - 1) {
         return most;
     }
     cycles_below(d, j, last, speed, most)
@@ -124,34 +128,33 @@ fn less_by_ramp(j: u64, last: u64, n: u64) -> u128
     ensures value { result ≡ n * last + j * triangle_of n }
     ensures small { result ≤ 2 ^ 70 }
 {
-    n as u128 * last as u128 + j as u128 * triangle(n)
+    n as u128 * last as u128 + (n * j) as u128 * (n + 1) as u128 / 2
 }
 
 // The speed after n cycles of a ramp.
 fn speed_of_ramp(j: u64, last: u64, speed: u64, n: u64) -> u64
-    requires j_least { 1 ≤ j }
     requires last { last ≤ 2 * MOST_STEP }
     requires speed { speed ≤ MOST_STEP }
+    requires few { n ≤ MOST_CYCLES }
     requires span { n * j ≤ 2 * MOST_STEP }
     requires above { n * last + j * triangle_of n ≤ suc n * speed }
-    requires small { suc n * speed ≤ n * last + j * triangle_of n + 2 * MOST_STEP }
     ensures { result + (n * last + j * triangle_of n) ≡ suc n * speed }
 {
-    ((n + 1) as u128 * speed as u128 - less_by_ramp(j, last, n)) as u64
+    (n + 1) * speed - (n * last + n * j * (n + 1) / 2)
 }
 
-// The way of n cycles of a ramp.
-fn way_of_ramp(j: u64, last: u64, speed: u64, n: u64) -> u128
-    requires j_least { 1 ≤ j }
-    requires last { last ≤ 2 * MOST_STEP }
+// The way of n cycles of a ramp, from the speed at its beginning and that at its end.
+fn way_of_ramp(j: u64, speed: u64, now: u64, n: u64) -> u128
+    requires j { j ≤ MOST_STEP }
     requires speed { speed ≤ MOST_STEP }
-    requires span { n * j ≤ 2 * MOST_STEP }
-    requires above { last * triangle_of n + j * tetrahedron_of (suc n) ≤ speed * (triangle_of n + n) }
-    ensures value { result + (last * triangle_of n + j * tetrahedron_of (suc n)) ≡ speed * (triangle_of n + n) }
-    ensures small { result ≤ 2 ^ 120 }
+    requires now { now ≤ MOST_STEP }
+    requires some { 1 ≤ n }
+    requires few { n ≤ MOST_CYCLES }
+    ensures value { (s : ℕ) → suc n * (speed + now) + j * tetrahedron_of n ≡ 2 * (s + speed) → result ≡ s }
+    ensures small { result ≤ 2 ^ 100 }
 {
-    let sum = triangle(n);
-    speed as u128 * (sum + n as u128) - (last as u128 * sum + j as u128 * tetrahedron(n + 1))
+    let twice = ((n + 1) * (speed + now)) as u128 + j as u128 * tetrahedron(n) as u128;
+    twice / 2 - speed as u128
 }
 
 // The way to rest behind the ramp: falls by d, and the landing.
@@ -168,11 +171,11 @@ fn way_of_falls(d: u64, j: u64, last: u64, speed: u64) -> u128
 {
     let landing = ramp_sum(d, j);
     if (speed as u128) < landing {
-        return way_of_landing(j, last, speed);
+        return way_of_landing(j, last, speed) as u128;
     }
     let falls = (speed - landing as u64) / d + 1;
     let rest = speed - falls * d;
-    way_of_flat(d, speed, falls) + way_of_landing(j, rest + d, rest)
+    way_of_flat(d, speed, falls) + way_of_landing(j, rest + d, rest) as u128
 }
 
 // The way of n falls by d.
@@ -184,34 +187,33 @@ fn way_of_flat(d: u64, speed: u64, n: u64) -> u128
     ensures value { result + d * triangle_of n ≡ n * speed }
     ensures small { result ≤ 2 ^ 100 }
 {
-    n as u128 * speed as u128 - d as u128 * triangle(n)
+    n as u128 * (2 * speed - (n * d + d)) as u128 / 2
 }
 
 // The way of the landing.
-fn way_of_landing(j: u64, last: u64, speed: u64) -> u128
+fn way_of_landing(j: u64, last: u64, speed: u64) -> u64
     requires j_least { 1 ≤ j }
     requires j_most { j ≤ MOST_STEP }
     requires last { last ≤ 2 * MOST_STEP }
     requires speed { speed ≤ MOST_STEP }
-    ensures value { (d : ℕ) → 1 ≤ d → reach_of speed j ≤ d → speed + reach_of speed j ≤ last + j → result ≡ way_of d j last speed }
-    ensures small { result ≤ 2 ^ 100 }
+    ensures { (d : ℕ) → 1 ≤ d → reach_of speed j ≤ d → speed + reach_of speed j ≤ last + j → result ≡ way_of d j last speed }
 {
-    let share = speed / j;
-    let falls = whole_falls(share, last.saturating_sub(speed) / j);
-    let left = speed - j * triangle(falls) as u64;
+    let guess = (last.saturating_sub(speed) / j).min(MOST_FALLS);
+    let falls = whole_falls(speed / j, guess);
+    let left = speed - j * triangle(falls);
     landing_sum(j, falls, left / (falls + 1), left % (falls + 1))
 }
 
 // The way of the landing, whose falls are `rest` and whole falls by j; `over` is what the speed has
 // more than their way.
-fn landing_sum(j: u64, falls: u64, rest: u64, over: u64) -> u128
+fn landing_sum(j: u64, falls: u64, rest: u64, over: u64) -> u64
     requires j { 1 ≤ j }
+    requires few { falls ≤ MOST_FALLS }
     requires rest { rest * suc falls ≤ MOST_STEP }
     requires whole { j * triangle_of falls ≤ MOST_STEP }
     requires over { over ≤ falls }
-    ensures value { result ≡ rest * triangle_of falls + j * tetrahedron_of falls + (over * (falls - over) + triangle_of over) }
-    ensures small { result ≤ 2 ^ 100 }
+    ensures { result ≡ rest * triangle_of falls + j * tetrahedron_of falls + (over * (falls - over) + triangle_of over) }
 {
-    let even = rest as u128 * triangle(falls) + j as u128 * tetrahedron(falls);
-    even + (over as u128 * (falls - over) as u128 + triangle(over))
+    let even = rest * triangle(falls) + j * tetrahedron(falls);
+    even + (over * (falls - over) + triangle(over))
 }

@@ -37,10 +37,10 @@ overflow_add-result-2 c =
     omega (
       arith,
       small c.whole_falls-falls.result c.args.j c.args.speed c.triangle.result c.requires.j
-          c.whole_falls-falls.ensures.fits c.whole_falls-falls.ensures.greatest c.triangle.ensures.value,
+          c.whole_falls-falls.ensures.fits c.whole_falls-falls.ensures.greatest c.triangle.ensures,
     )
 
 pub returns : goal.returns
 returns c =
     shared c.whole_falls-falls.result c.args.j c.args.speed c.triangle.result c.requires.j
-    c.whole_falls-falls.ensures.fits c.whole_falls-falls.ensures.greatest c.triangle.ensures.value
+    c.whole_falls-falls.ensures.fits c.whole_falls-falls.ensures.greatest c.triangle.ensures

@@ -1,12 +1,11 @@
 -- The guess is lessened until it fits, and then raised as far as it fits.
-use Rattle.std.proofs.Common.{◌-◌, ◌*◌, ◌≤◌}
-use Rattle.motion_numbers.specs.declared.TheConstants.{MOST_STEP}
+use Rattle.std.proofs.Common.{◌-◌, ◌≤◌}
 use Rattle.jerk_core.specs.Sums.{triangle_of}
 use Rattle.jerk_core.proofs.reaching.whole_falls.Given as goal
 
 abbrev pub invariant-loop-falls : goal.invariant-loop-falls
 invariant-loop-falls l = record {
-  within : l.falls ≤ 2 * MOST_STEP;
+  within : l.falls ≤ 150000;
 }
 
 abbrev pub decreases-loop-falls : goal.decreases-loop-falls

@@ -1,9 +1,9 @@
 -- Few cycles make it small.
-use Rattle.std.proofs.Common.{◌+◌, ◌*◌, ◌≤◌, ℕ, arith}
+use Rattle.std.proofs.Common.{◌+◌, ◌*◌, ◌≤◌, ℕ, arith, refl}
 use Rattle.std.proofs.lemmas.Nat.{mul-le}
 use Rattle.motion_numbers.specs.declared.TheConstants.{MOST_STEP}
 use Rattle.jerk_core.specs.Sums.{triangle_of}
-use Rattle.jerk_core.proofs.Triangles.{few, triangle_span}
+use Rattle.jerk_core.proofs.Triangles.{few, triangle_span, triangle_product}
 use Rattle.jerk_core.proofs.rest.less_by_ramp.Goals as goal
 
 -- both parts are
@@ -14,11 +14,9 @@ small n j last some slow span =
     let second : 2 * (j * triangle_of n) ≤ (2 * MOST_STEP) * (n + 1) = triangle_span n j (2 * MOST_STEP) span in
     omega arith
 
-pub overflow_mul-result-2 : goal.overflow_mul-result-2
-overflow_mul-result-2 c = rw c.triangle.ensures.value (omega (arith, small c.args.n c.args.j c.args.last c.requires.j_least c.requires.last c.requires.span))
-
-pub overflow_add-result : goal.overflow_add-result
-overflow_add-result c = rw c.triangle.ensures.value (omega (arith, small c.args.n c.args.j c.args.last c.requires.j_least c.requires.last c.requires.span))
+pub returns-clause-value : goal.returns-clause-value
+returns-clause-value c = rw (triangle_product c.args.n c.args.j) refl
 
 pub returns-clause-small : goal.returns-clause-small
-returns-clause-small c = rw c.triangle.ensures.value (omega (arith, small c.args.n c.args.j c.args.last c.requires.j_least c.requires.last c.requires.span))
+returns-clause-small c =
+    rw (triangle_product c.args.n c.args.j) (omega (arith, small c.args.n c.args.j c.args.last c.requires.j_least c.requires.last c.requires.span))

@@ -42,7 +42,7 @@ pub returns-then-speed-landing-clause-value : goal.returns-then-speed-landing-cl
 returns-then-speed-landing-clause-value c =
     let under : reach_of c.args.speed c.args.j < c.args.d =
     short c.args.d c.args.j c.args.speed c.ramp_sum-landing.result c.requires.j_least c.ramp_sum-landing.ensures.value (omega arith) in
-    c.way_of_landing.ensures.value c.args.d c.requires.d_least (omega arith) (omega (arith, c.requires.bends))
+    c.way_of_landing.ensures c.args.d c.requires.d_least (omega arith) (omega (arith, c.requires.bends))
 
 pub overflow_sub-rest : goal.overflow_sub-rest
 overflow_sub-rest c = falls_fit c.args.d c.args.j c.args.speed c.ramp_sum-landing.result c.requires.d_least c.requires.j_least c.ramp_sum-landing.ensures.value (omega arith)
@@ -55,4 +55,4 @@ pub returns-clause-value : goal.returns-clause-value
 returns-clause-value c =
     falls_is c.args.d c.args.j c.args.last c.args.speed c.ramp_sum-landing.result _ _ c.way_of_flat.result c.way_of_landing-2.result
     c.requires.d_least c.requires.j_least c.ramp_sum-landing.ensures.value (omega arith) c.requires.bends refl refl
-    c.way_of_flat.ensures.value c.way_of_landing-2.ensures.value
+    c.way_of_flat.ensures.value c.way_of_landing-2.ensures

@@ -5,7 +5,7 @@ use Rattle.motion_numbers.specs.Run.{reach_of}
 use Rattle.jerk_core.specs.Braking.{way_of}
 use Rattle.jerk_core.specs.Sums.{triangle_of, tetrahedron_of}
 use Rattle.jerk_core.proofs.Phases.{landing_way, reach_whole}
-use Rattle.jerk_core.proofs.Shares.{few_falls, IsBetween, between, rest_below}
+use Rattle.jerk_core.proofs.Shares.{IsBetween, between, rest_below}
 use Rattle.jerk_core.proofs.rest.way_of_landing.Goals as goal
 
 -- the way of the landing, with the rest and what is left over
@@ -19,21 +19,12 @@ landing_is q j r e l w v d some slows at left parts few within bends =
     let reach : reach_of v j ≡ q * j + r = reach_whole q j r e v some rest (omega arith) is in
     sym (landing_way q d j r e w v slows some rest (omega arith) is (omega arith) (omega arith))
 
-pub triangle-requires : goal.triangle-requires
-triangle-requires c = omega (arith, few_falls c.whole_falls-falls.result c.args.speed c.args.j c.whole_falls-falls.ensures.fits c.requires.speed)
-
-pub overflow_add-falls : goal.overflow_add-falls
-overflow_add-falls c = omega (arith, few_falls c.whole_falls-falls.result c.args.speed c.args.j c.whole_falls-falls.ensures.fits c.requires.speed)
-
-pub overflow_add-falls-2 : goal.overflow_add-falls-2
-overflow_add-falls-2 c = omega (arith, few_falls c.whole_falls-falls.result c.args.speed c.args.j c.whole_falls-falls.ensures.fits c.requires.speed)
-
-pub returns-clause-value : goal.returns-clause-value
-returns-clause-value c = λ d slows within bends.
-    c.landing_sum.ensures.value ∙
+pub returns : goal.returns
+returns c = λ d slows within bends.
+    c.landing_sum.ensures ∙
     landing_is c.whole_falls-falls.result c.args.j _ _ (c.args.speed - c.args.j * c.triangle.result) c.args.last c.args.speed d c.requires.j_least slows
     (between c.whole_falls-falls.result c.args.j c.args.speed c.requires.j_least c.whole_falls-falls.ensures.fits c.whole_falls-falls.ensures.greatest)
-    (ap (λ t. c.args.speed - c.args.j * t) c.triangle.ensures.value)
+    (ap (λ t. c.args.speed - c.args.j * t) c.triangle.ensures)
     (div-add-mod' (c.args.speed - c.args.j * c.triangle.result) (c.whole_falls-falls.result + 1))
     (mod_below (c.args.speed - c.args.j * c.triangle.result) (c.whole_falls-falls.result + 1) (omega arith))
     within bends

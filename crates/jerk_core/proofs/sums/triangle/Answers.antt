@@ -2,5 +2,5 @@
 use Rattle.jerk_core.proofs.Triangles.{triangle_half}
 use Rattle.jerk_core.proofs.sums.triangle.Goals as goal
 
-pub returns-clause-value : goal.returns-clause-value
-returns-clause-value c = triangle_half c.args.n
+pub returns : goal.returns
+returns c = triangle_half c.args.n
