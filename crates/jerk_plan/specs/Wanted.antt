@@ -14,6 +14,11 @@ pub record IsMoveSpeed (rates : JerkRates) (way w v x : ℕ) : Type 0 where
 unfoldable pub slowed_of : JerkRates → ℕ → ℕ → ℕ
 slowed_of rates w v = min (braked_of rates.d rates.j w v) (2 * v + rates.j - w)
 
+-- the motion can stop before its target, and x is the speed of its move
+pub record IsMoveOf (rates : JerkRates) (way w v x : ℕ) : Type 0 where
+  pub kept : IsKeptBy rates way w v
+  pub speed : IsMoveSpeed rates way w v x
+
 -- the speed that a move wants: that of a move where it can stop before its target by its rates, else that of a halt
 pub data IsSpeedOfMove (rates : JerkRates) (way w v x : ℕ) : Type 0 where
   moves : IsKeptBy rates way w v → IsMoveSpeed rates way w v x → IsSpeedOfMove rates way w v x

@@ -6,6 +6,7 @@ ghost use Rattle.otg.specs.Open.{IsOpen, IsStepOf, IsStepTaken, IsWantedStep, sh
 
 use crate::generator::{Otg, limits, own_rates, setpoints};
 use crate::opening::{INVALID, OK, is_open};
+use crate::own::{steps_down, steps_up};
 use jerk_core::nearest_safe;
 use jerk_plan::{halt_step, move_step, velocity_step};
 use motion_numbers::{MOST_STEP, MOST_WAY};
@@ -13,6 +14,22 @@ use motion_numbers::{MOST_STEP, MOST_WAY};
 /// Goes through a cycle: the next setpoint is in `current`.
 #[unsafe(no_mangle)]
 pub extern "C" fn otg_step(otg: &mut Otg) -> u32
+    ensures code { (result ≡ 0) ↔ IsOpen otg.old }
+    ensures opened { result ≡ 0 → IsOpen otg.new }
+    ensures step { result ≡ 0 → IsStepOf otg.old otg.new }
+    ensures same { result ≡ 1 → otg.new ≡ otg.old }
+{
+    if steps_up(otg) {
+        return OK;
+    }
+    if steps_down(otg) {
+        return OK;
+    }
+    step_by_any(otg)
+}
+
+// The same, for any motion and command.
+fn step_by_any(otg: &mut Otg) -> u32
     ensures code { (result ≡ 0) ↔ IsOpen otg.old }
     ensures opened { result ≡ 0 → IsOpen otg.new }
     ensures step { result ≡ 0 → IsStepOf otg.old otg.new }
@@ -27,7 +44,7 @@ pub extern "C" fn otg_step(otg: &mut Otg) -> u32
 }
 
 // The generator one setpoint on.
-fn shifted(otg: &Otg, next: i64) -> Otg
+pub(crate) fn shifted(otg: &Otg, next: i64) -> Otg
     ensures { result ≡ shifted_of otg.now next }
 {
     Otg {

@@ -2,7 +2,7 @@
 use Rattle.std.proofs.Common.{◌≡◌, to_z, of_z, w64, FitsSigned, to_z-of_z, refl}
 use Rattle.otg.specs.Open.{shifted_of}
 use Rattle.otg.proofs.Opens.{open_after, taken_safe, step_after}
-use Rattle.otg.proofs.stepping.otg_step.Goals as goal
+use Rattle.otg.proofs.stepping.step_by_any.Goals as goal
 
 pub next_setpoint-requires : goal.next_setpoint-requires
 next_setpoint-requires c = record { opened = c.is_open.ensures.0 c.if-not-is_open.false }
