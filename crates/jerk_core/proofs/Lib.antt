@@ -8,3 +8,4 @@ pub mod Sides
 pub mod Triangles
 pub mod Phases
 pub mod Shares
+pub mod SafeSpeeds

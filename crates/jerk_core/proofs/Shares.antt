@@ -4,9 +4,9 @@ use Rattle.std.proofs.Math.Nat.{div-le_self}
 use Rattle.std.proofs.lemmas.Bool.{cases_lt}
 use Rattle.std.proofs.lemmas.Nat.{mul-le, div-add-mod', mod_below}
 use Rattle.motion_numbers.specs.declared.TheConstants.{MOST_STEP}
-use Rattle.motion_numbers.specs.Run.{reach_of}
-use Rattle.motion_numbers.proofs.Runs.{run_ge}
-use Rattle.motion_numbers.proofs.Reaches.{reach_fits}
+use Rattle.motion_numbers.specs.Run.{run_of, reach_of}
+use Rattle.motion_numbers.proofs.Runs.{run_ge, run_small}
+use Rattle.motion_numbers.proofs.Reaches.{reach_fits, reach_greatest}
 use Rattle.jerk_core.specs.Sums.{triangle_of}
 use Rattle.jerk_core.proofs.Triangles.{triangle_least, triangle_times}
 use Rattle.jerk_core.proofs.Phases.{reach_whole}
@@ -48,3 +48,10 @@ reach_shared q j r e l v some at left parts few =
 -- and no more than the speed
 pub reach_small : (v j : ℕ) → 1 ≤ j → reach_of v j ≤ v
 reach_small v j some = omega (arith, run_ge (reach_of v j) j some, reach_fits v j)
+
+-- a speed of at most j can be taken back at once
+pub reach_all : (v j : ℕ) → 1 ≤ j → v ≤ j → v ≡ reach_of v j
+reach_all v j some within =
+    let one : run_of v j ≡ v = run_small v j some within in
+    let reach : v ≤ reach_of v j = reach_greatest v v j some (omega arith) in
+    omega (arith, reach_small v j some)

@@ -1,6 +1,6 @@
 // Kept motions and safe speeds, counted in the direction of the motion.
 
-ghost use Rattle.std.specs.Prelude.{◌≡◌, ◌↔◌, IsTrue, ℕ, ◌+◌, ◌-◌, ◌*◌, ◌<◌, ◌≤◌, min, max};
+ghost use Rattle.std.specs.Prelude.{◌≡◌, ◌↔◌, IsTrue, ℕ, Some, None, ◌+◌, ◌-◌, ◌*◌, ◌<◌, ◌≤◌, min, max};
 ghost use Rattle.motion_numbers.specs.Run.{run_of, reach_of};
 ghost use Rattle.jerk_core.specs.Braking.{braked_of, way_of};
 ghost use Rattle.jerk_core.specs.Rates.{AreJerkRates, IsKeptBy, IsLeftBy, IsSafeBy};
@@ -64,6 +64,57 @@ fn fastest(rates: &JerkRates, last: u64, speed: u64) -> u64
     (2 * speed + rates.j).saturating_sub(last).min(speed + rise)
 }
 
+/// The greatest speed that may follow the motion and leaves a kept one, where the motion is kept;
+/// none where it isn't. The fastest speed is tried first: where it leaves a kept motion, that which
+/// it follows is kept too.
+pub fn safe_speed(rates: &JerkRates, room: u64, last: u64, speed: u64) -> Option<u64>
+    requires rates { AreJerkRates rates.now }
+    requires last { last ≤ 2 * MOST_STEP }
+    requires speed { speed ≤ MOST_STEP }
+    ensures kept { (x : ℕ) → result ≡ Some x → IsKeptBy rates.now room last speed }
+    ensures safe { (x : ℕ) → result ≡ Some x → IsSafeBy rates.now room last speed x }
+    ensures greatest { (x y : ℕ) → result ≡ Some x → IsSafeBy rates.now room last speed y → y ≤ x }
+    ensures none { result ≡ None → IsKeptBy rates.now room last speed → ⊥ }
+{
+    if !can_go_on(rates, last, speed) {
+        return None;
+    }
+    let top = fastest(rates, last, speed);
+    if leaves_rest(rates, room, speed, top) {
+        return Some(top);
+    }
+    if !rest_fits(rates.d, rates.j, last, speed, room) {
+        return None;
+    }
+    let least = braked(rates.d, rates.j, last, speed);
+    if top <= least {
+        return Some(least);
+    }
+    Some(greatest_between(rates, room, speed, least, top))
+}
+
+// Whether the motion is kept in a room that its way to rest fits.
+fn can_go_on(rates: &JerkRates, last: u64, speed: u64) -> bool
+    requires rates { AreJerkRates rates.now }
+    requires last { last ≤ 2 * MOST_STEP }
+    requires speed { speed ≤ MOST_STEP }
+    ensures { IsTrue result ↔ IsKeptBy rates.now (way_of rates.now.d rates.now.j last speed) last speed }
+{
+    speed <= rates.v
+        && speed <= last + rates.a
+        && last <= speed + rates.d
+        && way_fits(
+            last.saturating_sub(speed).saturating_sub(rates.j),
+            rates.j,
+            speed,
+        )
+        && way_fits(
+            speed.saturating_sub(last).saturating_sub(rates.j),
+            rates.j,
+            rates.v - speed,
+        )
+}
+
 /// The greatest speed from `least` up to `most` that leaves a kept motion after `speed`, where
 /// `least` leaves one, and `most` doesn't pass the rates.
 pub fn greatest_left(rates: &JerkRates, room: u64, speed: u64, least: u64, most: u64) -> u64
@@ -81,6 +132,23 @@ pub fn greatest_left(rates: &JerkRates, room: u64, speed: u64, least: u64, most:
     if leaves_rest(rates, room, speed, most) {
         return most;
     }
+    greatest_between(rates, room, speed, least, most)
+}
+
+// The same, where the greatest of them leaves none.
+fn greatest_between(rates: &JerkRates, room: u64, speed: u64, least: u64, most: u64) -> u64
+    requires rates { AreJerkRates rates.now }
+    requires speed { speed ≤ rates.now.v }
+    requires order { least < most }
+    requires gains { most ≤ speed + rates.now.a }
+    requires tops { most ≤ speed + reach_of (rates.now.v - speed) rates.now.j }
+    requires left { IsLeftBy rates.now room speed least }
+    requires fails { IsLeftBy rates.now room speed most → ⊥ }
+    ensures left { IsLeftBy rates.now room speed result }
+    ensures above { least ≤ result }
+    ensures below { result ≤ most }
+    ensures greatest { (x : ℕ) → IsLeftBy rates.now room speed x → x ≤ most → x ≤ result }
+{
     let mut fits = least;
     let mut fails = most;
     while fails - fits > 1 {

@@ -15,7 +15,7 @@ mod rest;
 mod sums;
 mod taking;
 
-pub use ahead::{greatest_left, greatest_safe, keeps};
+pub use ahead::{greatest_left, greatest_safe, keeps, safe_speed};
 pub use braking::{braked, rest_fits};
 pub use keeping::is_kept;
 pub use laws::{

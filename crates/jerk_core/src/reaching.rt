@@ -28,6 +28,9 @@ fn greatest_fall_of(speed: u64, j: u64) -> u64
     requires j { 1 ≤ j }
     ensures { result ≡ reach_of speed j }
 {
+    if speed <= j {
+        return speed;
+    }
     let share = speed / j;
     let falls = whole_falls(share, root_about(2 * share).min(MOST_FALLS));
     falls * j + (speed - j * triangle(falls)) / (falls + 1)

@@ -5,7 +5,7 @@ ghost use Rattle.motion_numbers.specs.Run.{reach_of};
 ghost use Rattle.jerk_core.specs.Rates.{AreJerkRates};
 ghost use Rattle.jerk_plan.specs.Wanted.{IsSpeedOfMove, IsMoveOf, slowed_of, velocity_of};
 
-use jerk_core::{JerkRates, braked, greatest_fall, greatest_safe, keeps};
+use jerk_core::{JerkRates, braked, greatest_fall, safe_speed};
 use motion_numbers::MOST_STEP;
 
 /// The wanted speed of a move with the way `way` to its target, in internal units per cycle. A move
@@ -17,10 +17,9 @@ pub fn move_speed(rates: &JerkRates, way: u64, last: u64, speed: u64) -> u64
     ensures wanted { IsSpeedOfMove rates.now way last speed result }
     ensures small { result ≤ 2 * MOST_STEP }
 {
-    if keeps(rates, way, last, speed) {
-        greatest_safe(rates, way, last, speed, rates.v)
-    } else {
-        halt_speed(rates, last, speed)
+    match safe_speed(rates, way, last, speed) {
+        Some(safe) => safe,
+        None => halt_speed(rates, last, speed),
     }
 }
 
@@ -32,11 +31,7 @@ pub fn own_speed(rates: &JerkRates, way: u64, last: u64, speed: u64) -> Option<u
     if last > 2 * MOST_STEP || speed > MOST_STEP {
         return None;
     }
-    if keeps(rates, way, last, speed) {
-        Some(greatest_safe(rates, way, last, speed, rates.v))
-    } else {
-        None
-    }
+    safe_speed(rates, way, last, speed)
 }
 
 /// The wanted speed of a halt.

@@ -3,7 +3,7 @@ use Rattle.std.proofs.Common.{◌≡◌, ℕ, ◌+◌, ◌-◌, ◌*◌, ◌/◌
 use Rattle.std.proofs.lemmas.Nat.{div-add-mod', mod_below}
 use Rattle.motion_numbers.specs.Run.{reach_of}
 use Rattle.jerk_core.specs.Sums.{triangle_of}
-use Rattle.jerk_core.proofs.Shares.{few_falls, between, reach_shared, reach_small}
+use Rattle.jerk_core.proofs.Shares.{few_falls, between, reach_shared, reach_small, reach_all}
 use Rattle.jerk_core.proofs.reaching.greatest_fall_of.Goals as goal
 
 -- the reach, with the triangle that the code has
@@ -20,6 +20,9 @@ triangle-requires c = omega (arith, few_falls c.whole_falls-falls.result c.args.
 small : (q j v t : ℕ) → 1 ≤ j → triangle_of q ≤ v / j → v / j < triangle_of (suc q) → t ≡ triangle_of q →
     q * j + (v - j * t) / (q + 1) ≤ v
 small q j v t some fits over is = rw (shared q j v t some fits over is) (reach_small v j some)
+
+pub returns-then-speed-j : goal.returns-then-speed-j
+returns-then-speed-j c = reach_all c.args.speed c.args.j c.requires.j (omega arith)
 
 pub overflow_add-result : goal.overflow_add-result
 overflow_add-result c = omega (arith, few_falls c.whole_falls-falls.result c.args.speed c.args.j c.whole_falls-falls.ensures.fits c.requires.speed)
