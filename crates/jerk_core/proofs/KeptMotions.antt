@@ -1,4 +1,5 @@
--- Kept motions ahead: braking keeps, and the safe speeds are those from the braked speed to a greatest one.
+-- Kept motions ahead: braking keeps, and the safe speeds are those from the braked speed to a
+-- greatest one.
 use Rattle.std.proofs.Common.{inl, inr, ◌≡◌, ℕ, ◌+◌, ◌-◌, ◌*◌, ◌<◌, ◌≤◌, min, arith, ap}
 use Rattle.std.proofs.lemmas.Bool.{cases_lt}
 use Rattle.motion_numbers.specs.Run.{run_of, reach_of}
@@ -216,7 +217,8 @@ within_tops V v x j some tops =
       | inr falls ↦ omega arith
     ]
 
--- between a speed that leaves a kept motion and the greatest by the changes of speed, only the way is to be looked at
+-- between a speed that leaves a kept motion and the greatest by the changes of speed, only the way
+-- is to be looked at
 pub kept_after : (V A d j room v least x : ℕ) → 0 < d → 0 < j → v ≤ V → least ≤ x → x ≤ v + A → x ≤ v + reach_of (V - v) j →
     IsKeptAfter V A d j room v least → x ≤ room → way_of d j v x ≤ room - x → IsKeptAfter V A d j room v x
 kept_after V A d j room v least x slows some below above gains reach low within fits =

@@ -1,4 +1,5 @@
--- The way to rest in closed form: a ramp in which the change of speed falls by j, falls by d, and the landing, in which each fall is the greatest that can be taken back.
+-- The way to rest in closed form: a ramp in which the change of speed falls by j, falls by d, and
+-- the landing, in which each fall is the greatest that can be taken back.
 use Rattle.std.proofs.Common.{inl, inr, ◌≡◌, ℕ, ◌+◌, ◌-◌, ◌*◌, ◌/◌, ◌%◌, ◌<◌, ◌≤◌, zero, suc, min, arith, refl, ap}
 use Rattle.std.proofs.lemmas.Bool.{cases_lt}
 use Rattle.std.proofs.lemmas.Nat.{mul-le, div-add-mod', mod_below}

@@ -1,4 +1,5 @@
--- The steps that commands want with limited jerk, in either direction: by the way or the velocity that is wanted, the step of the last cycle and that of this one. This project's profile.
+-- The steps that commands want with limited jerk, in either direction: by the way or the velocity
+-- that is wanted, the step of the last cycle and that of this one. This project's profile.
 use Rattle.std.specs.Prelude.{◌≡◌, ℕ, ℤ, pos, neg_ℤ, negsuc, ◌+ℤ◌, ◌≤ℤ◌, unsigned_abs}
 use Rattle.motion_numbers.specs.Run.{cut_at_zero}
 use Rattle.jerk_core.specs.declared.rates.JerkRates.{JerkRates}
@@ -20,7 +21,8 @@ pub data IsHaltStep (rates : JerkRates) (last speed step : ℤ) : Type 0 where
   up : pos 0 ≤ℤ speed → step ≡ pos (slowed_of rates (cut_at_zero last) (unsigned_abs speed)) → IsHaltStep rates last speed step
   down : speed ≤ℤ negsuc 0 → step ≡ neg_ℤ (pos (slowed_of rates (cut_at_zero (neg_ℤ last)) (unsigned_abs speed))) → IsHaltStep rates last speed step
 
--- the step of a move: the speed that a move wants in its direction, or the step of a halt where the axis moves away from the target
+-- the step of a move: the speed that a move wants in its direction, or the step of a halt where the
+-- axis moves away from the target
 pub data IsMoveStep (rates : JerkRates) (distance last speed step : ℤ) : Type 0 where
   up : (x : ℕ) → HeadsUp distance speed → step ≡ pos x →
       IsSpeedOfMove rates (unsigned_abs distance) (cut_at_zero last) (unsigned_abs speed) x → IsMoveStep rates distance last speed step
@@ -29,7 +31,8 @@ pub data IsMoveStep (rates : JerkRates) (distance last speed step : ℤ) : Type 
   slows : (HeadsUp distance speed → ⊥) → (HeadsDown distance speed → ⊥) →
       IsHaltStep rates last speed step → IsMoveStep rates distance last speed step
 
--- the step of a velocity command: the speed of one in its direction, or the step of a halt where the axis moves the other way
+-- the step of a velocity command: the speed of one in its direction, or the step of a halt where
+-- the axis moves the other way
 pub data IsVelocityStep (rates : JerkRates) (wanted last speed step : ℤ) : Type 0 where
   up : HeadsUp wanted speed → step ≡ pos (velocity_of rates (unsigned_abs wanted) (cut_at_zero last) (unsigned_abs speed)) →
       IsVelocityStep rates wanted last speed step

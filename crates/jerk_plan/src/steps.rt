@@ -11,8 +11,8 @@ use jerk_core::JerkRates;
 use motion_numbers::{MOST_STEP, MOST_WAY};
 
 /// The wanted step of a move, in internal units per cycle: `distance` leads from the setpoint to
-/// the target, `last` and `speed` are the steps of the last cycle and of this one. A move that heads
-/// away from its target slows.
+/// the target, `last` and `speed` are the steps of the last cycle and of this one. A move that
+/// heads away from its target slows.
 pub fn move_step(rates: &JerkRates, distance: i64, last: i64, speed: i64) -> i64
     requires rates { AreJerkRates rates.now }
     requires distance { IsWay distance }

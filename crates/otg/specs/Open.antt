@@ -53,7 +53,8 @@ pub record IsCommandOf (otg : Otg) : Type 0 where
   pub rates : AreJerkRates (rates_of_command otg)
   pub target : IsTargetOf otg
 
--- a generator that is open: its limits and its command are in their ranges, and its setpoints are kept
+-- a generator that is open: its limits and its command are in their ranges, and its setpoints are
+-- kept
 pub record IsOpen (otg : Otg) : Type 0 where
   pub limits : AreLimitsOf otg
   pub command : IsCommandOf otg
@@ -92,7 +93,8 @@ pub record IsStepTaken (otg : Otg) (step : ℤ) : Type 0 where
   pub wants : IsWantedStep otg wanted
   pub taken : IsTakenByJerk (limits_of otg) otg.first otg.before otg.current wanted step
 
--- a step gives an admissible setpoint, the safe one nearest to what the command wants, and changes nothing else
+-- a step gives an admissible setpoint, the safe one nearest to what the command wants, and changes
+-- nothing else
 pub record IsStepOf (before after : Otg) : Type 0 where
   pub taken : IsStepTaken before (after.current -ℤ before.current)
   pub admissible : IsAdmissibleByJerk (limits_of before) before.first before.before before.current after.current

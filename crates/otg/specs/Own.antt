@@ -1,4 +1,5 @@
--- A move by rates within the limits to a target within them, in the direction in which the axis moves. This project's profile.
+-- A move by rates within the limits to a target within them, in the direction in which the axis
+-- moves. This project's profile.
 use Rattle.std.specs.Prelude.{◌≡◌, ◌≤ℤ◌, ◌<ℤ◌}
 use Rattle.jerk_core.specs.Admissible.{rates_of}
 use Rattle.jerk_core.specs.Rates.{AreRatesWithin}
@@ -29,7 +30,8 @@ pub record HasTargetBelow (otg : Otg) : Type 0 where
   pub within : otg.lo ≤ℤ otg.target
   pub below : otg.current ≤ℤ otg.hi
 
--- limits and command are in their ranges, the command is a move, and its rates are within the limits
+-- limits and command are in their ranges, the command is a move, and its rates are within the
+-- limits
 pub record IsOwnMove (otg : Otg) : Type 0 where
   pub limits : AreLimitsOf otg
   pub command : IsCommandOf otg

@@ -1,4 +1,5 @@
--- Only the way is looked at between the least speed and the greatest, and what is left by one speed is left by all below it.
+-- Only the way is looked at between the least speed and the greatest, and what is left by one speed
+-- is left by all below it.
 use Rattle.std.proofs.Common.{inl, inr, ◌≡◌, ℕ, ◌+◌, ◌-◌, ◌<◌, ◌≤◌, Bool, IsTrue, ◌↔◌, false, arith}
 use Rattle.std.proofs.lemmas.Bool.{cases_lt, both_ways}
 use Rattle.motion_numbers.specs.Run.{reach_of}

@@ -1,4 +1,5 @@
--- The taken step is the safe one nearest to the wanted one, by the limits and setpoints of the generator.
+-- The taken step is the safe one nearest to the wanted one, by the limits and setpoints of the
+-- generator.
 use Rattle.std.proofs.Common.{◌≡◌, ℤ, w64, FitsSigned, to_z-of_z}
 use Rattle.jerk_core.specs.declared.limits.JerkLimits.{JerkLimits}
 use Rattle.jerk_core.specs.declared.motions.Setpoints.{Setpoints}
