@@ -1,4 +1,5 @@
--- Kept motions ahead: braking keeps, and the safe speeds are those from the braked speed to a greatest one.
+-- Kept motions ahead: braking keeps, and the safe speeds are those from the braked speed to a
+-- greatest one.
 use Rattle.std.proofs.Common.{inl, inr, ◌≡◌, ℕ, ◌+◌, ◌-◌, ◌*◌, ◌<◌, ◌≤◌, min, arith, ap}
 use Rattle.std.proofs.lemmas.Bool.{cases_lt}
 use Rattle.motion_numbers.specs.Run.{run_of, reach_of}
@@ -11,7 +12,7 @@ use Rattle.jerk_core.proofs.Ways.{way_unfold, way_below, way_zero, way_by_more}
 use Rattle.jerk_core.proofs.Ways.IsBelow.{by_speeds}
 
 -- a fall within the reach can be taken back
-lands_within : (v x j : ℕ) → 0 < j → v ≤ x + reach_of v j → run_of (v - x - j) j ≤ x
+pub lands_within : (v x j : ℕ) → 0 < j → v ≤ x + reach_of v j → run_of (v - x - j) j ≤ x
 lands_within v x j some within =
     elim (cases_lt x v) [
       | inl falls ↦
@@ -21,7 +22,7 @@ lands_within v x j some within =
     ]
 
 -- and one that can be taken back is within the reach
-within_lands : (v x j : ℕ) → 0 < j → run_of (v - x - j) j ≤ x → v ≤ x + reach_of v j
+pub within_lands : (v x j : ℕ) → 0 < j → run_of (v - x - j) j ≤ x → v ≤ x + reach_of v j
 within_lands v x j some lands =
     elim (cases_lt x v) [
       | inl falls ↦
@@ -31,7 +32,7 @@ within_lands v x j some lands =
     ]
 
 -- a kept motion's own fall is within what may come back
-falls_within : (w v j : ℕ) → 0 < j → run_of (w - v - j) j ≤ v → w ≤ v + j + reach_of v j
+pub falls_within : (w v j : ℕ) → 0 < j → run_of (w - v - j) j ≤ v → w ≤ v + j + reach_of v j
 falls_within w v j some lands = let within : w - v - j ≤ reach_of v j = reach_greatest (w - v - j) v j some lands in omega arith
 
 -- the braked speed bends up by no more than j
@@ -216,7 +217,8 @@ within_tops V v x j some tops =
       | inr falls ↦ omega arith
     ]
 
--- between a speed that leaves a kept motion and the greatest by the changes of speed, only the way is to be looked at
+-- between a speed that leaves a kept motion and the greatest by the changes of speed, only the way
+-- is to be looked at
 pub kept_after : (V A d j room v least x : ℕ) → 0 < d → 0 < j → v ≤ V → least ≤ x → x ≤ v + A → x ≤ v + reach_of (V - v) j →
     IsKeptAfter V A d j room v least → x ≤ room → way_of d j v x ≤ room - x → IsKeptAfter V A d j room v x
 kept_after V A d j room v least x slows some below above gains reach low within fits =

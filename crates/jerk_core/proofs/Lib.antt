@@ -5,3 +5,7 @@ pub mod Directions
 pub mod Kept
 pub mod Nearest
 pub mod Sides
+pub mod Triangles
+pub mod Phases
+pub mod Shares
+pub mod SafeSpeeds

@@ -1,4 +1,5 @@
--- The way to rest: braking ends, its way is its first cycle's and the rest, and it is the shortest of all that may follow.
+-- The way to rest: braking ends, its way is its first cycle's and the rest, and it is the shortest
+-- of all that may follow.
 use Rattle.std.proofs.Common.{inl, inr, ◌≡◌, ℕ, ◌+◌, ◌-◌, ◌*◌, ◌<◌, ◌≤◌, zero, suc, arith, refl, sym, ◌∙◌, ap}
 use Rattle.std.proofs.lemmas.Bool.{cases_lt}
 use Rattle.std.proofs.lemmas.Nat.{mul-le}
@@ -112,7 +113,8 @@ way_unfold d j w v slows some =
 pub way_zero : (d j w : ℕ) → 0 < d → 0 < j → way_of d j w 0 ≡ 0
 way_zero d j w slows some = way_by (0 + (0 - w) * (0 - w)) d j w 0 slows some (omega arith) ∙ braking_zero (0 + (0 - w) * (0 - w)) d j w
 
--- the motion w, v is nowhere above the motion p, t: neither its speed nor its change is greater, or it falls by its reach
+-- the motion w, v is nowhere above the motion p, t: neither its speed nor its change is greater, or
+-- it falls by its reach
 pub data IsBelow (d j w v p t : ℕ) : Type 0 where
   by_speeds : v ≤ t → v + p ≤ t + w → IsBelow d j w v p t
   by_landing : v ≤ t → reach_of v j ≤ d → v + reach_of v j ≤ w + j → IsBelow d j w v p t

@@ -1,4 +1,5 @@
--- Which setpoints an axis with limited jerk may take, and from which three setpoints it can still be stopped. This project's profile.
+-- Which setpoints an axis with limited jerk may take, and from which three setpoints it can still
+-- be stopped. This project's profile.
 use Rattle.std.specs.Prelude.{◌≡◌, ◌⊎◌, ◌≤◌, ℤ, pos, ◌+ℤ◌, ◌-ℤ◌, ◌≤ℤ◌, unsigned_abs, List, [], ◌∷◌}
 use Rattle.motion_numbers.specs.declared.TheConstants.{MOST_STEP}
 use Rattle.kin_core.specs.Admissible.{AreLimits, IsAdmissible, StepMayFollow}
@@ -12,11 +13,14 @@ pub record AreJerkLimits (limits : JerkLimits) : Type 0 where
   pub jmax_least : pos 2 ≤ℤ limits.jmax
   pub jmax_most : limits.jmax ≤ℤ pos MOST_STEP
 
--- the setpoint `now` lies between the one before it and the one after it, or is one of them: the axis doesn't turn there without standing
+-- the setpoint `now` lies between the one before it and the one after it, or is one of them: the
+-- axis doesn't turn there without standing
 abbrev pub IsBetween : ℤ → ℤ → ℤ → Type 0
 IsBetween before now next = ((before ≤ℤ now) × (now ≤ℤ next)) ⊎ ((next ≤ℤ now) × (now ≤ℤ before))
 
--- the setpoint `next` may come after `first`, `before` and `now`: it is admissible without a limit of jerk, the change of step changes by at most jmax, and the axis turns only where it stands for a cycle
+-- the setpoint `next` may come after `first`, `before` and `now`: it is admissible without a limit
+-- of jerk, the change of step changes by at most jmax, and the axis turns only where it stands for
+-- a cycle
 pub record IsAdmissibleByJerk (limits : JerkLimits) (first before now next : ℤ) : Type 0 where
   pub admissible : IsAdmissible limits.axis before now next
   pub jerk : pos (unsigned_abs ((next -ℤ now) -ℤ (now -ℤ before) -ℤ ((now -ℤ before) -ℤ (before -ℤ first)))) ≤ℤ limits.jmax
@@ -38,7 +42,8 @@ abbrev pub AllFall : ℤ → List ℤ → Type 0
 AllFall now [] = Unit {0}
 AllFall now (next ∷ more) = (next ≤ℤ now) × AllFall next more
 
--- there is a finite list of setpoints that continues the three admissibly in their direction and ends with the same setpoint three times
+-- there is a finite list of setpoints that continues the three admissibly in their direction and
+-- ends with the same setpoint three times
 pub record IsStoppableByJerk (limits : JerkLimits) (first before now : ℤ) : Type 0 where
   pub setpoints : List ℤ
   pub stops : StopsByJerk limits first before now setpoints

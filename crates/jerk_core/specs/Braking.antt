@@ -1,8 +1,11 @@
--- Braking with limited jerk, counted in the direction of the motion. A motion is two speeds, each not negative: w in the last cycle, v in this one. This project's profile.
+-- Braking with limited jerk, counted in the direction of the motion. A motion is two speeds, each
+-- not negative: w in the last cycle, v in this one. This project's profile.
 use Rattle.std.specs.Prelude.{ℕ, ◌+◌, ◌-◌, ◌*◌, ◌≤◌, zero, suc, max}
 use Rattle.motion_numbers.specs.Run.{run_of, reach_of}
 
--- the least speed that may follow the speeds w and v, where a speed falls by at most d a cycle and its change by at most j: v less d, v with its last change less j, and v less the greatest fall that can be taken back to none before the speed is zero
+-- the least speed that may follow the speeds w and v, where a speed falls by at most d a cycle and
+-- its change by at most j: v less d, v with its last change less j, and v less the greatest fall
+-- that can be taken back to none before the speed is zero
 unfoldable pub braked_of : ℕ → ℕ → ℕ → ℕ → ℕ
 braked_of d j w v = max (max (v - d) (2 * v - (w + j))) (v - reach_of v j)
 
@@ -30,7 +33,8 @@ pub record IsKeptAhead (vmax amax dmax jmax room w v : ℕ) : Type 0 where
   -- its way to rest fits the room
   pub fits : way_of dmax jmax w v ≤ room
 
--- after the speed v the speed x fits the room, and leaves a motion that is kept in what is left of it
+-- after the speed v the speed x fits the room, and leaves a motion that is kept in what is left of
+-- it
 pub record IsKeptAfter (vmax amax dmax jmax room v x : ℕ) : Type 0 where
   pub within : x ≤ room
   pub kept : IsKeptAhead vmax amax dmax jmax (room - x) v x

@@ -4,7 +4,8 @@ use Rattle.motion_numbers.specs.declared.TheConstants.{MOST_STEP}
 use Rattle.jerk_core.specs.declared.rates.JerkRates.{JerkRates}
 use Rattle.jerk_core.specs.Braking.{IsKeptAhead, IsKeptAfter, IsSafeAhead}
 
--- each lies within 1 and the greatest step; a change of 1 would leave targets that no motion reaches, so j is at least 2
+-- each lies within 1 and the greatest step; a change of 1 would leave targets that no motion
+-- reaches, so j is at least 2
 pub record AreJerkRates (rates : JerkRates) : Type 0 where
   pub v_least : 1 ≤ rates.v
   pub v_most : rates.v ≤ MOST_STEP

@@ -5,7 +5,8 @@ use Rattle.jerk_core.specs.declared.rates.JerkRates.{JerkRates}
 use Rattle.jerk_core.specs.declared.motions.Motion.{Motion}
 use Rattle.jerk_core.specs.Rates.{IsSafeBy, IsLeftBy}
 
--- the motion may go on by a safe speed; and where it stands, it may turn by a speed that its last change allows
+-- the motion may go on by a safe speed; and where it stands, it may turn by a speed that its last
+-- change allows
 pub data IsSafeFrom (rates : JerkRates) (motion : Motion) (step : ℤ) : Type 0 where
   goes_on : (x : ℕ) → step ≡ pos x → IsSafeBy rates motion.ahead motion.last motion.speed x → IsSafeFrom rates motion step
   turns : (x : ℕ) → step ≡ neg_ℤ (pos x) → motion.speed ≡ 0 → x ≤ motion.last + rates.j → IsLeftBy rates motion.behind 0 x →

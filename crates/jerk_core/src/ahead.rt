@@ -1,13 +1,14 @@
 // Kept motions and safe speeds, counted in the direction of the motion.
 
-ghost use Rattle.std.specs.Prelude.{◌≡◌, ◌↔◌, IsTrue, ℕ, ◌+◌, ◌-◌, ◌*◌, ◌≤◌, min, max};
+ghost use Rattle.std.specs.Prelude.{◌≡◌, ◌↔◌, IsTrue, ℕ, Some, None, ◌+◌, ◌-◌, ◌*◌, ◌<◌, ◌≤◌, min, max};
 ghost use Rattle.motion_numbers.specs.Run.{run_of, reach_of};
 ghost use Rattle.jerk_core.specs.Braking.{braked_of, way_of};
 ghost use Rattle.jerk_core.specs.Rates.{AreJerkRates, IsKeptBy, IsLeftBy, IsSafeBy};
 
 use crate::braking::{braked, rest_fits};
 use crate::rates::JerkRates;
-use motion_numbers::{MOST_STEP, greatest_ramp, way_fits};
+use crate::reaching::greatest_fall;
+use motion_numbers::{MOST_STEP, way_fits};
 
 /// Whether the motion with the speeds `last` and `speed` keeps the rates, and can keep them until
 /// it has come to rest within the room.
@@ -59,8 +60,59 @@ fn fastest(rates: &JerkRates, last: u64, speed: u64) -> u64
     requires speed { speed ≤ rates.now.v }
     ensures value { result ≡ min (2 * speed + rates.now.j - last) (speed + min rates.now.a (reach_of (rates.now.v - speed) rates.now.j)) }
 {
-    let rise = greatest_ramp(rates.v - speed, rates.j, rates.a);
+    let rise = greatest_fall(rates.v - speed, rates.j, rates.a);
     (2 * speed + rates.j).saturating_sub(last).min(speed + rise)
+}
+
+/// The greatest speed that may follow the motion and leaves a kept one, where the motion is kept;
+/// none where it isn't. The fastest speed is tried first: where it leaves a kept motion, that which
+/// it follows is kept too.
+pub fn safe_speed(rates: &JerkRates, room: u64, last: u64, speed: u64) -> Option<u64>
+    requires rates { AreJerkRates rates.now }
+    requires last { last ≤ 2 * MOST_STEP }
+    requires speed { speed ≤ MOST_STEP }
+    ensures kept { (x : ℕ) → result ≡ Some x → IsKeptBy rates.now room last speed }
+    ensures safe { (x : ℕ) → result ≡ Some x → IsSafeBy rates.now room last speed x }
+    ensures greatest { (x y : ℕ) → result ≡ Some x → IsSafeBy rates.now room last speed y → y ≤ x }
+    ensures none { result ≡ None → IsKeptBy rates.now room last speed → ⊥ }
+{
+    if !can_go_on(rates, last, speed) {
+        return None;
+    }
+    let top = fastest(rates, last, speed);
+    if leaves_rest(rates, room, speed, top) {
+        return Some(top);
+    }
+    if !rest_fits(rates.d, rates.j, last, speed, room) {
+        return None;
+    }
+    let least = braked(rates.d, rates.j, last, speed);
+    if top <= least {
+        return Some(least);
+    }
+    Some(greatest_between(rates, room, speed, least, top))
+}
+
+// Whether the motion is kept in a room that its way to rest fits.
+fn can_go_on(rates: &JerkRates, last: u64, speed: u64) -> bool
+    requires rates { AreJerkRates rates.now }
+    requires last { last ≤ 2 * MOST_STEP }
+    requires speed { speed ≤ MOST_STEP }
+    ensures { IsTrue result ↔ IsKeptBy rates.now (way_of rates.now.d rates.now.j last speed) last speed }
+{
+    speed <= rates.v
+        && speed <= last + rates.a
+        && last <= speed + rates.d
+        && way_fits(
+            last.saturating_sub(speed).saturating_sub(rates.j),
+            rates.j,
+            speed,
+        )
+        && way_fits(
+            speed.saturating_sub(last).saturating_sub(rates.j),
+            rates.j,
+            rates.v - speed,
+        )
 }
 
 /// The greatest speed from `least` up to `most` that leaves a kept motion after `speed`, where
@@ -80,10 +132,27 @@ pub fn greatest_left(rates: &JerkRates, room: u64, speed: u64, least: u64, most:
     if leaves_rest(rates, room, speed, most) {
         return most;
     }
+    greatest_between(rates, room, speed, least, most)
+}
+
+// The same, where the greatest of them leaves none.
+fn greatest_between(rates: &JerkRates, room: u64, speed: u64, least: u64, most: u64) -> u64
+    requires rates { AreJerkRates rates.now }
+    requires speed { speed ≤ rates.now.v }
+    requires order { least < most }
+    requires gains { most ≤ speed + rates.now.a }
+    requires tops { most ≤ speed + reach_of (rates.now.v - speed) rates.now.j }
+    requires left { IsLeftBy rates.now room speed least }
+    requires fails { IsLeftBy rates.now room speed most → ⊥ }
+    ensures left { IsLeftBy rates.now room speed result }
+    ensures above { least ≤ result }
+    ensures below { result ≤ most }
+    ensures greatest { (x : ℕ) → IsLeftBy rates.now room speed x → x ≤ most → x ≤ result }
+{
     let mut fits = least;
     let mut fails = most;
     while fails - fits > 1 {
-        let middle = fits + (fails - fits) / 2;
+        let middle = between(least, fits, fails);
         if leaves_rest(rates, room, speed, middle) {
             fits = middle;
         } else {
@@ -91,6 +160,17 @@ pub fn greatest_left(rates: &JerkRates, room: u64, speed: u64, least: u64, most:
         }
     }
     fits
+}
+
+// A speed between one that fits and one that fails: as far beyond the first as that is beyond the
+// least, since most often the greatest is the least or one more, and at most in the middle.
+fn between(least: u64, fits: u64, fails: u64) -> u64
+    requires least { least ≤ fits }
+    requires gap { fits + 1 < fails }
+    ensures above { fits < result }
+    ensures below { result < fails }
+{
+    fits + (fits - least).max(1).min((fails - fits) / 2)
 }
 
 // Whether the speed `next` after `speed` and the way to rest after it fit the room.

@@ -4,7 +4,9 @@ ghost use Rattle.std.specs.Prelude.{◌≡◌, ◌↔◌, IsTrue, ◌+◌, ◌-�
 ghost use Rattle.motion_numbers.specs.Run.{run_of};
 ghost use Rattle.jerk_core.specs.Braking.{braked_of, way_of};
 
-use motion_numbers::{MOST_STEP, greatest_ramp};
+use crate::reaching::greatest_fall;
+use crate::rest::way_to_rest;
+use motion_numbers::MOST_STEP;
 
 /// The least speed that may follow the speeds `last` and `speed`, in internal units per cycle: it
 /// falls by at most `d`, and its change by at most `j`, so that its fall can be taken back.
@@ -20,11 +22,11 @@ pub fn braked(d: u64, j: u64, last: u64, speed: u64) -> u64
     if bend < speed {
         speed + (speed - bend)
     } else {
-        speed - greatest_ramp(speed, j, d.min(bend - speed))
+        speed - greatest_fall(speed, j, d.min(bend - speed))
     }
 }
 
-/// Whether the way to rest by braking fits the room. It goes through the cycles of braking.
+/// Whether the way to rest by braking fits the room.
 pub fn rest_fits(d: u64, j: u64, last: u64, speed: u64, room: u64) -> bool
     requires d_least { 1 ≤ d }
     requires d_most { d ≤ MOST_STEP }
@@ -34,17 +36,5 @@ pub fn rest_fits(d: u64, j: u64, last: u64, speed: u64, room: u64) -> bool
     requires tops { speed + run_of (speed - last - j) j ≤ MOST_STEP }
     ensures { IsTrue result ↔ (way_of d j last speed ≤ room) }
 {
-    let mut before = last;
-    let mut now = speed;
-    let mut left = room;
-    while now > 0 {
-        let next = braked(d, j, before, now);
-        if next > left {
-            return false;
-        }
-        left -= next;
-        before = now;
-        now = next;
-    }
-    true
+    way_to_rest(d, j, last, speed) <= room as u128
 }

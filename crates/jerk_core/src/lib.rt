@@ -10,9 +10,12 @@ mod laws;
 mod limits;
 mod motions;
 mod rates;
+mod reaching;
+mod rest;
+mod sums;
 mod taking;
 
-pub use ahead::{greatest_left, greatest_safe, keeps};
+pub use ahead::{greatest_left, greatest_safe, keeps, safe_speed};
 pub use braking::{braked, rest_fits};
 pub use keeping::is_kept;
 pub use laws::{
@@ -22,4 +25,6 @@ pub use laws::{
 pub use limits::JerkLimits;
 pub use motions::{Motion, Setpoints};
 pub use rates::JerkRates;
+pub use reaching::greatest_fall;
+pub use rest::way_to_rest;
 pub use taking::nearest_safe;

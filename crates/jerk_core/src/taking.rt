@@ -10,7 +10,8 @@ use crate::ahead::{greatest_left, greatest_safe};
 use crate::limits::JerkLimits;
 use crate::motions::{Motion, Setpoints};
 use crate::rates::JerkRates;
-use motion_numbers::{MOST_STEP, MOST_WAY, greatest_ramp};
+use crate::reaching::greatest_fall;
+use motion_numbers::{MOST_STEP, MOST_WAY};
 
 /// The safe step nearest to the `wanted` one after three setpoints. All are in internal units, and
 /// steps are signed; the wanted step is one where it is safe.
@@ -124,7 +125,7 @@ fn greatest_back(rates: &JerkRates, motion: &Motion, most: u64) -> u64
     ensures within { result ≤ most }
     ensures greatest { (x : ℕ) → IsLeftBy rates.now motion.now.behind 0 x → x ≤ motion.now.last + rates.now.j → x ≤ most → x ≤ result }
 {
-    let fastest = greatest_ramp(rates.v, rates.j, rates.a);
+    let fastest = greatest_fall(rates.v, rates.j, rates.a);
     let top = fastest.min(motion.last + rates.j).min(most);
     greatest_left(rates, motion.behind, 0, 0, top)
 }

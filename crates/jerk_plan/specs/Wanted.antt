@@ -1,9 +1,10 @@
--- The speeds that commands want with limited jerk, counted in the direction of the motion; w is the speed of the last cycle and v that of this one. This project's profile.
+-- The speeds that commands want with limited jerk, counted in the direction of the motion; w is the
+-- speed of the last cycle and v that of this one. This project's profile.
 use Rattle.std.specs.Prelude.{◌≡◌, ◌⊎◌, ℕ, ◌+◌, ◌-◌, ◌*◌, ◌≤◌, zero, suc, min, max, nat_le, if◌then◌else◌}
 use Rattle.motion_numbers.specs.Run.{reach_of}
 use Rattle.jerk_core.specs.declared.rates.JerkRates.{JerkRates}
 use Rattle.jerk_core.specs.Braking.{braked_of}
-use Rattle.jerk_core.specs.Rates.{IsSafeBy}
+use Rattle.jerk_core.specs.Rates.{IsKeptBy, IsSafeBy}
 
 -- the speed of a move with a way to its target: the greatest that is safe by its rates in that way
 pub record IsMoveSpeed (rates : JerkRates) (way w v x : ℕ) : Type 0 where
@@ -14,7 +15,19 @@ pub record IsMoveSpeed (rates : JerkRates) (way w v x : ℕ) : Type 0 where
 unfoldable pub slowed_of : JerkRates → ℕ → ℕ → ℕ
 slowed_of rates w v = min (braked_of rates.d rates.j w v) (2 * v + rates.j - w)
 
--- the speed of a velocity command: toward the wanted speed by at most a or d, so that its change can be taken back there, and within what the last change allows
+-- the motion can stop before its target, and x is the speed of its move
+pub record IsMoveOf (rates : JerkRates) (way w v x : ℕ) : Type 0 where
+  pub kept : IsKeptBy rates way w v
+  pub speed : IsMoveSpeed rates way w v x
+
+-- the speed that a move wants: that of a move where it can stop before its target by its rates,
+-- else that of a halt
+pub data IsSpeedOfMove (rates : JerkRates) (way w v x : ℕ) : Type 0 where
+  moves : IsKeptBy rates way w v → IsMoveSpeed rates way w v x → IsSpeedOfMove rates way w v x
+  slows : (IsKeptBy rates way w v → ⊥) → x ≡ slowed_of rates w v → IsSpeedOfMove rates way w v x
+
+-- the speed of a velocity command: toward the wanted speed by at most a or d, so that its change
+-- can be taken back there, and within what the last change allows
 unfoldable pub velocity_of : JerkRates → ℕ → ℕ → ℕ → ℕ
 velocity_of rates wanted w v =
     max (2 * v - (w + rates.j)) (min (2 * v + rates.j - w)

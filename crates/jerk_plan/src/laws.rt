@@ -16,8 +16,8 @@ pub fn moves_stay_before_their_targets()
         IsMoveSpeed rates way w v x → IsKeptBy rates (way - x) v x }
 {}
 
-/// A move's speed is safe by the limits of its axis, so that it is taken: where its rates are within
-/// the limits and its target within the room.
+/// A move's speed is safe by the limits of its axis, so that it is taken: where its rates are
+/// within the limits and its target within the room.
 pub fn move_steps_are_safe()
     ensures { (own rates : JerkRates) (way room w v x : ℕ) →
         AreJerkRates own → AreRatesWithin own rates → way ≤ room →

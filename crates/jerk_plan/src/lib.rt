@@ -12,5 +12,5 @@ pub use laws::{
     halts_rest, move_steps_are_safe, moves_arrive, moves_stay_before_their_targets,
     velocities_are_held, velocities_are_reached,
 };
-pub use speeds::{halt_speed, move_speed, velocity_speed};
+pub use speeds::{halt_speed, move_speed, own_speed, velocity_speed};
 pub use steps::{halt_step, move_step, velocity_step};

@@ -1,12 +1,12 @@
 // The wanted speeds of commands, counted in the direction of the motion.
 
-ghost use Rattle.std.specs.Prelude.{◌≡◌, ℕ, ◌+◌, ◌-◌, ◌*◌, ◌≤◌, min, nat_le, if◌then◌else◌};
+ghost use Rattle.std.specs.Prelude.{◌≡◌, ℕ, Some, ◌+◌, ◌-◌, ◌*◌, ◌≤◌, min, nat_le, if◌then◌else◌};
 ghost use Rattle.motion_numbers.specs.Run.{reach_of};
-ghost use Rattle.jerk_core.specs.Rates.{AreJerkRates, IsKeptBy};
-ghost use Rattle.jerk_plan.specs.Wanted.{IsMoveSpeed, slowed_of, velocity_of};
+ghost use Rattle.jerk_core.specs.Rates.{AreJerkRates};
+ghost use Rattle.jerk_plan.specs.Wanted.{IsSpeedOfMove, IsMoveOf, slowed_of, velocity_of};
 
-use jerk_core::{JerkRates, braked, greatest_safe, keeps};
-use motion_numbers::{MOST_STEP, greatest_ramp};
+use jerk_core::{JerkRates, braked, greatest_fall, safe_speed};
+use motion_numbers::MOST_STEP;
 
 /// The wanted speed of a move with the way `way` to its target, in internal units per cycle. A move
 /// that can't stop before its target by its rates slows.
@@ -14,15 +14,24 @@ pub fn move_speed(rates: &JerkRates, way: u64, last: u64, speed: u64) -> u64
     requires rates { AreJerkRates rates.now }
     requires last { last ≤ 2 * MOST_STEP }
     requires speed { speed ≤ MOST_STEP }
-    ensures ahead { IsKeptBy rates.now way last speed → IsMoveSpeed rates.now way last speed result }
-    ensures slows { (IsKeptBy rates.now way last speed → ⊥) → result ≡ slowed_of rates.now last speed }
+    ensures wanted { IsSpeedOfMove rates.now way last speed result }
     ensures small { result ≤ 2 * MOST_STEP }
 {
-    if keeps(rates, way, last, speed) {
-        greatest_safe(rates, way, last, speed, rates.v)
-    } else {
-        halt_speed(rates, last, speed)
+    match safe_speed(rates, way, last, speed) {
+        Some(safe) => safe,
+        None => halt_speed(rates, last, speed),
     }
+}
+
+/// The speed of a move that can stop before its target by its rates; none where it can't.
+pub fn own_speed(rates: &JerkRates, way: u64, last: u64, speed: u64) -> Option<u64>
+    requires rates { AreJerkRates rates.now }
+    ensures { (x : ℕ) → result ≡ Some x → IsMoveOf rates.now way last speed x }
+{
+    if last > 2 * MOST_STEP || speed > MOST_STEP {
+        return None;
+    }
+    safe_speed(rates, way, last, speed)
 }
 
 /// The wanted speed of a halt.
@@ -62,8 +71,8 @@ fn toward(rates: &JerkRates, wanted: u64, speed: u64) -> u64
     ensures small { result ≤ 2 * MOST_STEP }
 {
     if speed <= wanted {
-        speed + greatest_ramp(wanted - speed, rates.j, rates.a)
+        speed + greatest_fall(wanted - speed, rates.j, rates.a)
     } else {
-        speed - greatest_ramp(speed - wanted, rates.j, rates.d)
+        speed - greatest_fall(speed - wanted, rates.j, rates.d)
     }
 }

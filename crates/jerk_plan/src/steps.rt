@@ -1,29 +1,24 @@
 // The wanted steps of commands, in either direction.
 
-ghost use Rattle.std.specs.Prelude.{◌≡◌, ◌↔◌, IsTrue, ℤ, ◌+◌, ◌*◌, ◌≤◌, pos, negsuc, neg_ℤ, ◌≤ℤ◌, unsigned_abs};
+ghost use Rattle.std.specs.Prelude.{◌≡◌, ◌↔◌, IsTrue, ℤ, ◌+◌, ◌*◌, ◌≤◌, pos, neg_ℤ, ◌≤ℤ◌, unsigned_abs};
 ghost use Rattle.motion_numbers.specs.Ranges.{IsStep, IsWay};
 ghost use Rattle.motion_numbers.specs.Run.{cut_at_zero};
-ghost use Rattle.jerk_core.specs.Rates.{AreJerkRates, IsKeptBy};
-ghost use Rattle.jerk_plan.specs.Wanted.{IsMoveSpeed, slowed_of, velocity_of};
+ghost use Rattle.jerk_core.specs.Rates.{AreJerkRates};
+ghost use Rattle.jerk_plan.specs.Directed.{HeadsUp, IsMoveStep, IsVelocityStep, IsHaltStep};
 
 use crate::speeds::{halt_speed, move_speed, velocity_speed};
 use jerk_core::JerkRates;
 use motion_numbers::{MOST_STEP, MOST_WAY};
 
 /// The wanted step of a move, in internal units per cycle: `distance` leads from the setpoint to
-/// the target, `last` and `speed` are the steps of the last cycle and of this one. A move that heads
-/// away from its target slows.
+/// the target, `last` and `speed` are the steps of the last cycle and of this one. A move that
+/// heads away from its target slows.
 pub fn move_step(rates: &JerkRates, distance: i64, last: i64, speed: i64) -> i64
     requires rates { AreJerkRates rates.now }
     requires distance { IsWay distance }
     requires last { unsigned_abs last ≤ 2 * MOST_STEP }
     requires speed { IsStep speed }
-    ensures ahead { pos 0 ≤ℤ distance → pos 0 ≤ℤ speed →
-        IsKeptBy rates.now (unsigned_abs distance) (cut_at_zero last) (unsigned_abs speed) →
-        IsMoveSpeed rates.now (unsigned_abs distance) (cut_at_zero last) (unsigned_abs speed) (cut_at_zero result) }
-    ensures back { distance ≤ℤ pos 0 → speed ≤ℤ negsuc 0 →
-        IsKeptBy rates.now (unsigned_abs distance) (cut_at_zero (neg_ℤ last)) (unsigned_abs speed) →
-        IsMoveSpeed rates.now (unsigned_abs distance) (cut_at_zero (neg_ℤ last)) (unsigned_abs speed) (cut_at_zero (neg_ℤ result)) }
+    ensures wanted { IsMoveStep rates.now distance last speed result }
     ensures small { unsigned_abs result ≤ 2 * MOST_STEP }
 {
     if heads_up(distance, speed) {
@@ -50,8 +45,7 @@ pub fn halt_step(rates: &JerkRates, last: i64, speed: i64) -> i64
     requires rates { AreJerkRates rates.now }
     requires last { unsigned_abs last ≤ 2 * MOST_STEP }
     requires speed { IsStep speed }
-    ensures ahead { pos 0 ≤ℤ speed → result ≡ pos (slowed_of rates.now (cut_at_zero last) (unsigned_abs speed)) }
-    ensures back { speed ≤ℤ negsuc 0 → result ≡ neg_ℤ (pos (slowed_of rates.now (cut_at_zero (neg_ℤ last)) (unsigned_abs speed))) }
+    ensures wanted { IsHaltStep rates.now last speed result }
     ensures small { unsigned_abs result ≤ 2 * MOST_STEP }
 {
     if 0 <= speed {
@@ -68,10 +62,7 @@ pub fn velocity_step(rates: &JerkRates, wanted: i64, last: i64, speed: i64) -> i
     requires wanted { IsStep wanted }
     requires last { unsigned_abs last ≤ 2 * MOST_STEP }
     requires speed { IsStep speed }
-    ensures ahead { pos 0 ≤ℤ wanted → pos 0 ≤ℤ speed →
-        result ≡ pos (velocity_of rates.now (unsigned_abs wanted) (cut_at_zero last) (unsigned_abs speed)) }
-    ensures back { wanted ≤ℤ pos 0 → speed ≤ℤ negsuc 0 →
-        result ≡ neg_ℤ (pos (velocity_of rates.now (unsigned_abs wanted) (cut_at_zero (neg_ℤ last)) (unsigned_abs speed))) }
+    ensures wanted { IsVelocityStep rates.now wanted last speed result }
     ensures small { unsigned_abs result ≤ 2 * MOST_STEP }
 {
     if heads_up(wanted, speed) {
@@ -95,7 +86,7 @@ pub fn velocity_step(rates: &JerkRates, wanted: i64, last: i64, speed: i64) -> i
 
 // Whether neither leads down.
 fn heads_up(wanted: i64, speed: i64) -> bool
-    ensures { IsTrue result ↔ ((pos 0 ≤ℤ wanted) × (pos 0 ≤ℤ speed)) }
+    ensures { IsTrue result ↔ HeadsUp wanted speed }
 {
     0 <= wanted && 0 <= speed
 }

@@ -1,13 +1,14 @@
 -- What a generator that is open keeps through its calls.
-use Rattle.std.proofs.Common.{inl, inr, ◌≡◌, ◌≢◌, ℕ, ◌*◌, ◌≤◌, ℤ, pos, ◌-ℤ◌, ◌≤ℤ◌, unsigned_abs, Bool, true, false, nat_eq, if◌then◌else◌, arith, refl}
+use Rattle.std.proofs.Common.{inl, inr, ◌≡◌, ◌≢◌, ℕ, ◌*◌, ◌≤◌, ℤ, pos, ◌+ℤ◌, ◌-ℤ◌, ◌≤ℤ◌, unsigned_abs, Bool, true, false, nat_eq, if◌then◌else◌, arith, refl}
 use Rattle.std.proofs.lemmas.Int.{ints, clamps}
 use Rattle.std.proofs.lemmas.Bool.{cases_eq, cond-true, cond-false}
 use Rattle.motion_numbers.specs.declared.TheConstants.{MOST_STEP, MOST_PLACE}
 use Rattle.motion_numbers.specs.Ranges.{IsPlace, IsStep, IsWay}
 use Rattle.kin_core.specs.Admissible.{least_step_after, greatest_step_after}
+use Rattle.jerk_core.specs.declared.limits.JerkLimits.{JerkLimits}
 use Rattle.jerk_core.specs.Admissible.{AreJerkLimits, IsSafeByJerk}
 use Rattle.otg.specs.declared.generator.Otg.{Otg}
-use Rattle.otg.specs.Open.{IsOpen, IsStepOf, AreLimitsOf, limits_of, shifted_of}
+use Rattle.otg.specs.Open.{IsOpen, IsStepOf, IsStepTaken, AreLimitsOf, limits_of, shifted_of}
 
 -- the limits of a generator are those of an axis
 pub jerk_limits_of : (otg : Otg) → AreLimitsOf otg → AreJerkLimits (limits_of otg)
@@ -46,10 +47,18 @@ open_after before after next was safe is =
       kept = safe.kept;
     })
 
+-- the setpoint that the taken step leads to is safe
+pub taken_safe : (otg : Otg) (next : ℤ) → IsStepTaken otg (next -ℤ otg.current) →
+    IsSafeByJerk (limits_of otg) otg.first otg.before otg.current next
+taken_safe otg next step = safe_at (limits_of otg) otg.first otg.before otg.current (otg.current +ℤ (next -ℤ otg.current)) next (omega (arith, ints)) step.taken.safe
+  where
+    safe_at : (limits : JerkLimits) (first before now next same : ℤ) → same ≡ next → IsSafeByJerk limits first before now next → IsSafeByJerk limits first before now same
+    safe_at limits first before now next same is safe = rw is safe
+
 -- and has made a step
-pub step_after : (before after : Otg) (next : ℤ) → IsSafeByJerk (limits_of before) before.first before.before before.current next →
+pub step_after : (before after : Otg) (next : ℤ) → IsStepTaken before (next -ℤ before.current) →
     after ≡ shifted_of before next → IsStepOf before after
-step_after before after next safe is = rw is (record { admissible = safe.admissible; same = refl })
+step_after before after next step is = rw is (record { taken = step; admissible = (taken_safe before next step).admissible; same = refl })
 
 -- the setpoint is in the range of places
 pub current_place : (otg : Otg) → IsOpen otg → IsPlace otg.current

@@ -1,12 +1,13 @@
 -- What a generator that is open keeps, and what a step does. This project's profile.
-use Rattle.std.specs.Prelude.{◌≡◌, ◌≤◌, ℤ, pos, ◌≤ℤ◌, unsigned_abs, nat_eq, if◌then◌else◌}
+use Rattle.std.specs.Prelude.{◌≡◌, ◌≢◌, ◌≤◌, ℤ, pos, ◌-ℤ◌, ◌≤ℤ◌, unsigned_abs, nat_eq, if◌then◌else◌}
 use Rattle.motion_numbers.specs.declared.TheConstants.{MOST_PLACE, MOST_STEP}
 use Rattle.motion_numbers.specs.Ranges.{IsPlace}
 use Rattle.jerk_core.specs.declared.limits.JerkLimits.{JerkLimits}
 use Rattle.jerk_core.specs.declared.rates.JerkRates.{JerkRates}
 use Rattle.jerk_core.specs.declared.motions.Setpoints.{Setpoints}
 use Rattle.jerk_core.specs.Rates.{AreJerkRates}
-use Rattle.jerk_core.specs.Admissible.{IsAdmissibleByJerk, IsKeptByJerk}
+use Rattle.jerk_core.specs.Admissible.{IsAdmissibleByJerk, IsKeptByJerk, IsTakenByJerk}
+use Rattle.jerk_plan.specs.Directed.{IsMoveStep, IsVelocityStep, IsHaltStep}
 use Rattle.otg.specs.declared.generator.Otg.{Otg}
 
 -- the limits of a generator
@@ -52,7 +53,8 @@ pub record IsCommandOf (otg : Otg) : Type 0 where
   pub rates : AreJerkRates (rates_of_command otg)
   pub target : IsTargetOf otg
 
--- a generator that is open: its limits and its command are in their ranges, and its setpoints are kept
+-- a generator that is open: its limits and its command are in their ranges, and its setpoints are
+-- kept
 pub record IsOpen (otg : Otg) : Type 0 where
   pub limits : AreLimitsOf otg
   pub command : IsCommandOf otg
@@ -76,7 +78,24 @@ resting_of otg setpoint = record otg {
 abbrev pub shifted_of : Otg → ℤ → Otg
 shifted_of otg next = record otg { first = otg.before; before = otg.current; current = next }
 
--- a step gives an admissible setpoint, and changes nothing else
+-- the step that the command wants, by its kind
+pub data IsWantedStep (otg : Otg) (step : ℤ) : Type 0 where
+  by_move : otg.kind ≡ 1 →
+      IsMoveStep (rates_of_command otg) (otg.target -ℤ otg.current) (otg.before -ℤ otg.first) (otg.current -ℤ otg.before) step → IsWantedStep otg step
+  by_velocity : otg.kind ≡ 2 →
+      IsVelocityStep (rates_of_command otg) otg.target (otg.before -ℤ otg.first) (otg.current -ℤ otg.before) step → IsWantedStep otg step
+  by_halt : otg.kind ≢ 1 → otg.kind ≢ 2 →
+      IsHaltStep (rates_of_command otg) (otg.before -ℤ otg.first) (otg.current -ℤ otg.before) step → IsWantedStep otg step
+
+-- the step is safe, and no other safe step is nearer to the one that the command wants
+pub record IsStepTaken (otg : Otg) (step : ℤ) : Type 0 where
+  pub wanted : ℤ
+  pub wants : IsWantedStep otg wanted
+  pub taken : IsTakenByJerk (limits_of otg) otg.first otg.before otg.current wanted step
+
+-- a step gives an admissible setpoint, the safe one nearest to what the command wants, and changes
+-- nothing else
 pub record IsStepOf (before after : Otg) : Type 0 where
+  pub taken : IsStepTaken before (after.current -ℤ before.current)
   pub admissible : IsAdmissibleByJerk (limits_of before) before.first before.before before.current after.current
   pub same : after ≡ shifted_of before after.current

@@ -7,6 +7,7 @@
 mod commands;
 mod generator;
 mod opening;
+mod own;
 mod stepping;
 
 pub use commands::{otg_halt, otg_move, otg_velocity};

@@ -65,7 +65,7 @@ pub(crate) fn is_open(otg: &Otg) -> bool
 }
 
 // Whether the limits are in their ranges.
-fn are_limits(otg: &Otg) -> bool
+pub(crate) fn are_limits(otg: &Otg) -> bool
     ensures { IsTrue result ↔ AreLimitsOf otg.now }
 {
     if !has_places(otg) {
@@ -109,7 +109,7 @@ fn has_jerk(otg: &Otg) -> bool
 }
 
 // Whether the command is in its ranges.
-fn is_command(otg: &Otg) -> bool
+pub(crate) fn is_command(otg: &Otg) -> bool
     ensures { IsTrue result ↔ IsCommandOf otg.now }
 {
     are_rates(&own_rates(otg)) && is_target(otg)

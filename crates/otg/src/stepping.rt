@@ -2,11 +2,11 @@
 
 ghost use Rattle.std.specs.Prelude.{◌≡◌, ◌↔◌, ◌+◌, ◌*◌, ◌≤◌, ℤ, ◌+ℤ◌, ◌-ℤ◌, unsigned_abs};
 ghost use Rattle.motion_numbers.specs.Ranges.{IsPlace, IsStep, IsWay};
-ghost use Rattle.jerk_core.specs.Admissible.{IsSafeByJerk};
-ghost use Rattle.otg.specs.Open.{IsOpen, IsStepOf, limits_of, shifted_of};
+ghost use Rattle.otg.specs.Open.{IsOpen, IsStepOf, IsStepTaken, IsWantedStep, shifted_of};
 
 use crate::generator::{Otg, limits, own_rates, setpoints};
 use crate::opening::{INVALID, OK, is_open};
+use crate::own::{steps_down, steps_up};
 use jerk_core::nearest_safe;
 use jerk_plan::{halt_step, move_step, velocity_step};
 use motion_numbers::{MOST_STEP, MOST_WAY};
@@ -14,6 +14,22 @@ use motion_numbers::{MOST_STEP, MOST_WAY};
 /// Goes through a cycle: the next setpoint is in `current`.
 #[unsafe(no_mangle)]
 pub extern "C" fn otg_step(otg: &mut Otg) -> u32
+    ensures code { (result ≡ 0) ↔ IsOpen otg.old }
+    ensures opened { result ≡ 0 → IsOpen otg.new }
+    ensures step { result ≡ 0 → IsStepOf otg.old otg.new }
+    ensures same { result ≡ 1 → otg.new ≡ otg.old }
+{
+    if steps_up(otg) {
+        return OK;
+    }
+    if steps_down(otg) {
+        return OK;
+    }
+    step_by_any(otg)
+}
+
+// The same, for any motion and command.
+fn step_by_any(otg: &mut Otg) -> u32
     ensures code { (result ≡ 0) ↔ IsOpen otg.old }
     ensures opened { result ≡ 0 → IsOpen otg.new }
     ensures step { result ≡ 0 → IsStepOf otg.old otg.new }
@@ -28,7 +44,7 @@ pub extern "C" fn otg_step(otg: &mut Otg) -> u32
 }
 
 // The generator one setpoint on.
-fn shifted(otg: &Otg, next: i64) -> Otg
+pub(crate) fn shifted(otg: &Otg, next: i64) -> Otg
     ensures { result ≡ shifted_of otg.now next }
 {
     Otg {
@@ -42,7 +58,7 @@ fn shifted(otg: &Otg, next: i64) -> Otg
 // The next setpoint.
 fn next_setpoint(otg: &Otg) -> i64
     requires opened { IsOpen otg.now }
-    ensures safe { IsSafeByJerk (limits_of otg.now) otg.now.first otg.now.before otg.now.current result }
+    ensures taken { IsStepTaken otg.now (result -ℤ otg.now.current) }
 {
     moved(otg.current, taken_step(otg))
 }
@@ -50,7 +66,7 @@ fn next_setpoint(otg: &Otg) -> i64
 // The step that is nearest to the command's among the safe ones.
 fn taken_step(otg: &Otg) -> i64
     requires opened { IsOpen otg.now }
-    ensures safe { IsSafeByJerk (limits_of otg.now) otg.now.first otg.now.before otg.now.current (otg.now.current +ℤ result) }
+    ensures taken { IsStepTaken otg.now result }
     ensures small { IsStep result }
 {
     nearest_safe(&limits(otg), &setpoints(otg), wanted_step(otg))
@@ -68,6 +84,7 @@ fn moved(setpoint: i64, step: i64) -> i64
 // The step that the command wants.
 fn wanted_step(otg: &Otg) -> i64
     requires opened { IsOpen otg.now }
+    ensures wanted { IsWantedStep otg.now result }
     ensures small { unsigned_abs result ≤ 2 * MOST_WAY }
 {
     let rates = own_rates(otg);
@@ -86,6 +103,7 @@ fn wanted_step(otg: &Otg) -> i64
 fn distance(otg: &Otg) -> i64
     requires opened { IsOpen otg.now }
     requires place { IsPlace otg.now.target }
+    ensures value { result ≡ (otg.now.target -ℤ otg.now.current) }
     ensures small { IsWay result }
 {
     difference(otg.current, otg.target, MOST_WAY)
@@ -94,6 +112,7 @@ fn distance(otg: &Otg) -> i64
 // The step of this cycle.
 fn this_step(otg: &Otg) -> i64
     requires opened { IsOpen otg.now }
+    ensures value { result ≡ (otg.now.current -ℤ otg.now.before) }
     ensures small { IsStep result }
 {
     difference(otg.before, otg.current, MOST_STEP)
@@ -102,6 +121,7 @@ fn this_step(otg: &Otg) -> i64
 // The step of the last cycle.
 fn last_step(otg: &Otg) -> i64
     requires opened { IsOpen otg.now }
+    ensures value { result ≡ (otg.now.before -ℤ otg.now.first) }
     ensures small { unsigned_abs result ≤ 2 * MOST_STEP }
 {
     difference(otg.first, otg.before, 2 * MOST_STEP)

@@ -1,11 +1,12 @@
--- Only the way is looked at between the least speed and the greatest, and what is left by one speed is left by all below it.
-use Rattle.std.proofs.Common.{inl, inr, ℕ, ◌+◌, ◌-◌, ◌/◌, ◌<◌, ◌≤◌, arith}
-use Rattle.std.proofs.lemmas.Bool.{cases_lt}
+-- Only the way is looked at between the least speed and the greatest, and what is left by one speed
+-- is left by all below it.
+use Rattle.std.proofs.Common.{inl, inr, ◌≡◌, ℕ, ◌+◌, ◌-◌, ◌<◌, ◌≤◌, Bool, IsTrue, ◌↔◌, false, arith}
+use Rattle.std.proofs.lemmas.Bool.{cases_lt, both_ways}
 use Rattle.motion_numbers.specs.Run.{reach_of}
 use Rattle.jerk_core.specs.declared.rates.JerkRates.{JerkRates}
 use Rattle.jerk_core.specs.Braking.{way_of}
 use Rattle.jerk_core.specs.Rates.{AreJerkRates, IsLeftBy}
-use Rattle.jerk_core.proofs.KeptMotions.{kept_after, kept_between}
+use Rattle.jerk_core.proofs.KeptMotions.{kept_after}
 use Rattle.jerk_core.proofs.ahead.greatest_left.Goals as goal
 
 -- a speed between the least and the greatest, whose way fits
@@ -16,35 +17,29 @@ left_between rates room speed least most x ok slow above below gains tops low fi
     kept_after rates.v rates.a rates.d rates.j room speed least x (omega (arith, ok.d_least)) (omega (arith, ok.j_least)) slow above
     (omega arith) (omega arith) low fits.0 fits.1
 
--- the middle of two speeds
-middle_below : (a b m : ℕ) → a < b → b ≤ m → a + (b - a) / 2 ≤ m
-middle_below a b m h p = omega arith
+-- what fails isn't the least
+below_most : (b : Bool) (rates : JerkRates) (room speed least most : ℕ) → least ≤ most → IsLeftBy rates room speed least →
+    IsTrue b ↔ ((most ≤ room) × (way_of rates.d rates.j speed most ≤ room - most)) → b ≡ false → least < most
+below_most b rates room speed least most order left iff off =
+    elim (cases_lt least most) [
+      | inl below ↦ below
+      | inr same ↦ let is : most ≡ least = omega arith in absurd (both_ways b off (iff.1 (rw is (left.within, left.kept.fits))))
+    ]
+
+-- and leaves no kept motion
+most_fails : (b : Bool) (rates : JerkRates) (room speed most : ℕ) → IsTrue b ↔ ((most ≤ room) × (way_of rates.d rates.j speed most ≤ room - most)) → b ≡ false →
+    IsLeftBy rates room speed most → ⊥
+most_fails b rates room speed most iff off left = both_ways b off (iff.1 (left.within, left.kept.fits))
 
 pub returns-then-leaves_rest-clause-left : goal.returns-then-leaves_rest-clause-left
 returns-then-leaves_rest-clause-left c =
     left_between c.args.rates.now c.args.room c.args.speed c.args.least c.args.most c.args.most c.requires.rates c.requires.speed c.requires.order
     (omega arith) c.requires.gains c.requires.tops c.requires.left (c.leaves_rest.ensures.0 c.if-leaves_rest.true)
 
-pub loop-fails-preserved-then-leaves_rest-2 : goal.loop-fails-preserved-then-leaves_rest-2
-loop-fails-preserved-then-leaves_rest-2 c =
-    let order : c.loop-fails.fits < c.loop-fails.fails = c.loop-fails.invariant.order in
-    let above : c.args.least ≤ c.loop-fails.fits = c.loop-fails.invariant.above in
-    record {
-      order = omega arith;
-      above = omega arith;
-      within = c.loop-fails.invariant.within;
-      fitting = left_between c.args.rates.now c.args.room c.args.speed c.args.least c.args.most
-          (c.loop-fails.fits + (c.loop-fails.fails - c.loop-fails.fits) / 2) c.requires.rates c.requires.speed
-          (omega arith) (middle_below c.loop-fails.fits c.loop-fails.fails c.args.most order c.loop-fails.invariant.within)
-          c.requires.gains c.requires.tops c.requires.left (c.leaves_rest-in-loop-fails.ensures.0 c.if-leaves_rest-2.true);
-      failing = c.loop-fails.invariant.failing;
-    }
+pub greatest_between-requires-clause-order : goal.greatest_between-requires-clause-order
+greatest_between-requires-clause-order c =
+    below_most c.leaves_rest.result c.args.rates.now c.args.room c.args.speed c.args.least c.args.most c.requires.order c.requires.left c.leaves_rest.ensures c.if-leaves_rest.false
 
-pub returns-clause-greatest : goal.returns-clause-greatest
-returns-clause-greatest c = λ x left most. elim (cases_lt c.loop-fails.fits x) [
-  | inr within ↦ within
-  | inl over ↦ absurd (c.loop-fails.invariant.failing
-      (kept_between c.args.rates.now.v c.args.rates.now.a c.args.rates.now.d c.args.rates.now.j c.args.room c.args.speed c.args.least
-      c.loop-fails.fails x c.requires.rates.d_least (omega (arith, c.requires.rates.j_least))
-      (omega (arith, c.loop-fails.invariant.above, c.loop-fails.invariant.order)) (omega arith) c.requires.left left))
-]
+pub greatest_between-requires-clause-fails : goal.greatest_between-requires-clause-fails
+greatest_between-requires-clause-fails c =
+    most_fails c.leaves_rest.result c.args.rates.now c.args.room c.args.speed c.args.most c.leaves_rest.ensures c.if-leaves_rest.false

@@ -15,6 +15,6 @@ pub returns-clause-greatest : goal.returns-clause-greatest
 returns-clause-greatest c = λ x left bends within.
     c.greatest_left.ensures.greatest x left
     (within_top x c.args.rates.now.a (reach_of c.args.rates.now.v c.args.rates.now.j) (c.args.motion.now.last + c.args.rates.now.j) c.args.most
-    c.greatest_ramp-fastest.result c.min.result c.min-top.result
+    c.greatest_fall-fastest.result c.min.result c.min-top.result
     (left_within c.args.rates.now c.args.motion.now.behind x c.requires.rates left) bends within
-    c.greatest_ramp-fastest.ensures.value c.min.ensures c.min-top.ensures)
+    c.greatest_fall-fastest.ensures.value c.min.ensures c.min-top.ensures)

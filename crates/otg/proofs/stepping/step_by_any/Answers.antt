@@ -1,8 +1,8 @@
 -- A safe setpoint keeps it open.
 use Rattle.std.proofs.Common.{◌≡◌, to_z, of_z, w64, FitsSigned, to_z-of_z, refl}
 use Rattle.otg.specs.Open.{shifted_of}
-use Rattle.otg.proofs.Opens.{open_after, step_after}
-use Rattle.otg.proofs.stepping.otg_step.Goals as goal
+use Rattle.otg.proofs.Opens.{open_after, taken_safe, step_after}
+use Rattle.otg.proofs.stepping.step_by_any.Goals as goal
 
 pub next_setpoint-requires : goal.next_setpoint-requires
 next_setpoint-requires c = record { opened = c.is_open.ensures.0 c.if-not-is_open.false }
@@ -15,11 +15,12 @@ returns-clause-opened c = λ ok.
     let fits : FitsSigned w64 c.next_setpoint.result = record { sfits = c.next_setpoint.type_inv } in
     let same : to_z w64 (of_z w64 c.next_setpoint.result) ≡ c.next_setpoint.result = to_z-of_z fits in
     let is : c.shifted-next.result ≡ shifted_of c.args.otg.now c.next_setpoint.result = rw same at c.shifted-next.ensures in
-    open_after c.args.otg.now c.shifted-next.result c.next_setpoint.result (c.is_open.ensures.0 c.if-not-is_open.false) c.next_setpoint.ensures.safe is
+    open_after c.args.otg.now c.shifted-next.result c.next_setpoint.result (c.is_open.ensures.0 c.if-not-is_open.false)
+    (taken_safe c.args.otg.now c.next_setpoint.result c.next_setpoint.ensures.taken) is
 
 pub returns-clause-step : goal.returns-clause-step
 returns-clause-step c = λ ok.
     let fits : FitsSigned w64 c.next_setpoint.result = record { sfits = c.next_setpoint.type_inv } in
     let same : to_z w64 (of_z w64 c.next_setpoint.result) ≡ c.next_setpoint.result = to_z-of_z fits in
     let is : c.shifted-next.result ≡ shifted_of c.args.otg.now c.next_setpoint.result = rw same at c.shifted-next.ensures in
-    step_after c.args.otg.now c.shifted-next.result c.next_setpoint.result c.next_setpoint.ensures.safe is
+    step_after c.args.otg.now c.shifted-next.result c.next_setpoint.result c.next_setpoint.ensures.taken is

@@ -1,7 +1,7 @@
 -- One speed leaves a kept motion, and a greater one doesn't.
 use Rattle.std.proofs.Common.{◌<◌, ◌≤◌, ◌-◌}
 use Rattle.jerk_core.specs.Rates.{IsLeftBy}
-use Rattle.jerk_core.proofs.ahead.greatest_left.Given as goal
+use Rattle.jerk_core.proofs.ahead.greatest_between.Given as goal
 
 abbrev pub invariant-loop-fails : goal.invariant-loop-fails
 invariant-loop-fails l = record {
