@@ -73,7 +73,7 @@ static void opened_cycles(void)
     static MC_Power power;
     uint8_t room[100];
     mc_setup setup;
-    mc_machine made;
+    static mc_machine made; /* as zeros */
     motion other = MOTION_NONE;
     motion_refusal why;
     mc_setup_begin(&setup, room, sizeof room);
