@@ -45,7 +45,6 @@ static void end(void)
 /* Conversions, with their rounding toward zero, and at the ends of their ranges. */
 static void conversions(void)
 {
-    static const char config[] = "# cycle_us = 7\ncycles = 20\n  cycle_us\t= 1_000 # 1 ms\n";
     const int64_t most = INT64_C(1000000000000000000);
     want("units", MC_UNITS(-12), INT64_C(-12000000000));
     want("thousandths", MC_THOUSANDTHS(12500), INT64_C(12500000000));
@@ -63,10 +62,29 @@ static void conversions(void)
     want("by parts", mc_acceleration_a_cycle(most - 1, 333), INT64_C(110888999999));
     want("the most a cycle squared", mc_acceleration_a_cycle(INT64_MAX, MC_CYCLES), INT64_MAX);
     want("the least a cycle squared", mc_acceleration_a_cycle(INT64_MIN, MC_CYCLES), INT64_MIN);
-    want("a cycle", mc_cycle_us((const uint8_t *)config, sizeof config - 1), 1000);
-    want("no cycle", mc_cycle_us((const uint8_t *)config, 14), 0);
-    want("a cycle in hexadecimal", mc_cycle_us((const uint8_t *)"cycle_us=0x3E8", 14), 0);
-    want("an empty text", mc_cycle_us((const uint8_t *)"", 0), 0);
+}
+
+/* The cycle of a configuration, however its line is written. */
+static void opened_cycles(void)
+{
+    static const char config[] = "# cycle_us = 7\ncycles = 20\nentries = 40\n  'cycle_us'\t= 0x3E8 # 1 ms\n"
+                                 "[[axis]]\nname = \"X\"\nlo = 0\nhi = 50\nvmax = 100\namax = 1000\n"
+                                 "increment = 1\nstart = 0\n";
+    static MC_Power power;
+    uint8_t room[100];
+    mc_setup setup;
+    static mc_machine made; /* as zeros */
+    motion other = MOTION_NONE;
+    motion_refusal why;
+    mc_setup_begin(&setup, room, sizeof room);
+    mc_setup_task(&setup, "main");
+    MC_Power_add(&power, &setup, "P", "X");
+    want("open", mc_open(&made, &other, (const uint8_t *)config, sizeof config - 1, &setup, &why), MOTION_OK);
+    want("a cycle", made.cycle_us, 1000);
+    want("its own", motion_cycle_us(&other), 1000);
+    want("none of a bench", motion_cycle_us(&handle), 0);
+    want("close", motion_close(&other), MOTION_OK);
+    want("none of a closed one", motion_cycle_us(&other), 0);
 }
 
 /* What names and codes lead to. */
@@ -80,6 +98,8 @@ static void codes(void)
     mc_begin(&other, &handle, MC_CYCLES);
     want("no such block", MC_Halt_find(&none, &other, "NONE"), MOTION_UNKNOWN);
     want("its call", MC_Halt_call(&none, &other), MOTION_UNKNOWN);
+    want("a block of another kind", MC_Halt_find(&none, &other, "MA"), MOTION_UNKNOWN);
+    want("its number", none.block, MC_NO_BLOCK);
     want("a block", MC_MoveAbsolute_find(&wide, &other, "MA"), MOTION_OK);
     wide.Position = INT64_MAX;
     want("too wide a position", MC_MoveAbsolute_call(&wide, &other), MOTION_RANGE);
@@ -112,6 +132,7 @@ int main(int argc, char **argv)
     mc_begin(&machine, &handle, MC_CYCLES);
     go();
     conversions();
+    opened_cycles();
     codes();
     for (i = 0; i < AXES; i++) last[i] = bench_drive_answer(&drives[i]);
     if (motion_trace(&handle, last, AXES) != MOTION_OK) return 4;

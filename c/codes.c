@@ -78,6 +78,28 @@ static void want_unread(const char *what, const motion_refusal *why)
     want(what, why->line == 77 && why->letter == 7 && why->number == 7, 1);
 }
 
+/* The readings of a closed handle, of numbers that no item has, and of kinds that are none. */
+static void readings(motion *m, uint32_t code)
+{
+    motion_name name;
+    motion_limits limits = { 1, 2, 3, 4, 5, 6 };
+    motion_block_row row = { 7, 8, 9, 10 };
+    memset(&name, 'a', sizeof name);
+    want("axis name", motion_axis_name(m, 2, &name), code);
+    want("the last axis name", motion_axis_name(m, 255, &name), code);
+    want("group name", motion_group_name(m, 1, &name), code);
+    want("task name", motion_task_name(m, 1, &name), code);
+    want("block name", motion_block_name(m, 2, &name), code);
+    want("the last block name", motion_block_name(m, 65535, &name), code);
+    want("kind name", motion_kind_name(19, &name), MOTION_UNKNOWN);
+    want("the last kind name", motion_kind_name(UINT32_MAX, &name), MOTION_UNKNOWN);
+    want("limits", motion_axis_limits(m, 2, &limits), code);
+    want("block look", motion_block_look(m, 2, &row), code);
+    want("no name", name.text[0] == 'a' && name.text[23] == 'a', 1);
+    want("no limits", limits.lo == 1 && limits.hi == 2 && limits.increment == 6, 1);
+    want("no row", row.kind == 7 && row.object == 8 && row.task == 9 && row.on_group == 10, 1);
+}
+
 /* Nothing but CLOSED, 0 and no number comes of a closed handle. */
 static void closed_handle(void)
 {
@@ -93,14 +115,17 @@ static void closed_handle(void)
     want("axis look", motion_axis_look(&m, 0, &axis), MOTION_CLOSED);
     want("group look", motion_group_look(&m, 0, &group), MOTION_CLOSED);
     want("trace", motion_trace(&m, enabled, 1), MOTION_CLOSED);
-    want("bank text", motion_segment_text(&m, enabled, 1), MOTION_CLOSED);
+    want("segment text", motion_segment_text(&m, enabled, 1), MOTION_CLOSED);
     want("trace text", motion_trace_text(&m, 0, room, 4), 0);
     want("close", motion_close(&m), MOTION_CLOSED);
     want("axis", name_of(motion_axis, &m, "X"), MOTION_NO_NUMBER);
     want("group", name_of(motion_group, &m, "XY"), MOTION_NO_NUMBER);
     want("task", name_of(motion_task, &m, "main"), MOTION_NO_NUMBER);
     want("block", name_of(motion_block, &m, "G"), MOTION_NO_NUMBER);
-    want("counts", motion_axes(&m) + motion_groups(&m), 0);
+    want("counts", motion_axes(&m) + motion_groups(&m) + motion_tasks(&m) + motion_blocks(&m), 0);
+    want("cycle", motion_cycle_us(&m), 0);
+    want("forget", motion_forget(&m), MOTION_CLOSED);
+    readings(&m, MOTION_CLOSED);
     want("left", motion_cycles_left(&m) + motion_room_left(&m), 0);
     want_untold("no outputs", &out);
     want_unseen("no row", &axis);
@@ -190,6 +215,8 @@ static void names(motion *m)
     want("no task", name_of(motion_task, m, "G"), MOTION_NO_NUMBER);
     want("no name", name_of(motion_block, m, ""), MOTION_NO_NUMBER);
     want("counts", motion_axes(m) * 10 + motion_groups(m), 21);
+    want("more counts", motion_tasks(m) * 10 + motion_blocks(m), 12);
+    readings(m, MOTION_UNKNOWN);
 }
 
 /* Calls that are none, and inputs that aren't read. */
@@ -280,8 +307,8 @@ static void cycles(motion *m)
     want("trace", motion_trace(m, enabled, 2), MOTION_OK);
 }
 
-/* A bank that is full while cycles are left. */
-static void full_bank(void)
+/* A segment that is full while cycles are left. */
+static void full_segment(void)
 {
     motion m = MOTION_NONE;
     motion_refusal why;
@@ -349,10 +376,51 @@ static void swaps(void)
     want("later", motion_trace(&m, enabled, 2), MOTION_LATER);
     want("the whole", motion_trace(&spare, enabled, 2), MOTION_OK);
     want("length", motion_segment_text(&m, enabled, 1), MOTION_LENGTH);
-    want("an empty bank", motion_segment_text(&m, enabled, 2), MOTION_OK);
+    want("an empty segment", motion_segment_text(&m, enabled, 2), MOTION_OK);
     want("cycle 3", motion_cycle(&m, enabled, 2, given, 2), MOTION_OK);
     want("close m", motion_close(&m), MOTION_OK);
     want("close spare", motion_close(&spare), MOTION_OK);
+}
+
+/* What is forgotten is past: room and cycles are whole again, no cycle is left to look at, the trace that
+ * was made is kept, and no trace from opening on can be made. The axis goes on where it was. */
+static void forgets(void)
+{
+    motion m = MOTION_NONE;
+    motion_refusal why;
+    motion_inputs in = nothing;
+    motion_outputs out;
+    motion_drive_out given = ungiven;
+    motion_drive_in answer = enabled[0];
+    motion_axis_row axis;
+    uint8_t part[8];
+    int i;
+    in.execute = 1;
+    in.positions[0] = 20;
+    in.velocity = 6;
+    in.acceleration = in.deceleration = 2;
+    want("open", open_text(&m, first, &why), MOTION_OK);
+    want("forget nothing", motion_forget(&m), MOTION_OK);
+    want("the whole is still there", motion_trace(&m, enabled, 1), MOTION_OK);
+    want("move", motion_call(&m, 0, &in, &out), MOTION_OK);
+    want("cycle 1", motion_cycle(&m, &answer, 1, &given, 1), MOTION_OK);
+    want("setpoint 1", (uint64_t)given.target, 2);
+    want("forget", motion_forget(&m), MOTION_OK);
+    want("room", motion_room_left(&m) * 100 + motion_cycles_left(&m), 4020);
+    want("no cycle", motion_axis_look(&m, 0, &axis), MOTION_NO_CYCLE);
+    want("later", motion_trace(&m, enabled, 1), MOTION_LATER);
+    want("the trace is kept", motion_trace_text(&m, 0, part, sizeof part), 8);
+    answer.actual = given.target;
+    for (i = 0; i < 100; i++) {
+        want("cycle", motion_cycle(&m, &answer, 1, &given, 1), MOTION_OK);
+        answer.actual = given.target;
+        if (motion_cycles_left(&m) == 0) want("forget", motion_forget(&m), MOTION_OK);
+    }
+    want("at its target", (uint64_t)given.target, 20);
+    want("call", motion_call(&m, 0, &in, &out), MOTION_OK);
+    want("done", out.done, 1);
+    want("a segment", motion_segment_text(&m, &answer, 1), MOTION_OK);
+    want("close", motion_close(&m), MOTION_OK);
 }
 
 int main(void)
@@ -368,10 +436,11 @@ int main(void)
     cycles(&m);
     want("close", motion_close(&m), MOTION_OK);
     configurations();
-    full_bank();
+    full_segment();
     long_texts();
     parts();
     two_handles();
     swaps();
+    forgets();
     return faults != 0;
 }

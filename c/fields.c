@@ -55,6 +55,23 @@ AT(motion_group_row, state, 0);
 AT(motion_group_row, error, 4);
 SIZE(motion_group_row, 8);
 
+AT(motion_limits, lo, 0);
+AT(motion_limits, hi, 8);
+AT(motion_limits, velocity, 16);
+AT(motion_limits, acceleration, 24);
+AT(motion_limits, deceleration, 32);
+AT(motion_limits, increment, 40);
+SIZE(motion_limits, 48);
+
+AT(motion_block_row, kind, 0);
+AT(motion_block_row, object, 4);
+AT(motion_block_row, task, 5);
+AT(motion_block_row, on_group, 6);
+SIZE(motion_block_row, 8);
+
+AT(motion_name, text, 0);
+SIZE(motion_name, 24);
+
 AT(motion_refusal, line, 0);
 AT(motion_refusal, letter, 8);
 AT(motion_refusal, number, 9);
@@ -76,6 +93,7 @@ IS(MOTION_NO_CYCLE, 10);
 IS(MOTION_NULL, 11);
 IS(MOTION_OTHER, 12);
 IS(MOTION_LATER, 13);
+IS(MOTION_OTHER_VERSION, 14);
 IS(MOTION_NO_NUMBER, 4294967295);
 
 IS(MOTION_DISABLED, 0);
@@ -100,6 +118,26 @@ IS(MOTION_BLENDING_LOW, 2);
 IS(MOTION_BLENDING_PREVIOUS, 3);
 IS(MOTION_BLENDING_NEXT, 4);
 IS(MOTION_BLENDING_HIGH, 5);
+
+IS(MOTION_POWER, 0);
+IS(MOTION_RESET, 1);
+IS(MOTION_HOME, 2);
+IS(MOTION_STOP, 3);
+IS(MOTION_HALT, 4);
+IS(MOTION_MOVE_ABSOLUTE, 5);
+IS(MOTION_MOVE_RELATIVE, 6);
+IS(MOTION_MOVE_VELOCITY, 7);
+IS(MOTION_GEAR_IN, 8);
+IS(MOTION_GEAR_OUT, 9);
+IS(MOTION_CAM_IN, 10);
+IS(MOTION_CAM_OUT, 11);
+IS(MOTION_GROUP_ENABLE, 12);
+IS(MOTION_GROUP_DISABLE, 13);
+IS(MOTION_GROUP_RESET, 14);
+IS(MOTION_GROUP_STOP, 15);
+IS(MOTION_GROUP_HALT, 16);
+IS(MOTION_MOVE_LINEAR_ABSOLUTE, 17);
+IS(MOTION_MOVE_CIRCULAR_ABSOLUTE, 18);
 
 IS(MOTION_MOST_AXES, 16);
 IS(MOTION_MOST_GROUPS, 4);
@@ -365,9 +403,77 @@ static void widest(void)
     want("close", motion_close(&m), MOTION_OK);
 }
 
+/* Each kind of block by its number and its name, with what it acts on, its task and its own name. */
+static void kinds(void)
+{
+    static const char *const names[] = {
+        "Power", "Reset", "Home", "Stop", "Halt", "MoveAbsolute", "MoveRelative", "MoveVelocity", "GearIn",
+        "GearOut", "CamIn", "CamOut", "GroupEnable", "GroupDisable", "GroupReset", "GroupStop", "GroupHalt",
+        "MoveLinearAbsolute", "MoveCircularAbsolute",
+    };
+    enum { KINDS = sizeof names / sizeof names[0] };
+    static char text[2048];
+    motion m = MOTION_NONE;
+    motion_refusal why;
+    motion_block_row row;
+    motion_name name;
+    char own[8], *to = text + sprintf(text, "motion-bench 2\nlimit 9 40\naxis X 0 50 10 4 5 1 0\n"
+                                            "axis Yes_16_bytes_lo -7 50 11 4 5 7 7\naxis Z 0 50 10 4 5 1 0\n"
+                                            "group G X Yes_16_bytes_lo\ntask T\ntask U\n");
+    uint16_t i;
+    size_t byte;
+    for (i = 0; i < KINDS; i++)
+        to += sprintf(to, "block B%u %s %s %s\n", i, i % 2 ? "U" : "T", names[i],
+                      i < MOTION_GROUP_ENABLE ? "Yes_16_bytes_lo" : "G");
+    want("open", motion_open_text(&m, text, &why), MOTION_OK);
+    want("blocks", motion_blocks(&m), KINDS);
+    want("tasks", motion_tasks(&m), 2);
+    for (i = 0; i < KINDS; i++) {
+        memset(&name, 9, sizeof name);
+        want("a kind's name", motion_kind_name(i, &name), MOTION_OK);
+        want(names[i], strcmp(name.text, names[i]), 0);
+        for (byte = strlen(names[i]); byte < sizeof name.text; byte++) want("zeros", name.text[byte], 0);
+        want("a block", motion_block_look(&m, i, &row), MOTION_OK);
+        want("its kind", row.kind, i);
+        want("its object", row.object, i < MOTION_GROUP_ENABLE ? 1 : 0);
+        want("a group's", row.on_group, i >= MOTION_GROUP_ENABLE);
+        want("its task", row.task, i % 2);
+        sprintf(own, "B%u", i);
+        want("a block's name", motion_block_name(&m, i, &name), MOTION_OK);
+        want(own, strcmp(name.text, own), 0);
+    }
+    want("an axis's name", motion_axis_name(&m, 1, &name), MOTION_OK);
+    want("the longest", strcmp(name.text, "Yes_16_bytes_lo"), 0);
+    want("a group's name", motion_group_name(&m, 0, &name), MOTION_OK);
+    want("G", strcmp(name.text, "G"), 0);
+    want("a task's name", motion_task_name(&m, 1, &name), MOTION_OK);
+    want("U", strcmp(name.text, "U"), 0);
+    want("close", motion_close(&m), MOTION_OK);
+}
+
+/* The limits of an axis, each a number of its own. */
+static void limits(void)
+{
+    motion m = MOTION_NONE;
+    motion_refusal why;
+    motion_limits l = { 0, 0, 0, 0, 0, 0 };
+    want("open", motion_open_text(&m, "motion-bench 2\nlimit 9 40\naxis X 0 50 10 4 5 1 0\n"
+                                      "axis Y -70 49 11 3 6 7 14\ntask T\nblock P T Power Y\n", &why), MOTION_OK);
+    want("limits", motion_axis_limits(&m, 1, &l), MOTION_OK);
+    want("lo", l.lo, -70);
+    want("hi", l.hi, 49);
+    want("velocity", l.velocity, 11);
+    want("acceleration", l.acceleration, 3);
+    want("deceleration", l.deceleration, 6);
+    want("increment", l.increment, 7);
+    want("close", motion_close(&m), MOTION_OK);
+}
+
 int main(void)
 {
     inputs();
+    kinds();
+    limits();
     widest();
     modes();
     outputs();

@@ -38,6 +38,8 @@ static void strings(void)
 {
     motion m = MOTION_NONE;
     motion_refusal why;
+    want("the version", motion_version(), MOTION_VERSION);
+    want("is the header's", motion_same_version(), MOTION_OK);
     want("no text", motion_text_len(""), 0);
     want("a text", motion_text_len("MX"), 2);
     want("open", motion_open_text(&m, machine, &why), MOTION_OK);
@@ -94,13 +96,23 @@ static void setups(void)
 static void pointers(void)
 {
     static const motion_drive_in enabled[2] = { { 0, 0x0037, 8 }, { 0, 0x0037, 8 } };
+    const uint8_t *text = (const uint8_t *)machine;
+    const size_t len = sizeof machine - 1;
     motion m = MOTION_NONE, spare = MOTION_NONE;
     motion_refusal why;
     motion_inputs in;
     motion_outputs out;
     motion_drive_out given[2];
     memset(&in, 0, sizeof in);
-    want("open", motion_open_text(&m, machine, &why), MOTION_OK);
+    want("open: no handle", motion_open_tested(NULL, text, len, &why), MOTION_NULL);
+    want("open: no text", motion_open_tested(&m, NULL, len, &why), MOTION_NULL);
+    want("open: no refusal", motion_open_tested(&m, text, len, NULL), MOTION_NULL);
+    want("open", motion_open_tested(&m, text, len, &why), MOTION_OK);
+    want("config: no handle", motion_open_config_tested(NULL, text, len, text, len, &why), MOTION_NULL);
+    want("config: no text", motion_open_config_tested(&spare, NULL, len, text, len, &why), MOTION_NULL);
+    want("config: no program", motion_open_config_tested(&spare, text, len, NULL, len, &why), MOTION_NULL);
+    want("config: no refusal", motion_open_config_tested(&spare, text, len, text, len, NULL), MOTION_NULL);
+    want("config: none", motion_open_config_tested(&spare, text, len, text, len, &why), MOTION_REFUSED);
     want("open spare", motion_open_text(&spare, machine, &why), MOTION_OK);
     want("call: no handle", motion_call_tested(NULL, 0, &in, &out), MOTION_NULL);
     want("call: no inputs", motion_call_tested(&m, 0, NULL, &out), MOTION_NULL);
@@ -118,7 +130,7 @@ static void pointers(void)
     want("cycle: other lengths", motion_cycle_tested(&m, enabled, 1, given, 2), MOTION_LENGTH);
     want("cycle: other lengths", motion_cycle_tested(&m, enabled, 2, given, 1), MOTION_LENGTH);
     want("swap", motion_swap_tested(&m, &spare), MOTION_OK);
-    want("an empty bank", motion_room_left(&m), 40);
+    want("an empty segment", motion_room_left(&m), 40);
     want("close", motion_close(&m), MOTION_OK);
     want("close spare", motion_close(&spare), MOTION_OK);
 }

@@ -1,7 +1,7 @@
 /* A machine of 16 axes that runs for as long as one likes, in two threads. The cycle thread moves all
  * axes to and fro, the first by two moves of which one always waits, and the last two as a group along a
- * line; when its bank of the history is nearly full it gives that to a spare handle, and goes
- * on with an empty one. The writer thread makes of each bank a piece of a trace, a file of its own. No
+ * line; when its segment of the history is nearly full it gives that to a spare handle, and goes
+ * on with an empty one. The writer thread makes of each segment a trace segment, a file of its own. No
  * memory grows with the cycles. `lasting [CYCLES [FOLDER]]` tells on the error output what became of it;
  * without a folder the pieces are made and not kept. */
 #define _POSIX_C_SOURCE 200809L
@@ -18,8 +18,8 @@
  * all axes, the moves of those alone and a second one of the first axis, and the group's two. */
 enum { AXES = 16, ALONE = 14, MOVES = ALONE + 1, ENABLE = AXES + MOVES, LINE };
 
-/* The room of a bank, and how many entries a cycle makes at most: a call of each block, and the cycle. A
- * real bank is as long as the writer may be late: up to 200,000
+/* The room of a segment, and how many entries a cycle makes at most: a call of each block, and the cycle. A
+ * real segment is as long as the writer may be late: up to 200,000
  * cycles or 1,000,000 entries, whichever comes first; `motion check` takes a piece of 256 MiB at most. */
 enum { BANK_CYCLES = 4000, BANK_ENTRIES = 80000, MOST_A_CYCLE = LINE + 2 };
 
@@ -27,9 +27,9 @@ enum { BANK_CYCLES = 4000, BANK_ENTRIES = 80000, MOST_A_CYCLE = LINE + 2 };
  * one for `full`: so never more than one thread uses the spare handle. */
 typedef struct shared {
     motion spare;
-    motion_drive_in last[AXES]; /* what the drives answer behind the bank in it */
+    motion_drive_in last[AXES]; /* what the drives answer behind the segment in it */
     uint32_t code;              /* the first that isn't MOTION_OK ends all */
-    int over;                   /* no bank comes behind this one */
+    int over;                   /* no segment comes behind this one */
     long pieces;
     const char *folder;
     sem_t full, empty;
@@ -50,7 +50,7 @@ static void wait_for(sem_t *s)
     }
 }
 
-/* The writer: the bank in the spare handle as a file. */
+/* The writer: the segment in the spare handle as a file. */
 
 static uint32_t write_piece(shared *w)
 {
@@ -177,7 +177,7 @@ static uint32_t run_cycle(loop *l)
     return code;
 }
 
-/* Gives the bank to the writer, with what the drives answer behind its last cycle. */
+/* Gives the segment to the writer, with what the drives answer behind its last cycle. */
 static uint32_t hand_over(loop *l, int over)
 {
     shared *w = l->with;
@@ -191,8 +191,8 @@ static uint32_t hand_over(loop *l, int over)
     return code;
 }
 
-/* From three quarters of the bank on it is given out as soon as the writer is done with the one before.
- * Where it is full before that, this loop waits. A real one must not: give it a longer bank, and where
+/* From three quarters of the segment on it is given out as soon as the writer is done with the one before.
+ * Where it is full before that, this loop waits. A real one must not: give it a longer segment, and where
  * even that comes to its end bring the machine to rest. */
 static uint32_t make_room(loop *l)
 {
@@ -214,7 +214,7 @@ static uint32_t run_cycles(loop *l, long cycles)
         code = make_room(l);
         if (code == MOTION_OK) code = run_cycle(l);
     }
-    /* the last bank is given out as the others are, also behind a call or a cycle that wasn't made */
+    /* the last segment is given out as the others are, also behind a call or a cycle that wasn't made */
     wait_for(&l->with->empty);
     handed = hand_over(l, 1);
     return code != MOTION_OK ? code : handed;

@@ -1,5 +1,5 @@
-/* A test of memory: each allocation of opening, of tracing and of a bank's text fails in turn, and is
- * told or borne, with nothing left behind; then CYCLES cycles are made, a bank given out for an empty one
+/* A test of memory: each allocation of opening, of tracing and of a segment's text fails in turn, and is
+ * told or borne, with nothing left behind; then CYCLES cycles are made, a segment given out for an empty one
  * behind each 50,000, with no call of the heap at all, and with their pages there, since opening has
  * touched them. `memory CYCLES` tells of each on the error output. */
 #define _DEFAULT_SOURCE
@@ -45,7 +45,7 @@ void rattle_dealloc(void *p)
 
 static const char machine[] =
     "motion-bench 2\n"
-    "limit 50000 250000\n"
+    "limit 20000 100000\n"
     "axis X 0 400000 500 5 5 1 0\n"
     "axis Y 0 400000 500 5 5 1 0\n"
     "task main\n"
@@ -137,7 +137,7 @@ static long first_touches(void)
     return getrusage(RUSAGE_SELF, &used) == 0 ? used.ru_minflt : -1;
 }
 
-/* So many cycles with no call of the heap, nor where a bank is given out. */
+/* So many cycles with no call of the heap, nor where a segment is given out or forgotten, in turn. */
 static int cycles_take_none(long cycles)
 {
     static drive drives[AXES];
@@ -150,7 +150,7 @@ static int cycles_take_none(long cycles)
     touched = first_touches();
     for (cycle = 0; cycle < cycles; cycle++) {
         if (motion_cycles_left(&m) == 0) {
-            if (motion_swap(&m, &spare) != MOTION_OK) return 2;
+            if ((swaps % 2 ? motion_forget(&m) : motion_swap(&m, &spare)) != MOTION_OK) return 2;
             swaps++;
         }
         if (run_cycle(&m, drives, cycle) != MOTION_OK) return 3;
@@ -158,7 +158,7 @@ static int cycles_take_none(long cycles)
     if (heap_calls != before) return 4;
     touched = first_touches() - touched;
     if (motion_close(&m) != MOTION_OK || motion_close(&spare) != MOTION_OK || live != 0) return 5;
-    fprintf(stderr, "%ld cycles and %ld swaps without a call of the heap\n", cycles, swaps);
+    fprintf(stderr, "%ld cycles and %ld swaps and forgets without a call of the heap\n", cycles, swaps);
     fprintf(stderr, "%ld pages touched first\n", touched);
     return 0;
 }
@@ -168,6 +168,6 @@ int main(int argc, char **argv)
     long cycles = argc > 1 ? atol(argv[1]) : 1000000;
     if (opening_fails() != 0) return 1;
     if (text_fails("tracing", motion_trace) != 0) return 2;
-    if (text_fails("a bank's text", motion_segment_text) != 0) return 3;
+    if (text_fails("a segment's text", motion_segment_text) != 0) return 3;
     return cycles_take_none(cycles) == 0 ? 0 : 4;
 }

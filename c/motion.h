@@ -39,11 +39,14 @@
 extern "C" {
 #endif
 
-/* The version of this header. The library doesn't answer its own: take both from one release. */
+/* The version of this header, as a text and as the number that motion_version answers for the library:
+ * a million for each major one, a thousand for each minor one, and the patch. The inline functions that
+ * open a machine compare the two. */
 #define MOTION_HEADER_VERSION "0.9.0"
 #define MOTION_HEADER_MAJOR 0
 #define MOTION_HEADER_MINOR 9
 #define MOTION_HEADER_PATCH 0
+#define MOTION_VERSION (MOTION_HEADER_MAJOR * 1000000u + MOTION_HEADER_MINOR * 1000u + MOTION_HEADER_PATCH)
 
 #define MOTION_MOST_AXES 16
 #define MOTION_MOST_GROUPS 4
@@ -72,11 +75,12 @@ enum motion_code {
     MOTION_LENGTH = 6,    /* an array has more or fewer items than there are axes */
     MOTION_RANGE = 7,     /* the inputs are none of the block's kind: see motion_call */
     MOTION_FULL = 8,      /* the segment has no room for an entry */
-    MOTION_OVER = 9,      /* the segment has no cycle left; of a swap: its counts are over */
+    MOTION_OVER = 9,      /* the segment has no cycle left; of a swap or a forget: its counts are over */
     MOTION_NO_CYCLE = 10, /* no cycle was made in the segment yet */
     MOTION_NULL = 11,     /* a pointer is null: the inline functions alone */
     MOTION_OTHER = 12,    /* the two handles aren't machines of one configuration; tested: or are one */
-    MOTION_LATER = 13     /* earlier entries were given out by motion_swap: use motion_segment_text */
+    MOTION_LATER = 13,    /* earlier entries were given out or forgotten: use motion_segment_text */
+    MOTION_OTHER_VERSION = 14 /* header and library are of two versions: the inline functions alone */
 };
 
 /* Where a text is refused; written where MOTION_REFUSED is answered, and else left as it was. The
@@ -177,6 +181,55 @@ enum motion_group_state {
     MOTION_GROUP_ERROR_STOP = 5
 };
 
+/* The kinds of function block, by their PLCopen names. */
+enum motion_kind {
+    MOTION_POWER = 0,
+    MOTION_RESET = 1,
+    MOTION_HOME = 2,
+    MOTION_STOP = 3,
+    MOTION_HALT = 4,
+    MOTION_MOVE_ABSOLUTE = 5,
+    MOTION_MOVE_RELATIVE = 6,
+    MOTION_MOVE_VELOCITY = 7,
+    MOTION_GEAR_IN = 8,
+    MOTION_GEAR_OUT = 9,
+    MOTION_CAM_IN = 10,
+    MOTION_CAM_OUT = 11,
+    MOTION_GROUP_ENABLE = 12,
+    MOTION_GROUP_DISABLE = 13,
+    MOTION_GROUP_RESET = 14,
+    MOTION_GROUP_STOP = 15,
+    MOTION_GROUP_HALT = 16,
+    MOTION_MOVE_LINEAR_ABSOLUTE = 17,
+    MOTION_MOVE_CIRCULAR_ABSOLUTE = 18
+};
+
+/* What a block is. */
+typedef struct motion_block_row {
+    uint32_t kind;         /* an enum motion_kind */
+    uint8_t object;        /* the number of the axis or group on which it acts */
+    uint8_t task;          /* the number of its task */
+    uint8_t on_group;      /* 1 where it acts on a group, else 0 */
+} motion_block_row;
+
+/* The limits of an axis and the increment of its drive, as its machine's text has them. A Home changes
+ * none of them: `lo` and `hi` count in the coordinate that it sets, so it moves where the drive may go. */
+typedef struct motion_limits {
+    int64_t lo, hi;        /* units */
+    int64_t velocity;      /* units a cycle */
+    int64_t acceleration;  /* units a cycle a cycle */
+    int64_t deceleration;  /* units a cycle a cycle: what it brakes by at most */
+    int64_t increment;     /* units of an increment of its drive */
+} motion_limits;
+
+/* A name as a string of C: at most 20 bytes, and zeros behind them. */
+typedef struct motion_name {
+    char text[24];
+} motion_name;
+
+/* The version of the library: compare it with MOTION_VERSION. It needs no handle. */
+uint32_t motion_version(void);
+
 /* Opens a closed handle by a text: the machine part of a bench (docs/formats.md), with neither `go`
  * nor anything after it. `len` counts its bytes; a 0 byte at its end isn't one of them. Its `limit`
  * is the room of a segment: at most that many cycles and entries, until the next motion_swap. The
@@ -216,9 +269,32 @@ uint32_t motion_group(motion *m, const uint8_t *name, size_t len);
 uint32_t motion_task(motion *m, const uint8_t *name, size_t len);
 uint32_t motion_block(motion *m, const uint8_t *name, size_t len);
 
-/* How many axes and groups there are: 1 to 16, and 0 to 4. 0 where the handle is closed. */
+/* How many axes, groups, tasks and blocks there are. 0 where the handle is closed. */
 uint32_t motion_axes(motion *m);
 uint32_t motion_groups(motion *m);
+uint32_t motion_tasks(motion *m);
+uint32_t motion_blocks(motion *m);
+
+/* Shows the name of an axis, a group, a task or a block by its number, the limits of an axis, and what
+ * a block is. It looks at no cycle, and takes a time that grows with nothing.
+ *   MOTION_OK        it is shown
+ *   MOTION_CLOSED    exactly where the handle is closed
+ *   MOTION_UNKNOWN   where it is open, exactly where there is none of this number */
+uint32_t motion_axis_name(motion *m, uint8_t axis, motion_name *name);
+uint32_t motion_group_name(motion *m, uint8_t group, motion_name *name);
+uint32_t motion_task_name(motion *m, uint8_t task, motion_name *name);
+uint32_t motion_block_name(motion *m, uint16_t block, motion_name *name);
+uint32_t motion_axis_limits(motion *m, uint8_t axis, motion_limits *limits);
+uint32_t motion_block_look(motion *m, uint16_t block, motion_block_row *row);
+
+/* How many microseconds a cycle has, of a machine that was opened by a configuration. 0 of one that was
+ * opened by a bench, and where the handle is closed. */
+uint32_t motion_cycle_us(motion *m);
+
+/* Shows the name of a kind of block, as a text of a machine has it: "MoveAbsolute". It needs no handle.
+ *   MOTION_OK        it is shown
+ *   MOTION_UNKNOWN   exactly where there is no kind of this number */
+uint32_t motion_kind_name(uint32_t kind, motion_name *name);
 
 /* How many cycles more there may be in the segment, and for how many entries more it has room: each
  * call, cycle and end is one entry. motion_swap gives a new segment. 0 where the handle is closed. */
@@ -280,13 +356,24 @@ uint32_t motion_group_look(motion *m, uint8_t group, motion_group_row *row);
  *   MOTION_OVER      where none of these, exactly where no more can be counted */
 uint32_t motion_swap(motion *m, motion *spare);
 
+/* Empties the history of a machine, which goes on in the midst of whatever it does, with the whole room
+ * of its `limit` again: what motion_swap does, with the history given to nobody. What was made before is
+ * still the machine's past, of which no trace can be made any more. So a loop that wants no trace has one
+ * handle and room for a few hundred entries, and calls it where motion_room_left or motion_cycles_left is
+ * nearly spent. It takes no memory, and a time that doesn't grow with what the history holds. The trace
+ * that was made last is kept.
+ *   MOTION_OK        the history is empty
+ *   MOTION_CLOSED    exactly where the handle is closed
+ *   MOTION_OVER      where it is open, exactly where no more can be counted */
+uint32_t motion_forget(motion *m);
+
 /* Makes the trace of all that was called, cycled and ended since the machine was opened, which `motion
  * check` verifies. `last` has what each drive answers after the last cycle's output, so read the drives
  * once more: the trace ends with it, and says that each drive took the output of every cycle, which the
  * caller alone knows. It takes memory and time in proportion to the history: not for a loop.
  *   MOTION_OK        the trace was made, and is kept until the next one or the close
  *   MOTION_CLOSED    exactly where the handle is closed
- *   MOTION_LATER     exactly where earlier entries were given out: use motion_segment_text
+ *   MOTION_LATER     exactly where earlier entries were given out or forgotten: use motion_segment_text
  *   MOTION_LENGTH    where neither, exactly where there isn't an answer of each axis
  *   MOTION_NO_MEMORY the trace that was made before, if one was, is kept */
 uint32_t motion_trace(motion *m, const motion_drive_in *last, size_t len);
@@ -314,9 +401,17 @@ static inline size_t motion_text_len(const char *text)
     return len;
 }
 
+/* MOTION_OTHER_VERSION where the library is of another version than this header, else MOTION_OK. The
+ * functions below that open a machine do nothing but answer it where it isn't MOTION_OK. */
+static inline uint32_t motion_same_version(void)
+{
+    return (uint32_t)(motion_version() == MOTION_VERSION ? MOTION_OK : MOTION_OTHER_VERSION);
+}
+
 static inline uint32_t motion_open_text(motion *m, const char *text, motion_refusal *why)
 {
-    return motion_open(m, (const uint8_t *)text, motion_text_len(text), why);
+    const uint32_t code = motion_same_version();
+    return code == MOTION_OK ? motion_open(m, (const uint8_t *)text, motion_text_len(text), why) : code;
 }
 
 static inline uint32_t motion_block_named(motion *m, const char *name)
@@ -393,11 +488,13 @@ static inline void motion_setup_block(motion_setup *s, const char *name, const c
     motion_setup_put(s, "\n");
 }
 
-/* motion_open_config with these tasks and blocks; MOTION_NO_MEMORY where they didn't fit into their
- * room, and then nothing is done. */
+/* motion_open_config with these tasks and blocks; MOTION_OTHER_VERSION as motion_same_version has it,
+ * and MOTION_NO_MEMORY where they didn't fit into their room: then nothing is done. */
 static inline uint32_t motion_open_setup(motion *m, const uint8_t *config, size_t config_len,
                                          const motion_setup *s, motion_refusal *why)
 {
+    const uint32_t code = motion_same_version();
+    if (code != MOTION_OK) return code;
     return s->len <= s->room ? motion_open_config(m, config, config_len, s->text, s->len, why)
                              : (uint32_t)MOTION_NO_MEMORY;
 }
@@ -411,6 +508,26 @@ typedef struct rattle_tried {
 rattle_tried rattle_alloc(size_t size, size_t align);
 rattle_tried rattle_realloc(void *p, size_t used, size_t size, size_t align);
 void rattle_dealloc(void *p);
+
+/* The calls that open a machine, with the version and their pointers tested: MOTION_OTHER_VERSION where
+ * that of the library is another, MOTION_NULL where a pointer is null, and then nothing is done. */
+static inline uint32_t motion_open_tested(motion *m, const uint8_t *text, size_t len, motion_refusal *why)
+{
+    const uint32_t code = motion_same_version();
+    if (code != MOTION_OK) return code;
+    return m && text && why ? motion_open(m, text, len, why) : (uint32_t)MOTION_NULL;
+}
+
+static inline uint32_t motion_open_config_tested(motion *m, const uint8_t *config, size_t config_len,
+                                                 const uint8_t *program, size_t program_len,
+                                                 motion_refusal *why)
+{
+    const uint32_t code = motion_same_version();
+    if (code != MOTION_OK) return code;
+    return m && config && program && why
+               ? motion_open_config(m, config, config_len, program, program_len, why)
+               : (uint32_t)MOTION_NULL;
+}
 
 /* The calls of a loop with their pointers tested: MOTION_NULL where one is null, and nothing is done. */
 static inline uint32_t motion_call_tested(motion *m, uint16_t block, const motion_inputs *in,

@@ -88,10 +88,11 @@ public:
     uint32_t open(std::string_view config, const Setup &setup);
 
     // Opens the machine by the machine part of a bench, whose rates count cycles; its blocks are then
-    // found by their names. The codes of motion_open.
+    // found by their names. The codes of motion_open_text.
     uint32_t open_bench(std::string_view text)
     {
-        const uint32_t code = motion_open(&handle_, bytes(text), text.size(), &why_);
+        uint32_t code = motion_same_version();
+        if (code == MOTION_OK) code = motion_open(&handle_, bytes(text), text.size(), &why_);
         if (code == MOTION_OK) mc_begin(&blocks_, &handle_, MC_CYCLES);
         return code;
     }

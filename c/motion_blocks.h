@@ -81,36 +81,6 @@ static inline int64_t mc_acceleration_a_cycle(mc_quantity acceleration, uint32_t
     return acceleration / (second * second) * (cycle * cycle) + (high + low / second) / second;
 }
 
-/* The cycle that a valid configuration has in its line `cycle_us = DIGITS`, in microseconds. 0 where
- * there is no such line: where the key is quoted, a byte order mark stands before it, or the number
- * isn't written in decimal digits alone. */
-static inline uint32_t mc_cycle_us(const uint8_t *config, size_t len)
-{
-    static const char key[] = "cycle_us";
-    size_t line = 0, at, i;
-    uint32_t number;
-    while (line < len) {
-        at = line;
-        while (at < len && (config[at] == ' ' || config[at] == '\t')) at++;
-        for (i = 0; key[i] && at < len && config[at] == (uint8_t)key[i]; i++) at++;
-        while (at < len && (config[at] == ' ' || config[at] == '\t')) at++;
-        if (!key[i] && at < len && config[at] == '=') {
-            at++;
-            while (at < len && (config[at] == ' ' || config[at] == '\t')) at++;
-            for (number = 0; at < len && number < 1000000; at++) {
-                if (config[at] >= '0' && config[at] <= '9')
-                    number = number * 10 + (uint32_t)(config[at] - '0');
-                else if (config[at] != '_')
-                    break;
-            }
-            return at < len && config[at] >= 'a' && config[at] <= 'z' ? 0 : number;
-        }
-        while (line < len && config[line] != '\n') line++;
-        line++;
-    }
-    return 0;
-}
-
 /* A machine as the blocks see it: its handle, its cycle, and the first code but MOTION_OK that a call
  * of a block or mc_cycle answered, which mc_cycle answers from then on. After a motion_swap that cured
  * it, set it to MOTION_OK. */
@@ -148,17 +118,13 @@ static inline void mc_begin(mc_machine *machine, motion *handle, uint32_t cycle_
 }
 
 /* Opens a machine by a configuration, with the tasks and blocks that were added, and takes the cycle
- * from the configuration. Codes as motion_open_config has them; MOTION_NO_MEMORY also where the lines
- * didn't fit into their room; MOTION_RANGE where mc_cycle_us finds no cycle: then the handle is closed. */
+ * from it. Codes as motion_open_setup has them. */
 static inline uint32_t mc_open(mc_machine *machine, motion *handle, const uint8_t *config,
                                size_t len, const mc_setup *s, motion_refusal *why)
 {
     const uint32_t code = motion_open_setup(handle, config, len, &s->text, why);
-    if (code != MOTION_OK) return code;
-    mc_begin(machine, handle, mc_cycle_us(config, len));
-    if (machine->cycle_us != 0) return (uint32_t)MOTION_OK;
-    motion_close(handle);
-    return (uint32_t)MOTION_RANGE;
+    if (code == MOTION_OK) mc_begin(machine, handle, motion_cycle_us(handle));
+    return code;
 }
 
 /* motion_cycle where each call of a block and each cycle since the machine began was made. Else no
@@ -184,11 +150,22 @@ static inline uint16_t mc_added(mc_setup *s, const char *name, const char *kind,
     return s->blocks < MC_NO_BLOCK ? (uint16_t)s->blocks++ : (uint16_t)MC_NO_BLOCK;
 }
 
-static inline uint32_t mc_found(const mc_machine *machine, const char *name, uint16_t *block)
+static inline uint32_t mc_found(const mc_machine *machine, const char *name, const char *kind,
+                                uint16_t *block)
 {
     const uint32_t number = motion_block_named(machine->handle, name);
-    *block = number < MC_NO_BLOCK ? (uint16_t)number : (uint16_t)MC_NO_BLOCK;
-    return (uint32_t)(number < MC_NO_BLOCK ? MOTION_OK : MOTION_UNKNOWN);
+    motion_block_row row;
+    motion_name word;
+    size_t i = 0;
+    *block = MC_NO_BLOCK;
+    if (number >= MC_NO_BLOCK
+        || motion_block_look(machine->handle, (uint16_t)number, &row) != MOTION_OK
+        || motion_kind_name(row.kind, &word) != MOTION_OK)
+        return (uint32_t)MOTION_UNKNOWN;
+    while (kind[i] && kind[i] == word.text[i]) i++;
+    if (kind[i] != word.text[i]) return (uint32_t)MOTION_UNKNOWN;
+    *block = (uint16_t)number;
+    return (uint32_t)MOTION_OK;
 }
 
 /* Inputs that are all zero but Execute. */
@@ -272,8 +249,8 @@ static inline uint32_t mc_called(mc_machine *machine, uint16_t block, const moti
     } while (0)
 
 /* MC_.._add and MC_.._find of a block: adds it to the last task that was added, on an axis or a group
- * by its name; or finds it in an open machine by its own name, MOTION_UNKNOWN where there is none.
- * That a block found by its name is of this kind is for the caller to see to: the library doesn't say. */
+ * by its name; or finds it in an open machine by its own name, MOTION_UNKNOWN where there is none of the
+ * name, or it is of another kind. */
 #define MC_NAMED(kind) \
     static inline void MC_##kind##_add(MC_##kind *fb, mc_setup *s, const char *name, \
                                        const char *object) \
@@ -283,7 +260,7 @@ static inline uint32_t mc_called(mc_machine *machine, uint16_t block, const moti
     static inline uint32_t MC_##kind##_find(MC_##kind *fb, const mc_machine *machine, \
                                             const char *name) \
     { \
-        return mc_found(machine, name, &fb->block); \
+        return mc_found(machine, name, #kind, &fb->block); \
     }
 
 /* Switches an axis's drive on and off. It refuses nothing, so Error stays false and ErrorID 0: an

@@ -30,7 +30,8 @@ static inline const char *motion_code_text(uint32_t code)
     case MOTION_NO_CYCLE: return "no cycle was made in the history segment yet";
     case MOTION_NULL: return "a pointer is null";
     case MOTION_OTHER: return "the two handles aren't machines of one configuration";
-    case MOTION_LATER: return "earlier entries were given out by a swap: use motion_segment_text";
+    case MOTION_LATER: return "earlier entries were given out or forgotten: use motion_segment_text";
+    case MOTION_OTHER_VERSION: return "header and library are of two versions: take both from one release";
     default: return "unknown";
     }
 }

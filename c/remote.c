@@ -1,7 +1,8 @@
 /* A loop at 1 kHz whose drives are a process of their own, which answers over UDP on the loopback: the
  * shape of a field bus, with the CiA 402 objects in its frames. Two axes are switched on and go to and
  * fro; in step 1,500 the drive of X has a fault, and is reset. `remote CYCLES [TRACE]` reports how late
- * its cycles were, and how long they took from waking to the frame that was sent. */
+ * its cycles were, and how long they took from waking to the frame that was sent. Where no trace is
+ * wanted the history is forgotten where it is full. */
 #define _DEFAULT_SOURCE
 #define _POSIX_C_SOURCE 200809L
 #include "bench_drive.h"
@@ -20,6 +21,7 @@
 #include <unistd.h>
 
 enum { AXES = 2, ENTRY = 7, FRAME = 1 + AXES * ENTRY, PERIOD = 1000000, FAULT_STEP = 1500 };
+enum { MOST_ENTRIES = 16 }; /* of a cycle: its calls and itself */
 enum { READ = 0, STEP = 1, END = 2 }; /* the first byte of a frame to the drives */
 
 static const char machine_text[] =
@@ -111,6 +113,7 @@ typedef struct loop {
     MC_MoveAbsolute move[AXES];
     MC_Reset reset;
     bool has_failed; /* X is to be reset */
+    bool is_traced;  /* the history is wanted as a trace */
     int dones, errors;
 } loop;
 
@@ -190,6 +193,8 @@ static uint32_t run_cycle(loop *l, motion_drive_in answers[AXES])
     uint32_t code;
     int i;
     if (!take_answers(l->to_drives, answers)) return MOTION_NULL;
+    if (!l->is_traced && (motion_cycles_left(&l->handle) == 0 || motion_room_left(&l->handle) < MOST_ENTRIES))
+        l->machine.code = motion_forget(&l->handle);
     call_task(l);
     code = mc_cycle(&l->machine, answers, AXES, given, AXES);
     for (i = 0; i < AXES && code != MOTION_OK; i++) {
@@ -267,6 +272,7 @@ int main(int argc, char **argv)
         return 0;
     }
     l.to_drives = ends[0];
+    l.is_traced = argc > 2;
     code = open_loop(&l);
     if (mlockall(MCL_CURRENT | MCL_FUTURE) != 0) perror("no locked memory");
     send_frame(l.to_drives, READ, none);

@@ -1,5 +1,5 @@
 /* A test of stack: MOTION_STACK bytes are enough for a loop's calls on a machine of 16 axes and 4 groups,
- * and MOTION_TRACE_STACK for a trace and a bank's text. Each is called in a thread of its own whose stack
+ * and MOTION_TRACE_STACK for a trace and a segment's text. Each is called in a thread of its own whose stack
  * is painted, and what is used beside a thread that does nothing is counted. `stack` tells of both on the
  * error output. */
 #define _POSIX_C_SOURCE 200809L
@@ -42,6 +42,9 @@ static void *run(void *unused)
     motion_outputs out;
     motion_axis_row axis;
     motion_group_row group;
+    motion_block_row block;
+    motion_limits limits;
+    motion_name name;
     int cycle, i;
     memset(&in, 0, sizeof in);
     in.execute = 1;
@@ -53,7 +56,11 @@ static void *run(void *unused)
     for (i = 0; i < AXES; i++) note(motion_axis_look(&m, (uint8_t)i, &axis));
     for (i = 0; i < 4; i++) note(motion_group_look(&m, (uint8_t)i, &group));
     note(motion_end(&m, 0));
+    for (i = 0; i < AXES; i++) note(motion_axis_name(&m, (uint8_t)i, &name));
+    for (i = 0; i < AXES; i++) note(motion_axis_limits(&m, (uint8_t)i, &limits));
+    for (i = 0; i < 24; i++) note(motion_block_look(&m, (uint16_t)i, &block));
     note(motion_swap(&m, &spare));
+    note(motion_forget(&m));
     if (motion_block_named(&m, "B23") != 23) note(MOTION_UNKNOWN);
     return unused;
 }

@@ -127,7 +127,7 @@ static void readings(void)
 
 int main(void)
 {
-    want("codes", texts(code_text), 14);
+    want("codes", texts(code_text), 15);
     want("errors", texts(error_text), 26);
     want("states of an axis", texts(axis_text), 8);
     want("states of a group", texts(group_text), 6);

@@ -26,7 +26,6 @@ exact number of one.
 
 import ctypes
 import os
-import tomllib
 from collections.abc import Iterable, Iterator, Mapping, Sequence
 from decimal import Decimal
 from fractions import Fraction
@@ -36,7 +35,8 @@ from typing import Any, NamedTuple, Optional, Union
 Quantity = Union[int, str, Decimal, Fraction]
 
 CODES = ("OK", "CLOSED", "OPEN", "NO_MEMORY", "REFUSED", "UNKNOWN", "LENGTH", "RANGE", "FULL", "OVER",
-         "NO_CYCLE", "NULL", "OTHER", "LATER")
+         "NO_CYCLE", "NULL", "OTHER", "LATER", "OTHER_VERSION")
+VERSION = (0, 9, 0)     # of this module, and of the library that it takes
 MODES = ("aborting", "buffered", "blendingLow", "blendingPrevious", "blendingNext", "blendingHigh")
 AXIS_STATES = ("Disabled", "Standstill", "Homing", "Stopping", "DiscreteMotion", "ContinuousMotion",
                "SynchronizedMotion", "ErrorStop")
@@ -93,6 +93,11 @@ class _AxisRow(ctypes.Structure):
                 ("error", ctypes.c_uint16), ("driven", ctypes.c_uint8)]
 
 
+class _Limits(ctypes.Structure):
+    _fields_ = [(name, ctypes.c_int64) for name in
+                ("lo", "hi", "velocity", "acceleration", "deceleration", "increment")]
+
+
 class _GroupRow(ctypes.Structure):
     _fields_ = [("state", ctypes.c_uint32), ("error", ctypes.c_uint16)]
 
@@ -115,6 +120,16 @@ class AxisRow(NamedTuple):
     state: str
     error: int
     driven: bool
+
+
+class Limits(NamedTuple):
+    """The limits of an axis and the increment of its drive, in internal units and units a cycle."""
+    lo: int
+    hi: int
+    velocity: int
+    acceleration: int
+    deceleration: int
+    increment: int
 
 
 class GroupRow(NamedTuple):
@@ -144,8 +159,12 @@ def library_file() -> Path:
 
 
 def load(file: Optional[Path] = None) -> ctypes.CDLL:
-    """The library with the types of its calls. Raises OSError where the file isn't a library."""
+    """The library with the types of its calls. Raises OSError where the file isn't a library, and
+    MotionError, OTHER_VERSION where it is of another version than this module."""
     library = ctypes.CDLL(str(file or library_file()))
+    version = library.motion_version() if hasattr(library, "motion_version") else 0
+    if version != VERSION[0] * 1000000 + VERSION[1] * 1000 + VERSION[2]:
+        raise MotionError("load", CODES.index("OTHER_VERSION"), f", its number {version}")
     handle, text, size = ctypes.POINTER(_Motion), ctypes.c_char_p, ctypes.c_size_t
     code, small = ctypes.c_uint32, ctypes.c_uint8
     why = ctypes.POINTER(_Refusal)
@@ -168,6 +187,9 @@ def load(file: Optional[Path] = None) -> ctypes.CDLL:
             ("motion_axis_look", code, (handle, small, ctypes.POINTER(_AxisRow))),
             ("motion_group_look", code, (handle, small, ctypes.POINTER(_GroupRow))),
             ("motion_swap", code, (handle, handle)),
+            ("motion_forget", code, (handle,)),
+            ("motion_cycle_us", code, (handle,)),
+            ("motion_axis_limits", code, (handle, small, ctypes.POINTER(_Limits))),
             ("motion_trace", code, (handle, answers, size)),
             ("motion_segment_text", code, (handle, answers, size)),
             ("motion_trace_text", ctypes.c_uint64, (handle, ctypes.c_uint64, text, size))):
@@ -261,12 +283,13 @@ class Machine:
     """An open machine. Close it, or use it in a `with`."""
 
     def __init__(self, library: ctypes.CDLL, units: Units, texts: Sequence[bytes]):
-        self._library, self.units, self._texts = library, units, texts
+        self._library, self._texts = library, texts
         self._handle, self._spare = _Motion(0, None), _Motion(0, None)
         self._outputs = _Outputs()
         self._numbers: dict[str, int] = {}
         self._open(self._handle)
         self._axes = library.motion_axes(self._handle)
+        self.units = Units(units.unit, library.motion_cycle_us(self._handle) or SECOND)
         self._answers = (_DriveIn * self._axes)()
         self._given = (_DriveOut * self._axes)()
 
@@ -289,9 +312,7 @@ class Machine:
         for task, blocks in tasks.items():
             program.append(f"task {task}")
             program += [f"block {name} {kind} {on}" for name, kind, on in blocks]
-        machine = cls(library or load(), Units(UNIT), [config.encode(), "\n".join(program).encode()])
-        machine.units = Units(UNIT, tomllib.loads(config)["cycle_us"])
-        return machine
+        return cls(library or load(), Units(UNIT), [config.encode(), "\n".join(program).encode()])
 
     def _open(self, handle: _Motion) -> None:
         why = _Refusal()
@@ -379,6 +400,13 @@ class Machine:
         self._check(axis, self._library.motion_axis_look(self._handle, self._number("axis", axis), row))
         return AxisRow(row.setpoint, row.offset, AXIS_STATES[row.state], row.error, bool(row.driven))
 
+    def limits(self, axis: str) -> Limits:
+        """The limits of an axis and the increment of its drive, as the machine's text has them."""
+        limits = _Limits()
+        self._check(axis, self._library.motion_axis_limits(self._handle, self._number("axis", axis),
+                                                           limits))
+        return Limits(*(getattr(limits, name) for name in Limits._fields))
+
     def look_at_group(self, group: str) -> GroupRow:
         """What the last cycle shows of a group."""
         row = _GroupRow()
@@ -401,14 +429,14 @@ class Machine:
 
     def segment(self, drives: Sequence[Drive]) -> str:
         """Gives the history out as a segment of a trace, and goes on with an empty one."""
-        self.forget()
+        if not self._spare.at:
+            self._open(self._spare)
+        self._check("swap", self._library.motion_swap(self._handle, self._spare))
         return self._text(self._library.motion_segment_text, self._spare, drives)
 
     def forget(self) -> None:
         """Goes on with an empty history, and gives nothing out."""
-        if not self._spare.at:
-            self._open(self._spare)
-        self._check("swap", self._library.motion_swap(self._handle, self._spare))
+        self._check("forget", self._library.motion_forget(self._handle))
 
     def _text(self, make: Any, handle: _Motion, drives: Sequence[Drive]) -> str:
         self._take(drive.answer() for drive in drives)

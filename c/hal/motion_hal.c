@@ -115,6 +115,9 @@ static void cycle(void *arg, long period)
     int i;
     (void)arg;
     (void)period;
+    /* without trace=FILE nobody wants the history: it is emptied where it has no room for a cycle more */
+    if (trace == NULL && (motion_cycles_left(&m) == 0 || motion_room_left(&m) <= (uint64_t)block_count))
+        code = motion_forget(&m);
     for (i = 0; code == MOTION_OK && i < block_count; i++) code = call_block(i);
     for (i = 0; i < axis_count; i++) take_answer(i);
     if (code == MOTION_OK)
@@ -193,7 +196,7 @@ static int open_machine(void)
     }
     len = fread(text, 1, sizeof text, file);
     fclose(file);
-    code = motion_open(&m, text, len, &why);
+    code = motion_open_tested(&m, text, len, &why);
     if (code == MOTION_REFUSED)
         rtapi_print_msg(RTAPI_MSG_ERR, "motion_hal: line %u breaks %c%u\n", (unsigned)why.line,
                         why.letter, why.number);

@@ -7,6 +7,7 @@ import subprocess
 import sys
 import tempfile
 import unittest
+import unittest.mock
 from decimal import Decimal
 from fractions import Fraction
 from pathlib import Path
@@ -277,8 +278,25 @@ class Configurations(unittest.TestCase):
         self.assertEqual(lists["cycle"], list(range(1, len(lists["cycle"]) + 1)))
         self.assertEqual(lists["setpoint"][-1], 300_000_000_000)
         self.assertEqual(machine.cycles_left(), 400)
+        machine.step(self.drives)
         machine.forget()
-        self.assertEqual(machine.room_left(), 4000)
+        self.assertEqual((machine.room_left(), machine.cycles_left()), (4000, 400))
+        with self.assertRaisesRegex(motion.MotionError, "NO_CYCLE"):
+            machine.look("X")
+
+    def test_limits_and_the_cycle_are_the_configuration_s(self):
+        self.assertEqual(self.machine.units, motion.Units(motion.UNIT, 8000))
+        # 1000 units a second are 8 a cycle of 8 ms, and 5000 a second squared 0.32 a cycle squared
+        self.assertEqual(self.machine.limits("Y"), motion.Limits(
+            0, 400 * motion.UNIT, 8 * motion.UNIT, 320_000_000, 320_000_000, 1_000_000))
+        with self.assertRaises(KeyError):
+            self.machine.limits("XY")
+
+    def test_a_library_of_another_version_is_rejected(self):
+        self.assertEqual(".".join(map(str, motion.VERSION)), (TOP / "VERSION").read_text().strip())
+        with unittest.mock.patch.object(motion, "VERSION", (9, 9, 9)):
+            with self.assertRaisesRegex(motion.MotionError, "OTHER_VERSION"):
+                motion.load()
 
     @unittest.skipUnless(MOTION.exists(), "the program isn't built")
     def test_the_program_has_the_same_rates(self):

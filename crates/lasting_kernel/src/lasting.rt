@@ -127,6 +127,20 @@ impl LastingKernel {
         other.kernel_with_past.past = replace(&mut self.kernel_with_past.past, joined);
     }
 
+    /// Empties its segment, and goes on with it: what the segment held is past, and nowhere in
+    /// memory. It takes no memory, and as long whatever the segment holds. What was before must be
+    /// early ([`motion_kernel::Before::is_early`]).
+    pub fn forget(&mut self)
+        requires early { IsEarly self.old.kernel.before }
+        ensures { self.new ≡ after_hand_over self.old }
+    {
+        // law: the segment after the entries before it is one past, since it is legal
+        segments_keep_their_laws();
+        let _ = self.kernel_with_past.kernel.history();
+        self.kernel_with_past.past = Past::joined(&self.kernel_with_past);
+        self.kernel_with_past.kernel.forget();
+    }
+
     /// All entries so far, from opening on, keep the laws of motion, and the kernel is the machine
     /// to which they lead. It does nothing.
     pub fn keeps_laws(&self)

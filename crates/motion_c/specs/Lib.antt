@@ -6,6 +6,7 @@ pub mod Cycles
 pub mod Ends
 pub mod Numbers
 pub mod Looks
+pub mod Items
 pub mod Traces
 pub mod Swaps
 pub mod Opened

@@ -30,6 +30,10 @@ abbrev pub count_in : Motion → (SegmentedState → ℕ) → ℕ
 count_in motion count =
     count_or_none (option_map (λ (m : Machine). count m.kernel.kernel) (held motion))
 
+-- the microseconds of a held machine's cycle, or 0
+abbrev pub cycle_in : Motion → ℕ
+cycle_in motion = count_or_none (option_map (λ (m : Machine). m.cycle_us) (held motion))
+
 -- the number of an item of a sort by its name
 abbrev pub item_at : Item → Setup → List ℕ → Option ℕ
 item_at item.Axis s name = axis_at s name

@@ -13,19 +13,21 @@ use Rattle.motion_c.specs.declared.opening.MotionRefusal.{MotionRefusal}
 abbrev pub with_go : List ℕ → List ℕ
 with_go text = text ++ (10 ∷ codes "go" ++ 10 ∷ [])
 
--- a machine at rest, with no trace, whose traces are of this version or of the first
-abbrev pub at_rest : Setup → TraceVersion → Machine
-at_rest s v = record {
+-- a machine at rest, with no trace, whose traces are of this version or of the first, and whose
+-- cycle has so many microseconds
+abbrev pub at_rest : Setup → TraceVersion → ℕ → Machine
+at_rest s v cycle_us = record {
   kernel = lasting.opened s;
   version = v;
+  cycle_us = cycle_us;
   trace = None;
 }
 
--- a text opens a machine: that of the bench that it is with `go`
+-- a text opens a machine: that of the bench that it is with `go`, which has no cycle's time
 pub record Opens (text : List ℕ) (after : Option Machine) : Type 0 where
   pub bench : BenchState
   pub read : bench_of (with_go text) ≡ Ok bench
-  pub opened : after ≡ Some (at_rest bench.config bench.version)
+  pub opened : after ≡ Some (at_rest bench.config bench.version 0)
 
 -- where and by which rule a text is refused is reported
 pub record IsTold (refused : TextRefused) (told : MotionRefusal) : Type 0 where

@@ -1,4 +1,4 @@
--- What a swap from C makes of two machines. This project's profile.
+-- What a swap from C makes of two machines, and the emptying of a history. This project's profile.
 use Rattle.std.specs.Prelude.{◌≡◌, ◌↔◌, ℕ, Option, Some, None}
 use Rattle.lasting_kernel.specs.Lasting.{after_hand_over}
 use Rattle.motion_kernel.specs.Segments.{SegmentedState, IsEarly}
@@ -21,8 +21,14 @@ pub record TellsSwap (k s : SegmentedState) (code : ℕ) : Type 0 where
   pub other : (code ≡ 12) ↔ (AreOfOne k s → ⊥)
   pub over : (code ≡ 9) ↔ (AreOfOne k s × (IsEarly k.before → ⊥))
 
--- a machine handed its segment over to a spare one: that has its kernel as it was, and the
--- machine's own goes on with an empty segment; each keeps its version and its trace
+-- which code the emptying of a history answers: 0 where it is made, and 9 where no more can be
+-- counted
+pub record TellsForget (k : SegmentedState) (code : ℕ) : Type 0 where
+  pub ok : (code ≡ 0) ↔ IsEarly k.before
+  pub over : (code ≡ 9) ↔ (IsEarly k.before → ⊥)
+
+-- a machine handed its segment over to a spare one: that has its kernel as it was, and the machine's
+-- own goes on with an empty segment; each keeps its version and its trace
 pub record IsSwapped (m s : Machine) (machine_after spare_after : Option Machine) : Type 0 where
   pub machine : machine_after ≡ Some (record m { kernel = after_hand_over m.kernel })
   pub spare : spare_after ≡ Some (record s { kernel = m.kernel })

@@ -49,21 +49,28 @@ pub extern "C" fn motion_open_config(
     }
 }
 
+// What both texts make: a configuration with tasks and blocks, and the microseconds of a cycle.
+#[derive(Drop)]
+struct BothRead {
+    config: Config,
+    cycle_us: u32,
+}
+
 // The machine of both texts.
 fn configured(alloc: Global, config: &[u8], program: &[u8]) -> Result<Box<Machine>, TextFault>
     ensures opened { IfOk result (λ b. OpensBoth config.now program.now (Some b.value)) }
     ensures refused { (r : TextRefused) → result ≡ Err (TextFault.Refused r) →
         reading_of config.now program.now ≡ Err r }
 {
-    let config = match read_both(alloc, config, program) {
-        Ok(config) => config,
+    let both = match read_both(alloc, config, program) {
+        Ok(both) => both,
         Err(fault) => return Err(fault),
     };
-    machine_of(alloc, config, TraceVersion::Two)
+    machine_of(alloc, both.config, TraceVersion::Two, both.cycle_us)
 }
 
 // The configuration with the tasks and blocks of the program.
-fn read_both(alloc: Global, config: &[u8], program: &[u8]) -> Result<Config, TextFault>
+fn read_both(alloc: Global, config: &[u8], program: &[u8]) -> Result<BothRead, TextFault>
     ensures { ReadsBoth config.now program.now result }
 {
     let machine = match read_config(alloc, config) {
@@ -72,7 +79,10 @@ fn read_both(alloc: Global, config: &[u8], program: &[u8]) -> Result<Config, Tex
     };
     let mut items = machine.config;
     match read_program(alloc, program, &mut items, machine.cycle_us) {
-        Ok(_) => Ok(whole(items)),
+        Ok(_) => Ok(BothRead {
+            config: whole(items),
+            cycle_us: machine.cycle_us,
+        }),
         Err(fault) => Err(fault),
     }
 }

@@ -11,11 +11,14 @@ mod code;
 mod configuring;
 mod cycling;
 mod ending;
+mod forgetting;
+mod items;
 mod laws;
 mod looking;
 mod machine;
 mod machine_pointer;
 mod motion;
+mod names;
 mod naming;
 mod opening;
 mod parts;
@@ -25,6 +28,7 @@ mod sending;
 mod swapping;
 mod texts;
 mod tracing;
+mod version;
 
 pub use c_inputs::MotionInputs;
 pub use calling::{MotionOutputs, motion_call};
@@ -32,6 +36,10 @@ pub use cia402_machine::{DriveIn, DriveOut};
 pub use configuring::motion_open_config;
 pub use cycling::motion_cycle;
 pub use ending::motion_end;
+pub use forgetting::motion_forget;
+pub use items::{
+    MotionBlockRow, MotionLimits, motion_axis_limits, motion_block_look, motion_cycle_us,
+};
 pub use laws::held_histories_keep_their_laws;
 pub use looking::{
     MotionAxisRow, MotionGroupRow, motion_axis_look, motion_cycles_left, motion_group_look,
@@ -40,9 +48,15 @@ pub use looking::{
 pub use machine::Machine;
 pub use machine_pointer::MachinePointer;
 pub use motion::Motion;
+pub use names::{
+    MotionName, motion_axis_name, motion_block_name, motion_group_name, motion_kind_name,
+    motion_task_name,
+};
 pub use naming::{
-    motion_axes, motion_axis, motion_block, motion_group, motion_groups, motion_task,
+    motion_axes, motion_axis, motion_block, motion_blocks, motion_group, motion_groups,
+    motion_task, motion_tasks,
 };
 pub use opening::{MotionRefusal, motion_close, motion_open};
 pub use swapping::motion_swap;
 pub use tracing::{motion_segment_text, motion_trace, motion_trace_text};
+pub use version::motion_version;

@@ -159,6 +159,34 @@ pub extern "C" fn motion_groups(alloc: Global, motion: &mut Motion) -> u32
     count
 }
 
+/// How many tasks there are: 0 where the handle is closed.
+#[unsafe(no_mangle)]
+pub extern "C" fn motion_tasks(alloc: Global, motion: &mut Motion) -> u32
+    ensures count { result ≡ count_in motion.old (λ k. length k.config.tasks) }
+    ensures kept { held motion.new ≡ held motion.old }
+{
+    let Some(machine) = take(alloc, motion) else {
+        return 0;
+    };
+    let count = task_count(machine.kernel.segment().config());
+    put(motion, machine);
+    count
+}
+
+/// How many blocks there are: 0 where the handle is closed.
+#[unsafe(no_mangle)]
+pub extern "C" fn motion_blocks(alloc: Global, motion: &mut Motion) -> u32
+    ensures count { result ≡ count_in motion.old (λ k. length k.config.blocks) }
+    ensures kept { held motion.new ≡ held motion.old }
+{
+    let Some(machine) = take(alloc, motion) else {
+        return 0;
+    };
+    let count = block_count(machine.kernel.segment().config());
+    put(motion, machine);
+    count
+}
+
 // How many groups a configuration has.
 fn group_count(config: &Config) -> u32
     ensures { result ≡ length config.now.groups }
@@ -166,4 +194,22 @@ fn group_count(config: &Config) -> u32
     // its sizes are those of a whole configuration
     let _ = config.axes();
     config.groups().len() as u32
+}
+
+// How many tasks a configuration has.
+fn task_count(config: &Config) -> u32
+    ensures { result ≡ length config.now.tasks }
+{
+    // its sizes are those of a whole configuration
+    let _ = config.axes();
+    config.tasks().len() as u32
+}
+
+// How many blocks a configuration has.
+fn block_count(config: &Config) -> u32
+    ensures { result ≡ length config.now.blocks }
+{
+    // its sizes are those of a whole configuration
+    let _ = config.axes();
+    config.blocks().len() as u32
 }

@@ -99,7 +99,7 @@ fn opened(alloc: Global, text: &[u8]) -> Result<Box<Machine>, TextFault>
     let Some(config) = copied(alloc, bench.config()) else {
         return Err(TextFault::OutOfMemory);
     };
-    machine_of(alloc, config, bench.version())
+    machine_of(alloc, config, bench.version(), 0)
 }
 
 // The bench that a machine's text is with `go`.
@@ -134,25 +134,32 @@ pub fn machine_of(
     alloc: Global,
     config: Config,
     version: TraceVersion,
+    cycle_us: u32,
 ) -> Result<Box<Machine>, TextFault>
-    ensures machine { IfOk result (λ b. b.value ≡ at_rest config version) }
+    ensures machine { IfOk result (λ b. b.value ≡ at_rest config version cycle_us) }
     ensures memory { IfErr result (λ e. e ≡ TextFault.OutOfMemory) }
 {
-    match boxed(alloc, config, version) {
+    match boxed(alloc, config, version, cycle_us) {
         Some(machine) => Ok(machine),
         None => Err(TextFault::OutOfMemory),
     }
 }
 
 // The machine of a configuration, if there is memory for it.
-fn boxed(alloc: Global, config: Config, version: TraceVersion) -> Option<Box<Machine>>
-    ensures { IfSome result (λ b. b.value ≡ at_rest config version) }
+fn boxed(
+    alloc: Global,
+    config: Config,
+    version: TraceVersion,
+    cycle_us: u32,
+) -> Option<Box<Machine>>
+    ensures { IfSome result (λ b. b.value ≡ at_rest config version cycle_us) }
 {
     let mut kernel = LastingKernel::open(alloc, config).ok()?;
     kernel.touch();
     let machine = Machine {
         kernel,
         version,
+        cycle_us,
         trace: None,
     };
     Box::new(alloc, machine).ok()

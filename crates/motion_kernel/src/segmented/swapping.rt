@@ -61,6 +61,21 @@ impl SegmentedKernel {
         self.segment.history.clear();
     }
 
+    /// Empties its segment, and goes on with it: what the segment held is nowhere any more. It takes
+    /// no memory, and as long whatever the segment holds.
+    pub fn forget(&mut self)
+        requires early { IsEarly self.old.before }
+        ensures { self.new ≡ record self.old {
+          before = after_segment self.old;
+          start = machine_now self.old;
+          history = [];
+        } }
+    {
+        self.segment.before = self.before_next();
+        self.segment.start.copy_from(&self.parts);
+        self.segment.history.clear();
+    }
+
     /// Goes on from where an empty segment begins, in the place of what it was. It takes no memory.
     pub fn resume(&mut self, segment: Segment)
         requires spare { IsSpare self.old.config segment }
