@@ -17,5 +17,6 @@ pub mod limits
 pub mod Histories
 pub mod owners
 pub mod entries
+pub mod causes
 pub mod arrivals
 pub mod results

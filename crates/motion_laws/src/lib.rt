@@ -21,7 +21,7 @@ mod row_laws;
 
 pub use arrival_laws::{moves_arrive_in_time, paths_end_in_time};
 pub use entry_laws::entries_keep_their_laws;
-pub use error_laws::errors_are_told_as_shown;
+pub use error_laws::{errors_are_told_as_shown, errors_have_causes};
 pub use event_laws::states_change_by_their_events;
 pub use history_laws::{
     histories_keep_their_laws, pasts_keep_their_laws, segments_keep_their_laws,

@@ -3,7 +3,7 @@ use Rattle.std.specs.Prelude.{◌≡◌, refl, ℕ, zero, suc, ◌<◌, ◌≤�
 use Rattle.std.proofs.Common.{arith, sym, subst, ◌∙◌, inl, inr}
 use Rattle.std.proofs.lemmas.Bool.{cases_eq}
 use Rattle.std.proofs.lemmas.List.{get_or-set_other}
-use Rattle.buffer_modes.specs.Owners.{owner_by, ends_given}
+use Rattle.buffer_modes.specs.Owners.{owner_by}
 use Rattle.fb_outputs.specs.InstanceState.{InstanceState}
 use Rattle.fb_outputs.specs.Steps as instance
 use Rattle.fb_outputs.specs.declared.instance.Progress.{Progress}
@@ -88,20 +88,20 @@ group_has m j k l e = record {
 pub axes_are_told : (s : Setup) (m : Machine) (n : ℕ) (is : List InstanceState) → CommandsAreShown s m →
     n ≤ length m.axes → IsTold m is → IsTold m (axes_shown n m.axes is)
 unfolding axes_shown
-axes_are_told s m zero is h l told = ends_given
-axes_are_told s m (suc n) is h l ends_given =
+axes_are_told s m zero is h l told = told
+axes_are_told s m (suc n) is h l told =
     told_one m (owner_by (axis_at m n).active) (axis_at m n).reached (axes_shown n m.axes is)
     (λ k e. axis_active_shown s m n k h (omega arith) e)
-    (λ k e. axis_has m n k (omega arith) e) (axes_are_told s m n is h (omega arith) ends_given)
+    (λ k e. axis_has m n k (omega arith) e) (axes_are_told s m n is h (omega arith) told)
 
 pub groups_are_told : (s : Setup) (m : Machine) (n : ℕ) (is : List InstanceState) →
     CommandsAreShown s m → n ≤ length m.groups → IsTold m is → IsTold m (groups_shown n m.groups is)
 unfolding groups_shown
-groups_are_told s m zero is h l told = ends_given
-groups_are_told s m (suc n) is h l ends_given =
+groups_are_told s m zero is h l told = told
+groups_are_told s m (suc n) is h l told =
     told_one m (owner_by (group_at m n).group.active) false (groups_shown n m.groups is)
     (λ k e. group_active_shown s m n k h (omega arith) e)
-    (λ k e. group_has m n k (omega arith) e) (groups_are_told s m n is h (omega arith) ends_given)
+    (λ k e. group_has m n k (omega arith) e) (groups_are_told s m n is h (omega arith) told)
 
 -- no more of them are given less
 told_grows : (o : Option ℕ) (reached : Bool) (is : List InstanceState) (k : ℕ) →
