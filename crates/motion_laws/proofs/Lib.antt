@@ -18,5 +18,6 @@ pub mod Histories
 pub mod owners
 pub mod entries
 pub mod causes
+pub mod error_ids
 pub mod arrivals
 pub mod results

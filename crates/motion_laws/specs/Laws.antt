@@ -8,6 +8,7 @@ use Rattle.motion_kernel.specs.Histories.{machine_after}
 use Rattle.motion_laws.specs.arrivals.Moves.{MovesArrive}
 use Rattle.motion_laws.specs.arrivals.Rows.{RowsStand}
 use Rattle.motion_laws.specs.causes.Rows.{ErrorsAreBrought}
+use Rattle.motion_laws.specs.error_ids.Calls.{RefusalsAreFirst}
 use Rattle.motion_laws.specs.entries.Kept.{KeepsEntries}
 use Rattle.motion_laws.specs.arrivals.Paths.{PathsEnd}
 use Rattle.motion_laws.specs.results.Comes.{ResultsCome, ResultsGo, ResultsStay}
@@ -21,7 +22,8 @@ use Rattle.motion_laws.specs.limits.Safe.{IsSafe}
 -- entry makes of each instance what its commands give, and each end is reported; each result comes
 -- of such an end, stays while Execute is true, and goes with it; commands end by their kinds; a
 -- move is Done at its target; rows show that moves arrive in time; the places of each row's axis
--- have counts; and each error that a row shows has its cause
+-- have counts; each error that a row shows has its cause; and a call is refused by the first ErrorID
+-- whose condition holds
 pub record KeepsLaws (s : Setup) (es : List Entry) : Type 0 where
   pub limits : KeepTheirLimits s es
   pub safe : (made more : List Entry) → es ≡ made ++ more → IsSafe s (machine_after s made)
@@ -37,3 +39,4 @@ pub record KeepsLaws (s : Setup) (es : List Entry) : Type 0 where
   pub rows : RowsStand s es
   pub counts : RowsAreCounted s es
   pub causes : ErrorsAreBrought s es
+  pub refusals : RefusalsAreFirst s es

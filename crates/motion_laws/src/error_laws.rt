@@ -35,7 +35,7 @@ pub fn errors_are_told_as_shown()
 /// where its drive reports a fault; 102 where it is driven with power on and its drive takes
 /// setpoints no more; 105 where its drive begins to take them outside its limits; 103 where its
 /// active command has no target, and the step that it wants is unsafe and doesn't brake; 104 where
-/// its active command is a CamIn that was InSync, and no step to the cam's position is safe; 106
+/// its active command is a CamIn that was InSync, and the step to the cam's position is unsafe; 106
 /// where a MoveRelative takes over whose target then lies outside the limits. A group gets 102
 /// where a Power of one of its axes is called with Enable false, and in a cycle 101, 102 or 105
 /// where the drive of one of its axes brings that axis this error.

@@ -15,6 +15,7 @@ use crate::entry_laws::entries_keep_their_laws;
 use crate::error_laws::errors_have_causes;
 use crate::kind_laws::commands_end_by_their_kinds;
 use crate::limit_laws::{at_most_eight_wait, axes_stay_stoppable, rows_keep_limits};
+use crate::refusal_laws::refusals_are_the_first;
 use crate::result_laws::{
     done_moves_are_at_their_targets, results_are_told, results_come_of_ends, results_stay_shown,
 };
@@ -32,7 +33,8 @@ use motion_kernel::{rows_are_counted, segments_join};
 /// command it was, and to no other; each result that a reply reports comes of such an end, stays
 /// while Execute is true, and goes with it; commands end by their kinds; a move is Done at its
 /// target; rows show that moves arrive in time; no Home moves an axis out of the counts of its
-/// drive; and each error that a row shows has its cause in the entries so far.
+/// drive; each error that a row shows has its cause in the entries so far; and a call is refused by
+/// the first ErrorID of its kind's table whose condition holds.
 pub fn pasts_keep_their_laws()
     ensures { (s : Setup) (es : List Entry) → IsSetup s → AreWhole s → IsPast s es →
         KeepsLaws s es }
@@ -51,6 +53,7 @@ pub fn pasts_keep_their_laws()
     rows_show_that_moves_arrive();
     rows_are_counted();
     errors_have_causes();
+    refusals_are_the_first();
 }
 
 /// Every legal history is a past, and so keeps its laws.

@@ -30,7 +30,7 @@ pub use kind_laws::commands_end_by_their_kinds;
 pub use limit_laws::{at_most_eight_wait, axes_stay_stoppable, rows_keep_limits};
 pub use outcome_laws::entries_make_outcomes;
 pub use owner_laws::commands_are_where_their_instances_show;
-pub use refusal_laws::refusals_change_nothing;
+pub use refusal_laws::{refusals_are_the_first, refusals_change_nothing};
 pub use reply_laws::{replies_show_commands, replies_tell_one_result};
 pub use result_laws::{
     done_moves_are_at_their_targets, results_are_told, results_come_of_ends, results_stay_shown,

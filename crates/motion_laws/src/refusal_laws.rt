@@ -1,4 +1,4 @@
-// The law of refused calls: the contract of a function that does nothing.
+// Laws of refused calls: each is the contract of a function that does nothing.
 
 ghost use Rattle.std.specs.Prelude.{◌≡◌, ◌<◌, ℕ, List, [], ◌∷◌, ◌++◌, length};
 ghost use Rattle.fb_outputs.specs.declared.inputs.Inputs.{Inputs};
@@ -9,6 +9,7 @@ ghost use Rattle.motion_kernel.specs.calls.Calls.{after_call, reply_of};
 ghost use Rattle.motion_kernel.specs.Histories.{IsPast, machine_after};
 ghost use Rattle.motion_kernel.specs.Machine.{Machine};
 ghost use Rattle.motion_laws.specs.entries.Refusals.{IsRefusalNumber, IsRefused, machine_refused};
+ghost use Rattle.motion_laws.specs.error_ids.Calls.{RefusalsAreFirst};
 
 /// A call that is refused, by an ErrorID from 1 to 19, changes nothing but its own instance: every
 /// axis, every group and every command that waits stays as it is, except that the instance has its
@@ -27,4 +28,11 @@ pub fn refusals_change_nothing()
     ensures numbers { (s : Setup) (made more : List Entry) (k : ℕ) (i : Inputs)
         (reply : Outputs) → IsPast s (made ++ call k i reply ∷ more) →
         IsRefused (machine_after s made) k i reply → IsRefusalNumber reply.error_id }
+{}
+
+/// A call that is refused is refused by the first ErrorID of its kind's table whose condition
+/// holds: so it is in every past, of what the call asks of its axis or its group, where the
+/// instance has its earlier command no longer.
+pub fn refusals_are_the_first()
+    ensures first { (s : Setup) (es : List Entry) → IsPast s es → RefusalsAreFirst s es }
 {}

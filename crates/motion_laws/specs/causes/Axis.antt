@@ -83,7 +83,8 @@ pub record RunsPastLimit (a : Axis) (look : AxisLook) : Type 0 where
   pub unsafe : IsUnsafe a step
   pub fast : Brakes (old_step_of a) step → ⊥
 
--- the active command is a CamIn that was InSync, and no step to the cam's position is safe. MC_CamIn
+-- the active command is a CamIn that was InSync, and the step to the cam's position is unsafe.
+-- MC_CamIn
 pub record LosesCam (a : Axis) (look : AxisLook) : Type 0 where
   pub command : Wanted
   pub active : a.active ≡ Some command
@@ -95,7 +96,8 @@ pub record LosesCam (a : Axis) (look : AxisLook) : Type 0 where
 -- where the axis then stands, which lies outside the limits. MC_MoveRelative, BufferMode
 pub record EndsOutside (look : AxisLook) (c : Core) (place : ℤ) : Type 0 where
   pub ends :
-      ((cycle_fate look c).ends ≡ Some finish.Done) ⊎ ((cycle_fate look c).ends ≡ Some finish.Aborted)
+      ((cycle_fate look c).ends ≡ Some finish.Done)
+      ⊎ ((cycle_fate look c).ends ≡ Some finish.Aborted)
   pub next : Wanted
   pub waits : slice_get c.waiting 0 ≡ Some next
   pub of_kind : next.kind ≡ kind.MoveRelative
