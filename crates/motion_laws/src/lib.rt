@@ -35,4 +35,7 @@ pub use reply_laws::{replies_show_commands, replies_tell_one_result};
 pub use result_laws::{
     done_moves_are_at_their_targets, results_are_told, results_come_of_ends, results_stay_shown,
 };
-pub use row_laws::{rows_show_errors, rows_show_that_moves_arrive, rows_show_the_machine};
+pub use row_laws::{
+    rows_follow_lines, rows_show_errors, rows_show_that_moves_arrive, rows_show_the_machine,
+    rows_slow_under_halts,
+};

@@ -27,4 +27,6 @@ returns c s es setup whole past = record {
   counts = c.rows_are_counted.ensures s es setup whole past;
   causes = c.errors_have_causes.ensures.causes s es setup whole past;
   refusals = c.refusals_are_the_first.ensures.first s es past;
+  halts = c.rows_slow_under_halts.ensures.rows s es setup whole past;
+  lines = c.rows_follow_lines.ensures.rows s es setup whole past;
 }
