@@ -38,7 +38,9 @@ pub fn errors_are_told_as_shown()
 /// its active command is a CamIn that was InSync, and the step to the cam's position is unsafe; 106
 /// where a MoveRelative takes over whose target then lies outside the limits. A group gets 102
 /// where a Power of one of its axes is called with Enable false, and in a cycle 101, 102 or 105
-/// where the drive of one of its axes brings that axis this error.
+/// where the drive of one of its axes brings that axis this error, and none before it in the
+/// group's order one. And each error by which a command ends, and which its instance is notified,
+/// is brought so by the entry that ends it.
 pub fn errors_have_causes()
     ensures causes { (s : Setup) (es : List Entry) → IsSetup s → AreWhole s → IsPast s es →
         ErrorsAreBrought s es }
@@ -48,6 +50,8 @@ pub fn errors_have_causes()
     group_errors_stand();
     errors_are_those_of_axes();
     taken_steps_keep();
+    axis_changes_are_made();
+    group_changes_are_made();
     errors_are_told_as_shown();
     rows_show_the_machine();
     rows_show_errors();

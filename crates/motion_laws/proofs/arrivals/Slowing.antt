@@ -62,7 +62,7 @@ going_run look c none goes =
     (record c { axis = axis_at_drive d look.input c.axis }) goes
 
 -- the place of an axis after a cycle is that of its step
-stepped_place : (look : AxisLook) (c : Core) → nat_eq (answer_error_of c.axis look.input) 0 ≡ true →
+pub stepped_place : (look : AxisLook) (c : Core) → nat_eq (answer_error_of c.axis look.input) 0 ≡ true →
     (is_driven c.axis look.input && c.axis.driven) ≡ true →
     (core_after_cycle look c).axis.setpoint
     ≡ (advance_in_cycle (slice_get c.waiting 0) look c.axis).axis.setpoint

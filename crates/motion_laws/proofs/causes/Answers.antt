@@ -32,7 +32,7 @@ enabled None h = absurd (cc)
 enabled (Some drive.OperationEnabled) h = refl
 enabled (Some _) h = absurd (cc)
 
-operational : (d : DriveIn) → is_operational d ≡ true → TakesSetpoints d
+pub operational : (d : DriveIn) → is_operational d ≡ true → TakesSetpoints d
 operational d h =
     let parts = and_parts (is_enabled (state_of_word d.statusword)) (int_eq d.mode_display (pos 8)) h in
     record {
@@ -40,7 +40,7 @@ operational d h =
       mode = (Decides-int_eq d.mode_display (pos 8)).0 parts.1;
     }
 
-takes : (d : DriveIn) → TakesSetpoints d → is_operational d ≡ true
+pub takes : (d : DriveIn) → TakesSetpoints d → is_operational d ≡ true
 takes d h =
     ap (λ o. is_enabled o && int_eq d.mode_display (pos 8)) h.enabled
     ∙ (Decides-int_eq d.mode_display (pos 8)).1 h.mode
@@ -61,18 +61,22 @@ not_false false h = refl
 
 -- one error after another
 brings : (a : Axis) (d : DriveIn) (fault lost outside : Bool) →
-    (fault ≡ true → ReportsFault d) → (lost ≡ true → LosesDrive a d) →
+    (fault ≡ true → ReportsFault d) → (fault ≡ false → lost ≡ true → LosesDrive a d) →
     (outside ≡ true → ComesOutside a d) →
     let n : ℕ = if fault then 101 else if lost then 102 else if outside then 105 else 0 in
     nat_eq n 0 ≡ false → AnswerBrings a d n
 brings a d true lost outside f g h e = by.fault refl (f refl)
-brings a d false true outside f g h e = by.lost refl (g refl)
+brings a d false true outside f g h e = by.lost refl (g refl refl)
 brings a d false false true f g h e = by.outside refl (h refl)
 brings a d false false false f g h e = absurd (cc)
 
-loses : (a : Axis) (d : DriveIn) → is_powered a && a.driven && not (is_operational d) ≡ true →
+pub faults : (d : DriveIn) → ReportsFault d → has_fault d ≡ true
+faults d (inl e) = ap reads_fault e
+faults d (inr e) = ap reads_fault e
+
+loses : (a : Axis) (d : DriveIn) → has_fault d ≡ false → is_powered a && a.driven && not (is_operational d) ≡ true →
     LosesDrive a d
-loses a d h =
+loses a d fine h =
     let parts = and_parts (is_powered a && a.driven) (not (is_operational d)) h in
     let before = and_parts (is_powered a) a.driven parts.0 in
     let off = not_false (is_operational d) parts.1 in
@@ -80,6 +84,7 @@ loses a d h =
       powered = before.0;
       driven = before.1;
       lost = λ t. let on = takes d t in cc;
+      sound = λ f. let bad = faults d f in cc;
     }
 
 comes : (a : Axis) (d : DriveIn) →

@@ -73,10 +73,10 @@ kind_ends kind.CamIn a w next step look = none_ends _ finish.Aborted aborted
 kind_ends _ a w next step look = none_ends false finish.Done done
 
 -- the step of a driven axis that no error stops
-record IsStep (look : AxisLook) (c : Core) (x : Advance) : Type 0 where
-  state : is_error_stop x.axis.state ≡ false
-  limits : x.axis.limits ≡ c.axis.limits
-  fails : (place : ℤ) (error : ℕ) → x.ending ≡ Some (finish.Error error) →
+pub record IsStep (look : AxisLook) (c : Core) (x : Advance) : Type 0 where
+  pub state : is_error_stop x.axis.state ≡ false
+  pub limits : x.axis.limits ≡ c.axis.limits
+  pub fails : (place : ℤ) (error : ℕ) → x.ending ≡ Some (finish.Error error) →
       CycleBrings look c place error
 
 same_finish : (f g : Finish) → Some f ≡ Some g → f ≡ g
@@ -134,7 +134,7 @@ without_error look c (Some place) next exact h =
 without_error look c None next exact h =
     by_command look c c.axis.active next exact h refl
 
-steps : (look : AxisLook) (c : Core) (next : Option Wanted) → TakesSafe c.axis →
+pub steps : (look : AxisLook) (c : Core) (next : Option Wanted) → TakesSafe c.axis →
     is_error_stop c.axis.state ≡ false → IsStep look c (advance_in_cycle next look c.axis)
 unfolding advance_in_cycle
 steps look c next exact h =
@@ -162,9 +162,28 @@ last state.Homing h = refl
 last _ h = h
 
 -- how the active command ends in a cycle
-abbrev EndsPlainly : AxisLook → Core → Type 0
+abbrev pub EndsPlainly : AxisLook → Core → Type 0
 EndsPlainly look c =
     ((cycle_fate look c).ends ≡ Some finish.Done) ⊎ ((cycle_fate look c).ends ≡ Some finish.Aborted)
+
+pub relative_cause : (look : AxisLook) (c : Core) (w : Wanted) (d : Core) →
+    w.kind ≡ kind.MoveRelative → w.target ≡ None → slice_get c.waiting 0 ≡ Some w →
+    d.axis.limits ≡ c.axis.limits → EndsPlainly look c →
+    is_outside d.axis.limits.lo (d.axis.setpoint +ℤ position_of w) d.axis.limits.hi ≡ true →
+    CycleBrings look c d.axis.setpoint 106
+relative_cause look c w d is unset first same ends out = relative refl (record {
+  ends = ends;
+  next = w;
+  waits = first;
+  of_kind = is;
+  unset = unset;
+  outside = λ b.
+      let P : Limits → Type 0 =
+      λ l. is_outside l.lo (d.axis.setpoint +ℤ position_of w) l.hi ≡ true in
+      let here : P c.axis.limits = subst P same out in
+      let near = inside c.axis.limits.lo (d.axis.setpoint +ℤ position_of w) c.axis.limits.hi b in
+      cc;
+})
 
 taken : (look : AxisLook) (c : Core) (k : BlockKind) (t : Option ℤ) (w : Wanted) (d : Core) →
     w.kind ≡ k → w.target ≡ t → slice_get c.waiting 0 ≡ Some w →
@@ -179,19 +198,7 @@ taken look c kind.MoveRelative None w d is unset first same h ends =
         Caused look c (if b
         then core_after_error 106 (record d { axis = record d.axis { active = Some w } })
         else record d { axis = axis_under (with_target (Some (d.axis.setpoint +ℤ position_of w)) w) d.axis }).axis
-    by true out = λ now. relative refl (record {
-      ends = ends;
-      next = w;
-      waits = first;
-      of_kind = is;
-      unset = unset;
-      outside = λ b.
-          let P : Limits → Type 0 =
-          λ l. is_outside l.lo (d.axis.setpoint +ℤ position_of w) l.hi ≡ true in
-          let here : P c.axis.limits = subst P same out in
-          let near = inside c.axis.limits.lo (d.axis.setpoint +ℤ position_of w) c.axis.limits.hi b in
-          cc;
-    })
+    by true out = λ now. relative_cause look c w d is unset first same ends out
     by false out = λ now. absurd (never _ now (begun w.kind d.axis.state h))
 taken look c kind.MoveRelative (Some t) w d is unset first same h ends =
     λ now. absurd (never _ now (begun w.kind d.axis.state h))
@@ -228,7 +235,7 @@ fate_ends blends (Some finish.Done) ws a = refl
 fate_ends blends (Some finish.Aborted) ws a = refl
 fate_ends blends (Some (finish.Error n)) ws a = refl
 
-fate_of_step : (look : AxisLook) (c : Core) → nat_eq (answer_error_of c.axis look.input) 0 ≡ true →
+pub fate_of_step : (look : AxisLook) (c : Core) → nat_eq (answer_error_of c.axis look.input) 0 ≡ true →
     is_driven c.axis look.input && c.axis.driven ≡ true →
     (cycle_fate look c).ends ≡ (advance_in_cycle (slice_get c.waiting 0) look c.axis).ending
 unfolding cycle_fate

@@ -143,7 +143,7 @@ module _ (s : Setup) (k : ℕ) (i : Inputs) (m : Machine) (j : ℕ) where
   by_kind kind.Power e b at is = power_off s k i j b at is i.execute refl
   by_kind _ e b at is = by_edge e b
 
-  by_block : (o : Option BlockDef) → slice_get s.blocks k ≡ o → Asks (request_of o k i m)
+  pub by_block : (o : Option BlockDef) → slice_get s.blocks k ≡ o → Asks (request_of o k i m)
   by_block None at = rests_off s k i j
   by_block (Some b) at =
       by_kind b.kind (edge_of (instance_at m.instances k).execute i.execute) b at refl

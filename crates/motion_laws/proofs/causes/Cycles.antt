@@ -22,8 +22,9 @@ use Rattle.motion_kernel.specs.looks.DriveAnswers.{answer_at, first_error}
 use Rattle.motion_kernel.specs.members.Members.{member_at, members_at}
 use Rattle.motion_laws.proofs.causes.Answers.{answer_brings, answer_running}
 use Rattle.motion_laws.proofs.causes.AxisCycles.{cycle_caused}
+use Rattle.motion_laws.proofs.causes.Exactly.{none_brings}
 use Rattle.motion_laws.proofs.causes.Wishes.{TakesSafe}
-use Rattle.motion_laws.proofs.entries.numbers.Cycles.{first_in, group_kept}
+use Rattle.motion_laws.proofs.entries.numbers.Cycles.{IsFirst, first_in, group_kept}
 use Rattle.motion_laws.proofs.entries.numbers.Groups.{has_failed}
 use Rattle.motion_laws.specs.causes.Axis.{AnswerBrings, CycleBrings}
 use Rattle.motion_laws.specs.causes.Group.{FailsByAxis}
@@ -35,7 +36,7 @@ TakesExactly = (limits : Limits) (before now wanted : ℤ) → AreLimits limits 
     taken_step_of limits before now wanted ≡ wanted
 
 -- of an axis that is kept
-takes_safe : TakesExactly → (a : Axis) → kept.IsAxisKept a → a.driven ≡ true → TakesSafe a
+pub takes_safe : TakesExactly → (a : Axis) → kept.IsAxisKept a → a.driven ≡ true → TakesSafe a
 takes_safe exact a h driven step safe =
     let base = h.base in
     let set : IsKept a.limits a.previous a.setpoint =
@@ -58,33 +59,49 @@ axis_brought exact laws s m ins n h l running stopped =
     (cycle_caused look core (takes_safe exact (axis_at m n) core_kept.axis) running
     (ap (λ (a : Axis). axis.is_error_stop a.state) (sym is) ∙ stopped))
 
+-- an error of a member is that of its first axis whose drive brings one
+axis_first : (s : Setup) (m : Machine) (ins : List DriveIn) (j : ℕ) →
+    IsFirst m.axes ins (members_at s j) → (error : ℕ) →
+    nat_eq (first_error m.axes ins (members_at s j)) 0 ≡ false →
+    first_error m.axes ins (members_at s j) ≡ error → FailsByAxis s m ins j error
+axis_first s m ins j first error fails same =
+    let n = member_at (members_at s j) first.place in
+    let is = first.is in
+    let some : nat_eq (answer_error_of (axis_at m n) (answer_at ins n)) 0 ≡ false =
+    ap (λ x. nat_eq x 0) is ∙ fails in
+    record {
+      place = first.place;
+      there = first.there;
+      running = answer_running (axis_at m n) (answer_at ins n) some;
+      brings = subst (AnswerBrings (axis_at m n) (answer_at ins n)) (is ∙ same)
+          (answer_brings (axis_at m n) (answer_at ins n) some);
+      first = λ p b runs x brings. none_brings (axis_at m (member_at (members_at s j) p))
+          (answer_at ins (member_at (members_at s j) p)) (first.before p b) runs x brings;
+    }
+
+pub fails_by : (s : Setup) (m : Machine) (ins : List DriveIn) (j : ℕ) → IsMachineKept s m →
+    j < length m.groups → nat_eq (look_of_group s m ins j).error 0 ≡ false →
+    FailsByAxis s m ins j (look_of_group s m ins j).error
+fails_by s m ins j h l fails =
+    let look = look_of_group s m ins j in
+    let steps = have_stepped s m ins (length m.groups) h (omega arith) in
+    let one = steps.each j l in
+    let read : look.error ≡ first_error m.axes ins (members_at s j) =
+    subst (λ (y : GroupLook). y.error ≡ first_error m.axes ins (members_at s j)) one.is one.error in
+    let none = ap (λ x. nat_eq x 0) (sym read) ∙ fails in
+    axis_first s m ins j (first_in m.axes ins (members_at s j) none) look.error none (sym read)
+
 pub group_failed : (s : Setup) (m : Machine) (ins : List DriveIn) (j : ℕ) → IsMachineKept s m →
     j < length m.groups → is_error_stop (group_at m j).group.state ≡ false →
     is_error_stop (group_at (after_cycle s m ins) j).group.state ≡ true →
     FailsByAxis s m ins j (group_at (after_cycle s m ins) j).group.error
 group_failed s m ins j h l before now =
     let look = look_of_group s m ins j in
-    let steps = have_stepped s m ins (length m.groups) h (omega arith) in
-    let one = steps.each j l in
     let left = group_kept s m ins j h l in
     let failed = has_failed look (group_core_at m j) before (left.state now) in
-    let read : look.error ≡ first_error m.axes ins (members_at s j) =
-    subst (λ (y : GroupLook). y.error ≡ first_error m.axes ins (members_at s j)) one.is one.error in
-    let first = first_in m.axes ins (members_at s j)
-    (ap (λ x. nat_eq x 0) (sym read) ∙ failed.is) in
-    let n = member_at (members_at s j) first.place in
-    let is : answer_error_of (axis_at m n) (answer_at ins n) ≡ look.error = first.is ∙ sym read in
-    let some : nat_eq (answer_error_of (axis_at m n) (answer_at ins n)) 0 ≡ false =
-    ap (λ x. nat_eq x 0) is ∙ failed.is in
     let after = (group_at (after_cycle s m ins) j).group in
     let error : look.error ≡ after.error = elim left.error [
       | inl same ↦ sym (same ∙ failed.error)
       | inr out ↦ absurd (cc)
     ] in
-    record {
-      place = first.place;
-      there = first.there;
-      running = answer_running (axis_at m n) (answer_at ins n) some;
-      brings = subst (AnswerBrings (axis_at m n) (answer_at ins n)) (is ∙ error)
-          (answer_brings (axis_at m n) (answer_at ins n) some);
-    }
+    subst (FailsByAxis s m ins j) error (fails_by s m ins j h l failed.is)

@@ -16,12 +16,14 @@ use Rattle.motion_history.specs.declared.config.GroupDef.{GroupDef}
 use Rattle.motion_history.specs.Entries.{Entry, call, cycle, end_of}
 use Rattle.motion_history.specs.Setup.{Setup, IsSetup}
 use Rattle.motion_kernel.proofs.owners.commands.Events.{there_where}
+use Rattle.motion_kernel.proofs.walk.Keeps.{WalkLaws}
 use Rattle.motion_kernel.specs.Histories.{IsPast, after, inputs_of, machine_after, replay}
 use Rattle.motion_kernel.specs.Machine.{Machine, axis_among, group_among, group_at_opening, machine_at_opening}
 use Rattle.motion_kernel.specs.kept.Machine.{AreWhole, IsMachineKept}
 use Rattle.motion_kernel.specs.owners.Objects.{IsThere, Object, a_group, an_axis}
 use Rattle.motion_laws.proofs.Histories.{past_kept, past_so_far}
 use Rattle.motion_laws.proofs.causes.Calls.{axis_running, group_switched}
+use Rattle.motion_laws.proofs.causes.Reported.{entry_reports}
 use Rattle.motion_laws.proofs.causes.Cycles.{TakesExactly, axis_brought, group_failed}
 use Rattle.motion_laws.proofs.entries.errors.Histories.{opening_shown, replay_shown}
 use Rattle.motion_laws.proofs.entries.errors.Laws.{AreAllShown, ErrorLaws}
@@ -36,6 +38,7 @@ use Rattle.motion_laws.specs.entries.Rows.{RowsShow}
 pub record CauseLaws : Type 0 where
   pub errors : ErrorLaws
   pub exact : TakesExactly
+  pub walk : WalkLaws
   pub told : (s : Setup) (made more : List Entry) (e : Entry) → IsSetup s → AreWhole s →
       IsPast s (made ++ e ∷ more) → ErrorsAreTold s (machine_after s made) e
   pub rows : (s : Setup) (made more : List Entry) (e : Entry) → IsSetup s → AreWhole s →
@@ -302,4 +305,7 @@ errors_brought laws s es setup whole past = record {
       setup whole (subst (IsPast s) is past) at some;
   groups = λ made more c j rows grows r is at some. group_row_brought laws s made more c j rows
       grows r setup whole (subst (IsPast s) is past) at some;
+  reported = λ made more e o k error is there ends.
+      let x = so_far laws s made (e ∷ more) setup whole (subst (IsPast s) is past) in
+      entry_reports laws.exact laws.walk s (machine_after s made) e o k error x.kept there ends;
 }

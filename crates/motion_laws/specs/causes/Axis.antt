@@ -34,12 +34,13 @@ pub record TakesSetpoints (d : DriveIn) : Type 0 where
   pub enabled : state_of_word d.statusword ≡ Some drive.OperationEnabled
   pub mode : d.mode_display ≡ pos 8
 
--- an axis that is driven with power on loses its drive, which takes no setpoints any more. IEC
--- 61800-7-201, object 6041h
+-- an axis that is driven with power on loses its drive, which takes no setpoints any more, without a
+-- fault. IEC 61800-7-201, object 6041h
 pub record LosesDrive (a : Axis) (d : DriveIn) : Type 0 where
   pub powered : is_powered a ≡ true
   pub driven : a.driven ≡ true
   pub lost : TakesSetpoints d → ⊥
+  pub sound : ReportsFault d → ⊥
 
 -- the drive of an axis that is not driven takes setpoints with power on, but stands outside the
 -- axis's limits. This project's profile

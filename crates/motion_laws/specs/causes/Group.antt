@@ -23,7 +23,8 @@ pub record SwitchesOff (s : Setup) (k : ℕ) (i : Inputs) (j : ℕ) : Type 0 whe
   pub member : membership_of s block.object ≡ Some membership
   pub own : membership.group ≡ j
 
--- one of its axes, which is not in ErrorStop, gets the error from its drive's answer
+-- one of its axes, which is not in ErrorStop, gets the error from its drive's answer, and none
+-- before it in the group's order gets one
 pub record FailsByAxis (s : Setup) (m : Machine) (ins : List DriveIn) (j error : ℕ)
     : Type 0 where
   pub place : ℕ
@@ -32,3 +33,7 @@ pub record FailsByAxis (s : Setup) (m : Machine) (ins : List DriveIn) (j error :
   pub brings :
       let n = member_at (members_at s j) place in
       AnswerBrings (axis_at m n) (answer_at ins n) error
+  pub first : (p : ℕ) → p < place →
+      let n = member_at (members_at s j) p in
+      is_error_stop (axis_at m n).state ≡ false →
+      (other : ℕ) → AnswerBrings (axis_at m n) (answer_at ins n) other → ⊥

@@ -1,17 +1,19 @@
--- Where the errors come from that rows show (PLCopen Motion Control Part 1 and Part 4, the state
--- diagrams).
+-- Where the errors come from that rows show, and that instances are notified (PLCopen Motion Control
+-- Part 1 and Part 4, the state diagrams).
 use Rattle.std.specs.Prelude.{◌≡◌, ◌≢◌, ℕ, true, false, Some, List, [], ◌∷◌, ◌++◌, slice_get}
 use Rattle.axis_state.specs.declared.definition.AxisRow.{AxisRow}
+use Rattle.command_pool.specs.declared.ending.Finish.TheVariants as finish
 use Rattle.group_state.specs.declared.state.GroupRow.{GroupRow}
 use Rattle.motion_history.specs.Entries.{Entry, call, cycle, end_of}
 use Rattle.motion_history.specs.Setup.{Setup}
 use Rattle.motion_kernel.specs.Histories.{after, inputs_of, machine_after}
 use Rattle.motion_kernel.specs.Machine.{Machine, axis_at, axis_core_at}
 use Rattle.motion_kernel.specs.cycles.Cycles.{after_cycle, look_of_axis}
-use Rattle.motion_kernel.specs.owners.Objects.{Object, a_group, an_axis}
+use Rattle.motion_kernel.specs.owners.Objects.{IsThere, Object, a_group, an_axis}
 use Rattle.motion_laws.specs.causes.Axis.{CycleBrings}
 use Rattle.motion_laws.specs.causes.Group.{FailsByAxis, SwitchesOff}
 use Rattle.motion_laws.specs.entries.Numbers.{error_at, is_stopped_at}
+use Rattle.motion_laws.specs.results.Outcomes.{end_of_command}
 
 -- an entry brings an axis an error: a cycle may, no call and no end of a task does
 abbrev pub BringsAxis : Setup → Machine → Entry → ℕ → ℕ → Type 0
@@ -52,7 +54,8 @@ pub record IsBrought (s : Setup) (o : Object) (error : ℕ) (es : List Entry) : 
   pub brings : Brings s (machine_after s made) entry o error
   pub since : KeepsError s o error (after s (machine_after s made) entry) more
 
--- each error that a row of a history shows is brought so, in its cycle or in an entry before it
+-- each error that a row of a history shows is brought so, in its cycle or in an entry before it; and
+-- each error by which a command ends is brought by that entry
 pub record ErrorsAreBrought (s : Setup) (es : List Entry) : Type 0 where
   pub axes : (made more : List Entry) (c n : ℕ) (rows : List AxisRow) (grows : List GroupRow)
       (r : AxisRow) → es ≡ made ++ cycle c rows grows ∷ more → slice_get rows n ≡ Some r →
@@ -60,3 +63,7 @@ pub record ErrorsAreBrought (s : Setup) (es : List Entry) : Type 0 where
   pub groups : (made more : List Entry) (c j : ℕ) (rows : List AxisRow) (grows : List GroupRow)
       (r : GroupRow) → es ≡ made ++ cycle c rows grows ∷ more → slice_get grows j ≡ Some r →
       r.error ≢ 0 → IsBrought s (a_group j) r.error (made ++ cycle c rows grows ∷ [])
+  pub reported : (made more : List Entry) (e : Entry) (o : Object) (k error : ℕ) →
+      es ≡ made ++ e ∷ more → IsThere (machine_after s made) o →
+      end_of_command s (machine_after s made) e k o ≡ Some (finish.Error error) →
+      Brings s (machine_after s made) e o error

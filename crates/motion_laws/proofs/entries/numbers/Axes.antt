@@ -223,7 +223,7 @@ reset_keeps (Some p) input a =
     by_if (KeepsError a) (may_reset input a) (after_reset a) a (inr (reset_leaves a.state a.driven))
     (inl refl)
 
-reset_plain : (P : ℕ → ℕ → Type 0) (o : Option PendingReset) (input : DriveIn) (a : Axis) →
+pub reset_plain : (P : ℕ → ℕ → Type 0) (o : Option PendingReset) (input : DriveIn) (a : Axis) →
     AllTell P (reset_notes o input a)
 reset_plain P None input a = tt
 reset_plain P (Some p) input a =

@@ -119,7 +119,7 @@ axis_error s m k i n h l =
     (record { axis = omega arith; list = omega arith }) (λ b at other off same. tt)
 
 -- and gives none of its commands an error
-axis_quiet : (s : Setup) (m : Machine) (k : ℕ) (i : Inputs) (reply : Outputs) (n j error : ℕ) →
+pub axis_quiet : (s : Setup) (m : Machine) (k : ℕ) (i : Inputs) (reply : Outputs) (n j error : ℕ) →
     end_of_command s m (call k i reply) j (an_axis n) ≡ Some (finish.Error error) → ⊥
 axis_quiet s m k i reply n j error e =
     let r = request_of (slice_get s.blocks k) k i m in

@@ -133,6 +133,19 @@ pub record IsFirst (axes : List Axis) (ins : List DriveIn) (ns : List ℕ) : Typ
   pub there : place < length ns
   pub is : answer_error_of (axis_among axes (member_at ns place)) (answer_at ins (member_at ns place))
       ≡ first_error axes ins ns
+  pub before : (p : ℕ) → p < place →
+      nat_eq (answer_error_of (axis_among axes (member_at ns p)) (answer_at ins (member_at ns p))) 0
+      ≡ true
+
+none_so_far : (axes : List Axis) (ins : List DriveIn) (n : ℕ) (ns : List ℕ) (place : ℕ) →
+    nat_eq (answer_error_of (axis_among axes n) (answer_at ins n)) 0 ≡ true →
+    ((p : ℕ) → p < place →
+    nat_eq (answer_error_of (axis_among axes (member_at ns p)) (answer_at ins (member_at ns p))) 0
+    ≡ true) → (p : ℕ) → p < suc place →
+    nat_eq (answer_error_of (axis_among axes (member_at (n ∷ ns) p))
+    (answer_at ins (member_at (n ∷ ns) p))) 0 ≡ true
+none_so_far axes ins n ns place none before zero b = none
+none_so_far axes ins n ns place none before (suc p) b = before p (omega arith)
 
 pub first_in : (axes : List Axis) (ins : List DriveIn) (ns : List ℕ) →
     nat_eq (first_error axes ins ns) 0 ≡ false → IsFirst axes ins ns
@@ -145,11 +158,17 @@ first_in axes ins (n ∷ ns) h =
           ap (λ b. if b then first_error axes ins ns else error) none in
           let later = first_in axes ins ns (ap (λ x. nat_eq x 0) (sym same) ∙ h) in
           let there = later.there in
-          record { place = suc later.place; there = omega arith; is = later.is ∙ sym same }
+          record {
+            place = suc later.place;
+            there = omega arith;
+            is = later.is ∙ sym same;
+            before = none_so_far axes ins n ns later.place none later.before;
+          }
       | inr some ↦ record {
         place = zero;
         there = omega arith;
         is = sym (ap (λ b. if b then first_error axes ins ns else error) some);
+        before = λ p b. absurd (omega arith);
       }
     ]
 

@@ -61,6 +61,12 @@ laws c =
     record {
       errors = errors;
       exact = taken.exact;
+      walk = record {
+        machines = errors.machines;
+        may_call = m.may_call;
+        axis = c.axis_changes_are_made.ensures;
+        group = c.group_changes_are_made.ensures;
+      };
       told = c.errors_are_told_as_shown.ensures.entries;
       rows = c.rows_show_the_machine.ensures.entries;
       show = c.rows_show_errors.ensures.errors;
