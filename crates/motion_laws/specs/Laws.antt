@@ -25,7 +25,8 @@ use Rattle.motion_laws.specs.limits.Safe.{IsSafe}
 -- of such an end, stays while Execute is true, and goes with it; commands end by their kinds; a
 -- move is Done at its target; rows show that moves, Halts and Stops end in time; the places of each
 -- row's axis have counts; each error that a row shows has its cause; a call is refused by the first
--- ErrorID whose condition holds; and rows slow down under a Halt, and follow their group's line
+-- ErrorID whose condition holds, and only then; and rows slow down under a Halt, and follow their
+-- group's line
 pub record KeepsLaws (s : Setup) (es : List Entry) : Type 0 where
   pub limits : KeepTheirLimits s es
   pub safe : (made more : List Entry) → es ≡ made ++ more → IsSafe s (machine_after s made)

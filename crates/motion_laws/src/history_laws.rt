@@ -34,8 +34,8 @@ use motion_kernel::{rows_are_counted, segments_join};
 /// while Execute is true, and goes with it; commands end by their kinds; a move is Done at its
 /// target; rows show that moves, Halts and Stops end in time; no Home moves an axis out of the
 /// counts of its drive; each error that a row shows has its cause in the entries so far; a call is
-/// refused by the first ErrorID of its kind's table whose condition holds; and rows slow down under
-/// a Halt and a Stop, and follow the line of their group.
+/// refused by the first ErrorID of its kind's table whose condition holds, and only where one does;
+/// and rows slow down under a Halt and a Stop, and follow the line of their group.
 pub fn pasts_keep_their_laws()
     ensures { (s : Setup) (es : List Entry) → IsSetup s → AreWhole s → IsPast s es →
         KeepsLaws s es }

@@ -79,9 +79,9 @@ pub fn rows_slow_under_halts()
 }
 
 /// Rows follow the line of their group: in every cycle of a past the row of an axis that is on its
-/// group's path after it shows its place on that path, by the one place along it at which the
-/// group then is, and so was the setpoint before it; and under an active line the path leads to
-/// the line's targets.
+/// group's path after it shows its place on that path, by the one place along it, from 0 to its
+/// length, at which the group then is, and so was the setpoint before it; and under an active line
+/// the path leads to the line's targets.
 pub fn rows_follow_lines()
     ensures rows { (s : Setup) (es : List Entry) → IsSetup s → AreWhole s → IsPast s es →
         RowsFollow s es }

@@ -1,8 +1,9 @@
 -- The rows of the axes of a group follow its path.
-use Rattle.std.specs.Prelude.{◌≡◌, ℕ, ◌<◌, ℤ, true, List, [], ◌∷◌, ◌++◌, length}
+use Rattle.std.specs.Prelude.{◌≡◌, ℕ, ◌<◌, ℤ, ◌≤ℤ◌, true, List, [], ◌∷◌, ◌++◌, length}
 use Rattle.std.proofs.Common.{arith, subst, sym, ◌∙◌}
 use Rattle.std.proofs.lemmas.List.{append_assoc}
 use Rattle.axis_core.specs.blocks.Path.{is_on_path}
+use Rattle.group_core.proofs.KeptParts.{stepping-of}
 use Rattle.group_core.specs.Targets.{IsToward}
 use Rattle.motion_history.specs.Entries.{Entry, cycle}
 use Rattle.motion_history.specs.Setup.{Setup, IsSetup}
@@ -29,11 +30,23 @@ on_path s m j place setpoint h l k on same toward =
     let placed = one.placed in
     let its = placed.on on in
     let stands = its.stands in
+    let g = h.groups j l in
+    let core = g.core in
+    let step = stepping-of (group_at m j).group.axes _ its.path core.axes core.limits_are
+    (core.path its.path its.on) in
+    let motion = step.motion in
+    let zero = motion.from in
+    let end = step.length in
+    let pair = motion.kept in
+    let above = pair.above in
+    let below = pair.below in
     record {
       path = its.path;
       on = its.on;
       was = stands.before_is;
       is = same ∙ stands.now_is;
+      from = subst (λ z. z ≤ℤ its.path.motion.place) zero above;
+      to = subst (λ z. its.path.motion.place ≤ℤ z) end below;
       leads = λ w active line. toward w its.path active line its.on;
     }
 

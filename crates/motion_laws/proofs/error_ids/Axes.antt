@@ -26,9 +26,9 @@ use Rattle.command_pool.specs.declared.wanted.Follow.TheVariants as follow
 use Rattle.command_pool.specs.declared.wanted.Wanted.{Wanted}
 use Rattle.kin_core.specs.declared.limits.Limits.{Limits}
 use Rattle.motion_numbers.specs.Ranges.{is_outside}
-use Rattle.motion_laws.proofs.error_ids.Tests.{at_most, fails, first_same, nothing_of, not_or, outside, there, waits, within}
+use Rattle.motion_laws.proofs.error_ids.Tests.{at_most, fails, first_same, none_same, nothing_of, not_or, outside, there, waits, within}
 use Rattle.motion_laws.specs.error_ids.Axis.{Condition, FollowsItself, HasBadRatio, HasNoTable, IsVelocity, Leaves, tested}
-use Rattle.motion_laws.specs.error_ids.First.{IsFirst}
+use Rattle.motion_laws.specs.error_ids.First.{HoldsOfNone, IsFirst}
 
 -- the state of the axis
 pub disabled : (s : AxisState) → Decides (is_disabled s) (s ≡ state.Disabled)
@@ -231,3 +231,22 @@ unfolding refusal_of
 axis_first q r e =
     first_same (Condition q) _ _ (number_of r) (number_of r) (table q.wanted.kind) refl
     (first_reason q (tests_of q.wanted.kind) r e)
+
+-- where no reason holds no condition does
+no_reason : (q : Asked) (rs : List Reason) → first_holding q rs ≡ None →
+    HoldsOfNone (Condition q) (map number_of rs)
+no_reason q [] e = tt
+no_reason q (x ∷ xs) e = elim (cases_Bool (holds x q)) [
+  | inl h ↦ absurd (let some : Some x ≡ None =
+      sym (ap (λ b. if b then Some x else first_holding q xs) h) ∙ e in cc)
+  | inr h ↦ (
+    fails (holds x q) (decides x q) h,
+    no_reason q xs
+        (sym (ap (λ b. if b then Some x else first_holding q xs) h) ∙ e),
+  )
+]
+
+pub axis_none : (q : Asked) → refusal_of q ≡ None → HoldsOfNone (Condition q) (tested q.wanted.kind)
+unfolding refusal_of
+axis_none q e =
+    none_same (Condition q) _ _ (table q.wanted.kind) (no_reason q (tests_of q.wanted.kind) e)

@@ -1,5 +1,5 @@
 -- The ErrorID of a refused command of a group is the first whose condition holds.
-use Rattle.std.specs.Prelude.{◌≡◌, ◌≢◌, ◌⊎◌, refl, ℕ, zero, suc, ◌<◌, ℤ, pos, Bool, true, false, if◌then◌else◌, Some, List, [], ◌∷◌, map}
+use Rattle.std.specs.Prelude.{◌≡◌, ◌≢◌, ◌⊎◌, refl, ℕ, zero, suc, ◌<◌, ℤ, pos, Bool, true, false, if◌then◌else◌, Some, List, [], ◌∷◌, map, None}
 use Rattle.std.specs.Bool.{Decides}
 use Rattle.std.specs.List.{list_any}
 use Rattle.std.proofs.Common.{arith, ap, subst, sym, inl, inr, ◌∙◌}
@@ -25,8 +25,8 @@ use Rattle.linear_path.specs.Line.{coordinate_of}
 use Rattle.linear_path.specs.Path.{limits_at}
 use Rattle.motion_numbers.specs.Ranges.{is_outside}
 use Rattle.motion_laws.proofs.error_ids.Axes as one
-use Rattle.motion_laws.proofs.error_ids.Tests.{fails, first_same, nothing_of, outside, there, waits}
-use Rattle.motion_laws.specs.error_ids.First.{IsFirst}
+use Rattle.motion_laws.proofs.error_ids.Tests.{fails, first_same, none_same, nothing_of, outside, there, waits}
+use Rattle.motion_laws.specs.error_ids.First.{HoldsOfNone, IsFirst}
 use Rattle.motion_laws.specs.error_ids.Group.{Condition, MayCome, OneIs, OneIsNot, tested}
 
 -- the states of its axes
@@ -193,3 +193,22 @@ unfolding refusal_of
 group_first q r e =
     first_same (Condition q) _ _ (number_of r) (number_of r) (table q.wanted.kind) refl
     (first_reason q (tests_of q.wanted.kind) r e)
+
+-- where no reason holds no condition does
+no_reason : (q : Asked) (rs : List Reason) → first_holding q rs ≡ None →
+    HoldsOfNone (Condition q) (map number_of rs)
+no_reason q [] e = tt
+no_reason q (x ∷ xs) e = elim (cases_Bool (holds x q)) [
+  | inl h ↦ absurd (let some : Some x ≡ None =
+      sym (ap (λ b. if b then Some x else first_holding q xs) h) ∙ e in cc)
+  | inr h ↦ (
+    fails (holds x q) (decides x q) h,
+    no_reason q xs
+        (sym (ap (λ b. if b then Some x else first_holding q xs) h) ∙ e),
+  )
+]
+
+pub group_none : (q : Asked) → refusal_of q ≡ None → HoldsOfNone (Condition q) (tested q.wanted.kind)
+unfolding refusal_of
+group_none q e =
+    none_same (Condition q) _ _ (table q.wanted.kind) (no_reason q (tests_of q.wanted.kind) e)

@@ -12,7 +12,7 @@ use Rattle.command_pool.specs.declared.kind.BufferMode.{BufferMode}
 use Rattle.command_pool.specs.declared.kind.BufferMode.TheVariants as mode
 use Rattle.motion_numbers.specs.Ranges.{is_outside}
 use Rattle.motion_laws.proofs.causes.Answers.{inside}
-use Rattle.motion_laws.specs.error_ids.First.{IsFirst}
+use Rattle.motion_laws.specs.error_ids.First.{HoldsOfNone, IsFirst}
 
 -- a test that is false says that what it decides isn't so
 pub fails : {P : Type 0} (b : Bool) → Decides b P → b ≡ false → P → ⊥
@@ -58,3 +58,7 @@ there (Some x) = (λ h e. cc, λ h. refl)
 pub first_same : (P : ℕ → Type 0) (ns ms : List ℕ) (n m : ℕ) → ns ≡ ms → n ≡ m →
     IsFirst P ns n → IsFirst P ms m
 first_same P ns ms n m e f h = subst (λ xs. IsFirst P xs m) e (subst (IsFirst P ns) f h)
+
+-- so does that something holds of none of them
+pub none_same : (P : ℕ → Type 0) (ns ms : List ℕ) → ns ≡ ms → HoldsOfNone P ns → HoldsOfNone P ms
+none_same P ns ms e h = subst (HoldsOfNone P) e h

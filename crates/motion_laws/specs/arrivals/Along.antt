@@ -1,11 +1,11 @@
 -- How the rows of axes move under a line of their group (PLCopen Motion Control Part 4,
 -- MC_MoveLinearAbsolute).
-use Rattle.std.specs.Prelude.{◌≡◌, ℕ, ◌<◌, ℤ, true, Some, List, ◌∷◌, ◌++◌, length, slice_get}
+use Rattle.std.specs.Prelude.{◌≡◌, ℕ, ◌<◌, ℤ, ◌≤ℤ◌, pos, true, Some, List, ◌∷◌, ◌++◌, length, slice_get}
 use Rattle.axis_core.specs.blocks.Path.{is_on_path}
 use Rattle.axis_state.specs.declared.definition.AxisRow.{AxisRow}
 use Rattle.command_pool.specs.declared.kind.BlockKind.TheVariants as kind
 use Rattle.command_pool.specs.declared.wanted.Wanted.{Wanted}
-use Rattle.group_core.specs.Tracks.{OnPath, place_on}
+use Rattle.group_core.specs.Tracks.{OnPath, length_of, place_on}
 use Rattle.group_state.specs.declared.state.GroupRow.{GroupRow}
 use Rattle.motion_history.specs.Entries.{Entry, cycle}
 use Rattle.motion_history.specs.Setup.{Setup}
@@ -14,13 +14,15 @@ use Rattle.motion_kernel.specs.Machine.{PlacedGroup, axis_at, group_at}
 use Rattle.motion_kernel.specs.members.Members.{member_at, members_at}
 
 -- two setpoints of an axis, the one before and the current one, are its places on the path of its
--- group, by the place on it before and the one now, which are those of all its axes; and under an
--- active line the path leads to the line's targets
+-- group, by the place on it before and the one now, which are those of all its axes, and the latter
+-- within its length; and under an active line the path leads to the line's targets
 pub record FollowsPath (g : PlacedGroup) (place : ℕ) (before now : ℤ) : Type 0 where
   pub path : OnPath
   pub on : g.path ≡ Some path
   pub was : before ≡ place_on path.way place path.motion.previous
   pub is : now ≡ place_on path.way place path.motion.place
+  pub from : pos 0 ≤ℤ path.motion.place
+  pub to : path.motion.place ≤ℤ pos (length_of path.way)
   pub leads : (w : Wanted) → g.group.active ≡ Some w → w.kind ≡ kind.MoveLinearAbsolute →
       path.way.targets ≡ w.targets
 

@@ -34,8 +34,8 @@ pub record TakesSetpoints (d : DriveIn) : Type 0 where
   pub enabled : state_of_word d.statusword ≡ Some drive.OperationEnabled
   pub mode : d.mode_display ≡ pos 8
 
--- an axis that is driven with power on loses its drive, which takes no setpoints any more, without a
--- fault. IEC 61800-7-201, object 6041h
+-- an axis that is driven with power on loses its drive, which takes no setpoints any more, and
+-- reports no fault. IEC 61800-7-201, object 6041h
 pub record LosesDrive (a : Axis) (d : DriveIn) : Type 0 where
   pub powered : is_powered a ≡ true
   pub driven : a.driven ≡ true

@@ -1,5 +1,5 @@
--- Where the errors come from that rows show, and that instances are notified (PLCopen Motion Control
--- Part 1 and Part 4, the state diagrams).
+-- Where the errors come from that rows show, and by which commands end (PLCopen Motion Control Part
+-- 1 and Part 4, the state diagrams).
 use Rattle.std.specs.Prelude.{◌≡◌, ◌≢◌, ℕ, true, false, Some, List, [], ◌∷◌, ◌++◌, slice_get}
 use Rattle.axis_state.specs.declared.definition.AxisRow.{AxisRow}
 use Rattle.command_pool.specs.declared.ending.Finish.TheVariants as finish
@@ -54,8 +54,8 @@ pub record IsBrought (s : Setup) (o : Object) (error : ℕ) (es : List Entry) : 
   pub brings : Brings s (machine_after s made) entry o error
   pub since : KeepsError s o error (after s (machine_after s made) entry) more
 
--- each error that a row of a history shows is brought so, in its cycle or in an entry before it; and
--- each error by which a command ends is brought by that entry
+-- each error that a row of a history shows is brought so, in its cycle or in an entry before it;
+-- and each error by which a command ends is brought by that entry
 pub record ErrorsAreBrought (s : Setup) (es : List Entry) : Type 0 where
   pub axes : (made more : List Entry) (c n : ℕ) (rows : List AxisRow) (grows : List GroupRow)
       (r : AxisRow) → es ≡ made ++ cycle c rows grows ∷ more → slice_get rows n ≡ Some r →
