@@ -17,5 +17,7 @@ pub mod limits
 pub mod Histories
 pub mod owners
 pub mod entries
+pub mod causes
+pub mod error_ids
 pub mod arrivals
 pub mod results

@@ -5,3 +5,5 @@ pub mod Paths
 pub mod PathsDone
 pub mod PathsEnd
 pub mod Standing
+pub mod Slowing
+pub mod Along

@@ -5,8 +5,12 @@ use Rattle.motion_history.specs.Entries.{Entry}
 use Rattle.motion_history.specs.Setup.{Setup}
 use Rattle.motion_kernel.specs.Counted.{RowsAreCounted}
 use Rattle.motion_kernel.specs.Histories.{machine_after}
+use Rattle.motion_laws.specs.arrivals.Along.{RowsFollow}
 use Rattle.motion_laws.specs.arrivals.Moves.{MovesArrive}
 use Rattle.motion_laws.specs.arrivals.Rows.{RowsStand}
+use Rattle.motion_laws.specs.arrivals.Slowing.{HaltsSlow}
+use Rattle.motion_laws.specs.causes.Rows.{ErrorsAreBrought}
+use Rattle.motion_laws.specs.error_ids.Calls.{RefusalsAreFirst}
 use Rattle.motion_laws.specs.entries.Kept.{KeepsEntries}
 use Rattle.motion_laws.specs.arrivals.Paths.{PathsEnd}
 use Rattle.motion_laws.specs.results.Comes.{ResultsCome, ResultsGo, ResultsStay}
@@ -19,8 +23,10 @@ use Rattle.motion_laws.specs.limits.Safe.{IsSafe}
 -- laws of entries; the commands that lead an axis or a group to an end come there in time; each
 -- entry makes of each instance what its commands give, and each end is reported; each result comes
 -- of such an end, stays while Execute is true, and goes with it; commands end by their kinds; a
--- move is Done at its target; rows show that moves arrive in time; and the places of each row's
--- axis have counts
+-- move is Done at its target; rows show that moves, Halts and Stops end in time; the places of each
+-- row's axis have counts; each error that a row shows has its cause; a call is refused by the first
+-- ErrorID whose condition holds, and only then; and rows slow down under a Halt, and follow their
+-- group's line
 pub record KeepsLaws (s : Setup) (es : List Entry) : Type 0 where
   pub limits : KeepTheirLimits s es
   pub safe : (made more : List Entry) → es ≡ made ++ more → IsSafe s (machine_after s made)
@@ -35,3 +41,7 @@ pub record KeepsLaws (s : Setup) (es : List Entry) : Type 0 where
   pub targets : MovesEndThere s es
   pub rows : RowsStand s es
   pub counts : RowsAreCounted s es
+  pub causes : ErrorsAreBrought s es
+  pub refusals : RefusalsAreFirst s es
+  pub halts : HaltsSlow s es
+  pub lines : RowsFollow s es

@@ -2,6 +2,8 @@ pub mod owners
 pub mod calls
 pub mod limits
 pub mod entries
+pub mod causes
+pub mod error_ids
 pub mod arrivals
 pub mod results
 pub mod Laws

@@ -26,8 +26,9 @@ use state_events::{axes_change_by_their_events, groups_change_by_their_events};
 /// drive's answer brings, or the first row of a driven spell, or else the rest on its group's path,
 /// the error or the end of its command, and what takes over; then the released stop; and last the
 /// row of a Reset. Those of a group are an error of a member or the end of its command; then the
-/// released stop; and last, after the cycles of its axes, the row of a GroupReset. So it is in
-/// every machine that is kept, and in every entry of a past.
+/// released stop; and last, after the cycles of its axes, the row of a GroupReset. All are given
+/// by the machine before the entry and by the entry, not by the machine after it. So it is in every
+/// machine that is kept, and in every entry of a past.
 pub fn states_change_by_their_events()
     ensures call { (s : Setup) (m : Machine) (k : ℕ) (i : Inputs) (reply : Outputs) → AreWhole s →
         IsCall s k i → IsMachineKept s m → GoByEvents s m (call k i reply) }

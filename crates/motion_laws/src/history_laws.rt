@@ -12,12 +12,14 @@ ghost use Rattle.motion_kernel.specs.kept.Machine.{AreWhole};
 
 use crate::arrival_laws::{moves_arrive_in_time, paths_end_in_time};
 use crate::entry_laws::entries_keep_their_laws;
+use crate::error_laws::errors_have_causes;
 use crate::kind_laws::commands_end_by_their_kinds;
 use crate::limit_laws::{at_most_eight_wait, axes_stay_stoppable, rows_keep_limits};
+use crate::refusal_laws::refusals_are_the_first;
 use crate::result_laws::{
     done_moves_are_at_their_targets, results_are_told, results_come_of_ends, results_stay_shown,
 };
-use crate::row_laws::rows_show_that_moves_arrive;
+use crate::row_laws::{rows_follow_lines, rows_show_that_moves_arrive, rows_slow_under_halts};
 use motion_kernel::{rows_are_counted, segments_join};
 
 /// In every past each row keeps its axis's limits; and after every entry each axis that is driven
@@ -30,8 +32,10 @@ use motion_kernel::{rows_are_counted, segments_join};
 /// time, and no blended move hangs; each end, be it a refusal, is reported to the instance whose
 /// command it was, and to no other; each result that a reply reports comes of such an end, stays
 /// while Execute is true, and goes with it; commands end by their kinds; a move is Done at its
-/// target; rows show that moves arrive in time; and no Home moves an axis out of the counts of its
-/// drive.
+/// target; rows show that moves, Halts and Stops end in time; no Home moves an axis out of the
+/// counts of its drive; each error that a row shows has its cause in the entries so far; a call is
+/// refused by the first ErrorID of its kind's table whose condition holds, and only where one does;
+/// and rows slow down under a Halt and a Stop, and follow the line of their group.
 pub fn pasts_keep_their_laws()
     ensures { (s : Setup) (es : List Entry) → IsSetup s → AreWhole s → IsPast s es →
         KeepsLaws s es }
@@ -49,6 +53,10 @@ pub fn pasts_keep_their_laws()
     done_moves_are_at_their_targets();
     rows_show_that_moves_arrive();
     rows_are_counted();
+    errors_have_causes();
+    refusals_are_the_first();
+    rows_slow_under_halts();
+    rows_follow_lines();
 }
 
 /// Every legal history is a past, and so keeps its laws.

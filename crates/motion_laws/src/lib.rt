@@ -21,7 +21,7 @@ mod row_laws;
 
 pub use arrival_laws::{moves_arrive_in_time, paths_end_in_time};
 pub use entry_laws::entries_keep_their_laws;
-pub use error_laws::errors_are_told_as_shown;
+pub use error_laws::{errors_are_told_as_shown, errors_have_causes};
 pub use event_laws::states_change_by_their_events;
 pub use history_laws::{
     histories_keep_their_laws, pasts_keep_their_laws, segments_keep_their_laws,
@@ -30,9 +30,12 @@ pub use kind_laws::commands_end_by_their_kinds;
 pub use limit_laws::{at_most_eight_wait, axes_stay_stoppable, rows_keep_limits};
 pub use outcome_laws::entries_make_outcomes;
 pub use owner_laws::commands_are_where_their_instances_show;
-pub use refusal_laws::refusals_change_nothing;
+pub use refusal_laws::{refusals_are_the_first, refusals_change_nothing};
 pub use reply_laws::{replies_show_commands, replies_tell_one_result};
 pub use result_laws::{
     done_moves_are_at_their_targets, results_are_told, results_come_of_ends, results_stay_shown,
 };
-pub use row_laws::{rows_show_errors, rows_show_that_moves_arrive, rows_show_the_machine};
+pub use row_laws::{
+    rows_follow_lines, rows_show_errors, rows_show_that_moves_arrive, rows_show_the_machine,
+    rows_slow_under_halts,
+};

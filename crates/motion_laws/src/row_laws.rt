@@ -9,14 +9,20 @@ ghost use Rattle.motion_kernel.specs.Histories.{IsCycleOf, IsPast, after, inputs
 ghost use Rattle.motion_kernel.specs.Machine.{Machine};
 ghost use Rattle.motion_kernel.specs.cycles.Cycles.{after_cycle};
 ghost use Rattle.motion_kernel.specs.kept.Machine.{AreWhole, IsMachineKept};
+ghost use Rattle.motion_laws.specs.arrivals.Along.{RowsFollow};
 ghost use Rattle.motion_laws.specs.arrivals.Rows.{RowsStand};
+ghost use Rattle.motion_laws.specs.arrivals.Slowing.{HaltsSlow};
 ghost use Rattle.motion_laws.specs.entries.Errors.{ErrorsShow};
 ghost use Rattle.motion_laws.specs.entries.Rows.{RowsShow, ShowMachine};
 
 use crate::arrival_laws::moves_arrive_in_time;
-use axis_core::errors_stand_in_error_stop as axis_errors_stand;
-use command_changes::axis_fates_are_told;
-use group_core::{errors_are_those_of_axes, errors_stand_in_error_stop as group_errors_stand};
+use axis_core::{errors_stand_in_error_stop as axis_errors_stand, paths_are_followed};
+use command_changes::{axis_fates_are_told, group_fates_are_told};
+use group_core::{
+    courses_end_in_time as group_courses_end, errors_are_those_of_axes,
+    errors_stand_in_error_stop as group_errors_stand, lines_lead_to_their_targets,
+};
+use kin_core::braking_steps_are_only_cut;
 use motion_kernel::machines_stay_kept;
 
 /// The rows of a cycle show the machine after it: the row of an axis its state, its error, whether
@@ -46,10 +52,10 @@ pub fn rows_show_errors()
     errors_are_those_of_axes();
 }
 
-/// Rows show that moves arrive in time: in every past, from the entry in which a move
-/// becomes active, and where the history has as many cycles after it as the move's bound, a row of
-/// its axis within these stands at the target, where the setpoint before it was, or the move was
-/// aborted, faulted or blended before.
+/// Rows show that moves arrive in time, and that Halts and Stops come to rest: in every past, from
+/// the entry in which a move, a Halt or a Stop becomes active, and where the history has as many
+/// cycles after it as its bound, a row of its axis within these stands where the setpoint before
+/// it was, a move's at its target; or the command was aborted, faulted or blended before.
 pub fn rows_show_that_moves_arrive()
     ensures rows { (s : Setup) (es : List Entry) → IsSetup s → AreWhole s → IsPast s es →
         RowsStand s es }
@@ -58,4 +64,32 @@ pub fn rows_show_that_moves_arrive()
     moves_arrive_in_time();
     machines_stay_kept();
     axis_fates_are_told();
+}
+
+/// Rows slow down under a Halt and a Stop: in every cycle of a past in which one is the active
+/// command of an axis, and which does not end it by an error, the step of the axis's row is less
+/// than the step before it by at least the Deceleration, as far as rest, and does not turn back.
+pub fn rows_slow_under_halts()
+    ensures rows { (s : Setup) (es : List Entry) → IsSetup s → AreWhole s → IsPast s es →
+        HaltsSlow s es }
+{
+    rows_show_the_machine();
+    machines_stay_kept();
+    braking_steps_are_only_cut();
+}
+
+/// Rows follow the line of their group: in every cycle of a past the row of an axis that is on its
+/// group's path after it shows its place on that path, by the one place along it, from 0 to its
+/// length, at which the group then is, and so was the setpoint before it; and under an active line
+/// the path leads to the line's targets.
+pub fn rows_follow_lines()
+    ensures rows { (s : Setup) (es : List Entry) → IsSetup s → AreWhole s → IsPast s es →
+        RowsFollow s es }
+{
+    rows_show_the_machine();
+    machines_stay_kept();
+    group_fates_are_told();
+    group_courses_end();
+    lines_lead_to_their_targets();
+    paths_are_followed();
 }

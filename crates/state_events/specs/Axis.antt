@@ -1,6 +1,6 @@
 -- By which events of the diagram an axis changes its state, in a call and in a cycle (PLCopen
 -- Motion Control Part 1, the state diagram; their order within a cycle is this project's profile).
-use Rattle.std.specs.Prelude.{◌≡◌, Bool, true, false, ◌&&◌, not, nat_eq, if◌then◌else◌, Option, Some, None, is_some, List, [], ◌∷◌, ◌++◌}
+use Rattle.std.specs.Prelude.{◌≡◌, Bool, true, false, ◌&&◌, not, nat_eq, if◌then◌else◌, Option, Some, None, is_some, List, [], ◌∷◌, ◌++◌, slice_get}
 use Rattle.axis_state.specs.Diagram.{IsFrom, next_of}
 use Rattle.axis_state.specs.declared.diagram.AxisEvent.{AxisEvent}
 use Rattle.axis_state.specs.declared.diagram.AxisEvent.TheVariants as event
@@ -12,7 +12,8 @@ use Rattle.command_pool.specs.declared.kind.BlockKind.{BlockKind}
 use Rattle.command_pool.specs.declared.kind.BlockKind.TheVariants as kind
 use Rattle.command_pool.specs.declared.wanted.Wanted.{Wanted}
 use Rattle.axis_core.specs.Cores.{Core}
-use Rattle.axis_core.specs.Drives.{answer_error_of}
+use Rattle.axis_core.specs.Cycles.{advance_in_cycle, core_after_answer}
+use Rattle.axis_core.specs.Drives.{answer_error_of, has_fault, is_driven}
 use Rattle.buffer_modes.specs.Fates.{Fate}
 use Rattle.axis_core.specs.Fates.{command_fate, cycle_fate}
 use Rattle.axis_core.specs.Kinds.{event_of}
@@ -22,7 +23,6 @@ use Rattle.axis_core.specs.blocks.Gear.{out_event}
 use Rattle.axis_core.specs.blocks.Halts.{is_at_rest}
 use Rattle.buffer_modes.specs.Owners.{is_released}
 use Rattle.axis_core.specs.blocks.Path.{place_on_path}
-use Rattle.axis_core.specs.declared.axis.Axis.{Axis}
 use Rattle.axis_core.specs.declared.look.AxisLook.{AxisLook}
 
 -- the events lead an axis from a state to another, each from a state of its row
@@ -97,17 +97,29 @@ step_events look c f =
     event_where (is_some (place_on_path c.axis look) && look.path_ends) event.PathRest
     ++ fate_events f c.waiting c.axis.state
 
+-- the active command after a cycle, by what becomes of it
+abbrev pub active_by : Fate → Option Wanted → Option Wanted
+active_by f active = if is_some f.ends then f.begins else active
+
+-- whether the axis is at rest after its step in a cycle: one that stands where its drive does is
+abbrev pub rests_in : AxisLook → Core → Bool
+rests_in look c =
+    let read = core_after_answer look.input c in
+    if is_driven c.axis look.input && read.axis.driven
+    then is_at_rest (advance_in_cycle (slice_get read.waiting 0) look read.axis).axis
+    else true
+
 -- then Stopping is left, where no command is active, the axis is at rest and nobody holds it
-abbrev pub release_events : AxisLook → AxisState → Axis → Axis → List AxisEvent
-release_events look s before after =
-    event_where (is_stopping s && not (is_some after.active) && is_at_rest after
-    && is_released before.hold look.stop_held) event.StopReleased
+abbrev pub release_events : AxisLook → AxisState → Core → Fate → List AxisEvent
+release_events look s c f =
+    event_where (is_stopping s && not (is_some (active_by f c.axis.active)) && rests_in look c
+    && is_released c.axis.hold look.stop_held) event.StopReleased
 
 -- both, where a driven spell goes on
-abbrev pub going_events : AxisLook → Core → Fate → Axis → List AxisEvent
-going_events look c f after =
+abbrev pub going_events : AxisLook → Core → Fate → List AxisEvent
+going_events look c f =
     let step = step_events look c f in
-    step ++ release_events look (state_by c.axis.state step) c.axis after
+    step ++ release_events look (state_by c.axis.state step) c f
 
 -- where none does: the first row of a driven spell, or none
 abbrev pub driven_events : Bool → AxisState → List AxisEvent
@@ -115,11 +127,11 @@ driven_events true state.Disabled = event.DrivenFirst ∷ []
 driven_events driven s = []
 
 -- first the error that the drive's answer brings; without one a driven spell goes on, or not
-abbrev pub run_events : AxisLook → Core → Fate → Axis → List AxisEvent
-run_events look c f after =
+abbrev pub run_events : AxisLook → Core → Fate → List AxisEvent
+run_events look c f =
     if nat_eq (answer_error_of c.axis look.input) 0
-    then (if after.driven && c.axis.driven then going_events look c f after
-    else driven_events after.driven c.axis.state)
+    then (if is_driven c.axis look.input && c.axis.driven then going_events look c f
+    else driven_events (is_driven c.axis look.input) c.axis.state)
     else event.Error ∷ []
 
 -- a Reset leads from ErrorStop, by whether the axis is driven. MC_Reset
@@ -128,18 +140,20 @@ reset_row true state.ErrorStop = event.ResetDriven ∷ []
 reset_row false state.ErrorStop = event.ResetNotDriven ∷ []
 reset_row driven s = []
 
--- last a pending Reset that is done
-abbrev pub reset_events : AxisState → Axis → Axis → List AxisEvent
-reset_events s before after =
-    if is_some before.reset && not (is_some after.reset) then reset_row after.driven s else []
+-- last a pending Reset, which is done where the drive has no fault and the axis rests
+abbrev pub reset_events : AxisLook → AxisState → Core → List AxisEvent
+reset_events look s c =
+    if is_some c.axis.reset && (not (has_fault look.input) && rests_in look c)
+    then reset_row (is_driven c.axis look.input) s
+    else []
 
 -- all of a cycle, one after another
-abbrev pub events_in_cycle : AxisLook → Core → Fate → Axis → List AxisEvent
-events_in_cycle look c f after =
-    let run = run_events look c f after in
-    run ++ reset_events (state_by c.axis.state run) c.axis after
+abbrev pub events_in_cycle : AxisLook → Core → Fate → List AxisEvent
+events_in_cycle look c f =
+    let run = run_events look c f in
+    run ++ reset_events look (state_by c.axis.state run) c
 
--- the events of a cycle, by what it brings, what becomes of the active command, and what the axis
--- is after it
-unfoldable pub cycle_events : AxisLook → Core → Axis → List AxisEvent
-cycle_events look c after = events_in_cycle look c (cycle_fate look c) after
+-- the events of a cycle, by the axis before it, by what it brings, and by what becomes of the
+-- active command
+unfoldable pub cycle_events : AxisLook → Core → List AxisEvent
+cycle_events look c = events_in_cycle look c (cycle_fate look c)

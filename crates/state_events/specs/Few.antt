@@ -3,12 +3,10 @@
 use Rattle.std.specs.Prelude.{◌≤◌, ℤ, Bool, length}
 use Rattle.axis_core.specs.Cores as axes
 use Rattle.axis_core.specs.Refusals.{Asked}
-use Rattle.axis_core.specs.declared.axis.Axis.{Axis}
 use Rattle.axis_core.specs.declared.look.AxisLook.{AxisLook}
 use Rattle.axis_state.specs.declared.state.AxisState.{AxisState}
 use Rattle.command_pool.specs.declared.wanted.Wanted.{Wanted}
 use Rattle.group_core.specs.Cores as groups
-use Rattle.group_core.specs.Cycles.{cycled}
 use Rattle.group_core.specs.GroupKept.{IsCoreKept}
 use Rattle.group_core.specs.Refusals.{limits_in}
 use Rattle.group_core.specs.declared.group.Group.{Group}
@@ -22,8 +20,7 @@ pub record AreFewAxisEvents : Type 0 where
   pub command : (q : Asked) (c : axes.Core) → length (axis.command_events q c) ≤ 1
   pub power : (enable : Bool) (s : AxisState) → length (axis.power_events enable s) ≤ 1
   pub path : (on : Bool) (s : AxisState) → length (axis.path_events on s) ≤ 1
-  pub cycle : (look : AxisLook) (c : axes.Core) (after : Axis) →
-      length (axis.cycle_events look c after) ≤ 3
+  pub cycle : (look : AxisLook) (c : axes.Core) → length (axis.cycle_events look c) ≤ 3
 
 -- a group has at most one in a call, by its step and by a GroupReset
 pub record AreFewGroupEvents : Type 0 where
@@ -31,6 +28,6 @@ pub record AreFewGroupEvents : Type 0 where
       length (group.command_events w jerk members c) ≤ 1
   pub power_off : (s : GroupState) → length (group.power_off_events s) ≤ 1
   pub cycle : (members : GroupLook) (c : groups.Core) → IsCoreKept (limits_in members) c →
-      length (group.step_events members c (cycled members c).group) ≤ 1
-  pub reset : (members : GroupLook) (before after : Group) →
-      length (group.reset_events members before after) ≤ 1
+      length (group.step_events members c) ≤ 1
+  pub reset : (members : GroupLook) (on_path : Bool) (g : Group) →
+      length (group.reset_events members on_path g) ≤ 1

@@ -15,6 +15,8 @@ use Rattle.group_core.specs.Calls.{asked_in, is_line_active}
 use Rattle.group_core.specs.Refusals.{refusal_of, states_in}
 use Rattle.group_core.specs.declared.reason.Reason.{Reason}
 use Rattle.group_core.specs.Cores.{Core}
+use Rattle.group_core.specs.blocks.Reset.{may_reset}
+use Rattle.state_events.specs.Axis.{active_by}
 use Rattle.group_core.specs.Cycles.{path_taken}
 use Rattle.buffer_modes.specs.Fates.{Fate}
 use Rattle.group_core.specs.Fates.{cycle_fate, is_failing}
@@ -55,22 +57,22 @@ ending_events None begins s = []
 ending_events (Some f) begins s = giving_events begins s
 
 -- then GroupStopping is left, where no command is active, nothing moves and nobody holds it
-abbrev pub release_events : Bool → GroupState → Group → Option OnPath → Group → List GroupEvent
-release_events held s before path after =
-    event_where (is_stopping s && not (is_some after.active) && not (is_moving path)
-    && is_released before.hold held) event.StopReleased
+abbrev pub release_events : Bool → GroupState → Core → Fate → Option OnPath → List GroupEvent
+release_events held s c f path =
+    event_where (is_stopping s && not (is_some (active_by f c.group.active))
+    && not (is_moving path) && is_released c.group.hold held) event.StopReleased
 
 -- both, where no error of a member stops the group
-abbrev pub going_events : Bool → Fate → Core → Option OnPath → Group → List GroupEvent
-going_events held f c path after =
+abbrev pub going_events : Bool → Fate → Core → Option OnPath → List GroupEvent
+going_events held f c path =
     let ends = ending_events f.ends f.begins c.group.state in
-    ends ++ release_events held (state_by c.group.state ends) c.group path after
+    ends ++ release_events held (state_by c.group.state ends) c f path
 
 -- the events of a group's step: an error of a member, or what becomes of its command
-unfoldable pub step_events : GroupLook → Core → Group → List GroupEvent
-step_events members c after =
+unfoldable pub step_events : GroupLook → Core → List GroupEvent
+step_events members c =
     if is_failing members c then event.MemberError ∷ []
-    else going_events members.stop_held (cycle_fate members c) c (path_taken members c) after
+    else going_events members.stop_held (cycle_fate members c) c (path_taken members c)
 
 -- a GroupReset leads from GroupErrorStop, by whether an axis is not in Standstill. MC_GroupReset
 abbrev pub reset_row : Bool → GroupState → List GroupEvent
@@ -78,11 +80,11 @@ reset_row false state.GroupErrorStop = event.ResetAllStandstill ∷ []
 reset_row true state.GroupErrorStop = event.ResetElse ∷ []
 reset_row moved s = []
 
--- after the cycles of its axes a pending GroupReset that is done
-abbrev pub reset_events : GroupLook → Group → Group → List GroupEvent
-reset_events members before after =
-    if is_some before.reset && not (is_some after.reset)
-    then reset_row (list_any is_moved (states_in members)) before.state
+-- after the cycles of its axes a pending GroupReset, which is done where it may be
+abbrev pub reset_events : GroupLook → Bool → Group → List GroupEvent
+reset_events members on_path g =
+    if is_some g.reset && may_reset on_path g
+    then reset_row (list_any is_moved (states_in members)) g.state
     else []
 
 -- a Power with Enable false on a member. MC_Power

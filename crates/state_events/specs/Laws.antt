@@ -40,9 +40,7 @@ pub record AreAxisEvents : Type 0 where
   pub detach : (owner : ℕ) (a : Axis) → (axis_without_owner owner a).state ≡ a.state
   -- in a cycle
   pub cycle : (look : AxisLook) (c : axes.Core) → axes_kept.IsCoreKept c → IsLook c.axis look →
-      axis.Lead c.axis.state
-      (axis.cycle_events look c (core_after_cycle look c).axis)
-      (core_after_cycle look c).axis.state
+      axis.Lead c.axis.state (axis.cycle_events look c) (core_after_cycle look c).axis.state
 
 -- a group changes its state by its events, one after another
 pub record AreGroupEvents : Type 0 where
@@ -60,9 +58,8 @@ pub record AreGroupEvents : Type 0 where
   -- by its step in a cycle
   pub cycle : (members : GroupLook) (c : groups.Core) →
       groups_kept.IsCoreKept (limits_in members) c →
-      group.Lead c.group.state (group.step_events members c (cycled members c).group)
-      (cycled members c).group.state
+      group.Lead c.group.state (group.step_events members c) (cycled members c).group.state
   -- by the GroupResets after the cycles of its axes
   pub reset : (members : GroupLook) (on_path : Bool) (g : Group) →
-      group.Lead g.state (group.reset_events members g (reset_where members on_path g))
+      group.Lead g.state (group.reset_events members on_path g)
       (reset_where members on_path g).state

@@ -7,8 +7,8 @@ use Rattle.axis_core.specs.declared.axis.Axis.{Axis}
 use Rattle.axis_state.specs.declared.diagram.AxisEvent.{AxisEvent}
 use Rattle.motion_history.specs.Entries.{Entry, call, cycle, end_of}
 use Rattle.motion_history.specs.Setup.{Setup}
-use Rattle.motion_kernel.specs.Histories.{after, inputs_of}
-use Rattle.motion_kernel.specs.Machine.{Machine, axis_at, axis_core_at}
+use Rattle.motion_kernel.specs.Histories.{inputs_of}
+use Rattle.motion_kernel.specs.Machine.{Machine, axis_core_at}
 use Rattle.motion_kernel.specs.cycles.Cycles.{look_of_axis}
 use Rattle.motion_laws.specs.calls.Axis as on_axis
 use Rattle.motion_laws.specs.calls.Axis.{AxisCall, by_call}
@@ -31,5 +31,4 @@ abbrev pub axis_events : Setup → Machine → Entry → ℕ → List AxisEvent
 axis_events s m (call k i reply) n = by_call call_events s (slice_get s.blocks k) k i m n
 axis_events s m (cycle c rows grows) n =
     cycle_events (look_of_axis s m (inputs_of rows) n) (axis_core_at m n)
-    (axis_at (after s m (cycle c rows grows)) n)
 axis_events s m (end_of task) n = []

@@ -1,6 +1,6 @@
 -- By which events of its diagram each group changes its state in an entry of a history (PLCopen
 -- Motion Control Part 4).
-use Rattle.std.specs.Prelude.{ℕ, List, [], ◌++◌, length, slice_get}
+use Rattle.std.specs.Prelude.{ℕ, is_some, List, [], ◌++◌, length, slice_get}
 use Rattle.cia402_machine.specs.declared.drive.DriveIn.{DriveIn}
 use Rattle.group_core.specs.Cores.{Core}
 use Rattle.group_core.specs.declared.group.Group.{Group}
@@ -8,7 +8,7 @@ use Rattle.group_core.specs.declared.look.GroupLook.{GroupLook}
 use Rattle.group_state.specs.declared.diagram.GroupEvent.{GroupEvent}
 use Rattle.motion_history.specs.Entries.{Entry, call, cycle, end_of}
 use Rattle.motion_history.specs.Setup.{Setup}
-use Rattle.motion_kernel.specs.Histories.{after, inputs_of}
+use Rattle.motion_kernel.specs.Histories.{inputs_of}
 use Rattle.motion_kernel.specs.Machine.{Machine, group_at, group_core_at}
 use Rattle.motion_kernel.specs.cycles.AxisCycles.{axes_cycled}
 use Rattle.motion_kernel.specs.cycles.Cycles.{around_in, look_of_group, stepped_in}
@@ -38,14 +38,15 @@ abbrev pub look_of_reset : Setup → Machine → List DriveIn → ℕ → GroupL
 look_of_reset s m ins j = group_look s (groups_reset s j (moved_in s m ins)).machine j 0
 
 -- its events in a cycle: those of its step, and after the cycles of its axes a GroupReset's
-abbrev pub events_in_cycle : Setup → Machine → List DriveIn → Group → ℕ → List GroupEvent
-events_in_cycle s m ins after j =
-    step_events (look_of_group s m ins j) (group_core_at m j) (stepped_group s m ins j)
-    ++ reset_events (look_of_reset s m ins j) (stepped_group s m ins j) after
+abbrev pub events_in_cycle : Setup → Machine → List DriveIn → ℕ → List GroupEvent
+events_in_cycle s m ins j =
+    step_events (look_of_group s m ins j) (group_core_at m j)
+    ++ reset_events (look_of_reset s m ins j) (is_some (group_at (moved_in s m ins) j).path)
+    (stepped_group s m ins j)
 
 -- the events of a group in an entry
 abbrev pub group_events : Setup → Machine → Entry → ℕ → List GroupEvent
 group_events s m (call k i reply) j = by_call call_events s (slice_get s.blocks k) k i m j
 group_events s m (cycle c rows grows) j =
-    events_in_cycle s m (inputs_of rows) (group_at (after s m (cycle c rows grows)) j).group j
+    events_in_cycle s m (inputs_of rows) j
 group_events s m (end_of task) j = []

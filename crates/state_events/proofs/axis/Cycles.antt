@@ -1,4 +1,4 @@
--- The events of a cycle of an axis.
+-- The events of a cycle of an axis lead it on, by what it shows after the cycle.
 use Rattle.std.specs.Prelude.{◌≡◌, refl, ℕ, Bool, true, false, not, ◌&&◌, nat_eq, Option, Some, None, is_some, [], ◌∷◌, if◌then◌else◌}
 use Rattle.std.proofs.Common.{◌∙◌, sym, ap, subst}
 use Rattle.axis_state.specs.Diagram.{next_of}
@@ -16,7 +16,8 @@ use Rattle.axis_core.proofs.KeptMoves.{Laws}
 use Rattle.std.specs.Ordering.{int_eq}
 use Rattle.axis_core.proofs.ArrivalLaws.{both-true, reset-alike, stop-alike}
 use Rattle.axis_core.specs.Cycles.{core_after_answer, core_after_cycle, core_after_step, core_after_going_on, core_after_advance}
-use Rattle.state_events.specs.Axis.{Lead, cycle_events, going_events, release_events, reset_events, run_events, driven_events, event_where, reset_row, state_by, step_events}
+use Rattle.state_events.specs.Axis.{Lead, driven_events, event_where, reset_row, state_by, step_events}
+use Rattle.state_events.proofs.axis.Shown.{going_shown, release_shown, reset_shown, run_shown, all_shown}
 use Rattle.buffer_modes.specs.Fates.{Fate, goes_on, replaced}
 use Rattle.axis_core.specs.Fates.{cycle_fate, moved_fate}
 use Rattle.axis_state.specs.States.{is_error_stop, is_stopping}
@@ -50,14 +51,14 @@ stops-by true a h = (stopping a.state (h refl), refl)
 stops-by false a h = refl
 
 -- what is shown after a cycle of the axis after its step
-record IsShownOf (a after : Axis) : Type 0 where
-  active : after.active ≡ a.active
-  rest : is_at_rest after ≡ is_at_rest a
+pub record IsShownOf (a after : Axis) : Type 0 where
+  pub active : after.active ≡ a.active
+  pub rest : is_at_rest after ≡ is_at_rest a
 
 -- a driven spell goes on
 gone-by : (look : AxisLook) (c : Core) (after : Axis) → (is_error_stop c.axis.state ≡ false → MayTakeOver c.axis.state c.waiting) →
     IsShownOf (core_after_advance look c).axis after →
-    Lead c.axis.state (going_events look c (moved_fate look c) after) (core_after_going_on look c).axis.state
+    Lead c.axis.state (going_shown look c (moved_fate look c) after) (core_after_going_on look c).axis.state
 gone-by look c after may s =
     let a = (core_after_advance look c).axis in
     let es = step_events look c (moved_fate look c) in
@@ -67,18 +68,18 @@ gone-by look c after may s =
     let same : leaves_stopping look a ≡ (is_stopping (state_by c.axis.state es) && not (is_some after.active) && is_at_rest after && is_released c.axis.hold look.stop_held) =
     t.test ∙ (λ i. is_stopping (at i) && not (is_some (sym s.active i)) && sym s.rest i && is_released c.axis.hold look.stop_held) in
     let P : Bool → Type 0 = λ b. Lead a.state (event_where b event.StopReleased) (core_after_going_on look c).axis.state in
-    lead-on c.axis.state a.state _ es (release_events look (state_by c.axis.state es) c.axis after) h
+    lead-on c.axis.state a.state _ es (release_shown look (state_by c.axis.state es) c.axis after) h
     (subst P same (stops-by (leaves_stopping look a) a (leaves-says look a)))
 
 run-by : (b driven : Bool) (look : AxisLook) (c : Core) (after : Axis) → (b ≡ true → is_error_stop c.axis.state ≡ false → MayTakeOver c.axis.state c.waiting) →
     (b ≡ true → IsShownOf (core_after_advance look c).axis after) →
-    Lead c.axis.state (if b then going_events look c (if b then moved_fate look c else goes_on) after else driven_events driven c.axis.state)
+    Lead c.axis.state (if b then going_shown look c (if b then moved_fate look c else goes_on) after else driven_events driven c.axis.state)
     (if b then core_after_going_on look c else record c { axis = axis_at_drive driven look.input c.axis }).axis.state
 run-by true driven look c after may s = gone-by look c after (may refl) (s refl)
 run-by false driven look c after may s = enabled-by driven c.axis.state
 
 -- the axis before its Reset and its word
-abbrev run_axis : AxisLook → Core → Core
+abbrev pub run_axis : AxisLook → Core → Core
 run_axis look c = core_after_step look (is_driven c.axis look.input) (core_after_answer look.input c)
 
 answered-by : (b : Bool) (look : AxisLook) (c : Core) (after : Axis) → nat_eq (answer_error_of c.axis look.input) 0 ≡ b →
@@ -86,7 +87,7 @@ answered-by : (b : Bool) (look : AxisLook) (c : Core) (after : Axis) → nat_eq 
     (b ≡ true → (is_driven c.axis look.input && c.axis.driven) ≡ true → IsShownOf (core_after_advance look c).axis after) →
     (let d = is_driven c.axis look.input in
     let f : Fate = if b then (if d && c.axis.driven then moved_fate look c else goes_on) else replaced (finish.Error (answer_error_of c.axis look.input)) c.axis.active None in
-    Lead c.axis.state (if b then (if d && c.axis.driven then going_events look c f after else driven_events d c.axis.state) else event.Error ∷ [])
+    Lead c.axis.state (if b then (if d && c.axis.driven then going_shown look c f after else driven_events d c.axis.state) else event.Error ∷ [])
     (core_after_step look d (if b then c else core_after_error (answer_error_of c.axis look.input) c)).axis.state)
 answered-by true look c after h may s =
     run-by (is_driven c.axis look.input && c.axis.driven) (is_driven c.axis look.input) look c after (may refl) (s refl)
@@ -112,23 +113,23 @@ driven-one : (b : Bool) (a : Axis) → (if b then after_reset a else a).driven �
 driven-one true a = refl
 driven-one false a = refl
 
-driven-reset : (o : Option PendingReset) (input : DriveIn) (a : Axis) → (reset_axis o input a).driven ≡ a.driven
+pub driven-reset : (o : Option PendingReset) (input : DriveIn) (a : Axis) → (reset_axis o input a).driven ≡ a.driven
 driven-reset None input a = refl
 driven-reset (Some p) input a = driven-one (may_reset input a) a
 
-if-true : {A : Type 0} (b : Bool) (x y : A) → b ≡ true → (if b then x else y) ≡ x
+pub if-true : {A : Type 0} (b : Bool) (x y : A) → b ≡ true → (if b then x else y) ≡ x
 if-true true x y h = refl
 if-true false x y h = absurd (cc)
 
-going-run : (look : AxisLook) (c : Core) → nat_eq (answer_error_of c.axis look.input) 0 ≡ true → (is_driven c.axis look.input && c.axis.driven) ≡ true →
+pub going-run : (look : AxisLook) (c : Core) → nat_eq (answer_error_of c.axis look.input) 0 ≡ true → (is_driven c.axis look.input && c.axis.driven) ≡ true →
     run_axis look c ≡ core_after_going_on look c
 going-run look c e d =
     ap (λ x. core_after_step look (is_driven c.axis look.input) x) (if-true (nat_eq (answer_error_of c.axis look.input) 0) c (core_after_error (answer_error_of c.axis look.input) c) e)
     ∙ if-true (is_driven c.axis look.input && c.axis.driven) (core_after_going_on look c) (record c { axis = axis_at_drive (is_driven c.axis look.input) look.input c.axis }) d
 
 stop-one : (b : Bool) (s : AxisState) (a : Axis) → Stepped (record a { hold = None }) (record (if b then record a { state = s; hold = None } else a) { hold = None })
-stop-one true s a = record { hold = refl; reset = refl; driven = refl }
-stop-one false s a = record { hold = refl; reset = refl; driven = refl }
+stop-one true s a = record { hold = refl; reset = refl; driven = refl; active = refl }
+stop-one false s a = record { hold = refl; reset = refl; driven = refl; active = refl }
 
 going-keeps : (look : AxisLook) (c : Core) → ((core_after_going_on look c).axis.reset ≡ c.axis.reset) × ((core_after_going_on look c).axis.driven ≡ c.axis.driven)
 going-keeps look c =
@@ -150,34 +151,63 @@ unfolding core_after_error
 answer-reset true n c = refl
 answer-reset false n c = refl
 
--- each cycle changes the state by its events
-pub cycles-by : Laws → (look : AxisLook) (c : Core) → IsLook c.axis look → IsCoreKept c →
-    Lead c.axis.state (cycle_events look c (core_after_cycle look c).axis) (core_after_cycle look c).axis.state
-unfolding core_after_cycle cycle_fate cycle_events
-cycles-by g look c brought k =
-    let d = is_driven c.axis look.input in
-    let read = core_after_answer look.input c in
+-- what is shown of the axis after a cycle in which its driven spell goes on
+pub shown-of : (look : AxisLook) (c : Core) → nat_eq (answer_error_of c.axis look.input) 0 ≡ true →
+    (is_driven c.axis look.input && c.axis.driven) ≡ true → IsShownOf (core_after_advance look c).axis (core_after_cycle look c).axis
+unfolding core_after_cycle
+shown-of look c e h =
     let r = (run_axis look c).axis in
-    let after = (core_after_cycle look c).axis in
-    let f = cycle_fate look c in
-    let held : r.reset ≡ c.axis.reset = step-reset (d && read.axis.driven) d look read ∙ answer-reset (nat_eq (answer_error_of c.axis look.input) 0) (answer_error_of c.axis look.input) c in
-    let on : after.driven ≡ d = driven-reset r.reset look.input r ∙ step-driven (d && read.axis.driven) d look read refl in
     let alike = reset-alike r.reset look.input r in
-    let shown : nat_eq (answer_error_of c.axis look.input) 0 ≡ true → (d && c.axis.driven) ≡ true → IsShownOf (core_after_advance look c).axis after = λ e h.
     let same = going-run look c e h in
     let stop = stop-alike look (core_after_advance look c).axis in
     record {
       active = alike.active ∙ ap (λ (x : Core). x.axis.active) same ∙ stop.active;
       rest = (λ i. int_eq (alike.setpoint i) (alike.previous i)) ∙ ap (λ (x : Core). is_at_rest x.axis) same ∙ (λ i. int_eq (stop.setpoint i) (stop.previous i));
-    } in
+    }
+
+-- what its step leaves of a pending Reset and of the drive
+pub run-reset : (look : AxisLook) (c : Core) → (run_axis look c).axis.reset ≡ c.axis.reset
+run-reset look c =
+    let d = is_driven c.axis look.input in
+    let read = core_after_answer look.input c in
+    step-reset (d && read.axis.driven) d look read ∙ answer-reset (nat_eq (answer_error_of c.axis look.input) 0) (answer_error_of c.axis look.input) c
+
+pub run-driven : (look : AxisLook) (c : Core) → (run_axis look c).axis.driven ≡ is_driven c.axis look.input
+run-driven look c =
+    let d = is_driven c.axis look.input in
+    let read = core_after_answer look.input c in
+    step-driven (d && read.axis.driven) d look read refl
+
+-- its events lead the axis on before its Reset
+pub runs-by : Laws → (look : AxisLook) (c : Core) → IsLook c.axis look → IsCoreKept c →
+    Lead c.axis.state (run_shown look c (cycle_fate look c) (core_after_cycle look c).axis) (run_axis look c).axis.state
+unfolding core_after_cycle cycle_fate
+runs-by g look c brought k =
+    let d = is_driven c.axis look.input in
+    let read = core_after_answer look.input c in
+    let r = (run_axis look c).axis in
+    let after = (core_after_cycle look c).axis in
+    let f = cycle_fate look c in
+    let on : after.driven ≡ d = driven-reset r.reset look.input r ∙ run-driven look c in
+    let shown : nat_eq (answer_error_of c.axis look.input) 0 ≡ true → (d && c.axis.driven) ≡ true → IsShownOf (core_after_advance look c).axis after = shown-of look c in
     let may : nat_eq (answer_error_of c.axis look.input) 0 ≡ true → (d && c.axis.driven) ≡ true → is_error_stop c.axis.state ≡ false → MayTakeOver c.axis.state c.waiting = λ e h s.
     let back : read ≡ c = if-true (nat_eq (answer_error_of c.axis look.input) 0) c (core_after_error (answer_error_of c.axis look.input) c) e in
     let P : Core → Type 0 = λ x. (d && x.axis.driven) ≡ true → is_error_stop x.axis.state ≡ false → MayTakeOver x.axis.state x.waiting in
     subst P back (λ y z. (may-go-on g look c brought k y).queue) h s in
-    let P : Bool → Type 0 = λ x. Lead c.axis.state (if nat_eq (answer_error_of c.axis look.input) 0 then (if x && c.axis.driven then going_events look c f after else driven_events x c.axis.state) else event.Error ∷ []) r.state in
-    let run : Lead c.axis.state (run_events look c f after) r.state = subst P (sym on) (answered-by (nat_eq (answer_error_of c.axis look.input) 0) look c after refl may shown) in
-    let at : r.state ≡ state_by c.axis.state (run_events look c f after) = led-to c.axis.state r.state (run_events look c f after) run in
+    let P : Bool → Type 0 = λ x. Lead c.axis.state (if nat_eq (answer_error_of c.axis look.input) 0 then (if x && c.axis.driven then going_shown look c f after else driven_events x c.axis.state) else event.Error ∷ []) r.state in
+    subst P (sym on) (answered-by (nat_eq (answer_error_of c.axis look.input) 0) look c after refl may shown)
+
+-- each cycle changes the state by its events
+pub cycles-shown : Laws → (look : AxisLook) (c : Core) → IsLook c.axis look → IsCoreKept c →
+    Lead c.axis.state (all_shown look c (core_after_cycle look c).axis) (core_after_cycle look c).axis.state
+unfolding core_after_cycle all_shown
+cycles-shown g look c brought k =
+    let r = (run_axis look c).axis in
+    let after = (core_after_cycle look c).axis in
+    let f = cycle_fate look c in
+    let run = runs-by g look c brought k in
+    let at : r.state ≡ state_by c.axis.state (run_shown look c f after) = led-to c.axis.state r.state (run_shown look c f after) run in
     let Q : Option PendingReset → Type 0 = λ o. Lead r.state (if is_some o && not (is_some after.reset) then reset_row after.driven r.state else []) after.state in
     let R : AxisState → Type 0 = λ s. Lead r.state (if is_some c.axis.reset && not (is_some after.reset) then reset_row after.driven s else []) after.state in
-    lead-on c.axis.state r.state after.state (run_events look c f after) (reset_events (state_by c.axis.state (run_events look c f after)) c.axis after) run
-    (subst R at (subst Q held (reset-by r.reset look.input r refl)))
+    lead-on c.axis.state r.state after.state (run_shown look c f after) (reset_shown (state_by c.axis.state (run_shown look c f after)) c.axis after) run
+    (subst R at (subst Q (run-reset look c) (reset-by r.reset look.input r refl)))

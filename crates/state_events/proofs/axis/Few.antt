@@ -8,7 +8,7 @@ use Rattle.axis_state.specs.declared.state.AxisState.{AxisState}
 use Rattle.axis_state.specs.declared.state.AxisState.TheVariants as state
 use Rattle.axis_core.specs.Cores.{Core}
 use Rattle.axis_core.specs.Cycles.{Advance, advance_in_cycle, advance_without_error}
-use Rattle.axis_core.specs.Drives.{answer_error_of, is_driven}
+use Rattle.axis_core.specs.Drives.{answer_error_of, has_fault, is_driven}
 use Rattle.axis_core.specs.Fates.{command_fate, cycle_fate, ending_fate, is_blended, moved_fate}
 use Rattle.axis_core.specs.Kinds.{event_of}
 use Rattle.axis_core.specs.Refusals.{Asked}
@@ -22,7 +22,7 @@ use Rattle.command_pool.specs.declared.kind.BlockKind.{BlockKind}
 use Rattle.command_pool.specs.declared.kind.BlockKind.TheVariants as kind
 use Rattle.command_pool.specs.declared.wanted.Wanted.{Wanted}
 use Rattle.group_core.proofs.KeptCalls.{by-if}
-use Rattle.state_events.specs.Axis.{begin_events, command_events, cycle_events, driven_events, ending_events, event_where, events_by, giving_events, going_events, last_events, path_events, power_events, release_events, reset_events, reset_row, run_events, state_by, step_events}
+use Rattle.state_events.specs.Axis.{begin_events, command_events, cycle_events, driven_events, ending_events, event_where, events_by, giving_events, going_events, last_events, path_events, power_events, release_events, reset_events, reset_row, rests_in, run_events, state_by, step_events}
 
 where_few : (b : Bool) (e : AxisEvent) → length (event_where b e) ≤ 1
 where_few true e = omega arith
@@ -99,13 +99,13 @@ stepped_few None ends o begins ws s h = ending_few o begins ws s
 stepped_few (Some p) true o begins ws s h = subst (λ x. length (event.PathRest ∷ ending_events x begins ws s) ≤ 1) (sym (h refl)) (omega arith)
 stepped_few (Some p) false o begins ws s h = ending_few o begins ws s
 
-going_few : (look : AxisLook) (c : Core) (f : Fate) (after : Axis) → (is_some (place_on_path c.axis look) ≡ true → f.ends ≡ None) →
-    length (going_events look c f after) ≤ 2
-going_few look c f after h =
+going_few : (look : AxisLook) (c : Core) (f : Fate) → (is_some (place_on_path c.axis look) ≡ true → f.ends ≡ None) →
+    length (going_events look c f) ≤ 2
+going_few look c f h =
     let es = step_events look c f in
     let step = stepped_few (place_on_path c.axis look) look.path_ends f.ends f.begins c.waiting c.axis.state h in
-    let release : length (release_events look (state_by c.axis.state es) c.axis after) ≤ 1 = where_few _ event.StopReleased in
-    let sum = length-append es (release_events look (state_by c.axis.state es) c.axis after) in
+    let release : length (release_events look (state_by c.axis.state es) c f) ≤ 1 = where_few _ event.StopReleased in
+    let sum = length-append es (release_events look (state_by c.axis.state es) c f) in
     omega arith
 
 driven_few : (driven : Bool) (s : AxisState) → length (driven_events driven s) ≤ 1
@@ -119,28 +119,28 @@ row_few false state.ErrorStop = omega arith
 row_few true _ = omega arith
 row_few false _ = omega arith
 
-reset_few : (s : AxisState) (before after : Axis) → length (reset_events s before after) ≤ 1
-reset_few s before after =
-    by-if (λ (es : List AxisEvent). length es ≤ 1) (is_some before.reset && not (is_some after.reset)) _ [] (λ h. row_few after.driven s) (λ h. omega arith)
+reset_few : (look : AxisLook) (s : AxisState) (c : Core) → length (reset_events look s c) ≤ 1
+reset_few look s c =
+    by-if (λ (es : List AxisEvent). length es ≤ 1) (is_some c.axis.reset && (not (has_fault look.input) && rests_in look c)) _ [] (λ h. row_few (is_driven c.axis look.input) s) (λ h. omega arith)
 
-run_few : (look : AxisLook) (c : Core) (after : Axis) → length (run_events look c (cycle_fate look c) after) ≤ 2
+run_few : (look : AxisLook) (c : Core) → length (run_events look c (cycle_fate look c)) ≤ 2
 unfolding cycle_fate
-run_few look c after = by (nat_eq (answer_error_of c.axis look.input) 0)
+run_few look c = by (nat_eq (answer_error_of c.axis look.input) 0)
   where
     by : (b : Bool) → length (let f : Fate = if b then (if is_driven c.axis look.input && c.axis.driven then moved_fate look c else goes_on)
         else replaced (finish.Error (answer_error_of c.axis look.input)) c.axis.active None in
-        if b then (if after.driven && c.axis.driven then going_events look c f after else driven_events after.driven c.axis.state) else event.Error ∷ []) ≤ 2
+        if b then (if is_driven c.axis look.input && c.axis.driven then going_events look c f else driven_events (is_driven c.axis look.input) c.axis.state) else event.Error ∷ []) ≤ 2
     by true =
         let f : Fate = if is_driven c.axis look.input && c.axis.driven then moved_fate look c else goes_on in
-        by-if (λ (es : List AxisEvent). length es ≤ 2) (after.driven && c.axis.driven) (going_events look c f after) (driven_events after.driven c.axis.state)
-        (λ h. going_few look c f after (moved_still look c)) (λ h. let few = driven_few after.driven c.axis.state in omega arith)
+        by-if (λ (es : List AxisEvent). length es ≤ 2) (is_driven c.axis look.input && c.axis.driven) (going_events look c f) (driven_events (is_driven c.axis look.input) c.axis.state)
+        (λ h. going_few look c f (moved_still look c)) (λ h. let few = driven_few (is_driven c.axis look.input) c.axis.state in omega arith)
     by false = omega arith
 
-pub cycle_few : (look : AxisLook) (c : Core) (after : Axis) → length (cycle_events look c after) ≤ 3
+pub cycle_few : (look : AxisLook) (c : Core) → length (cycle_events look c) ≤ 3
 unfolding cycle_events
-cycle_few look c after =
-    let run = run_events look c (cycle_fate look c) after in
-    let first = run_few look c after in
-    let last = reset_few (state_by c.axis.state run) c.axis after in
-    let sum = length-append run (reset_events (state_by c.axis.state run) c.axis after) in
+cycle_few look c =
+    let run = run_events look c (cycle_fate look c) in
+    let first = run_few look c in
+    let last = reset_few look (state_by c.axis.state run) c in
+    let sum = length-append run (reset_events look (state_by c.axis.state run) c) in
     omega arith

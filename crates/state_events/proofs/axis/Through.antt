@@ -78,32 +78,33 @@ pub record Stepped (before a : Axis) : Type 0 where
   pub hold : a.hold ≡ before.hold
   pub reset : a.reset ≡ before.reset
   pub driven : a.driven ≡ before.driven
+  pub active : a.active ≡ before.active
 
 stepped-on : (k : BlockKind) (t : ℤ) (p : Progress) (a : Axis) → Stepped a (axis_after_progress k t p a)
-stepped-on kind.Home t p a = record { hold = refl; reset = refl; driven = refl }
-stepped-on _ t p a = record { hold = refl; reset = refl; driven = refl }
+stepped-on kind.Home t p a = record { hold = refl; reset = refl; driven = refl; active = refl }
+stepped-on _ t p a = record { hold = refl; reset = refl; driven = refl; active = refl }
 
 stepped-made : (k : BlockKind) (t : ℤ) (a : Axis) (made : Result Progress ℕ) → Stepped a (advance_by_progress k t a made).axis
 stepped-made k t a (Ok p) = stepped-on k t p a
-stepped-made k t a (Err n) = record { hold = refl; reset = refl; driven = refl }
+stepped-made k t a (Err n) = record { hold = refl; reset = refl; driven = refl; active = refl }
 
 stepped-command : (o next : Option Wanted) (look : AxisLook) (a : Axis) → Stepped a (advance_by_command o next look a).axis
-stepped-command None next look a = record { hold = refl; reset = refl; driven = refl }
+stepped-command None next look a = record { hold = refl; reset = refl; driven = refl; active = refl }
 stepped-command (Some w) next look a = stepped-made w.kind (target_of w) a (progress_in_cycle a w next look)
 
 stepped-path : (b : Bool) (place : ℤ) (a : Axis) → Stepped a (axis_after_path b (axis_after_step place a))
-stepped-path true place a = record { hold = refl; reset = refl; driven = refl }
-stepped-path false place a = record { hold = refl; reset = refl; driven = refl }
+stepped-path true place a = record { hold = refl; reset = refl; driven = refl; active = refl }
+stepped-path false place a = record { hold = refl; reset = refl; driven = refl; active = refl }
 
 stepped-place : (o : Option ℤ) (next : Option Wanted) (look : AxisLook) (a : Axis) → Stepped a (advance_without_error o next look a).axis
 stepped-place (Some place) next look a = stepped-path look.path_ends place a
 stepped-place None next look a = stepped-command a.active next look a
 
-stepped : (next : Option Wanted) (look : AxisLook) (a : Axis) → Stepped a (advance_in_cycle next look a).axis
+pub stepped : (next : Option Wanted) (look : AxisLook) (a : Axis) → Stepped a (advance_in_cycle next look a).axis
 unfolding advance_in_cycle
 stepped next look a =
     elim (is_error_stop a.state) as (λ b. Stepped a (if b then record { axis = axis_after_braking a; ending = None } else advance_without_error (place_on_path a look) next look a).axis)
-    [ true ↦ record { hold = refl; reset = refl; driven = refl } | false ↦ stepped-place (place_on_path a look) next look a ]
+    [ true ↦ record { hold = refl; reset = refl; driven = refl; active = refl } | false ↦ stepped-place (place_on_path a look) next look a ]
 
 pub through-advance : (look : AxisLook) (c : Core) → Through look c.axis (core_after_advance look c).axis
 through-advance look c =

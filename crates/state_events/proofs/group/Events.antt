@@ -28,6 +28,7 @@ use Rattle.buffer_modes.specs.declared.reset.PendingReset.{PendingReset}
 use Rattle.group_core.proofs.Ends.{failed-cycle}
 use Rattle.group_core.specs.Cores.{Core, failed, line_begun, ended, ended_by, settled, taken_over}
 use Rattle.group_core.specs.Cycles.{cycled, reset_where, ending_of, moved, path_after, released}
+use Rattle.state_events.specs.Axis.{active_by}
 use Rattle.state_events.specs.Group.{admitted_events, asked_events, command_events, power_off_events, reset_events, reset_row, step_events, Lead, ending_events, event_where, giving_events, going_events, last_events, release_events, state_by}
 use Rattle.buffer_modes.specs.Fates.{Fate, replaced}
 use Rattle.group_core.specs.Fates.{cycle_fate, ending_fate, is_failing}
@@ -109,10 +110,20 @@ leaves : (b : Bool) (g : Group) → (b ≡ true → is_stopping g.state ≡ true
 leaves true g h = (stopping g.state (h refl), refl)
 leaves false g h = refl
 
+-- the active command after its step is the one that its fate tells
+taken-active : (members : GroupLook) (s : List ℤ) (ws : List Wanted) (c : Core) → c.group.active ≡ None → (taken_over members s ws c).group.active ≡ slice_get ws 0
+taken-active members s [] c h = h
+taken-active members s (w ∷ ws) c h = refl
+
+ended-active : (members : GroupLook) (s : List ℤ) (o : Option Finish) (c : Core) → (ended_by members s o c).group.active ≡ active_by (ending_fate o c.waiting) c.group.active
+unfolding ended
+ended-active members s None c = refl
+ended-active members s (Some f) c = taken-active members s c.waiting _ refl
+
 -- a group that no error stops
 pub goes-by : (members : GroupLook) (c : Core) → IsCoreKept (limits_in members) c →
-    (let d = moved members c in let o = ending_of c.group c.path in
-    Lead c.group.state (going_events members.stop_held (ending_fate o c.waiting) c (path_after c.group c.path) d.group) (released members.stop_held d).group.state)
+    (let o = ending_of c.group c.path in
+    Lead c.group.state (going_events members.stop_held (ending_fate o c.waiting) c (path_after c.group c.path)) (released members.stop_held (moved members c)).group.state)
 goes-by members c k =
     let o = ending_of c.group c.path in
     let on : Core = record c { path = path_after c.group c.path } in
@@ -122,10 +133,11 @@ goes-by members c k =
     let es = ending_events f.ends f.begins c.group.state in
     let h : Lead c.group.state es d.group.state = ends (limits_in members) members s o on k.waiting k.queue in
     let at = led-to c.group.state d.group.state es h in
-    let same : leaves_stopping members.stop_held d.group d.path ≡ (is_stopping (state_by c.group.state es) && not (is_some d.group.active) && not (is_moving on.path) && is_released c.group.hold members.stop_held) =
-    test-ended members s o members.stop_held on ∙ (λ i. is_stopping (at i) && not (is_some d.group.active) && not (is_moving on.path) && is_released c.group.hold members.stop_held) in
+    let active : d.group.active ≡ active_by f c.group.active = ended-active members s o on in
+    let same : leaves_stopping members.stop_held d.group d.path ≡ (is_stopping (state_by c.group.state es) && not (is_some (active_by f c.group.active)) && not (is_moving on.path) && is_released c.group.hold members.stop_held) =
+    test-ended members s o members.stop_held on ∙ (λ i. is_stopping (at i) && not (is_some (active i)) && not (is_moving on.path) && is_released c.group.hold members.stop_held) in
     let P : Bool → Type 0 = λ b. Lead d.group.state (event_where b event.StopReleased) (released members.stop_held d).group.state in
-    lead-on c.group.state d.group.state _ es (release_events members.stop_held (state_by c.group.state es) c.group on.path d.group) h
+    lead-on c.group.state d.group.state _ es (release_events members.stop_held (state_by c.group.state es) c f on.path) h
     (subst P same (leaves (leaves_stopping members.stop_held d.group d.path) d.group (λ e. (left-idle members.stop_held d.group d.path e).0)))
 
 member-from : (s : GroupState) → may_fail s ≡ true → IsFrom s event.MemberError
@@ -134,32 +146,20 @@ member-from state.GroupMoving h = (state.GroupErrorStop, (inr (inl refl), refl))
 member-from state.GroupStopping h = (state.GroupErrorStop, (inr (inr refl), refl))
 member-from _ h = absurd (cc)
 
-same-active : (b : Bool) (g : Group) → (if b then record g { state = next_of event.StopReleased; hold = None } else g).active ≡ g.active
-same-active true g = refl
-same-active false g = refl
-
 -- the step of a group in a cycle
 pub steps-by : (members : GroupLook) (c : Core) → IsCoreKept (limits_in members) c →
-    Lead c.group.state (step_events members c (cycled members c).group) (cycled members c).group.state
+    Lead c.group.state (step_events members c) (cycled members c).group.state
 unfolding cycled step_events cycle_fate
 steps-by members c k =
     elim (is_failing members c) as (λ b. is_failing members c ≡ b →
     (let y : Core = if b then failed members.error c else c in
     let x = released members.stop_held (moved members y) in
     let f : Fate = if b then replaced (finish.Error members.error) c.group.active None else ending_fate (ending_of c.group c.path) c.waiting in
-    Lead c.group.state (if b then event.MemberError ∷ [] else going_events members.stop_held f c (path_after y.group y.path) x.group) x.group.state)) [
+    Lead c.group.state (if b then event.MemberError ∷ [] else going_events members.stop_held f c (path_after y.group y.path)) x.group.state)) [
       | true ↦ λ e. let P : GroupState → Type 0 = Lead c.group.state (event.MemberError ∷ []) in
           subst P (sym (failed-cycle members members.error c))
           (member-from c.group.state (and_parts (not (nat_eq members.error 0)) (may_fail c.group.state) e).1, refl)
-      | false ↦ λ e.
-          let d = moved members c in
-          let f = ending_fate (ending_of c.group c.path) c.waiting in
-          let es = ending_events f.ends f.begins c.group.state in
-          let same = same-active (leaves_stopping members.stop_held d.group d.path) d.group in
-          let P : Option Wanted → Type 0 = λ o. Lead c.group.state
-          (es ++ event_where (is_stopping (state_by c.group.state es) && not (is_some o) && not (is_moving (path_after c.group c.path)) && is_released c.group.hold members.stop_held) event.StopReleased)
-          (released members.stop_held d).group.state in
-          subst P (sym same) (goes-by members c k)
+      | false ↦ λ e. goes-by members c k
     ] refl
 
 resets-to : (moved : Bool) (s : GroupState) → Lead s (reset_row moved s) (reset_from moved s)
@@ -168,20 +168,20 @@ resets-to false state.GroupErrorStop = ((state.GroupStandby, (refl, refl)), refl
 resets-to true s = refl
 resets-to false s = refl
 
-reset-one : (b : Bool) (axes : List AxisState) (r : PendingReset) (g : Group) → g.reset ≡ Some r →
-    Lead g.state (if not (is_some (if b then after_reset axes g else g).reset) then reset_row (list_any is_moved axes) g.state else []) (if b then after_reset axes g else g).state
-reset-one true axes r g e = resets-to (list_any is_moved axes) g.state
-reset-one false axes r g e = let P : Option PendingReset → Type 0 = λ o. Lead g.state (if not (is_some o) then reset_row (list_any is_moved axes) g.state else []) g.state in subst P (sym e) refl
+reset-one : (b : Bool) (axes : List AxisState) (g : Group) →
+    Lead g.state (if b then reset_row (list_any is_moved axes) g.state else []) (if b then after_reset axes g else g).state
+reset-one true axes g = resets-to (list_any is_moved axes) g.state
+reset-one false axes g = refl
 
-reset-to : (o : Option PendingReset) (axes : List AxisState) (on : Bool) (g : Group) → g.reset ≡ o →
-    Lead g.state (if is_some o && not (is_some (reset_by o axes on g).reset) then reset_row (list_any is_moved axes) g.state else []) (reset_by o axes on g).state
-reset-to None axes on g e = refl
-reset-to (Some r) axes on g e = reset-one (may_reset on g) axes r g e
+reset-to : (o : Option PendingReset) (axes : List AxisState) (on : Bool) (g : Group) →
+    Lead g.state (if is_some o && may_reset on g then reset_row (list_any is_moved axes) g.state else []) (reset_by o axes on g).state
+reset-to None axes on g = refl
+reset-to (Some r) axes on g = reset-one (may_reset on g) axes g
 
 pub resets-by : (members : GroupLook) (on : Bool) (g : Group) →
-    Lead g.state (reset_events members g (reset_where members on g)) (reset_where members on g).state
+    Lead g.state (reset_events members on g) (reset_where members on g).state
 unfolding reset_where
-resets-by members on g = reset-to g.reset (states_in members) on g refl
+resets-by members on g = reset-to g.reset (states_in members) on g
 
 pub off-by : (c : Core) → Lead c.group.state (power_off_events c.group.state) (powered_off c).group.state
 unfolding powered_off failed

@@ -16,7 +16,7 @@ use Rattle.group_state.specs.declared.state.GroupState.TheVariants as state
 use Rattle.kin_core.specs.declared.limits.Limits.{Limits}
 use Rattle.group_core.specs.Calls.{asked_in, is_line_active}
 use Rattle.group_core.specs.Cores.{Core}
-use Rattle.group_core.specs.Cycles.{cycled, ending_of, path_taken}
+use Rattle.group_core.specs.Cycles.{ending_of, path_taken}
 use Rattle.group_core.specs.Fates.{cycle_fate, ending_fate, is_failing}
 use Rattle.group_core.specs.GroupKept.{AreWaiting, IsCoreKept}
 use Rattle.group_core.specs.Kinds.{event_of}
@@ -27,6 +27,8 @@ use Rattle.group_core.specs.declared.group.Group.{Group}
 use Rattle.group_core.specs.declared.look.GroupLook.{GroupLook}
 use Rattle.group_core.specs.declared.reason.Reason.{Reason}
 use Rattle.group_core.proofs.KeptCalls.{by-if}
+use Rattle.group_core.specs.blocks.Reset.{may_reset}
+use Rattle.state_events.specs.Axis.{active_by}
 use Rattle.state_events.specs.Group.{admitted_events, asked_events, command_events, ending_events, event_where, going_events, power_off_events, reset_events, reset_row, state_by, step_events}
 
 where_few : (b : Bool) (e : GroupEvent) → length (event_where b e) ≤ 1
@@ -60,10 +62,10 @@ row_few false state.GroupErrorStop = omega arith
 row_few true _ = omega arith
 row_few false _ = omega arith
 
-pub reset_few : (members : GroupLook) (before after : Group) → length (reset_events members before after) ≤ 1
-reset_few members before after =
-    by-if (λ (es : List GroupEvent). length es ≤ 1) (is_some before.reset && not (is_some after.reset)) _ []
-    (λ h. row_few (list_any is_moved (states_in members)) before.state) (λ h. omega arith)
+pub reset_few : (members : GroupLook) (on_path : Bool) (g : Group) → length (reset_events members on_path g) ≤ 1
+reset_few members on_path g =
+    by-if (λ (es : List GroupEvent). length es ≤ 1) (is_some g.reset && may_reset on_path g) _ []
+    (λ h. row_few (list_any is_moved (states_in members)) g.state) (λ h. omega arith)
 
 -- where a command ends GroupStopping is not left: a line takes over to GroupMoving, and the last
 -- one ends in GroupStandby
@@ -77,14 +79,15 @@ going_few axes limits (Some f) [] state.GroupStopping p q r k = where_few (p && 
 going_few axes limits (Some f) [] _ p q r k = omega arith
 going_few axes limits (Some f) (w ∷ ws) s p q r k = subst (λ x. length (After s (event_of x ∷ []) p q r) ≤ 1) (sym k.0.line) (omega arith)
 
-pub cycle_few : (members : GroupLook) (c : Core) → IsCoreKept (limits_in members) c → length (step_events members c (cycled members c).group) ≤ 1
+pub cycle_few : (members : GroupLook) (c : Core) → IsCoreKept (limits_in members) c → length (step_events members c) ≤ 1
 unfolding step_events cycle_fate
 cycle_few members c k = by (is_failing members c)
   where
     by : (b : Bool) → length (if b then event.MemberError ∷ []
         else going_events members.stop_held (if b then replaced (finish.Error members.error) c.group.active None else ending_fate (ending_of c.group c.path) c.waiting)
-        c (path_taken members c) (cycled members c).group) ≤ 1
+        c (path_taken members c)) ≤ 1
     by true = omega arith
     by false =
-        going_few c.group.axes (limits_in members) (ending_of c.group c.path) c.waiting c.group.state (not (is_some (cycled members c).group.active))
+        let f = ending_fate (ending_of c.group c.path) c.waiting in
+        going_few c.group.axes (limits_in members) (ending_of c.group c.path) c.waiting c.group.state (not (is_some (active_by f c.group.active)))
         (not (is_moving (path_taken members c))) (is_released c.group.hold members.stop_held) k.waiting

@@ -43,14 +43,14 @@ groups_opened laws [] j l = absurd (omega arith)
 groups_opened laws (d ∷ ds) zero l = laws.opened d.count
 groups_opened laws (d ∷ ds) (suc j) l = groups_opened laws ds j (omega arith)
 
-opening_shown : ErrorLaws → (s : Setup) → AreAllShown s (machine_at_opening s)
+pub opening_shown : ErrorLaws → (s : Setup) → AreAllShown s (machine_at_opening s)
 opening_shown laws s = record {
   axes = axes_opened laws.axes s.axes;
   groups = groups_opened laws.groups s.groups;
 }
 
 -- after the entries of a history
-replay_shown : ErrorLaws → (s : Setup) (cycles : ℕ) (m : Machine) (es : List Entry) → AreWhole s →
+pub replay_shown : ErrorLaws → (s : Setup) (cycles : ℕ) (m : Machine) (es : List Entry) → AreWhole s →
     IsMachineKept s m → AreAllShown s m → Follows s cycles m es → AreAllShown s (replay s m es)
 replay_shown laws s cycles m [] whole h shown f = shown
 replay_shown laws s cycles m (call k i reply ∷ es) whole h shown f =

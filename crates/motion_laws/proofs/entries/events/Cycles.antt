@@ -33,12 +33,12 @@ use Rattle.state_events.proofs.group.Events.{lead-on}
 
 -- an axis
 axis_goes : EventLaws → (s : Setup) (m : Machine) (ins : List DriveIn) (n : ℕ) → IsMachineKept s m → n < length m.axes →
-    axis.Lead (axis_at m n).state (cycle_events (look_of_axis s m ins n) (axis_core_at m n) (axis_at (after_cycle s m ins) n))
+    axis.Lead (axis_at m n).state (cycle_events (look_of_axis s m ins n) (axis_core_at m n))
     (axis_at (after_cycle s m ins) n).state
 axis_goes laws s m ins n h l =
     let look = look_of_axis s m ins n in
     let goes = goes_through s m ins n h (laws.machines.may_go_on s m ins h) l in
-    let P : Axis → Type 0 = λ a. axis.Lead (axis_at m n).state (cycle_events look (axis_core_at m n) a) a.state in
+    let P : Axis → Type 0 = λ a. axis.Lead (axis_at m n).state (cycle_events look (axis_core_at m n)) a.state in
     let cycles = laws.axes in
     subst P (sym goes.after) (cycles.cycle look (axis_core_at m n) goes.kept goes.fits)
 
@@ -52,7 +52,7 @@ resets_count s (suc n) m = length-set (groups_reset s n m).machine.groups n _ �
 -- the groups before n had their GroupResets done
 record HaveReset (s : Setup) (n : ℕ) (m x : Machine) : Type 0 where
   done : (k : ℕ) → k < n →
-      Lead (group_at m k).group.state (reset_events (group_look s (groups_reset s k m).machine k 0) (group_at m k).group (group_at x k).group)
+      Lead (group_at m k).group.state (reset_events (group_look s (groups_reset s k m).machine k 0) (is_some (group_at m k).path) (group_at m k).group)
       (group_at x k).group.state
   rest : (k : ℕ) → n ≤ k → group_at x k ≡ group_at m k
 
@@ -69,15 +69,15 @@ groups_go laws s (suc n) m l =
     let count = resets_count s n m in
     let here = laws.reset look (is_some (group_at x n).path) (group_at x n).group in
     let written : group_among (slice_set x.groups n g) n ≡ g = get_or-set_same x.groups n g no_group (omega arith) in
-    let To : PlacedGroup → PlacedGroup → Type 0 = λ y z. Lead y.group.state (reset_events look y.group z.group) z.group.state in
+    let To : PlacedGroup → PlacedGroup → Type 0 = λ y z. Lead y.group.state (reset_events look (is_some y.path) y.group) z.group.state in
     record {
       done = λ k b. elim (cases_eq k n) [
         | inl e ↦ subst (λ j. Lead (group_at m j).group.state
-            (reset_events (group_look s (groups_reset s j m).machine j 0) (group_at m j).group (group_among (slice_set x.groups n g) j).group)
+            (reset_events (group_look s (groups_reset s j m).machine j 0) (is_some (group_at m j).path) (group_at m j).group)
             (group_among (slice_set x.groups n g) j).group.state) (sym e)
             (subst (λ y. To y (group_among (slice_set x.groups n g) n)) same (subst (To (group_at x n)) (sym written) here))
         | inr d ↦ subst (λ (z : PlacedGroup). Lead (group_at m k).group.state
-            (reset_events (group_look s (groups_reset s k m).machine k 0) (group_at m k).group z.group) z.group.state)
+            (reset_events (group_look s (groups_reset s k m).machine k 0) (is_some (group_at m k).path) (group_at m k).group) z.group.state)
             (sym (get_or-set_other x.groups n k g no_group d)) (so_far.done k (omega arith))
       ];
       rest = λ k b. get_or-set_other x.groups n k g no_group (λ e. omega arith) ∙ so_far.rest k (omega arith);
@@ -96,7 +96,7 @@ groups_moved s m ins = found_groups s (cycled s m ins).machine
 
 -- a group
 group_goes : EventLaws → (s : Setup) (m : Machine) (ins : List DriveIn) (j : ℕ) → IsMachineKept s m → j < length m.groups →
-    Lead (group_at m j).group.state (events_in_cycle s m ins (group_at (after_cycle s m ins) j).group j)
+    Lead (group_at m j).group.state (events_in_cycle s m ins j)
     (group_at (after_cycle s m ins) j).group.state
 group_goes laws s m ins j h l =
     let stepped = (stepped_in s ins m).machine in
@@ -105,9 +105,9 @@ group_goes laws s m ins j h l =
     let one = steps.each j l in
     let look = look_of_group s m ins j in
     let g = stepped_group s m ins j in
-    let To : GroupLook → Core → Type 0 = λ y c. Lead (group_at m j).group.state (step_events y (group_core_at m j) c.group) c.group.state in
+    let To : GroupLook → Core → Type 0 = λ y c. Lead (group_at m j).group.state (step_events y (group_core_at m j)) c.group.state in
     let by = laws.groups in
-    let step : Lead (group_at m j).group.state (step_events look (group_core_at m j) g) g.state =
+    let step : Lead (group_at m j).group.state (step_events look (group_core_at m j)) g.state =
     subst (λ y. To y (group_core_at stepped j)) one.is (subst (To one.seen) (sym one.core)
     (by.cycle one.seen (group_core_at m j) one.looking.kept)) in
     let same : moved.groups ≡ stepped.groups = axes_groups s (length stepped.axes) (around_in s ins m) stepped in
@@ -116,12 +116,13 @@ group_goes laws s m ins j h l =
     let count = ap length same in
     let reset = groups_go laws.groups s (length moved.groups) moved (omega arith) in
     let after = (group_at (after_cycle s m ins) j).group in
-    let To_end : Group → Group → Type 0 = λ y z. Lead y.state (reset_events (look_of_reset s m ins j) y z) z.state in
+    let on_path = is_some (group_at moved j).path in
+    let To_end : Group → Group → Type 0 = λ y z. Lead y.state (reset_events (look_of_reset s m ins j) on_path y) z.state in
     let P : List PlacedGroup → Type 0 = λ gs. To_end (group_among gs j).group after in
     let Q : List PlacedGroup → Type 0 = λ gs. To_end (group_at moved j).group (group_among gs j).group in
     let behind : To_end g after = subst P same (subst Q (sym (groups_moved s m ins)) (reset.done j (omega arith))) in
-    lead-on (group_at m j).group.state g.state after.state (step_events look (group_core_at m j) g)
-    (reset_events (look_of_reset s m ins j) g after) step behind
+    lead-on (group_at m j).group.state g.state after.state (step_events look (group_core_at m j))
+    (reset_events (look_of_reset s m ins j) on_path g) step behind
 
 pub cycle_goes : EventLaws → (s : Setup) (m : Machine) (n : ℕ) (rows : List AxisRow) (grows : List GroupRow) → IsMachineKept s m →
     GoByEvents s m (cycle n rows grows)

@@ -105,7 +105,7 @@ ending_tells (Some finish.Done) d e = ended_tells finish.Done d done_plain e
 ending_tells (Some finish.Aborted) d e = ended_tells finish.Aborted d aborts_plain e
 
 -- the step of a cycle
-stop_error : (look : AxisLook) (a : Axis) → (axis_after_stop look a).error ≡ a.error
+pub stop_error : (look : AxisLook) (a : Axis) → (axis_after_stop look a).error ≡ a.error
 stop_error look a = by_if (λ (x : Axis). x.error ≡ a.error) (leaves_stopping look a) _ a refl refl
 
 stop_reset : (look : AxisLook) (a : Axis) → (axis_after_stop look a).reset ≡ a.reset
@@ -128,11 +128,11 @@ step_tells look driven d e =
     (none_told (Shows (command_state_of d) d.axis.error) d e)
 
 -- a step of an axis in ErrorStop gives nothing, and leaves the error
-record IsStill (d x : Core) : Type 0 where
-  notes : x.notes ≡ d.notes
-  error : x.axis.error ≡ d.axis.error
-  reset : x.axis.reset ≡ d.axis.reset
-  state : is_error_stop x.axis.state ≡ true
+pub record IsStill (d x : Core) : Type 0 where
+  pub notes : x.notes ≡ d.notes
+  pub error : x.axis.error ≡ d.axis.error
+  pub reset : x.axis.reset ≡ d.axis.reset
+  pub state : is_error_stop x.axis.state ≡ true
 
 driven_stopped : (driven : Bool) (s : AxisState) → is_error_stop s ≡ true →
     is_error_stop (state_when_driven driven s) ≡ true
@@ -144,7 +144,7 @@ no_stop : (s : AxisState) → is_error_stop s ≡ true → is_stopping s ≡ fal
 no_stop state.ErrorStop h = refl
 no_stop _ h = absurd (cc)
 
-braked : (next : Option Wanted) (look : AxisLook) (a : Axis) → is_error_stop a.state ≡ true →
+pub braked : (next : Option Wanted) (look : AxisLook) (a : Axis) → is_error_stop a.state ≡ true →
     advance_in_cycle next look a ≡ record { axis = axis_after_braking a; ending = None }
 unfolding advance_in_cycle
 braked next look a h =
@@ -160,7 +160,7 @@ stop_same look a h = by (is_stopping a.state) _ _ _ (no_stop a.state h)
     by true idle rests free e = absurd (cc)
     by false idle rests free e = refl
 
-step_still : (look : AxisLook) (driven : Bool) (d : Core) → is_error_stop d.axis.state ≡ true →
+pub step_still : (look : AxisLook) (driven : Bool) (d : Core) → is_error_stop d.axis.state ≡ true →
     IsStill d (core_after_step look driven d)
 step_still look driven d h =
     let brakes : core_after_advance look d ≡ record d { axis = axis_after_braking d.axis } =
@@ -210,20 +210,20 @@ reset_clear state.ErrorStop true h = refl
 reset_clear state.ErrorStop false h = refl
 reset_clear _ driven h = absurd (cc)
 
-reset_leaves : (s : AxisState) (driven : Bool) → is_error_stop (state_after_reset driven s) ≡ false
+pub reset_leaves : (s : AxisState) (driven : Bool) → is_error_stop (state_after_reset driven s) ≡ false
 reset_leaves s driven = elim (cases_Bool (is_error_stop s)) [
   | inl h ↦ reset_clear s driven h
   | inr h ↦ ap is_error_stop (reset-same s driven h) ∙ h
 ]
 
-reset_keeps : (o : Option PendingReset) (input : DriveIn) (a : Axis) →
+pub reset_keeps : (o : Option PendingReset) (input : DriveIn) (a : Axis) →
     KeepsError a (reset_axis o input a)
 reset_keeps None input a = inl refl
 reset_keeps (Some p) input a =
     by_if (KeepsError a) (may_reset input a) (after_reset a) a (inr (reset_leaves a.state a.driven))
     (inl refl)
 
-reset_plain : (P : ℕ → ℕ → Type 0) (o : Option PendingReset) (input : DriveIn) (a : Axis) →
+pub reset_plain : (P : ℕ → ℕ → Type 0) (o : Option PendingReset) (input : DriveIn) (a : Axis) →
     AllTell P (reset_notes o input a)
 reset_plain P None input a = tt
 reset_plain P (Some p) input a =

@@ -108,7 +108,7 @@ axis_said a ws = record {
       command_error q c ∙ ap (λ (x : Axis). x.error) e ∙ detached_error owner a;
 }
 
-axis_error : (s : Setup) (m : Machine) (k : ℕ) (i : Inputs) (n : ℕ) → IsMachineKept s m →
+pub axis_error : (s : Setup) (m : Machine) (k : ℕ) (i : Inputs) (n : ℕ) → IsMachineKept s m →
     n < length m.axes → (axis_at (after_call s m k i) n).error ≡ (axis_at m n).error
 axis_error s m k i n h l =
     let sizes = h.sized in
@@ -119,7 +119,7 @@ axis_error s m k i n h l =
     (record { axis = omega arith; list = omega arith }) (λ b at other off same. tt)
 
 -- and gives none of its commands an error
-axis_quiet : (s : Setup) (m : Machine) (k : ℕ) (i : Inputs) (reply : Outputs) (n j error : ℕ) →
+pub axis_quiet : (s : Setup) (m : Machine) (k : ℕ) (i : Inputs) (reply : Outputs) (n j error : ℕ) →
     end_of_command s m (call k i reply) j (an_axis n) ≡ Some (finish.Error error) → ⊥
 axis_quiet s m k i reply n j error e =
     let r = request_of (slice_get s.blocks k) k i m in
@@ -142,7 +142,7 @@ record Says (c : Core) (xs : List Change) (x : Core) : Type 0 where
   keeps : groups_in.is_error_stop c.group.state ≡ true → KeepsError c.group x.group
   fails : TellNone xs ⊎ (x.group.error ≡ 102)
 
-group_detached : (owner : ℕ) (g : Group) → (group_without owner g).error ≡ g.error
+pub group_detached : (owner : ℕ) (g : Group) → (group_without owner g).error ≡ g.error
 unfolding group_without
 group_detached owner g = refl
 
@@ -153,7 +153,7 @@ off_fails c =
     both (λ (xs : List Change) (x : Core). TellNone xs ⊎ (x.group.error ≡ 102))
     (may_fail c.group.state) (failing 102) [] (failed 102 c) c (λ e. inr refl) (λ e. inl tt)
 
-from_error : (g x y : Group) → x.error ≡ g.error → KeepsError x y → KeepsError g y
+pub from_error : (g x y : Group) → x.error ≡ g.error → KeepsError x y → KeepsError g y
 from_error g x y e h = elim h [ inl same ↦ inl (same ∙ e) | inr out ↦ inr out ]
 
 group_said : (c : Core) → groups.IsSaid group_changes c (Says c)

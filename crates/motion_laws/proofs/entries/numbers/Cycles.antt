@@ -101,7 +101,7 @@ resets_keep s (suc n) m l =
     }
 
 -- a group is left by its step with an error that its GroupReset keeps, or resets
-group_kept : (s : Setup) (m : Machine) (ins : List DriveIn) (j : ℕ) → IsMachineKept s m →
+pub group_kept : (s : Setup) (m : Machine) (ins : List DriveIn) (j : ℕ) → IsMachineKept s m →
     j < length m.groups →
     IsLeft (cycled (look_of_group s m ins j) (group_core_at m j)).group
     (group_at (after_cycle s m ins) j).group
@@ -128,13 +128,26 @@ group_kept s m ins j h l =
     (subst P same (subst Q (sym (groups_moved s m ins)) (reset.done j (omega arith))))
 
 -- the first of some axes whose drive's answer brings an error
-record IsFirst (axes : List Axis) (ins : List DriveIn) (ns : List ℕ) : Type 0 where
-  place : ℕ
-  there : place < length ns
-  is : answer_error_of (axis_among axes (member_at ns place)) (answer_at ins (member_at ns place))
+pub record IsFirst (axes : List Axis) (ins : List DriveIn) (ns : List ℕ) : Type 0 where
+  pub place : ℕ
+  pub there : place < length ns
+  pub is : answer_error_of (axis_among axes (member_at ns place)) (answer_at ins (member_at ns place))
       ≡ first_error axes ins ns
+  pub before : (p : ℕ) → p < place →
+      nat_eq (answer_error_of (axis_among axes (member_at ns p)) (answer_at ins (member_at ns p))) 0
+      ≡ true
 
-first_in : (axes : List Axis) (ins : List DriveIn) (ns : List ℕ) →
+none_so_far : (axes : List Axis) (ins : List DriveIn) (n : ℕ) (ns : List ℕ) (place : ℕ) →
+    nat_eq (answer_error_of (axis_among axes n) (answer_at ins n)) 0 ≡ true →
+    ((p : ℕ) → p < place →
+    nat_eq (answer_error_of (axis_among axes (member_at ns p)) (answer_at ins (member_at ns p))) 0
+    ≡ true) → (p : ℕ) → p < suc place →
+    nat_eq (answer_error_of (axis_among axes (member_at (n ∷ ns) p))
+    (answer_at ins (member_at (n ∷ ns) p))) 0 ≡ true
+none_so_far axes ins n ns place none before zero b = none
+none_so_far axes ins n ns place none before (suc p) b = before p (omega arith)
+
+pub first_in : (axes : List Axis) (ins : List DriveIn) (ns : List ℕ) →
     nat_eq (first_error axes ins ns) 0 ≡ false → IsFirst axes ins ns
 first_in axes ins [] h = absurd (cc)
 first_in axes ins (n ∷ ns) h =
@@ -145,15 +158,21 @@ first_in axes ins (n ∷ ns) h =
           ap (λ b. if b then first_error axes ins ns else error) none in
           let later = first_in axes ins ns (ap (λ x. nat_eq x 0) (sym same) ∙ h) in
           let there = later.there in
-          record { place = suc later.place; there = omega arith; is = later.is ∙ sym same }
+          record {
+            place = suc later.place;
+            there = omega arith;
+            is = later.is ∙ sym same;
+            before = none_so_far axes ins n ns later.place none later.before;
+          }
       | inr some ↦ record {
         place = zero;
         there = omega arith;
         is = sym (ap (λ b. if b then first_error axes ins ns else error) some);
+        before = λ p b. absurd (omega arith);
       }
     ]
 
-read_by : (s : Setup) (m : Machine) (ins : List DriveIn) (n : ℕ) →
+pub read_by : (s : Setup) (m : Machine) (ins : List DriveIn) (n : ℕ) →
     (look_of_axis s m ins n).input ≡ answer_at ins n
 unfolding axis_look
 read_by s m ins n = refl

@@ -108,7 +108,7 @@ none_ends g (Some p) h =
     }
     else advanced_with g.active p.motion in x.ending) h
 
-moved_still : (members : GroupLook) (d : Core) → is_error_stop d.group.state ≡ true →
+pub moved_still : (members : GroupLook) (d : Core) → is_error_stop d.group.state ≡ true →
     moved members d ≡ record d { path = path_after d.group d.path }
 moved_still members d h =
     let path = path_after d.group d.path in
@@ -279,7 +279,7 @@ pub record HasFailed (members : GroupLook) (x : Core) : Type 0 where
   pub error : x.group.error ≡ members.error
   pub is : nat_eq members.error 0 ≡ false
 
-not_none : (none fails : Bool) → not none && fails ≡ true → none ≡ false
+pub not_none : (none fails : Bool) → not none && fails ≡ true → none ≡ false
 not_none true fails h = absurd (cc)
 not_none false fails h = refl
 

@@ -95,7 +95,7 @@ axis_well s k n kind i m e =
     axis_verdict k n kind i m q.wanted (axis_refusals.refusal_of q) e
 
 -- a command that is asked of a group
-no_leaving : (kind : BlockKind) (r : Refusal) → leaves_path kind (Err r) ≡ false
+pub no_leaving : (kind : BlockKind) (r : Refusal) → leaves_path kind (Err r) ≡ false
 no_leaving kind.GroupDisable r = refl
 no_leaving _ r = refl
 
@@ -148,17 +148,23 @@ unfolding after_power core_after_power
 power_on s n true m e = refl
 power_on s n false m e = absurd (cc)
 
-power_well : (s : Setup) (k n : ℕ) (i : Inputs) (m : Machine) → edge_of
+pub power_never : (s : Setup) (k n : ℕ) (i : Inputs) (m : Machine) → edge_of
     (instance_at m.instances k).execute i.execute ≡ edge.Rising →
-    RefusesWell k m (after_power s n i.execute (with_execute k i m))
-power_well s k n i m e shows =
+    (outputs_of (instance_at (after_power s n i.execute (with_execute k i m)).instances k)).error
+    ≡ true → ⊥
+power_never s k n i m e shows =
     let rise = rise_of (instance_at m.instances k).execute i.execute e in
     let same = power_on s n i.execute (with_execute k i m) rise.is in
     let none = written_shows m.instances k (instance.called (instance_at m.instances k) i.execute)
     (power_shows (instance_at m.instances k) i.execute e) in
     let P : List InstanceState → Type 0 = λ js. (outputs_of (instance_at js k)).error ≡ true in
     let error = subst P same shows in
-    absurd (cc)
+    cc
+
+power_well : (s : Setup) (k n : ℕ) (i : Inputs) (m : Machine) → edge_of
+    (instance_at m.instances k).execute i.execute ≡ edge.Rising →
+    RefusesWell k m (after_power s n i.execute (with_execute k i m))
+power_well s k n i m e shows = absurd (power_never s k n i m e shows)
 
 -- a block that is there
 pub there_is : {X : Type 0} (xs : List X) (k : ℕ) → k < length xs → slice_get xs k ≡ None → ⊥

@@ -121,12 +121,12 @@ refused_in execute number is k =
 abbrev pub id_shown : List InstanceState → ℕ → ℕ
 id_shown is k = (outputs_of (instance_at is k)).error_id
 
-record AreRefused (number : ℕ) (before after : List InstanceState) (k : ℕ) : Type 0 where
-  same : id_shown after k ≡ number
+pub record AreRefused (number : ℕ) (before after : List InstanceState) (k : ℕ) : Type 0 where
+  pub same : id_shown after k ≡ number
   left : slice_set after k (instance.shown (instance_at after k)) ≡ slice_set before k
       (refused_instance (id_shown after k) (instance_at before k))
 
-are_refused : (is : List InstanceState) (k : ℕ) (execute : Bool) (number : ℕ) → edge_of
+pub are_refused : (is : List InstanceState) (k : ℕ) (execute : Bool) (number : ℕ) → edge_of
     (instance_at is k).execute execute ≡ edge.Rising →
     (outputs_of (instance_at (refused_in execute number is k) k)).error ≡ true →
     AreRefused number is (refused_in execute number is k) k
@@ -148,13 +148,17 @@ abbrev pub RefusesWell : ℕ → Machine → Machine → Type 0
 RefusesWell k m x = (outputs_of (instance_at x.instances k)).error ≡ true → ChangesNothing k m x
 
 -- a call that is admitted shows no error
-pub admitted_well : (k : ℕ) (kind : BlockKind) (active : Bool) (m y : Machine) → RefusesWell k m
-    (with_answer k kind (Ok active) y)
-admitted_well k kind active m y shows =
+pub admitted_never : (k : ℕ) (kind : BlockKind) (active : Bool) (y : Machine) →
+    (outputs_of (instance_at (with_answer k kind (Ok active) y).instances k)).error ≡ true → ⊥
+admitted_never k kind active y shows =
     let none = written_shows y.instances k
     (answered_instance kind (Ok active) (instance_at y.instances k))
     (admitted_shows kind active (instance_at y.instances k)) in
-    absurd (cc)
+    cc
+
+pub admitted_well : (k : ℕ) (kind : BlockKind) (active : Bool) (m y : Machine) → RefusesWell k m
+    (with_answer k kind (Ok active) y)
+admitted_well k kind active m y shows = absurd (admitted_never k kind active y shows)
 
 -- the machine in which a call asks
 abbrev pub asking_machine : ℕ → Inputs → Machine → Machine

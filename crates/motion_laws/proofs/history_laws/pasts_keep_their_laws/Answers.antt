@@ -25,4 +25,8 @@ returns c s es setup whole past = record {
   targets = c.done_moves_are_at_their_targets.ensures.targets s es setup whole past;
   rows = c.rows_show_that_moves_arrive.ensures.rows s es setup whole past;
   counts = c.rows_are_counted.ensures s es setup whole past;
+  causes = c.errors_have_causes.ensures.causes s es setup whole past;
+  refusals = c.refusals_are_the_first.ensures.first s es setup whole past;
+  halts = c.rows_slow_under_halts.ensures.rows s es setup whole past;
+  lines = c.rows_follow_lines.ensures.rows s es setup whole past;
 }

@@ -1,0 +1,4 @@
+-- What brings axes and groups their errors, by number.
+pub mod Axis
+pub mod Group
+pub mod Rows
