@@ -4,4 +4,6 @@ pub mod limits
 pub mod entries
 pub mod arrivals
 pub mod results
+pub mod Orders
+pub mod Standing
 pub mod Laws

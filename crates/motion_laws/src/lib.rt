@@ -18,6 +18,7 @@ mod refusal_laws;
 mod reply_laws;
 mod result_laws;
 mod row_laws;
+mod standing_laws;
 
 pub use arrival_laws::{moves_arrive_in_time, paths_end_in_time};
 pub use entry_laws::entries_keep_their_laws;
@@ -36,3 +37,4 @@ pub use result_laws::{
     done_moves_are_at_their_targets, results_are_told, results_come_of_ends, results_stay_shown,
 };
 pub use row_laws::{rows_show_errors, rows_show_that_moves_arrive, rows_show_the_machine};
+pub use standing_laws::machines_can_stand;
