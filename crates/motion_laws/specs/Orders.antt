@@ -7,7 +7,7 @@ use Rattle.axis_core.specs.Kinds.{may_wait}
 use Rattle.axis_core.specs.blocks.Cam.{is_no_table}
 use Rattle.axis_core.specs.blocks.Gear.{is_master}
 use Rattle.axis_core.specs.declared.axis.Axis.{Axis}
-use Rattle.buffer_modes.specs.Queue.{is_aborting}
+pub use Rattle.buffer_modes.specs.Queue.{is_aborting}
 use Rattle.command_pool.specs.declared.kind.BlockKind.{BlockKind}
 use Rattle.command_pool.specs.declared.kind.BlockKind.TheVariants as kind
 use Rattle.command_pool.specs.declared.wanted.Follow.{Follow}
