@@ -6,3 +6,6 @@ pub mod Groups
 pub mod Members
 pub mod MemberLimits
 pub mod OwnedParts
+pub mod Showing
+pub mod OfBlocks
+pub mod Toward

@@ -10,7 +10,9 @@ mod group;
 mod limits;
 mod machine;
 mod owners;
+mod states;
 
 pub use axis::is_axis_kept;
 pub use machine::is_machine_kept;
-pub use owners::have_owners_blocks;
+pub use owners::{are_commands_shown, have_kinds_of_blocks, have_owners_blocks};
+pub use states::{are_axes_in_state, are_groups_in_state};

@@ -7,10 +7,14 @@ ghost use Rattle.motion_kernel.specs.owners.Objects.{a_group, an_axis};
 
 mod blocks;
 mod commands;
+mod kinds;
+mod showing;
 
 use commands::{axis_owners_have_blocks, group_owners_have_blocks};
+pub use kinds::have_kinds_of_blocks;
 use motion_history::Config;
 use motion_kernel::Start;
+pub use showing::are_commands_shown;
 
 // Whether it is so of all axes.
 fn all_axis_owners_have_blocks(config: &Config, start: &Start) -> bool

@@ -12,6 +12,7 @@
 -- moves_arrive_in_time: arrivals/Moves
 -- paths_end_in_time: arrivals/PathsEnd
 -- results_are_told: results/Reported
+-- machines_can_stand: standing/Kept, over standing/Axes and Groups
 pub mod walk
 pub mod limits
 pub mod Histories
@@ -21,3 +22,4 @@ pub mod causes
 pub mod error_ids
 pub mod arrivals
 pub mod results
+pub mod standing

@@ -6,4 +6,6 @@ pub mod causes
 pub mod error_ids
 pub mod arrivals
 pub mod results
+pub mod Orders
+pub mod Standing
 pub mod Laws

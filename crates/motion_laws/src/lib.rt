@@ -18,6 +18,7 @@ mod refusal_laws;
 mod reply_laws;
 mod result_laws;
 mod row_laws;
+mod standing_laws;
 
 pub use arrival_laws::{moves_arrive_in_time, paths_end_in_time};
 pub use entry_laws::entries_keep_their_laws;
@@ -39,3 +40,4 @@ pub use row_laws::{
     rows_follow_lines, rows_show_errors, rows_show_that_moves_arrive, rows_show_the_machine,
     rows_slow_under_halts,
 };
+pub use standing_laws::machines_can_stand;

@@ -16,8 +16,6 @@ use Rattle.motion_kernel.specs.Machine.{Machine, axis_at, no_axis}
 use Rattle.motion_kernel.specs.kept.Machine.{IsMachineKept}
 use Rattle.motion_kernel.specs.Segments.{IsEarly}
 use Rattle.motion_kernel.specs.owners.Blocks.{OwnersHaveBlocks}
-use Rattle.segment_check.specs.Begun.{IsFirstOrLater, MayBegin}
-use Rattle.segment_text.specs.declared.trace_segment.TraceSegment.{TraceSegment}
 
 -- every axis of a machine that satisfies the invariant is one
 pub axes_kept : (s : Setup) (m : Machine) → IsMachineKept s m → (n : ℕ) (a : Axis) → slice_get m.axes n ≡ Some a → IsAxisKept a
@@ -52,12 +50,3 @@ was_put (Err e) P on not = absurd (not refl)
 pub with_groups : (m : Machine) (axes : List Axis) (queues : List (List Wanted)) (instances : List InstanceState) → m.axes ≡ axes → m.queues ≡ queues → m.instances ≡ instances →
     m ≡ record { axes = axes; groups = m.groups; queues = queues; instances = instances }
 with_groups m axes queues instances a q k = λ i. record { axes = a i; groups = m.groups; queues = q i; instances = k i }
-
--- a machine may begin where a trace segment does, by whether it is the first or a later one
-pub may_by : {E : Type 0} (p : TraceSegment) (m : Machine) (r : Result Bool E) → m ≡ p.machine → IsEarly p.before → IsMachineKept p.trace.config p.machine →
-    OwnersHaveBlocks p.trace.config p.machine → IfOk r (λ is. IsTrue is ↔ IsFirstOrLater p.trace.config p.before m) → IfOk r (λ may. IsTrue may ↔ MayBegin p)
-may_by p m (Ok is) same early kept owners h = (
-  λ yes. record { early = early; machine = kept; owners = owners; first = subst (IsFirstOrLater p.trace.config p.before) same (h.0 yes) },
-  λ may. h.1 (subst (IsFirstOrLater p.trace.config p.before) (sym same) may.first),
-)
-may_by p m (Err e) same early kept owners h = tt

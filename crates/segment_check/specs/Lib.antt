@@ -1,4 +1,7 @@
+pub mod Queued
+pub mod Flaws
 pub mod Begun
 pub mod Next
 pub mod Verified
 pub mod Rows
+pub mod Own

@@ -1,6 +1,7 @@
 -- When a trace segment is legal, and what is said of it. This project's profile.
 use Rattle.std.specs.Prelude.{◌≡◌, ℕ, Some, None, List, length}
 use Rattle.segment_check.specs.Begun.{MayBegin}
+use Rattle.segment_check.specs.Flaws.{IsFlawOf}
 use Rattle.segment_check.specs.Next.{TellsNext}
 use Rattle.segment_check.specs.declared.verifying.Verdict.{Verdict}
 use Rattle.segment_check.specs.declared.verifying.Verdict.TheVariants as verdict
@@ -21,10 +22,10 @@ pub record IsFoundLegal (p : TraceSegment) (entries : ℕ) (header : List ℕ) :
   pub same : difference_from p.machine p.trace ≡ None
   pub next : TellsNext p header
 
--- a trace segment was verified: no machine begins so; or it is legal; or its trace isn't legal from
--- there on, and its first record that differs is reported
+-- a trace segment was verified: no machine begins so, for the first flaw of its header; or it is
+-- legal; or its trace isn't legal from there on, and its first record that differs is reported
 abbrev pub IsVerified : TraceSegment → Verdict → Type 0
-IsVerified p verdict.NoBeginning = ¬ MayBegin p
+IsVerified p (verdict.NoBeginning f) = IsFlawOf p (Some f) × ¬ MayBegin p
 IsVerified p (verdict.Legal entries next) = IsFoundLegal p entries next.items
 IsVerified p (verdict.IllegalAt d) =
     MayBegin p × (difference_from p.machine p.trace ≡ Some d) × ¬ IsLegalTraceFrom p.machine p.trace

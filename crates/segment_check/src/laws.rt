@@ -1,9 +1,10 @@
-// Trace segments that follow each other: a law, which is the contract of a function that does
+// Laws of trace segments that follow each other: each is the contract of a function that does
 // nothing.
 
+ghost use Rattle.segment_check.specs.Own.{FirstMayBegin, NextMayBegin};
 ghost use Rattle.segment_check.specs.Rows.{RowsTellPasts};
 
-use motion_laws::{pasts_keep_their_laws, segments_keep_their_laws};
+use motion_laws::{machines_can_stand, pasts_keep_their_laws, segments_keep_their_laws};
 
 /// Trace segments of which the first begins at opening, and each later one with the machine to
 /// which those before it lead, give one history of the machine together, and all laws hold of it.
@@ -13,4 +14,14 @@ pub fn rows_of_trace_segments_tell_pasts()
 {
     segments_keep_their_laws();
     pasts_keep_their_laws();
+}
+
+/// No segment of a kernel is rejected for its header: one that begins at opening may begin so, and
+/// where one may begin, so may the next, which begins where a legal history from there leads.
+/// Nothing runs.
+pub fn segments_of_kernels_may_begin()
+    ensures first { FirstMayBegin }
+    ensures next { NextMayBegin }
+{
+    machines_can_stand();
 }

@@ -5,13 +5,17 @@
 //! replays. Begin at [`check_trace_segment`] and [`Verdict`].
 #![tactic(auto)]
 
+mod counting;
 mod filling;
+mod flaw;
 mod laws;
 mod next;
+mod orders;
 mod starting;
 mod verifying;
 
-pub use laws::rows_of_trace_segments_tell_pasts;
+pub use flaw::Flaw;
+pub use laws::{rows_of_trace_segments_tell_pasts, segments_of_kernels_may_begin};
 pub use segment_text::{TraceSegment, read_trace_segment};
 pub use starting::kernel_of;
 pub use trace_check::{Difference, OutOfMemory};

@@ -4,6 +4,7 @@ ghost use Rattle.std.specs.Prelude.{◌≡◌, IfOk};
 ghost use Rattle.segment_check.specs.Begun.{MayBegin, begun};
 ghost use Rattle.segment_check.specs.Verified.{IsVerified};
 
+use crate::flaw::Flaw;
 use crate::next::header_behind;
 use crate::starting::kernel_of;
 use motion_kernel::SegmentedKernel;
@@ -14,8 +15,8 @@ use trace_check::{Difference, OutOfMemory, Replayed, replay_from};
 /// The verdict on a trace segment.
 #[derive(Drop)]
 pub enum Verdict {
-    /// No machine of its configuration begins as its header says.
-    NoBeginning,
+    /// No machine of its configuration begins as its header says, for its first flaw.
+    NoBeginning(Flaw),
     /// It is legal, has this many entries, and the next trace segment must begin with this header:
     /// nothing where its counts have no place in one.
     Legal { entries: u64, next: Vec<u8> },
@@ -35,8 +36,8 @@ pub fn check_trace_segment(
     ensures { IfOk result (IsVerified trace_segment.now) }
 {
     match kernel_of(alloc, trace_segment)? {
-        Some(kernel) => replay_trace_segment(alloc, trace_segment, kernel),
-        None => Ok(Verdict::NoBeginning),
+        Ok(kernel) => replay_trace_segment(alloc, trace_segment, kernel),
+        Err(flaw) => Ok(Verdict::NoBeginning(flaw)),
     }
 }
 

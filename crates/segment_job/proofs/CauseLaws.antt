@@ -9,7 +9,10 @@ use Rattle.job_ends.specs.declared.status.Status.TheVariants as status
 use Rattle.motion_history.specs.declared.refused.Rule.{Rule}
 use Rattle.motion_history.specs.declared.refused.TextRefused.{TextRefused}
 use Rattle.segment_check.specs.Begun.{MayBegin}
+use Rattle.segment_check.proofs.Flaws.{one_flaw}
+use Rattle.segment_check.specs.Flaws.{IsFlawOf}
 use Rattle.segment_check.specs.Verified.{IsVerified, IsLegalTraceSegment}
+use Rattle.segment_check.specs.declared.flaw.Flaw.{Flaw}
 use Rattle.segment_check.specs.declared.verifying.Verdict.{Verdict}
 use Rattle.segment_check.specs.declared.verifying.Verdict.TheVariants as verdict
 use Rattle.segment_text.specs.declared.trace_segment.TraceSegment.{TraceSegment}
@@ -18,23 +21,25 @@ use Rattle.trace_check.specs.Progress.{difference_from}
 use Rattle.trace_check.specs.declared.difference.Difference.{Difference}
 use Rattle.trace_text.specs.TraceState.{entries_of}
 use Rattle.segment_job.specs.Causes.{TraceSegmentCause}
-use Rattle.segment_job.specs.Plans.{beginning_rule, plan_of_verdict}
+use Rattle.segment_job.specs.Plans.{beginning_place, beginning_rule, plan_of_verdict}
 
 -- ---- by the verdict on a trace segment
 
 pub verdict-told : (name : List ℕ) (v : Verdict) → is_told (plan_of_verdict name v).status ≡ true
-verdict-told name verdict.NoBeginning = refl
+verdict-told name (verdict.NoBeginning f) = refl
 verdict-told name (verdict.Legal entries next) = refl
 verdict-told name (verdict.IllegalAt d) = refl
 
 pub verdict-caused : (name text : List ℕ) (p : TraceSegment) → trace_segment_of text ≡ Ok p → (v : Verdict) →
     IsVerified p v → TraceSegmentCause text (plan_of_verdict name v).status
-verdict-caused name text p is verdict.NoBeginning j = inr (record {
+verdict-caused name text p is (verdict.NoBeginning f) j = inr (record {
   trace_segment = p;
   reading = is;
-  none = j;
+  flaw = f;
+  found = j.0;
+  none = j.1;
   first = refl;
-  whole = refl;
+  place_is = refl;
   rule_is = refl;
 })
 verdict-caused name text p is (verdict.Legal entries next) j =
@@ -54,25 +59,28 @@ same-trace_segment text p q is other = let same : Ok q ≡ Ok p = sym other ∙ 
 
 legal-alone : (name : List ℕ) (p : TraceSegment) (v : Verdict) (n : ℕ) → IsVerified p v → IsLegalTraceSegment p →
     length (entries_of p.trace) ≡ n → (plan_of_verdict name v).status ≡ status.Legal n
-legal-alone name p verdict.NoBeginning n j legal count = absurd (j legal.begins)
+legal-alone name p (verdict.NoBeginning f) n j legal count = absurd (j.1 legal.begins)
 legal-alone name p (verdict.Legal entries next) n j legal count = ap status.Legal (j.count ∙ count)
 legal-alone name p (verdict.IllegalAt d) n j legal count = absurd (j.2 legal.trace)
 
 illegal-alone : (name : List ℕ) (p : TraceSegment) (v : Verdict) (d : Difference) → IsVerified p v →
     MayBegin p → difference_from p.machine p.trace ≡ Some d →
     (plan_of_verdict name v).status ≡ status.Illegal d.place
-illegal-alone name p verdict.NoBeginning d j begins first = absurd (j begins)
+illegal-alone name p (verdict.NoBeginning f) d j begins first = absurd (j.1 begins)
 illegal-alone name p (verdict.Legal entries next) d j begins first =
     absurd (let bad : None ≡ Some d = sym j.same ∙ first in cc)
 illegal-alone name p (verdict.IllegalAt e) d j begins first =
     let same : Some e ≡ Some d = sym j.1 ∙ first in
     let is : e ≡ d = cc in ap (λ (x : Difference). status.Illegal x.place) is
 
-none-alone : (name : List ℕ) (p : TraceSegment) (v : Verdict) → IsVerified p v → ¬ MayBegin p →
-    (plan_of_verdict name v).status ≡ status.TextRefused 1 0 beginning_rule
-none-alone name p verdict.NoBeginning j none = refl
-none-alone name p (verdict.Legal entries next) j none = absurd (none j.trace_segment.begins)
-none-alone name p (verdict.IllegalAt d) j none = absurd (none j.0)
+none-alone : (name : List ℕ) (p : TraceSegment) (v : Verdict) (f : Flaw) → IsVerified p v →
+    IsFlawOf p (Some f) → ¬ MayBegin p →
+    (plan_of_verdict name v).status ≡ status.TextRefused 1 (beginning_place f) (beginning_rule f)
+none-alone name p (verdict.NoBeginning g) f j found none =
+    ap (λ (x : Flaw). status.TextRefused 1 (beginning_place x) (beginning_rule x))
+    (one_flaw p g f j.0 found)
+none-alone name p (verdict.Legal entries next) f j found none = absurd (none j.trace_segment.begins)
+none-alone name p (verdict.IllegalAt d) f j found none = absurd (none j.0)
 
 -- a text that is a trace segment is not refused
 no-refusal : (r : TextRefused) → None ≡ Some r → ⊥
@@ -84,9 +92,9 @@ unrefused reading p word place rule is h =
     no-refusal (record { place = place; rule = rule }) (sym (ap refusal_by is) ∙ h.refusal)
 
 -- a refusal that is the same
-same-refusal : (word place : ℕ) (rule other : Rule) → word ≡ 1 → place ≡ 0 → rule ≡ other →
-    status.TextRefused 1 0 other ≡ status.TextRefused word place rule
-same-refusal word place rule other w p r =
+same-refusal : (word place there : ℕ) (rule other : Rule) → word ≡ 1 → place ≡ there → rule ≡ other →
+    status.TextRefused 1 there other ≡ status.TextRefused word place rule
+same-refusal word place there rule other w p r =
     λ i. status.TextRefused (sym w i) (sym p i) (sym r i)
 
 pub verdict-alone : (name text : List ℕ) (p : TraceSegment) → trace_segment_of text ≡ Ok p → (v : Verdict) →
@@ -105,8 +113,11 @@ verdict-alone name text p is v j (status.TextRefused word place rule) (inl h) =
     absurd (unrefused (trace_segment_of text) p word place rule is h)
 verdict-alone name text p is v j (status.TextRefused word place rule) (inr h) =
     let same = same-trace_segment text p h.trace_segment is h.reading in
-    none-alone name p v j (subst (λ (q : TraceSegment). ¬ MayBegin q) same h.none)
-    ∙ same-refusal word place rule beginning_rule h.first h.whole h.rule_is
+    none-alone name p v h.flaw j
+    (subst (λ (q : TraceSegment). IsFlawOf q (Some h.flaw)) same h.found)
+    (subst (λ (q : TraceSegment). ¬ MayBegin q) same h.none)
+    ∙ same-refusal word place (beginning_place h.flaw) rule (beginning_rule h.flaw) h.first
+    h.place_is h.rule_is
 verdict-alone name text p is v j other h = absurd h
 
 -- ---- by the refusal of a text

@@ -9,6 +9,7 @@ use Rattle.job_ends.specs.declared.status.Status.{Status}
 use Rattle.motion_history.specs.declared.refused.TextFault.{TextFault}
 use Rattle.motion_history.specs.declared.refused.TextFault.TheVariants.{Refused}
 use Rattle.motion_history.specs.declared.refused.TextRefused.{TextRefused}
+use Rattle.segment_check.specs.declared.flaw.Flaw.TheVariants as flaw
 use Rattle.segment_text.specs.declared.trace_segment.TraceSegment.{TraceSegment}
 use Rattle.segment_text.specs.reading.Reading.{ReadsBy, trace_segment_of}
 use Rattle.trace_text.specs.writing.Writes.{Output}
@@ -28,10 +29,10 @@ pub early-ended : FollowPlans → (name text : List ℕ) (old new : Output) (s :
 early-ended follow name text old new s e =
     let fault : is_fault s ≡ true = ap is_fault e.status in
     record {
-      plan = refused_plan 1 name no_beginning;
+      plan = refused_plan 1 name (no_beginning flaw.Counts);
       is = inr e;
       by = record {
-        ends = follow.early old new (refused_plan 1 name no_beginning) s e;
+        ends = follow.early old new (refused_plan 1 name (no_beginning flaw.Counts)) s e;
         told = refl;
         caused = λ f. absurd (let bad : true ≡ false = sym fault ∙ f in cc);
         alone = λ f. absurd (let bad : true ≡ false = sym fault ∙ f in cc);

@@ -5,13 +5,15 @@ use Rattle.job_ends.specs.declared.status.Status.{Status}
 use Rattle.job_ends.specs.declared.status.Status.TheVariants as status
 use Rattle.motion_history.specs.declared.refused.Rule.{Rule}
 use Rattle.segment_check.specs.Begun.{MayBegin}
+use Rattle.segment_check.specs.Flaws.{IsFlawOf}
 use Rattle.segment_check.specs.Verified.{IsLegalTraceSegment}
+use Rattle.segment_check.specs.declared.flaw.Flaw.{Flaw}
 use Rattle.segment_text.specs.declared.trace_segment.TraceSegment.{TraceSegment}
 use Rattle.segment_text.specs.reading.Reading.{trace_segment_of}
 use Rattle.trace_check.specs.Progress.{difference_from}
 use Rattle.trace_check.specs.declared.difference.Difference.{Difference}
 use Rattle.trace_text.specs.TraceState.{entries_of}
-use Rattle.segment_job.specs.Plans.{beginning_rule}
+use Rattle.segment_job.specs.Plans.{beginning_place, beginning_rule}
 
 -- a text is a legal trace segment with this many entries
 pub record HasEntries (entries : ℕ) (text : List ℕ) : Type 0 where
@@ -30,15 +32,17 @@ pub record DiffersAt (place : ℕ) (text : List ℕ) : Type 0 where
   pub first : difference_from trace_segment.machine trace_segment.trace ≡ Some difference
   pub place_is : difference.place ≡ place
 
--- a text is a trace segment, and no machine of its configuration may begin as its header says; so
--- it is reported of the text of word 1 as a whole, by the rule of that
+-- a text is a trace segment, and no machine of its configuration may begin as its header says: the
+-- first flaw of that is reported of the text of word 1, where it is, by its rule
 pub record HasNoBeginning (word place : ℕ) (rule : Rule) (text : List ℕ) : Type 0 where
   pub trace_segment : TraceSegment
   pub reading : trace_segment_of text ≡ Ok trace_segment
+  pub flaw : Flaw
+  pub found : IsFlawOf trace_segment (Some flaw)
   pub none : ¬ MayBegin trace_segment
   pub first : word ≡ 1
-  pub whole : place ≡ 0
-  pub rule_is : rule ≡ beginning_rule
+  pub place_is : place ≡ beginning_place flaw
+  pub rule_is : rule ≡ beginning_rule flaw
 
 -- the cause of each status where a text that begins as a trace segment is checked
 abbrev pub TraceSegmentCause : List ℕ → Status → Type 0

@@ -5,6 +5,8 @@ use Rattle.job_ends.specs.declared.status.Status.TheVariants as status
 use Rattle.motion_history.specs.declared.refused.Rule.{Rule}
 use Rattle.motion_history.specs.declared.refused.TextRefused.{TextRefused}
 use Rattle.segment_check.specs.Verified.{IsVerified}
+use Rattle.segment_check.specs.declared.flaw.Flaw.{Flaw}
+use Rattle.segment_check.specs.declared.flaw.Flaw.TheVariants as flaw
 use Rattle.segment_check.specs.declared.verifying.Verdict.{Verdict}
 use Rattle.segment_check.specs.declared.verifying.Verdict.TheVariants as verdict
 use Rattle.segment_text.specs.declared.trace_segment.TraceSegment.{TraceSegment}
@@ -12,13 +14,30 @@ use Rattle.segment_text.specs.reading.Reading.{letter, trace_segment_of}
 use Rattle.trace_jobs.specs.Lines.{legal_line}
 use Rattle.trace_jobs.specs.Plans.{illegal_plan}
 
--- the seventh rule of a trace segment: a machine of its configuration may begin as its header says
-abbrev pub beginning_rule : Rule
-beginning_rule = record { letter = letter; number = 7 }
+-- the rule of a trace segment that a flaw of its header breaks
+abbrev pub number_of : Flaw → ℕ
+number_of flaw.Counts = 7
+number_of flaw.Invariant = 8
+number_of flaw.Owners = 9
+number_of flaw.Commands = 10
+number_of flaw.Kinds = 11
+number_of flaw.States = 12
+number_of flaw.Orders = 13
+number_of flaw.Opening = 14
 
--- a trace segment that breaks it is refused at place 0, since no record of it is to blame alone
-abbrev pub no_beginning : TextRefused
-no_beginning = record { place = 0; rule = beginning_rule }
+abbrev pub beginning_rule : Flaw → Rule
+beginning_rule f = record { letter = letter; number = number_of f }
+
+-- where it is reported: counts, and that nothing was before, at the first record; else at 0, since
+-- no record is to blame alone
+abbrev pub beginning_place : Flaw → ℕ
+beginning_place flaw.Counts = 1
+beginning_place flaw.Opening = 1
+beginning_place f = 0
+
+-- a trace segment that breaks it is refused there
+abbrev pub no_beginning : Flaw → TextRefused
+no_beginning f = record { place = beginning_place f; rule = beginning_rule f }
 
 -- a legal trace segment is reported as a legal trace, and after the line stands the header with
 -- which the next trace segment must begin, or nothing where that can't be reported
@@ -28,7 +47,7 @@ legal_plan entries next =
 
 -- what a trace segment leads to by its verdict
 abbrev pub plan_of_verdict : List ℕ → Verdict → Plan
-plan_of_verdict name verdict.NoBeginning = refused_plan 1 name no_beginning
+plan_of_verdict name (verdict.NoBeginning f) = refused_plan 1 name (no_beginning f)
 plan_of_verdict name (verdict.Legal entries next) = legal_plan entries next.items
 plan_of_verdict name (verdict.IllegalAt difference) = illegal_plan difference
 

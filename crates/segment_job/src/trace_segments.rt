@@ -4,6 +4,7 @@ ghost use Rattle.std.specs.Prelude.{◌≡◌, ◌⊎◌};
 ghost use Rattle.job_ends.specs.Ends.{EndsBy, EndsEarly};
 ghost use Rattle.segment_job.specs.Begins.{begins_as_trace_segment};
 ghost use Rattle.segment_job.specs.Ends.{EndsByTraceSegment, EndsByVerdict};
+ghost use Rattle.segment_job.specs.Plans as plans;
 ghost use Rattle.segment_job.specs.Plans.{legal_plan, plan_of_verdict};
 ghost use Rattle.segment_text.specs.reading.Reading as read;
 ghost use Rattle.segment_text.specs.reading.Reading.{ReadsBy};
@@ -12,20 +13,54 @@ use crate::lines::legal_text;
 use job_ends::{Status, ends_follow_plans, say, say_refused};
 use motion_history::{OutOfMemory, Rule, TextFault, TextRefused};
 use outside::Sink;
-use segment_check::{Verdict, check_trace_segment};
+use segment_check::{Flaw, Verdict, check_trace_segment};
 use segment_text::{TraceSegment, read_trace_segment};
 use std::alloc::Global;
 use trace_jobs::say_difference;
 
-/// No machine of the configuration may begin as the header says: it is reported of the trace
-/// segment as a whole.
-const NO_BEGINNING: TextRefused = TextRefused {
-    place: 0,
-    rule: Rule {
-        letter: b'G',
-        number: 7,
-    },
-};
+// The rule that a flaw of a header breaks.
+fn number_of(flaw: Flaw) -> u8
+    ensures { result ≡ plans.number_of flaw }
+{
+    match flaw {
+        Flaw::Counts => 7,
+        Flaw::Invariant => 8,
+        Flaw::Owners => 9,
+        Flaw::Commands => 10,
+        Flaw::Kinds => 11,
+        Flaw::States => 12,
+        Flaw::Orders => 13,
+        Flaw::Opening => 14,
+    }
+}
+
+// Where it is reported: at the first record, or of the trace segment as a whole.
+fn place_of(flaw: Flaw) -> u64
+    ensures { result ≡ plans.beginning_place flaw }
+{
+    match flaw {
+        Flaw::Counts | Flaw::Opening => 1,
+        Flaw::Invariant
+        | Flaw::Owners
+        | Flaw::Commands
+        | Flaw::Kinds
+        | Flaw::States
+        | Flaw::Orders => 0,
+    }
+}
+
+// That no machine of the configuration may begin as the header says.
+fn no_beginning(flaw: Flaw) -> TextRefused
+    ensures { result ≡ plans.no_beginning flaw }
+{
+    TextRefused {
+        place: place_of(flaw),
+        rule: Rule {
+            letter: b'G',
+            number: number_of(flaw),
+        },
+    }
+}
 
 /// Whether a text begins as a trace segment does, by `trace_segment,`.
 #[tactic(auto, unfolding(crate::specs::Begins::begins_as_trace_segment))]
@@ -88,7 +123,7 @@ fn say_verdict<K: Sink>(alloc: Global, name: &str, verdict: &Verdict, out: &mut 
         (plan_of_verdict name.now verdict.now) result }
 {
     match verdict {
-        Verdict::NoBeginning => say_refused(alloc, 1, name, &NO_BEGINNING, out),
+        Verdict::NoBeginning(flaw) => say_refused(alloc, 1, name, &no_beginning(*flaw), out),
         Verdict::Legal { entries, next } => say_legal(alloc, *entries, next.as_slice(), out),
         Verdict::IllegalAt(difference) => say_difference(alloc, difference, out),
     }

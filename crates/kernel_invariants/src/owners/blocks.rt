@@ -15,8 +15,8 @@ pub enum Object {
     Group(u8),
 }
 
-// On which a block acts.
-fn object_of(block: &BlockDef) -> Object
+/// On which a block acts.
+pub fn object_of(block: &BlockDef) -> Object
     ensures { object_by result ≡ objects.object_of block.now }
 {
     if block.kind.acts_on_group() {
@@ -37,8 +37,8 @@ fn is_same(one: Object, other: Object) -> bool
     }
 }
 
-// Whether a block is a Power, which has no commands.
-fn is_power(block: &BlockDef) -> bool
+/// Whether a block is a Power, which has no commands.
+pub fn is_power(block: &BlockDef) -> bool
     ensures { result ≡ step.is_power block.now.kind }
 {
     matches!(block.kind, BlockKind::Power)

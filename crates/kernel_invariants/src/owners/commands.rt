@@ -50,8 +50,8 @@ fn reset_owner(reset: &Option<PendingReset>) -> Option<u16>
     }
 }
 
-// Who has the command that waits at a place of a list.
-fn owner_at(start: &Start, list: u8, place: u8) -> Option<u16>
+/// Who has the command that waits at a place of a list.
+pub fn owner_at(start: &Start, list: u8, place: u8) -> Option<u16>
     requires { list < length start.now.queues }
     ensures { result ≡ owner_by (slice_get (queue_of start.now.queues list) place) }
 {
@@ -61,8 +61,8 @@ fn owner_at(start: &Start, list: u8, place: u8) -> Option<u16>
     }
 }
 
-// The owners of an axis.
-fn axis_owners(start: &Start, number: u8) -> Owners
+/// The owners of an axis.
+pub fn axis_owners(start: &Start, number: u8) -> Owners
     requires { number < length start.now.axes }
     ensures { result ≡ owners_of (command_state_at start.now (an_axis number)) }
 {
@@ -76,8 +76,8 @@ fn axis_owners(start: &Start, number: u8) -> Owners
     }
 }
 
-// The owners of a group.
-fn group_owners(start: &Start, number: u8) -> Owners
+/// The owners of a group.
+pub fn group_owners(start: &Start, number: u8) -> Owners
     requires { number < length start.now.groups }
     ensures { result ≡ owners_of (command_state_at start.now (a_group number)) }
 {

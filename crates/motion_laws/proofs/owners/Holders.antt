@@ -28,7 +28,7 @@ use Rattle.motion_laws.specs.owners.Holders.{HoldersHaveBlocks}
 use Rattle.motion_laws.proofs.walk.Histories.{by_history}
 
 -- whose commands are shown has its block there
-have_blocks : (s : Setup) (m : Machine) → CommandsAreShown s m → HoldersHaveBlocks s m → OwnersHaveBlocks s m
+pub have_blocks : (s : Setup) (m : Machine) → CommandsAreShown s m → HoldersHaveBlocks s m → OwnersHaveBlocks s m
 have_blocks s m shown holders o there k = record { commands = commands o there; holds = holds o there }
   where
     commands : (o : Object) → IsThere m o → 0 < owns k (command_state_at m o) → has_commands_on (slice_get s.blocks k) o ≡ true
@@ -41,7 +41,7 @@ have_blocks s m shown holders o there k = record { commands = commands o there; 
     holds (an_axis n) there e = holders (an_axis n) there k e
     holds (a_group j) there e = holders (a_group j) there k e
 
-holders_of : (s : Setup) (m : Machine) → OwnersHaveBlocks s m → HoldersHaveBlocks s m
+pub holders_of : (s : Setup) (m : Machine) → OwnersHaveBlocks s m → HoldersHaveBlocks s m
 holders_of s m h (an_axis n) there k e = (h (an_axis n) there k).holds e
 holders_of s m h (a_group j) there k e = (h (a_group j) there k).holds e
 

@@ -18,7 +18,8 @@ use Rattle.motion_history.specs.declared.config.BlockDef.{BlockDef}
 use Rattle.motion_kernel.specs.Machine.{Machine, axis_at, group_core_at}
 use Rattle.motion_kernel.specs.calls.Calls.{after_call, with_execute}
 use Rattle.motion_kernel.specs.kept.Machine.{AreWhole, IsMachineKept}
-use Rattle.motion_laws.proofs.entries.errors.Laws.{AreAllShown, AxisErrors, ErrorLaws, GroupErrors, ShowsTruly}
+use Rattle.motion_laws.specs.Standing.{AreAllShown, ShowsTruly}
+use Rattle.motion_laws.proofs.entries.errors.Laws.{AxisErrors, ErrorLaws, GroupErrors}
 use Rattle.motion_laws.proofs.walk.AxisCalls as axes
 use Rattle.motion_laws.proofs.walk.GroupCalls as groups
 

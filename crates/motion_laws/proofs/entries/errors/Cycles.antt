@@ -22,7 +22,8 @@ use Rattle.motion_kernel.proofs.cycles.OneAxis.{goes_through}
 use Rattle.motion_kernel.proofs.cycles.Rows.{axes_groups}
 use Rattle.motion_kernel.proofs.kept.GroupSteps.{have_stepped}
 use Rattle.motion_laws.specs.entries.GroupEvents.{moved_in}
-use Rattle.motion_laws.proofs.entries.errors.Laws.{AreAllShown, ErrorLaws, GroupErrors, ShowsTruly}
+use Rattle.motion_laws.specs.Standing.{AreAllShown, ShowsTruly}
+use Rattle.motion_laws.proofs.entries.errors.Laws.{ErrorLaws, GroupErrors}
 use Rattle.motion_laws.proofs.entries.events.Cycles.{groups_moved, resets_count}
 
 -- an axis

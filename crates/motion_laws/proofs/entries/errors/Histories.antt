@@ -23,7 +23,8 @@ use Rattle.motion_kernel.specs.kept.Machine.{AreWhole, IsMachineKept}
 use Rattle.motion_laws.proofs.Histories.{past_kept, past_so_far}
 use Rattle.motion_laws.proofs.entries.errors.Calls.{call_shown}
 use Rattle.motion_laws.proofs.entries.errors.Cycles.{cycle_shown}
-use Rattle.motion_laws.proofs.entries.errors.Laws.{AreAllShown, AxisErrors, ErrorLaws, GroupErrors, ShowsTruly}
+use Rattle.motion_laws.specs.Standing.{AreAllShown, ShowsTruly}
+use Rattle.motion_laws.proofs.entries.errors.Laws.{AxisErrors, ErrorLaws, GroupErrors}
 use Rattle.motion_laws.proofs.entries.events.Histories.{IsEntry, entry_in}
 use Rattle.motion_laws.proofs.entries.rows.Cycles.{cycle_shows}
 use Rattle.motion_kernel.proofs.owners.commands.Events.{there_where}

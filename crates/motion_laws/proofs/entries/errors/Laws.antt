@@ -28,6 +28,7 @@ use Rattle.motion_kernel.specs.calls.Calls.{with_execute}
 use Rattle.motion_kernel.specs.kept.Machine.{AreWhole, IsMachineKept}
 use Rattle.motion_kernel.specs.kept.Ready.{MayCall}
 use Rattle.motion_kernel.proofs.kept.Machine.{MachinesStayKept}
+use Rattle.motion_laws.specs.Standing.{ShowsTruly}
 
 -- axis_core's errors_stand_in_error_stop
 pub record AxisErrors : Type 0 where
@@ -41,11 +42,6 @@ pub record AxisErrors : Type 0 where
   pub path : (on : Bool) (a : Axis) → axis_shown.IsShown a → axis_shown.IsShown (axis_on_path on a)
   pub cycle : (look : AxisLook) (c : axis.Core) → axis_shown.IsShown c.axis →
       axis_shown.IsShown (core_after_cycle look c).axis
-
--- a group shows its error and its GroupStop truly, and an error is 101 to 106
-pub record ShowsTruly (g : Group) : Type 0 where
-  pub shown : group_shown.IsShown g
-  pub number : group_shown.IsErrorOrNone g.error
 
 -- group_core's errors_stand_in_error_stop and errors_are_those_of_axes
 pub record GroupErrors : Type 0 where
@@ -69,8 +65,3 @@ pub record ErrorLaws : Type 0 where
       IsMachineKept s m → MayCall s k b i (with_execute k i m)
   pub axes : AxisErrors
   pub groups : GroupErrors
-
--- each axis and each group of a machine has an error exactly in its state of errors
-pub record AreAllShown (s : Setup) (m : Machine) : Type 0 where
-  pub axes : (n : ℕ) → n < length s.axes → axis_shown.IsShown (axis_at m n)
-  pub groups : (j : ℕ) → j < length s.groups → ShowsTruly (group_at m j).group

@@ -20,12 +20,9 @@ use Rattle.motion_kernel.specs.owners.Objects.{a_group, an_axis, IsThere, Object
 use Rattle.motion_kernel.proofs.owners.commands.Events.{same_object}
 use Rattle.motion_kernel.proofs.owners.kinds.Changes.{BringOwn, all_none_own, all_own, disowned_own}
 use Rattle.motion_kernel.proofs.walk.Events.{executed_alike, found_alike, freed_at, freed_there, replied_alike}
+use Rattle.motion_laws.specs.Standing.{KindsMatch}
 use Rattle.motion_laws.proofs.walk.Histories.{by_history}
 use Rattle.motion_kernel.proofs.walk.Keeps.{Alike, Anyone, Asks, Event, Keeps, WalkLaws, command_state_at, freed}
-
--- of each axis and each group
-abbrev pub KindsMatch : Setup → Machine → Type 0
-KindsMatch s m = (p : Object) → IsThere m p → AreOfTheirBlocks s (command_state_at m p)
 
 module _ (laws : WalkLaws) (s : Setup) where
   alike_match : (m x : Machine) → Alike m x → KindsMatch s m → KindsMatch s x
@@ -50,7 +47,7 @@ module _ (laws : WalkLaws) (s : Setup) where
       subst (AreOfTheirBlocks s) (sym (freed_at laws k a.called m p there)) (disowned_own s k (command_state_at m p) (h p there)) in
       alike_match a.asked z a.alike (event_match free a.asked a.object a.changes a.event a.kinds freed_match)
 
-  kinds_kept : Keeps s Anyone (KindsMatch s) (KindsMatch s)
+  pub kinds_kept : Keeps s Anyone (KindsMatch s) (KindsMatch s)
   kinds_kept = record {
     executed = λ k b i m may at quiet h. alike_match m _ (executed_alike k i m) h;
     powered = λ m x o xs e none call h. event_match m x o xs e (all_none_own s xs none) h;
@@ -91,7 +88,7 @@ group_resets [] j = refl
 group_resets (d ∷ ds) zero = refl
 group_resets (d ∷ ds) (suc j) = group_resets ds j
 
-opening_match : (s : Setup) → KindsMatch s (machine_at_opening s)
+pub opening_match : (s : Setup) → KindsMatch s (machine_at_opening s)
 opening_match s (an_axis n) l =
     no_command s (command_state_at (machine_at_opening s) (an_axis n)) (axis_rests s.axes n) (none_waits (length s.axes + length s.groups) n) (axis_resets s.axes n)
 opening_match s (a_group j) l =

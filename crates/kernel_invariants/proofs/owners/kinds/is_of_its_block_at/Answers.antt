@@ -1,0 +1,17 @@
+-- The command is the one that was found.
+use Rattle.std.proofs.Common.{◌≡◌, ◌∙◌, Some, ap, subst, sym}
+use Rattle.std.specs.Option.{option_copied}
+use Rattle.std.specs.Prelude.{slice_get}
+use Rattle.command_pool.specs.Waiting.{queue_of}
+use Rattle.motion_kernel.specs.owners.Kinds.{IsOfItsBlock}
+use Rattle.kernel_invariants.proofs.owners.kinds.is_of_its_block_at.Goals as goal
+
+pub returns-in-Some : goal.returns-in-Some
+returns-in-Some c =
+    let queue = queue_of c.args.start.now.queues c.args.list in
+    let at : slice_get queue c.args.place ≡ Some c.in-Some.wanted.now = sym c.waiting.ensures ∙ ap option_copied c.in-Some.is in (
+      λ t w e.
+          let same : c.in-Some.wanted.now ≡ w = (let z : Some c.in-Some.wanted.now ≡ Some w = sym at ∙ e in cc) in
+          subst (IsOfItsBlock c.args.config.now) same (c.is_of_its_block.ensures.0 t),
+      λ h. c.is_of_its_block.ensures.1 (h c.in-Some.wanted.now at),
+    )
