@@ -1,4 +1,4 @@
-/* A program with no C library at all: the linker tells whether the library asks for more than these
+/* A program with no C library at all: the linker says whether the library asks for more than these
  * functions. It is linked, not run. */
 #include "motion.h"
 

@@ -108,7 +108,7 @@ static void operate(plant *p, long cycle, long failed)
     p->bus.Reset = since == 30;
 }
 
-static void tell(const plant *p, long cycle)
+static void report(const plant *p, long cycle)
 {
     const mc_bus_axis *failed = mc_bus_failed(&p->bus);
     printf("  %4ld %s", cycle, mc_bus_state_text(p->bus.state));
@@ -137,7 +137,7 @@ static uint32_t run(plant *p, enum trouble trouble)
         mc_bus_take(&p->bus, &p->machine, answers);
         for (i = 0; i < AXES; i++) step_drive(p, i, &given[i], cycle);
         if (p->bus.state == MC_BUS_FAILED && !failed) failed = cycle;
-        if (p->bus.state != before) tell(p, cycle);
+        if (p->bus.state != before) report(p, cycle);
     }
     return code;
 }

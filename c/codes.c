@@ -56,12 +56,12 @@ static uint32_t name_of(uint32_t (*find)(motion *, const uint8_t *, size_t), mot
 }
 
 /* Outputs and rows that no call writes, by which a call that changed nothing is known. */
-static const motion_outputs untold = { 999, 9, 9, 9, 9, 9, 9 };
+static const motion_outputs unset = { 999, 9, 9, 9, 9, 9, 9 };
 static const motion_drive_out ungiven = { -1, 0xffff, -1 };
 static const motion_axis_row unseen = { -1, -1, 99, 999, 9 };
 static const motion_refusal unread = { 77, 7, 7 };
 
-static void want_untold(const char *what, const motion_outputs *out)
+static void want_unset(const char *what, const motion_outputs *out)
 {
     want(what, out->error_id == 999 && out->busy == 9 && out->active == 9 && out->done == 9
                    && out->aborted == 9 && out->error == 9 && out->reached == 9, 1);
@@ -104,7 +104,7 @@ static void readings(motion *m, uint32_t code)
 static void closed_handle(void)
 {
     motion m = MOTION_NONE;
-    motion_outputs out = untold;
+    motion_outputs out = unset;
     motion_drive_out given[1] = { { -1, 0xffff, -1 } };
     motion_axis_row axis = unseen;
     motion_group_row group = { 99, 999 };
@@ -127,7 +127,7 @@ static void closed_handle(void)
     want("forget", motion_forget(&m), MOTION_CLOSED);
     readings(&m, MOTION_CLOSED);
     want("left", motion_cycles_left(&m) + motion_room_left(&m), 0);
-    want_untold("no outputs", &out);
+    want_unset("no outputs", &out);
     want_unseen("no row", &axis);
     want("unchanged", given[0].mode == -1 && group.state == 99 && group.error == 999 && room[0] == 7, 1);
 }
@@ -152,7 +152,7 @@ static void opening(void)
     want("closed", motion_close(&m), MOTION_CLOSED);
 }
 
-/* Of two texts the one that is refused is told, at its place, by its rule. */
+/* Of two texts the one that is rejected is reported, by its position and its rule. */
 static void configurations(void)
 {
     motion m = MOTION_NONE;
@@ -222,7 +222,7 @@ static void names(motion *m)
 /* Calls that are none, and inputs that aren't read. */
 static void calls(motion *m)
 {
-    motion_outputs out = untold;
+    motion_outputs out = unset;
     motion_inputs in = nothing;
     want("no block", motion_call(m, 2, &in, &out), MOTION_UNKNOWN);
     in.acceleration = INT64_MIN;
@@ -233,14 +233,14 @@ static void calls(motion *m)
     in.numerator = 1000000000000000000;
     in.acceleration = -1000000000000000000;
     want("at their limits", motion_call(m, 0, &in, &out), MOTION_OK);
-    out = untold;
+    out = unset;
     in = nothing;
     in.mode = 6;
     want("mode", motion_call(m, 0, &in, &out), MOTION_RANGE);
     in = nothing;
     in.master = 2;
     want("master", motion_call(m, 0, &in, &out), MOTION_RANGE);
-    want_untold("unchanged", &out);
+    want_unset("unchanged", &out);
     in.mode = 9;
     in.velocity = INT64_MIN;
     in.positions[5] = INT64_MAX;
@@ -294,9 +294,9 @@ static void cycles(motion *m)
     want("over", motion_cycle(m, enabled, 2, given, 2), MOTION_OVER);
     want("no outputs", given[1].target == -1 && given[1].controlword == 0xffff && given[1].mode == -1, 1);
     while (motion_room_left(m) > 0) want("call", motion_call(m, 1, &nothing, &out), MOTION_OK);
-    out = untold;
+    out = unset;
     want("full", motion_call(m, 1, &nothing, &out), MOTION_FULL);
-    want_untold("full", &out);
+    want_unset("full", &out);
     want("full", motion_end(m, 0), MOTION_FULL);
     want("axis", motion_axis_look(m, 1, &axis), MOTION_OK);
     want("standstill", axis.state, MOTION_STANDSTILL);

@@ -27,7 +27,7 @@ typedef struct cell {
     drive x;
 } cell;
 
-/* Calls a block once a cycle until it shows Done or what it reaches, and tells how many cycles that took;
+/* Calls a block once a cycle until it shows Done or what it reaches, and says how many cycles that took;
  * below 0 where it shows an error or a call answers a code. */
 static int run(cell *c, uint16_t block, const motion_inputs *in)
 {

@@ -2,8 +2,8 @@
  * axes to and fro, the first by two moves of which one always waits, and the last two as a group along a
  * line; when its segment of the history is nearly full it gives that to a spare handle, and goes
  * on with an empty one. The writer thread makes of each segment a trace segment, a file of its own. No
- * memory grows with the cycles. `lasting [CYCLES [FOLDER]]` tells on the error output what became of it;
- * without a folder the pieces are made and not kept. */
+ * memory grows with the cycles. `lasting [CYCLES [FOLDER]]` says on the error output what became of it;
+ * without a folder the segments are made and not kept. */
 #define _POSIX_C_SOURCE 200809L
 #include "drive.h"
 #include "motion.h"
@@ -20,7 +20,7 @@ enum { AXES = 16, ALONE = 14, MOVES = ALONE + 1, ENABLE = AXES + MOVES, LINE };
 
 /* The room of a segment, and how many entries a cycle makes at most: a call of each block, and the cycle. A
  * real segment is as long as the writer may be late: up to 200,000
- * cycles or 1,000,000 entries, whichever comes first; `motion check` takes a piece of 256 MiB at most. */
+ * cycles or 1,000,000 entries, whichever comes first; `motion check` takes a segment of 256 MiB at most. */
 enum { BANK_CYCLES = 4000, BANK_ENTRIES = 80000, MOST_A_CYCLE = LINE + 2 };
 
 /* What the two threads share. It is the cycle thread's behind a wait for `empty`, and the writer's behind
@@ -30,7 +30,7 @@ typedef struct shared {
     motion_drive_in last[AXES]; /* what the drives answer behind the segment in it */
     uint32_t code;              /* the first that isn't MOTION_OK ends all */
     int over;                   /* no segment comes behind this one */
-    long pieces;
+    long segments;
     const char *folder;
     sem_t full, empty;
 } shared;
@@ -52,16 +52,16 @@ static void wait_for(sem_t *s)
 
 /* The writer: the segment in the spare handle as a file. */
 
-static uint32_t write_piece(shared *w)
+static uint32_t write_segment(shared *w)
 {
     static uint8_t part[65536];
     char name[1024];
     uint64_t at = 0, count;
     uint32_t code = motion_segment_text(&w->spare, w->last, AXES);
     FILE *file = NULL;
-    w->pieces++;
+    w->segments++;
     if (w->folder != NULL) {
-        snprintf(name, sizeof name, "%s/piece-%05ld.trace", w->folder, w->pieces);
+        snprintf(name, sizeof name, "%s/segment-%05ld.trace", w->folder, w->segments);
         file = fopen(name, "wb");
         if (file == NULL) return MOTION_NULL;
     }
@@ -73,13 +73,13 @@ static uint32_t write_piece(shared *w)
     return code;
 }
 
-static void *write_pieces(void *given)
+static void *write_segments(void *given)
 {
     shared *w = given;
     int over = 0;
     while (!over) {
         wait_for(&w->full);
-        if (w->code == MOTION_OK) w->code = write_piece(w);
+        if (w->code == MOTION_OK) w->code = write_segment(w);
         over = w->over;
         sem_post(&w->empty);
     }
@@ -259,7 +259,7 @@ static uint32_t run_both(loop *l, long cycles)
     pthread_t writer;
     uint32_t code;
     if (sem_init(&l->with->full, 0, 0) != 0 || sem_init(&l->with->empty, 0, 1) != 0) return MOTION_NULL;
-    if (pthread_create(&writer, NULL, write_pieces, l->with) != 0) return MOTION_NULL;
+    if (pthread_create(&writer, NULL, write_segments, l->with) != 0) return MOTION_NULL;
     code = run_cycles(l, cycles);
     pthread_join(writer, NULL);
     return code == MOTION_OK ? l->with->code : code;
@@ -278,8 +278,8 @@ int main(int argc, char **argv)
     with.folder = argc > 2 ? argv[2] : NULL;
     code = open_both(&l);
     if (code == MOTION_OK) code = run_both(&l, cycles);
-    fprintf(stderr, "code %u cycles %ld dones %ld pieces %ld\n", (unsigned)code, cycles, l.dones,
-            with.pieces);
+    fprintf(stderr, "code %u cycles %ld dones %ld segments %ld\n", (unsigned)code, cycles, l.dones,
+            with.segments);
     motion_close(&l.m);
     motion_close(&with.spare);
     return code == MOTION_OK ? 0 : 1;

@@ -1,6 +1,6 @@
 /* A loop at 1 kHz around one CiA 402 drive, as a real one has it: memory locked, SCHED_FIFO where the
  * system allows it, one cycle a millisecond by an absolute clock. The axis is switched on, goes to
- * 100,000 and back, and the program tells how late its cycles were. `loop CYCLES [TRACE]`. */
+ * 100,000 and back, and the program reports how late its cycles were. `loop CYCLES [TRACE]`. */
 #define _POSIX_C_SOURCE 200809L
 #include "drive.h"
 #include "motion.h"

@@ -1,7 +1,7 @@
 /* A test of memory: each allocation of opening, of tracing and of a segment's text fails in turn, and is
- * told or borne, with nothing left behind; then CYCLES cycles are made, a segment given out for an empty one
+ * reported or borne, with nothing left over; then CYCLES cycles are made, a segment given out for an empty one
  * behind each 50,000, with no call of the heap at all, and with their pages there, since opening has
- * touched them. `memory CYCLES` tells of each on the error output. */
+ * touched them. `memory CYCLES` reports each on the error output. */
 #define _DEFAULT_SOURCE
 #include "drive.h"
 #include "motion.h"
@@ -64,7 +64,7 @@ static uint32_t open_machine(motion *m)
 /* Each allocation of opening fails in turn. */
 static int opening_fails(void)
 {
-    unsigned told = 0;
+    unsigned reported = 0;
     for (fails = 1;; fails++) {
         motion m = MOTION_NONE;
         uint32_t code;
@@ -73,13 +73,13 @@ static int opening_fails(void)
         if (code == MOTION_OK && motion_close(&m) != MOTION_OK) return 1;
         if (code != MOTION_OK && motion_close(&m) != MOTION_CLOSED) return 2;
         if (live != 0) return 3;
-        if (code == MOTION_NO_MEMORY) told++;
+        if (code == MOTION_NO_MEMORY) reported++;
         else if (code != MOTION_OK) return 4;
         else if (heap_calls < fails) break;
     }
     fails = 0;
-    fprintf(stderr, "opening: %u failures told, nothing left behind\n", told);
-    return told == 0;
+    fprintf(stderr, "opening: %u failures reported, nothing left over\n", reported);
+    return reported == 0;
 }
 
 /* A cycle with its calls: a move to and fro. */
@@ -112,7 +112,7 @@ static int text_fails(const char *name, uint32_t (*make)(motion *, const motion_
     static drive drives[AXES];
     motion m = MOTION_NONE;
     motion_drive_in last[AXES] = { { 0, 0, 0 }, { 0, 0, 0 } };
-    unsigned told = 0;
+    unsigned reported = 0;
     long cycle;
     if (open_machine(&m) != MOTION_OK) return 1;
     for (cycle = 0; cycle < 100; cycle++)
@@ -121,13 +121,13 @@ static int text_fails(const char *name, uint32_t (*make)(motion *, const motion_
         uint32_t code;
         heap_calls = 0;
         code = make(&m, last, AXES);
-        if (code == MOTION_NO_MEMORY) told++;
+        if (code == MOTION_NO_MEMORY) reported++;
         else if (code != MOTION_OK) return 3;
         else if (heap_calls < fails) break;
     }
     fails = 0;
-    fprintf(stderr, "%s: %u failures told\n", name, told);
-    return motion_close(&m) != MOTION_OK || live != 0 || told == 0;
+    fprintf(stderr, "%s: %u failures reported\n", name, reported);
+    return motion_close(&m) != MOTION_OK || live != 0 || reported == 0;
 }
 
 /* How many pages the process has touched for the first time. */
@@ -137,7 +137,7 @@ static long first_touches(void)
     return getrusage(RUSAGE_SELF, &used) == 0 ? used.ru_minflt : -1;
 }
 
-/* So many cycles with no call of the heap, nor where a segment is given out or forgotten, in turn. */
+/* This many cycles with no call of the heap, nor where a segment is given out or forgotten, in turn. */
 static int cycles_take_none(long cycles)
 {
     static drive drives[AXES];

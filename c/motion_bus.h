@@ -85,7 +85,7 @@ typedef struct mc_bus_axis {
     MC_Stop stop;
     uint8_t axis;            /* its number */
     int64_t deceleration;    /* the greatest that it may brake by, a cycle squared */
-    uint32_t waited;         /* for so many cycles its drive has been switched on without success */
+    uint32_t waited;         /* for how many cycles its drive has been switched on without success */
     enum mc_bus_cause cause; /* why it failed, until it is reset */
     motion_drive_in answer;  /* what its drive answered in the cycle of the cause */
     motion_axis_row row;     /* the axis after the last cycle */
@@ -99,7 +99,7 @@ typedef struct mc_bus {
     mc_bus_axis *axes;
     uint8_t count;
     uint32_t patience;       /* cycles for which a drive may take to be on, or an axis to be reset */
-    uint32_t resetting;      /* for so many cycles the axes are being reset */
+    uint32_t resetting;      /* for how many cycles the axes have been reset */
     bool was_on, was_reset;  /* the inputs of the cycle before */
 } mc_bus;
 

@@ -19,7 +19,7 @@ rattle_tried rattle_alloc(size_t size, size_t align)
 
 rattle_tried rattle_realloc(void *p, size_t used, size_t size, size_t align)
 {
-    (void)used; /* so many bytes of the old block are to be kept: realloc keeps them all */
+    (void)used; /* as many bytes of the old block are to be kept: realloc keeps them all */
     return tried(realloc(p, size ? size : align));
 }
 

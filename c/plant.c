@@ -1,5 +1,5 @@
 /* A plant of four axes as one loop: they are switched on, go to and fro, the drive of the third has a
- * fault on the way, and its axis is reset. `plant MACHINE CYCLES` tells what became of it on the error
+ * fault on the way, and its axis is reset. `plant MACHINE CYCLES` says what became of it on the error
  * output, and writes the trace to the output. */
 #include "drive.h"
 #include "motion.h"

@@ -1,6 +1,6 @@
 /* A test of stack: MOTION_STACK bytes are enough for a loop's calls on a machine of 16 axes and 4 groups,
  * and MOTION_TRACE_STACK for a trace and a segment's text. Each is called in a thread of its own whose stack
- * is painted, and what is used beside a thread that does nothing is counted. `stack` tells of both on the
+ * is painted, and what is used beside a thread that does nothing is counted. `stack` reports both on the
  * error output. */
 #define _POSIX_C_SOURCE 200809L
 #include "motion.h"

@@ -87,7 +87,7 @@ static long long now(void)
     return (long long)t.tv_sec * 1000000000 + t.tv_nsec;
 }
 
-/* The time that all but one of so many cycles keep to, in nanoseconds. */
+/* The time that all but one in this many cycles keep to, in nanoseconds. */
 static long kept(const long *counts, long cycles, long one_of)
 {
     long left = cycles - cycles / one_of, i = 0;

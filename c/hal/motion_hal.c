@@ -1,5 +1,5 @@
 /* A component of LinuxCNC's HAL over the motion kernel: pins for each axis's drive, for each axis and
- * for each block. README.md tells how it is built and loaded.
+ * for each block. README.md says how it is built and loaded.
  *
  *   loadrt motion_hal machine=FILE axes=X,Y blocks=PX,MX trace=FILE
  *   addf motion.cycle THREAD */
@@ -242,7 +242,7 @@ int rtapi_app_main(void)
     return 0;
 }
 
-/* Writes the trace of the run, which `motion check` judges. */
+/* Writes the trace of the run, which `motion check` verifies. */
 static void write_trace(void)
 {
     static uint8_t piece[MOST_TEXT];

@@ -62,6 +62,24 @@ class Words(unittest.TestCase):
         "speed.md": {"behind"}, "trust.md": {"behind"},
     }
 
+    # How comments look, by a file's ending; "behind" may stand in them where something lags or queues.
+    COMMENTS = {
+        **dict.fromkeys((".h", ".hpp", ".c", ".cpp"), r"/\*.*?\*/|//[^\n]*"), ".py": r"#[^\n]*|\"\"\".*?\"\"\"",
+        ".st": r"\(\*.*?\*\)", **dict.fromkeys((".bench", ".prog", ".toml", ".switches", ".hal"), r"#[^\n]*"),
+    }
+
+    def test_they_stay_away_from_comments_too(self):
+        files = [path for folder in ("c", "python", "examples") for path in (ROOT / folder).rglob("*")]
+        self.assertGreater(len(files), 50)
+        for file in files:
+            if file.suffix in self.COMMENTS:
+                text = file.read_text(encoding="utf-8")
+                comments = re.findall(self.COMMENTS[file.suffix], text, re.DOTALL)
+                found = {word.lower() for comment in comments
+                         for word in re.findall(rf"\b(?:{self.GONE})\b", comment, re.IGNORECASE)}
+                with self.subTest(file=str(file.relative_to(ROOT))):
+                    self.assertEqual(found - {"behind"}, set())
+
     def test_words_that_the_glossary_replaced_stay_away(self):
         for page in PAGES:
             if page.name == "glossary.md" or ".ci" in page.parts:
