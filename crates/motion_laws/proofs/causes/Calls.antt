@@ -29,7 +29,8 @@ use Rattle.motion_kernel.specs.declared.memberships.Membership.{Membership}
 use Rattle.motion_kernel.specs.kept.Machine.{AreWhole, IsMachineKept}
 use Rattle.motion_kernel.specs.members.Members.{membership_of}
 use Rattle.motion_laws.proofs.entries.errors.Calls.{call_shown}
-use Rattle.motion_laws.proofs.entries.errors.Laws.{AreAllShown, ErrorLaws, ShowsTruly}
+use Rattle.motion_laws.proofs.entries.errors.Laws.{ErrorLaws}
+use Rattle.motion_laws.specs.Standing.{AreAllShown, ShowsTruly}
 use Rattle.motion_laws.proofs.entries.numbers.Calls.{axis_error, from_error, group_detached}
 use Rattle.motion_laws.proofs.entries.numbers.Groups.{KeepsError, command_keeps}
 use Rattle.motion_laws.proofs.walk.GroupCalls as groups

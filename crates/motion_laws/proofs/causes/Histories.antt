@@ -26,7 +26,8 @@ use Rattle.motion_laws.proofs.causes.Calls.{axis_running, group_switched}
 use Rattle.motion_laws.proofs.causes.Reported.{entry_reports}
 use Rattle.motion_laws.proofs.causes.Cycles.{TakesExactly, axis_brought, group_failed}
 use Rattle.motion_laws.proofs.entries.errors.Histories.{opening_shown, replay_shown}
-use Rattle.motion_laws.proofs.entries.errors.Laws.{AreAllShown, ErrorLaws}
+use Rattle.motion_laws.proofs.entries.errors.Laws.{ErrorLaws}
+use Rattle.motion_laws.specs.Standing.{AreAllShown}
 use Rattle.motion_laws.proofs.entries.events.Histories.{IsEntry, entry_in}
 use Rattle.motion_laws.proofs.results.Comes.{after_more}
 use Rattle.motion_laws.specs.causes.Rows.{Brings, ErrorsAreBrought, HasError, IsBrought, KeepsError}
