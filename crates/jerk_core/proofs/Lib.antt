@@ -9,3 +9,4 @@ pub mod Triangles
 pub mod Phases
 pub mod Shares
 pub mod SafeSpeeds
+pub mod Rests

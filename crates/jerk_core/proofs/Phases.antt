@@ -13,7 +13,7 @@ use Rattle.jerk_core.proofs.Ways.{way_unfold, way_zero}
 use Rattle.jerk_core.proofs.KeptMotions.{braked_tops}
 
 -- where the reach is the least fall of all, the speed falls by it
-braked_landing : (d j w v u x : ℕ) → 0 < j → reach_of v j ≡ u → x + u ≡ v → u ≤ d → v + u ≤ w + j → braked_of d j w v ≡ x
+pub braked_landing : (d j w v u x : ℕ) → 0 < j → reach_of v j ≡ u → x + u ≡ v → u ≤ d → v + u ≤ w + j → braked_of d j w v ≡ x
 unfolding braked_of
 braked_landing d j w v u x some is next within bends = omega arith
 
@@ -25,7 +25,7 @@ landing_step d j w v u x slows some is next within bends =
     rw here at (way_unfold d j w v slows some)
 
 -- where the fall by d can be taken back, and is the least of all, the speed falls by it
-braked_flat : (d j w v x : ℕ) → 0 < j → run_of d j ≤ v → v + d ≤ w + j → x + d ≡ v → braked_of d j w v ≡ x
+pub braked_flat : (d j w v x : ℕ) → 0 < j → run_of d j ≤ v → v + d ≤ w + j → x + d ≡ v → braked_of d j w v ≡ x
 unfolding braked_of
 braked_flat d j w v x some lands bends next = omega (arith, reach_greatest d v j some lands)
 

@@ -145,7 +145,7 @@ below_step d j w v p t y some (by_speeds below bends) bounds = by_bound (braked_
     by_bound x own (by_reach is) =
         lands_on d j w v x y some is (omega (arith, own.loses)) (landed j v t x y some below is bounds.lands) t
 
-below_speed : (d j w v p t : ℕ) → IsBelow d j w v p t → v ≤ t
+pub below_speed : (d j w v p t : ℕ) → IsBelow d j w v p t → v ≤ t
 below_speed d j w v p t (by_speeds below bends) = below
 below_speed d j w v p t (by_landing below within bends) = below
 

@@ -1,3 +1,4 @@
 pub mod Moves
 pub mod Velocities
 pub mod Headings
+pub mod Arrivals

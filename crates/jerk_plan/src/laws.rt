@@ -24,12 +24,20 @@ pub fn move_steps_are_safe()
         IsMoveSpeed own way w v x → IsSafeBy rates room w v x }
 {}
 
-/// A move that can stop before its target arrives there, at rest, within three cycles for each unit
-/// of its way, and two. How fast it really is, docs/otg.md tells by measurement.
+/// A move that can stop before its target arrives there, at rest: within three cycles for each unit
+/// of its way, and two; and within the cycles that its rates count. Those are: l of the greatest
+/// speed have its way, k of j have a and d together and 2, g of a have v, n of d have v and 2, and p
+/// of j less 1 have a, and q of them d. How fast it really is, docs/otg.md tells by measurement.
 pub fn moves_arrive()
-    ensures { (rates : JerkRates) (way w v : ℕ) →
+    ensures by_units { (rates : JerkRates) (way w v : ℕ) →
         AreJerkRates rates → IsKeptBy rates way w v →
         IsArrivedWithin (3 * way + 2) rates way w v }
+    ensures by_rates { (rates : JerkRates) (way w v l k g n p q : ℕ) →
+        AreJerkRates rates → IsKeptBy rates way w v →
+        way ≤ l * rates.v → rates.a + rates.d + 2 ≤ k * rates.j →
+        rates.v ≤ g * rates.a → rates.v + 2 ≤ n * rates.d →
+        rates.a ≤ p * (rates.j - 1) → rates.d ≤ q * (rates.j - 1) →
+        IsArrivedWithin (l + 6 * k + g + 5 * n + p + 5 * q + 12) rates way w v }
 {}
 
 /// A halt whose slowing can be taken back brakes by its rates, and rests.
