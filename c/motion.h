@@ -3,7 +3,8 @@
  * A handle holds one machine: its axes, groups, tasks and function blocks, and the history of what
  * was called, cycled and ended, in a history segment of limited room. A loop reads the drives, calls
  * blocks, makes a cycle and writes the drives; docs/c.md leads from nothing to a turning axis. A machine
- * that runs for days gives a full segment to a second handle, and goes on with an empty one (motion_swap).
+ * that runs for days gives a full segment to a second handle, and goes on with an empty one (motion_swap),
+ * or forgets it (motion_forget).
  * The library is proved; what a C program owes it isn't seen by any proof, and stands here:
  *
  *  - A handle begins as MOTION_NONE, or as zeros where it can't be initialised (of malloc, say).
@@ -232,7 +233,7 @@ uint32_t motion_version(void);
 
 /* Opens a closed handle by a text: the machine part of a bench (docs/formats.md), with neither `go`
  * nor anything after it. `len` counts its bytes; a 0 byte at its end isn't one of them. Its `limit`
- * is the room of a segment: at most that many cycles and entries, until the next motion_swap. The
+ * is the room of a segment: at most that many cycles and entries, until the next swap or forget. The
  * whole memory that the machine will ever need is taken here, but for a trace's, and the segment's is
  * touched, so that no call and no cycle pays for the first touch of a page.
  *   MOTION_OK        the machine is open, at rest, and its history empty
@@ -297,7 +298,8 @@ uint32_t motion_cycle_us(motion *m);
 uint32_t motion_kind_name(uint32_t kind, motion_name *name);
 
 /* How many cycles more there may be in the segment, and for how many entries more it has room: each
- * call, cycle and end is one entry. motion_swap gives a new segment. 0 where the handle is closed. */
+ * call, cycle and end is one entry. motion_swap gives a new segment, and motion_forget empties it. 0 where
+ * the handle is closed. */
 uint32_t motion_cycles_left(motion *m);
 uint64_t motion_room_left(motion *m);
 
