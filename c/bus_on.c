@@ -1,6 +1,6 @@
 /* A bus of four drives that is switched on, moves and comes to rest by motion_bus.h, while the drive of
  * axis C is in trouble, in one way after another: it never gets ready, never shows mode 8, shows it no
- * more, leaves Operation enabled, or has a fault. In each run the trouble ends once all is off; then the
+ * more, leaves Operation enabled, or has a fault; at last the axis runs into its limit. In each run the trouble ends once all is off; then the
  * bus is reset, switched on again, moved and switched off. `bus_on [TRACE]` prints each change of the
  * bus's state with its cycle, and writes the trace of the last run. */
 #include "bench_drive.h"
@@ -10,10 +10,10 @@
 
 enum { AXES = 4, TROUBLED = 2, BEGINS = 300, PATIENCE = 100, CYCLES = 1500 };
 
-enum trouble { NONE, NOT_READY, NO_MODE, LOST_MODE, LOST_POWER, FAULT, TROUBLES };
+enum trouble { NONE, NOT_READY, NO_MODE, LOST_MODE, LOST_POWER, FAULT, AXIS_ERROR, TROUBLES };
 
 static const char *const words[TROUBLES] = { "none", "not ready", "no mode", "lost mode", "lost power",
-                                             "fault" };
+                                             "fault", "axis error" };
 
 static const char machine_text[] =
     "motion-bench 2\n"
@@ -26,6 +26,7 @@ static const char machine_text[] =
     "block PA main Power A\nblock RA main Reset A\nblock SA main Stop A\nblock MA main MoveAbsolute A\n"
     "block PB main Power B\nblock RB main Reset B\nblock SB main Stop B\nblock MB main MoveAbsolute B\n"
     "block PC main Power C\nblock RC main Reset C\nblock SC main Stop C\nblock MC main MoveAbsolute C\n"
+    "block VC main MoveVelocity C\n"
     "block PD main Power D\nblock RD main Reset D\nblock SD main Stop D\nblock MD main MoveAbsolute D\n";
 
 typedef struct plant {
@@ -34,6 +35,7 @@ typedef struct plant {
     mc_bus bus;
     mc_bus_axis axes[AXES];
     MC_MoveAbsolute move[AXES];
+    MC_MoveVelocity away; /* of axis C, toward its limit */
     bench_drive drives[AXES];
     enum trouble trouble; /* of the drive of axis C; NONE once it is repaired */
     bool repaired;
@@ -81,21 +83,28 @@ static uint32_t open_plant(plant *p, enum trouble trouble)
         if (code == MOTION_OK) code = mc_bus_find(&p->axes[i], &p->machine, names[i][0], names[i][1], names[i][2]);
         if (code == MOTION_OK) code = MC_MoveAbsolute_find(&p->move[i], &p->machine, names[i][3]);
     }
+    if (code == MOTION_OK) code = MC_MoveVelocity_find(&p->away, &p->machine, "VC");
+    p->away.Velocity = -400;
+    p->away.Acceleration = p->away.Deceleration = 4;
     return code == MOTION_OK ? mc_bus_begin(&p->bus, &p->machine, p->axes, AXES, PATIENCE) : code;
 }
 
 /* The task: moves to and fro while the bus is on; a move that ends otherwise is begun anew later. */
-static void call_moves(plant *p)
+static void call_moves(plant *p, long cycle)
 {
+    const bool goes_away = p->trouble == AXIS_ERROR && cycle >= BEGINS && !p->repaired;
     int i;
     for (i = 0; i < AXES; i++) {
         MC_MoveAbsolute *move = &p->move[i];
         const bool ended = move->Done || move->Error || move->CommandAborted;
         if (move->Done) move->Position = move->Position ? 0 : 60000 + 20000 * i;
         if (p->bus.state != MC_BUS_ON && !move->Execute) continue;
-        move->Execute = p->bus.state == MC_BUS_ON && !ended;
+        move->Execute = p->bus.state == MC_BUS_ON && !ended && !(i == TROUBLED && goes_away);
         MC_MoveAbsolute_call(move, &p->machine);
     }
+    if (p->trouble != AXIS_ERROR) return;
+    p->away.Execute = p->bus.state == MC_BUS_ON && goes_away;
+    MC_MoveVelocity_call(&p->away, &p->machine);
 }
 
 /* The operator: On from the beginning; once the bus has failed, a repair, a Reset and On again; off at
@@ -131,7 +140,7 @@ static uint32_t run(plant *p, enum trouble trouble)
         for (i = 0; i < AXES; i++) answers[i] = answer_of(p, i, cycle);
         operate(p, cycle, failed);
         mc_bus_call(&p->bus, &p->machine);
-        call_moves(p);
+        call_moves(p, cycle);
         code = mc_cycle(&p->machine, answers, AXES, given, AXES);
         if (code != MOTION_OK) break; /* a real loop quick-stops its drives here */
         mc_bus_take(&p->bus, &p->machine, answers);

@@ -35,7 +35,7 @@ enum mc_bus_state {
     MC_BUS_OFF = 0,       /* no drive is wanted on: On must go from false to true */
     MC_BUS_SWITCHING = 1, /* the drives are switched on, and some aren't yet */
     MC_BUS_ON = 2,        /* all axes are driven: the task moves them */
-    MC_BUS_BRAKING = 3,   /* On is false, or an axis failed: the others come to rest, then all go off */
+    MC_BUS_BRAKING = 3,   /* On is false, or an axis failed: all that can come to rest, then all go off */
     MC_BUS_FAILED = 4,    /* all is off, and the causes are shown until Reset goes to true */
     MC_BUS_RESETTING = 5  /* the axes are reset; then it is OFF, or FAILED where one still has a fault */
 };
@@ -89,6 +89,7 @@ typedef struct mc_bus_axis {
     enum mc_bus_cause cause; /* why it failed, until it is reset */
     motion_drive_in answer;  /* what its drive answered in the cycle of the cause */
     motion_axis_row row;     /* the axis after the last cycle */
+    bool is_still;           /* it isn't driven, or its setpoint stayed where it was in that cycle */
 } mc_bus_axis;
 
 /* A bus: its inputs, and its state. */
@@ -143,9 +144,11 @@ static inline uint32_t mc_bus_begin(mc_bus *bus, const mc_machine *machine, mc_b
         axes[i].deceleration = limits.deceleration;
         axes[i].waited = 0;
         axes[i].cause = MC_BUS_NO_CAUSE;
+        axes[i].row.setpoint = axes[i].row.offset = 0;
         axes[i].row.state = MOTION_DISABLED;
         axes[i].row.error = 0;
         axes[i].row.driven = 0;
+        axes[i].is_still = true;
     }
     return MOTION_OK;
 }
@@ -157,11 +160,18 @@ static inline bool mc_bus_moves(const mc_bus_axis *a)
            || a->row.state == MOTION_CONTINUOUS_MOTION || a->row.state == MOTION_SYNCHRONIZED_MOTION;
 }
 
-/* Whether an axis rests or isn't driven: a failed one is its drive's. */
+/* Whether an axis has failed by its drive, so that its drive alone can bring it to rest. An axis whose
+ * error is its own is brought to rest by the kernel, in ErrorStop. */
+static inline bool mc_bus_is_lost(const mc_bus_axis *a)
+{
+    return a->cause != MC_BUS_NO_CAUSE && a->cause != MC_BUS_AXIS_ERROR;
+}
+
+/* Whether an axis rests, or is its drive's. */
 static inline bool mc_bus_rests(const mc_bus_axis *a)
 {
-    return a->cause != MC_BUS_NO_CAUSE || a->row.state == MOTION_DISABLED
-           || a->row.state == MOTION_STANDSTILL || a->row.state == MOTION_ERROR_STOP || a->stop.Done;
+    if (mc_bus_is_lost(a) || a->row.state == MOTION_DISABLED || a->row.state == MOTION_STANDSTILL) return true;
+    return a->row.state == MOTION_ERROR_STOP ? a->is_still : a->stop.Done;
 }
 
 /* Stops an axis as hard as it may brake, and lets the Stop go once Execute is false. */
@@ -185,9 +195,9 @@ static inline void mc_bus_call(mc_bus *bus, mc_machine *machine)
     uint8_t i;
     for (i = 0; i < bus->count; i++) {
         mc_bus_axis *a = &bus->axes[i];
-        const bool sound = a->cause == MC_BUS_NO_CAUSE;
-        mc_bus_stop(a, machine, bus->state == MC_BUS_BRAKING && sound
-                                    && (a->stop.Execute || mc_bus_moves(a)));
+        const bool sound = !mc_bus_is_lost(a);
+        mc_bus_stop(a, machine, bus->state == MC_BUS_BRAKING && (a->stop.Execute || mc_bus_moves(a))
+                                    && a->row.state != MOTION_ERROR_STOP);
         if (bus->state == MC_BUS_RESETTING || a->reset.Execute) {
             a->reset.Execute = bus->state == MC_BUS_RESETTING;
             MC_Reset_call(&a->reset, machine);
@@ -249,7 +259,9 @@ static inline void mc_bus_take(mc_bus *bus, const mc_machine *machine, const mot
     uint8_t i;
     for (i = 0; i < bus->count; i++) {
         mc_bus_axis *a = &bus->axes[i];
+        const int64_t before = a->row.setpoint - a->row.offset;
         motion_axis_look(machine->handle, a->axis, &a->row);
+        a->is_still = !a->row.driven || a->row.setpoint - a->row.offset == before;
         a->waited = bus->state == MC_BUS_SWITCHING && !a->row.driven ? a->waited + 1 : 0;
         if (!watched || a->cause != MC_BUS_NO_CAUSE) continue;
         a->cause = mc_bus_cause_of(bus, a, &answers[a->axis]);
