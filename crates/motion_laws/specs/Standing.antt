@@ -1,7 +1,8 @@
 -- What a look at a machine decides, besides its kernel's invariants, and what holds of it after
 -- every past (PLCopen Motion Control Part 1 and Part 4).
-use Rattle.std.specs.Prelude.{ℕ, ◌<◌, List, length}
+use Rattle.std.specs.Prelude.{◌≡◌, ℕ, ◌<◌, Bool, true, ◌||◌, nat_eq, List, length}
 use Rattle.axis_core.specs.Led.{HasCommand}
+use Rattle.axis_core.specs.Ranges.{IsBetween}
 use Rattle.axis_core.specs.Shown as axis_shown
 use Rattle.axis_core.specs.declared.axis.Axis.{Axis}
 use Rattle.command_pool.specs.Waiting.{queue_of}
@@ -34,11 +35,23 @@ pub record AreAllShown (s : Setup) (m : Machine) : Type 0 where
   pub axes : (n : ℕ) → n < length s.axes → axis_shown.IsShown (axis_at m n)
   pub groups : (j : ℕ) → j < length s.groups → ShowsTruly (group_at m j).group
 
+-- whether a controlword is one that the kernel gives. IEC 61800-7-201, object 6040h
+abbrev pub is_given : ℕ → Bool
+is_given w =
+    nat_eq w 0x0000 || nat_eq w 0x0006 || nat_eq w 0x0007 || nat_eq w 0x000f || nat_eq w 0x0080
+
+-- how the drive of an axis is led: while it is driven, the setpoint before the last one lies within
+-- the limits too; and its controlword is one that the kernel gives. This project's profile
+pub record IsSteered (a : Axis) : Type 0 where
+  pub before : a.driven ≡ true → IsBetween a.limits.lo a.previous a.limits.hi
+  pub word : is_given a.controlword ≡ true
+
 -- the axis of this number with what waits for it: in a state of a command that moves it one is
--- active, and commands are as they were asked for
+-- active, commands are as they were asked for, and so is the drive led
 pub record AxisStands (s : Setup) (n : ℕ) (a : Axis) (ws : List Wanted) : Type 0 where
   pub command : HasCommand a
   pub orders : AreOrders s n a ws
+  pub steered : IsSteered a
 
 -- a group with its path: that of an active line leads to its targets. PLCopen Part 4,
 -- MC_MoveLinearAbsolute

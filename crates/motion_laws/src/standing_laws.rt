@@ -20,8 +20,9 @@ use motion_kernel::machines_stay_kept;
 /// What a look at the machine decides holds at opening, after every past, and after every segment
 /// that is legal from a machine of which it holds: commands are where their instances show, and of
 /// the kinds of their blocks; errors stand exactly in the states of errors, and axes and groups are
-/// held only in stopping; an axis in a state of a command that moves it has one; and the path of an
-/// active line leads to its targets.
+/// held only in stopping; an axis in a state of a command that moves it has one, its commands are
+/// such as calls ask for, and its drive is led as the kernel does; and the path of an active line
+/// leads to its targets.
 pub fn machines_can_stand()
     ensures opened { (s : Setup) → IsSetup s → AreWhole s → IsStanding s (machine_at_opening s) }
     ensures segment { (s : Setup) (m : Machine) (es : List Entry) → AreWhole s → IsStanding s m →

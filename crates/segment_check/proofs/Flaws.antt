@@ -56,7 +56,8 @@ not_free free (x ∷ fs) f (inr h) all = h.0 all.0
 pub may_without : (p : TraceSegment) → IsFlawOf p None → MayBegin p
 may_without p h =
     let all = all_free (IsFree p.trace.config p.before p.machine) flaws h in
-    let states = all.1.1.1.1.1.0 in
+    let all_states = all.1.1.1.1.1.0 in
+    let states = all_states.states in
     let orders = all.1.1.1.1.1.1.0 in
     record {
       counts = all.0;
@@ -67,7 +68,11 @@ may_without p h =
         kinds = all.1.1.1.1.0;
         shown = states.shown;
         objects = record {
-          axes = λ n l. record { command = states.moves n l; orders = orders n l };
+          axes = λ n l. record {
+            command = states.moves n l;
+            orders = orders n l;
+            steered = all_states.steered n l;
+          };
           groups = λ j l. record { line = states.lines j l };
         };
       };
@@ -90,9 +95,12 @@ not_with p f h may =
               stands.kinds,
               (
                 record {
-                  shown = stands.shown;
-                  moves = λ n l. (objects.axes n l).command;
-                  lines = λ j l. (objects.groups j l).line;
+                  states = record {
+                    shown = stands.shown;
+                    moves = λ n l. (objects.axes n l).command;
+                    lines = λ j l. (objects.groups j l).line;
+                  };
+                  steered = λ n l. (objects.axes n l).steered;
                 },
                 (λ n l. (objects.axes n l).orders, (may.first, tt)),
               ),

@@ -7,7 +7,7 @@ use Rattle.kernel_invariants.specs.States.{AxisIsInState, GroupIsInState}
 use Rattle.motion_history.specs.Setup.{Setup}
 use Rattle.motion_kernel.specs.Machine.{Machine, axis_at, group_at}
 use Rattle.motion_kernel.specs.kept.Machine.{IsSized}
-use Rattle.segment_check.specs.Flaws.{AreInState}
+use Rattle.segment_check.specs.Flaws.{HaveStates}
 
 abbrev AxesAre : Machine → Type 0
 AxesAre m = (n : ℕ) → n < length m.axes → AxisIsInState (axis_at m n)
@@ -16,7 +16,7 @@ abbrev GroupsAre : Machine → Type 0
 GroupsAre m = (j : ℕ) → j < length m.groups → (GroupIsInState (group_at m j).group
     × IsToward (group_at m j).group.active (group_at m j).path)
 
-pub in_state : (s : Setup) (m : Machine) → IsSized s m → AxesAre m → GroupsAre m → AreInState s m
+pub in_state : (s : Setup) (m : Machine) → IsSized s m → AxesAre m → GroupsAre m → HaveStates s m
 in_state s m sized axes groups =
     let a = sized.axes in
     let g = sized.groups in
@@ -30,12 +30,12 @@ in_state s m sized axes groups =
       lines = λ j l. (groups j l).1;
     }
 
-pub axes_in : (s : Setup) (m : Machine) → IsSized s m → AreInState s m → AxesAre m
+pub axes_in : (s : Setup) (m : Machine) → IsSized s m → HaveStates s m → AxesAre m
 axes_in s m sized h n l =
     let a = sized.axes in
     record { shown = h.shown.axes n (omega arith); command = h.moves n l }
 
-pub groups_in : (s : Setup) (m : Machine) → IsSized s m → AreInState s m → GroupsAre m
+pub groups_in : (s : Setup) (m : Machine) → IsSized s m → HaveStates s m → GroupsAre m
 groups_in s m sized h j l =
     let g = sized.groups in
     let is = h.shown.groups j (omega arith) in

@@ -10,7 +10,7 @@ use Rattle.motion_kernel.specs.declared.segment.Before.{Before}
 use Rattle.motion_kernel.specs.kept.Machine.{IsMachineKept}
 use Rattle.motion_kernel.specs.owners.Blocks.{OwnersHaveBlocks}
 use Rattle.motion_laws.specs.Orders.{AreOrders}
-use Rattle.motion_laws.specs.Standing.{AreAllShown, KindsMatch}
+use Rattle.motion_laws.specs.Standing.{AreAllShown, IsSteered, KindsMatch}
 use Rattle.motion_laws.specs.owners.Shown.{AreWhereShown}
 use Rattle.segment_check.specs.declared.flaw.Flaw.{Flaw}
 use Rattle.segment_check.specs.declared.flaw.Flaw.TheVariants as flaw
@@ -31,11 +31,20 @@ IsFirstOrLater s b m =
     b.segments ≡ 0 → header_text b m ≡ header_text nothing_before (machine_at_opening s)
 
 -- the states of axes and groups have their errors, holds, commands and paths
-pub record AreInState (s : Setup) (m : Machine) : Type 0 where
+pub record HaveStates (s : Setup) (m : Machine) : Type 0 where
   pub shown : AreAllShown s m
   pub moves : (n : ℕ) → n < length m.axes → HasCommand (axis_at m n)
   pub lines : (j : ℕ) → j < length m.groups →
       IsToward (group_at m j).group.active (group_at m j).path
+
+-- the drive of each axis is led as the kernel does
+abbrev pub AreSteered : Machine → Type 0
+AreSteered m = (n : ℕ) → n < length m.axes → IsSteered (axis_at m n)
+
+-- both
+pub record AreInState (s : Setup) (m : Machine) : Type 0 where
+  pub states : HaveStates s m
+  pub steered : AreSteered m
 
 -- the commands of each axis, and its hold, are such as calls ask for
 abbrev pub HaveOrders : Setup → Machine → Type 0

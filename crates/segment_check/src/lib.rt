@@ -12,6 +12,7 @@ mod laws;
 mod next;
 mod orders;
 mod starting;
+mod steered;
 mod verifying;
 
 pub use flaw::Flaw;

@@ -6,13 +6,14 @@ ghost use Rattle.motion_kernel.specs.Machine.{machine_at_opening};
 ghost use Rattle.motion_kernel.specs.declared.segment.Before as spec;
 ghost use Rattle.motion_kernel.specs.kept.Machine.{IsMachineKept, IsSized};
 ghost use Rattle.segment_check.specs.Begun.{Begins};
-ghost use Rattle.segment_check.specs.Flaws.{AreInState, IsFirst, IsFirstOrLater, IsFlawOf, IsFree, machine_flaws};
+ghost use Rattle.segment_check.specs.Flaws.{AreInState, HaveStates, IsFirst, IsFirstOrLater, IsFlawOf, IsFree, machine_flaws};
 ghost use Rattle.segment_check.specs.declared.flaw.Flaw.TheVariants as flaw;
 
 use crate::counting::counts_fit;
 use crate::filling::{set_axes, set_groups, set_instances, set_waiting};
 use crate::flaw::Flaw;
 use crate::orders::have_all_orders;
+use crate::steered::are_steered;
 use kernel_invariants::{
     are_axes_in_state, are_commands_shown, are_groups_in_state, have_kinds_of_blocks,
     have_owners_blocks, is_machine_kept,
@@ -151,11 +152,19 @@ fn machine_flaw(config: &Config, start: &Start) -> Option<Flaw>
 }
 
 // Whether the states of axes and groups have their errors, holds, commands and paths.
+fn have_states(config: &Config, start: &Start) -> bool
+    requires { IsSized config.now start.now }
+    ensures { IsTrue result ↔ HaveStates config.now start.now }
+{
+    are_axes_in_state(config, start) && are_groups_in_state(config, start)
+}
+
+// Whether they have, and the drives are led so.
 fn are_in_state(config: &Config, start: &Start) -> bool
     requires { IsSized config.now start.now }
     ensures { IsTrue result ↔ AreInState config.now start.now }
 {
-    are_axes_in_state(config, start) && are_groups_in_state(config, start)
+    have_states(config, start) && are_steered(config, start)
 }
 
 // Whether a machine that was read has the sizes of a configuration.

@@ -2,7 +2,7 @@
 -- for: machines_can_stand
 use Rattle.std.specs.Prelude.{◌≡◌, refl, ℕ, zero, suc, ◌<◌, Bool, false, Some, None, List, [], ◌∷◌, length, map, slice_get}
 use Rattle.std.proofs.Common.{arith, ap, sym, subst, ◌∙◌}
-use Rattle.axis_core.specs.AxisKept.{IsCoreKept}
+use Rattle.axis_core.specs.AxisKept.{IsAxisKept, IsCoreKept}
 use Rattle.axis_core.specs.Calls.{axis_without_owner, core_after_command, core_after_power}
 use Rattle.axis_core.specs.Cores.{Core}
 use Rattle.axis_core.specs.Cycles.{axis_at_opening, core_after_cycle}
@@ -28,9 +28,10 @@ use Rattle.motion_kernel.specs.calls.Calls.{after_call, with_execute}
 use Rattle.motion_kernel.specs.cycles.Cycles.{after_cycle, look_of_axis}
 use Rattle.motion_kernel.specs.kept.Machine.{AreWhole, IsMachineKept}
 use Rattle.motion_laws.proofs.standing.Orders.{AsksWell, command_orders, cycle_orders, detached_orders, follow_asked, led_orders, master_asked, no_orders, power_orders}
+use Rattle.motion_laws.proofs.standing.Steered.{command_put, cycle_steered, detached_put, opened_steered, path_put, power_put, put}
 use Rattle.motion_laws.proofs.walk.AxisCalls as axes
 use Rattle.motion_laws.specs.Orders.{AreOrders}
-use Rattle.motion_laws.specs.Standing.{AxisStands}
+use Rattle.motion_laws.specs.Standing.{AxisStands, IsSteered}
 
 -- axis_core's moving_axes_have_commands
 pub record AxisLaws : Type 0 where
@@ -53,15 +54,21 @@ said laws s n a ws h = record {
     orders = axes.path_led (λ (y : Axis). AreOrders s n y (map (detached owner) ws))
         (λ b y o. led_orders s n b y (map (detached owner) ws) o) on (axis_without_owner owner a)
         (detached_orders s n owner a ws h.orders);
+    steered = axes.path_led (λ (y : Axis). IsSteered y)
+        (λ b y o. put y (axis_on_path b y) (path_put b y) o) on (axis_without_owner owner a)
+        (put a (axis_without_owner owner a) (detached_put owner a) h.steered);
   };
   detach = λ owner. record {
     command = (laws.detach owner a).command h.command;
     orders = detached_orders s n owner a ws h.orders;
+    steered = put a (axis_without_owner owner a) (detached_put owner a) h.steered;
   };
   power = λ enable c e us. record {
     command = (laws.power enable c).command
         (subst (λ (y : Axis). HasCommand y) (sym e) h.command);
     orders = power_orders s n enable c (given c a ws e us h.orders);
+    steered = put c.axis (core_after_power enable c).axis (power_put enable c)
+        (subst (λ (y : Axis). IsSteered y) (sym e) h.steered);
   };
   command = λ owner q c e us well. record {
     command = (laws.command q c).command
@@ -69,6 +76,9 @@ said laws s n a ws h = record {
     orders = command_orders s n q c well
         (given c (axis_without_owner owner a) (map (detached owner) ws) e us
         (detached_orders s n owner a ws h.orders));
+    steered = put c.axis (core_after_command q c).axis (command_put q c)
+        (subst (λ (y : Axis). IsSteered y) (sym e)
+        (put a (axis_without_owner owner a) (detached_put owner a) h.steered));
   };
 }
   where
@@ -116,10 +126,11 @@ call_stands laws walk s m k i n whole made kept l h =
 
 -- what a cycle keeps
 pub cycle_stands : AxisLaws → MachinesStayKept → (s : Setup) (m : Machine) (ins : List DriveIn)
-    (n : ℕ) → IsMachineKept s m → n < length m.axes →
+    (n : ℕ) → IsMachineKept s m → IsMachineKept s (after_cycle s m ins) → n < length m.axes →
+    n < length (after_cycle s m ins).axes →
     AxisStands s n (axis_at m n) (queue_of m.queues n) →
     AxisStands s n (axis_at (after_cycle s m ins) n) (queue_of (after_cycle s m ins).queues n)
-cycle_stands laws machines s m ins n kept l h =
+cycle_stands laws machines s m ins n kept after l there h =
     let goes = goes_through s m ins n kept (machines.may_go_on s m ins kept) l in
     let look = look_of_axis s m ins n in
     record {
@@ -128,6 +139,13 @@ cycle_stands laws machines s m ins n kept l h =
       orders = subst (λ us. AreOrders s n (axis_at (after_cycle s m ins) n) us) (sym goes.waiting)
           (subst (λ y. AreOrders s n y (core_after_cycle look (axis_core_at m n)).waiting)
           (sym goes.after) (cycle_orders s n look (axis_core_at m n) h.orders));
+      steered =
+          let before = kept.axes n l in
+          let now = after.axes n there in
+          subst (λ (y : Axis). IsSteered y) (sym goes.after)
+          (cycle_steered look (axis_core_at m n) before.core.axis
+          (subst (λ (y : Axis). IsAxisKept y) goes.after now.core.axis)
+          (ap (λ (y : Axis). y.limits) (sym goes.after) ∙ now.limits ∙ sym before.limits));
     }
 
 -- at opening
@@ -141,11 +159,13 @@ free d = refl
 
 pub opened_stands : AxisLaws → (s : Setup) (number : ℕ) (ds : List AxisDef) (n : ℕ) →
     n < length ds → (ws : List Wanted) → ws ≡ [] →
+    IsAxisKept (axis_among (map axis_at_opening ds) n) →
     AxisStands s number (axis_among (map axis_at_opening ds) n) ws
-opened_stands laws s number [] n l ws e = absurd (omega arith)
-opened_stands laws s number (d ∷ ds) zero l ws e = record {
+opened_stands laws s number [] n l ws e kept = absurd (omega arith)
+opened_stands laws s number (d ∷ ds) zero l ws e kept = record {
   command = laws.opened d;
   orders = no_orders s number (axis_at_opening d) ws (rests d) (free d) e;
+  steered = opened_steered d kept;
 }
-opened_stands laws s number (d ∷ ds) (suc n) l ws e =
-    opened_stands laws s number ds n (omega arith) ws e
+opened_stands laws s number (d ∷ ds) (suc n) l ws e kept =
+    opened_stands laws s number ds n (omega arith) ws e kept

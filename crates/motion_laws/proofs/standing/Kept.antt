@@ -83,8 +83,8 @@ module _ (laws : StandingLaws) where
               h.kept h.stands.kinds;
           shown = error_cycles.cycle_shown laws.errors s m ins h.kept h.stands.shown;
           objects = record {
-            axes = λ n l. axes.cycle_stands laws.axes walk.machines s m ins n h.kept (omega arith)
-                (h.stands.objects.axes n (omega arith));
+            axes = λ n l. axes.cycle_stands laws.axes walk.machines s m ins n h.kept kept
+                (omega arith) l (h.stands.objects.axes n (omega arith));
             groups = λ j l. groups.cycle_stands laws.groups s m ins j h.kept (omega arith)
                 (h.stands.objects.groups j (omega arith));
           };
@@ -105,7 +105,7 @@ module _ (laws : StandingLaws) where
           shown = opening_shown laws.errors s;
           objects = record {
             axes = λ n l. axes.opened_stands laws.axes s n s.axes n (omega arith) _
-                (none_waits (length s.axes + length s.groups) n);
+                (none_waits (length s.axes + length s.groups) n) (kept.axes n l).core.axis;
             groups = λ j l. groups.opened_stands s.groups j (omega arith) _
                 (none_waits (length s.axes + length s.groups) (list_of (machine_at_opening s) j));
           };

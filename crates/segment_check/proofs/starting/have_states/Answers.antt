@@ -1,6 +1,6 @@
 -- Axes and groups are all.
 use Rattle.segment_check.proofs.InState.{axes_in, groups_in, in_state}
-use Rattle.segment_check.proofs.starting.are_in_state.Goals as goal
+use Rattle.segment_check.proofs.starting.have_states.Goals as goal
 
 pub returns-then-are_axes_in_state : goal.returns-then-are_axes_in_state
 returns-then-are_axes_in_state c = (
