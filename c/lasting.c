@@ -21,7 +21,7 @@ enum { AXES = 16, ALONE = 14, MOVES = ALONE + 1, ENABLE = AXES + MOVES, LINE };
 /* The room of a segment, and how many entries a cycle makes at most: a call of each block, and the cycle. A
  * real segment is as long as the writer may be late: up to 200,000
  * cycles or 1,000,000 entries, whichever comes first; `motion check` takes a segment of 256 MiB at most. */
-enum { BANK_CYCLES = 4000, BANK_ENTRIES = 80000, MOST_A_CYCLE = LINE + 2 };
+enum { SEGMENT_CYCLES = 4000, SEGMENT_ENTRIES = 80000, MOST_A_CYCLE = LINE + 2 };
 
 /* What the two threads share. It is the cycle thread's behind a wait for `empty`, and the writer's behind
  * one for `full`: so never more than one thread uses the spare handle. */
@@ -198,7 +198,7 @@ static uint32_t make_room(loop *l)
 {
     uint32_t cycles = motion_cycles_left(&l->m);
     uint64_t room = motion_room_left(&l->m);
-    if (cycles > BANK_CYCLES / 4 && room > BANK_ENTRIES / 4) return MOTION_OK;
+    if (cycles > SEGMENT_CYCLES / 4 && room > SEGMENT_ENTRIES / 4) return MOTION_OK;
     if (cycles == 0 || room < MOST_A_CYCLE)
         wait_for(&l->with->empty);
     else if (sem_trywait(&l->with->empty) != 0)
@@ -231,7 +231,7 @@ static size_t put_line(char *text, size_t room, size_t len, const char *name, in
 /* The text of the machine: 16 axes, and the blocks in their order. */
 static size_t machine_text(char *text, size_t room)
 {
-    size_t len = (size_t)snprintf(text, room, "motion-bench 2\nlimit %d %d\n", BANK_CYCLES, BANK_ENTRIES);
+    size_t len = (size_t)snprintf(text, room, "motion-bench 2\nlimit %d %d\n", SEGMENT_CYCLES, SEGMENT_ENTRIES);
     int i;
     for (i = 0; i < AXES; i++)
         len += (size_t)snprintf(text + len, room - len, "axis A%02d 0 400000 500 5 6 1 0\n", i);

@@ -52,7 +52,7 @@ static const char machine[] =
     "block P main Power X\n"
     "block M main MoveAbsolute X\n";
 
-enum { AXES = 2, BANK = 50000 };
+enum { AXES = 2, SEGMENT = 50000 };
 
 static motion_refusal why;
 
