@@ -223,7 +223,7 @@ typedef struct motion_limits {
     int64_t increment;     /* units of an increment of its drive */
 } motion_limits;
 
-/* A name as a string of C: at most 20 bytes, and zeros behind them. */
+/* A name as a string of C: at most 20 bytes, and zeros after them. */
 typedef struct motion_name {
     char text[24];
 } motion_name;
