@@ -183,8 +183,8 @@ fn between_from<L: Ledger>(
     greatest_between_counted(rates, room, speed, least, most, &mut looks)
 }
 
-/// The same, with its looks at the way to rest counted: a search first steps farther and farther from
-/// the least speed, and then halves.
+/// The same, with its looks at the way to rest counted: a search first steps farther and farther
+/// from the least speed, and then halves.
 pub fn greatest_between_counted<L: Ledger>(
     rates: &JerkRates,
     room: u64,
