@@ -10,3 +10,4 @@ pub mod Phases
 pub mod Shares
 pub mod SafeSpeeds
 pub mod Rests
+pub mod Searching

@@ -147,7 +147,8 @@ falls_rest (suc n) q d i w v slows some short few bends =
           rw same rest
     ]
 
--- braking from a motion that keeps the greatest speed: k cycles of a ramp, n falls by d, and q + 1 of the landing
+-- braking from a motion that keeps the greatest speed: k cycles of a ramp, n falls by d, and q + 1
+-- of the landing
 pub brake_rests : (k n q d i w v most : ℕ) → 0 < d → 0 < i → d + v ≤ w + k * suc i → most ≤ n * d → d ≤ q * i →
     v + run_of (v - w - suc i) (suc i) ≤ most → Rests (k + (n + suc q)) d (suc i) w v
 brake_rests zero n q d i w v most slows some ramp flat landing tops =

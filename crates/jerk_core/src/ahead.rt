@@ -1,14 +1,17 @@
 // Kept motions and safe speeds, counted in the direction of the motion.
 
-ghost use Rattle.std.specs.Prelude.{◌≡◌, ◌↔◌, IsTrue, ℕ, Some, None, ◌+◌, ◌-◌, ◌*◌, ◌<◌, ◌≤◌, min, max};
+ghost use Rattle.std.specs.Prelude.{◌≡◌, ◌↔◌, IsTrue, ℕ, Some, None, ◌+◌, ◌-◌, ◌*◌, ◌/◌, ◌<◌, ◌≤◌, min, max};
 ghost use Rattle.motion_numbers.specs.Run.{run_of, reach_of};
 ghost use Rattle.jerk_core.specs.Braking.{braked_of, way_of};
 ghost use Rattle.jerk_core.specs.Rates.{AreJerkRates, IsKeptBy, IsLeftBy, IsSafeBy};
 
 use crate::braking::{braked, rest_fits};
+use crate::looks::Looks;
 use crate::rates::JerkRates;
 use crate::reaching::greatest_fall;
 use motion_numbers::{MOST_STEP, way_fits};
+use std::marker::Brand;
+use std::sync::ledger::{Blank, Ledger};
 
 /// Whether the motion with the speeds `last` and `speed` keeps the rates, and can keep them until
 /// it has come to rest within the room.
@@ -149,17 +152,89 @@ fn greatest_between(rates: &JerkRates, room: u64, speed: u64, least: u64, most: 
     ensures below { result ≤ most }
     ensures greatest { (x : ℕ) → IsLeftBy rates.now room speed x → x ≤ most → x ≤ result }
 {
+    between_from::<Brand>(rates, room, speed, least, most, Blank::new(1))
+}
+
+// The same for any ledger, whose counter nobody reads.
+fn between_from<L: Ledger>(
+    rates: &JerkRates,
+    room: u64,
+    speed: u64,
+    least: u64,
+    most: u64,
+    blank: Blank,
+) -> u64
+    requires name { blank.name ≡ L.name }
+    requires parts { blank.parts ≡ L.parts }
+    requires some { 0 < blank.parts }
+    requires rates { AreJerkRates rates.now }
+    requires speed { speed ≤ rates.now.v }
+    requires order { least < most }
+    requires gains { most ≤ speed + rates.now.a }
+    requires tops { most ≤ speed + reach_of (rates.now.v - speed) rates.now.j }
+    requires left { IsLeftBy rates.now room speed least }
+    requires fails { IsLeftBy rates.now room speed most → ⊥ }
+    ensures left { IsLeftBy rates.now room speed result }
+    ensures above { least ≤ result }
+    ensures below { result ≤ most }
+    ensures greatest { (x : ℕ) → IsLeftBy rates.now room speed x → x ≤ most → x ≤ result }
+{
+    let mut looks = Looks::<L>::open(blank);
+    greatest_between_counted(rates, room, speed, least, most, &mut looks)
+}
+
+/// The same, with its looks at the way to rest counted: a search first steps farther and farther
+/// from the least speed, and then halves.
+pub fn greatest_between_counted<L: Ledger>(
+    rates: &JerkRates,
+    room: u64,
+    speed: u64,
+    least: u64,
+    most: u64,
+    looks: &mut Looks<L>,
+) -> u64
+    requires rates { AreJerkRates rates.now }
+    requires speed { speed ≤ rates.now.v }
+    requires order { least < most }
+    requires gains { most ≤ speed + rates.now.a }
+    requires tops { most ≤ speed + reach_of (rates.now.v - speed) rates.now.j }
+    requires left { IsLeftBy rates.now room speed least }
+    requires fails { IsLeftBy rates.now room speed most → ⊥ }
+    ensures left { IsLeftBy rates.now room speed result }
+    ensures above { least ≤ result }
+    ensures below { result ≤ most }
+    ensures greatest { (x : ℕ) → IsLeftBy rates.now room speed x → x ≤ most → x ≤ result }
+    ensures cost { looks.new ≤ looks.old + 73 }
+{
     let mut fits = least;
     let mut fails = most;
     while fails - fits > 1 {
         let middle = between(least, fits, fails);
-        if leaves_rest(rates, room, speed, middle) {
+        if looks_ahead(rates, room, speed, middle, looks) {
             fits = middle;
         } else {
             fails = middle;
         }
     }
     fits
+}
+
+// Whether the speed leaves a way to rest that fits. One look.
+fn looks_ahead<L: Ledger>(
+    rates: &JerkRates,
+    room: u64,
+    speed: u64,
+    next: u64,
+    looks: &mut Looks<L>,
+) -> bool
+    requires rates { AreJerkRates rates.now }
+    requires speed { speed ≤ rates.now.v }
+    requires tops { next ≤ speed + reach_of (rates.now.v - speed) rates.now.j }
+    ensures value { IsTrue result ↔ ((next ≤ room) × (way_of rates.now.d rates.now.j speed next ≤ room - next)) }
+    ensures look { looks.new ≡ looks.old + 1 }
+{
+    looks.tick();
+    leaves_rest(rates, room, speed, next)
 }
 
 // A speed between one that fits and one that fails: as far beyond the first as that is beyond the
@@ -169,6 +244,7 @@ fn between(least: u64, fits: u64, fails: u64) -> u64
     requires gap { fits + 1 < fails }
     ensures above { fits < result }
     ensures below { result < fails }
+    ensures value { result ≡ fits + min (max (fits - least) 1) ((fails - fits) / 2) }
 {
     fits + (fits - least).max(1).min((fails - fits) / 2)
 }

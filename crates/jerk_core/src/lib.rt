@@ -8,6 +8,7 @@ mod braking;
 mod keeping;
 mod laws;
 mod limits;
+mod looks;
 mod motions;
 mod rates;
 mod reaching;
@@ -15,7 +16,7 @@ mod rest;
 mod sums;
 mod taking;
 
-pub use ahead::{greatest_left, greatest_safe, keeps, safe_speed};
+pub use ahead::{greatest_between_counted, greatest_left, greatest_safe, keeps, safe_speed};
 pub use braking::{braked, rest_fits};
 pub use keeping::is_kept;
 pub use laws::{
@@ -23,6 +24,7 @@ pub use laws::{
     rest_can_be_left, safe_speeds_are_an_interval, standing_is_kept_by_jerk, ways_unfold,
 };
 pub use limits::JerkLimits;
+pub use looks::Looks;
 pub use motions::{Motion, Setpoints};
 pub use rates::JerkRates;
 pub use reaching::greatest_fall;

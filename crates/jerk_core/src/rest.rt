@@ -8,7 +8,7 @@ ghost use Rattle.jerk_core.specs.Sums.{triangle_of, tetrahedron_of, IsRamp};
 
 use crate::reaching::{root_about, whole_falls};
 use crate::sums::{MOST_CYCLES, MOST_FALLS, tetrahedron, triangle};
-use motion_numbers::{MOST_STEP, ramp_sum};
+use motion_numbers::{MOST_STEP, ramp_sum, way_fits};
 
 /// The way to rest by braking, in internal units: the speeds of all its cycles, added up.
 pub fn way_to_rest(d: u64, j: u64, last: u64, speed: u64) -> u128
@@ -56,7 +56,7 @@ fn cycles_below(d: u64, j: u64, last: u64, speed: u64, most: u64) -> u64
     requires d { d ≤ MOST_STEP }
     requires j_least { 1 ≤ j }
     requires last { last ≤ 2 * MOST_STEP }
-    requires speed { speed ≤ MOST_STEP }
+    requires tops { speed + run_of (speed - last - j) j ≤ MOST_STEP }
     requires some { 0 < most }
     requires span { most * j ≤ 2 * MOST_STEP }
     requires fewer { IsRamp d j last speed (most - 1) → ⊥ }
@@ -77,7 +77,7 @@ fn some_cycles(d: u64, j: u64, last: u64, speed: u64, guess: u64) -> u64
     requires d { d ≤ MOST_STEP }
     requires j_least { 1 ≤ j }
     requires last { last ≤ 2 * MOST_STEP }
-    requires speed { speed ≤ MOST_STEP }
+    requires tops { speed + run_of (speed - last - j) j ≤ MOST_STEP }
     requires span { guess * j ≤ 2 * MOST_STEP }
     ensures goes { (n : ℕ) → result ≡ suc n → IsRamp d j last speed n }
     ensures within { result ≤ guess }
@@ -112,23 +112,27 @@ fn is_ramp(d: u64, j: u64, last: u64, speed: u64, n: u64) -> bool
     requires d { d ≤ MOST_STEP }
     requires j_least { 1 ≤ j }
     requires last { last ≤ 2 * MOST_STEP }
-    requires speed { speed ≤ MOST_STEP }
+    requires tops { speed + run_of (speed - last - j) j ≤ MOST_STEP }
     requires span { (n + 1) * j ≤ 2 * MOST_STEP }
     ensures { IsTrue result ↔ IsRamp d j last speed n }
 {
+    if n > MOST_CYCLES {
+        return false;
+    }
     let fall = ((n + 1) * j + last).saturating_sub(speed);
-    fall <= d && ramp_sum(fall, j) + less_by_ramp(j, last, n) <= (n + 1) as u128 * speed as u128
+    let whole = (n + 1) * speed;
+    let less = less_by_ramp(j, last, n);
+    fall <= d && less <= whole && way_fits(fall, j, whole - less)
 }
 
 // How much less than n + 1 times the speed at its beginning the speed after n cycles of a ramp is.
-fn less_by_ramp(j: u64, last: u64, n: u64) -> u128
-    requires j_least { 1 ≤ j }
+fn less_by_ramp(j: u64, last: u64, n: u64) -> u64
     requires last { last ≤ 2 * MOST_STEP }
+    requires few { n ≤ MOST_CYCLES }
     requires span { n * j ≤ 2 * MOST_STEP }
-    ensures value { result ≡ n * last + j * triangle_of n }
-    ensures small { result ≤ 2 ^ 70 }
+    ensures { result ≡ n * last + j * triangle_of n }
 {
-    n as u128 * last as u128 + (n * j) as u128 * (n + 1) as u128 / 2
+    n * last + n * j * (n + 1) / 2
 }
 
 // The speed after n cycles of a ramp.
@@ -140,7 +144,7 @@ fn speed_of_ramp(j: u64, last: u64, speed: u64, n: u64) -> u64
     requires above { n * last + j * triangle_of n ≤ suc n * speed }
     ensures { result + (n * last + j * triangle_of n) ≡ suc n * speed }
 {
-    (n + 1) * speed - (n * last + n * j * (n + 1) / 2)
+    (n + 1) * speed - less_by_ramp(j, last, n)
 }
 
 // The way of n cycles of a ramp, from the speed at its beginning and that at its end.

@@ -1,4 +1,5 @@
--- Moves arrive within cycles counted by their rates: first at their fastest, then so near to braking that what is left over is few cycles, and then braking.
+-- Moves arrive within cycles counted by their rates: first at their fastest, then so near to
+-- braking that what is left over is few cycles, and then braking.
 use Rattle.std.proofs.Common.{inl, inr, ◌≡◌, ℕ, ◌+◌, ◌-◌, ◌*◌, ◌<◌, ◌≤◌, zero, suc, min, arith, refl}
 use Rattle.std.proofs.lemmas.Bool.{cases_lt}
 use Rattle.motion_numbers.specs.Run.{run_of, reach_of}
@@ -14,7 +15,8 @@ use Rattle.jerk_core.proofs.Ways.IsBelow.{by_speeds}
 use Rattle.jerk_core.proofs.KeptMotions.{braked_safe, falls_within, safe_least, start_safe, kept_after}
 use Rattle.jerk_core.proofs.SafeSpeeds.{between_safe, below_fastest}
 use Rattle.jerk_core.proofs.Rests.{Rests, rests_in_way, rests_above, way_faster, brake_rests}
-use Rattle.jerk_plan.specs.Wanted.{IsMoveSpeed, IsArrivedWithin}
+use Rattle.jerk_plan.specs.Wanted.{IsMoveSpeed, IsArrivedWithin, slowed_of, halted_of}
+use Rattle.jerk_plan.proofs.Moves.{slowed_brakes}
 
 -- positive rates
 slows : (rates : JerkRates) → AreJerkRates rates → 0 < rates.d
@@ -91,7 +93,8 @@ from_motion m (suc n) s rates way w v x ok move moves rests left enough after =
           (omega arith) (omega (arith, way_unfold rates.d rates.j w v (slows rates ok) (some rates ok)))
     ]
 
--- a move whose way is longer than its way to rest by s arrives within its cycles of braking, three for each unit of s, and one
+-- a move whose way is longer than its way to rest by s arrives within its cycles of braking, three
+-- for each unit of s, and one
 pub rest_arrives : (m n s : ℕ) (rates : JerkRates) (way w v : ℕ) → AreJerkRates rates → Rests n rates.d rates.j w v →
     way ≤ way_of rates.d rates.j w v + s → n + 3 * s + min (w + v) 1 ≤ m → IsArrivedWithin m rates way w v
 rest_arrives zero n s rates way w v ok rests left enough =
@@ -227,7 +230,8 @@ above_brake m e rates way w v x ok all kept near change move more enough =
     rw next at (way_unfold rates.d rates.j w (suc v) (slows rates ok) (some rates ok)) in
     rest_arrives m e (suc e) rates (way - x) v x ok (all.rests v x (omega arith) (omega arith)) (omega arith) (omega arith)
 
--- a move that has just been slowed by its way is near to braking, and arrives within the cycles of braking five times
+-- a move that has just been slowed by its way is near to braking, and arrives within the cycles of
+-- braking five times
 pub tight_arrives : (n e : ℕ) (rates : JerkRates) (way w v : ℕ) → AreJerkRates rates → AllRest rates e → Rests n rates.d rates.j w v → IsKeptBy rates way w v →
     way ≤ way_of rates.d rates.j w (suc v) → suc v ≤ w + reach_of (rates.v - w) rates.j → IsArrivedWithin (n + (4 * e + 4)) rates way w v
 tight_arrives zero e rates way w v ok all rests kept near below =
@@ -254,7 +258,8 @@ tight_arrives (suc n) e rates way w v ok all rests kept near below =
           ]))
     ]
 
--- the gap between the greatest speed and the fastest one that may follow: that of a motion which brakes by a
+-- the gap between the greatest speed and the fastest one that may follow: that of a motion which
+-- brakes by a
 fastest_gap : (rates : JerkRates) (way w v : ℕ) → AreJerkRates rates → IsKeptBy rates way w v → w ≤ rates.v →
     rates.v - fastest_of rates w v ≡ braked_of rates.a rates.j (rates.v - w) (rates.v - v)
 unfolding fastest_of braked_of
@@ -338,6 +343,24 @@ rests_by_rates k n q d zero w v most slows bends ramp flat landing tops = absurd
 rests_by_rates k n q d (suc i) w v most slows bends ramp flat landing tops =
     let less : suc i - 1 ≡ i = omega arith in
     brake_rests k n q d i w v most slows (omega arith) ramp flat (rw less at landing) tops
+
+-- a halt is at rest after as many cycles as braking is
+halted_by : (n : ℕ) (rates : JerkRates) (room w v : ℕ) → AreJerkRates rates → IsKeptBy rates room w v → Rests n rates.d rates.j w v → halted_of n rates w v ≡ 0
+halted_by zero rates room w v ok kept rests = rests
+halted_by (suc n) rates room w v ok kept rests =
+    let safe : IsSafeBy rates room w v (braked_of rates.d rates.j w v) =
+    braked_safe rates.v rates.a rates.d rates.j room w v (slows rates ok) (some rates ok) kept in
+    let same : slowed_of rates w v ≡ braked_of rates.d rates.j w v = slowed_brakes rates room w v ok kept in
+    rw same (halted_by n rates (room - braked_of rates.d rates.j w v) v (braked_of rates.d rates.j w v) ok safe.after.kept rests)
+
+-- and so within cycles that its rates count
+pub halts_by_rates : (rates : JerkRates) (room w v k n q : ℕ) → AreJerkRates rates → IsKeptBy rates room w v →
+    rates.a + rates.d ≤ k * rates.j → rates.v ≤ n * rates.d → rates.d ≤ q * (rates.j - 1) → halted_of (k + n + q + 1) rates w v ≡ 0
+halts_by_rates rates room w v k n q ok kept ramp down lower =
+    let same : k + n + q + 1 ≡ k + (n + suc q) = omega arith in
+    let gains : v ≤ w + rates.a = kept.gains in
+    rw same (halted_by (k + (n + suc q)) rates room w v ok kept
+    (rests_by_rates k n q rates.d rates.j w v rates.v (slows rates ok) (omega (arith, ok.j_least)) (omega arith) down lower kept.tops))
 
 -- so a move arrives within cycles that its rates count
 pub arrives_by_rates : (rates : JerkRates) (way w v l k g n p q : ℕ) → AreJerkRates rates → IsKeptBy rates way w v →

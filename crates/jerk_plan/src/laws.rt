@@ -26,8 +26,8 @@ pub fn move_steps_are_safe()
 
 /// A move that can stop before its target arrives there, at rest: within three cycles for each unit
 /// of its way, and two; and within the cycles that its rates count. Those are: l of the greatest
-/// speed have its way, k of j have a and d together and 2, g of a have v, n of d have v and 2, and p
-/// of j less 1 have a, and q of them d. How fast it really is, docs/otg.md tells by measurement.
+/// speed have its way, k of j have a and d together and 2, g of a have v, n of d have v and 2, and
+/// p of j less 1 have a, and q of them d. How fast it really is, docs/otg.md tells by measurement.
 pub fn moves_arrive()
     ensures by_units { (rates : JerkRates) (way w v : ℕ) →
         AreJerkRates rates → IsKeptBy rates way w v →
@@ -40,7 +40,8 @@ pub fn moves_arrive()
         IsArrivedWithin (l + 6 * k + g + 5 * n + p + 5 * q + 12) rates way w v }
 {}
 
-/// A halt whose slowing can be taken back brakes by its rates, and rests.
+/// A halt whose slowing can be taken back brakes by its rates, and rests: within cycles that its
+/// rates count too, where k of j have a and d together, n of d have v, and q of j less 1 have d.
 pub fn halts_rest()
     ensures brakes { (rates : JerkRates) (room w v : ℕ) →
         AreJerkRates rates → IsKeptBy rates room w v →
@@ -48,6 +49,10 @@ pub fn halts_rest()
     ensures rests { (rates : JerkRates) (room w v : ℕ) →
         AreJerkRates rates → IsKeptBy rates room w v →
         halted_of (v + (v - w) * (v - w)) rates w v ≡ 0 }
+    ensures by_rates { (rates : JerkRates) (room w v k n q : ℕ) →
+        AreJerkRates rates → IsKeptBy rates room w v →
+        rates.a + rates.d ≤ k * rates.j → rates.v ≤ n * rates.d → rates.d ≤ q * (rates.j - 1) →
+        halted_of (k + n + q + 1) rates w v ≡ 0 }
 {}
 
 /// A velocity that is not falling, and whose change can be taken back below the wanted one, reaches

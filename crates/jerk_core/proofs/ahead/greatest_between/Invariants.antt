@@ -1,16 +1,5 @@
--- One speed leaves a kept motion, and a greater one doesn't.
-use Rattle.std.proofs.Common.{◌<◌, ◌≤◌, ◌-◌}
-use Rattle.jerk_core.specs.Rates.{IsLeftBy}
+-- The ledger is the blank that is passed.
 use Rattle.jerk_core.proofs.ahead.greatest_between.Given as goal
 
-abbrev pub invariant-loop-fails : goal.invariant-loop-fails
-invariant-loop-fails l = record {
-  order : l.fits < l.fails;
-  above : l.least ≤ l.fits;
-  within : l.fails ≤ l.most;
-  fitting : IsLeftBy l.rates l.room l.speed l.fits;
-  failing : IsLeftBy l.rates l.room l.speed l.fails → ⊥;
-}
-
-abbrev pub decreases-loop-fails : goal.decreases-loop-fails
-decreases-loop-fails l = l.fails - l.fits
+abbrev pub ghosts-between_from : goal.ghosts-between_from
+ghosts-between_from a = record { name = a.blank.name; parts = a.blank.parts }
