@@ -5,3 +5,4 @@ pub mod Filled
 pub mod RowLaws
 pub mod Heads
 pub mod OwnLaws
+pub mod HeaderRows

@@ -5,3 +5,4 @@ pub mod Next
 pub mod Verified
 pub mod Rows
 pub mod Own
+pub mod Headers

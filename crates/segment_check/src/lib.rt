@@ -16,7 +16,10 @@ mod steered;
 mod verifying;
 
 pub use flaw::Flaw;
-pub use laws::{rows_of_trace_segments_tell_pasts, segments_of_kernels_may_begin};
+pub use laws::{
+    rows_of_trace_segments_tell_pasts, segments_by_headers_tell_pasts,
+    segments_of_kernels_may_begin,
+};
 pub use segment_text::{TraceSegment, read_trace_segment};
 pub use starting::kernel_of;
 pub use trace_check::{Difference, OutOfMemory};
