@@ -12,7 +12,7 @@ use Rattle.job_ends.specs.Ends.{EndsBy, EndsEarly}
 use Rattle.job_ends.specs.Files.{GivesReading, IsText, NoReading}
 use Rattle.job_ends.specs.Follows.{FollowPlans}
 use Rattle.job_ends.specs.Plans.{Plan, refused_plan, too_long_plan, unread_plan}
-use Rattle.job_ends.specs.Readings.{is_of_text, reading_in, text_in}
+use Rattle.job_ends.specs.Readings.{file_in, is_of_text, reading_in, text_in}
 use Rattle.job_ends.specs.declared.status.Status.{Status}
 use Rattle.job_ends.specs.declared.status.Status.TheVariants as status
 
@@ -67,8 +67,7 @@ pub record TellsBy {A : Type 0} (told : Option FileMap) (rose : Type 0)
 -- a reading whose text isn't there, or has none
 abbrev pub reading_by : {A : Type 0} → ℕ → ℕ → List ℕ → (List ℕ → Result A TextRefused) → FileMap →
     Result A Status
-reading_by most word name read files =
-    text_in most word (files name) >>= λ text. reading_in word (read text)
+reading_by most word name read files = file_in most word read (files name)
 
 lacked : {A : Type 0} (told : Option FileMap) (rose : Type 0) (most word : ℕ) (name : List ℕ)
     (read : List ℕ → Result A TextRefused) → rose ⊎ LacksFile told name →

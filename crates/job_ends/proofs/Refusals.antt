@@ -1,11 +1,10 @@
 -- Readings that are refused, and what they lead to.
-use Rattle.std.specs.Prelude.{◌≡◌, ℕ, Option, Some, None, Result, Ok, Err, List}
+use Rattle.std.specs.Prelude.{◌≡◌, ℕ, Some, Result, Ok, Err, List}
 use Rattle.std.proofs.Common.{◌∙◌, ap, refl, sym}
 use Rattle.motion_history.specs.declared.refused.Rule.{Rule}
 use Rattle.motion_history.specs.declared.refused.TextRefused.{TextRefused}
 use Rattle.job_ends.specs.Causes.{IsRefusedAt, refusal_by}
 use Rattle.job_ends.specs.Plans.{Plan, plan_of_reading}
-use Rattle.job_ends.specs.declared.status.Status.{Status}
 use Rattle.job_ends.specs.declared.status.Status.TheVariants as status
 
 refused : {A : Type 0} (plan : A → Plan) (name : List ℕ) (place : ℕ) (rule : Rule)

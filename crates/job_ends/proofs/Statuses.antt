@@ -40,6 +40,12 @@ traced-no-text status.CyclesOver t = refl
 traced-no-text status.HistoryFull t = refl
 traced-no-text s t = absurd (cc)
 
+pub traced-unfaulted : (s : Status) → is_traced s ≡ true → is_fault s ≡ false
+traced-unfaulted status.Ok t = refl
+traced-unfaulted status.CyclesOver t = refl
+traced-unfaulted status.HistoryFull t = refl
+traced-unfaulted s t = absurd (cc)
+
 -- ---- readings and plans
 
 -- a reading leads to one status

@@ -1,6 +1,6 @@
 -- How the program ends by what a read of the file found.
 use Rattle.std.specs.Prelude.{◌≡◌, ◌⊎◌, ◌≤◌, ◌<◌, refl, ℕ, Bool, true, false, Option, Some, None, IsSomeAnd, List, length}
-use Rattle.std.proofs.Common.{◌∙◌, inl, inr, sym, ap, subst, arith}
+use Rattle.std.proofs.Common.{inl, inr, sym, ap, subst, arith}
 use Rattle.bench_job.specs.Plans.{bench_plan}
 use Rattle.job_ends.specs.Causes.{EndsFor, is_fault, is_told}
 use Rattle.job_ends.specs.Ends.{Content, EndsBy, EndsEarly, EndsUnread, Found, IsFound, Longer, Unread}
@@ -14,9 +14,9 @@ use Rattle.outside.specs.declared.files.FilesFault.TheVariants as files
 use Rattle.segment_job.specs.Begins.{begins_as_trace_segment}
 use Rattle.trace_jobs.specs.Plans.{check_plan, migrate_plan}
 use Rattle.trace_text.specs.writing.Writes.{Output}
-use Rattle.motion_cli.proofs.PlanLaws.{by-plan, comes, faulted, not-told, same-cause, told-unfaulted}
+use Rattle.motion_cli.proofs.PlanLaws.{by-plan, comes, not-told, same-cause, told-unfaulted}
 use Rattle.job_ends.specs.Causes.{ComesExactly}
-use Rattle.motion_cli.specs.Causes.{CauseOf, IsTooLong, VerifyingCause, LeadsTo}
+use Rattle.motion_cli.specs.Causes.{TextCause, IsTooLong, VerifyingCause, LeadsTo}
 use Rattle.motion_cli.specs.Ends.{EndsByFile, EndsByFound, EndsByVerifying, EndsByText}
 use Rattle.motion_cli.specs.Plans.{most_of}
 use Rattle.command_words.specs.Requests.{FileJob}
@@ -55,7 +55,7 @@ verified-for false name text old new s e = record { plan = check_plan name text;
 
 -- a job with a text ends by a plan, for its cause
 pub ends-for : (job : Job) (name text : List ℕ) (old new : Output) (s : Status) →
-    EndsByText job name text old new s → EndsBySome old new (CauseOf job text) s
+    EndsByText job name text old new s → EndsBySome old new (TextCause job text) s
 ends-for Bench name text old new s e = record { plan = bench_plan name text; by = e.by }
 ends-for Check name text old new s e =
     verified-for (begins_as_trace_segment text) name text old new s e
@@ -83,14 +83,14 @@ no-longer job None P within long h = h
 no-longer job (Some text) P within long h = let w = within text h in omega (arith, w, long)
 
 content-cause : (r : FileJob) (o : Option (List ℕ)) (text : List ℕ) (wanted : Status) →
-    o ≡ Some text → length text ≤ most_of r.job → CauseOf r.job text wanted →
+    o ≡ Some text → length text ≤ most_of r.job → TextCause r.job text wanted →
     IsSomeAnd o (LeadsTo wanted r.job)
 content-cause r o text wanted is within cause =
     subst (λ x. IsSomeAnd x (LeadsTo wanted r.job)) (sym is)
     (record { within = within; cause = cause })
 
 cause-content : (r : FileJob) (o : Option (List ℕ)) (text : List ℕ) (wanted : Status) →
-    o ≡ Some text → IsSomeAnd o (LeadsTo wanted r.job) → CauseOf r.job text wanted
+    o ≡ Some text → IsSomeAnd o (LeadsTo wanted r.job) → TextCause r.job text wanted
 cause-content r o text wanted is h = (subst (λ x. IsSomeAnd x (LeadsTo wanted r.job)) is h).cause
 
 -- where a file couldn't be read a fault comes
@@ -123,10 +123,10 @@ found-comes follow files rose r old new s wanted t Longer is e =
     (follow.comes old new (too_long_plan 1 r.name) s wanted e f)
 found-comes follow files rose r old new s wanted t (Content text) is e =
     let for = ends-for r.job r.name text old new s e in
-    same-cause s wanted (CauseOf r.job text wanted) _
+    same-cause s wanted (TextCause r.job text wanted) _
     (content-cause r (files r.name) text wanted is.0 is.1)
     (cause-content r (files r.name) text wanted is.0)
-    (comes follow old new for.plan (CauseOf r.job text) s for.by wanted (told-unfaulted wanted t))
+    (comes follow old new for.plan (TextCause r.job text) s for.by wanted (told-unfaulted wanted t))
 
 -- ---- TooLong
 

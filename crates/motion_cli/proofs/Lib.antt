@@ -1,9 +1,7 @@
 pub mod PlanLaws
 pub mod FileLaws
 pub mod ReportLaws
-pub mod CauseLaws
-pub mod FaultLaws
-pub mod CompleteLaws
-pub mod TraceLaws
+pub mod FileSaid
+pub mod SaidLaws
 pub mod AskedLaws
 pub mod WrittenLaws

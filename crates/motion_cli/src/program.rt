@@ -3,7 +3,7 @@
 ghost use Rattle.std.specs.Prelude.{◌≡◌, ◌≢◌, ◌⊎◌, ◌≤◌, ◌+◌, length, None, Ok, Err, IfErr, IfOk, OnErr};
 ghost use Rattle.std.specs.IoError.{error_kind};
 ghost use Rattle.command_words.specs.Args.{words_of};
-ghost use Rattle.command_words.specs.Requests.{run_of};
+ghost use Rattle.command_words.specs.Requests.{asked_of, run_of};
 ghost use Rattle.job_ends.specs.Ends.{EndsBy, EndsEarly};
 ghost use Rattle.motion_cli.specs.Ends.{EndsByWords};
 ghost use Rattle.motion_cli.specs.Plans.{usage_plan};
@@ -46,7 +46,7 @@ pub fn top_of_args<F: Files, K: Sink, H: Host + Wait + Sync, G: Gate + Drop + Se
     ensures said { IfOk args (λ all. IsSaid (F.told files.old)
         (Rose (F.count files.old) (F.count files.new))
         (Rose spawner.old.faults spawner.new.faults)
-        (λ n. length spawner.new.jobs ≡ length spawner.old.jobs + n) (words_of all)
+        (λ n. length spawner.new.jobs ≡ length spawner.old.jobs + n) (asked_of (words_of all))
         (record { count = K.count out.old; told = K.told out.old })
         (record { count = K.count out.new; told = K.told out.new }) result ⊎
         EndsEarly (record { count = K.count out.old; told = K.told out.old })
@@ -88,7 +88,7 @@ fn top_of_words<F: Files, K: Sink, H: Host + Wait + Sync, G: Gate + Drop + Send 
     ensures said { IfOk words (λ all. IsSaid (F.told files.old)
         (Rose (F.count files.old) (F.count files.new))
         (Rose spawner.old.faults spawner.new.faults)
-        (λ n. length spawner.new.jobs ≡ length spawner.old.jobs + n) all
+        (λ n. length spawner.new.jobs ≡ length spawner.old.jobs + n) (asked_of all)
         (record { count = K.count out.old; told = K.told out.old })
         (record { count = K.count out.new; told = K.told out.new }) result) }
     ensures memory { OnErr words (EndsEarly
@@ -132,7 +132,7 @@ pub fn top<F: Files, K: Sink, H: Host + Wait + Sync, G: Gate + Drop + Send + 'st
     ensures said { IsSaid (F.told files.old) (Rose (F.count files.old) (F.count files.new))
         (Rose spawner.old.faults spawner.new.faults)
         (λ n. length spawner.new.jobs ≡ length spawner.old.jobs + n)
-        words.now (record { count = K.count out.old; told = K.told out.old })
+        (asked_of words.now) (record { count = K.count out.old; told = K.told out.old })
         (record { count = K.count out.new; told = K.told out.new }) result }
     ensures joined { JoinsAll spawner.old.jobs spawner.new.jobs }
     ensures alone { run_of words.now ≡ None → spawner.new ≡ spawner.old }

@@ -2,28 +2,23 @@
 use Rattle.std.specs.Prelude.{◌≡◌, refl, ℕ, ◌+◌, true, false, Option, Some, List, map, slice_get}
 use Rattle.std.proofs.Common.{◌∙◌, inl, inr, sym, ap, subst, arith}
 use Rattle.drive_sim.specs.Sim.{DriveSim}
+use Rattle.job_ends.proofs.Courses.{Planned, kind-by, of-text-by, unread-of, unwritten-of}
 use Rattle.job_ends.proofs.Readings.{none-traced}
 use Rattle.job_ends.proofs.Statuses.{untraced}
 use Rattle.job_ends.specs.Causes.{is_traced}
 use Rattle.job_ends.specs.Follows.{FollowPlans}
 use Rattle.job_ends.specs.declared.status.Status.{Status}
-use Rattle.job_ends.specs.declared.status.Status.TheVariants as status
 use Rattle.machine_drives.specs.Drives.{drives_at_opening}
 use Rattle.motion_plant.specs.Ran.{DriveMeets}
 use Rattle.outside.specs.Told.{FileMap}
 use Rattle.setpoint_ring.specs.declared.logs.DriveLog.{DriveLog}
 use Rattle.trace_text.specs.writing.Writes.{Output}
-use Rattle.run_job.proofs.CauseLaws.{Planned, no-plant, planned}
-use Rattle.run_job.proofs.EndLaws.{complete-by, kind-by, of-text-by, refuses-of, unread-of, unwritten-of}
+use Rattle.run_job.proofs.CauseLaws.{Given, complete-by, no-plant, plain, planned, refuses-of, run-kind}
 use Rattle.run_job.proofs.RowLaws.{AreReadBack, rows-same}
-use Rattle.run_job.specs.Causes.{plant_in}
+use Rattle.run_job.specs.Causes.{is_of_run, plant_in}
 use Rattle.run_job.specs.Ends.{Course, EndsByBoth, EndsByPlant, EndsByRun, WritesRun}
 use Rattle.run_job.specs.Headline.{HasEnded, RunHeadline}
 use Rattle.run_job.specs.Plans.{end_row, no_thread_plan, run_plan}
-
--- ---- where there is no trace
-
--- ---- where there is one
 
 pub ran-headline : FollowPlans → AreReadBack → (told : Option FileMap) (refuses : Type 0)
     (Started : ℕ → Type 0) (config program : List ℕ) (old new : Output) (s : Status) →
@@ -93,16 +88,18 @@ pub ended : FollowPlans → AreReadBack → (told : Option FileMap) (rose refuse
     Course told rose refuses Started config program old new s →
     EndsByRun told rose refuses Started config program old new s
 ended follow back told rose refuses Started config program old new s course =
+    let reading = λ (files : FileMap). plant_in files config program in
     let by = planned told rose refuses Started config program old new s course in
+    let known : (files : FileMap) → told ≡ Some files → Planned (Some files) rose reading (Given refuses) old new s =
+    λ files e. subst (λ x. Planned x rose reading (Given refuses) old new s) e by in
     record {
       course = course;
       headline = headline-of follow back told rose refuses Started config program old new s course;
       refuses = refuses-of follow told rose refuses config program old new s by;
-      unread = λ word. unread-of follow told rose refuses config program old new s word by;
-      unwritten = unwritten-of follow told rose refuses config program old new s by;
-      of_text = λ files wanted e t. of-text-by follow files rose refuses config program old new s
-          wanted t (subst (λ x. Planned x rose refuses config program old new s) e by);
-      complete = λ files e. complete-by follow files rose refuses config program old new s
-          (subst (λ x. Planned x rose refuses config program old new s) e by);
-      kind = kind-by follow told rose refuses config program old new s by;
+      unread = λ word. unread-of follow told rose reading (Given refuses) (plain refuses) old new s word by;
+      unwritten = unwritten-of follow told rose reading (Given refuses) (plain refuses) old new s by;
+      of_text = λ files wanted e t. of-text-by follow files rose reading (Given refuses) (plain refuses)
+          old new s wanted t (known files e);
+      complete = λ files e. complete-by follow files rose refuses config program old new s (known files e);
+      kind = kind-by is_of_run follow told rose reading (Given refuses) (run-kind refuses) old new s by;
     }

@@ -1,10 +1,10 @@
 -- How a run and its trace end, from what their parts did.
-use Rattle.std.specs.Prelude.{true, false, ◌≡◌, ◌≢◌, ◌↔◌, ◌⊎◌, ◌+◌, refl, ℕ, Option, Result, List, [], ◌∷◌, length, map}
+use Rattle.std.specs.Prelude.{true, false, ◌≡◌, ◌≢◌, ◌↔◌, ◌+◌, refl, ℕ, Option, Result, List, [], ◌∷◌, length, map}
 use Rattle.std.specs.Arc.{arc_value}
-use Rattle.std.proofs.Common.{◌∙◌, inl, inr, sym, ap, subst, arith}
+use Rattle.std.proofs.Common.{◌∙◌, inr, sym, ap, subst, arith}
 use Rattle.axis_state.specs.declared.definition.AxisDef.{AxisDef}
 use Rattle.job_ends.specs.Causes.{is_traced}
-use Rattle.job_ends.specs.Ends.{EndsBy, EndsEarly, status_by}
+use Rattle.job_ends.specs.Ends.{EndsEarly, status_by}
 use Rattle.job_ends.specs.Follows.{FollowPlans}
 use Rattle.job_ends.specs.declared.status.Status.{Status}
 use Rattle.machine_drives.specs.Drives.{drives_at_opening}

@@ -1,9 +1,8 @@
 -- Why the job ends with a status that its two files decide. This project's profile.
-use Rattle.std.specs.Prelude.{ℕ, Bool, true, false, Result, Ok, List}
-use Rattle.job_ends.specs.Readings.{reading_in, text_in}
+use Rattle.std.specs.Prelude.{ℕ, Bool, true, false, Result, List}
+use Rattle.job_ends.specs.Readings.{both_by, file_in}
 use Rattle.job_ends.specs.declared.status.Status.{Status}
 use Rattle.job_ends.specs.declared.status.Status.TheVariants as status
-use Rattle.line_text.specs.Reading.{◌>>=◌}
 use Rattle.machine_config.specs.Reading.{machine_of}
 use Rattle.machine_config.specs.declared.machine.Machine.{Machine}
 use Rattle.outside.specs.Told.{FileMap}
@@ -12,20 +11,16 @@ use Rattle.run_job.specs.Plants.{most_bytes}
 
 -- the machine that the file of word 1 configures
 abbrev pub machine_in : FileMap → List ℕ → Result Machine Status
-machine_in files name = text_in most_bytes 1 (files name) >>= λ text. reading_in 1 (machine_of text)
+machine_in files name = file_in most_bytes 1 machine_of (files name)
 
 -- the program of a machine that the file of word 2 is
 abbrev pub program_in : FileMap → List ℕ → Machine → Result Outcome Status
-program_in files name m =
-    text_in most_bytes 2 (files name) >>= λ text. reading_in 2 (program_of m.cycle_us m.config text)
+program_in files name m = file_in most_bytes 2 (program_of m.cycle_us m.config) (files name)
 
 -- the machine that the first of two files configures, and its program that the second is; or what
 -- is reported of the first of them that gives none
-unfoldable pub plant_in : FileMap → List ℕ → List ℕ → Result (Machine × Outcome) Status
-plant_in files config program = do
-  machine ← machine_in files config
-  outcome ← program_in files program machine
-  Ok (machine, outcome)
+abbrev pub plant_in : FileMap → List ℕ → List ℕ → Result (Machine × Outcome) Status
+plant_in files config program = both_by (machine_in files config) (program_in files program)
 
 -- the statuses that a run may end with
 abbrev pub is_of_run : Status → Bool

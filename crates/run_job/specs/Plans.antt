@@ -1,5 +1,5 @@
 -- What a run writes, and how it ends. This project's profile.
-use Rattle.std.specs.Prelude.{ℕ, codes, List, map}
+use Rattle.std.specs.Prelude.{codes, List}
 use Rattle.std.specs.Option.{unwrap_or}
 use Rattle.cia402_machine.specs.Statusword.{state_of_word}
 use Rattle.cia402_machine.specs.declared.drive.DriveState.TheVariants.{NotReady}

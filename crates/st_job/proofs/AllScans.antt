@@ -3,7 +3,7 @@ use Rattle.std.specs.Prelude.{◌≡◌, refl, ℕ, zero, suc, ◌+◌, ◌<◌,
 use Rattle.std.proofs.Common.{inl, inr, sym, ap, subst, arith}
 use Rattle.bench_run.specs.Run.{Run, a_call, a_cycle, an_end, cycled, first_run, made}
 use Rattle.machine_drives.specs.Drives.{drives_at_opening}
-use Rattle.motion_history.specs.Entries.{call, end_of}
+use Rattle.motion_history.specs.Entries.{end_of}
 use Rattle.st_exec.specs.Laws.{AsksInOrder, IsCallOf}
 use Rattle.st_tree.specs.declared.program.Task.{Task}
 use Rattle.st_job.proofs.Kept.{KeptByScan, turn-keeps-by}

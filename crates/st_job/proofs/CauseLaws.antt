@@ -1,91 +1,64 @@
--- What the course of the job says of its files.
+-- What the course of the job says of its files and of its status.
 use Rattle.std.specs.Prelude.{◌≡◌, ◌⊎◌, refl, ℕ, true, Option, Some, None, IfSome, Result, Ok, Err, List}
 use Rattle.std.specs.Result.{IsOk, is_ok}
-use Rattle.std.proofs.Common.{◌∙◌, inl, inr, ap}
+use Rattle.std.proofs.Common.{inl, inr, ap}
 use Rattle.bench_run.specs.declared.bench.RunFault.{RunFault}
 use Rattle.bench_run.specs.declared.bench.RunFault.TheVariants.{CyclesOver, HistoryFull}
-use Rattle.job_ends.proofs.Readings.{TellsBy, TellsOf, given, no-reading, told-on}
+use Rattle.job_ends.proofs.Both.{both-given, no-both}
+use Rattle.job_ends.proofs.Courses.{IsKind, IsPlain, Planned, led-by-given, told-planned}
+use Rattle.job_ends.proofs.Readings.{TellsBy, given}
+use Rattle.job_ends.proofs.Statuses.{trace-stays, traced-no-text, traced-unfaulted}
 use Rattle.job_ends.specs.Causes.{is_traced}
-use Rattle.job_ends.specs.Ends.{EndsBy, EndsEarly}
+use Rattle.job_ends.specs.Ends.{EndsEarly}
 use Rattle.job_ends.specs.Files.{GivesReading}
-use Rattle.job_ends.specs.Plans.{Plan}
+use Rattle.job_ends.specs.Follows.{FollowPlans}
+use Rattle.job_ends.specs.Readings.{is_of_text}
 use Rattle.job_ends.specs.declared.status.Status.{Status}
-use Rattle.line_text.specs.Reading.{◌>>=◌}
+use Rattle.job_ends.specs.declared.status.Status.TheVariants as status
 use Rattle.machine_config.specs.Configured.{Configures}
 use Rattle.machine_config.specs.Reading.{machine_of}
 use Rattle.machine_config.specs.declared.machine.Machine.{Machine}
+use Rattle.outside.specs.Faults.{Rose}
 use Rattle.outside.specs.Told.{FileMap}
-use Rattle.st_check.specs.Reading.{Outcome, reading_of}
+use Rattle.st_check.specs.Reading.{reading_of}
 use Rattle.trace_text.specs.writing.Writes.{Output}
-use Rattle.st_job.specs.Causes.{both_in, machine_in, program_in}
+use Rattle.st_job.specs.Causes.{both_in, is_of_st, machine_in, program_in}
 use Rattle.st_job.specs.Controllers.{cell_of}
 use Rattle.st_job.specs.Ends.{Course}
-use Rattle.st_job.specs.Given.{GivesController, GivesMachine, GivesProgram, NoController, most_bytes}
+use Rattle.st_job.specs.Given.{GivesController, GivesProgram, NoController, most_bytes}
 use Rattle.st_job.specs.Plans.{plan_of, status_of}
 use Rattle.st_job.specs.Rounds.{run_of}
 use Rattle.st_job.specs.declared.cell.Controller.{Controller}
 
--- ---- both files
+-- ---- the status of a run of tasks: it stands for a trace
 
--- both are wanting where the machine is
-no-machine : (files : FileMap) (config program : List ℕ) (s : Status) →
-    machine_in files config ≡ Err s → both_in files config program ≡ Err s
-unfolding both_in
-no-machine files config program s e =
-    ap (λ (r : Result Machine Status). r >>= λ m. program_in files program m >>= λ o. Ok (m, o)) e
+abbrev pub Traced : Status → Type 0
+Traced s = is_traced s ≡ true
 
--- and where the program is
-no-program : (files : FileMap) (config program : List ℕ) (m : Machine) (s : Status) →
-    machine_in files config ≡ Ok m → program_in files program m ≡ Err s →
-    both_in files config program ≡ Err s
-unfolding both_in
-no-program files config program m s is e =
-    ap (λ (r : Result Machine Status). r >>= λ n. program_in files program n >>= λ o. Ok (n, o)) is
-    ∙ ap (λ (r : Result Outcome Status). r >>= λ o. Ok (m, o)) e
+pub plain : IsPlain Traced
+plain = record { unfaulted = traced-unfaulted; untold = traced-no-text }
 
--- they are there where each is
-both-given : (files : FileMap) (config program : List ℕ) (m : Machine) (o : Outcome) →
-    machine_in files config ≡ Ok m → program_in files program m ≡ Ok o →
-    both_in files config program ≡ Ok (m, o)
-unfolding both_in
-both-given files config program m o is e =
-    ap (λ (r : Result Machine Status). r >>= λ n. program_in files program n >>= λ q. Ok (n, q)) is
-    ∙ ap (λ (r : Result Outcome Status). r >>= λ q. Ok (m, q)) e
+text-of-st : (s : Status) → is_of_text s ≡ true → is_of_st s ≡ true
+text-of-st (status.TooLong word) t = refl
+text-of-st (status.TextRefused word place rule) t = refl
+text-of-st s t = absurd (cc)
+
+traced-of-st : (s : Status) → is_traced s ≡ true → is_of_st s ≡ true
+traced-of-st status.Ok t = refl
+traced-of-st status.CyclesOver t = refl
+traced-of-st status.HistoryFull t = refl
+traced-of-st s t = absurd (cc)
+
+pub st-kind : IsKind is_of_st Traced
+st-kind = record {
+  read = λ word. refl;
+  write = refl;
+  memory = refl;
+  text = text-of-st;
+  given = traced-of-st;
+}
 
 -- ---- the course of the job
-
--- why the job leads to a status: its files don't give both; or they do, and there is a trace
-abbrev pub LeadsTo : Option FileMap → Type 0 → List ℕ → List ℕ → Status → Type 0
-LeadsTo told rose config program s =
-    TellsOf told rose (λ files. both_in files config program) s ⊎
-    ((is_traced s ≡ true) × IfSome told (λ files. IsOk (both_in files config program)))
-
--- the plan by which it ended
-pub record PlannedBy (told : Option FileMap) (rose : Type 0) (config program : List ℕ)
-    (old new : Output) (s : Status) : Type 0 where
-  pub plan : Plan
-  pub ends : EndsBy old new plan s
-  pub leads : LeadsTo told rose config program plan.status
-
--- memory ran out before, or it ended by a plan
-abbrev pub Planned : Option FileMap → Type 0 → List ℕ → List ℕ → Output → Output → Status → Type 0
-Planned told rose config program old new s =
-    EndsEarly old new s ⊎ PlannedBy told rose config program old new s
-
-machine-wanting : (told : Option FileMap) (config program : List ℕ) →
-    IfSome told (λ files. (x : Status) → machine_in files config ≡ Err x →
-    both_in files config program ≡ Err x)
-machine-wanting None config program = tt
-machine-wanting (Some files) config program = no-machine files config program
-
-program-wanting : (told : Option FileMap) (config program : List ℕ) (m : Machine) →
-    GivesMachine told config m →
-    IfSome told (λ files. (x : Status) → program_in files program m ≡ Err x →
-    both_in files config program ≡ Err x)
-program-wanting None config program m g = tt
-program-wanting (Some files) config program m g =
-    λ x. no-program files config program m x
-    (given (Some files) most_bytes 1 config machine_of Configures m g)
 
 -- what the second file is read as
 program-read : (told : Option FileMap) (program : List ℕ) (m : Machine) (p : Controller) →
@@ -103,7 +76,7 @@ both-there : (told : Option FileMap) (config program : List ℕ) (p : Controller
     IfSome told (λ files. IsOk (both_in files config program))
 both-there None config program p g = tt
 both-there (Some files) config program p g =
-    ap is_ok (both-given files config program g.machine g.tasks.is.outcome
+    ap is_ok (both-given (machine_in files config) (program_in files program) g.machine g.tasks.is.outcome
     (given (Some files) most_bytes 1 config machine_of Configures g.machine g.gives)
     (given (Some files) most_bytes 2 program (reading_of g.machine.config) (λ text o. Unit {0})
     g.tasks.is.outcome (program-read (Some files) program g.machine p g.tasks)))
@@ -115,34 +88,19 @@ traced-run (Err CyclesOver) = refl
 traced-run (Err HistoryFull) = refl
 
 -- files that don't give both were reported by a plan, or memory ran out
-pub no-both : (told : Option FileMap) (rose : Type 0) (config program : List ℕ) (old new : Output)
-    (s : Status) → NoController told rose config program old new s →
+pub no-controller : (told : Option FileMap) (rose : Type 0) (config program : List ℕ)
+    (old new : Output) (s : Status) → NoController told rose config program old new s →
     EndsEarly old new s ⊎ TellsBy told rose (λ files. both_in files config program) old new s
-no-both told rose config program old new s (inl h) =
-    told-on told rose (λ files. machine_in files config) (λ files. both_in files config program)
-    old new s
-    (machine-wanting told config program)
-    (no-reading told rose most_bytes 1 config machine_of old new s h)
-no-both told rose config program old new s (inr (m, g, h)) =
-    told-on told rose (λ files. program_in files program m) (λ files. both_in files config program)
-    old new s
-    (program-wanting told config program m g)
-    (no-reading told rose most_bytes 2 program (reading_of m.config) old new s h)
-
-told-planned : (told : Option FileMap) (rose : Type 0) (config program : List ℕ)
-    (old new : Output) (s : Status) →
-    EndsEarly old new s ⊎ TellsBy told rose (λ files. both_in files config program) old new s →
-    Planned told rose config program old new s
-told-planned told rose config program old new s (inl h) = inl h
-told-planned told rose config program old new s (inr h) =
-    inr (record { plan = h.plan; ends = h.ends; leads = inl h.tells })
+no-controller told rose config program old new s h =
+    no-both told rose config program most_bytes most_bytes machine_of Configures
+    (λ (m : Machine). reading_of m.config) old new s h
 
 pub planned : (told : Option FileMap) (rose : Type 0) (config program : List ℕ)
     (old new : Output) (s : Status) → Course told rose config program old new s →
-    Planned told rose config program old new s
+    Planned told rose (λ files. both_in files config program) Traced old new s
 planned told rose config program old new s (inl h) =
-    told-planned told rose config program old new s
-    (no-both told rose config program old new s h)
+    told-planned told rose (λ files. both_in files config program) Traced old new s
+    (no-controller told rose config program old new s h)
 planned told rose config program old new s (inr h) = inr (record {
   plan = plan_of (cell_of h.cell);
   ends = h.ends;
@@ -151,3 +109,15 @@ planned told rose config program old new s (inr h) = inr (record {
     both-there told config program h.cell h.gives,
   );
 })
+
+-- where both are given there is a trace
+pub complete-by : FollowPlans → (files : FileMap) (rose : Type 0)
+    (config program : List ℕ) (old new : Output) (s : Status) →
+    Planned (Some files) rose (λ map. both_in map config program) Traced old new s →
+    IsOk (both_in files config program) → (rose → ⊥) →
+    (Rose old.count new.count → ⊥) → (is_traced s ≡ true) ⊎ (s ≡ status.OutOfMemory)
+complete-by follow files rose config program old new s (inl e) there r w = inr e.status
+complete-by follow files rose config program old new s (inr p) there r w =
+    trace-stays s p.plan.status (Rose old.count new.count)
+    (follow.statuses old new p.plan s p.ends) w
+    (led-by-given files rose (λ map. both_in map config program) Traced p.plan.status p.leads there r)

@@ -2,19 +2,18 @@
 use Rattle.std.specs.Prelude.{◌≡◌, refl, ℕ, true, Option, Some, List, map, slice_get}
 use Rattle.std.proofs.Common.{inl, inr, ap, subst}
 use Rattle.bench_run.specs.InStep.{AreInStep}
+use Rattle.job_ends.proofs.Courses.{Planned, kind-by, of-text-by, unread-of, unwritten-of}
 use Rattle.job_ends.proofs.Readings.{none-traced}
 use Rattle.job_ends.specs.Causes.{is_traced}
 use Rattle.job_ends.specs.Follows.{FollowPlans}
 use Rattle.job_ends.specs.declared.status.Status.{Status}
-use Rattle.job_ends.specs.declared.status.Status.TheVariants as status
 use Rattle.machine_drives.specs.Drives.{drive_end, drives_at_opening}
 use Rattle.motion_history.specs.Entries.{cycles_of}
 use Rattle.outside.specs.Told.{FileMap}
 use Rattle.st_tree.specs.declared.program.Task.{Task}
 use Rattle.trace_text.specs.writing.Writes.{Output}
-use Rattle.st_job.proofs.CauseLaws.{Planned, no-both, planned}
-use Rattle.st_job.proofs.EndLaws.{complete-by, kind-by, of-text-by, unread-of, unwritten-of}
-use Rattle.st_job.specs.Causes.{both_in}
+use Rattle.st_job.proofs.CauseLaws.{Traced, complete-by, no-controller, plain, planned, st-kind}
+use Rattle.st_job.specs.Causes.{both_in, is_of_st}
 use Rattle.st_job.specs.Cell.{Cell}
 use Rattle.st_job.specs.Controllers.{cell_of}
 use Rattle.st_job.specs.Ends.{Course, EndsByBoth, EndsBySt}
@@ -76,7 +75,7 @@ pub headline-of : FollowPlans → RunLaws → (told : Option FileMap) (rose : Ty
     StHeadline told config program old.told new.told s
 headline-of follow laws told rose config program old new s (inl h) t =
     absurd (none-traced follow told rose (λ files. both_in files config program) old new s
-    (no-both told rose config program old new s h) t)
+    (no-controller told rose config program old new s h) t)
 headline-of follow laws told rose config program old new s (inr b) t =
     both-headline follow laws told config program old new s b t
 
@@ -85,15 +84,17 @@ pub ended : FollowPlans → RunLaws → (told : Option FileMap) (rose : Type 0)
     (config program : List ℕ) (old new : Output) (s : Status) →
     Course told rose config program old new s → EndsBySt told rose config program old new s
 ended follow laws told rose config program old new s course =
+    let reading = λ (files : FileMap). both_in files config program in
     let by = planned told rose config program old new s course in
+    let known : (files : FileMap) → told ≡ Some files → Planned (Some files) rose reading Traced old new s =
+    λ files e. subst (λ x. Planned x rose reading Traced old new s) e by in
     record {
       course = course;
       headline = headline-of follow laws told rose config program old new s course;
-      unread = λ word. unread-of follow told rose config program old new s word by;
-      unwritten = unwritten-of follow told rose config program old new s by;
-      of_text = λ files wanted e t. of-text-by follow files rose config program old new s wanted t
-          (subst (λ x. Planned x rose config program old new s) e by);
-      complete = λ files e. complete-by follow files rose config program old new s
-          (subst (λ x. Planned x rose config program old new s) e by);
-      kind = kind-by follow told rose config program old new s by;
+      unread = λ word. unread-of follow told rose reading Traced plain old new s word by;
+      unwritten = unwritten-of follow told rose reading Traced plain old new s by;
+      of_text = λ files wanted e t. of-text-by follow files rose reading Traced plain old new s wanted t
+          (known files e);
+      complete = λ files e. complete-by follow files rose config program old new s (known files e);
+      kind = kind-by is_of_st follow told rose reading Traced st-kind old new s by;
     }

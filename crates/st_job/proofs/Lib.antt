@@ -15,5 +15,4 @@ pub mod EndedTasks
 pub mod TraceLaws
 pub mod GivenLaws
 pub mod CauseLaws
-pub mod EndLaws
 pub mod HeadlineLaws

@@ -1,6 +1,6 @@
 -- What a machine with its tasks leads to. This project's profile.
 use Rattle.std.specs.Prelude.{Result, Ok, Err}
-use Rattle.bench_run.specs.Run.{Run, drive_ends}
+use Rattle.bench_run.specs.Run.{drive_ends}
 use Rattle.bench_run.specs.declared.bench.RunFault.{RunFault}
 use Rattle.bench_run.specs.declared.bench.RunFault.TheVariants.{CyclesOver, HistoryFull}
 use Rattle.job_ends.specs.Plans.{Plan}

@@ -1,9 +1,10 @@
 -- What the course of the job says of its status.
-use Rattle.std.specs.Prelude.{◌≡◌, ◌⊎◌, refl, ℕ, true, false, Option, Some, None, IsSomeAnd, Result, Ok, Err, List}
+use Rattle.std.specs.Prelude.{◌≡◌, ◌⊎◌, refl, ℕ, true, false, Option, Some, None, Result, Ok, Err, List}
 use Rattle.std.specs.Io.KnownBytes.{Appends}
 use Rattle.std.proofs.Common.{◌∙◌, inl, inr, sym, ap, subst}
 use Rattle.std.proofs.lemmas.Bool.{cases_Bool}
 use Rattle.cam_switch.specs.declared.switch.Switch.{Switch}
+use Rattle.job_ends.proofs.Courses.{IsKind, IsPlain, Planned, kind-by, told-planned, unread-of, unwritten-of}
 use Rattle.job_ends.proofs.Readings.{TellsBy, TellsOf}
 use Rattle.job_ends.proofs.Statuses.{Statuses, apart, early-not, same-told, text-always}
 use Rattle.job_ends.specs.Readings.{is_of_text}
@@ -19,7 +20,7 @@ use Rattle.trace_check.specs.Progress.{difference_in}
 use Rattle.trace_check.specs.declared.difference.Difference.{Difference}
 use Rattle.trace_text.specs.TraceState.{TraceState}
 use Rattle.trace_text.specs.writing.Writes.{Output}
-use Rattle.switch_job.proofs.CauseLaws.{both-given, no-both}
+use Rattle.switch_job.proofs.CauseLaws.{both-given, both-there, no-both}
 use Rattle.switch_job.specs.Causes.{SwitchCause, both_in, is_decided, is_of_both, is_of_switches}
 use Rattle.switch_job.specs.Ends.{Course, EndsByBoth, EndsBySwitches}
 use Rattle.switch_job.specs.Given.{TellsLegal}
@@ -59,12 +60,6 @@ plan-of-both t ss None = refl
 plan-of-both t ss (Some d) = refl
 
 -- ---- the status by the plan's
-
-kind-stays : (s p : Status) (R : Type 0) → Statuses s p R → is_of_switches p ≡ true →
-    is_of_switches s ≡ true
-kind-stays s p R (inl e) k = ap is_of_switches e ∙ k
-kind-stays s p R (inr (inl e)) k = ap is_of_switches e.0
-kind-stays s p R (inr (inr e)) k = ap is_of_switches e
 
 unfaulted-stays : (s p : Status) (R : Type 0) → Statuses s p R → (R → ⊥) → is_fault p ≡ false →
     (is_fault s ≡ false) ⊎ (s ≡ status.OutOfMemory)
@@ -117,22 +112,6 @@ told-not : (told : Option FileMap) (rose : Type 0) (trace file : List ℕ) (p s 
     ((word : ℕ) → s ≡ status.ReadFault word → ⊥) → p ≡ s → ⊥
 told-not told rose trace file p s (inl (word, is, h)) n other e = other word (sym e ∙ is)
 told-not told rose trace file p s (inr h) n other e = apart is_of_text p s h.0 n e
-
-told-unread : (told : Option FileMap) (rose : Type 0) (trace file : List ℕ) (p : Status)
-    (word : ℕ) → TellsOf told rose (λ f. both_in f trace file) p → p ≡ status.ReadFault word →
-    rose ⊎ IsSomeAnd told (λ f. both_in f trace file ≡ Err (status.ReadFault word))
-told-unread told rose trace file p word (inl (other, is, h)) e =
-    let same : other ≡ word =
-    let faults : status.ReadFault other ≡ status.ReadFault word = sym is ∙ e in cc in
-    subst (λ w. rose ⊎
-    IsSomeAnd told (λ f. both_in f trace file ≡ Err (status.ReadFault w))) same h
-told-unread told rose trace file p word (inr h) e =
-    absurd (apart is_of_text p (status.ReadFault word) h.0 refl e)
-
-told-kind : (told : Option FileMap) (rose : Type 0) (trace file : List ℕ) (p : Status) →
-    TellsOf told rose (λ f. both_in f trace file) p → is_of_switches p ≡ true
-told-kind told rose trace file p (inl (word, is, h)) = ap is_of_switches is
-told-kind told rose trace file p (inr h) = decided-of-switches p (text-decided p h.0)
 
 told-unfaulted : (files : FileMap) (rose : Type 0) (trace file : List ℕ) (p : Status) →
     TellsOf (Some files) rose (λ f. both_in f trace file) p →
@@ -202,6 +181,45 @@ status-of-both : (told : Option FileMap) (trace file : List ℕ) (old new : Outp
 status-of-both told trace file old new s b =
     plan-of-both b.both.trace b.both.switches (difference_in b.both.trace)
 
+-- ---- what it says as every job over files does
+
+abbrev OfBoth : Status → Type 0
+OfBoth s = is_of_both s ≡ true
+
+both-unfaulted : (s : Status) → OfBoth s → is_fault s ≡ false
+both-unfaulted s t = decided-unfaulted s (both-decided s t)
+
+both-untold : (s : Status) → OfBoth s → is_of_text s ≡ false
+both-untold status.Ok t = refl
+both-untold (status.Illegal place) t = refl
+both-untold s t = absurd (cc)
+
+plain : IsPlain OfBoth
+plain = record { unfaulted = both-unfaulted; untold = both-untold }
+
+switches-kind : IsKind is_of_switches OfBoth
+switches-kind = record {
+  read = λ word. refl;
+  write = refl;
+  memory = refl;
+  text = λ s t. decided-of-switches s (text-decided s t);
+  given = λ s t. decided-of-switches s (both-decided s t);
+}
+
+planned : (told : Option FileMap) (rose : Type 0) (trace file : List ℕ) (old new : Output)
+    (s : Status) → Way told rose trace file old new s →
+    Planned told rose (λ f. both_in f trace file) OfBoth old new s
+planned told rose trace file old new s (inl h) =
+    told-planned told rose (λ f. both_in f trace file) OfBoth old new s h
+planned told rose trace file old new s (inr b) = inr (record {
+  plan = plan_of_switches b.both.trace b.both.switches;
+  ends = b.ends;
+  leads = inr (
+    status-of-both told trace file old new s b,
+    both-there told trace file b.both b.gives,
+  );
+})
+
 -- ---- what was written on Ok
 
 text-of-legal : (t : TraceState) (ss : List Switch) (o : Option Difference) →
@@ -242,38 +260,6 @@ switched-of follow told rose trace file old new s (inl (inr h)) ok =
     (follow.only old new h.plan s status.Ok h.ends ok (λ x. absurd (cc)) (λ x. absurd (cc))))
 switched-of follow told rose trace file old new s (inr b) ok =
     switched-both follow told trace file old new s b ok
-
--- ---- a file that couldn't be read
-
-unread-of : FollowPlans → (told : Option FileMap) (rose : Type 0) (trace file : List ℕ)
-    (old new : Output) (s : Status) → Way told rose trace file old new s → (word : ℕ) →
-    s ≡ status.ReadFault word →
-    rose ⊎ IsSomeAnd told (λ f. both_in f trace file ≡ Err (status.ReadFault word))
-unread-of follow told rose trace file old new s (inl (inl e)) word h =
-    absurd (early-not s (status.ReadFault word) e.status h (λ x. absurd (cc)))
-unread-of follow told rose trace file old new s (inl (inr h)) word is =
-    told-unread told rose trace file h.plan.status word h.tells
-    (follow.only old new h.plan s (status.ReadFault word) h.ends is (λ x. absurd (cc))
-    (λ x. absurd (cc)))
-unread-of follow told rose trace file old new s (inr b) word is =
-    absurd (apart is_of_both (plan_of_switches b.both.trace b.both.switches).status
-    (status.ReadFault word) (status-of-both told trace file old new s b) refl
-    (follow.only old new (plan_of_switches b.both.trace b.both.switches) s
-    (status.ReadFault word) b.ends is (λ x. absurd (cc)) (λ x. absurd (cc))))
-
-unwritten-of : FollowPlans → (told : Option FileMap) (rose : Type 0) (trace file : List ℕ)
-    (old new : Output) (s : Status) → Way told rose trace file old new s →
-    s ≡ status.WriteFault → Rose old.count new.count
-unwritten-of follow told rose trace file old new s (inl (inl e)) h =
-    absurd (early-not s status.WriteFault e.status h (λ x. absurd (cc)))
-unwritten-of follow told rose trace file old new s (inl (inr h)) is =
-    follow.write old new h.plan s h.ends
-    (λ e. absurd (told-not told rose trace file h.plan.status status.WriteFault h.tells refl
-    (λ word x. absurd (cc)) e)) is
-unwritten-of follow told rose trace file old new s (inr b) is =
-    follow.write old new (plan_of_switches b.both.trace b.both.switches) s b.ends
-    (λ e. absurd (apart is_of_both (plan_of_switches b.both.trace b.both.switches).status
-    status.WriteFault (status-of-both told trace file old new s b) refl e)) is
 
 -- ---- the statuses that the files decide
 
@@ -338,20 +324,6 @@ complete-of follow files rose trace file old new s (inr b) there r w =
     (decided-unfaulted p
     (both-decided p (status-of-both (Some files) trace file old new s b)))
 
-kind-of : FollowPlans → (told : Option FileMap) (rose : Type 0) (trace file : List ℕ)
-    (old new : Output) (s : Status) → Way told rose trace file old new s →
-    is_of_switches s ≡ true
-kind-of follow told rose trace file old new s (inl (inl e)) = ap is_of_switches e.status
-kind-of follow told rose trace file old new s (inl (inr h)) =
-    kind-stays s h.plan.status (Rose old.count new.count)
-    (follow.statuses old new h.plan s h.ends)
-    (told-kind told rose trace file h.plan.status h.tells)
-kind-of follow told rose trace file old new s (inr b) =
-    let p = (plan_of_switches b.both.trace b.both.switches).status in
-    kind-stays s p (Rose old.count new.count)
-    (follow.statuses old new (plan_of_switches b.both.trace b.both.switches) s b.ends)
-    (decided-of-switches p (both-decided p (status-of-both told trace file old new s b)))
-
 -- ---- the end
 
 pub ended : FollowPlans → (told : Option FileMap) (rose : Type 0) (trace file : List ℕ)
@@ -359,14 +331,15 @@ pub ended : FollowPlans → (told : Option FileMap) (rose : Type 0) (trace file 
     EndsBySwitches told rose trace file old new s
 ended follow told rose trace file old new s course =
     let way = way-of told rose trace file old new s course in
+    let by = planned told rose trace file old new s way in
     record {
       course = course;
       switched = switched-of follow told rose trace file old new s way;
-      unread = unread-of follow told rose trace file old new s way;
-      unwritten = unwritten-of follow told rose trace file old new s way;
+      unread = λ word. unread-of follow told rose (λ f. both_in f trace file) OfBoth plain old new s word by;
+      unwritten = unwritten-of follow told rose (λ f. both_in f trace file) OfBoth plain old new s by;
       caused = λ files wanted is d. caused-of follow files rose trace file old new s wanted d
           (subst (λ m. Way m rose trace file old new s) is way);
       complete = λ files is. complete-of follow files rose trace file old new s
           (subst (λ m. Way m rose trace file old new s) is way);
-      kind = kind-of follow told rose trace file old new s way;
+      kind = kind-by is_of_switches follow told rose (λ f. both_in f trace file) OfBoth switches-kind old new s by;
     }

@@ -1,10 +1,9 @@
 -- Why the job ends with a status that its two files decide. This project's profile.
 use Rattle.std.specs.Prelude.{◌≡◌, ℕ, Bool, true, false, Some, Result, Ok, Err, List}
 use Rattle.cam_switch.specs.declared.switch.Switch.{Switch}
-use Rattle.job_ends.specs.Readings.{reading_in, text_in}
+use Rattle.job_ends.specs.Readings.{both_by, file_in}
 use Rattle.job_ends.specs.declared.status.Status.{Status}
 use Rattle.job_ends.specs.declared.status.Status.TheVariants as status
-use Rattle.line_text.specs.Reading.{◌>>=◌}
 use Rattle.outside.specs.Told.{FileMap}
 use Rattle.switch_text.specs.Reading.{switches_of}
 use Rattle.trace_check.specs.Legal.{IsLegalTrace}
@@ -16,21 +15,16 @@ use Rattle.switch_job.specs.Given.{most_of_switches, most_of_trace}
 
 -- the trace that the file of word 1 is
 abbrev pub trace_in : FileMap → List ℕ → Result TraceState Status
-trace_in files name =
-    text_in most_of_trace 1 (files name) >>= λ text. reading_in 1 (trace_of text)
+trace_in files name = file_in most_of_trace 1 trace_of (files name)
 
 -- the switches on the axes of a trace that the file of word 2 has
 abbrev pub switches_in : FileMap → List ℕ → TraceState → Result (List Switch) Status
-switches_in files name t =
-    text_in most_of_switches 2 (files name) >>= λ text. reading_in 2 (switches_of t.config text)
+switches_in files name t = file_in most_of_switches 2 (switches_of t.config) (files name)
 
 -- the trace that the first of two files is, and the switches that the second has on its axes; or
 -- what is reported of the first of them that gives none
-unfoldable pub both_in : FileMap → List ℕ → List ℕ → Result (TraceState × List Switch) Status
-both_in files trace file = do
-  t ← trace_in files trace
-  ss ← switches_in files file t
-  Ok (t, ss)
+abbrev pub both_in : FileMap → List ℕ → List ℕ → Result (TraceState × List Switch) Status
+both_in files trace file = both_by (trace_in files trace) (switches_in files file)
 
 -- the files give a legal trace, and switches on its axes
 pub record GivesLegal (files : FileMap) (trace file : List ℕ) : Type 0 where

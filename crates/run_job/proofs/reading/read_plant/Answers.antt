@@ -1,7 +1,5 @@
 -- The second file gives no program.
-use Rattle.std.specs.Prelude.{ℕ}
 use Rattle.std.proofs.Common.{ap}
-use Rattle.trace_text.specs.writing.Writes.{Output}
 use Rattle.run_job.proofs.PlantLaws.{no-tasks}
 use Rattle.run_job.proofs.reading.read_plant.Goals as goal
 

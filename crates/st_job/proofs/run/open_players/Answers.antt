@@ -1,7 +1,7 @@
 -- A task more is opened.
 use Rattle.std.specs.Prelude.{◌+◌, true}
 use Rattle.std.proofs.Common.{arith, refl, subst, sym}
-use Rattle.st_job.proofs.OpenLaws.{AreOpenedTo, all-opened, none-opened, one-opened}
+use Rattle.st_job.proofs.OpenLaws.{AreOpenedTo, one-opened}
 use Rattle.st_job.proofs.run.open_players.Goals as goal
 
 pub loop-number-preserved : goal.loop-number-preserved

@@ -2,7 +2,7 @@
 use Rattle.std.proofs.Common.{refl}
 use Rattle.job_ends.specs.declared.status.Status.TheVariants as status
 use Rattle.st_job.specs.Controllers.{cell_of}
-use Rattle.st_job.proofs.TraceLaws.{traced-run, untraced, wrote}
+use Rattle.st_job.proofs.TraceLaws.{traced-run, untraced}
 use Rattle.st_job.proofs.trace.run_cell.Goals as goal
 
 pub returns-in_default-clause-ends : goal.returns-in_default-clause-ends
