@@ -6,3 +6,4 @@ pub mod RowLaws
 pub mod Heads
 pub mod OwnLaws
 pub mod HeaderRows
+pub mod OpeningHeld

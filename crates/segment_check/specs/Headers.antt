@@ -36,6 +36,6 @@ TellByHeaders s header past (p ∷ ps) whole =
 -- the machine, and all laws hold of it
 abbrev pub HeadersTellPasts : Type 0
 HeadersTellPasts = (s : Setup) (ps : List TraceSegment) (whole : List Entry) → IsSetup s →
-    AreWhole s → IsMachineOf s (machine_at_opening s) →
+    AreWhole s →
     TellByHeaders s (header_text nothing_before (machine_at_opening s)) [] ps whole →
     IsOnePast s whole

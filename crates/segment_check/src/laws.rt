@@ -36,6 +36,7 @@ pub fn segments_by_headers_tell_pasts()
     ensures { HeadersTellPasts }
 {
     headers_are_read_back();
+    machines_can_stand();
     segments_keep_their_laws();
     pasts_keep_their_laws();
 }
