@@ -1,8 +1,8 @@
 // The wanted speeds of commands, counted in the direction of the motion.
 
-ghost use Rattle.std.specs.Prelude.{◌≡◌, ℕ, Some, ◌+◌, ◌-◌, ◌*◌, ◌≤◌, min, nat_le, if◌then◌else◌};
+ghost use Rattle.std.specs.Prelude.{◌≡◌, ℕ, Some, None, ◌+◌, ◌-◌, ◌*◌, ◌≤◌, min, nat_le, if◌then◌else◌};
 ghost use Rattle.motion_numbers.specs.Run.{reach_of};
-ghost use Rattle.jerk_core.specs.Rates.{AreJerkRates};
+ghost use Rattle.jerk_core.specs.Rates.{AreJerkRates, IsKeptBy};
 ghost use Rattle.jerk_plan.specs.Wanted.{IsSpeedOfMove, IsMoveOf, slowed_of, velocity_of};
 
 use jerk_core::{JerkRates, braked, greatest_fall, safe_speed};
@@ -26,7 +26,8 @@ pub fn move_speed(rates: &JerkRates, way: u64, last: u64, speed: u64) -> u64
 /// The speed of a move that can stop before its target by its rates; none where it can't.
 pub fn own_speed(rates: &JerkRates, way: u64, last: u64, speed: u64) -> Option<u64>
     requires rates { AreJerkRates rates.now }
-    ensures { (x : ℕ) → result ≡ Some x → IsMoveOf rates.now way last speed x }
+    ensures found { (x : ℕ) → result ≡ Some x → IsMoveOf rates.now way last speed x }
+    ensures none { result ≡ None → IsKeptBy rates.now way last speed → ⊥ }
 {
     if last > 2 * MOST_STEP || speed > MOST_STEP {
         return None;

@@ -9,4 +9,4 @@ pub returns : goal.returns
 returns c = λ x is.
     same_own c.own_rates.result (rates_of_command c.args.otg.now) c.abs_diff.result c.abs_diff-2.result c.abs_diff-3.result _ _ _ x
     c.own_rates.ensures (omega (arith, ints, c.abs_diff.ensures)) (omega (arith, ints, c.abs_diff-2.ensures)) (omega (arith, ints, c.abs_diff-3.ensures))
-    (c.own_speed.ensures x is)
+    (c.own_speed.ensures.found x is)
