@@ -26,6 +26,7 @@
 #include <array>
 #include <cstddef>
 #include <cstdint>
+#include <optional>
 #include <string>
 #include <string_view>
 
@@ -121,9 +122,48 @@ public:
         return text;
     }
 
+    // For how many entries more, and for how many cycles, there is room: motion_room_left and
+    // motion_cycles_left.
+    uint64_t room_left() { return motion_room_left(&handle_); }
+    uint32_t cycles_left() { return motion_cycles_left(&handle_); }
+
+    // motion_forget: empties the history of a machine that wants no trace, which goes on.
+    uint32_t forget() { return motion_forget(&handle_); }
+
     // The number of an axis or a group; MOTION_NO_NUMBER where there is none of the name.
     uint32_t axis(std::string_view name) { return motion_axis(&handle_, bytes(name), name.size()); }
     uint32_t group(std::string_view name) { return motion_group(&handle_, bytes(name), name.size()); }
+
+    // How many axes, groups, tasks and blocks there are; 0 where the machine isn't open.
+    uint32_t axis_count() { return motion_axes(&handle_); }
+    uint32_t group_count() { return motion_groups(&handle_); }
+    uint32_t task_count() { return motion_tasks(&handle_); }
+    uint32_t block_count() { return motion_blocks(&handle_); }
+
+    // The microseconds of a cycle; 0 of a bench's machine, and where it isn't open.
+    uint32_t cycle_us() { return motion_cycle_us(&handle_); }
+
+    // The limits of an axis, in the machine's own units; none where there is no axis of this number.
+    std::optional<motion_limits> limits(uint8_t axis)
+    {
+        motion_limits shown{};
+        if (motion_axis_limits(&handle_, axis, &shown) != MOTION_OK) return std::nullopt;
+        return shown;
+    }
+
+    // The name of an axis or a group by its number, as a string of C; empty where there is none.
+    motion_name axis_name(uint8_t axis)
+    {
+        motion_name name{};
+        motion_axis_name(&handle_, axis, &name);
+        return name;
+    }
+    motion_name group_name(uint8_t group)
+    {
+        motion_name name{};
+        motion_group_name(&handle_, group, &name);
+        return name;
+    }
 
     // The first code but MOTION_OK of a block's call or a cycle.
     uint32_t code() const { return blocks_.code; }

@@ -235,6 +235,8 @@ class Verdicts(unittest.TestCase):
             self.assertEqual(call(main, code)[0], 0, code)
         self.assertEqual(run("explain", "S9")[0], 2)
         self.assertEqual(run("explain", "status", "11")[0], 2)
+        status, _, message = run("explain", "B3", "E1")
+        self.assertEqual((status, message), (2, "explain: there is no rule E1: see docs/rules.md\n"))
 
 
 class Readers(unittest.TestCase):

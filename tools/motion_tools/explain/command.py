@@ -34,7 +34,7 @@ from motion_tools.explain.texts import traces_among
 from motion_tools.explain.verdicts import verdict_findings
 from motion_tools.trace import ReadFault, TraceError, lines_of
 
-CODE = re.compile(r"[BCPSKTG][0-9]{1,2}|[0-9]{1,3}")
+CODE = re.compile(r"[A-Z][0-9]{1,2}|[0-9]{1,3}")
 
 
 def parser() -> argparse.ArgumentParser:
