@@ -165,11 +165,12 @@ trace("ends", lambda n: MACHINE + filled("end,main,,,,,,,,,,\n", n))
 trace("cycles", lambda n: MACHINE + counted("cycle,%d,,,,,,,,,,\n", n))
 trace("blocks", lambda n: MACHINE + counted("block,v%07d,main,Power,X,,,,,,,\n", n))
 trace("axes", lambda n: MACHINE.split("axis")[0] + counted("axis,v%07d,0,50,10,4,1,0,1,,,\n", n))
+trace("first line", lambda n: "kind" + filled(",", n) + "\n")
 trace("commas", lambda n: MACHINE + filled(",", n) + "\n")
 trace("quotes", lambda n: MACHINE + filled('"', n) + "\n")
 shape("segment commas", f"check {TEXT}",
       lambda n: "segment,1,0,0,0\naxis" + filled(",", n) + "\n\n" + TRACE)
-shape("segment first line", f"check {TEXT}", lambda n: "piece" + filled(",", n) + "\n\n" + TRACE)
+shape("segment first line", f"check {TEXT}", lambda n: "segment" + filled(",", n) + "\n\n" + TRACE)
 shape("segment lines", f"check {TEXT}",
       lambda n: "segment,1,0,0,0\n" + filled("axis\n", n) + "\n" + TRACE)
 shape("segment without a blank line", f"check {TEXT}", lambda n: "segment,\n" + filled("a\n", n))
